@@ -1,0 +1,6 @@
+//! The values of the protocol and of Go, and their texts.
+#![tactic(auto)]
+
+mod ints;
+
+pub use ints::read_int;
