@@ -1,0 +1,192 @@
+-- What is written is read: a written reply is one reply, of its status, id and text.
+use Rattle.std.proofs.Common.{◌≡◌, ℕ, ◌+◌, ◌≤◌, List, [], ◌∷◌, ◌++◌, length, Option, Some, None, Bool, true, false, refl, sym, ◌∙◌, ap, subst, arith, cond, eqb, ◌⊎◌, inl, inr, reverse, append_assoc, append-nil, length-append}
+use Rattle.std.specs.Prelude.{is_some, IfSome}
+use Rattle.std.specs.Char.{is_ascii_digit}
+use Rattle.std.specs.List.{AllByRecursion}
+use Rattle.std.specs.Fmt.{decimal}
+use Rattle.std.specs.Str.Parse.{AllDigits}
+use Rattle.std.proofs.lemmas.Bool.Decides.{nat_tests}
+use Rattle.std.proofs.lemmas.Fmt.{decimal_is_IsNumeral, length-decimal-le}
+use Rattle.std.proofs.lemmas.Str.Parse.{digit_from_value}
+use Rattle.std.proofs.lemmas.List.{reverse-append, reverse-reverse}
+use Rattle.go_base.specs.Int.{int_of, int_max}
+use Rattle.go_base.proofs.IntLemmas.{int_of_spelled}
+use Rattle.gtp_wire.specs.declared.replies.Reply.{Reply}
+use Rattle.gtp_wire.specs.Bytes.{is_kept, space_for_tab, is_newline, is_space, is_blank}
+use Rattle.gtp_wire.specs.Replies.{prepared, front_of, behind, past_blanks, is_status, has_two_newlines, trimmed, IsWhole, IsReply, written_reply, written_id, spaced, IsReplyText}
+use Rattle.gtp_wire.proofs.LineLemmas.{AllByRecursion-append}
+use Rattle.gtp_wire.proofs.NewlineLemmas.{has_two_newlines_front, body_more, or_parts}
+use Rattle.gtp_wire.proofs.ReplyLemmas.{reply_made}
+
+-- a newline or a byte that is shown
+abbrev IsShown : ℕ → Type 0
+IsShown b = (b ≡ 10) ⊎ ((32 ≤ b) × (b ≤ 126))
+
+shown_kept : (b : ℕ) → IsShown b → is_kept b ≡ true
+shown_kept b shown = elim shown [ inl e ↦ rw e refl | inr h ↦ let low : 32 ≤ b = h.0 in let high : b ≤ 126 = h.1 in grind (arith, nat_tests) ]
+
+shown_stays : (b : ℕ) → IsShown b → space_for_tab b ≡ b
+shown_stays b shown = elim shown [ inl e ↦ rw e refl | inr h ↦ let low : 32 ≤ b = h.0 in grind (arith, nat_tests) ]
+
+prepared_shown : (l : List ℕ) → AllByRecursion IsShown l → prepared l ≡ l
+prepared_shown [] shown = refl
+prepared_shown (b ∷ l) shown = rw (shown_kept b shown.0) (rw (shown_stays b shown.0) (ap (λ t. b ∷ t) (prepared_shown l shown.1)))
+
+-- digits
+abbrev IsDigit : ℕ → Type 0
+IsDigit c = (48 ≤ c) × (c ≤ 57)
+
+digits_of_value : (l : List ℕ) → AllDigits 10 l → AllByRecursion IsDigit l
+digits_of_value [] all = tt
+digits_of_value (c ∷ l) all = let range = digit_from_value c all.0 in ((range.0, range.1), digits_of_value l all.1)
+
+digits_shown : (l : List ℕ) → AllByRecursion IsDigit l → AllByRecursion IsShown l
+digits_shown [] all = tt
+digits_shown (c ∷ l) all = (inr (omega (arith, all.0.0), omega (arith, all.0.1)), digits_shown l all.1)
+
+digit_test : (c : ℕ) → IsDigit c → is_ascii_digit c ≡ true
+digit_test c digit = let low : 48 ≤ c = digit.0 in let high : c ≤ 57 = digit.1 in grind (arith, nat_tests)
+
+digit_no_newline : (c : ℕ) → IsDigit c → is_newline c ≡ false
+digit_no_newline c digit = let low : 48 ≤ c = digit.0 in grind (arith, nat_tests)
+
+front_of_digits : (ds s : List ℕ) → AllByRecursion IsDigit ds → front_of is_ascii_digit (ds ++ s) ≡ ds ++ front_of is_ascii_digit s
+front_of_digits [] s all = refl
+front_of_digits (d ∷ ds) s all = rw (digit_test d all.0) (ap (λ t. d ∷ t) (front_of_digits ds s all.1))
+
+behind_digits : (ds s : List ℕ) → AllByRecursion IsDigit ds → behind is_ascii_digit (ds ++ s) ≡ behind is_ascii_digit s
+behind_digits [] s all = refl
+behind_digits (d ∷ ds) s all = rw (digit_test d all.0) (behind_digits ds s all.1)
+
+has_two_newlines_cons : (d : ℕ) (l : List ℕ) → is_newline d ≡ false → has_two_newlines (d ∷ l) ≡ has_two_newlines l
+has_two_newlines_cons d [] other = refl
+has_two_newlines_cons d (x ∷ l) other = rw other refl
+
+has_two_newlines_digits : (ds s : List ℕ) → AllByRecursion IsDigit ds → has_two_newlines (ds ++ s) ≡ has_two_newlines s
+has_two_newlines_digits [] s all = refl
+has_two_newlines_digits (d ∷ ds) s all = has_two_newlines_cons d (ds ++ s) (digit_no_newline d all.0) ∙ has_two_newlines_digits ds s all.1
+
+-- the text behind its space
+spaced_front : (text : List ℕ) → front_of is_ascii_digit (spaced text) ≡ []
+spaced_front [] = refl
+spaced_front (b ∷ bs) = refl
+
+spaced_behind : (text : List ℕ) → behind is_ascii_digit (spaced text) ≡ spaced text
+spaced_behind [] = refl
+spaced_behind (b ∷ bs) = refl
+
+-- a list that isn't empty by its last element
+pub last_of : (b : ℕ) (bs : List ℕ) → (front : List ℕ) × (c : ℕ) × (b ∷ bs ≡ front ++ c ∷ [])
+last_of b [] = ([], b, refl)
+last_of b (x ∷ xs) = let rest = last_of x xs in (b ∷ rest.0, rest.1, ap (λ t. b ∷ t) rest.2)
+
+not_space : (b : ℕ) → is_blank b ≡ false → is_space b ≡ false
+not_space b other = (or_parts (is_space b) (is_newline b) other).0
+
+not_newline : (b : ℕ) → is_blank b ≡ false → is_newline b ≡ false
+not_newline b other = (or_parts (is_space b) (is_newline b) other).1
+
+behind_none : (b : ℕ) (bs : List ℕ) → is_space b ≡ false → behind is_space (b ∷ bs) ≡ b ∷ bs
+behind_none b bs other = rw other refl
+
+trimmed_spaced : (text : List ℕ) → IsReplyText text → trimmed (spaced text) ≡ text
+trimmed_spaced [] fits = refl
+trimmed_spaced (b ∷ bs) fits =
+    let last = last_of b bs in
+    let turned : reverse (b ∷ bs) ≡ last.1 ∷ reverse last.0 = ap reverse last.2 ∙ reverse-append last.0 (last.1 ∷ []) in
+    let other : is_space last.1 ≡ false = not_space last.1 (fits.end last.0 last.1 last.2) in
+    ap (λ t. reverse (behind is_space (reverse t))) (behind_none b bs (not_space b (fits.front b bs refl)))
+    ∙ ap (λ t. reverse (behind is_space t)) turned
+    ∙ ap reverse (behind_none last.1 (reverse last.0) other ∙ sym turned)
+    ∙ reverse-reverse (b ∷ bs)
+
+has_two_newlines_spaced : (text : List ℕ) → IsReplyText text → has_two_newlines (spaced text ++ 10 ∷ []) ≡ false
+has_two_newlines_spaced [] fits = refl
+has_two_newlines_spaced (b ∷ bs) fits =
+    let last = last_of b bs in
+    let P : List ℕ → Type 0 = λ t. has_two_newlines t ≡ false in
+    let front : has_two_newlines last.0 ≡ false = has_two_newlines_front last.0 (last.1 ∷ []) (subst P last.2 fits.single) in
+    has_two_newlines_cons 32 (b ∷ bs ++ 10 ∷ []) refl
+    ∙ ap (λ t. has_two_newlines (t ++ 10 ∷ [])) last.2
+    ∙ body_more last.0 last.1 front (not_newline last.1 (fits.end last.0 last.1 last.2))
+
+spaced_shown : (text : List ℕ) → AllByRecursion IsShown text → AllByRecursion IsShown (spaced text)
+spaced_shown [] all = tt
+spaced_shown (b ∷ bs) all = (inr (omega arith, omega arith), all)
+
+length-spaced : (text : List ℕ) → length (spaced text) ≤ length text + 1
+length-spaced [] = omega arith
+length-spaced (b ∷ bs) = omega arith
+
+-- the digits of an id
+pub record IsIdText (id : Option ℕ) (ds : List ℕ) : Type 0 where
+  pub digits : AllByRecursion IsDigit ds
+  pub short : length ds ≤ 10
+  pub id_is : id ≡ int_of ds
+
+id_text : (id : Option ℕ) → IfSome id (λ n. n ≤ int_max) → IsIdText id (written_id id)
+id_text None fits = record { digits = tt; short = omega arith; id_is = refl }
+id_text (Some n) fits =
+    let limit : n ≤ int_max = fits in
+    let numeral = decimal_is_IsNumeral n (omega arith) in
+    record {
+      digits = digits_of_value (decimal n) numeral.0.1;
+      short = length-decimal-le 10 n (omega arith) (omega arith) (omega arith);
+      id_is = sym (int_of_spelled n (decimal n) (record { numeral = numeral.0; value = numeral.1; limit = limit }));
+    }
+
+abbrev status_of : Bool → ℕ
+status_of ok = cond ok 61 63
+
+status_known : (ok : Bool) → is_status (status_of ok) ≡ true
+status_known true = refl
+status_known false = refl
+
+status_shown : (ok : Bool) → IsShown (status_of ok)
+status_shown true = inr (omega arith, omega arith)
+status_shown false = inr (omega arith, omega arith)
+
+status_is : (ok : Bool) → ok ≡ eqb (status_of ok) 61
+status_is true = refl
+status_is false = refl
+
+core_status : (ok : Bool) (l : List ℕ) → AllByRecursion IsShown (status_of ok ∷ l) → past_blanks (status_of ok ∷ l) ≡ status_of ok ∷ l
+unfolding past_blanks
+core_status true l shown = ap (behind is_blank) (prepared_shown (61 ∷ l) shown)
+core_status false l shown = ap (behind is_blank) (prepared_shown (63 ∷ l) shown)
+
+-- a written reply is one reply
+pub written_whole : (ok : Bool) (id : Option ℕ) (text : List ℕ) → IfSome id (λ n. n ≤ int_max) → IsReplyText text → IsWhole (written_reply ok id text)
+written_whole ok id text fits_id fits_text =
+    let word = id_text id fits_id in
+    let shown : AllByRecursion IsShown (written_id id ++ (spaced text ++ 10 ∷ 10 ∷ [])) =
+    AllByRecursion-append IsShown (written_id id) (spaced text ++ 10 ∷ 10 ∷ []) (digits_shown (written_id id) word.digits)
+    (AllByRecursion-append IsShown (spaced text) (10 ∷ 10 ∷ []) (spaced_shown text fits_text.plain) (inl refl, (inl refl, tt))) in
+    record {
+      fits = omega (arith, length-append (written_id id) (spaced text ++ 10 ∷ 10 ∷ []), length-append (spaced text) (10 ∷ 10 ∷ []), word.short, length-spaced text, fits_text.fits);
+      front = status_of ok ∷ (written_id id ++ (spaced text ++ 10 ∷ []));
+      last = ap (λ t. status_of ok ∷ t)
+          (ap (λ t. written_id id ++ t) (sym (append_assoc (spaced text) (10 ∷ []) (10 ∷ []))) ∙ sym (append_assoc (written_id id) (spaced text ++ 10 ∷ []) (10 ∷ [])));
+      status = status_of ok;
+      body = written_id id ++ spaced text;
+      shape = core_status ok (written_id id ++ (spaced text ++ 10 ∷ 10 ∷ [])) (status_shown ok, shown) ∙ ap (λ t. status_of ok ∷ t) (sym (append_assoc (written_id id) (spaced text) (10 ∷ 10 ∷ [])));
+      known = status_known ok;
+      first_end = ap has_two_newlines (append_assoc (written_id id) (spaced text) (10 ∷ [])) ∙ has_two_newlines_digits (written_id id) (spaced text ++ 10 ∷ []) word.digits ∙ has_two_newlines_spaced text fits_text;
+    }
+
+-- with or without an id the text is what is behind it
+text_behind : (id : Option ℕ) (text : List ℕ) → AllByRecursion IsDigit (written_id id)
+    → cond (is_some id) (behind is_ascii_digit (written_id id ++ spaced text)) (written_id id ++ spaced text) ≡ spaced text
+text_behind None text all = refl
+text_behind (Some n) text all = behind_digits (decimal n) (spaced text) all ∙ spaced_behind text
+
+pub written_is_read : (ok : Bool) (id : Option ℕ) (text : List ℕ) (value : Reply) → IfSome id (λ n. n ≤ int_max) → IsReplyText text
+    → value.ok ≡ ok → value.id ≡ id → value.text.items ≡ text → IsReply (written_reply ok id text) value
+unfolding written_whole
+written_is_read ok id text value fits_id fits_text ok_is id_is text_is =
+    let word = id_text id fits_id in
+    reply_made (written_reply ok id text) (written_whole ok id text fits_id fits_text) value.ok value.id value.text
+    (ok_is ∙ status_is ok)
+    (id_is ∙ word.id_is ∙ ap int_of (sym (front_of_digits (written_id id) (spaced text) word.digits ∙ ap (λ t. written_id id ++ t) (spaced_front text) ∙ append-nil (written_id id))))
+    (text_is ∙ sym (trimmed_spaced text fits_text) ∙ ap trimmed (sym (text_behind id text word.digits))
+    ∙ ap (λ i. trimmed (cond (is_some i) (behind is_ascii_digit (written_id id ++ spaced text)) (written_id id ++ spaced text))) (sym id_is))

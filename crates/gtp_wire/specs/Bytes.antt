@@ -1,0 +1,28 @@
+-- What both ends do to single bytes before they parse. (The standard, on preprocessing.)
+use Rattle.std.specs.Prelude.{ℕ, Bool, List, [], ◌∷◌, ◌||◌, ◌==◌, not, if◌then◌else◌}
+use Rattle.std.specs.Char.{is_ascii_control}
+
+-- What is kept: all but the control characters (0 to 31, and 127), of which HT (9) and LF (10) are kept. Bytes from 128
+-- on are ordinary bytes (own).
+abbrev pub is_kept : ℕ → Bool
+is_kept b = b == 9 || (b == 10 || not (is_ascii_control b))
+
+-- HT becomes a space
+abbrev pub space_for_tab : ℕ → ℕ
+space_for_tab b = if b == 9 then 32 else b
+
+-- LF, the newline that ends a line
+abbrev pub is_newline : ℕ → Bool
+is_newline b = b == 10
+
+abbrev pub is_space : ℕ → Bool
+is_space b = b == 32
+
+-- what stands before the first `#`, or all of it: `#` begins a comment
+abbrev pub before_hash : List ℕ → List ℕ
+before_hash [] = []
+before_hash (b ∷ bs) = if b == 35 then [] else b ∷ before_hash bs
+
+-- what may stand before a reply: spaces and newlines (own)
+abbrev pub is_blank : ℕ → Bool
+is_blank b = is_space b || is_newline b

@@ -1,0 +1,5 @@
+pub mod Bytes
+pub mod Words
+pub mod Lines
+pub mod LineReading
+pub mod Replies

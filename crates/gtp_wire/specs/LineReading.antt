@@ -1,0 +1,48 @@
+-- What a line reader holds. No public clause speaks of it.
+use Rattle.std.specs.Prelude.{◌≡◌, ℕ, ◌<◌, ◌≤◌, Bool, true, false, List, [], ◌∷◌, Option, None, IfSome, length, ◌&&◌, ◌==◌, not, ◌⊎◌}
+use Rattle.std.specs.List.{slice_split, AllByRecursion}
+use Rattle.go_base.specs.Int.{int_of, int_max}
+use Rattle.gtp_wire.specs.declared.lines.Place.{Place}
+use Rattle.gtp_wire.specs.declared.lines.Place.TheVariants.{Word, Gap, Comment}
+use Rattle.gtp_wire.specs.declared.lines.Kind.{Kind}
+use Rattle.gtp_wire.specs.declared.lines.Kind.TheVariants.{Newline, Space, Removed, Hash, Other}
+use Rattle.gtp_wire.specs.Bytes.{is_kept, is_space}
+
+-- what stands after the words so far: nothing, a space, or the `#` that begins a comment
+abbrev pub ending : Place → List ℕ
+ending Word = []
+ending Gap = 32 ∷ []
+ending Comment = 35 ∷ []
+
+-- a byte of a word, or a space: no control character, HT, LF or `#`
+abbrev pub is_plain : ℕ → Bool
+is_plain b = is_kept b && (not (b == 9) && (not (b == 10) && not (b == 35)))
+
+-- what a byte is to a line
+abbrev pub IsKind : ℕ → Kind → Type 0
+IsKind b Newline = b ≡ 10
+IsKind b Space = (b ≡ 9) ⊎ (b ≡ 32)
+IsKind b Removed = is_kept b ≡ false
+IsKind b Hash = b ≡ 35
+IsKind b Other = (is_plain b ≡ true) × (is_space b ≡ false)
+
+-- the bytes are words joined by single spaces, or none
+pub record IsJoined (held : List ℕ) : Type 0 where
+  pub plain : AllByRecursion (λ b. is_plain b ≡ true) held
+  pub single : 0 < length held → AllByRecursion (λ part. 0 < length part) (slice_split is_space held)
+
+-- a space follows words only
+pub record HoldsLine (held : List ℕ) (place : Place) : Type 0 where
+  pub joined : IsJoined held
+  pub gap : place ≡ Gap → 0 < length held
+
+-- the int that the first of the words is
+abbrev pub id_of_words : List (List ℕ) → Option ℕ
+id_of_words [] = None
+id_of_words (w ∷ ws) = int_of w
+
+-- a command line holds words joined by single spaces, one at least, and its id is an int
+pub record HoldsCommand (id : Option ℕ) (text : List ℕ) : Type 0 where
+  pub joined : IsJoined text
+  pub some : 0 < length text
+  pub int : IfSome id (λ n. n ≤ int_max)

@@ -1,0 +1,45 @@
+-- The command lines of a text. (The standard, on preprocessing and command structure.)
+use Rattle.std.specs.Prelude.{◌≡◌, ℕ, List, [], ◌∷◌, ◌++◌, length, filter, map, nat_lt, Option, Some, None, if◌then◌else◌}
+use Rattle.std.specs.List.{slice_split, filter_map, join_with_byte}
+use Rattle.gtp_wire.specs.declared.lines.Line.{Line}
+use Rattle.gtp_wire.specs.declared.lines.Line.TheVariants.{Command, TooLong}
+use Rattle.gtp_wire.specs.Bytes.{is_kept, space_for_tab, is_newline, before_hash}
+use Rattle.gtp_wire.specs.Words.{words, command_of}
+
+-- the most bytes that the words of a line have, the id's word included, joined by single spaces (own)
+abbrev pub line_max : ℕ
+line_max = 1000
+
+-- all but the last
+abbrev pub but_last : {X : Type 0} → List X → List X
+but_last [] = []
+but_last (x ∷ []) = []
+but_last (x ∷ y ∷ more) = x ∷ but_last (y ∷ more)
+
+-- the first of them, where there is one
+abbrev pub head_of : {X : Type 0} → List X → Option X
+head_of [] = None
+head_of (x ∷ xs) = Some x
+
+-- What a line with these words is: nothing where it has none; too long where they, joined by single spaces, have more
+-- than 1,000 bytes; else a command.
+unfoldable pub line_of_words : List (List ℕ) → Option Line
+line_of_words [] = None
+line_of_words (w ∷ ws) =
+    Some (if nat_lt line_max (length (join_with_byte 32 (w ∷ ws))) then TooLong else Command (command_of (w ∷ ws)))
+
+-- One line without its newline: `#` and all that follows it is removed, HT turns into a space, and what is left is its
+-- words.
+unfoldable pub line_of : List ℕ → Option Line
+line_of bytes = line_of_words (words (map space_for_tab (before_hash bytes)))
+
+-- The lines of a text: the control characters but HT and LF are removed, the text is cut at each LF, the part after the
+-- last LF is dropped (own: an unfinished line is none), and each other part is a line where it has a word.
+unfoldable pub lines : List ℕ → List Line
+lines text = filter_map line_of (but_last (slice_split is_newline (filter is_kept text)))
+
+-- The text ends with the newline that ends a first line: no whole line stands in what was held and the text before it.
+pub record EndsLine (held text : List ℕ) : Type 0 where
+  pub front : List ℕ
+  pub newline : text ≡ front ++ 10 ∷ []
+  pub before : lines (held ++ front) ≡ []

@@ -1,0 +1,131 @@
+-- The replies in the bytes from an engine. (The standard, on preprocessing and response structure.)
+use Rattle.std.specs.Prelude.{◌≡◌, ℕ, ◌+◌, ◌<◌, ◌≤◌, Bool, true, false, ◌&&◌, ◌||◌, ◌==◌, List, [], ◌∷◌, ◌++◌, length, take, filter, map, reverse, Option, Some, None, Result, Ok, Err, is_some, if◌then◌else◌, ◌⊎◌}
+use Rattle.std.specs.Char.{is_ascii_digit}
+use Rattle.std.specs.List.{AllByRecursion}
+use Rattle.go_base.specs.Int.{int_of, written_int}
+use Rattle.gtp_wire.specs.declared.replies.Reply.{Reply}
+use Rattle.gtp_wire.specs.declared.replies.ReplyFault.{ReplyFault}
+use Rattle.gtp_wire.specs.declared.replies.ReplyFault.TheVariants.{Overlong, NoStatus}
+use Rattle.gtp_wire.specs.Bytes.{is_kept, space_for_tab, is_newline, is_space, is_blank}
+
+-- the most raw bytes of a reply, what is removed and skipped included (own)
+abbrev pub reply_max : ℕ
+reply_max = 8192
+
+-- the most bytes of the text of a reply that is written (own)
+abbrev pub reply_text_max : ℕ
+reply_text_max = 2000
+
+-- What the controller does before it parses: the control characters but HT and LF are removed, and HT becomes a space.
+-- It knows no comments.
+abbrev pub prepared : List ℕ → List ℕ
+prepared raw = map space_for_tab (filter is_kept raw)
+
+-- the longest front of elements that pass
+abbrev pub front_of : {X : Type 0} → (X → Bool) → List X → List X
+front_of p [] = []
+front_of p (x ∷ xs) = if p x then x ∷ front_of p xs else []
+
+-- what is behind the longest front of elements that pass
+abbrev pub behind : {X : Type 0} → (X → Bool) → List X → List X
+behind p [] = []
+behind p (x ∷ xs) = if p x then behind p xs else x ∷ xs
+
+-- the prepared bytes without the spaces and newlines before the reply
+unfoldable pub past_blanks : List ℕ → List ℕ
+past_blanks raw = behind is_blank (prepared raw)
+
+-- `=` for success, or `?` for failure
+abbrev pub is_status : ℕ → Bool
+is_status b = b == 61 || b == 63
+
+-- whether two newlines come in a row
+abbrev pub has_two_newlines : List ℕ → Bool
+has_two_newlines [] = false
+has_two_newlines (x ∷ []) = false
+has_two_newlines (x ∷ y ∷ more) = (is_newline x && is_newline y) || has_two_newlines (y ∷ more)
+
+-- without the spaces at the front and at the end
+abbrev pub trimmed : List ℕ → List ℕ
+trimmed text = reverse (behind is_space (reverse (behind is_space text)))
+
+-- What a status and a body say: the run of digits at the body's front is the id where it is an int, and the rest is the
+-- text; where it is none, there is no id and the whole body is the text. Single newlines stay in it.
+abbrev pub reply_of : ℕ → List ℕ → Reply
+reply_of status body =
+    let id = int_of (front_of is_ascii_digit body) in
+    let text = if is_some id then behind is_ascii_digit body else body in
+    record { ok = status == 61; id = id; text = record { items = trimmed text } }
+
+-- The raw bytes are one reply: at most 8,192, the last of them a newline; and prepared, they are spaces and newlines, a
+-- status, a body, and two newlines, the first in a row behind the status.
+pub record IsWhole (raw : List ℕ) : Type 0 where
+  pub fits : length raw ≤ reply_max
+  pub front : List ℕ
+  pub last : raw ≡ front ++ 10 ∷ []
+  pub status : ℕ
+  pub body : List ℕ
+  pub shape : past_blanks raw ≡ status ∷ (body ++ 10 ∷ 10 ∷ [])
+  pub known : is_status status ≡ true
+  -- in the body and the first newline behind it no two newlines come in a row
+  pub first_end : has_two_newlines (body ++ 10 ∷ []) ≡ false
+
+-- the raw bytes are one reply, of this value
+pub record IsReply (raw : List ℕ) (value : Reply) : Type 0 where
+  pub whole : IsWhole raw
+  pub value_is : value ≡ reply_of whole.status whole.body
+
+-- The raw bytes, at most 8,192, begin no reply: what is left of them begins with another byte than a status.
+pub record IsNoStatus (raw : List ℕ) : Type 0 where
+  pub fits : length raw ≤ reply_max
+  pub byte : ℕ
+  pub more : List ℕ
+  pub shape : past_blanks raw ≡ byte ∷ more
+  pub other : is_status byte ≡ false
+
+-- What the raw bytes tell, where no front of them tells anything: a reply; that they begin none; or, with byte 8,193 and
+-- whatever it is, that they are too many.
+abbrev pub Tells : List ℕ → Result Reply ReplyFault → Type 0
+Tells raw (Ok value) = IsReply raw value
+Tells raw (Err NoStatus) = IsNoStatus raw
+Tells raw (Err Overlong) = length raw ≡ reply_max + 1
+
+-- no place of the text tells anything
+abbrev pub TellsNothing : List ℕ → Type 0
+TellsNothing text = (n : ℕ) (answer : Result Reply ReplyFault) → n ≤ length text → Tells (take n text) answer → ⊥
+
+-- The first thing that the text tells, and the place at which it does: a reply, with its length; or a fault, with the
+-- place of the byte that shows it.
+pub record IsFirst (text : List ℕ) (place : ℕ) (answer : Result Reply ReplyFault) : Type 0 where
+  pub inside : place ≤ length text
+  pub told : Tells (take place text) answer
+  pub before : (n : ℕ) (other : Result Reply ReplyFault) → n < place → Tells (take n text) other → ⊥
+
+-- What stays of the text when this was told: a reply is taken off, and the rest begins anew; else all of it stays.
+abbrev pub rest_after : Option (Result Reply ReplyFault) → List ℕ → List ℕ
+rest_after None text = text
+rest_after (Some (Ok value)) text = []
+rest_after (Some (Err fault)) text = text
+
+-- the id as it is written: nothing where there is none
+abbrev pub written_id : Option ℕ → List ℕ
+written_id None = []
+written_id (Some n) = written_int n
+
+-- a space and the text, where there is one
+abbrev pub spaced : List ℕ → List ℕ
+spaced [] = []
+spaced (b ∷ bs) = 32 ∷ b ∷ bs
+
+-- the bytes of a reply that is written: the status, the id, a space and the text, and two newlines
+abbrev pub written_reply : Bool → Option ℕ → List ℕ → List ℕ
+written_reply ok id text = (if ok then 61 else 63) ∷ (written_id id ++ (spaced text ++ 10 ∷ 10 ∷ []))
+
+-- A text that may be written: at most 2,000 bytes, each a newline or 32 to 126, no two newlines in a row, and neither a
+-- space nor a newline at its ends.
+pub record IsReplyText (text : List ℕ) : Type 0 where
+  pub fits : length text ≤ reply_text_max
+  pub plain : AllByRecursion (λ b. (b ≡ 10) ⊎ ((32 ≤ b) × (b ≤ 126))) text
+  pub single : has_two_newlines text ≡ false
+  pub front : (b : ℕ) (more : List ℕ) → text ≡ b ∷ more → is_blank b ≡ false
+  pub end : (more : List ℕ) (b : ℕ) → text ≡ more ++ b ∷ [] → is_blank b ≡ false

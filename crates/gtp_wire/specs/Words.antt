@@ -1,0 +1,21 @@
+-- The words of a text, and of a command line. (The standard, on command structure.)
+use Rattle.std.specs.Prelude.{ℕ, List, [], ◌∷◌, length, filter, nat_lt, Option, None, is_some, if◌then◌else◌}
+use Rattle.std.specs.List.{slice_split}
+use Rattle.go_base.specs.Int.{int_of}
+use Rattle.gtp_wire.specs.Bytes.{is_space}
+
+-- the maximal runs without a space: the parts between spaces, without the empty ones
+abbrev pub words : List ℕ → List (List ℕ)
+words text = filter (λ part. nat_lt 0 (length part)) (slice_split is_space text)
+
+-- a command line: its id, where it has one, and the words after it, the command's name first
+pub record CommandWords : Type 0 where
+  pub id : Option ℕ
+  pub words : List (List ℕ)
+
+-- The first word is the id where it is an int; else it is the command's name. A line with an id alone has no other
+-- word (own).
+abbrev pub command_of : List (List ℕ) → CommandWords
+command_of [] = record { id = None; words = [] }
+command_of (w ∷ ws) =
+    if is_some (int_of w) then record { id = int_of w; words = ws } else record { id = None; words = w ∷ ws }

@@ -1,0 +1,86 @@
+//! Command lines.
+ghost use Rattle.std.specs.Prelude.{◌≡◌, ◌<◌, ◌≤◌, length, slice_get, IfSome};
+ghost use Rattle.std.specs.List.{slice_split};
+ghost use Rattle.std.specs.Option.{option_copied};
+ghost use Rattle.go_base.specs.Int.{int_max};
+ghost use Rattle.gtp_wire.specs.Bytes.{is_space};
+ghost use Rattle.gtp_wire.specs.LineReading.{IsJoined, id_of_words};
+ghost use Rattle.gtp_wire.specs.Words.{words, command_of};
+
+use arrayvec::ArrayVec;
+use go_base::read_int;
+use std::marker::Model;
+
+/// The most bytes that the words of a line have, the id's word included, joined by single spaces.
+pub(crate) const LINE_LIMIT: usize = 1000;
+
+/// The room for the words of a line, and for a space and a byte that show that it is longer.
+pub(crate) const LINE_ROOM: usize = 1002;
+
+/// A command line: an id where its first word is an int, and the words after it, the command's name first.
+///
+/// Its words, the id's word included, have at most 1,000 bytes, joined by single spaces.
+#[derive(Drop)]
+pub struct CommandLine {
+    id: Option<u32>,
+    text: ArrayVec<u8, LINE_ROOM>,
+}
+
+impl Model for CommandLine {
+    ghost use Rattle.std.specs.Prelude.{drop, is_some, if◌then◌else◌};
+    ghost use Rattle.gtp_wire.specs.LineReading.{HoldsCommand};
+    ghost use Rattle.gtp_wire.specs.Words.{CommandWords, words};
+
+    ghost Value = { CommandWords };
+
+    ghost view = { λ c. record { id = c.id; words = drop (if is_some c.id then 1 else 0) (words c.text.items) } };
+
+    ghost invariant = { λ c. HoldsCommand c.id c.text.items };
+}
+
+impl CommandLine {
+    /// The command line of a text of words joined by single spaces.
+    pub(crate) fn of_text(text: ArrayVec<u8, LINE_ROOM>) -> Self
+        requires joined { IsJoined text.items }
+        requires some { 0 < length text.items }
+        ensures { result ≡ command_of (words text.items) }
+    {
+        let id = first_int(&text);
+        CommandLine { id, text }
+    }
+
+    /// The id, where the line has one: an int of the protocol, at most 2,147,483,647.
+    pub fn id(&self) -> Option<u32>
+        ensures value { result ≡ self.now.id }
+        ensures int { IfSome result (λ n. n ≤ int_max) }
+    {
+        self.id
+    }
+
+    /// The word of this number, counted from 0 behind the id: word 0 is the command's name.
+    ///
+    /// A line with an id alone has no word 0.
+    pub fn word(&self, number: usize) -> Option<&[u8]>
+        ensures { option_copied result ≡ slice_get self.now.words number }
+    {
+        if self.id.is_none() {
+            return part(&self.text, number);
+        }
+        part(&self.text, number.checked_add(1)?)
+    }
+}
+
+/// The int that the first part is.
+fn first_int(text: &[u8]) -> Option<u32>
+    ensures value { result ≡ id_of_words (slice_split is_space text.now) }
+    ensures int { IfSome result (λ n. n ≤ int_max) }
+{
+    read_int(part(text, 0)?)
+}
+
+/// The part of this number between the spaces.
+fn part(text: &[u8], number: usize) -> Option<&[u8]>
+    ensures { option_copied result ≡ slice_get (slice_split is_space text.now) number }
+{
+    text.split(|byte| *byte == b' ').nth(number)
+}

@@ -1,0 +1,10 @@
+//! Command lines and replies of the Go Text Protocol, as bytes.
+#![tactic(auto)]
+
+mod command_line;
+mod lines;
+mod replies;
+
+pub use command_line::CommandLine;
+pub use lines::{Line, LineFed, LineReader};
+pub use replies::{Reply, ReplyFault, ReplyText, write_reply};

@@ -1,0 +1,223 @@
+//! Lines, and their reader.
+ghost use Rattle.std.specs.Prelude.{◌≡◌, ℕ, ◌<◌, ◌≤◌, List, [], ◌∷◌, ◌++◌, length, take, IfSome, IfNone};
+ghost use Rattle.std.specs.Option.{option_to_list};
+ghost use Rattle.gtp_wire.specs.LineReading.{IsKind};
+
+use super::command_line::{CommandLine, LINE_LIMIT, LINE_ROOM};
+use arrayvec::ArrayVec;
+use std::marker::Model;
+
+/// A line that has a word: a command, or one that is too long to be read.
+#[derive(Drop)]
+pub enum Line {
+    /// A command line.
+    Command(CommandLine),
+    /// A line whose words, the id's word included, have more than 1,000 bytes, joined by single spaces.
+    TooLong,
+}
+
+/// What a line reader did with a piece of its input.
+#[derive(Drop)]
+pub struct LineFed {
+    /// How many bytes of the piece it used.
+    pub used: usize,
+    /// The line that the last of these bytes ended, if any.
+    pub line: Option<Line>,
+}
+
+/// Where a line stands: in or behind a word (or before all words), behind a space that ended a word, or in a comment.
+#[derive(Clone, Copy, PartialEq, Eq)]
+enum Place {
+    Word,
+    Gap,
+    Comment,
+}
+
+/// What a byte is to a line: its end, a space, a control character, the begin of a comment, or a byte of a word.
+#[derive(Clone, Copy, PartialEq, Eq)]
+enum Kind {
+    Newline,
+    Space,
+    Removed,
+    Hash,
+    Other,
+}
+
+/// The kind of a byte.
+fn kind_of(byte: u8) -> Kind
+    ensures { IsKind byte result }
+{
+    match byte {
+        b'\n' => Kind::Newline,
+        b'\t' | b' ' => Kind::Space,
+        b'#' => Kind::Hash,
+        _ => {
+            if byte.is_ascii_control() {
+                Kind::Removed
+            } else {
+                Kind::Other
+            }
+        }
+    }
+}
+
+/// Reads command lines from bytes in any pieces.
+///
+/// It is seen as a text without a whole line that reads, with every text after it, as what it was fed since the last
+/// line.
+#[derive(Drop)]
+pub struct LineReader {
+    held: ArrayVec<u8, LINE_ROOM>,
+    place: Place,
+}
+
+impl Model for LineReader {
+    ghost use Rattle.std.specs.Prelude.{List, ℕ, ◌++◌};
+    ghost use Rattle.gtp_wire.specs.LineReading.{ending, HoldsLine};
+
+    ghost Value = { List ℕ };
+
+    ghost view = { λ r. r.held.items ++ ending r.place };
+
+    ghost invariant = { λ r. HoldsLine r.held.items r.place };
+}
+
+impl LineReader {
+    ghost use Rattle.gtp_wire.specs.Lines.{lines, head_of, EndsLine};
+
+    /// A reader that was fed nothing.
+    pub fn new() -> Self
+        ensures { result ≡ [] }
+    {
+        LineReader {
+            held: ArrayVec::new(),
+            place: Place::Word,
+        }
+    }
+
+    /// Takes the next piece up to and with the newline that ends the first line that has a word, or all of it.
+    ///
+    /// Lines without a word (blank lines and comments) are passed over. A line that is too long is told at its newline.
+    pub fn feed(&mut self, input: &[u8]) -> LineFed
+        // No whole line was held back.
+        ensures held { lines self.old ≡ [] }
+        // The line is the first of all that came.
+        ensures first { result.line ≡ head_of (lines (self.old ++ input.now)) }
+
+        // With a line, the bytes used end with the newline that makes it, and make nothing else.
+        ensures within { result.used ≤ length input.now }
+        ensures whole { IfSome result.line (λ line. lines (self.old ++ take result.used input.now) ≡ line ∷ []) }
+        ensures newline { IfSome result.line (λ line. EndsLine self.old (take result.used input.now)) }
+        ensures before { (k : ℕ) → k < result.used → lines (self.old ++ take k input.now) ≡ [] }
+
+        // Without one, all are used.
+        ensures none { IfNone result.line (result.used ≡ length input.now) }
+
+        // Whatever comes next, what is left reads as it would have after the bytes that were used.
+        ensures rest { (z : List ℕ) →
+            lines (self.old ++ (take result.used input.now ++ z)) ≡ option_to_list result.line ++ lines (self.new ++ z) }
+        ensures no_line { lines self.new ≡ [] }
+    {
+        let _ = &self.held;
+        for (i, byte) in input.iter().enumerate() {
+            if let Some(line) = self.take_byte(*byte) {
+                return LineFed {
+                    used: i + 1,
+                    line: Some(line),
+                };
+            }
+        }
+        LineFed {
+            used: input.len(),
+            line: None,
+        }
+    }
+
+    /// Takes one byte, and gives the line that it ends.
+    fn take_byte(&mut self, byte: u8) -> Option<Line>
+        ensures step { (z : List ℕ) → lines (self.old ++ byte ∷ z) ≡ option_to_list result ++ lines (self.new ++ z) }
+        ensures newline { IfSome result (λ line. byte ≡ 10) }
+        ensures no_line { lines self.new ≡ [] }
+    {
+        match kind_of(byte) {
+            Kind::Newline => return self.end_line(),
+            Kind::Removed => self.skip(byte),
+            Kind::Space => self.take_space(byte),
+            Kind::Hash => self.take_hash(),
+            Kind::Other => self.take_word_byte(byte),
+        }
+        None
+    }
+
+    /// A control character changes nothing.
+    fn skip(&self, byte: u8)
+        requires { IsKind byte Kind.Removed }
+        ensures step { (z : List ℕ) → lines (self.now ++ byte ∷ z) ≡ lines (self.now ++ z) }
+        ensures no_line { lines self.now ≡ [] }
+    {
+        let _ = &self.held;
+    }
+
+    /// A space ends a word.
+    fn take_space(&mut self, byte: u8)
+        requires { IsKind byte Kind.Space }
+        ensures step { (z : List ℕ) → lines (self.old ++ byte ∷ z) ≡ lines (self.new ++ z) }
+        ensures no_line { lines self.new ≡ [] }
+    {
+        if self.held.is_empty() {
+            return;
+        }
+        if self.held.len() > LINE_LIMIT {
+            return;
+        }
+        match self.place {
+            Place::Word => self.place = Place::Gap,
+            Place::Gap | Place::Comment => {}
+        }
+    }
+
+    /// `#` begins a comment.
+    fn take_hash(&mut self)
+        ensures step { (z : List ℕ) → lines (self.old ++ 35 ∷ z) ≡ lines (self.new ++ z) }
+        ensures no_line { lines self.new ≡ [] }
+    {
+        let _ = &self.held;
+        self.place = Place::Comment;
+    }
+
+    /// Any other byte belongs to a word, unless it stands in a comment or the line is too long already.
+    fn take_word_byte(&mut self, byte: u8)
+        requires { IsKind byte Kind.Other }
+        ensures step { (z : List ℕ) → lines (self.old ++ byte ∷ z) ≡ lines (self.new ++ z) }
+        ensures no_line { lines self.new ≡ [] }
+    {
+        if self.held.len() > LINE_LIMIT {
+            return;
+        }
+        match self.place {
+            Place::Word => self.held.push(byte),
+            Place::Gap => {
+                self.held.push(b' ');
+                self.held.push(byte);
+                self.place = Place::Word;
+            }
+            Place::Comment => {}
+        }
+    }
+
+    /// The line that is held, which a newline ends.
+    fn end_line(&mut self) -> Option<Line>
+        ensures step { (z : List ℕ) → lines (self.old ++ 10 ∷ z) ≡ option_to_list result ++ lines z }
+        ensures new { self.new ≡ [] }
+    {
+        let text = self.held.take();
+        self.place = Place::Word;
+        if text.is_empty() {
+            return None;
+        }
+        if text.len() > LINE_LIMIT {
+            return Some(Line::TooLong);
+        }
+        Some(Line::Command(CommandLine::of_text(text)))
+    }
+}

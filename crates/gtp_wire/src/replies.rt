@@ -1,0 +1,102 @@
+//! Replies, and their writer.
+ghost use Rattle.std.specs.Prelude.{◌≡◌, ℕ, ◌+◌, ◌≤◌, ◌++◌, length, IfSome};
+ghost use Rattle.arrayvec.specs.ArrayVec.{array_vec_len};
+ghost use Rattle.go_base.specs.Int.{int_max, written_int};
+ghost use Rattle.gtp_wire.specs.Replies.{IsReply, IsReplyText, reply_text_max, written_reply, written_id, spaced};
+ghost use Rattle.gtp_wire.specs.declared.replies.Reply.{Reply};
+
+use arrayvec::ArrayVec;
+
+/// What an engine answered to a command.
+#[derive(Drop)]
+pub struct Reply {
+    /// Whether the command succeeded: the reply begins with `=`, and with `?` where it failed.
+    pub ok: bool,
+    /// The id, an int, where the reply has one.
+    pub id: Option<u32>,
+    /// The text, without the spaces at its ends; rows are separated by single newlines.
+    pub text: ArrayVec<u8, 8192>,
+}
+
+/// Why bytes are no reply. For each byte they are checked in this order.
+#[derive(Clone, Copy, Debug, PartialEq, Eq)]
+pub enum ReplyFault {
+    /// More than 8,192 bytes came since the last reply.
+    Overlong,
+    /// What follows the spaces and newlines before a reply is neither `=` nor `?`.
+    NoStatus,
+}
+
+/// The bytes of a reply that is written.
+pub type ReplyText = ArrayVec<u8, REPLY_ROOM>;
+
+/// The room for a status, an id, a space, a text and two newlines.
+const REPLY_ROOM: usize = 2048;
+
+/// Writes a reply: `=` for success or `?` for failure, the id where there is one, a space and the text where it isn't
+/// empty, and two newlines.
+///
+/// The id is an int of the protocol. The text has at most 2,000 bytes, each of them a newline or 32 to 126, without two
+/// newlines in a row, and begins and ends with neither a space nor a newline.
+pub fn write_reply(ok: bool, id: Option<u32>, text: &[u8]) -> ReplyText
+    requires id_fits { IfSome id (λ n. n ≤ int_max) }
+    requires text_fits { IsReplyText text.now }
+    ensures bytes { result.items ≡ written_reply ok id text.now }
+    // They are one reply, of this status, id and text.
+    ensures reply { (value : Reply) → value.ok ≡ ok → value.id ≡ id → value.text.items ≡ text.now →
+        IsReply result.items value }
+{
+    reply_bytes(ok, id, text)
+}
+
+/// The bytes of the reply.
+fn reply_bytes(ok: bool, id: Option<u32>, text: &[u8]) -> ReplyText
+    requires id_fits { IfSome id (λ n. n ≤ int_max) }
+    requires text_fits { length text.now ≤ reply_text_max }
+    ensures { result.items ≡ written_reply ok id text.now }
+{
+    let mut out = ArrayVec::new();
+    out.push(if ok { b'=' } else { b'?' });
+    push_id(&mut out, id);
+    push_text(&mut out, text);
+    out.push(b'\n');
+    out.push(b'\n');
+    out
+}
+
+/// Appends the id, where there is one.
+fn push_id(out: &mut ReplyText, id: Option<u32>)
+    requires room { array_vec_len out.old ≤ 1 }
+    requires fits { IfSome id (λ n. n ≤ int_max) }
+    ensures bytes { out.new.items ≡ out.old.items ++ written_id id }
+    ensures len { array_vec_len out.new ≤ 11 }
+{
+    if let Some(id) = id {
+        push_int(out, id);
+    }
+}
+
+/// Appends a space and the text, where there is one.
+fn push_text(out: &mut ReplyText, text: &[u8])
+    requires { array_vec_len out.old + length text.now + 3 ≤ REPLY_ROOM }
+    ensures bytes { out.new.items ≡ out.old.items ++ spaced text.now }
+    ensures len { array_vec_len out.new + 2 ≤ REPLY_ROOM }
+{
+    if !text.is_empty() {
+        out.push(b' ');
+        let _ = out.try_extend_from_slice(text);
+    }
+}
+
+/// Appends the number in decimal.
+fn push_int(out: &mut ReplyText, number: u32)
+    requires { array_vec_len out.old + length (written_int number) ≤ REPLY_ROOM }
+    ensures { out.new.items ≡ out.old.items ++ written_int number }
+{
+    if number < 10 {
+        out.push(b'0' + number as u8);
+        return;
+    }
+    push_int(out, number / 10);
+    out.push(b'0' + (number % 10) as u8);
+}
