@@ -2,5 +2,6 @@
 #![tactic(auto)]
 
 mod ints;
+pub mod laws;
 
-pub use ints::read_int;
+pub use ints::{read_int, write_int};

@@ -1,0 +1,8 @@
+use Rattle.go_base.proofs.IntLemmas.{spells_written_int, one_int}
+use Rattle.go_base.proofs.laws.int_laws.Goals as goal
+
+pub returns-clause-read_back : goal.returns-clause-read_back
+returns-clause-read_back c = spells_written_int
+
+pub returns-clause-one : goal.returns-clause-one
+returns-clause-one c = one_int
