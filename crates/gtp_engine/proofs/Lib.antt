@@ -1,2 +1,6 @@
+pub mod LineLaws
 pub mod CommandLemmas
+pub mod ConversationLemmas
+pub mod CountsLemmas
+pub mod EngineLemmas
 pub mod TextLemmas

@@ -6,7 +6,7 @@ use Rattle.std.proofs.lemmas.Bool.Decides.{nat_tests}
 use Rattle.std.proofs.lemmas.Bool.{leb-true}
 use Rattle.std.proofs.lemmas.List.{reverse-append}
 use Rattle.gtp_wire.specs.Bytes.{is_blank}
-use Rattle.gtp_wire.specs.Replies.{IsReplyText, has_empty_line}
+use Rattle.gtp_wire.specs.Replies.{IsReplyText, has_two_newlines}
 use Rattle.gtp_engine.specs.Texts.{is_shown, begins_blank, is_reply_text}
 
 both : (a b : Bool) → (a && b) ≡ true → (a ≡ true) × (b ≡ true)
@@ -29,7 +29,7 @@ pub IsReplyText-from_test : (text : List ℕ) → is_reply_text text ≡ true �
 IsReplyText-from_test text e =
     let one = both (nat_le (length text) 2000) _ e in
     let two = both (list_all is_shown text) _ one.1 in
-    let three = both (not (has_empty_line text)) _ two.1 in
+    let three = both (not (has_two_newlines text)) _ two.1 in
     let four = both (not (begins_blank text)) (not (begins_blank (reverse text))) three.1 in
     record {
       fits = leb-true _ _ one.0;

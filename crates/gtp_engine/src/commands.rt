@@ -1,6 +1,7 @@
 //! The commands that the engine knows, and what each of them answers.
 ghost use Rattle.std.specs.Prelude.{◌≡◌, true, false, codes};
 ghost use Rattle.std.specs.Option.{option_copied, option_to_list};
+ghost use Rattle.gtp_wire.specs.Replies.{IsReplyText};
 ghost use Rattle.gtp_engine.specs.Commands.{spelled, command_named, response, response_to, response_to_words};
 ghost use Rattle.gtp_engine.specs.Texts.{is_reply_text};
 
@@ -58,6 +59,7 @@ impl CommandName {
 }
 
 /// What is answered to a line: success or failure with a text that a reply may have, and whether the session ends.
+#[derive(Drop)]
 pub struct Response {
     ok: bool,
     text: &'static [u8],
@@ -109,6 +111,28 @@ impl Response {
         ensures { result ≡ record { ok = false; text = codes "syntax error"; ended = false } }
     {
         Response::failure(b"syntax error")
+    }
+
+    /// Whether the command succeeds.
+    pub fn ok(&self) -> bool
+        ensures { result ≡ self.now.ok }
+    {
+        self.ok
+    }
+
+    /// The text of the reply.
+    pub fn text(&self) -> &'static [u8]
+        ensures text { result.now ≡ self.now.text }
+        ensures fits { IsReplyText result.now }
+    {
+        self.text
+    }
+
+    /// Whether the session ends.
+    pub fn ended(&self) -> bool
+        ensures { result ≡ self.now.ended }
+    {
+        self.ended
     }
 
     /// What is answered to a line, by the table of the commands.

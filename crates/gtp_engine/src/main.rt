@@ -2,6 +2,9 @@
 #![tactic(auto)]
 
 pub mod commands;
+pub mod policy;
+pub mod serve;
+pub mod session;
 pub mod streams;
 
 fn main() {}

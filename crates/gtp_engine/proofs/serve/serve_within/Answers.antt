@@ -1,0 +1,59 @@
+use Rattle.std.proofs.Common.{rules, ◌≡◌, ◌≤◌, ◌+◌, ◌-◌, arith, refl, sym, ◌∙◌, ap}
+use Rattle.gtp_engine.specs.Counts.{raised}
+use Rattle.gtp_engine.proofs.CountsLemmas.{raised-none, raised-then}
+use Rattle.gtp_engine.proofs.ConversationLemmas.{GivesAtLeast-nothing, GivesAtLeast-both, Conversation-nothing, Conversation-read, BrokenConversation-read}
+use Rattle.gtp_engine.proofs.serve.serve_within.Goals as goal
+
+pub returns-then-ended-clause-answers : goal.returns-then-ended-clause-answers
+returns-then-ended-clause-answers g c = λ _. Conversation-nothing g.P.Policy.may c.args.session.now _ _ c.ended.ensures.unread
+
+pub returns-then-ended-clause-reads : goal.returns-then-ended-clause-reads
+returns-then-ended-clause-reads g c = (0, omega arith, sym (raised-none _))
+
+pub loop-turn-init : goal.loop-turn-init
+loop-turn-init g c =
+    record {
+      room = refl;
+      conversation = Conversation-nothing g.P.Policy.may c.args.session.now _ _ c.ended.ensures.unread;
+      open_still = search rules;
+      unread = c.ended.ensures.unread;
+      reads = sym (raised-none _);
+      gave = GivesAtLeast-nothing _;
+      read_held = refl;
+      write_held = refl;
+      flushed = λ h. h;
+    }
+
+pub returns-in-Err-clause-reads : goal.returns-in-Err-clause-reads
+returns-in-Err-clause-reads g c = (c.loop-turn._turn + 1, omega arith, rw (c.in-Err.ensures.reads, c.loop-turn.invariant.reads) (raised-then _ _ _))
+
+pub returns-then-count-eq0-clause-reads : goal.returns-then-count-eq0-clause-reads
+returns-then-count-eq0-clause-reads g c = (c.loop-turn._turn + 1, omega arith, rw (c.read.ensures.reads, c.loop-turn.invariant.reads) (raised-then _ _ _))
+
+pub returns-in-Err-answer_all-clause-breaks : goal.returns-in-Err-answer_all-clause-breaks
+returns-in-Err-answer_all-clause-breaks g c =
+    λ _. BrokenConversation-read g.P.Policy.may c.loop-turn.invariant.conversation c.in-Ok.ensures.bytes.0 c.in-Err-answer_all.ensures.breaks
+
+pub returns-in-Err-answer_all-clause-reads : goal.returns-in-Err-answer_all-clause-reads
+returns-in-Err-answer_all-clause-reads g c = (c.loop-turn._turn + 1, omega arith, rw (c.read.ensures.reads, c.loop-turn.invariant.reads) (raised-then _ _ _))
+
+pub returns-then-ended-2-clause-answers : goal.returns-then-ended-2-clause-answers
+returns-then-ended-2-clause-answers g c =
+    λ _. Conversation-read g.P.Policy.may c.loop-turn.invariant.conversation c.in-Ok.ensures.bytes.0 c.in-Ok-answer_all.ensures.delivered
+
+pub returns-then-ended-2-clause-reads : goal.returns-then-ended-2-clause-reads
+returns-then-ended-2-clause-reads g c = (c.loop-turn._turn + 1, omega arith, rw (c.read.ensures.reads, c.loop-turn.invariant.reads) (raised-then _ _ _))
+
+pub loop-turn-preserved : goal.loop-turn-preserved
+loop-turn-preserved g c =
+    record {
+      room = search rules;
+      conversation = Conversation-read g.P.Policy.may c.loop-turn.invariant.conversation c.in-Ok.ensures.bytes.0 c.in-Ok-answer_all.ensures.delivered;
+      open_still = search rules;
+      unread = c.ended-in-loop-turn.ensures.unread;
+      reads = rw (c.read.ensures.reads, c.loop-turn.invariant.reads) (raised-then _ _ _);
+      gave = GivesAtLeast-both c.loop-turn.invariant.gave (record { input = _; given = c.in-Ok.ensures.bytes.0; enough = omega (arith, c.in-Ok.ensures.bound.1) });
+      read_held = search rules;
+      write_held = search rules;
+      flushed = search rules;
+    }
