@@ -1,10 +1,11 @@
 -- What is written is read: a written reply is one reply, of its status, id and text.
-use Rattle.std.proofs.Common.{◌≡◌, ℕ, ◌+◌, ◌≤◌, List, [], ◌∷◌, ◌++◌, length, Option, Some, None, Bool, true, false, refl, sym, ◌∙◌, ap, subst, arith, cond, eqb, ◌⊎◌, inl, inr, reverse, append_assoc, append-nil, length-append}
+use Rattle.std.proofs.Common.{◌≡◌, ℕ, ◌+◌, ◌≤◌, List, [], ◌∷◌, ◌++◌, length, Option, Some, None, Bool, true, false, refl, sym, ◌∙◌, ap, subst, arith, cond, eqb, leb, ◌&&◌, ◌||◌, ◌⊎◌, inl, inr, reverse, append_assoc, append-nil, length-append}
 use Rattle.std.specs.Prelude.{is_some, IfSome}
 use Rattle.std.specs.Char.{is_ascii_digit}
-use Rattle.std.specs.List.{AllByRecursion}
+use Rattle.std.specs.List.{AllByRecursion, list_all}
 use Rattle.std.specs.Fmt.{decimal}
 use Rattle.std.specs.Str.Parse.{AllDigits}
+use Rattle.std.proofs.lemmas.Bool.{eqb-true, leb-true}
 use Rattle.std.proofs.lemmas.Bool.Decides.{nat_tests}
 use Rattle.std.proofs.lemmas.Fmt.{decimal_is_IsNumeral, length-decimal-le}
 use Rattle.std.proofs.lemmas.Str.Parse.{digit_from_value}
@@ -13,14 +14,34 @@ use Rattle.go_base.specs.Int.{int_of, int_max}
 use Rattle.go_base.proofs.IntLemmas.{int_of_spelled}
 use Rattle.gtp_wire.specs.declared.replies.Reply.{Reply}
 use Rattle.gtp_wire.specs.Bytes.{is_kept, space_for_tab, is_newline, is_space, is_blank}
-use Rattle.gtp_wire.specs.Replies.{prepared, front_of, behind, past_blanks, is_status, has_two_newlines, trimmed, IsWhole, IsReply, written_reply, written_id, spaced, IsReplyText}
-use Rattle.gtp_wire.proofs.LineLemmas.{AllByRecursion-append}
+use Rattle.gtp_wire.specs.Replies.{prepared, front_of, behind, past_blanks, is_status, has_two_newlines, trimmed, IsWhole, IsReply, written_reply, written_id, spaced, is_shown, begins_blank, IsReplyText}
+use Rattle.gtp_wire.proofs.LineLemmas.{AllByRecursion-append, test_cases}
 use Rattle.gtp_wire.proofs.NewlineLemmas.{has_two_newlines_front, body_more, or_parts}
 use Rattle.gtp_wire.proofs.ReplyLemmas.{reply_made}
 
 -- a newline or a byte that is shown
 abbrev IsShown : ℕ → Type 0
 IsShown b = (b ≡ 10) ⊎ ((32 ≤ b) × (b ≤ 126))
+
+shown_byte : (b : ℕ) → is_shown b ≡ true → IsShown b
+shown_byte b shown = elim (or_cases (is_newline b) _ shown) [
+  | inl e ↦ inl (eqb-true b 10 e)
+  | inr h ↦ let parts = and_parts (leb 32 b) (leb b 126) h in inr (leb-true _ _ parts.0, leb-true _ _ parts.1)
+]
+  where
+    or_cases : (x y : Bool) → (x || y) ≡ true → (x ≡ true) ⊎ (y ≡ true)
+    or_cases true y e = inl refl
+    or_cases false y e = inr e
+    and_parts : (x y : Bool) → (x && y) ≡ true → (x ≡ true) × (y ≡ true)
+    and_parts true y e = (refl, e)
+    and_parts false y e = absurd (cc)
+
+all_shown : (l : List ℕ) → list_all is_shown l ≡ true → AllByRecursion IsShown l
+all_shown [] shown = tt
+all_shown (b ∷ l) shown = elim (test_cases (is_shown b)) [
+  | inl e ↦ let rest : list_all is_shown l ≡ true = rw e at shown in (shown_byte b e, all_shown l rest)
+  | inr e ↦ let none : false ≡ true = rw e at shown in absurd (cc)
+]
 
 shown_kept : (b : ℕ) → IsShown b → is_kept b ≡ true
 shown_kept b shown = elim shown [ inl e ↦ rw e refl | inr h ↦ let low : 32 ≤ b = h.0 in let high : b ≤ 126 = h.1 in grind (arith, nat_tests) ]
@@ -89,13 +110,17 @@ not_newline b other = (or_parts (is_space b) (is_newline b) other).1
 behind_none : (b : ℕ) (bs : List ℕ) → is_space b ≡ false → behind is_space (b ∷ bs) ≡ b ∷ bs
 behind_none b bs other = rw other refl
 
+-- the last byte of a text that doesn't end with a blank
+last_byte : (front : List ℕ) (c : ℕ) (text : List ℕ) → text ≡ front ++ c ∷ [] → begins_blank (reverse text) ≡ false → is_blank c ≡ false
+last_byte front c text e none = sym (ap begins_blank (ap reverse e ∙ reverse-append front (c ∷ []))) ∙ none
+
 trimmed_spaced : (text : List ℕ) → IsReplyText text → trimmed (spaced text) ≡ text
 trimmed_spaced [] fits = refl
 trimmed_spaced (b ∷ bs) fits =
     let last = last_of b bs in
     let turned : reverse (b ∷ bs) ≡ last.1 ∷ reverse last.0 = ap reverse last.2 ∙ reverse-append last.0 (last.1 ∷ []) in
-    let other : is_space last.1 ≡ false = not_space last.1 (fits.end last.0 last.1 last.2) in
-    ap (λ t. reverse (behind is_space (reverse t))) (behind_none b bs (not_space b (fits.front b bs refl)))
+    let other : is_space last.1 ≡ false = not_space last.1 (last_byte last.0 last.1 (b ∷ bs) last.2 fits.end) in
+    ap (λ t. reverse (behind is_space (reverse t))) (behind_none b bs (not_space b fits.front))
     ∙ ap (λ t. reverse (behind is_space t)) turned
     ∙ ap reverse (behind_none last.1 (reverse last.0) other ∙ sym turned)
     ∙ reverse-reverse (b ∷ bs)
@@ -108,7 +133,7 @@ has_two_newlines_spaced (b ∷ bs) fits =
     let front : has_two_newlines last.0 ≡ false = has_two_newlines_front last.0 (last.1 ∷ []) (subst P last.2 fits.single) in
     has_two_newlines_cons 32 (b ∷ bs ++ 10 ∷ []) refl
     ∙ ap (λ t. has_two_newlines (t ++ 10 ∷ [])) last.2
-    ∙ body_more last.0 last.1 front (not_newline last.1 (fits.end last.0 last.1 last.2))
+    ∙ body_more last.0 last.1 front (not_newline last.1 (last_byte last.0 last.1 (b ∷ bs) last.2 fits.end))
 
 spaced_shown : (text : List ℕ) → AllByRecursion IsShown text → AllByRecursion IsShown (spaced text)
 spaced_shown [] all = tt
@@ -161,7 +186,7 @@ written_whole ok id text fits_id fits_text =
     let word = id_text id fits_id in
     let shown : AllByRecursion IsShown (written_id id ++ (spaced text ++ 10 ∷ 10 ∷ [])) =
     AllByRecursion-append IsShown (written_id id) (spaced text ++ 10 ∷ 10 ∷ []) (digits_shown (written_id id) word.digits)
-    (AllByRecursion-append IsShown (spaced text) (10 ∷ 10 ∷ []) (spaced_shown text fits_text.plain) (inl refl, (inl refl, tt))) in
+    (AllByRecursion-append IsShown (spaced text) (10 ∷ 10 ∷ []) (spaced_shown text (all_shown text fits_text.shown)) (inl refl, (inl refl, tt))) in
     record {
       fits = omega (arith, length-append (written_id id) (spaced text ++ 10 ∷ 10 ∷ []), length-append (spaced text) (10 ∷ 10 ∷ []), word.short, length-spaced text, fits_text.fits);
       front = status_of ok ∷ (written_id id ++ (spaced text ++ 10 ∷ []));

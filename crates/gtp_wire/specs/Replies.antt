@@ -1,7 +1,7 @@
 -- The replies in the bytes from an engine. (The standard, on preprocessing and response structure.)
-use Rattle.std.specs.Prelude.{◌≡◌, ℕ, ◌+◌, ◌<◌, ◌≤◌, Bool, true, false, ◌&&◌, ◌||◌, ◌==◌, List, [], ◌∷◌, ◌++◌, length, take, filter, map, reverse, Option, Some, None, Result, Ok, Err, is_some, if◌then◌else◌, ◌⊎◌}
+use Rattle.std.specs.Prelude.{◌≡◌, ℕ, ◌+◌, ◌<◌, ◌≤◌, Bool, true, false, ◌&&◌, ◌||◌, ◌==◌, List, [], ◌∷◌, ◌++◌, length, take, filter, map, reverse, Option, Some, None, Result, Ok, Err, is_some, nat_le, if◌then◌else◌}
 use Rattle.std.specs.Char.{is_ascii_digit}
-use Rattle.std.specs.List.{AllByRecursion}
+use Rattle.std.specs.List.{list_all}
 use Rattle.go_base.specs.Int.{int_of, written_int}
 use Rattle.gtp_wire.specs.declared.replies.Reply.{Reply}
 use Rattle.gtp_wire.specs.declared.replies.ReplyFault.{ReplyFault}
@@ -121,11 +121,20 @@ spaced (b ∷ bs) = 32 ∷ b ∷ bs
 abbrev pub written_reply : Bool → Option ℕ → List ℕ → List ℕ
 written_reply ok id text = (if ok then 61 else 63) ∷ (written_id id ++ (spaced text ++ 10 ∷ 10 ∷ []))
 
+-- a byte of a text that is written: a newline, or 32 to 126
+abbrev pub is_shown : ℕ → Bool
+is_shown b = is_newline b || (nat_le 32 b && nat_le b 126)
+
+-- whether a space or a newline stands in front
+abbrev pub begins_blank : List ℕ → Bool
+begins_blank [] = false
+begins_blank (b ∷ bs) = is_blank b
+
 -- A text that may be written: at most 2,000 bytes, each a newline or 32 to 126, no two newlines in a row, and neither a
--- space nor a newline at its ends.
+-- space nor a newline at its front or at its end.
 pub record IsReplyText (text : List ℕ) : Type 0 where
   pub fits : length text ≤ reply_text_max
-  pub plain : AllByRecursion (λ b. (b ≡ 10) ⊎ ((32 ≤ b) × (b ≤ 126))) text
+  pub shown : list_all is_shown text ≡ true
   pub single : has_two_newlines text ≡ false
-  pub front : (b : ℕ) (more : List ℕ) → text ≡ b ∷ more → is_blank b ≡ false
-  pub end : (more : List ℕ) (b : ℕ) → text ≡ more ++ b ∷ [] → is_blank b ≡ false
+  pub front : begins_blank text ≡ false
+  pub end : begins_blank (reverse text) ≡ false

@@ -1,11 +1,12 @@
 //! Replies, and their writer.
 ghost use Rattle.std.specs.Prelude.{◌≡◌, ℕ, ◌+◌, ◌≤◌, ◌++◌, length, IfSome};
 ghost use Rattle.arrayvec.specs.ArrayVec.{array_vec_len};
-ghost use Rattle.go_base.specs.Int.{int_max, written_int};
+ghost use Rattle.go_base.specs.Int.{int_max};
 ghost use Rattle.gtp_wire.specs.Replies.{IsReply, IsReplyText, reply_text_max, written_reply, written_id, spaced};
 ghost use Rattle.gtp_wire.specs.declared.replies.Reply.{Reply};
 
 use arrayvec::ArrayVec;
+use go_base::write_int;
 
 /// What an engine answered to a command.
 #[derive(Drop)]
@@ -51,8 +52,7 @@ pub fn write_reply(ok: bool, id: Option<u32>, text: &[u8]) -> ReplyText
 
 /// The bytes of the reply.
 fn reply_bytes(ok: bool, id: Option<u32>, text: &[u8]) -> ReplyText
-    requires id_fits { IfSome id (λ n. n ≤ int_max) }
-    requires text_fits { length text.now ≤ reply_text_max }
+    requires { length text.now ≤ reply_text_max }
     ensures { result.items ≡ written_reply ok id text.now }
 {
     let mut out = ArrayVec::new();
@@ -66,13 +66,13 @@ fn reply_bytes(ok: bool, id: Option<u32>, text: &[u8]) -> ReplyText
 
 /// Appends the id, where there is one.
 fn push_id(out: &mut ReplyText, id: Option<u32>)
-    requires room { array_vec_len out.old ≤ 1 }
-    requires fits { IfSome id (λ n. n ≤ int_max) }
+    requires { array_vec_len out.old ≤ 1 }
     ensures bytes { out.new.items ≡ out.old.items ++ written_id id }
     ensures len { array_vec_len out.new ≤ 11 }
 {
     if let Some(id) = id {
-        push_int(out, id);
+        let digits = write_int(id);
+        let _ = out.try_extend_from_slice(&digits);
     }
 }
 
@@ -86,17 +86,4 @@ fn push_text(out: &mut ReplyText, text: &[u8])
         out.push(b' ');
         let _ = out.try_extend_from_slice(text);
     }
-}
-
-/// Appends the number in decimal.
-fn push_int(out: &mut ReplyText, number: u32)
-    requires { array_vec_len out.old + length (written_int number) ≤ REPLY_ROOM }
-    ensures { out.new.items ≡ out.old.items ++ written_int number }
-{
-    if number < 10 {
-        out.push(b'0' + number as u8);
-        return;
-    }
-    push_int(out, number / 10);
-    out.push(b'0' + (number % 10) as u8);
 }
