@@ -1,7 +1,7 @@
 -- Laws of what a writer took and a reader gave.
-use Rattle.std.proofs.Common.{◌≡◌, ℕ, ◌+◌, ◌-◌, ◌≤◌, List, [], ◌∷◌, ◌++◌, length, take, drop, Option, refl, sym, ap, ◌∙◌, append_assoc, arith}
+use Rattle.std.proofs.Common.{◌≡◌, ℕ, ◌+◌, ◌-◌, ◌<◌, ◌≤◌, List, [], ◌∷◌, ◌++◌, length, take, drop, Option, refl, sym, ap, ◌∙◌, append_assoc, arith}
 use Rattle.std.proofs.Math.Seq.{take-add}
-use Rattle.std.proofs.lemmas.List.{append-nil, take-append-drop, take_all, length-drop, length-append}
+use Rattle.std.proofs.lemmas.List.{append-nil, take-append-drop, take_all, length-drop, length-append, length-take-le}
 use Rattle.std.proofs.KnownBytes.{Appends-nil, Appends-trans, Appends-kept, Consumes-nil, Consumes-trans, Consumes-kept}
 use Rattle.std.specs.Io.KnownBytes.{Appends, Keeps, Consumes}
 use Rattle.std.specs.List.{concat}
@@ -168,3 +168,9 @@ GivesAtLeast-both {a = a} {b = b} {c = c} p q =
       given = Consumes-trans a b c _ _ p.given q.given;
       enough = omega (arith, length-append p.input q.input, p.enough, q.enough);
     }
+
+-- one read more, which gave at least one byte
+pub GivesAtLeast-piece : {a b c : Option (List ℕ)} {m count : ℕ} {buffer : List ℕ} → GivesAtLeast a b m
+    → (0 < count) × (count ≤ length buffer) × Consumes b c (take count buffer) → GivesAtLeast a c (m + 1)
+GivesAtLeast-piece {count = count} {buffer = buffer} p q =
+    GivesAtLeast-both p (record { input = take count buffer; given = q.2; enough = omega (arith, length-take-le count buffer, q.0, q.1) })

@@ -3,4 +3,3 @@ pub mod CommandLemmas
 pub mod ConversationLemmas
 pub mod CountsLemmas
 pub mod EngineLemmas
-pub mod TextLemmas

@@ -1,6 +1,6 @@
 -- What an engine, a reader and a writer did together.
-use Rattle.std.specs.Prelude.{◌≡◌, ℕ, ◌≤◌, List, [], ◌∷◌, ◌++◌, length, Option}
-use Rattle.std.specs.Io.KnownBytes.{Consumes, Appends}
+use Rattle.std.specs.Prelude.{◌≡◌, ℕ, ◌<◌, ◌≤◌, List, [], ◌∷◌, ◌++◌, length, take, Option, Some, None, Result, Ok, Err}
+use Rattle.std.specs.Io.KnownBytes.{Consumes, Appends, Keeps, IsAtEnd}
 use Rattle.gtp_engine.specs.Engine.{Engine, May, WrittenReply, Replies, output_of}
 
 -- The engine read this input and the writer took its replies, each whole.
@@ -50,3 +50,11 @@ pub record GivesAtLeast (gives gives_now : Option (List ℕ)) (least : ℕ) : Ty
   pub input : List ℕ
   pub given : Consumes gives gives_now input
   pub enough : least ≤ length input
+
+module _ {E : Type 0} where
+  -- What one read gave: at least one byte, which stand at the front of the buffer; or none, at the end of the input; or
+  -- it failed, and gave nothing.
+  abbrev pub GivesPiece : Option (List ℕ) → Option (List ℕ) → Result (Option ℕ) E → List ℕ → Type 0
+  GivesPiece gives gives_now (Ok (Some count)) buffer = (0 < count) × (count ≤ length buffer) × Consumes gives gives_now (take count buffer)
+  GivesPiece gives gives_now (Ok None) buffer = Consumes gives gives_now [] × IsAtEnd gives_now
+  GivesPiece gives gives_now (Err _) buffer = Keeps gives gives_now

@@ -3,7 +3,6 @@ ghost use Rattle.std.specs.Prelude.{◌≡◌, true, false, codes};
 ghost use Rattle.std.specs.Option.{option_copied, option_to_list};
 ghost use Rattle.gtp_wire.specs.Replies.{IsReplyText};
 ghost use Rattle.gtp_engine.specs.Commands.{spelled, command_named, response, response_to, response_to_words};
-ghost use Rattle.gtp_engine.specs.Texts.{is_reply_text};
 
 use gtp_wire::{CommandLine, Line};
 use std::marker::Model;
@@ -69,18 +68,18 @@ pub struct Response {
 impl Model for Response {
     ghost use Rattle.std.specs.Prelude.{◌≡◌, true};
     ghost use Rattle.gtp_engine.specs.Commands.{Response};
-    ghost use Rattle.gtp_engine.specs.Texts.{is_reply_text};
+    ghost use Rattle.gtp_wire.specs.Replies.{IsReplyText};
 
     ghost Value = { Response };
 
     ghost view = { λ r. record { ok = r.ok; text = r.text.now; ended = r.ended } };
 
-    ghost invariant = { λ r. is_reply_text r.text.now ≡ true };
+    ghost invariant = { λ r. IsReplyText r.text.now };
 }
 
 impl Response {
     fn success(text: &'static [u8]) -> Response
-        requires { is_reply_text text.now ≡ true }
+        requires { IsReplyText text.now }
         ensures { result ≡ record { ok = true; text = text.now; ended = false } }
     {
         Response {
@@ -91,7 +90,7 @@ impl Response {
     }
 
     fn failure(text: &'static [u8]) -> Response
-        requires { is_reply_text text.now ≡ true }
+        requires { IsReplyText text.now }
         ensures { result ≡ record { ok = false; text = text.now; ended = false } }
     {
         Response {

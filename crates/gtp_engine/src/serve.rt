@@ -1,9 +1,9 @@
 //! A session over a reader and a writer.
-ghost use Rattle.std.specs.Prelude.{◌≡◌, ◌≢◌, ℕ, ◌≤◌, [], true, false, OnOk, OnErr};
+ghost use Rattle.std.specs.Prelude.{◌≡◌, ◌≢◌, ℕ, ◌<◌, ◌≤◌, length, [], true, false, OnOk, OnErr};
 ghost use Rattle.std.specs.Io.KnownBytes.{Appends, IsAtEnd};
-ghost use Rattle.gtp_engine.specs.Counts.{raised};
+ghost use Rattle.gtp_engine.specs.Counts.{raised, failures_after};
 ghost use Rattle.gtp_wire.specs.Lines.{lines};
-ghost use Rattle.gtp_engine.specs.Conversation.{Delivered, Breaks, Conversation, BrokenConversation, TakesPart, GivesAtLeast};
+ghost use Rattle.gtp_engine.specs.Conversation.{Delivered, Breaks, Conversation, BrokenConversation, TakesPart, GivesAtLeast, GivesPiece};
 
 use crate::policy::Policy;
 use crate::session::Session;
@@ -70,13 +70,11 @@ pub fn serve_within<R: Incoming, W: Outgoing, P: Policy>(
     }
     let mut buffer = [0u8; 4096];
     for _turn in 0..reads {
-        let count = match reader.read(&mut buffer) {
-            Ok(count) => count,
+        let count = match read_piece(reader, &mut buffer) {
+            Ok(Some(count)) => count,
+            Ok(None) => return Ok(Served::EndOfInput),
             Err(_) => return Err(ServeFault::Read),
         };
-        if count == 0 {
-            return Ok(Served::EndOfInput);
-        }
         match answer_all(writer, session, &buffer[..count]) {
             Ok(()) => {}
             Err(_) => return Err(ServeFault::Write),
@@ -86,6 +84,20 @@ pub fn serve_within<R: Incoming, W: Outgoing, P: Policy>(
         }
     }
     Err(ServeFault::TooManyReads)
+}
+
+/// Reads once, and answers how many bytes the read gave, or `None` at the end of the input.
+fn read_piece<R: Incoming>(reader: &mut R, buffer: &mut [u8]) -> Result<Option<usize>, Broken>
+    requires { 0 < length buffer.old }
+    ensures piece { GivesPiece (R.remaining reader.old) (R.remaining reader.new) result buffer.new }
+    ensures reads { R.reads reader.new ≡ raised (R.reads reader.old) 1 }
+    ensures failures { R.failures reader.new ≡ failures_after (R.failures reader.old) result }
+{
+    match reader.read(buffer) {
+        Ok(0) => Ok(None),
+        Ok(count) => Ok(Some(count)),
+        Err(broken) => Err(broken),
+    }
 }
 
 /// Executes each line that the input ends, and writes and flushes its reply before the next.

@@ -1,14 +1,10 @@
-use Rattle.std.proofs.Common.{rules, ◌≡◌, ◌≤◌, ◌+◌, ◌-◌, arith, refl, sym, ◌∙◌, ap}
-use Rattle.gtp_engine.specs.Counts.{raised}
+use Rattle.std.proofs.Common.{rules, ◌≡◌, ◌≤◌, ◌+◌, length, take, arith, refl, sym, ◌∙◌}
 use Rattle.gtp_engine.proofs.CountsLemmas.{raised-none, raised-then}
-use Rattle.gtp_engine.proofs.ConversationLemmas.{GivesAtLeast-nothing, GivesAtLeast-both, Conversation-nothing, Conversation-read, BrokenConversation-read}
+use Rattle.gtp_engine.proofs.ConversationLemmas.{GivesAtLeast-nothing, GivesAtLeast-piece, Conversation-nothing, Conversation-read, BrokenConversation-read}
 use Rattle.gtp_engine.proofs.serve.serve_within.Goals as goal
 
 pub returns-then-ended-clause-answers : goal.returns-then-ended-clause-answers
 returns-then-ended-clause-answers g c = λ _. Conversation-nothing g.P.Policy.may c.args.session.now _ _ c.ended.ensures.unread
-
-pub returns-then-ended-clause-reads : goal.returns-then-ended-clause-reads
-returns-then-ended-clause-reads g c = (0, omega arith, sym (raised-none _))
 
 pub loop-turn-init : goal.loop-turn-init
 loop-turn-init g c =
@@ -24,35 +20,35 @@ loop-turn-init g c =
       flushed = λ h. h;
     }
 
-pub returns-in-Err-clause-reads : goal.returns-in-Err-clause-reads
-returns-in-Err-clause-reads g c = (c.loop-turn._turn + 1, omega arith, rw (c.in-Err.ensures.reads, c.loop-turn.invariant.reads) (raised-then _ _ _))
+pub returns-in-Ok-None-clause-reads : goal.returns-in-Ok-None-clause-reads
+returns-in-Ok-None-clause-reads g c = (c.loop-turn._turn + 1, omega arith, rw (c.read_piece.ensures.reads, c.loop-turn.invariant.reads) (raised-then _ _ _))
 
-pub returns-then-count-eq0-clause-reads : goal.returns-then-count-eq0-clause-reads
-returns-then-count-eq0-clause-reads g c = (c.loop-turn._turn + 1, omega arith, rw (c.read.ensures.reads, c.loop-turn.invariant.reads) (raised-then _ _ _))
+pub returns-in-Err-clause-reads : goal.returns-in-Err-clause-reads
+returns-in-Err-clause-reads g c = (c.loop-turn._turn + 1, omega arith, rw (c.read_piece.ensures.reads, c.loop-turn.invariant.reads) (raised-then _ _ _))
 
 pub returns-in-Err-answer_all-clause-breaks : goal.returns-in-Err-answer_all-clause-breaks
 returns-in-Err-answer_all-clause-breaks g c =
-    λ _. BrokenConversation-read g.P.Policy.may c.loop-turn.invariant.conversation c.in-Ok.ensures.bytes.0 c.in-Err-answer_all.ensures.breaks
+    λ _. BrokenConversation-read g.P.Policy.may c.loop-turn.invariant.conversation c.in-Ok-Some.ensures.piece.2 c.in-Err-answer_all.ensures.breaks
 
 pub returns-in-Err-answer_all-clause-reads : goal.returns-in-Err-answer_all-clause-reads
-returns-in-Err-answer_all-clause-reads g c = (c.loop-turn._turn + 1, omega arith, rw (c.read.ensures.reads, c.loop-turn.invariant.reads) (raised-then _ _ _))
+returns-in-Err-answer_all-clause-reads g c = (c.loop-turn._turn + 1, omega arith, rw (c.read_piece.ensures.reads, c.loop-turn.invariant.reads) (raised-then _ _ _))
 
 pub returns-then-ended-2-clause-answers : goal.returns-then-ended-2-clause-answers
 returns-then-ended-2-clause-answers g c =
-    λ _. Conversation-read g.P.Policy.may c.loop-turn.invariant.conversation c.in-Ok.ensures.bytes.0 c.in-Ok-answer_all.ensures.delivered
+    λ _. Conversation-read g.P.Policy.may c.loop-turn.invariant.conversation c.in-Ok-Some.ensures.piece.2 c.in-Ok.ensures.delivered
 
 pub returns-then-ended-2-clause-reads : goal.returns-then-ended-2-clause-reads
-returns-then-ended-2-clause-reads g c = (c.loop-turn._turn + 1, omega arith, rw (c.read.ensures.reads, c.loop-turn.invariant.reads) (raised-then _ _ _))
+returns-then-ended-2-clause-reads g c = (c.loop-turn._turn + 1, omega arith, rw (c.read_piece.ensures.reads, c.loop-turn.invariant.reads) (raised-then _ _ _))
 
 pub loop-turn-preserved : goal.loop-turn-preserved
 loop-turn-preserved g c =
     record {
       room = search rules;
-      conversation = Conversation-read g.P.Policy.may c.loop-turn.invariant.conversation c.in-Ok.ensures.bytes.0 c.in-Ok-answer_all.ensures.delivered;
+      conversation = Conversation-read g.P.Policy.may c.loop-turn.invariant.conversation c.in-Ok-Some.ensures.piece.2 c.in-Ok.ensures.delivered;
       open_still = search rules;
       unread = c.ended-in-loop-turn.ensures.unread;
-      reads = rw (c.read.ensures.reads, c.loop-turn.invariant.reads) (raised-then _ _ _);
-      gave = GivesAtLeast-both c.loop-turn.invariant.gave (record { input = _; given = c.in-Ok.ensures.bytes.0; enough = omega (arith, c.in-Ok.ensures.bound.1) });
+      reads = rw (c.read_piece.ensures.reads, c.loop-turn.invariant.reads) (raised-then _ _ _);
+      gave = GivesAtLeast-piece c.loop-turn.invariant.gave c.in-Ok-Some.ensures.piece;
       read_held = search rules;
       write_held = search rules;
       flushed = search rules;
