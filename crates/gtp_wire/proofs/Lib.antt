@@ -9,3 +9,5 @@ pub mod ReplyLemmas
 pub mod WrittenLemmas
 pub mod WrittenLines
 pub mod ReplyLaws
+mod LineExamples
+mod ReplyExamples
