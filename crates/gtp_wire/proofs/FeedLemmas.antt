@@ -4,6 +4,7 @@ use Rattle.std.proofs.lemmas.List.{take_more, take_all, take-append-drop}
 use Rattle.std.specs.Option.{option_to_list}
 use Rattle.gtp_wire.specs.declared.lines.Line.{Line}
 use Rattle.gtp_wire.specs.Lines.{lines, head_of, EndsLine}
+use Rattle.gtp_wire.proofs.LineLemmas.{lines_open}
 
 -- the first i bytes of the input after u gave no line, and v reads on as they do
 pub record ReadsSoFar (u input : List ℕ) (i : ℕ) (v : List ℕ) : Type 0 where
@@ -20,6 +21,17 @@ pub one_more : (u input : List ℕ) (i : ℕ) (v w : List ℕ) (o : Option Line)
     → (z : List ℕ) → lines (u ++ (take (i + 1) input ++ z)) ≡ option_to_list o ++ lines (w ++ z)
 one_more u input i v w o so_far inside step z =
     rw (take_more input i 0 inside) (rw (append_assoc (take i input) (get_or input i 0 ∷ []) z) (so_far.same (get_or input i 0 ∷ z) ∙ step z))
+
+-- a newline more, which ends what is held
+pub newline_more : (u input : List ℕ) (i : ℕ) (v w : List ℕ) (o : Option Line) → ReadsSoFar u input i v → i < length input → get_or input i 0 ≡ 10
+    → ((z : List ℕ) → lines (v ++ 10 ∷ z) ≡ option_to_list o ++ lines z) → w ≡ []
+    → (z : List ℕ) → lines (u ++ (take (i + 1) input ++ z)) ≡ option_to_list o ++ lines (w ++ z)
+newline_more u input i v w o so_far inside newline step empty =
+    one_more u input i v w o so_far inside (λ z. rw (newline, empty) (step z))
+
+-- nothing is no whole line
+pub nothing_open : (w : List ℕ) → w ≡ [] → lines w ≡ []
+nothing_open w empty = rw empty (lines_open [] tt tt)
 
 -- no whole line so far
 none_here : (u input : List ℕ) (i : ℕ) (v : List ℕ) → ReadsSoFar u input i v → lines (u ++ take i input) ≡ []
@@ -45,6 +57,14 @@ so_far_more u input i v w so_far inside step none = record {
   same = one_more u input i v w None so_far inside step;
   before = none_before u input i v so_far;
   no_line = none;
+}
+
+pub so_far_newline : (u input : List ℕ) (i : ℕ) (v w : List ℕ) → ReadsSoFar u input i v → i < length input → get_or input i 0 ≡ 10
+    → ((z : List ℕ) → lines (v ++ 10 ∷ z) ≡ lines z) → w ≡ [] → ReadsSoFar u input (i + 1) w
+so_far_newline u input i v w so_far inside newline step empty = record {
+  same = newline_more u input i v w None so_far inside newline step empty;
+  before = none_before u input i v so_far;
+  no_line = nothing_open w empty;
 }
 
 -- the line is all that came

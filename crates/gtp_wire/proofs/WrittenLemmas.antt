@@ -54,10 +54,10 @@ prepared_shown [] shown = refl
 prepared_shown (b ∷ l) shown = rw (shown_kept b shown.0) (rw (shown_stays b shown.0) (ap (λ t. b ∷ t) (prepared_shown l shown.1)))
 
 -- digits
-abbrev IsDigit : ℕ → Type 0
+abbrev pub IsDigit : ℕ → Type 0
 IsDigit c = (48 ≤ c) × (c ≤ 57)
 
-digits_of_value : (l : List ℕ) → AllDigits 10 l → AllByRecursion IsDigit l
+pub digits_of_value : (l : List ℕ) → AllDigits 10 l → AllByRecursion IsDigit l
 digits_of_value [] all = tt
 digits_of_value (c ∷ l) all = let range = digit_from_value c all.0 in ((range.0, range.1), digits_of_value l all.1)
 
@@ -175,10 +175,10 @@ status_is : (ok : Bool) → ok ≡ eqb (status_of ok) 61
 status_is true = refl
 status_is false = refl
 
-core_status : (ok : Bool) (l : List ℕ) → AllByRecursion IsShown (status_of ok ∷ l) → past_blanks (status_of ok ∷ l) ≡ status_of ok ∷ l
+past_blanks_status : (ok : Bool) (l : List ℕ) → AllByRecursion IsShown (status_of ok ∷ l) → past_blanks (status_of ok ∷ l) ≡ status_of ok ∷ l
 unfolding past_blanks
-core_status true l shown = ap (behind is_blank) (prepared_shown (61 ∷ l) shown)
-core_status false l shown = ap (behind is_blank) (prepared_shown (63 ∷ l) shown)
+past_blanks_status true l shown = ap (behind is_blank) (prepared_shown (61 ∷ l) shown)
+past_blanks_status false l shown = ap (behind is_blank) (prepared_shown (63 ∷ l) shown)
 
 -- a written reply is one reply
 pub written_whole : (ok : Bool) (id : Option ℕ) (text : List ℕ) → IfSome id (λ n. n ≤ int_max) → IsReplyText text → IsWhole (written_reply ok id text)
@@ -194,7 +194,7 @@ written_whole ok id text fits_id fits_text =
           (ap (λ t. written_id id ++ t) (sym (append_assoc (spaced text) (10 ∷ []) (10 ∷ []))) ∙ sym (append_assoc (written_id id) (spaced text ++ 10 ∷ []) (10 ∷ [])));
       status = status_of ok;
       body = written_id id ++ spaced text;
-      shape = core_status ok (written_id id ++ (spaced text ++ 10 ∷ 10 ∷ [])) (status_shown ok, shown) ∙ ap (λ t. status_of ok ∷ t) (sym (append_assoc (written_id id) (spaced text) (10 ∷ 10 ∷ [])));
+      shape = past_blanks_status ok (written_id id ++ (spaced text ++ 10 ∷ 10 ∷ [])) (status_shown ok, shown) ∙ ap (λ t. status_of ok ∷ t) (sym (append_assoc (written_id id) (spaced text) (10 ∷ 10 ∷ [])));
       known = status_known ok;
       first_end = ap has_two_newlines (append_assoc (written_id id) (spaced text) (10 ∷ [])) ∙ has_two_newlines_digits (written_id id) (spaced text ++ 10 ∷ []) word.digits ∙ has_two_newlines_spaced text fits_text;
     }

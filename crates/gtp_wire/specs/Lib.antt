@@ -3,3 +3,4 @@ pub mod Words
 pub mod Lines
 pub mod LineReading
 pub mod Replies
+pub mod Laws

@@ -5,7 +5,7 @@ use Rattle.go_base.specs.Int.{int_of, int_max}
 use Rattle.gtp_wire.specs.declared.lines.Place.{Place}
 use Rattle.gtp_wire.specs.declared.lines.Place.TheVariants.{Word, Gap, Comment}
 use Rattle.gtp_wire.specs.declared.lines.Kind.{Kind}
-use Rattle.gtp_wire.specs.declared.lines.Kind.TheVariants.{Newline, Space, Removed, Hash, Other}
+use Rattle.gtp_wire.specs.declared.lines.Kind.TheVariants.{Space, Removed, Hash, Other}
 use Rattle.gtp_wire.specs.Bytes.{is_kept, is_space}
 
 -- what stands after the words so far: nothing, a space, or the `#` that begins a comment
@@ -18,9 +18,8 @@ ending Comment = 35 ∷ []
 abbrev pub is_plain : ℕ → Bool
 is_plain b = is_kept b && (not (b == 9) && (not (b == 10) && not (b == 35)))
 
--- what a byte is to a line
+-- what a byte is to a line that it doesn't end
 abbrev pub IsKind : ℕ → Kind → Type 0
-IsKind b Newline = b ≡ 10
 IsKind b Space = (b ≡ 9) ⊎ (b ≡ 32)
 IsKind b Removed = is_kept b ≡ false
 IsKind b Hash = b ≡ 35

@@ -43,3 +43,13 @@ pub record EndsLine (held text : List ℕ) : Type 0 where
   pub front : List ℕ
   pub newline : text ≡ front ++ 10 ∷ []
   pub before : lines (held ++ front) ≡ []
+
+-- The texts read alike with every text after them.
+abbrev pub SameFuture : List ℕ → List ℕ → Type 0
+SameFuture a b = (later : List ℕ) → lines (a ++ later) ≡ lines (b ++ later)
+
+-- In what was held and the text these lines are found. What is held then has no whole line, and whatever comes later
+-- reads after it as it would have after the text.
+pub record Finds (old text : List ℕ) (found : List Line) (new : List ℕ) : Type 0 where
+  pub rest : (later : List ℕ) → lines (old ++ (text ++ later)) ≡ found ++ lines (new ++ later)
+  pub no_line : lines new ≡ []

@@ -1,7 +1,8 @@
 -- The words of a text, and of a command line. (The standard, on command structure.)
-use Rattle.std.specs.Prelude.{ℕ, List, [], ◌∷◌, length, filter, nat_lt, Option, None, is_some, if◌then◌else◌}
-use Rattle.std.specs.List.{slice_split}
-use Rattle.go_base.specs.Int.{int_of}
+use Rattle.std.specs.Prelude.{ℕ, Bool, ◌==◌, ◌&&◌, not, List, [], ◌∷◌, length, filter, nat_lt, Option, Some, None, is_some, if◌then◌else◌}
+use Rattle.std.specs.Char.{is_ascii_control}
+use Rattle.std.specs.List.{slice_split, list_all}
+use Rattle.go_base.specs.Int.{int_of, written_int}
 use Rattle.gtp_wire.specs.Bytes.{is_space}
 
 -- the maximal runs without a space: the parts between spaces, without the empty ones
@@ -19,3 +20,16 @@ abbrev pub command_of : List (List ℕ) → CommandWords
 command_of [] = record { id = None; words = [] }
 command_of (w ∷ ws) =
     if is_some (int_of w) then record { id = int_of w; words = ws } else record { id = None; words = w ∷ ws }
+
+-- a byte of a word as it is written: no space, no control character and no `#`
+abbrev pub is_word_byte : ℕ → Bool
+is_word_byte b = not (is_ascii_control b) && (not (is_space b) && not (b == 35))
+
+-- a word as it is written: one such byte or more
+abbrev pub is_word : List ℕ → Bool
+is_word text = nat_lt 0 (length text) && list_all is_word_byte text
+
+-- the id as a word, where there is one
+abbrev pub id_words : Option ℕ → List (List ℕ)
+id_words None = []
+id_words (Some n) = written_int n ∷ []

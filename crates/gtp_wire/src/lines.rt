@@ -1,5 +1,5 @@
 //! Lines, and their reader.
-ghost use Rattle.std.specs.Prelude.{◌≡◌, ℕ, ◌<◌, ◌≤◌, List, [], ◌∷◌, ◌++◌, length, take, IfSome, IfNone};
+ghost use Rattle.std.specs.Prelude.{◌≡◌, ◌≢◌, ℕ, ◌<◌, ◌≤◌, List, [], ◌∷◌, ◌++◌, length, take, IfSome, IfNone};
 ghost use Rattle.std.specs.Option.{option_to_list};
 ghost use Rattle.gtp_wire.specs.LineReading.{IsKind};
 
@@ -33,22 +33,22 @@ enum Place {
     Comment,
 }
 
-/// What a byte is to a line: its end, a space, a control character, the begin of a comment, or a byte of a word.
+/// What a byte is to a line that it doesn't end: a space, a control character, the begin of a comment, or a byte of a
+/// word.
 #[derive(Clone, Copy, PartialEq, Eq)]
 enum Kind {
-    Newline,
     Space,
     Removed,
     Hash,
     Other,
 }
 
-/// The kind of a byte.
+/// The kind of a byte that ends no line.
 fn kind_of(byte: u8) -> Kind
+    requires { byte ≢ 10 }
     ensures { IsKind byte result }
 {
     match byte {
-        b'\n' => Kind::Newline,
         b'\t' | b' ' => Kind::Space,
         b'#' => Kind::Hash,
         _ => {
@@ -80,6 +80,14 @@ impl Model for LineReader {
     ghost view = { λ r. r.held.items ++ ending r.place };
 
     ghost invariant = { λ r. HoldsLine r.held.items r.place };
+}
+
+impl Default for LineReader {
+    ghost is_default = { λ r. r ≡ [] };
+
+    fn default() -> Self {
+        LineReader::new()
+    }
 }
 
 impl LineReader {
@@ -117,10 +125,17 @@ impl LineReader {
         ensures rest { (z : List ℕ) →
             lines (self.old ++ (take result.used input.now ++ z)) ≡ option_to_list result.line ++ lines (self.new ++ z) }
         ensures no_line { lines self.new ≡ [] }
+
+        // Of a piece that isn't empty one byte at least is used.
+        ensures progress { 0 < length input.now → 0 < result.used }
     {
         let _ = &self.held;
         for (i, byte) in input.iter().enumerate() {
-            if let Some(line) = self.take_byte(*byte) {
+            if *byte != b'\n' {
+                self.take_byte(*byte);
+                continue;
+            }
+            if let Some(line) = self.end_line() {
                 return LineFed {
                     used: i + 1,
                     line: Some(line),
@@ -133,20 +148,18 @@ impl LineReader {
         }
     }
 
-    /// Takes one byte, and gives the line that it ends.
-    fn take_byte(&mut self, byte: u8) -> Option<Line>
-        ensures step { (z : List ℕ) → lines (self.old ++ byte ∷ z) ≡ option_to_list result ++ lines (self.new ++ z) }
-        ensures newline { IfSome result (λ line. byte ≡ 10) }
+    /// Takes one byte that ends no line.
+    fn take_byte(&mut self, byte: u8)
+        requires { byte ≢ 10 }
+        ensures step { (z : List ℕ) → lines (self.old ++ byte ∷ z) ≡ lines (self.new ++ z) }
         ensures no_line { lines self.new ≡ [] }
     {
         match kind_of(byte) {
-            Kind::Newline => return self.end_line(),
             Kind::Removed => self.skip(byte),
             Kind::Space => self.take_space(byte),
             Kind::Hash => self.take_hash(),
             Kind::Other => self.take_word_byte(byte),
         }
-        None
     }
 
     /// A control character changes nothing.
@@ -210,11 +223,11 @@ impl LineReader {
         ensures step { (z : List ℕ) → lines (self.old ++ 10 ∷ z) ≡ option_to_list result ++ lines z }
         ensures new { self.new ≡ [] }
     {
-        let text = self.held.take();
         self.place = Place::Word;
-        if text.is_empty() {
+        if self.held.is_empty() {
             return None;
         }
+        let text = self.held.take();
         if text.len() > LINE_LIMIT {
             return Some(Line::TooLong);
         }

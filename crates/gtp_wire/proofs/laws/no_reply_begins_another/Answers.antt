@@ -1,0 +1,5 @@
+use Rattle.gtp_wire.proofs.ReplyLaws.{no_reply_in_reply}
+use Rattle.gtp_wire.proofs.laws.no_reply_begins_another.Goals as goal
+
+pub returns : goal.returns
+returns c raw b more short long = no_reply_in_reply raw b more short long

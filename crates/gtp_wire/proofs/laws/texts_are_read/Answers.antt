@@ -1,0 +1,6 @@
+use Rattle.std.proofs.Common.{◌++◌}
+use Rattle.gtp_wire.proofs.ReadingLemmas.{Finds-all, tail_of}
+use Rattle.gtp_wire.proofs.laws.texts_are_read.Goals as goal
+
+pub returns : goal.returns
+returns c old text = (tail_of (old ++ text), Finds-all old text)

@@ -1,0 +1,80 @@
+-- Laws of lines and replies: what holds of the definitions alone, whatever code reads and writes the bytes.
+use Rattle.std.specs.Prelude.{◌≡◌, ◌≢◌, ℕ, ◌≤◌, true, List, [], ◌∷◌, ◌++◌, length, take, drop, All, Option, None, Result, Ok, IfSome}
+use Rattle.std.specs.List.{concat, join_with_byte, list_all}
+use Rattle.std.specs.Option.{option_to_list}
+use Rattle.go_base.specs.Int.{int_max, int_of}
+use Rattle.gtp_wire.specs.declared.lines.Line.{Line}
+use Rattle.gtp_wire.specs.declared.lines.Line.TheVariants.{Command}
+use Rattle.gtp_wire.specs.declared.replies.Reply.{Reply}
+use Rattle.gtp_wire.specs.declared.replies.ReplyFault.{ReplyFault}
+use Rattle.gtp_wire.specs.Lines.{lines, line_max, Finds, SameFuture}
+use Rattle.gtp_wire.specs.Words.{is_word, id_words}
+use Rattle.gtp_wire.specs.Replies.{IsWhole, IsReply, IsFirst}
+
+-- the lines of a text begin those of every longer text
+abbrev pub LinesGoOn : Type 0
+LinesGoOn = (text later : List ℕ) → (more : List Line) × (lines (text ++ later) ≡ lines text ++ more)
+
+-- only a newline ends a line: bytes without one add no line
+abbrev pub OnlyNewlinesEndLines : Type 0
+OnlyNewlinesEndLines = (text later : List ℕ) → All (λ b. b ≢ 10) later → lines (text ++ later) ≡ lines text
+
+-- Every text can be read after everything that is held: its lines are found, and there is something to hold then.
+abbrev pub TextsAreRead : Type 0
+TextsAreRead = (old text : List ℕ) → (new : List ℕ) × Finds old text (lines (old ++ text)) new
+
+-- what is found is the lines of what was held and the text, and all that may be held then reads alike
+abbrev pub FindsAgree : Type 0
+FindsAgree = (old text : List ℕ) (found : List Line) (new : List ℕ) (others : List Line) (other : List ℕ)
+    → Finds old text found new → Finds old text others other
+    → (found ≡ lines (old ++ text)) × (others ≡ found) × SameFuture new other
+
+-- reading two texts one after the other is reading both as one
+abbrev pub FindsJoin : Type 0
+FindsJoin = (old first : List ℕ) (found : List Line) (mid second : List ℕ) (more : List Line) (new : List ℕ)
+    → Finds old first found mid → Finds mid second more new → Finds old (first ++ second) (found ++ more) new
+
+-- A piece is fed until it is used up: each time some bytes of what is left of it are used, and they end a line or none.
+pub data IsFed : List ℕ → List ℕ → List Line → List ℕ → Type 0 where
+  used_up : {old : List ℕ} → IsFed old [] [] old
+  used : {old mid new piece : List ℕ} {found : List Line} (n : ℕ) (line : Option Line)
+      → Finds old (take n piece) (option_to_list line) mid → IsFed mid (drop n piece) found new
+      → IsFed old piece (option_to_list line ++ found) new
+
+-- Pieces are fed one after the other.
+pub data AreFed : List ℕ → List (List ℕ) → List Line → List ℕ → Type 0 where
+  all_fed : {old : List ℕ} → AreFed old [] [] old
+  fed : {old mid new piece : List ℕ} {pieces : List (List ℕ)} {found more : List Line}
+      → IsFed old piece found mid → AreFed mid pieces more new → AreFed old (piece ∷ pieces) (found ++ more) new
+
+-- in whatever pieces a text is fed, its lines are found, and what is held then reads on as the whole text does
+abbrev pub AnyPiecesReadAlike : Type 0
+AnyPiecesReadAlike = (old : List ℕ) (pieces : List (List ℕ)) (found : List Line) (new : List ℕ)
+    → lines old ≡ [] → AreFed old pieces found new
+    → (found ≡ lines (old ++ concat pieces)) × Finds old (concat pieces) found new
+
+-- Words that are written with single spaces between them, after an id where there is one, and with a newline at the end
+-- are one line, of that id and those words.
+abbrev pub WrittenLinesAreRead : Type 0
+WrittenLinesAreRead = (id : Option ℕ) (name : List ℕ) (arguments : List (List ℕ))
+    → IfSome id (λ n. n ≤ int_max) → int_of name ≡ None → list_all is_word (name ∷ arguments) ≡ true
+    → length (join_with_byte 32 (id_words id ++ name ∷ arguments)) ≤ line_max
+    → lines (join_with_byte 32 (id_words id ++ name ∷ arguments) ++ 10 ∷ [])
+    ≡ Command (record { id = id; words = name ∷ arguments }) ∷ []
+
+-- a reply has one value
+abbrev pub RepliesHaveOneValue : Type 0
+RepliesHaveOneValue = (raw : List ℕ) (value other : Reply) → IsReply raw value → IsReply raw other → value ≡ other
+
+-- a text tells one thing first, at one place
+abbrev pub OneThingIsToldFirst : Type 0
+OneThingIsToldFirst = (text : List ℕ) (place other_place : ℕ) (answer other : Result Reply ReplyFault)
+    → IsFirst text place answer → IsFirst text other_place other → (place ≡ other_place) × (answer ≡ other)
+
+-- no reply is a proper front of another
+abbrev pub NoReplyBeginsAnother : Type 0
+NoReplyBeginsAnother = (raw : List ℕ) (b : ℕ) (more : List ℕ) → IsWhole raw → IsWhole (raw ++ b ∷ more) → ⊥
+
+-- a reply is told first, at its own end, whatever follows it
+abbrev pub RepliesAreToldFirst : Type 0
+RepliesAreToldFirst = (raw later : List ℕ) (value : Reply) → IsReply raw value → IsFirst (raw ++ later) (length raw) (Ok value)
