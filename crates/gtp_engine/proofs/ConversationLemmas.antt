@@ -10,7 +10,7 @@ use Rattle.std.proofs.lemmas.List.Folds.{concat-append}
 use Rattle.std.proofs.lemmas.List.{map-append}
 use Rattle.gtp_wire.specs.Lines.{lines}
 use Rattle.gtp_engine.specs.Engine.{Engine, May, WrittenReply, Replies, StopsAtLine, output_of}
-use Rattle.gtp_engine.specs.Conversation.{TakesPart, Delivered, Breaks, Conversation, BrokenConversation, GivesAtLeast}
+use Rattle.gtp_engine.specs.Conversation.{TakesPart, Delivered, Breaks, Conversation, BrokenConversation, GivesAtLeast, GivesBytes}
 use Rattle.gtp_engine.proofs.EngineLemmas.{Replies-nothing, Replies-then, Replies-over}
 
 -- the output of replies after others
@@ -170,7 +170,6 @@ GivesAtLeast-both {a = a} {b = b} {c = c} p q =
     }
 
 -- one read more, which gave at least one byte
-pub GivesAtLeast-piece : {a b c : Option (List ℕ)} {m count : ℕ} {buffer : List ℕ} → GivesAtLeast a b m
-    → (0 < count) × (count ≤ length buffer) × Consumes b c (take count buffer) → GivesAtLeast a c (m + 1)
-GivesAtLeast-piece {count = count} {buffer = buffer} p q =
-    GivesAtLeast-both p (record { input = take count buffer; given = q.2; enough = omega (arith, length-take-le count buffer, q.0, q.1) })
+pub GivesAtLeast-read : {a b c : Option (List ℕ)} {m : ℕ} (count : ℕ) (buffer : List ℕ) → GivesAtLeast a b m → GivesBytes b c count buffer → GivesAtLeast a c (m + 1)
+GivesAtLeast-read count buffer p q =
+    GivesAtLeast-both p (record { input = take count buffer; given = q.given; enough = omega (arith, length-take-le count buffer, q.some, q.within) })

@@ -3,34 +3,19 @@ use Rattle.std.proofs.Common.{◌≡◌, ℕ, Bool, true, false, Option, List, [
 use Rattle.std.proofs.lemmas.List.{append-nil}
 use Rattle.std.specs.Option.{option_to_list}
 use Rattle.gtp_wire.specs.declared.lines.Line.{Line}
-use Rattle.gtp_wire.specs.Lines.{lines, EndsLine}
+use Rattle.gtp_wire.specs.Lines.{lines, EndsLine, Finds}
+use Rattle.gtp_wire.proofs.ReadingLemmas.{tail_of, lines_more, Finds-lines}
 use Rattle.gtp_engine.specs.Engine.{Engine, State, May, WrittenReply, state_of, Step, Answers, Replies, StopsAtLine}
 use Rattle.gtp_engine.specs.Engine.Answers.{none, over, more}
-use Rattle.gtp_engine.proofs.LineLaws.{lines_begin}
 
 -- a text without a byte has no line
 pub lines-nothing : lines [] ≡ []
 unfolding lines
 lines-nothing = refl
 
--- Of the rest and the text these lines are found, and the new rest has the lines that follow, whatever comes.
-pub record Finds (old text : List ℕ) (found : List Line) (new : List ℕ) : Type 0 where
-  pub here : lines (old ++ text) ≡ found
-  pub later : (more : List ℕ) → lines (old ++ (text ++ more)) ≡ found ++ lines (new ++ more)
-
--- what a reader of lines says of the bytes that it used
-pub Finds-fed : (old text new : List ℕ) (line : Option Line) → ((z : List ℕ) → lines (old ++ (text ++ z)) ≡ option_to_list line ++ lines (new ++ z))
-    → lines new ≡ [] → Finds old text (option_to_list line) new
-Finds-fed old text new line rest open_still =
-    record {
-      here = ap (λ (t : List ℕ). lines (old ++ t)) (sym (append-nil text)) ∙ rest [] ∙ ap (λ (t : List ℕ). option_to_list line ++ lines t) (append-nil new)
-          ∙ ap (λ (t : List Line). option_to_list line ++ t) open_still ∙ append-nil (option_to_list line);
-      later = rest;
-    }
-
 -- a text without a line stands for itself
 pub Finds-none : (old text : List ℕ) → lines (old ++ text) ≡ [] → Finds old text [] (old ++ text)
-Finds-none old text e = record { here = e; later = λ z. ap lines (sym (append_assoc old text z)) }
+Finds-none old text e = record { rest = λ later. ap lines (sym (append_assoc old text later)); no_line = e }
 
 ended_both : {P : Type 0} (a b : Engine P) → a.ended ≡ true → b.ended ≡ false → b ≡ a → ⊥
 ended_both a b e f g = let h : b.ended ≡ a.ended = ap (λ x. x.ended) g in cc
@@ -59,8 +44,8 @@ module _ {P : Type 0} (may : May P) where
       → Answers may (state_of a) found rs (state_of b) → Replies may a text b rs
   Replies-found {a} {b} {text} {found} {rs} e f p =
       record {
-        answered = rw f.here p;
-        unread = λ _ later. f.later later ∙ ap (λ (t : List Line). t ++ lines (b.rest ++ later)) (sym f.here);
+        answered = rw (← Finds-lines f) p;
+        unread = λ _ later. f.rest later ∙ ap (λ (t : List Line). t ++ lines (b.rest ++ later)) (Finds-lines f);
         idle = λ t. cc;
       }
 
@@ -68,8 +53,8 @@ module _ {P : Type 0} (may : May P) where
   both {a} {b} {c} {text} {next} {rs} {ss} true e p q =
       let same : c ≡ b = q.idle e in
       let none_more : ss ≡ [] = (Answers-over e q.answered).0 in
-      let longer = lines_begin (a.rest ++ text) next in
-      let split : lines (a.rest ++ (text ++ next)) ≡ lines (a.rest ++ text) ++ longer.0 = ap lines (sym (append_assoc a.rest text next)) ∙ longer.1 in
+      let longer : List Line = lines (tail_of (a.rest ++ text) ++ next) in
+      let split : lines (a.rest ++ (text ++ next)) ≡ lines (a.rest ++ text) ++ longer = ap lines (sym (append_assoc a.rest text next)) ∙ lines_more (a.rest ++ text) next in
       rw (same, none_more) (record {
         answered = rw split (Answers-then p.answered (over e));
         unread = λ f later. cc;

@@ -1,4 +1,3 @@
-pub mod LineLaws
 pub mod CommandLemmas
 pub mod ConversationLemmas
 pub mod CountsLemmas

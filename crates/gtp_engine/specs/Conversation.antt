@@ -51,10 +51,15 @@ pub record GivesAtLeast (gives gives_now : Option (List ℕ)) (least : ℕ) : Ty
   pub given : Consumes gives gives_now input
   pub enough : least ≤ length input
 
+-- the reader gave these bytes, at least one, which stand at the front of the buffer
+pub record GivesBytes (gives gives_now : Option (List ℕ)) (count : ℕ) (buffer : List ℕ) : Type 0 where
+  pub some : 0 < count
+  pub within : count ≤ length buffer
+  pub given : Consumes gives gives_now (take count buffer)
+
 module _ {E : Type 0} where
-  -- What one read gave: at least one byte, which stand at the front of the buffer; or none, at the end of the input; or
-  -- it failed, and gave nothing.
+  -- What one read gave: bytes; or none, at the end of the input; or it failed, and gave nothing.
   abbrev pub GivesPiece : Option (List ℕ) → Option (List ℕ) → Result (Option ℕ) E → List ℕ → Type 0
-  GivesPiece gives gives_now (Ok (Some count)) buffer = (0 < count) × (count ≤ length buffer) × Consumes gives gives_now (take count buffer)
+  GivesPiece gives gives_now (Ok (Some count)) buffer = GivesBytes gives gives_now count buffer
   GivesPiece gives gives_now (Ok None) buffer = Consumes gives gives_now [] × IsAtEnd gives_now
   GivesPiece gives gives_now (Err _) buffer = Keeps gives gives_now

@@ -1,6 +1,6 @@
 use Rattle.std.proofs.Common.{rules, ◌≡◌, ◌≤◌, ◌+◌, length, take, arith, refl, sym, ◌∙◌}
 use Rattle.gtp_engine.proofs.CountsLemmas.{raised-none, raised-then}
-use Rattle.gtp_engine.proofs.ConversationLemmas.{GivesAtLeast-nothing, GivesAtLeast-piece, Conversation-nothing, Conversation-read, BrokenConversation-read}
+use Rattle.gtp_engine.proofs.ConversationLemmas.{GivesAtLeast-nothing, GivesAtLeast-read, Conversation-nothing, Conversation-read, BrokenConversation-read}
 use Rattle.gtp_engine.proofs.serve.serve_within.Goals as goal
 
 pub returns-then-ended-clause-answers : goal.returns-then-ended-clause-answers
@@ -28,27 +28,30 @@ returns-in-Err-clause-reads g c = (c.loop-turn._turn + 1, omega arith, rw (c.rea
 
 pub returns-in-Err-answer_all-clause-breaks : goal.returns-in-Err-answer_all-clause-breaks
 returns-in-Err-answer_all-clause-breaks g c =
-    λ _. BrokenConversation-read g.P.Policy.may c.loop-turn.invariant.conversation c.in-Ok-Some.ensures.piece.2 c.in-Err-answer_all.ensures.breaks
+    let piece = rw c.in-Ok-Some.field-0-is at c.in-Ok-Some.ensures.piece in
+    λ _. BrokenConversation-read g.P.Policy.may c.loop-turn.invariant.conversation piece.given c.in-Err-answer_all.ensures.breaks
 
 pub returns-in-Err-answer_all-clause-reads : goal.returns-in-Err-answer_all-clause-reads
 returns-in-Err-answer_all-clause-reads g c = (c.loop-turn._turn + 1, omega arith, rw (c.read_piece.ensures.reads, c.loop-turn.invariant.reads) (raised-then _ _ _))
 
 pub returns-then-ended-2-clause-answers : goal.returns-then-ended-2-clause-answers
 returns-then-ended-2-clause-answers g c =
-    λ _. Conversation-read g.P.Policy.may c.loop-turn.invariant.conversation c.in-Ok-Some.ensures.piece.2 c.in-Ok.ensures.delivered
+    let piece = rw c.in-Ok-Some.field-0-is at c.in-Ok-Some.ensures.piece in
+    λ _. Conversation-read g.P.Policy.may c.loop-turn.invariant.conversation piece.given c.in-Ok.ensures.delivered
 
 pub returns-then-ended-2-clause-reads : goal.returns-then-ended-2-clause-reads
 returns-then-ended-2-clause-reads g c = (c.loop-turn._turn + 1, omega arith, rw (c.read_piece.ensures.reads, c.loop-turn.invariant.reads) (raised-then _ _ _))
 
 pub loop-turn-preserved : goal.loop-turn-preserved
 loop-turn-preserved g c =
+    let piece = rw c.in-Ok-Some.field-0-is at c.in-Ok-Some.ensures.piece in
     record {
       room = search rules;
-      conversation = Conversation-read g.P.Policy.may c.loop-turn.invariant.conversation c.in-Ok-Some.ensures.piece.2 c.in-Ok.ensures.delivered;
+      conversation = Conversation-read g.P.Policy.may c.loop-turn.invariant.conversation piece.given c.in-Ok.ensures.delivered;
       open_still = search rules;
       unread = c.ended-in-loop-turn.ensures.unread;
       reads = rw (c.read_piece.ensures.reads, c.loop-turn.invariant.reads) (raised-then _ _ _);
-      gave = GivesAtLeast-piece c.loop-turn.invariant.gave c.in-Ok-Some.ensures.piece;
+      gave = GivesAtLeast-read c.in-Ok-Some.count c.read_piece.new.buffer c.loop-turn.invariant.gave piece;
       read_held = search rules;
       write_held = search rules;
       flushed = search rules;

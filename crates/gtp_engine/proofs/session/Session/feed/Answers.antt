@@ -1,6 +1,8 @@
 use Rattle.std.proofs.Common.{rules, ◌≡◌, [], true, false, take, Some}
+use Rattle.std.specs.Option.{option_to_list}
+use Rattle.gtp_wire.specs.Lines.{Finds}
 use Rattle.gtp_engine.specs.Engine.Answers.{none}
-use Rattle.gtp_engine.proofs.EngineLemmas.{Finds-fed, Replies-over, Replies-found, Replies-line, StopsAtLine-found}
+use Rattle.gtp_engine.proofs.EngineLemmas.{Replies-over, Replies-found, Replies-line, StopsAtLine-found}
 use Rattle.gtp_engine.proofs.session.Session.feed.Goals as goal
 
 pub returns-then-self-clause-replies : goal.returns-then-self-clause-replies
@@ -10,12 +12,12 @@ returns-then-self-clause-replies g c =
 
 pub returns-in-None-clause-replies : goal.returns-in-None-clause-replies
 returns-in-None-clause-replies g c =
-    let found = Finds-fed c.self.inside.reader (take c.feed-used.result.used c.args.input.now) c.feed-used.new.self c.feed-used.result.line c.feed-used.ensures.rest c.feed-used.ensures.no_line in
+    let found : Finds c.self.inside.reader (take c.feed-used.result.used c.args.input.now) (option_to_list c.feed-used.result.line) c.feed-used.new.self = record { rest = c.feed-used.ensures.rest; no_line = c.feed-used.ensures.no_line } in
     (false, rw (← c.self.view_is) (Replies-found g.P.Policy.may c.if-self.false (rw c.in-None.is at found) none))
 
 pub returns-in-Some-clause-replies : goal.returns-in-Some-clause-replies
 returns-in-Some-clause-replies g c =
-    let found = Finds-fed c.self.inside.reader (take c.feed-used.result.used c.args.input.now) c.feed-used.new.self c.feed-used.result.line c.feed-used.ensures.rest c.feed-used.ensures.no_line in
+    let found : Finds c.self.inside.reader (take c.feed-used.result.used c.args.input.now) (option_to_list c.feed-used.result.line) c.feed-used.new.self = record { rest = c.feed-used.ensures.rest; no_line = c.feed-used.ensures.no_line } in
     (false, rw (← c.self.view_is) (Replies-line g.P.Policy.may c.if-self.false (rw c.in-Some.is at found) c.execute-reply.ensures.step c.execute-reply.ensures.rest))
 
 pub returns-in-Some-clause-line : goal.returns-in-Some-clause-line
