@@ -123,3 +123,7 @@ lines_newline u z ku nu =
 -- what is held is no whole line
 pub lines_open : (u : List ℕ) → AllByRecursion (λ b. is_kept b ≡ true) u → NoNewline u → lines u ≡ []
 lines_open u ku nu = lines_cut u ∙ ap cut_lines (filter_kept u ku) ∙ cut_lines_open u nu
+
+-- no bytes are no line
+pub lines_nothing : lines [] ≡ []
+lines_nothing = lines_open [] tt tt

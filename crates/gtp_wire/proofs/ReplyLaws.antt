@@ -98,6 +98,7 @@ reply_is_first raw later value reply =
   where
     take_front : (a b : List ℕ) → take (length a) (a ++ b) ≡ a
     take_front a b = take-append-le (length a) a b (omega arith) ∙ take_all (length a) a (omega arith)
+
     quiet : (n : ℕ) (other : Result Reply ReplyFault) → n < length raw → Tells (take n raw) other → ⊥
     quiet n other less told =
         let W : List ℕ → Type 0 = λ t. IsWhole t in

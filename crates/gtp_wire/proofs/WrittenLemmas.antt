@@ -32,6 +32,7 @@ shown_byte b shown = elim (or_cases (is_newline b) _ shown) [
     or_cases : (x y : Bool) → (x || y) ≡ true → (x ≡ true) ⊎ (y ≡ true)
     or_cases true y e = inl refl
     or_cases false y e = inr e
+
     and_parts : (x y : Bool) → (x && y) ≡ true → (x ≡ true) × (y ≡ true)
     and_parts true y e = (refl, e)
     and_parts false y e = absurd (cc)

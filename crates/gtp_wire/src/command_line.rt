@@ -20,7 +20,7 @@ pub(crate) const LINE_ROOM: usize = 1002;
 /// A command line: an id where its first word is an int, and the words after it, the command's name first.
 ///
 /// Its words, the id's word included, have at most 1,000 bytes, joined by single spaces.
-#[derive(Drop)]
+#[derive(Debug, Drop)]
 pub struct CommandLine {
     id: Option<u32>,
     text: ArrayVec<u8, LINE_ROOM>,

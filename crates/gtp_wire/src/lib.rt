@@ -5,6 +5,8 @@ mod command_line;
 pub mod laws;
 mod lines;
 mod replies;
+#[cfg(test)]
+mod tests;
 
 pub use command_line::CommandLine;
 pub use lines::{Line, LineFed, LineReader};

@@ -8,7 +8,7 @@ use arrayvec::ArrayVec;
 use std::marker::Model;
 
 /// A line that has a word: a command, or one that is too long to be read.
-#[derive(Drop)]
+#[derive(Debug, Drop)]
 pub enum Line {
     /// A command line.
     Command(CommandLine),
@@ -17,7 +17,7 @@ pub enum Line {
 }
 
 /// What a line reader did with a piece of its input.
-#[derive(Drop)]
+#[derive(Debug, Drop)]
 pub struct LineFed {
     /// How many bytes of the piece it used.
     pub used: usize,
@@ -26,7 +26,7 @@ pub struct LineFed {
 }
 
 /// Where a line stands: in or behind a word (or before all words), behind a space that ended a word, or in a comment.
-#[derive(Clone, Copy, PartialEq, Eq)]
+#[derive(Clone, Copy, Debug, PartialEq, Eq)]
 enum Place {
     Word,
     Gap,
@@ -65,7 +65,7 @@ fn kind_of(byte: u8) -> Kind
 ///
 /// It is seen as a text without a whole line that reads, with every text after it, as what it was fed since the last
 /// line.
-#[derive(Drop)]
+#[derive(Debug, Drop)]
 pub struct LineReader {
     held: ArrayVec<u8, LINE_ROOM>,
     place: Place,

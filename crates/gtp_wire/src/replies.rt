@@ -9,7 +9,7 @@ use arrayvec::ArrayVec;
 use go_base::write_int;
 
 /// What an engine answered to a command.
-#[derive(Drop)]
+#[derive(Debug, Drop)]
 pub struct Reply {
     /// Whether the command succeeded: the reply begins with `=`, and with `?` where it failed.
     pub ok: bool,
