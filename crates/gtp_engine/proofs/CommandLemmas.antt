@@ -1,10 +1,10 @@
 -- The words of a line, and what is answered to them.
-use Rattle.std.proofs.Common.{◌≡◌, ℕ, List, [], ◌∷◌, Option, Some, None, false, codes, refl, sym, ◌∙◌, ap}
+use Rattle.std.proofs.Common.{◌≡◌, ℕ, List, [], ◌∷◌, Some, None, codes, refl, sym, ◌∙◌, ap}
 use Rattle.std.specs.Prelude.{slice_get}
 use Rattle.std.specs.Option.{option_to_list}
 use Rattle.gtp_engine.specs.declared.commands.CommandName.{CommandName}
 use Rattle.gtp_engine.specs.declared.commands.CommandName.TheVariants.{ProtocolVersion, Name, Version, KnownCommand, ListCommands, Quit}
-use Rattle.gtp_engine.specs.Commands.{Response, command_named, fails, response_to, response_to_named, response_to_words}
+use Rattle.gtp_engine.specs.Commands.{command_named, fails, response_to, response_to_named, response_to_words}
 
 -- only the first argument counts
 first_argument : (command : CommandName) (argument : List ℕ) (more : List (List ℕ)) → response_to command (argument ∷ []) ≡ response_to command (argument ∷ more)

@@ -1,8 +1,8 @@
 -- Laws of what a writer took and a reader gave.
-use Rattle.std.proofs.Common.{◌≡◌, ℕ, ◌+◌, ◌-◌, ◌<◌, ◌≤◌, List, [], ◌∷◌, ◌++◌, length, take, drop, Option, refl, sym, ap, ◌∙◌, append_assoc, arith}
+use Rattle.std.proofs.Common.{◌≡◌, ℕ, ◌+◌, ◌-◌, ◌≤◌, List, [], ◌∷◌, ◌++◌, length, take, drop, Option, sym, ap, ◌∙◌, append_assoc, arith}
 use Rattle.std.proofs.Math.Seq.{take-add}
 use Rattle.std.proofs.lemmas.List.{append-nil, take-append-drop, take_all, length-drop, length-append, length-take-le}
-use Rattle.std.proofs.KnownBytes.{Appends-nil, Appends-trans, Appends-kept, Consumes-nil, Consumes-trans, Consumes-kept}
+use Rattle.std.proofs.KnownBytes.{Appends-nil, Appends-trans, Appends-kept, Consumes-nil, Consumes-trans}
 use Rattle.std.specs.Io.KnownBytes.{Appends, Keeps, Consumes}
 use Rattle.std.specs.List.{concat}
 use Rattle.std.specs.Prelude.{map}
@@ -11,7 +11,7 @@ use Rattle.std.proofs.lemmas.List.{map-append}
 use Rattle.gtp_wire.specs.Lines.{lines}
 use Rattle.gtp_engine.specs.Engine.{Engine, May, WrittenReply, Replies, StopsAtLine, output_of}
 use Rattle.gtp_engine.specs.Conversation.{TakesPart, Delivered, Breaks, Conversation, BrokenConversation, GivesAtLeast, GivesBytes}
-use Rattle.gtp_engine.proofs.EngineLemmas.{Replies-nothing, Replies-then, Replies-over}
+use Rattle.gtp_engine.proofs.EngineLemmas.{Replies-nothing, Replies-then}
 
 -- the output of replies after others
 pub output_of-append : (rs ss : List WrittenReply) → output_of (rs ++ ss) ≡ output_of rs ++ output_of ss

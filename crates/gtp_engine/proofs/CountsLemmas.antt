@@ -1,5 +1,5 @@
 -- Laws of counts.
-use Rattle.std.proofs.Common.{◌≡◌, ℕ, ◌+◌, ◌-◌, ◌≤◌, min, arith}
+use Rattle.std.proofs.Common.{◌≡◌, ℕ, ◌+◌, ◌-◌, min, arith}
 use Rattle.gtp_engine.specs.Counts.{most, raised}
 
 pub raised-none : (count : ℕ) → raised count 0 ≡ count

@@ -5,7 +5,7 @@ use Rattle.arrayvec.specs.ArrayVec.{ArrayVec}
 use Rattle.gtp_wire.specs.declared.lines.Line.{Line}
 use Rattle.gtp_wire.specs.Lines.{lines}
 use Rattle.gtp_wire.specs.Replies.{written_reply}
-use Rattle.gtp_engine.specs.Commands.{Response, response, id_of}
+use Rattle.gtp_engine.specs.Commands.{response, id_of}
 
 -- An engine: the text that it was given and has not read as lines, its policy, and whether its session has ended.
 pub record Engine (P : Type 0) : Type 0 where

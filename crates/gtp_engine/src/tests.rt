@@ -25,18 +25,16 @@ fn reader_of<'a>(
 }
 
 /// A writer that takes this many bytes, so many in a write, and then fails.
-fn writer_of<'a>(taken: &'a mut ArrayVec<u8, 256>, room: usize, step: usize) -> Counted<Limited<'a>> {
+fn writer_of<'a>(
+    taken: &'a mut ArrayVec<u8, 256>,
+    room: usize,
+    step: usize,
+) -> Counted<Limited<'a>> {
     Counted::new(Limited { taken, room, step })
 }
 
 /// A fresh engine answers the input, in pieces of these sizes, with the output, and ends like this.
-fn assert_serves(
-    rt: &impl Abort,
-    input: &[u8],
-    sizes: &[usize],
-    output: &[u8],
-    served: Served,
-) {
+fn assert_serves(rt: &impl Abort, input: &[u8], sizes: &[usize], output: &[u8], served: Served) {
     let mut taken = ArrayVec::new();
     let mut session: Session<NoMoves> = Session::new();
     let mut reader = reader_of(input, sizes, None);
@@ -78,11 +76,41 @@ fn comments_and_control_characters_are_no_part_of_a_line(rt: HostRuntime) {
 
 #[test]
 fn an_id_is_an_int_and_is_repeated_as_it_is_written(rt: HostRuntime) {
-    assert_serves(&rt, b"99999999999 name\n", &[], b"? unknown command\n\n", Served::EndOfInput);
-    assert_serves(&rt, b"5\n", &[], b"?5 unknown command\n\n", Served::EndOfInput);
-    assert_serves(&rt, b"2147483647 name\n", &[], b"=2147483647 stepgo\n\n", Served::EndOfInput);
-    assert_serves(&rt, b"2147483648 name\n", &[], b"? unknown command\n\n", Served::EndOfInput);
-    assert_serves(&rt, b"007 version\n", &[], b"=7 1.0\n\n", Served::EndOfInput);
+    assert_serves(
+        &rt,
+        b"99999999999 name\n",
+        &[],
+        b"? unknown command\n\n",
+        Served::EndOfInput,
+    );
+    assert_serves(
+        &rt,
+        b"5\n",
+        &[],
+        b"?5 unknown command\n\n",
+        Served::EndOfInput,
+    );
+    assert_serves(
+        &rt,
+        b"2147483647 name\n",
+        &[],
+        b"=2147483647 stepgo\n\n",
+        Served::EndOfInput,
+    );
+    assert_serves(
+        &rt,
+        b"2147483648 name\n",
+        &[],
+        b"? unknown command\n\n",
+        Served::EndOfInput,
+    );
+    assert_serves(
+        &rt,
+        b"007 version\n",
+        &[],
+        b"=7 1.0\n\n",
+        Served::EndOfInput,
+    );
 }
 
 #[test]
@@ -121,11 +149,41 @@ fn nothing_is_executed_after_quit(rt: HostRuntime) {
 
 #[test]
 fn known_command_speaks_of_the_commands_that_are_there(rt: HostRuntime) {
-    assert_serves(&rt, b"known_command quit\n", &[], b"= true\n\n", Served::EndOfInput);
-    assert_serves(&rt, b"known_command time_left\n", &[], b"= false\n\n", Served::EndOfInput);
-    assert_serves(&rt, b"known_command Quit\n", &[], b"= false\n\n", Served::EndOfInput);
-    assert_serves(&rt, b"known_command\n", &[], b"? syntax error\n\n", Served::EndOfInput);
-    assert_serves(&rt, b"time_left b 10 0\n", &[], b"? unknown command\n\n", Served::EndOfInput);
+    assert_serves(
+        &rt,
+        b"known_command quit\n",
+        &[],
+        b"= true\n\n",
+        Served::EndOfInput,
+    );
+    assert_serves(
+        &rt,
+        b"known_command time_left\n",
+        &[],
+        b"= false\n\n",
+        Served::EndOfInput,
+    );
+    assert_serves(
+        &rt,
+        b"known_command Quit\n",
+        &[],
+        b"= false\n\n",
+        Served::EndOfInput,
+    );
+    assert_serves(
+        &rt,
+        b"known_command\n",
+        &[],
+        b"? syntax error\n\n",
+        Served::EndOfInput,
+    );
+    assert_serves(
+        &rt,
+        b"time_left b 10 0\n",
+        &[],
+        b"? unknown command\n\n",
+        Served::EndOfInput,
+    );
     assert_serves(&rt, b"name x y\n", &[], b"= stepgo\n\n", Served::EndOfInput);
 }
 
@@ -187,7 +245,10 @@ fn reads_are_counted(rt: HostRuntime) {
     assert_eq!(rt; answer, Ok(Served::Quit));
     let answer = serve_within(&mut reader, &mut writer, &mut session, 0);
     assert_eq!(rt; answer, Ok(Served::Quit));
-    assert_eq!(rt; taken.as_slice(), b"=1 stepgo\n\n=2 1.0\n\n=\n\n".as_slice());
+    assert_eq!(rt;
+        taken.as_slice(),
+        b"=1 stepgo\n\n=2 1.0\n\n=\n\n".as_slice()
+    );
 }
 
 #[test]

@@ -1,8 +1,7 @@
-use Rattle.std.proofs.Common.{rules, ◌≡◌, ◌≤◌, ◌+◌, ◌++◌, ◌∷◌, [], true, false, length, take, drop, arith, refl, sym, ◌∙◌}
+use Rattle.std.proofs.Common.{rules, ◌≡◌, true, arith, refl, sym}
 use Rattle.std.proofs.lemmas.List.{take-append-drop}
-use Rattle.gtp_engine.specs.Conversation.{Delivered}
 use Rattle.gtp_engine.proofs.EngineLemmas.{Replies-over}
-use Rattle.gtp_engine.proofs.ConversationLemmas.{tail, tail-within, take-tail, split-at, Delivered-nothing, Delivered-quiet, Delivered-reply, Breaks-reply}
+use Rattle.gtp_engine.proofs.ConversationLemmas.{tail-within, take-tail, split-at, Delivered-nothing, Delivered-quiet, Delivered-reply, Breaks-reply}
 use Rattle.gtp_engine.proofs.serve.answer_all.Goals as goal
 
 pub loop-at-init : goal.loop-at-init

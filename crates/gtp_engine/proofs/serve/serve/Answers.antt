@@ -1,4 +1,4 @@
-use Rattle.std.proofs.Common.{rules, ◌≡◌, ◌≢◌, ◌≤◌, ◌+◌, arith, refl, sym, ◌∙◌, Ok, Err}
+use Rattle.std.proofs.Common.{rules, ◌≡◌, ◌≢◌, ◌+◌, arith, refl, sym, ◌∙◌, Ok, Err}
 use Rattle.gtp_engine.specs.declared.serve.Served.TheVariants.{Quit}
 use Rattle.gtp_engine.specs.declared.serve.ServeFault.TheVariants.{Read, Write, TooManyReads}
 use Rattle.gtp_engine.proofs.CountsLemmas.{raised-none, raised-then}

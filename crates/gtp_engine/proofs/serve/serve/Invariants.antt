@@ -1,4 +1,4 @@
-use Rattle.std.proofs.Common.{◌≡◌, ◌≤◌, ◌-◌, length, take, [], false}
+use Rattle.std.proofs.Common.{◌≡◌, false}
 use Rattle.gtp_engine.specs.Counts.{raised}
 use Rattle.gtp_engine.specs.Conversation.{Conversation, GivesAtLeast}
 use Rattle.gtp_engine.proofs.serve.serve.Given as goal

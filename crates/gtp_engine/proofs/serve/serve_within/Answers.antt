@@ -1,4 +1,4 @@
-use Rattle.std.proofs.Common.{rules, ◌≡◌, ◌≤◌, ◌+◌, length, take, arith, refl, sym, ◌∙◌}
+use Rattle.std.proofs.Common.{rules, ◌+◌, arith, refl, sym}
 use Rattle.gtp_engine.proofs.CountsLemmas.{raised-none, raised-then}
 use Rattle.gtp_engine.proofs.ConversationLemmas.{GivesAtLeast-nothing, GivesAtLeast-read, Conversation-nothing, Conversation-read, BrokenConversation-read}
 use Rattle.gtp_engine.proofs.serve.serve_within.Goals as goal

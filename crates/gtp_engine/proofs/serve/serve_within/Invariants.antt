@@ -1,4 +1,4 @@
-use Rattle.std.proofs.Common.{◌≡◌, ◌≤◌, ◌-◌, length, take, [], false}
+use Rattle.std.proofs.Common.{◌≡◌, length, [], false}
 use Rattle.gtp_wire.specs.Lines.{lines}
 use Rattle.gtp_engine.specs.Counts.{raised}
 use Rattle.gtp_engine.specs.Conversation.{Conversation, GivesAtLeast}

@@ -1,4 +1,4 @@
-use Rattle.std.proofs.Common.{rules, ◌≡◌, ◌∙◌, ap}
+use Rattle.std.proofs.Common.{rules, ◌∙◌, ap}
 use Rattle.std.specs.Option.{option_to_list}
 use Rattle.gtp_engine.specs.Commands.{response_to}
 use Rattle.gtp_engine.proofs.CommandLemmas.{response_to_words-unknown, response_to_words-known}

@@ -1,4 +1,4 @@
-use Rattle.std.proofs.Common.{rules, ◌≡◌, [], true, false, take, Some}
+use Rattle.std.proofs.Common.{rules, ◌≡◌, [], true, false, take}
 use Rattle.std.specs.Option.{option_to_list}
 use Rattle.gtp_wire.specs.Lines.{Finds}
 use Rattle.gtp_engine.specs.Engine.Answers.{none}
