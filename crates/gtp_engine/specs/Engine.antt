@@ -68,7 +68,12 @@ pub record StopsAtLine {P : Type 0} (may : May P) (old : Engine P) (text : List 
   pub ends : text ≡ front ++ 10 ∷ []
   pub before : Replies may old front between []
 
--- the reply, if there is one, as a list
+-- the reply of this text, if there is one, as a list
+abbrev pub reply_if : Bool → List ℕ → Bool → List WrittenReply
+reply_if false text genmove = []
+reply_if true text genmove = record { text = text; genmove = genmove } ∷ []
+
+-- the same of an option
 abbrev pub replies_of : Option (ArrayVec ℕ) → Bool → List WrittenReply
 replies_of None genmove = []
 replies_of (Some text) genmove = record { text = text.items; genmove = genmove } ∷ []

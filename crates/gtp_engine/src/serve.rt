@@ -8,6 +8,7 @@ ghost use Rattle.gtp_engine.specs.Conversation.{Delivered, Breaks, Conversation,
 use crate::policy::Policy;
 use crate::session::Session;
 use crate::streams::{Broken, Incoming, Outgoing};
+use gtp_wire::ReplyText;
 use thiserror::Error;
 
 /// How a conversation came to its end.
@@ -113,12 +114,13 @@ fn answer_all<W: Outgoing, P: Policy>(
     ensures failed { OnErr result (W.failures writer.new ≡ raised (W.failures writer.old) 1) }
     ensures flushed { OnOk result (W.waiting writer.old ≡ false → W.waiting writer.new ≡ false) }
 {
+    let mut text = ReplyText::new();
     let mut at = 0;
     while at < input.len() && !session.ended() {
-        let fed = session.feed(&input[at..]);
-        at += fed.used;
-        if let Some(reply) = &fed.reply {
-            match send(writer, reply.as_slice()) {
+        let taken = session.feed_into(&input[at..], &mut text);
+        at += taken.used;
+        if taken.replied {
+            match send(writer, text.as_slice()) {
                 Ok(()) => {}
                 Err(broken) => return Err(broken),
             }

@@ -1,12 +1,12 @@
 //! A session of an engine.
-ghost use Rattle.std.specs.Prelude.{◌≡◌, ℕ, ◌≤◌, List, [], ◌++◌, length, take, Bool, true, false, IfSome};
+ghost use Rattle.std.specs.Prelude.{◌≡◌, ℕ, ◌≤◌, List, [], ◌++◌, length, take, Bool, true, false, IsTrue, IfSome};
 ghost use Rattle.go_base.specs.Int.{int_max};
 ghost use Rattle.gtp_wire.specs.Lines.{lines};
 ghost use Rattle.gtp_engine.specs.Commands.{id_of};
 
 use crate::commands::Response;
 use crate::policy::{NoMoves, Policy};
-use gtp_wire::{Line, LineFed, LineReader, ReplyText, write_reply};
+use gtp_wire::{Line, LineFed, LineReader, ReplyText, write_reply_into};
 use std::marker::Model;
 
 /// What a session did with a piece of its input.
@@ -18,6 +18,15 @@ pub struct Fed {
     pub reply: Option<ReplyText>,
     /// Whether the session has ended.
     pub ended: bool,
+}
+
+/// What a session did with a piece of its input, where it wrote the reply elsewhere.
+#[derive(Clone, Copy, Drop)]
+pub struct Taken {
+    /// How many bytes of the piece it used.
+    pub used: usize,
+    /// Whether the last of these bytes ended a line, which was answered.
+    pub replied: bool,
 }
 
 /// A session of an engine, which reads command lines and answers each with a reply.
@@ -56,7 +65,7 @@ impl Session<NoMoves> {
 }
 
 impl<P: Policy> Session<P> {
-    ghost use Rattle.gtp_engine.specs.Engine.{Step, Replies, StopsAtLine, state_of, replies_of};
+    ghost use Rattle.gtp_engine.specs.Engine.{Step, Replies, StopsAtLine, state_of, reply_if, replies_of};
 
     /// Whether the session has ended.
     pub fn ended(&self) -> bool
@@ -82,40 +91,56 @@ impl<P: Policy> Session<P> {
         // No whole line is held back.
         ensures unread { lines self.new.rest ≡ [] }
     {
+        let mut text = ReplyText::new();
+        let Taken { used, replied } = self.feed_into(input, &mut text);
+        Fed {
+            used,
+            reply: if replied { Some(text) } else { None },
+            ended: self.ended,
+        }
+    }
+
+    /// The same, with the reply written in place of what `text` holds.
+    pub fn feed_into(&mut self, input: &[u8], text: &mut ReplyText) -> Taken
+        ensures within { result.used ≤ length input.now }
+        ensures replies { (genmove : Bool) × Replies P.may self.old (take result.used input.now) self.new (reply_if result.replied text.new.items genmove) }
+        ensures line { IsTrue result.replied → StopsAtLine P.may self.old (take result.used input.now) }
+        ensures all { result.replied ≡ false → self.old.ended ≡ false → result.used ≡ length input.now }
+        ensures over { self.old.ended ≡ true → (result.used ≡ 0) × (result.replied ≡ false) }
+        // No whole line is held back.
+        ensures unread { lines self.new.rest ≡ [] }
+    {
         if self.ended {
-            return Fed {
+            return Taken {
                 used: 0,
-                reply: None,
-                ended: true,
+                replied: false,
             };
         }
         let LineFed { used, line } = self.reader.feed(input);
         match line {
-            None => Fed {
+            None => Taken {
                 used,
-                reply: None,
-                ended: false,
+                replied: false,
             },
             Some(line) => {
-                let reply = self.execute(&line);
-                Fed {
+                self.execute(&line, text);
+                Taken {
                     used,
-                    reply: Some(reply),
-                    ended: self.ended,
+                    replied: true,
                 }
             }
         }
     }
 
     /// Answers one line.
-    fn execute(&mut self, line: &Line) -> ReplyText
+    fn execute(&mut self, line: &Line, text: &mut ReplyText)
         requires { self.old.ended ≡ false }
-        ensures step { Step P.may (state_of self.old) line.now (record { text = result.items; genmove = false }) (state_of self.new) }
+        ensures step { Step P.may (state_of self.old) line.now (record { text = text.new.items; genmove = false }) (state_of self.new) }
         ensures rest { self.new.rest ≡ self.old.rest }
     {
         let response = Response::to(line);
         self.ended = response.ended();
-        write_reply(response.ok(), id_of(line), response.text())
+        write_reply_into(text, response.ok(), id_of(line), response.text());
     }
 }
 

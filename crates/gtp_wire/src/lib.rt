@@ -10,4 +10,4 @@ mod tests;
 
 pub use command_line::CommandLine;
 pub use lines::{Line, LineFed, LineReader};
-pub use replies::{Reply, ReplyFault, ReplyText, write_reply};
+pub use replies::{Reply, ReplyFault, ReplyText, write_reply, write_reply_into};

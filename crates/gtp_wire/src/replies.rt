@@ -47,21 +47,34 @@ pub fn write_reply(ok: bool, id: Option<u32>, text: &[u8]) -> ReplyText
     ensures reply { (value : Reply) → value.ok ≡ ok → value.id ≡ id → value.text.items ≡ text.now →
         IsReply result.items value }
 {
-    reply_bytes(ok, id, text)
+    let mut out = ArrayVec::new();
+    write_reply_into(&mut out, ok, id, text);
+    out
 }
 
-/// The bytes of the reply.
-fn reply_bytes(ok: bool, id: Option<u32>, text: &[u8]) -> ReplyText
-    requires { length text.now ≤ reply_text_max }
-    ensures { result.items ≡ written_reply ok id text.now }
+/// Writes a reply as `write_reply` does, in place of what `out` holds.
+pub fn write_reply_into(out: &mut ReplyText, ok: bool, id: Option<u32>, text: &[u8])
+    requires id_fits { IfSome id (λ n. n ≤ int_max) }
+    requires text_fits { IsReplyText text.now }
+    ensures bytes { out.new.items ≡ written_reply ok id text.now }
+    // They are one reply, of this status, id and text.
+    ensures reply { (value : Reply) → value.ok ≡ ok → value.id ≡ id → value.text.items ≡ text.now →
+        IsReply out.new.items value }
 {
-    let mut out = ArrayVec::new();
+    put_reply(out, ok, id, text);
+}
+
+/// Puts the bytes of the reply in place of what `out` holds.
+fn put_reply(out: &mut ReplyText, ok: bool, id: Option<u32>, text: &[u8])
+    requires { length text.now ≤ reply_text_max }
+    ensures { out.new.items ≡ written_reply ok id text.now }
+{
+    out.clear();
     out.push(if ok { b'=' } else { b'?' });
-    push_id(&mut out, id);
-    push_text(&mut out, text);
+    push_id(out, id);
+    push_text(out, text);
     out.push(b'\n');
     out.push(b'\n');
-    out
 }
 
 /// Appends the id, where there is one.

@@ -16,33 +16,33 @@ loop-at-init g c =
 
 pub loop-at-preserved-in-Ok : goal.loop-at-preserved-in-Ok
 loop-at-preserved-in-Ok g c =
-    let replies = rw c.in-Some.is at (c.feed-fed.ensures.replies).1 in
+    let replies = rw c.if-taken.true at (c.feed_into-taken.ensures.replies).1 in
     let written = rw c.as_slice.ensures.value at c.in-Ok.ensures.whole in
     record {
-      within = tail-within c.args.input.now c.loop-at.at c.feed-fed.result.used c.loop-at.invariant.within c.feed-fed.ensures.within;
-      delivered = rw (take-tail c.args.input.now c.loop-at.at c.feed-fed.result.used)
+      within = tail-within c.args.input.now c.loop-at.at c.feed_into-taken.result.used c.loop-at.invariant.within c.feed_into-taken.ensures.within;
+      delivered = rw (take-tail c.args.input.now c.loop-at.at c.feed_into-taken.result.used)
           (Delivered-reply g.P.Policy.may c.loop-at.invariant.delivered replies written);
-      unread = c.feed-fed.ensures.unread;
+      unread = c.feed_into-taken.ensures.unread;
       held = search rules;
       flushed = search rules;
     }
 
 pub returns-in-Err-clause-breaks : goal.returns-in-Err-clause-breaks
 returns-in-Err-clause-breaks g c =
-    let replies = rw c.in-Some.is at (c.feed-fed.ensures.replies).1 in
-    let stops = rw c.in-Some.is at c.feed-fed.ensures.line in
+    let replies = rw c.if-taken.true at (c.feed_into-taken.ensures.replies).1 in
+    let stops = c.feed_into-taken.ensures.line c.if-taken.true in
     let part = rw c.as_slice.ensures.value at c.in-Err.ensures.part in
-    rw (split-at c.args.input.now c.loop-at.at c.feed-fed.result.used)
+    rw (split-at c.args.input.now c.loop-at.at c.feed_into-taken.result.used)
     (Breaks-reply g.P.Policy.may _ c.loop-at.invariant.delivered replies stops part)
 
 pub loop-at-preserved : goal.loop-at-preserved
 loop-at-preserved g c =
-    let replies = rw c.in_default.is at (c.feed-fed.ensures.replies).1 in
+    let replies = rw c.if-taken.false at (c.feed_into-taken.ensures.replies).1 in
     record {
-      within = tail-within c.args.input.now c.loop-at.at c.feed-fed.result.used c.loop-at.invariant.within c.feed-fed.ensures.within;
-      delivered = rw (take-tail c.args.input.now c.loop-at.at c.feed-fed.result.used)
+      within = tail-within c.args.input.now c.loop-at.at c.feed_into-taken.result.used c.loop-at.invariant.within c.feed_into-taken.ensures.within;
+      delivered = rw (take-tail c.args.input.now c.loop-at.at c.feed_into-taken.result.used)
           (Delivered-quiet g.P.Policy.may c.loop-at.invariant.delivered replies);
-      unread = c.feed-fed.ensures.unread;
+      unread = c.feed_into-taken.ensures.unread;
       held = search rules;
       flushed = search rules;
     }
