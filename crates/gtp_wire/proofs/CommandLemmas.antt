@@ -9,19 +9,23 @@ use Rattle.gtp_wire.specs.Words.{words}
 use Rattle.gtp_wire.specs.LineReading.{IsJoined}
 use Rattle.gtp_wire.proofs.WordLemmas.{words_joined}
 
-pub word_without_id : (id : Option ℕ) (text : List ℕ) (number : ℕ) → IsJoined text → 0 < length text → is_some id ≡ false
+pub word_without_id : (id : Option ℕ) (text : List ℕ) (number : ℕ) → IsJoined text → 0 < length text
+    → is_some id ≡ false
     → slice_get (slice_split is_space text) number ≡ slice_get (drop (cond (is_some id) 1 0) (words text)) number
 word_without_id id text number joined some none =
     rw none (ap (λ ws. slice_get ws number) (sym (words_joined text joined some)))
 
-slice_get-drop_one : {X : Type 0} (xs : List X) (number place : ℕ) → place ≡ number + 1 → slice_get xs place ≡ slice_get (drop 1 xs) number
+slice_get-drop_one : {X : Type 0} (xs : List X) (number place : ℕ) → place ≡ number + 1
+    → slice_get xs place ≡ slice_get (drop 1 xs) number
 slice_get-drop_one [] number place e = refl
 slice_get-drop_one (x ∷ xs) number place e = rw (e, add-one) refl
 
-pub word_with_id : (id : Option ℕ) (text : List ℕ) (number place : ℕ) → IsJoined text → 0 < length text → is_some id ≡ true → place ≡ number + 1
+pub word_with_id : (id : Option ℕ) (text : List ℕ) (number place : ℕ) → IsJoined text → 0 < length text
+    → is_some id ≡ true → place ≡ number + 1
     → slice_get (slice_split is_space text) place ≡ slice_get (drop (cond (is_some id) 1 0) (words text)) number
 word_with_id id text number place joined some has e =
-    rw has (ap (λ ws. slice_get ws place) (sym (words_joined text joined some)) ∙ slice_get-drop_one (words text) number place e)
+    rw has
+    (ap (λ ws. slice_get ws place) (sym (words_joined text joined some)) ∙ slice_get-drop_one (words text) number place e)
 
 slice_get_past : {X : Type 0} (xs : List X) (i : ℕ) → length xs ≤ i → None ≡ slice_get xs i
 slice_get_past [] i h = refl
@@ -29,8 +33,11 @@ slice_get_past (x ∷ xs) zero h = absurd (omega arith)
 slice_get_past (x ∷ xs) (suc i) h = slice_get_past xs i (omega arith)
 
 -- there are at most as many words as bytes
-pub word_past : (id : Option ℕ) (text : List ℕ) (number : ℕ) → IsJoined text → 0 < length text → is_some id ≡ true → length text ≤ number
+pub word_past : (id : Option ℕ) (text : List ℕ) (number : ℕ) → IsJoined text → 0 < length text → is_some id ≡ true
+    → length text ≤ number
     → None ≡ slice_get (drop (cond (is_some id) 1 0) (words text)) number
 word_past id text number joined some has past =
-    let parts : length (words text) ≡ count_by is_space text + 1 = ap length (words_joined text joined some) ∙ length-slice_split is_space text in
-    rw has (slice_get_past (drop 1 (words text)) number (omega (arith, length-drop 1 (words text), parts, count_by-le-length is_space text)))
+    let parts : length (words text) ≡ count_by is_space text + 1 =
+    ap length (words_joined text joined some) ∙ length-slice_split is_space text in
+    rw has
+    (slice_get_past (drop 1 (words text)) number (omega (arith, length-drop 1 (words text), parts, count_by-le-length is_space text)))

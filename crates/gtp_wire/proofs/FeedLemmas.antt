@@ -20,10 +20,12 @@ pub one_more : (u input : List ℕ) (i : ℕ) (v w : List ℕ) (o : Option Line)
     → ((z : List ℕ) → lines (v ++ get_or input i 0 ∷ z) ≡ option_to_list o ++ lines (w ++ z))
     → (z : List ℕ) → lines (u ++ (take (i + 1) input ++ z)) ≡ option_to_list o ++ lines (w ++ z)
 one_more u input i v w o so_far inside step z =
-    rw (take_more input i 0 inside) (rw (append_assoc (take i input) (get_or input i 0 ∷ []) z) (so_far.same (get_or input i 0 ∷ z) ∙ step z))
+    rw (take_more input i 0 inside)
+    (rw (append_assoc (take i input) (get_or input i 0 ∷ []) z) (so_far.same (get_or input i 0 ∷ z) ∙ step z))
 
 -- a newline more, which ends what is held
-pub newline_more : (u input : List ℕ) (i : ℕ) (v w : List ℕ) (o : Option Line) → ReadsSoFar u input i v → i < length input → get_or input i 0 ≡ 10
+pub newline_more : (u input : List ℕ) (i : ℕ) (v w : List ℕ) (o : Option Line) → ReadsSoFar u input i v
+    → i < length input → get_or input i 0 ≡ 10
     → ((z : List ℕ) → lines (v ++ 10 ∷ z) ≡ option_to_list o ++ lines z) → w ≡ []
     → (z : List ℕ) → lines (u ++ (take (i + 1) input ++ z)) ≡ option_to_list o ++ lines (w ++ z)
 newline_more u input i v w o so_far inside newline step empty =
@@ -36,14 +38,17 @@ nothing_open w empty = rw empty (lines_open [] tt tt)
 -- no whole line so far
 none_here : (u input : List ℕ) (i : ℕ) (v : List ℕ) → ReadsSoFar u input i v → lines (u ++ take i input) ≡ []
 none_here u input i v so_far =
-    ap (λ t. lines (u ++ t)) (sym (append-nil (take i input))) ∙ so_far.same [] ∙ ap lines (append-nil v) ∙ so_far.no_line
+    ap (λ t. lines (u ++ t)) (sym (append-nil (take i input))) ∙ so_far.same [] ∙ ap lines (append-nil v)
+    ∙ so_far.no_line
 
-pub none_before : (u input : List ℕ) (i : ℕ) (v : List ℕ) → ReadsSoFar u input i v → (k : ℕ) → k < i + 1 → lines (u ++ take k input) ≡ []
+pub none_before : (u input : List ℕ) (i : ℕ) (v : List ℕ) → ReadsSoFar u input i v → (k : ℕ) → k < i + 1
+    → lines (u ++ take k input) ≡ []
 none_before u input i v so_far =
     below_more (λ k. lines (u ++ take k input) ≡ []) i so_far.before (none_here u input i v so_far)
 
 -- a newline ends the line
-pub ends_line : (u input : List ℕ) (i : ℕ) (v : List ℕ) → ReadsSoFar u input i v → i < length input → get_or input i 0 ≡ 10
+pub ends_line : (u input : List ℕ) (i : ℕ) (v : List ℕ) → ReadsSoFar u input i v → i < length input
+    → get_or input i 0 ≡ 10
     → EndsLine u (take (i + 1) input)
 ends_line u input i v so_far inside newline = record {
   front = take i input;
@@ -52,14 +57,16 @@ ends_line u input i v so_far inside newline = record {
 }
 
 pub so_far_more : (u input : List ℕ) (i : ℕ) (v w : List ℕ) → ReadsSoFar u input i v → i < length input
-    → ((z : List ℕ) → lines (v ++ get_or input i 0 ∷ z) ≡ lines (w ++ z)) → lines w ≡ [] → ReadsSoFar u input (i + 1) w
+    → ((z : List ℕ) → lines (v ++ get_or input i 0 ∷ z) ≡ lines (w ++ z)) → lines w ≡ []
+    → ReadsSoFar u input (i + 1) w
 so_far_more u input i v w so_far inside step none = record {
   same = one_more u input i v w None so_far inside step;
   before = none_before u input i v so_far;
   no_line = none;
 }
 
-pub so_far_newline : (u input : List ℕ) (i : ℕ) (v w : List ℕ) → ReadsSoFar u input i v → i < length input → get_or input i 0 ≡ 10
+pub so_far_newline : (u input : List ℕ) (i : ℕ) (v w : List ℕ) → ReadsSoFar u input i v → i < length input
+    → get_or input i 0 ≡ 10
     → ((z : List ℕ) → lines (v ++ 10 ∷ z) ≡ lines z) → w ≡ [] → ReadsSoFar u input (i + 1) w
 so_far_newline u input i v w so_far inside newline step empty = record {
   same = newline_more u input i v w None so_far inside newline step empty;
@@ -68,16 +75,20 @@ so_far_newline u input i v w so_far inside newline step empty = record {
 }
 
 -- the line is all that came
-pub one_line : (u input : List ℕ) (n : ℕ) (w : List ℕ) (l : Line) → ((z : List ℕ) → lines (u ++ (take n input ++ z)) ≡ l ∷ lines (w ++ z)) → lines w ≡ []
+pub one_line : (u input : List ℕ) (n : ℕ) (w : List ℕ) (l : Line)
+    → ((z : List ℕ) → lines (u ++ (take n input ++ z)) ≡ l ∷ lines (w ++ z)) → lines w ≡ []
     → lines (u ++ take n input) ≡ l ∷ []
 one_line u input n w l rest none =
-    ap (λ t. lines (u ++ t)) (sym (append-nil (take n input))) ∙ rest [] ∙ ap (λ t. l ∷ t) (ap lines (append-nil w) ∙ none)
+    ap (λ t. lines (u ++ t)) (sym (append-nil (take n input))) ∙ rest []
+    ∙ ap (λ t. l ∷ t) (ap lines (append-nil w) ∙ none)
 
-pub first_line : (u input : List ℕ) (n : ℕ) (w : List ℕ) (l : Line) → ((z : List ℕ) → lines (u ++ (take n input ++ z)) ≡ l ∷ lines (w ++ z))
+pub first_line : (u input : List ℕ) (n : ℕ) (w : List ℕ) (l : Line)
+    → ((z : List ℕ) → lines (u ++ (take n input ++ z)) ≡ l ∷ lines (w ++ z))
     → Some l ≡ head_of (lines (u ++ input))
 first_line u input n w l rest =
     sym (ap (λ t. head_of (lines (u ++ t))) (sym (take-append-drop n input)) ∙ ap head_of (rest (drop n input)))
 
-pub all_read : (u input : List ℕ) (i : ℕ) (v : List ℕ) → ReadsSoFar u input i v → length input ≤ i → lines (u ++ input) ≡ []
+pub all_read : (u input : List ℕ) (i : ℕ) (v : List ℕ) → ReadsSoFar u input i v → length input ≤ i
+    → lines (u ++ input) ≡ []
 all_read u input i v so_far past =
     ap (λ t. lines (u ++ t)) (sym (take_all i input past)) ∙ none_here u input i v so_far

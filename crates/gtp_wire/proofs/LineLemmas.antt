@@ -9,11 +9,12 @@ use Rattle.gtp_wire.specs.Bytes.{is_kept, is_newline}
 use Rattle.gtp_wire.specs.Lines.{lines, line_of, but_last}
 
 -- P of each element of both
-pub AllByRecursion-append : {X : Type 0} (P : X → Type 0) (xs ys : List X) → AllByRecursion P xs → AllByRecursion P ys → AllByRecursion P (xs ++ ys)
+pub AllByRecursion-append : {X : Type 0} (P : X → Type 0) (xs ys : List X) → AllByRecursion P xs → AllByRecursion P ys
+    → AllByRecursion P (xs ++ ys)
 AllByRecursion-append P [] ys a b = b
 AllByRecursion-append P (x ∷ xs) ys a b = (a.0, AllByRecursion-append P xs ys a.1 b)
 
--- where each element fails the test, the list is the first part
+-- a text without a newline
 abbrev pub NoNewline : List ℕ → Type 0
 NoNewline u = AllByRecursion (λ b. is_newline b ≡ false) u
 
@@ -22,7 +23,8 @@ unfoldable pub cut_lines : List ℕ → List Line
 cut_lines text = filter_map line_of (but_last (slice_split is_newline text))
 
 -- the parts are at least one
-pub split_parts : {X : Type 0} (p : X → Bool) (xs : List X) → (w : List X) × (ws : List (List X)) × (slice_split p xs ≡ w ∷ ws)
+pub split_parts : {X : Type 0} (p : X → Bool) (xs : List X)
+    → (w : List X) × (ws : List (List X)) × (slice_split p xs ≡ w ∷ ws)
 split_parts p [] = ([], [], refl)
 split_parts p (x ∷ xs) =
     let rest = split_parts p xs in
@@ -35,12 +37,15 @@ test_cases true = inl refl
 test_cases false = inr refl
 
 -- the first part ends at the first element that passes
-pub split_at : {X : Type 0} (p : X → Bool) (u : List X) (y : X) (s : List X) → AllByRecursion (λ b. p b ≡ false) u → p y ≡ true
+pub split_at : {X : Type 0} (p : X → Bool) (u : List X) (y : X) (s : List X) → AllByRecursion (λ b. p b ≡ false) u
+    → p y ≡ true
     → slice_split p (u ++ y ∷ s) ≡ u ∷ slice_split p s
 split_at p [] y s none e = slice_split-cons_yes p y s e
-split_at p (x ∷ u) y s none e = slice_split-cons_no p x (u ++ y ∷ s) none.0 ∙ ap (onto_first x) (split_at p u y s none.1 e)
+split_at p (x ∷ u) y s none e =
+    slice_split-cons_no p x (u ++ y ∷ s) none.0 ∙ ap (onto_first x) (split_at p u y s none.1 e)
 
-pub split_none : {X : Type 0} (p : X → Bool) (u : List X) → AllByRecursion (λ b. p b ≡ false) u → slice_split p u ≡ u ∷ []
+pub split_none : {X : Type 0} (p : X → Bool) (u : List X) → AllByRecursion (λ b. p b ≡ false) u
+    → slice_split p u ≡ u ∷ []
 split_none p [] none = refl
 split_none p (x ∷ u) none = slice_split-cons_no p x u none.0 ∙ ap (onto_first x) (split_none p u none.1)
 
@@ -50,7 +55,8 @@ lines_of_parts u [] w ws e = absurd (cc)
 lines_of_parts u (x ∷ xs) w ws e = refl
 
 -- a newline ends the first line
-pub cut_lines_newline : (u : List ℕ) (b : ℕ) (s : List ℕ) → NoNewline u → is_newline b ≡ true → cut_lines (u ++ b ∷ s) ≡ cons_option (line_of u) (cut_lines s)
+pub cut_lines_newline : (u : List ℕ) (b : ℕ) (s : List ℕ) → NoNewline u → is_newline b ≡ true
+    → cut_lines (u ++ b ∷ s) ≡ cons_option (line_of u) (cut_lines s)
 unfolding cut_lines
 cut_lines_newline u b s none e =
     let parts = split_parts is_newline s in
@@ -63,13 +69,15 @@ unfolding cut_lines
 cut_lines_open u none = ap (λ ps. filter_map line_of (but_last ps)) (split_none is_newline u none)
 
 -- Texts that read as one line alike, whatever ends it, begin the same lines.
-pub cut_lines_same : (u v s : List ℕ) → NoNewline u → NoNewline v → ((l : List ℕ) → line_of (u ++ l) ≡ line_of (v ++ l)) → cut_lines (u ++ s) ≡ cut_lines (v ++ s)
+pub cut_lines_same : (u v s : List ℕ) → NoNewline u → NoNewline v
+    → ((l : List ℕ) → line_of (u ++ l) ≡ line_of (v ++ l)) → cut_lines (u ++ s) ≡ cut_lines (v ++ s)
 cut_lines_same u v [] nu nv same =
     rw (append-nil u, append-nil v) (cut_lines_open u nu ∙ sym (cut_lines_open v nv))
 cut_lines_same u v (b ∷ s) nu nv same =
     let at_end : line_of u ≡ line_of v = ap line_of (sym (append-nil u)) ∙ same [] ∙ ap line_of (append-nil v) in
     elim (test_cases (is_newline b)) [
-      | inl e ↦ cut_lines_newline u b s nu e ∙ ap (λ o. cons_option o (cut_lines s)) at_end ∙ sym (cut_lines_newline v b s nv e)
+      | inl e ↦ cut_lines_newline u b s nu e ∙ ap (λ o. cons_option o (cut_lines s)) at_end
+          ∙ sym (cut_lines_newline v b s nv e)
       | inr e ↦
           ap cut_lines (sym (append_assoc u (b ∷ []) s))
           ∙ cut_lines_same (u ++ b ∷ []) (v ++ b ∷ []) s
@@ -95,29 +103,38 @@ unfolding lines cut_lines
 lines_cut text = refl
 
 -- a text of kept bytes in front
-pub lines_front : (u z : List ℕ) → AllByRecursion (λ b. is_kept b ≡ true) u → lines (u ++ z) ≡ cut_lines (u ++ filter is_kept z)
-lines_front u z kept = lines_cut (u ++ z) ∙ ap cut_lines (filter-append is_kept u z ∙ ap (λ w. w ++ filter is_kept z) (filter_kept u kept))
+pub lines_front : (u z : List ℕ) → AllByRecursion (λ b. is_kept b ≡ true) u
+    → lines (u ++ z) ≡ cut_lines (u ++ filter is_kept z)
+lines_front u z kept =
+    lines_cut (u ++ z)
+    ∙ ap cut_lines (filter-append is_kept u z ∙ ap (λ w. w ++ filter is_kept z) (filter_kept u kept))
 
 -- a byte that is removed changes nothing
 pub lines_removed : (u : List ℕ) (b : ℕ) (z : List ℕ) → is_kept b ≡ false → lines (u ++ b ∷ z) ≡ lines (u ++ z)
 lines_removed u b z e =
     lines_cut (u ++ b ∷ z)
-    ∙ ap cut_lines (filter-append is_kept u (b ∷ z) ∙ ap (λ w. filter is_kept u ++ w) (filter_removed b z e) ∙ sym (filter-append is_kept u z))
+    ∙ ap cut_lines
+    (filter-append is_kept u (b ∷ z) ∙ ap (λ w. filter is_kept u ++ w) (filter_removed b z e) ∙ sym (filter-append is_kept u z))
     ∙ sym (lines_cut (u ++ z))
 
 -- what is fed so far may stand for another text with the same future
-pub lines_same : (u v : List ℕ) (b : ℕ) (z : List ℕ) → AllByRecursion (λ b. is_kept b ≡ true) u → AllByRecursion (λ b. is_kept b ≡ true) v → NoNewline u → NoNewline v
-    → is_kept b ≡ true → is_newline b ≡ false → ((l : List ℕ) → line_of (u ++ b ∷ l) ≡ line_of (v ++ l)) → lines (u ++ b ∷ z) ≡ lines (v ++ z)
+pub lines_same : (u v : List ℕ) (b : ℕ) (z : List ℕ) → AllByRecursion (λ b. is_kept b ≡ true) u
+    → AllByRecursion (λ b. is_kept b ≡ true) v → NoNewline u → NoNewline v
+    → is_kept b ≡ true → is_newline b ≡ false → ((l : List ℕ) → line_of (u ++ b ∷ l) ≡ line_of (v ++ l))
+    → lines (u ++ b ∷ z) ≡ lines (v ++ z)
 lines_same u v b z ku kv nu nv kb nb same =
     ap lines (sym (append_assoc u (b ∷ []) z))
     ∙ lines_front (u ++ b ∷ []) z (AllByRecursion-append _ u (b ∷ []) ku (kb, tt))
-    ∙ cut_lines_same (u ++ b ∷ []) v (filter is_kept z) (AllByRecursion-append _ u (b ∷ []) nu (nb, tt)) nv (λ l. rw (append_assoc u (b ∷ []) l) (same l))
+    ∙ cut_lines_same (u ++ b ∷ []) v (filter is_kept z) (AllByRecursion-append _ u (b ∷ []) nu (nb, tt)) nv
+    (λ l. rw (append_assoc u (b ∷ []) l) (same l))
     ∙ sym (lines_front v z kv)
 
 -- a newline ends the line that is held
-pub lines_newline : (u z : List ℕ) → AllByRecursion (λ b. is_kept b ≡ true) u → NoNewline u → lines (u ++ 10 ∷ z) ≡ option_to_list (line_of u) ++ lines z
+pub lines_newline : (u z : List ℕ) → AllByRecursion (λ b. is_kept b ≡ true) u → NoNewline u
+    → lines (u ++ 10 ∷ z) ≡ option_to_list (line_of u) ++ lines z
 lines_newline u z ku nu =
-    lines_front u (10 ∷ z) ku ∙ cut_lines_newline u 10 (filter is_kept z) nu refl ∙ joined_option (line_of u) (cut_lines (filter is_kept z))
+    lines_front u (10 ∷ z) ku ∙ cut_lines_newline u 10 (filter is_kept z) nu refl
+    ∙ joined_option (line_of u) (cut_lines (filter is_kept z))
     ∙ ap (λ w. option_to_list (line_of u) ++ w) (sym (lines_cut z))
 
 -- what is held is no whole line

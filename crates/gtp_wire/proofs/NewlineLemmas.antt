@@ -22,17 +22,21 @@ or_true true = refl
 or_true false = refl
 
 -- two newlines in a row, at the end
-has_two_newlines_two : (xs : List ℕ) (c d : ℕ) → has_two_newlines (xs ++ c ∷ d ∷ []) ≡ (has_two_newlines (xs ++ c ∷ []) || (is_newline c && is_newline d))
+has_two_newlines_two : (xs : List ℕ) (c d : ℕ)
+    → has_two_newlines (xs ++ c ∷ d ∷ []) ≡ (has_two_newlines (xs ++ c ∷ []) || (is_newline c && is_newline d))
 has_two_newlines_two [] c d = or-false (is_newline c && is_newline d)
 has_two_newlines_two (x ∷ []) c d = or_regroup (is_newline x && is_newline c) (is_newline c && is_newline d)
 has_two_newlines_two (x ∷ y ∷ xs) c d =
     ap (λ t. (is_newline x && is_newline y) || t) (has_two_newlines_two (y ∷ xs) c d)
-    ∙ sym (or_assoc (is_newline x && is_newline y) (has_two_newlines (y ∷ xs ++ c ∷ [])) (is_newline c && is_newline d))
+    ∙ sym
+    (or_assoc (is_newline x && is_newline y) (has_two_newlines (y ∷ xs ++ c ∷ [])) (is_newline c && is_newline d))
 
-has_two_newlines_push : (xs : List ℕ) (c : ℕ) → is_newline c ≡ false → has_two_newlines (xs ++ c ∷ []) ≡ has_two_newlines xs
+has_two_newlines_push : (xs : List ℕ) (c : ℕ) → is_newline c ≡ false
+    → has_two_newlines (xs ++ c ∷ []) ≡ has_two_newlines xs
 has_two_newlines_push [] c other = refl
 has_two_newlines_push (x ∷ []) c other = and_off (is_newline x) (is_newline c) other
-has_two_newlines_push (x ∷ y ∷ xs) c other = ap (λ t. (is_newline x && is_newline y) || t) (has_two_newlines_push (y ∷ xs) c other)
+has_two_newlines_push (x ∷ y ∷ xs) c other =
+    ap (λ t. (is_newline x && is_newline y) || t) (has_two_newlines_push (y ∷ xs) c other)
 
 pub has_two_newlines_front : (xs ys : List ℕ) → has_two_newlines (xs ++ ys) ≡ false → has_two_newlines xs ≡ false
 has_two_newlines_front [] ys none = refl
@@ -42,11 +46,14 @@ has_two_newlines_front (x ∷ y ∷ xs) ys none =
     rw parts.0 (has_two_newlines_front (y ∷ xs) ys parts.1)
 
 -- a byte that is no newline goes on with the body
-pub body_more : (body : List ℕ) (c : ℕ) → has_two_newlines body ≡ false → is_newline c ≡ false → has_two_newlines ((body ++ c ∷ []) ++ 10 ∷ []) ≡ false
+pub body_more : (body : List ℕ) (c : ℕ) → has_two_newlines body ≡ false → is_newline c ≡ false
+    → has_two_newlines ((body ++ c ∷ []) ++ 10 ∷ []) ≡ false
 body_more body c none other =
     ap has_two_newlines (append_assoc body (c ∷ []) (10 ∷ [])) ∙ has_two_newlines_two body c 10
     ∙ rw (has_two_newlines_push body c other, none, other) refl
 
 -- a second newline ends it
 pub two_newlines : (body : List ℕ) → has_two_newlines ((body ++ 10 ∷ []) ++ 10 ∷ []) ≡ true
-two_newlines body = ap has_two_newlines (append_assoc body (10 ∷ []) (10 ∷ [])) ∙ has_two_newlines_two body 10 10 ∙ or_true (has_two_newlines (body ++ 10 ∷ []))
+two_newlines body =
+    ap has_two_newlines (append_assoc body (10 ∷ []) (10 ∷ [])) ∙ has_two_newlines_two body 10 10
+    ∙ or_true (has_two_newlines (body ++ 10 ∷ []))

@@ -24,10 +24,11 @@ AllKept t = AllByRecursion (λ b. is_kept b ≡ true) t
 tail_kept : (held t : List ℕ) → AllKept held → AllKept t → AllKept (tail_from held t)
 unfolding tail_from
 tail_kept held [] kh kt = kh
-tail_kept held (b ∷ t) kh kt = elim (is_newline b) as (λ n. AllKept (cond n (tail_from [] t) (tail_from (held ++ b ∷ []) t))) [
-  | true ↦ tail_kept [] t tt kt.1
-  | false ↦ tail_kept (held ++ b ∷ []) t (AllByRecursion-append _ held (b ∷ []) kh (kt.0, tt)) kt.1
-]
+tail_kept held (b ∷ t) kh kt =
+    elim (is_newline b) as (λ n. AllKept (cond n (tail_from [] t) (tail_from (held ++ b ∷ []) t))) [
+      | true ↦ tail_kept [] t tt kt.1
+      | false ↦ tail_kept (held ++ b ∷ []) t (AllByRecursion-append _ held (b ∷ []) kh (kt.0, tt)) kt.1
+    ]
 
 tail_open : (held t : List ℕ) → NoNewline held → NoNewline (tail_from held t)
 unfolding tail_from
@@ -42,9 +43,11 @@ cons_option-append Option.None xs ys = refl
 cons_option-append (Option.Some x) xs ys = refl
 
 -- the lines of two texts, the second after what the first leaves unfinished
-cut_lines_more : (held t u : List ℕ) → NoNewline held → cut_lines (held ++ (t ++ u)) ≡ cut_lines (held ++ t) ++ cut_lines (tail_from held t ++ u)
+cut_lines_more : (held t u : List ℕ) → NoNewline held
+    → cut_lines (held ++ (t ++ u)) ≡ cut_lines (held ++ t) ++ cut_lines (tail_from held t ++ u)
 unfolding tail_from
-cut_lines_more held [] u nh = sym (ap (λ ls. ls ++ cut_lines (held ++ u)) (ap cut_lines (append-nil held) ∙ cut_lines_open held nh))
+cut_lines_more held [] u nh =
+    sym (ap (λ ls. ls ++ cut_lines (held ++ u)) (ap cut_lines (append-nil held) ∙ cut_lines_open held nh))
 cut_lines_more held (b ∷ t) u nh = elim (test_cases (is_newline b)) [
   | inl e ↦ rw e (
       cut_lines_newline held b (t ++ u) nh e
@@ -73,12 +76,14 @@ lines_more text later =
     ∙ ap cut_lines (filter-append is_kept text later)
     ∙ cut_lines_more [] (filter is_kept text) (filter is_kept later) tt
     ∙ ap (λ ls. ls ++ cut_lines (tail_of text ++ filter is_kept later)) (sym (lines_cut text))
-    ∙ ap (λ ls. lines text ++ ls) (sym (lines_front (tail_of text) later (tail_kept [] (filter is_kept text) tt (all_kept text))))
+    ∙ ap (λ ls. lines text ++ ls)
+    (sym (lines_front (tail_of text) later (tail_kept [] (filter is_kept text) tt (all_kept text))))
 
 pub no_line_in_tail : (text : List ℕ) → lines (tail_of text) ≡ []
 unfolding tail_of
 no_line_in_tail text =
-    lines_open (tail_of text) (tail_kept [] (filter is_kept text) tt (all_kept text)) (tail_open [] (filter is_kept text) tt)
+    lines_open (tail_of text) (tail_kept [] (filter is_kept text) tt (all_kept text))
+    (tail_open [] (filter is_kept text) tt)
 
 -- the lines of a text are found, and what it leaves unfinished is held
 pub Finds-all : (old text : List ℕ) → Finds old text (lines (old ++ text)) (tail_of (old ++ text))
@@ -106,7 +111,8 @@ lines_without_newline text later none =
     ∙ append-nil (lines text)
 
 -- what is found is the lines
-pub Finds-lines : {old text : List ℕ} {found : List Line} {new : List ℕ} → Finds old text found new → found ≡ lines (old ++ text)
+pub Finds-lines : {old text : List ℕ} {found : List Line} {new : List ℕ} → Finds old text found new
+    → found ≡ lines (old ++ text)
 Finds-lines {old} {text} {found} {new} finds =
     sym (append-nil found) ∙ ap (λ ls. found ++ ls) (sym finds.no_line ∙ ap lines (sym (append-nil new)))
     ∙ sym (finds.rest []) ∙ ap (λ t. lines (old ++ t)) (append-nil text)
@@ -132,14 +138,16 @@ pub Finds-nothing : (old : List ℕ) → lines old ≡ [] → Finds old [] [] ol
 Finds-nothing old none = record { rest = λ later. refl; no_line = none }
 
 -- a piece that was fed until it was used up
-pub Finds-piece : {old piece : List ℕ} {found : List Line} {new : List ℕ} → lines old ≡ [] → IsFed old piece found new → Finds old piece found new
+pub Finds-piece : {old piece : List ℕ} {found : List Line} {new : List ℕ} → lines old ≡ [] → IsFed old piece found new
+    → Finds old piece found new
 Finds-piece {old} none used_up = Finds-nothing old none
 Finds-piece {old} {piece} {found} {new} none (used n line finds more) =
     let P : List ℕ → Type 0 = λ t. Finds old t found new in
     subst P (take-append-drop n piece) (Finds-join finds (Finds-piece finds.no_line more))
 
 -- pieces one after the other
-pub Finds-pieces : {old : List ℕ} {pieces : List (List ℕ)} {found : List Line} {new : List ℕ} → lines old ≡ [] → AreFed old pieces found new → Finds old (concat pieces) found new
+pub Finds-pieces : {old : List ℕ} {pieces : List (List ℕ)} {found : List Line} {new : List ℕ} → lines old ≡ []
+    → AreFed old pieces found new → Finds old (concat pieces) found new
 Finds-pieces {old} none all_fed = Finds-nothing old none
 Finds-pieces none (fed piece more) =
     let finds = Finds-piece none piece in

@@ -15,7 +15,8 @@ use Rattle.gtp_wire.proofs.WrittenLemmas.{last_of}
 -- one reply has one value
 pub one_value : (raw : List ℕ) (v w : Reply) → IsReply raw v → IsReply raw w → v ≡ w
 one_value raw v w a b =
-    let shapes : a.whole.status ∷ (a.whole.body ++ 10 ∷ 10 ∷ []) ≡ b.whole.status ∷ (b.whole.body ++ 10 ∷ 10 ∷ []) = sym a.whole.shape ∙ b.whole.shape in
+    let shapes : a.whole.status ∷ (a.whole.body ++ 10 ∷ 10 ∷ []) ≡ b.whole.status ∷ (b.whole.body ++ 10 ∷ 10 ∷ []) =
+    sym a.whole.shape ∙ b.whole.shape in
     let status : a.whole.status ≡ b.whole.status = cc in
     let tails : a.whole.body ++ 10 ∷ 10 ∷ [] ≡ b.whole.body ++ 10 ∷ 10 ∷ [] = cc in
     let body : a.whole.body ≡ b.whole.body = append_cancel_right a.whole.body b.whole.body (10 ∷ 10 ∷ []) tails in
@@ -34,7 +35,8 @@ one_answer raw (Err Overlong) (Err NoStatus) x y = absurd (omega (arith, y.fits)
 one_answer raw (Err Overlong) (Err Overlong) x y = refl
 
 -- a text tells one thing first, at one place
-pub one_first : (text : List ℕ) (n m : ℕ) (a b : Result Reply ReplyFault) → IsFirst text n a → IsFirst text m b → (n ≡ m) × (a ≡ b)
+pub one_first : (text : List ℕ) (n m : ℕ) (a b : Result Reply ReplyFault) → IsFirst text n a → IsFirst text m b
+    → (n ≡ m) × (a ≡ b)
 one_first text n m a b x y = elim (cases_lt n m) [
   | inl less ↦ absurd (y.before n a less x.told)
   | inr le ↦ elim (cases_lt m n) [
@@ -48,24 +50,35 @@ one_first text n m a b x y = elim (cases_lt n m) [
 
 -- no reply is a proper front of another
 prepared-append : (a b : List ℕ) → prepared (a ++ b) ≡ prepared a ++ prepared b
-prepared-append a b = ap (map space_for_tab) (filter-append is_kept a b) ∙ map-append space_for_tab (filter is_kept a) (filter is_kept b)
+prepared-append a b =
+    ap (map space_for_tab) (filter-append is_kept a b)
+    ∙ map-append space_for_tab (filter is_kept a) (filter is_kept b)
 
-past_blanks_behind : (raw more : List ℕ) (x : ℕ) (xs : List ℕ) → past_blanks raw ≡ x ∷ xs → past_blanks (raw ++ more) ≡ x ∷ (xs ++ prepared more)
+past_blanks_behind : (raw more : List ℕ) (x : ℕ) (xs : List ℕ) → past_blanks raw ≡ x ∷ xs
+    → past_blanks (raw ++ more) ≡ x ∷ (xs ++ prepared more)
 unfolding past_blanks
-past_blanks_behind raw more x xs shape = ap (behind is_blank) (prepared-append raw more) ∙ behind_some is_blank (prepared raw) (prepared more) x xs shape
+past_blanks_behind raw more x xs shape =
+    ap (behind is_blank) (prepared-append raw more) ∙ behind_some is_blank (prepared raw) (prepared more) x xs shape
 
 pub no_reply_in_reply : (raw : List ℕ) (b : ℕ) (bs : List ℕ) → IsWhole raw → IsWhole (raw ++ b ∷ bs) → ⊥
 no_reply_in_reply raw b bs short long =
     let last = last_of b bs in
-    let ends = same_from_push (raw ++ last.0) long.front last.1 10 (append_assoc raw last.0 (last.1 ∷ []) ∙ ap (λ t. raw ++ t) (sym last.2) ∙ long.last) in
-    let tail : prepared (b ∷ bs) ≡ prepared last.0 ++ 10 ∷ [] = ap prepared last.2 ∙ ap (λ c. prepared (last.0 ++ c ∷ [])) ends.1 ∙ prepared-append last.0 (10 ∷ []) in
+    let ends =
+    same_from_push (raw ++ last.0) long.front last.1 10
+    (append_assoc raw last.0 (last.1 ∷ []) ∙ ap (λ t. raw ++ t) (sym last.2) ∙ long.last) in
+    let tail : prepared (b ∷ bs) ≡ prepared last.0 ++ 10 ∷ [] =
+    ap prepared last.2 ∙ ap (λ c. prepared (last.0 ++ c ∷ [])) ends.1 ∙ prepared-append last.0 (10 ∷ []) in
     let both : short.status ∷ ((short.body ++ 10 ∷ 10 ∷ []) ++ prepared (b ∷ bs)) ≡ long.status ∷ (long.body ++ 10 ∷ 10 ∷ []) =
     sym (past_blanks_behind raw (b ∷ bs) short.status (short.body ++ 10 ∷ 10 ∷ []) short.shape) ∙ long.shape in
     let tails : (short.body ++ 10 ∷ 10 ∷ []) ++ prepared (b ∷ bs) ≡ long.body ++ 10 ∷ 10 ∷ [] = cc in
     let same = same_from_push ((short.body ++ 10 ∷ 10 ∷ []) ++ prepared last.0) (long.body ++ 10 ∷ []) 10 10
-    (append_assoc (short.body ++ 10 ∷ 10 ∷ []) (prepared last.0) (10 ∷ []) ∙ ap (λ t. (short.body ++ 10 ∷ 10 ∷ []) ++ t) (sym tail) ∙ tails ∙ sym (append_assoc long.body (10 ∷ []) (10 ∷ []))) in
-    let none : has_two_newlines (short.body ++ 10 ∷ 10 ∷ []) ≡ false = has_two_newlines_front (short.body ++ 10 ∷ 10 ∷ []) (prepared last.0) (ap has_two_newlines same.0 ∙ long.first_end) in
-    let two : has_two_newlines (short.body ++ 10 ∷ 10 ∷ []) ≡ true = ap has_two_newlines (sym (append_assoc short.body (10 ∷ []) (10 ∷ []))) ∙ two_newlines short.body in
+    (append_assoc (short.body ++ 10 ∷ 10 ∷ []) (prepared last.0) (10 ∷ []) ∙ ap (λ t. (short.body ++ 10 ∷ 10 ∷ []) ++ t) (sym tail) ∙ tails ∙ sym (append_assoc long.body (10 ∷ []) (10 ∷ [])))
+    in
+    let none : has_two_newlines (short.body ++ 10 ∷ 10 ∷ []) ≡ false =
+    has_two_newlines_front (short.body ++ 10 ∷ 10 ∷ []) (prepared last.0)
+    (ap has_two_newlines same.0 ∙ long.first_end) in
+    let two : has_two_newlines (short.body ++ 10 ∷ 10 ∷ []) ≡ true =
+    ap has_two_newlines (sym (append_assoc short.body (10 ∷ []) (10 ∷ []))) ∙ two_newlines short.body in
     cc
 
 -- a front of a reply begins as it does
@@ -79,12 +92,15 @@ no_status_in_reply front later whole fault =
     cc
 
 -- a proper front of a reply tells nothing
-front_is_quiet : (front : List ℕ) (b : ℕ) (more : List ℕ) (other : Result Reply ReplyFault) → IsWhole (front ++ b ∷ more) → Tells front other → ⊥
+front_is_quiet : (front : List ℕ) (b : ℕ) (more : List ℕ) (other : Result Reply ReplyFault)
+    → IsWhole (front ++ b ∷ more) → Tells front other → ⊥
 front_is_quiet front b more (Ok value) whole told = no_reply_in_reply front b more told.whole whole
 front_is_quiet front b more (Err NoStatus) whole told = no_status_in_reply front (b ∷ more) whole told
-front_is_quiet front b more (Err Overlong) whole told = omega (arith, told, whole.fits, length-append front (b ∷ more))
+front_is_quiet front b more (Err Overlong) whole told =
+    omega (arith, told, whole.fits, length-append front (b ∷ more))
 
-pub reply_is_first : (raw later : List ℕ) (value : Reply) → IsReply raw value → IsFirst (raw ++ later) (length raw) (Ok value)
+pub reply_is_first : (raw later : List ℕ) (value : Reply) → IsReply raw value
+    → IsFirst (raw ++ later) (length raw) (Ok value)
 reply_is_first raw later value reply =
     let P : List ℕ → Type 0 = λ t. IsReply t value in
     record {
@@ -102,7 +118,8 @@ reply_is_first raw later value reply =
     quiet : (n : ℕ) (other : Result Reply ReplyFault) → n < length raw → Tells (take n raw) other → ⊥
     quiet n other less told =
         let W : List ℕ → Type 0 = λ t. IsWhole t in
-        behind_front (drop n raw) (omega (arith, length-drop n raw)) (subst W (sym (take-append-drop n raw)) reply.whole) told
+        behind_front (drop n raw) (omega (arith, length-drop n raw))
+        (subst W (sym (take-append-drop n raw)) reply.whole) told
       where
         behind_front : (l : List ℕ) → 0 < length l → IsWhole (take n raw ++ l) → Tells (take n raw) other → ⊥
         behind_front [] some whole told = omega arith

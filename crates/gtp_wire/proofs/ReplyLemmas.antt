@@ -9,14 +9,16 @@ use Rattle.gtp_wire.specs.Replies.{behind, past_blanks, is_status, IsWhole, IsRe
 use Rattle.gtp_wire.proofs.LineLemmas.{test_cases}
 
 -- what is behind a front, with more at the end
-pub behind_some : {X : Type 0} (p : X → Bool) (xs ys : List X) (v : X) (vs : List X) → behind p xs ≡ v ∷ vs → behind p (xs ++ ys) ≡ v ∷ (vs ++ ys)
+pub behind_some : {X : Type 0} (p : X → Bool) (xs ys : List X) (v : X) (vs : List X) → behind p xs ≡ v ∷ vs
+    → behind p (xs ++ ys) ≡ v ∷ (vs ++ ys)
 behind_some p [] ys v vs e = absurd (cc)
 behind_some p (x ∷ xs) ys v vs e = elim (test_cases (p x)) [
   | inl t ↦ let some : behind p xs ≡ v ∷ vs = rw t at e in rw t (behind_some p xs ys v vs some)
   | inr t ↦ let same : x ∷ xs ≡ v ∷ vs = rw t at e in rw t (ap (λ l. l ++ ys) same)
 ]
 
-pub no_status_begun : (raw : List ℕ) (status : ℕ) (l : List ℕ) → past_blanks raw ≡ status ∷ l → is_status status ≡ true → IsNoStatus raw → ⊥
+pub no_status_begun : (raw : List ℕ) (status : ℕ) (l : List ℕ) → past_blanks raw ≡ status ∷ l
+    → is_status status ≡ true → IsNoStatus raw → ⊥
 no_status_begun raw status l shape known fault =
     let e : status ∷ l ≡ fault.byte ∷ fault.more = sym shape ∙ fault.shape in
     let same : status ≡ fault.byte = cc in

@@ -19,7 +19,8 @@ use Rattle.gtp_wire.proofs.WordLemmas.{cleaned, cleaned_plain, plain_byte, words
 abbrev pub view : List ℕ → Place → List ℕ
 view held place = held ++ ending place
 
-plain_kept : (held : List ℕ) → AllByRecursion (λ b. is_plain b ≡ true) held → AllByRecursion (λ b. is_kept b ≡ true) held
+plain_kept : (held : List ℕ) → AllByRecursion (λ b. is_plain b ≡ true) held
+    → AllByRecursion (λ b. is_kept b ≡ true) held
 plain_kept [] plain = tt
 plain_kept (b ∷ held) plain = ((plain_byte b plain.0).0, plain_kept held plain.1)
 
@@ -37,21 +38,28 @@ ending_no_newline Word = tt
 ending_no_newline Gap = (refl, tt)
 ending_no_newline Comment = (refl, tt)
 
-pub view_kept : (held : List ℕ) (place : Place) → IsJoined held → AllByRecursion (λ b. is_kept b ≡ true) (view held place)
-view_kept held place joined = AllByRecursion-append _ held (ending place) (plain_kept held joined.plain) (ending_kept place)
+pub view_kept : (held : List ℕ) (place : Place) → IsJoined held
+    → AllByRecursion (λ b. is_kept b ≡ true) (view held place)
+view_kept held place joined =
+    AllByRecursion-append _ held (ending place) (plain_kept held joined.plain) (ending_kept place)
 
 pub view_no_newline : (held : List ℕ) (place : Place) → IsJoined held → NoNewline (view held place)
-view_no_newline held place joined = AllByRecursion-append _ held (ending place) (plain_no_newline held joined.plain) (ending_no_newline place)
+view_no_newline held place joined =
+    AllByRecursion-append _ held (ending place) (plain_no_newline held joined.plain) (ending_no_newline place)
 
 -- what is held is no whole line
 pub view_open : (held : List ℕ) (place : Place) → IsJoined held → lines (view held place) ≡ []
-view_open held place joined = lines_open (view held place) (view_kept held place joined) (view_no_newline held place joined)
+view_open held place joined =
+    lines_open (view held place) (view_kept held place joined) (view_no_newline held place joined)
 
 -- a byte that leaves another view with the same future
-pub view_same : (held : List ℕ) (place : Place) (held' : List ℕ) (place' : Place) (b : ℕ) → IsJoined held → IsJoined held' → is_kept b ≡ true → is_newline b ≡ false
-    → ((l : List ℕ) → line_of (view held place ++ b ∷ l) ≡ line_of (view held' place' ++ l)) → (z : List ℕ) → lines (view held place ++ b ∷ z) ≡ lines (view held' place' ++ z)
+pub view_same : (held : List ℕ) (place : Place) (held' : List ℕ) (place' : Place) (b : ℕ) → IsJoined held
+    → IsJoined held' → is_kept b ≡ true → is_newline b ≡ false
+    → ((l : List ℕ) → line_of (view held place ++ b ∷ l) ≡ line_of (view held' place' ++ l)) → (z : List ℕ)
+    → lines (view held place ++ b ∷ z) ≡ lines (view held' place' ++ z)
 view_same held place held' place' b joined joined' kept other same z =
-    lines_same (view held place) (view held' place') b z (view_kept held place joined) (view_kept held' place' joined')
+    lines_same (view held place) (view held' place') b z (view_kept held place joined)
+    (view_kept held' place' joined')
     (view_no_newline held place joined) (view_no_newline held' place' joined') kept other same
 
 -- lines by their cleaned texts
@@ -67,10 +75,12 @@ comment_line held l joined =
 
 -- a line that is only words so far, and more
 word_line : (held l : List ℕ) → IsJoined held → line_of (held ++ l) ≡ line_of_words (words (held ++ cleaned l))
-word_line held l joined = line_of_cleaned (held ++ l) ∙ ap (λ t. line_of_words (words t)) (cleaned_plain held l joined.plain)
+word_line held l joined =
+    line_of_cleaned (held ++ l) ∙ ap (λ t. line_of_words (words t)) (cleaned_plain held l joined.plain)
 
 -- the line that a newline ends
-pub view_line : (held : List ℕ) (place : Place) → IsJoined held → line_of (view held place) ≡ line_of_words (words held)
+pub view_line : (held : List ℕ) (place : Place) → IsJoined held
+    → line_of (view held place) ≡ line_of_words (words held)
 view_line held Word joined = word_line held [] joined ∙ ap (λ t. line_of_words (words t)) (append-nil held)
 view_line held Gap joined = word_line held (32 ∷ []) joined ∙ ap line_of_words (words_space held)
 view_line held Comment joined = comment_line held [] joined
@@ -83,13 +93,15 @@ long_skips held place b joined long l =
     ∙ sym (ap line_of (append_assoc held (ending place) l) ∙ too_long_line held (ending place ++ l) joined long)
 
 -- in a comment all but a newline is skipped
-pub comment_skips : (held : List ℕ) (b : ℕ) → IsJoined held → (l : List ℕ) → line_of (view held Comment ++ b ∷ l) ≡ line_of (view held Comment ++ l)
+pub comment_skips : (held : List ℕ) (b : ℕ) → IsJoined held → (l : List ℕ)
+    → line_of (view held Comment ++ b ∷ l) ≡ line_of (view held Comment ++ l)
 comment_skips held b joined l =
     ap line_of (append_assoc held (35 ∷ []) (b ∷ l)) ∙ comment_line held (b ∷ l) joined
     ∙ sym (ap line_of (append_assoc held (35 ∷ []) l) ∙ comment_line held l joined)
 
 -- a second space is skipped, and one in front of all words
-pub gap_skips : (held : List ℕ) (b : ℕ) → IsJoined held → space_for_tab b ≡ 32 → eqb b 35 ≡ false → (l : List ℕ) → line_of (view held Gap ++ b ∷ l) ≡ line_of (view held Gap ++ l)
+pub gap_skips : (held : List ℕ) (b : ℕ) → IsJoined held → space_for_tab b ≡ 32 → eqb b 35 ≡ false → (l : List ℕ)
+    → line_of (view held Gap ++ b ∷ l) ≡ line_of (view held Gap ++ l)
 gap_skips held b joined space other l =
     let front : cleaned (32 ∷ b ∷ l) ≡ 32 ∷ 32 ∷ cleaned l = rw other (rw space refl) in
     ap line_of (append_assoc held (32 ∷ []) (b ∷ l)) ∙ word_line held (32 ∷ b ∷ l) joined
@@ -102,7 +114,8 @@ front_skips b space other l =
     line_of_cleaned (b ∷ l) ∙ ap (λ t. line_of_words (words t)) front ∙ sym (line_of_cleaned l)
 
 -- a space behind words is kept as one
-pub space_held : (held : List ℕ) (b : ℕ) → IsJoined held → space_for_tab b ≡ 32 → eqb b 35 ≡ false → (l : List ℕ) → line_of (view held Word ++ b ∷ l) ≡ line_of (view held Gap ++ l)
+pub space_held : (held : List ℕ) (b : ℕ) → IsJoined held → space_for_tab b ≡ 32 → eqb b 35 ≡ false → (l : List ℕ)
+    → line_of (view held Word ++ b ∷ l) ≡ line_of (view held Gap ++ l)
 space_held held b joined space other l =
     let front : cleaned (b ∷ l) ≡ 32 ∷ cleaned l = rw other (rw space refl) in
     ap line_of (append_assoc held [] (b ∷ l)) ∙ word_line held (b ∷ l) joined
@@ -110,30 +123,38 @@ space_held held b joined space other l =
     ∙ sym (ap line_of (append_assoc held (32 ∷ []) l) ∙ word_line held (32 ∷ l) joined)
 
 -- `#` begins a comment
-pub hash_held : (held : List ℕ) (place : Place) → IsJoined held → (l : List ℕ) → line_of (view held place ++ 35 ∷ l) ≡ line_of (view held Comment ++ l)
+pub hash_held : (held : List ℕ) (place : Place) → IsJoined held → (l : List ℕ)
+    → line_of (view held place ++ 35 ∷ l) ≡ line_of (view held Comment ++ l)
 hash_held held Word joined l = ap line_of (append_assoc held [] (35 ∷ l) ∙ sym (append_assoc held (35 ∷ []) l))
 hash_held held Gap joined l =
-    ap line_of (append_assoc held (32 ∷ []) (35 ∷ l)) ∙ word_line held (32 ∷ 35 ∷ l) joined ∙ ap line_of_words (words_space held)
+    ap line_of (append_assoc held (32 ∷ []) (35 ∷ l)) ∙ word_line held (32 ∷ 35 ∷ l) joined
+    ∙ ap line_of_words (words_space held)
     ∙ sym (ap line_of (append_assoc held (35 ∷ []) l) ∙ comment_line held l joined)
 hash_held held Comment joined l = comment_skips held 35 joined l
 
 -- a newline ends what is held
-pub end_view : (held : List ℕ) (place : Place) (z : List ℕ) → IsJoined held → lines (view held place ++ 10 ∷ z) ≡ option_to_list (line_of_words (words held)) ++ lines z
+pub end_view : (held : List ℕ) (place : Place) (z : List ℕ) → IsJoined held
+    → lines (view held place ++ 10 ∷ z) ≡ option_to_list (line_of_words (words held)) ++ lines z
 end_view held place z joined =
     lines_newline (view held place) z (view_kept held place joined) (view_no_newline held place joined)
     ∙ ap (λ o. option_to_list o ++ lines z) (view_line held place joined)
 
-pub end_empty : (held : List ℕ) (place : Place) (z : List ℕ) → IsJoined held → length held ≡ 0 → lines (view held place ++ 10 ∷ z) ≡ lines z
+pub end_empty : (held : List ℕ) (place : Place) (z : List ℕ) → IsJoined held → length held ≡ 0
+    → lines (view held place ++ 10 ∷ z) ≡ lines z
 unfolding line_of_words
 end_empty held place z joined none =
-    end_view held place z joined ∙ ap (λ h. option_to_list (line_of_words (words h)) ++ lines z) (nil_from_length held none)
+    end_view held place z joined
+    ∙ ap (λ h. option_to_list (line_of_words (words h)) ++ lines z) (nil_from_length held none)
 
-pub end_long : (held : List ℕ) (place : Place) (z : List ℕ) → IsJoined held → 1000 < length held → lines (view held place ++ 10 ∷ z) ≡ TooLong ∷ lines z
+pub end_long : (held : List ℕ) (place : Place) (z : List ℕ) → IsJoined held → 1000 < length held
+    → lines (view held place ++ 10 ∷ z) ≡ TooLong ∷ lines z
 end_long held place z joined long =
     end_view held place z joined
-    ∙ ap (λ o. option_to_list o ++ lines z) (too_long_words (words held) (omega (arith, weight_joined held joined (omega arith))))
+    ∙ ap (λ o. option_to_list o ++ lines z)
+    (too_long_words (words held) (omega (arith, weight_joined held joined (omega arith))))
 
-short_line : (ws : List (List ℕ)) (v : List ℕ) (vs : List (List ℕ)) → ws ≡ v ∷ vs → length (join_with_byte 32 ws) ≤ 1000 → line_of_words ws ≡ Some (Command (command_of ws))
+short_line : (ws : List (List ℕ)) (v : List ℕ) (vs : List (List ℕ)) → ws ≡ v ∷ vs
+    → length (join_with_byte 32 ws) ≤ 1000 → line_of_words ws ≡ Some (Command (command_of ws))
 unfolding line_of_words
 short_line [] v vs e h = absurd (cc)
 short_line (w ∷ ws) v vs e h = rw (le-ltb _ _ h) refl
@@ -142,8 +163,10 @@ pub end_command : (held : List ℕ) (place : Place) (z : List ℕ) → IsJoined 
     → lines (view held place ++ 10 ∷ z) ≡ Command (command_of (words held)) ∷ lines z
 end_command held place z joined some short =
     let word = some_word held joined some in
-    let fits : length (join_with_byte 32 (words held)) ≤ 1000 = omega (arith, ap length (join_words held joined some)) in
-    end_view held place z joined ∙ ap (λ o. option_to_list o ++ lines z) (short_line (words held) word.0 word.1 word.2 fits)
+    let fits : length (join_with_byte 32 (words held)) ≤ 1000 =
+    omega (arith, ap length (join_words held joined some)) in
+    end_view held place z joined
+    ∙ ap (λ o. option_to_list o ++ lines z) (short_line (words held) word.0 word.1 word.2 fits)
 
 -- a space or HT
 pub record IsSpaceByte (b : ℕ) : Type 0 where
@@ -159,12 +182,14 @@ space_byte b kind = elim kind [
 ]
 
 -- what each byte leaves: nothing changes
-pub step_long : (held : List ℕ) (place : Place) (b : ℕ) (z : List ℕ) → IsJoined held → 1000 < length held → is_kept b ≡ true → is_newline b ≡ false
+pub step_long : (held : List ℕ) (place : Place) (b : ℕ) (z : List ℕ) → IsJoined held → 1000 < length held
+    → is_kept b ≡ true → is_newline b ≡ false
     → lines (view held place ++ b ∷ z) ≡ lines (view held place ++ z)
 step_long held place b z joined long kept inside =
     view_same held place held place b joined joined kept inside (λ l. long_skips held place b joined long l) z
 
-pub step_comment : (held : List ℕ) (place : Place) (b : ℕ) (z : List ℕ) → IsJoined held → place ≡ Comment → is_kept b ≡ true → is_newline b ≡ false
+pub step_comment : (held : List ℕ) (place : Place) (b : ℕ) (z : List ℕ) → IsJoined held → place ≡ Comment
+    → is_kept b ≡ true → is_newline b ≡ false
     → lines (view held place ++ b ∷ z) ≡ lines (view held place ++ z)
 step_comment held place b z joined is kept inside =
     rw is (view_same held Comment held Comment b joined joined kept inside (λ l. comment_skips held b joined l) z)
@@ -172,12 +197,15 @@ step_comment held place b z joined is kept inside =
 pub step_gap : (held : List ℕ) (place : Place) (b : ℕ) (z : List ℕ) → IsJoined held → place ≡ Gap → IsSpaceByte b
     → lines (view held place ++ b ∷ z) ≡ lines (view held place ++ z)
 step_gap held place b z joined is space =
-    rw is (view_same held Gap held Gap b joined joined space.kept space.inside (λ l. gap_skips held b joined space.space space.other l) z)
+    rw is
+    (view_same held Gap held Gap b joined joined space.kept space.inside (λ l. gap_skips held b joined space.space space.other l) z)
 
-pub step_front : (held : List ℕ) (place : Place) (b : ℕ) (z : List ℕ) → HoldsLine held place → length held ≡ 0 → IsSpaceByte b
+pub step_front : (held : List ℕ) (place : Place) (b : ℕ) (z : List ℕ) → HoldsLine held place → length held ≡ 0
+    → IsSpaceByte b
     → lines (view held place ++ b ∷ z) ≡ lines (view held place ++ z)
 step_front held Word b z holds none space =
-    rw (nil_from_length held none) (view_same [] Word [] Word b nothing nothing space.kept space.inside (λ l. front_skips b space.space space.other l) z)
+    rw (nil_from_length held none)
+    (view_same [] Word [] Word b nothing nothing space.kept space.inside (λ l. front_skips b space.space space.other l) z)
   where
     nothing : IsJoined []
     nothing = record { plain = tt; single = λ h. absurd (omega arith) }
@@ -188,32 +216,42 @@ step_front held Comment b z holds none space = step_comment held Comment b z hol
 pub step_space : (held : List ℕ) (place : Place) (b : ℕ) (z : List ℕ) → IsJoined held → place ≡ Word → IsSpaceByte b
     → lines (view held place ++ b ∷ z) ≡ lines (view held Gap ++ z)
 step_space held place b z joined is space =
-    rw is (view_same held Word held Gap b joined joined space.kept space.inside (λ l. space_held held b joined space.space space.other l) z)
+    rw is
+    (view_same held Word held Gap b joined joined space.kept space.inside (λ l. space_held held b joined space.space space.other l) z)
 
 -- `#` begins a comment
-pub step_hash : (held : List ℕ) (place : Place) (z : List ℕ) → IsJoined held → lines (view held place ++ 35 ∷ z) ≡ lines (view held Comment ++ z)
-step_hash held place z joined = view_same held place held Comment 35 joined joined refl refl (λ l. hash_held held place joined l) z
+pub step_hash : (held : List ℕ) (place : Place) (z : List ℕ) → IsJoined held
+    → lines (view held place ++ 35 ∷ z) ≡ lines (view held Comment ++ z)
+step_hash held place z joined =
+    view_same held place held Comment 35 joined joined refl refl (λ l. hash_held held place joined l) z
 
 -- a byte of a word keeps what is held joined
-all_push_last : (ps : List (List ℕ)) (c : ℕ) → AllByRecursion (λ part. 0 < length part) ps → AllByRecursion (λ part. 0 < length part) (push_last ps c)
+all_push_last : (ps : List (List ℕ)) (c : ℕ) → AllByRecursion (λ part. 0 < length part) ps
+    → AllByRecursion (λ part. 0 < length part) (push_last ps c)
 all_push_last [] c all = (lit< tt, tt)
 all_push_last (w ∷ []) c all = (omega (arith, length-append w (c ∷ [])), tt)
 all_push_last (w ∷ v ∷ more) c all = (all.0, all_push_last (v ∷ more) c all.1)
 
-joined_parts : (held : List ℕ) (b : ℕ) → IsJoined held → is_space b ≡ false → AllByRecursion (λ part. 0 < length part) (slice_split is_space (held ++ b ∷ []))
+joined_parts : (held : List ℕ) (b : ℕ) → IsJoined held → is_space b ≡ false
+    → AllByRecursion (λ part. 0 < length part) (slice_split is_space (held ++ b ∷ []))
 joined_parts [] b joined other = rw (split_push [] b other) (lit< tt, tt)
-joined_parts (x ∷ held) b joined other = rw (split_push (x ∷ held) b other) (all_push_last (slice_split is_space (x ∷ held)) b (joined.single (omega arith)))
+joined_parts (x ∷ held) b joined other =
+    rw (split_push (x ∷ held) b other)
+    (all_push_last (slice_split is_space (x ∷ held)) b (joined.single (omega arith)))
 
-pub joined_push : (held : List ℕ) (b : ℕ) → IsJoined held → is_plain b ≡ true → is_space b ≡ false → IsJoined (held ++ b ∷ [])
+pub joined_push : (held : List ℕ) (b : ℕ) → IsJoined held → is_plain b ≡ true → is_space b ≡ false
+    → IsJoined (held ++ b ∷ [])
 joined_push held b joined plain other = record {
   plain = AllByRecursion-append _ held (b ∷ []) joined.plain (plain, tt);
   single = λ h. joined_parts held b joined other;
 }
 
-pub joined_push_gap : (held : List ℕ) (b : ℕ) → IsJoined held → 0 < length held → is_plain b ≡ true → is_space b ≡ false → IsJoined ((held ++ 32 ∷ []) ++ b ∷ [])
+pub joined_push_gap : (held : List ℕ) (b : ℕ) → IsJoined held → 0 < length held → is_plain b ≡ true
+    → is_space b ≡ false → IsJoined ((held ++ 32 ∷ []) ++ b ∷ [])
 joined_push_gap held b joined some plain other = rw (append_assoc held (32 ∷ []) (b ∷ [])) (record {
   plain = AllByRecursion-append _ held (32 ∷ b ∷ []) joined.plain (refl, (plain, tt));
-  single = λ h. rw (split_between held (b ∷ []), split_push [] b other) (AllByRecursion-append _ (slice_split is_space held) ((b ∷ []) ∷ []) (joined.single some) (lit< tt, tt));
+  single =
+      λ h. rw (split_between held (b ∷ []), split_push [] b other) (AllByRecursion-append _ (slice_split is_space held) ((b ∷ []) ∷ []) (joined.single some) (lit< tt, tt));
 })
 
 pub holds_word : {held : List ℕ} → IsJoined held → HoldsLine held Word
@@ -222,7 +260,8 @@ holds_word joined = record { joined = joined; gap = λ e. absurd (cc) }
 pub holds_word_of : {held : List ℕ} (place : Place) → IsJoined held → place ≡ Word → HoldsLine held place
 holds_word_of place joined is = rw is (holds_word joined)
 
-pub step_skipped : (held : List ℕ) (place : Place) (b : ℕ) (z : List ℕ) → IsJoined held → (place ≡ Gap) ⊎ (place ≡ Comment) → IsSpaceByte b
+pub step_skipped : (held : List ℕ) (place : Place) (b : ℕ) (z : List ℕ) → IsJoined held
+    → (place ≡ Gap) ⊎ (place ≡ Comment) → IsSpaceByte b
     → lines (view held place ++ b ∷ z) ≡ lines (view held place ++ z)
 step_skipped held place b z joined is space =
     elim is [ inl e ↦ step_gap held place b z joined e space | inr e ↦ step_comment held place b z joined e space.kept space.inside ]

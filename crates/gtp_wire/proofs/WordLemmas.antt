@@ -15,7 +15,8 @@ abbrev pub some_bytes : List ℕ → Bool
 some_bytes part = ltb 0 (length part)
 
 -- the parts of two texts with a separator between them
-pub split_between : (xs : List ℕ) (ys : List ℕ) → slice_split is_space (xs ++ 32 ∷ ys) ≡ slice_split is_space xs ++ slice_split is_space ys
+pub split_between : (xs : List ℕ) (ys : List ℕ)
+    → slice_split is_space (xs ++ 32 ∷ ys) ≡ slice_split is_space xs ++ slice_split is_space ys
 split_between [] ys = refl
 split_between (x ∷ xs) ys =
     let parts = split_parts is_space xs in
@@ -27,13 +28,16 @@ split_between (x ∷ xs) ys =
           ∙ ap (λ ps. ps ++ slice_split is_space ys) (sym (slice_split-cons_no is_space x xs e))
     ]
   where
-    onto_first_append : (x : ℕ) (ps qs : List (List ℕ)) (w : List ℕ) (ws : List (List ℕ)) → ps ≡ w ∷ ws → onto_first x (ps ++ qs) ≡ onto_first x ps ++ qs
+    onto_first_append : (x : ℕ) (ps qs : List (List ℕ)) (w : List ℕ) (ws : List (List ℕ)) → ps ≡ w ∷ ws
+        → onto_first x (ps ++ qs) ≡ onto_first x ps ++ qs
     onto_first_append x [] qs w ws e = absurd (cc)
     onto_first_append x (p ∷ ps) qs w ws e = refl
 
 -- the words on both sides of a space
 pub words_between : (xs ys : List ℕ) → words (xs ++ 32 ∷ ys) ≡ words xs ++ words ys
-words_between xs ys = ap (filter some_bytes) (split_between xs ys) ∙ filter-append some_bytes (slice_split is_space xs) (slice_split is_space ys)
+words_between xs ys =
+    ap (filter some_bytes) (split_between xs ys)
+    ∙ filter-append some_bytes (slice_split is_space xs) (slice_split is_space ys)
 
 -- two spaces are as one
 pub words_two_spaces : (xs ys : List ℕ) → words (xs ++ 32 ∷ 32 ∷ ys) ≡ words (xs ++ 32 ∷ ys)
@@ -49,16 +53,19 @@ push_last [] c = (c ∷ []) ∷ []
 push_last (w ∷ []) c = (w ++ c ∷ []) ∷ []
 push_last (w ∷ v ∷ more) c = w ∷ push_last (v ∷ more) c
 
-push_last_behind : (w : List ℕ) (ps : List (List ℕ)) (c : ℕ) (v : List ℕ) (vs : List (List ℕ)) → ps ≡ v ∷ vs → push_last (w ∷ ps) c ≡ w ∷ push_last ps c
+push_last_behind : (w : List ℕ) (ps : List (List ℕ)) (c : ℕ) (v : List ℕ) (vs : List (List ℕ)) → ps ≡ v ∷ vs
+    → push_last (w ∷ ps) c ≡ w ∷ push_last ps c
 push_last_behind w [] c v vs e = absurd (cc)
 push_last_behind w (p ∷ ps) c v vs e = refl
 
-push_last-onto_first : (x : ℕ) (ps : List (List ℕ)) (c : ℕ) (v : List ℕ) (vs : List (List ℕ)) → ps ≡ v ∷ vs → onto_first x (push_last ps c) ≡ push_last (onto_first x ps) c
+push_last-onto_first : (x : ℕ) (ps : List (List ℕ)) (c : ℕ) (v : List ℕ) (vs : List (List ℕ)) → ps ≡ v ∷ vs
+    → onto_first x (push_last ps c) ≡ push_last (onto_first x ps) c
 push_last-onto_first x [] c v vs e = absurd (cc)
 push_last-onto_first x (p ∷ []) c v vs e = refl
 push_last-onto_first x (p ∷ q ∷ ps) c v vs e = refl
 
-pub split_push : (xs : List ℕ) (c : ℕ) → is_space c ≡ false → slice_split is_space (xs ++ c ∷ []) ≡ push_last (slice_split is_space xs) c
+pub split_push : (xs : List ℕ) (c : ℕ) → is_space c ≡ false
+    → slice_split is_space (xs ++ c ∷ []) ≡ push_last (slice_split is_space xs) c
 split_push [] c other = slice_split-cons_no is_space c [] other
 split_push (x ∷ xs) c other =
     let parts = split_parts is_space xs in
@@ -81,7 +88,8 @@ length-join w [] = omega arith
 length-join w (v ∷ vs) = omega (arith, length-append w (32 ∷ join_with_byte 32 (v ∷ vs)), length-join v vs)
 
 -- words weigh more as their text grows
-weight_behind : (b : Bool) (w : List ℕ) (ws vs : List (List ℕ)) → weight ws ≤ weight vs → weight (cond b (w ∷ ws) ws) ≤ weight (cond b (w ∷ vs) vs)
+weight_behind : (b : Bool) (w : List ℕ) (ws vs : List (List ℕ)) → weight ws ≤ weight vs
+    → weight (cond b (w ∷ ws) ws) ≤ weight (cond b (w ∷ vs) vs)
 weight_behind true w ws vs h = omega arith
 weight_behind false w ws vs h = h
 
@@ -92,10 +100,14 @@ weight_one : (b : Bool) (w : List ℕ) → weight (cond b (w ∷ []) []) ≤ len
 weight_one true w = omega arith
 weight_one false w = omega arith
 
-weight_push_last : (ps : List (List ℕ)) (c : ℕ) → weight (filter some_bytes ps) ≤ weight (filter some_bytes (push_last ps c))
+weight_push_last : (ps : List (List ℕ)) (c : ℕ)
+    → weight (filter some_bytes ps) ≤ weight (filter some_bytes (push_last ps c))
 weight_push_last [] c = omega arith
-weight_push_last (w ∷ []) c = rw (some_bytes_push w c) (omega (arith, weight_one (some_bytes w) w, length-append w (c ∷ [])))
-weight_push_last (w ∷ v ∷ more) c = weight_behind (some_bytes w) w (filter some_bytes (v ∷ more)) (filter some_bytes (push_last (v ∷ more) c)) (weight_push_last (v ∷ more) c)
+weight_push_last (w ∷ []) c =
+    rw (some_bytes_push w c) (omega (arith, weight_one (some_bytes w) w, length-append w (c ∷ [])))
+weight_push_last (w ∷ v ∷ more) c =
+    weight_behind (some_bytes w) w (filter some_bytes (v ∷ more)) (filter some_bytes (push_last (v ∷ more) c))
+    (weight_push_last (v ∷ more) c)
 
 weight_push : (xs : List ℕ) (c : ℕ) → weight (words xs) ≤ weight (words (xs ++ c ∷ []))
 weight_push xs c = elim (test_cases (is_space c)) [
@@ -108,8 +120,10 @@ weight_push xs c = elim (test_cases (is_space c)) [
 pub weight_grows : (xs ys : List ℕ) → weight (words xs) ≤ weight (words (xs ++ ys))
 weight_grows xs [] = rw (append-nil xs) (omega arith)
 weight_grows xs (y ∷ ys) =
-    let rest : weight (words (xs ++ y ∷ [])) ≤ weight (words ((xs ++ y ∷ []) ++ ys)) = weight_grows (xs ++ y ∷ []) ys in
-    let same : weight (words ((xs ++ y ∷ []) ++ ys)) ≡ weight (words (xs ++ y ∷ ys)) = ap (λ t. weight (words t)) (append_assoc xs (y ∷ []) ys) in
+    let rest : weight (words (xs ++ y ∷ [])) ≤ weight (words ((xs ++ y ∷ []) ++ ys)) =
+    weight_grows (xs ++ y ∷ []) ys in
+    let same : weight (words ((xs ++ y ∷ []) ++ ys)) ≡ weight (words (xs ++ y ∷ ys)) =
+    ap (λ t. weight (words t)) (append_assoc xs (y ∷ []) ys) in
     let one : weight (words xs) ≤ weight (words (xs ++ y ∷ [])) = weight_push xs y in
     omega arith
 
@@ -123,10 +137,12 @@ pub words_joined : (held : List ℕ) → IsJoined held → 0 < length held → w
 words_joined held joined some = filter_all (slice_split is_space held) (joined.single some)
 
 pub join_words : (held : List ℕ) → IsJoined held → 0 < length held → join_with_byte 32 (words held) ≡ held
-join_words held joined some = ap (join_with_byte 32) (words_joined held joined some) ∙ join_with_byte-slice_split 32 held
+join_words held joined some =
+    ap (join_with_byte 32) (words_joined held joined some) ∙ join_with_byte-slice_split 32 held
 
 -- a joined text that isn't empty has a word
-pub some_word : (held : List ℕ) → IsJoined held → 0 < length held → (w : List ℕ) × (ws : List (List ℕ)) × (words held ≡ w ∷ ws)
+pub some_word : (held : List ℕ) → IsJoined held → 0 < length held
+    → (w : List ℕ) × (ws : List (List ℕ)) × (words held ≡ w ∷ ws)
 some_word held joined some =
     let parts = split_parts is_space held in
     (parts.0, parts.1, words_joined held joined some ∙ parts.2)
@@ -135,13 +151,15 @@ some_word held joined some =
 pub too_long_words : (ws : List (List ℕ)) → 1002 ≤ weight ws → line_of_words ws ≡ Some TooLong
 unfolding line_of_words
 too_long_words [] large = absurd (omega arith)
-too_long_words (w ∷ ws) large = rw (lt-ltb 1000 (length (join_with_byte 32 (w ∷ ws))) (omega (arith, length-join w ws))) refl
+too_long_words (w ∷ ws) large =
+    rw (lt-ltb 1000 (length (join_with_byte 32 (w ∷ ws))) (omega (arith, length-join w ws))) refl
 
 pub weight_joined : (held : List ℕ) → IsJoined held → 0 < length held → weight (words held) ≡ length held + 1
 weight_joined held joined some =
     let word = some_word held joined some in
     let join : length (join_with_byte 32 (words held)) ≡ length held = ap length (join_words held joined some) in
-    let sum : length (join_with_byte 32 (words held)) + 1 ≡ weight (words held) = rw word.2 (length-join word.0 word.1) in
+    let sum : length (join_with_byte 32 (words held)) + 1 ≡ weight (words held) =
+    rw word.2 (length-join word.0 word.1) in
     omega arith
 
 -- what `#` and HT leave of a plain text in front
@@ -149,19 +167,23 @@ abbrev pub cleaned : List ℕ → List ℕ
 cleaned l = map space_for_tab (before_hash l)
 
 -- the four tests of a plain byte
-plain_tests : (k t n h : Bool) → (k && (not t && (not n && not h))) ≡ true → (k ≡ true) × (t ≡ false) × (n ≡ false) × (h ≡ false)
+plain_tests : (k t n h : Bool) → (k && (not t && (not n && not h))) ≡ true
+    → (k ≡ true) × (t ≡ false) × (n ≡ false) × (h ≡ false)
 plain_tests true false false false e = (refl, refl, refl, refl)
 plain_tests true false false true e = absurd (cc)
 plain_tests true false true h e = absurd (cc)
 plain_tests true true n h e = absurd (cc)
 plain_tests false t n h e = absurd (cc)
 
-pub plain_byte : (b : ℕ) → is_plain b ≡ true → (is_kept b ≡ true) × (eqb b 9 ≡ false) × (is_newline b ≡ false) × (eqb b 35 ≡ false)
+pub plain_byte : (b : ℕ) → is_plain b ≡ true
+    → (is_kept b ≡ true) × (eqb b 9 ≡ false) × (is_newline b ≡ false) × (eqb b 35 ≡ false)
 plain_byte b e = plain_tests (is_kept b) (eqb b 9) (eqb b 10) (eqb b 35) e
 
-pub cleaned_plain : (held l : List ℕ) → AllByRecursion (λ b. is_plain b ≡ true) held → cleaned (held ++ l) ≡ held ++ cleaned l
+pub cleaned_plain : (held l : List ℕ) → AllByRecursion (λ b. is_plain b ≡ true) held
+    → cleaned (held ++ l) ≡ held ++ cleaned l
 cleaned_plain [] l plain = refl
-cleaned_plain (b ∷ held) l plain = rw ((plain_byte b plain.0).3) (rw ((plain_byte b plain.0).1) (ap (λ t. b ∷ t) (cleaned_plain held l plain.1)))
+cleaned_plain (b ∷ held) l plain =
+    rw ((plain_byte b plain.0).3) (rw ((plain_byte b plain.0).1) (ap (λ t. b ∷ t) (cleaned_plain held l plain.1)))
 
 -- the line of a text whose front is too long
 pub too_long_line : (held l : List ℕ) → IsJoined held → 1000 < length held → line_of (held ++ l) ≡ Some TooLong
@@ -169,4 +191,5 @@ unfolding line_of
 too_long_line held l joined long =
     let grows : weight (words held) ≤ weight (words (held ++ cleaned l)) = weight_grows held (cleaned l) in
     let here : weight (words held) ≡ length held + 1 = weight_joined held joined (omega arith) in
-    ap (λ t. line_of_words (words t)) (cleaned_plain held l joined.plain) ∙ too_long_words (words (held ++ cleaned l)) (omega arith)
+    ap (λ t. line_of_words (words t)) (cleaned_plain held l joined.plain)
+    ∙ too_long_words (words (held ++ cleaned l)) (omega arith)

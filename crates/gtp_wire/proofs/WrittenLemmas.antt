@@ -45,14 +45,16 @@ all_shown (b ∷ l) shown = elim (test_cases (is_shown b)) [
 ]
 
 shown_kept : (b : ℕ) → IsShown b → is_kept b ≡ true
-shown_kept b shown = elim shown [ inl e ↦ rw e refl | inr h ↦ let low : 32 ≤ b = h.0 in let high : b ≤ 126 = h.1 in grind (arith, nat_tests) ]
+shown_kept b shown =
+    elim shown [ inl e ↦ rw e refl | inr h ↦ let low : 32 ≤ b = h.0 in let high : b ≤ 126 = h.1 in grind (arith, nat_tests) ]
 
 shown_stays : (b : ℕ) → IsShown b → space_for_tab b ≡ b
 shown_stays b shown = elim shown [ inl e ↦ rw e refl | inr h ↦ let low : 32 ≤ b = h.0 in grind (arith, nat_tests) ]
 
 prepared_shown : (l : List ℕ) → AllByRecursion IsShown l → prepared l ≡ l
 prepared_shown [] shown = refl
-prepared_shown (b ∷ l) shown = rw (shown_kept b shown.0) (rw (shown_stays b shown.0) (ap (λ t. b ∷ t) (prepared_shown l shown.1)))
+prepared_shown (b ∷ l) shown =
+    rw (shown_kept b shown.0) (rw (shown_stays b shown.0) (ap (λ t. b ∷ t) (prepared_shown l shown.1)))
 
 -- digits
 abbrev pub IsDigit : ℕ → Type 0
@@ -72,11 +74,13 @@ digit_test c digit = let low : 48 ≤ c = digit.0 in let high : c ≤ 57 = digit
 digit_no_newline : (c : ℕ) → IsDigit c → is_newline c ≡ false
 digit_no_newline c digit = let low : 48 ≤ c = digit.0 in grind (arith, nat_tests)
 
-front_of_digits : (ds s : List ℕ) → AllByRecursion IsDigit ds → front_of is_ascii_digit (ds ++ s) ≡ ds ++ front_of is_ascii_digit s
+front_of_digits : (ds s : List ℕ) → AllByRecursion IsDigit ds
+    → front_of is_ascii_digit (ds ++ s) ≡ ds ++ front_of is_ascii_digit s
 front_of_digits [] s all = refl
 front_of_digits (d ∷ ds) s all = rw (digit_test d all.0) (ap (λ t. d ∷ t) (front_of_digits ds s all.1))
 
-behind_digits : (ds s : List ℕ) → AllByRecursion IsDigit ds → behind is_ascii_digit (ds ++ s) ≡ behind is_ascii_digit s
+behind_digits : (ds s : List ℕ) → AllByRecursion IsDigit ds
+    → behind is_ascii_digit (ds ++ s) ≡ behind is_ascii_digit s
 behind_digits [] s all = refl
 behind_digits (d ∷ ds) s all = rw (digit_test d all.0) (behind_digits ds s all.1)
 
@@ -84,9 +88,11 @@ has_two_newlines_cons : (d : ℕ) (l : List ℕ) → is_newline d ≡ false → 
 has_two_newlines_cons d [] other = refl
 has_two_newlines_cons d (x ∷ l) other = rw other refl
 
-has_two_newlines_digits : (ds s : List ℕ) → AllByRecursion IsDigit ds → has_two_newlines (ds ++ s) ≡ has_two_newlines s
+has_two_newlines_digits : (ds s : List ℕ) → AllByRecursion IsDigit ds
+    → has_two_newlines (ds ++ s) ≡ has_two_newlines s
 has_two_newlines_digits [] s all = refl
-has_two_newlines_digits (d ∷ ds) s all = has_two_newlines_cons d (ds ++ s) (digit_no_newline d all.0) ∙ has_two_newlines_digits ds s all.1
+has_two_newlines_digits (d ∷ ds) s all =
+    has_two_newlines_cons d (ds ++ s) (digit_no_newline d all.0) ∙ has_two_newlines_digits ds s all.1
 
 -- the text behind its space
 spaced_front : (text : List ℕ) → front_of is_ascii_digit (spaced text) ≡ []
@@ -112,14 +118,16 @@ behind_none : (b : ℕ) (bs : List ℕ) → is_space b ≡ false → behind is_s
 behind_none b bs other = rw other refl
 
 -- the last byte of a text that doesn't end with a blank
-last_byte : (front : List ℕ) (c : ℕ) (text : List ℕ) → text ≡ front ++ c ∷ [] → begins_blank (reverse text) ≡ false → is_blank c ≡ false
+last_byte : (front : List ℕ) (c : ℕ) (text : List ℕ) → text ≡ front ++ c ∷ [] → begins_blank (reverse text) ≡ false
+    → is_blank c ≡ false
 last_byte front c text e none = sym (ap begins_blank (ap reverse e ∙ reverse-append front (c ∷ []))) ∙ none
 
 trimmed_spaced : (text : List ℕ) → IsReplyText text → trimmed (spaced text) ≡ text
 trimmed_spaced [] fits = refl
 trimmed_spaced (b ∷ bs) fits =
     let last = last_of b bs in
-    let turned : reverse (b ∷ bs) ≡ last.1 ∷ reverse last.0 = ap reverse last.2 ∙ reverse-append last.0 (last.1 ∷ []) in
+    let turned : reverse (b ∷ bs) ≡ last.1 ∷ reverse last.0 =
+    ap reverse last.2 ∙ reverse-append last.0 (last.1 ∷ []) in
     let other : is_space last.1 ≡ false = not_space last.1 (last_byte last.0 last.1 (b ∷ bs) last.2 fits.end) in
     ap (λ t. reverse (behind is_space (reverse t))) (behind_none b bs (not_space b fits.front))
     ∙ ap (λ t. reverse (behind is_space t)) turned
@@ -131,7 +139,8 @@ has_two_newlines_spaced [] fits = refl
 has_two_newlines_spaced (b ∷ bs) fits =
     let last = last_of b bs in
     let P : List ℕ → Type 0 = λ t. has_two_newlines t ≡ false in
-    let front : has_two_newlines last.0 ≡ false = has_two_newlines_front last.0 (last.1 ∷ []) (subst P last.2 fits.single) in
+    let front : has_two_newlines last.0 ≡ false =
+    has_two_newlines_front last.0 (last.1 ∷ []) (subst P last.2 fits.single) in
     has_two_newlines_cons 32 (b ∷ bs ++ 10 ∷ []) refl
     ∙ ap (λ t. has_two_newlines (t ++ 10 ∷ [])) last.2
     ∙ body_more last.0 last.1 front (not_newline last.1 (last_byte last.0 last.1 (b ∷ bs) last.2 fits.end))
@@ -176,28 +185,39 @@ status_is : (ok : Bool) → ok ≡ eqb (status_of ok) 61
 status_is true = refl
 status_is false = refl
 
-past_blanks_status : (ok : Bool) (l : List ℕ) → AllByRecursion IsShown (status_of ok ∷ l) → past_blanks (status_of ok ∷ l) ≡ status_of ok ∷ l
+past_blanks_status : (ok : Bool) (l : List ℕ) → AllByRecursion IsShown (status_of ok ∷ l)
+    → past_blanks (status_of ok ∷ l) ≡ status_of ok ∷ l
 unfolding past_blanks
 past_blanks_status true l shown = ap (behind is_blank) (prepared_shown (61 ∷ l) shown)
 past_blanks_status false l shown = ap (behind is_blank) (prepared_shown (63 ∷ l) shown)
 
 -- a written reply is one reply
-pub written_whole : (ok : Bool) (id : Option ℕ) (text : List ℕ) → IfSome id (λ n. n ≤ int_max) → IsReplyText text → IsWhole (written_reply ok id text)
+pub written_whole : (ok : Bool) (id : Option ℕ) (text : List ℕ) → IfSome id (λ n. n ≤ int_max) → IsReplyText text
+    → IsWhole (written_reply ok id text)
 written_whole ok id text fits_id fits_text =
     let word = id_text id fits_id in
     let shown : AllByRecursion IsShown (written_id id ++ (spaced text ++ 10 ∷ 10 ∷ [])) =
-    AllByRecursion-append IsShown (written_id id) (spaced text ++ 10 ∷ 10 ∷ []) (digits_shown (written_id id) word.digits)
-    (AllByRecursion-append IsShown (spaced text) (10 ∷ 10 ∷ []) (spaced_shown text (all_shown text fits_text.shown)) (inl refl, (inl refl, tt))) in
+    AllByRecursion-append IsShown (written_id id) (spaced text ++ 10 ∷ 10 ∷ [])
+    (digits_shown (written_id id) word.digits)
+    (AllByRecursion-append IsShown (spaced text) (10 ∷ 10 ∷ []) (spaced_shown text (all_shown text fits_text.shown)) (inl refl, (inl refl, tt)))
+    in
     record {
-      fits = omega (arith, length-append (written_id id) (spaced text ++ 10 ∷ 10 ∷ []), length-append (spaced text) (10 ∷ 10 ∷ []), word.short, length-spaced text, fits_text.fits);
+      fits =
+          omega
+          (arith, length-append (written_id id) (spaced text ++ 10 ∷ 10 ∷ []), length-append (spaced text) (10 ∷ 10 ∷ []), word.short, length-spaced text, fits_text.fits);
       front = status_of ok ∷ (written_id id ++ (spaced text ++ 10 ∷ []));
       last = ap (λ t. status_of ok ∷ t)
           (ap (λ t. written_id id ++ t) (sym (append_assoc (spaced text) (10 ∷ []) (10 ∷ []))) ∙ sym (append_assoc (written_id id) (spaced text ++ 10 ∷ []) (10 ∷ [])));
       status = status_of ok;
       body = written_id id ++ spaced text;
-      shape = past_blanks_status ok (written_id id ++ (spaced text ++ 10 ∷ 10 ∷ [])) (status_shown ok, shown) ∙ ap (λ t. status_of ok ∷ t) (sym (append_assoc (written_id id) (spaced text) (10 ∷ 10 ∷ [])));
+      shape =
+          past_blanks_status ok (written_id id ++ (spaced text ++ 10 ∷ 10 ∷ [])) (status_shown ok, shown)
+          ∙ ap (λ t. status_of ok ∷ t) (sym (append_assoc (written_id id) (spaced text) (10 ∷ 10 ∷ [])));
       known = status_known ok;
-      first_end = ap has_two_newlines (append_assoc (written_id id) (spaced text) (10 ∷ [])) ∙ has_two_newlines_digits (written_id id) (spaced text ++ 10 ∷ []) word.digits ∙ has_two_newlines_spaced text fits_text;
+      first_end =
+          ap has_two_newlines (append_assoc (written_id id) (spaced text) (10 ∷ []))
+          ∙ has_two_newlines_digits (written_id id) (spaced text ++ 10 ∷ []) word.digits
+          ∙ has_two_newlines_spaced text fits_text;
     }
 
 -- with or without an id the text is what is behind it
@@ -206,7 +226,8 @@ text_behind : (id : Option ℕ) (text : List ℕ) → AllByRecursion IsDigit (wr
 text_behind None text all = refl
 text_behind (Some n) text all = behind_digits (decimal n) (spaced text) all ∙ spaced_behind text
 
-pub written_is_read : (ok : Bool) (id : Option ℕ) (text : List ℕ) (value : Reply) → IfSome id (λ n. n ≤ int_max) → IsReplyText text
+pub written_is_read : (ok : Bool) (id : Option ℕ) (text : List ℕ) (value : Reply) → IfSome id (λ n. n ≤ int_max)
+    → IsReplyText text
     → value.ok ≡ ok → value.id ≡ id → value.text.items ≡ text → IsReply (written_reply ok id text) value
 unfolding written_whole
 written_is_read ok id text value fits_id fits_text ok_is id_is text_is =
@@ -215,4 +236,6 @@ written_is_read ok id text value fits_id fits_text ok_is id_is text_is =
     (ok_is ∙ status_is ok)
     (id_is ∙ word.id_is ∙ ap int_of (sym (front_of_digits (written_id id) (spaced text) word.digits ∙ ap (λ t. written_id id ++ t) (spaced_front text) ∙ append-nil (written_id id))))
     (text_is ∙ sym (trimmed_spaced text fits_text) ∙ ap trimmed (sym (text_behind id text word.digits))
-    ∙ ap (λ i. trimmed (cond (is_some i) (behind is_ascii_digit (written_id id ++ spaced text)) (written_id id ++ spaced text))) (sym id_is))
+    ∙ ap
+    (λ i. trimmed (cond (is_some i) (behind is_ascii_digit (written_id id ++ spaced text)) (written_id id ++ spaced text)))
+    (sym id_is))

@@ -27,13 +27,17 @@ record IsWord (w : List ℕ) : Type 0 where
 abbrev AreWords : List (List ℕ) → Type 0
 AreWords ws = AllByRecursion IsWord ws
 
-split_joined : (w : List ℕ) (ws : List (List ℕ)) → AreWords (w ∷ ws) → slice_split is_space (join_with_byte 32 (w ∷ ws)) ≡ w ∷ ws
+split_joined : (w : List ℕ) (ws : List (List ℕ)) → AreWords (w ∷ ws)
+    → slice_split is_space (join_with_byte 32 (w ∷ ws)) ≡ w ∷ ws
 split_joined w [] all = split_none is_space w all.0.whole
-split_joined w (v ∷ vs) all = split_at is_space w 32 (join_with_byte 32 (v ∷ vs)) all.0.whole refl ∙ ap (λ t. w ∷ t) (split_joined v vs all.1)
+split_joined w (v ∷ vs) all =
+    split_at is_space w 32 (join_with_byte 32 (v ∷ vs)) all.0.whole refl ∙ ap (λ t. w ∷ t) (split_joined v vs all.1)
 
-joined_plain : (w : List ℕ) (ws : List (List ℕ)) → AreWords (w ∷ ws) → AllByRecursion (λ b. is_plain b ≡ true) (join_with_byte 32 (w ∷ ws))
+joined_plain : (w : List ℕ) (ws : List (List ℕ)) → AreWords (w ∷ ws)
+    → AllByRecursion (λ b. is_plain b ≡ true) (join_with_byte 32 (w ∷ ws))
 joined_plain w [] all = all.0.plain
-joined_plain w (v ∷ vs) all = AllByRecursion-append _ w (32 ∷ join_with_byte 32 (v ∷ vs)) all.0.plain (refl, joined_plain v vs all.1)
+joined_plain w (v ∷ vs) all =
+    AllByRecursion-append _ w (32 ∷ join_with_byte 32 (v ∷ vs)) all.0.plain (refl, joined_plain v vs all.1)
 
 joined_some : (w : List ℕ) (ws : List (List ℕ)) → AreWords (w ∷ ws) → 0 < length (join_with_byte 32 (w ∷ ws))
 joined_some w [] all = all.0.some
@@ -44,7 +48,8 @@ parts_some [] all = tt
 parts_some (w ∷ ws) all = (all.0.some, parts_some ws all.1)
 
 are_joined : (w : List ℕ) (ws : List (List ℕ)) → AreWords (w ∷ ws) → IsJoined (join_with_byte 32 (w ∷ ws))
-are_joined w ws all = record { plain = joined_plain w ws all; single = λ h. rw (split_joined w ws all) (parts_some (w ∷ ws) all) }
+are_joined w ws all =
+    record { plain = joined_plain w ws all; single = λ h. rw (split_joined w ws all) (parts_some (w ∷ ws) all) }
 
 -- words that are written with single spaces and a newline are one line, of those words
 written_line : (w : List ℕ) (ws : List (List ℕ)) → AreWords (w ∷ ws) → length (join_with_byte 32 (w ∷ ws)) ≤ 1000
@@ -54,7 +59,8 @@ written_line w ws all short =
     let some = joined_some w ws all in
     ap (λ t. lines (t ++ 10 ∷ [])) (sym (append-nil (join_with_byte 32 (w ∷ ws))))
     ∙ end_command (join_with_byte 32 (w ∷ ws)) Word [] joined some short
-    ∙ ap (λ t. Command (command_of t) ∷ lines []) (words_joined (join_with_byte 32 (w ∷ ws)) joined some ∙ split_joined w ws all)
+    ∙ ap (λ t. Command (command_of t) ∷ lines [])
+    (words_joined (join_with_byte 32 (w ∷ ws)) joined some ∙ split_joined w ws all)
     ∙ ap (λ t. Command (command_of (w ∷ ws)) ∷ t) (lines_open [] tt tt)
 
 -- words by their tests
@@ -70,14 +76,16 @@ three_tests true s h e = absurd (cc)
 
 -- a byte that is no control character is neither HT nor LF
 other_than : (b control : ℕ) → is_ascii_control b ≡ false → is_ascii_control control ≡ true → eqb b control ≡ false
-other_than b control plain is = ne_eqb b control (λ (e : b ≡ control). let same : false ≡ true = sym plain ∙ ap is_ascii_control e ∙ is in cc)
+other_than b control plain is =
+    ne_eqb b control (λ (e : b ≡ control). let same : false ≡ true = sym plain ∙ ap is_ascii_control e ∙ is in cc)
 
 word_byte : (b : ℕ) → is_word_byte b ≡ true → (is_plain b ≡ true) × (is_space b ≡ false)
 word_byte b word =
     let tests = three_tests (is_ascii_control b) (is_space b) (eqb b 35) word in
     (rw (other_than b 9 tests.0 refl, other_than b 10 tests.0 refl, tests.0, tests.2) refl, tests.1)
 
-word_bytes : (w : List ℕ) → list_all is_word_byte w ≡ true → AllByRecursion (λ b. is_plain b ≡ true) w × AllByRecursion (λ b. is_space b ≡ false) w
+word_bytes : (w : List ℕ) → list_all is_word_byte w ≡ true
+    → AllByRecursion (λ b. is_plain b ≡ true) w × AllByRecursion (λ b. is_space b ≡ false) w
 word_bytes [] all = (tt, tt)
 word_bytes (b ∷ w) all =
     let parts = and_parts (is_word_byte b) (list_all is_word_byte w) all in
@@ -102,7 +110,8 @@ digit_plain c digit = let low : 48 ≤ c = digit.0 in let high : c ≤ 57 = digi
 digit_no_space : (c : ℕ) → IsDigit c → is_space c ≡ false
 digit_no_space c digit = let low : 48 ≤ c = digit.0 in grind (arith, nat_tests)
 
-digits_word : (ds : List ℕ) → AllByRecursion IsDigit ds → AllByRecursion (λ b. is_plain b ≡ true) ds × AllByRecursion (λ b. is_space b ≡ false) ds
+digits_word : (ds : List ℕ) → AllByRecursion IsDigit ds
+    → AllByRecursion (λ b. is_plain b ≡ true) ds × AllByRecursion (λ b. is_space b ≡ false) ds
 digits_word [] all = (tt, tt)
 digits_word (d ∷ ds) all = let rest = digits_word ds all.1 in ((digit_plain d all.0, rest.0), (digit_no_space d all.0, rest.1))
 
@@ -113,11 +122,13 @@ int_word n fits =
     record { some = numeral.0; plain = bytes.0; whole = bytes.1 }
 
 -- a command's words, behind its id
-pub written_command : (id : Option ℕ) (name : List ℕ) (arguments : List (List ℕ)) → IfSome id (λ n. n ≤ int_max) → int_of name ≡ None
+pub written_command : (id : Option ℕ) (name : List ℕ) (arguments : List (List ℕ)) → IfSome id (λ n. n ≤ int_max)
+    → int_of name ≡ None
     → list_all is_word (name ∷ arguments) ≡ true → length (join_with_byte 32 (id_words id ++ name ∷ arguments)) ≤ 1000
     → lines (join_with_byte 32 (id_words id ++ name ∷ arguments) ++ 10 ∷ []) ≡ Command (record { id = id; words = name ∷ arguments }) ∷ []
 written_command None name arguments fits no_int all short =
     written_line name arguments (are_words (name ∷ arguments) all) short ∙ ap (λ c. Command c ∷ []) (rw no_int refl)
 written_command (Some n) name arguments fits no_int all short =
     let int : int_of (written_int n) ≡ Some n = int_of_spelled n (written_int n) (spells_written_int n fits) in
-    written_line (written_int n) (name ∷ arguments) (int_word n fits, are_words (name ∷ arguments) all) short ∙ ap (λ c. Command c ∷ []) (rw int refl)
+    written_line (written_int n) (name ∷ arguments) (int_word n fits, are_words (name ∷ arguments) all) short
+    ∙ ap (λ c. Command c ∷ []) (rw int refl)

@@ -10,7 +10,8 @@ pub returns-then-is_none : goal.returns-then-is_none
 returns-then-is_none c =
     rw (← c.self.view_is) (c.part.ensures
     ∙ ap (λ t. slice_get (slice_split is_space t) c.args.number) c.deref.ensures.0
-    ∙ word_without_id c.self.inside.id c.self.inside.text.items c.args.number c.self.invariant.joined c.self.invariant.some (grind rules))
+    ∙ word_without_id c.self.inside.id c.self.inside.text.items c.args.number c.self.invariant.joined
+    c.self.invariant.some (grind rules))
 
 pub returns-in_err-checked_add : goal.returns-in_err-checked_add
 returns-in_err-checked_add c =
@@ -23,4 +24,5 @@ pub returns : goal.returns
 returns c =
     rw (← c.self.view_is) (c.part-2.ensures
     ∙ ap (λ t. slice_get (slice_split is_space t) c.in_ok-checked_add.field-0) c.deref-2.ensures.0
-    ∙ word_with_id c.self.inside.id c.self.inside.text.items c.args.number c.in_ok-checked_add.field-0 c.self.invariant.joined c.self.invariant.some (grind rules) c.in_ok-checked_add.ensures.1)
+    ∙ word_with_id c.self.inside.id c.self.inside.text.items c.args.number c.in_ok-checked_add.field-0
+    c.self.invariant.joined c.self.invariant.some (grind rules) c.in_ok-checked_add.ensures.1)

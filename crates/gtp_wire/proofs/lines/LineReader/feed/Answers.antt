@@ -5,44 +5,57 @@ use Rattle.gtp_wire.proofs.FeedLemmas.{so_far_none, newline_more, nothing_open, 
 use Rattle.gtp_wire.proofs.lines.LineReader.feed.Goals as goal
 
 pub loop-i-init : goal.loop-i-init
-loop-i-init c = so_far_none c.args.self.now c.args.input.now (rw (← c.self.view_is) (view_open c.self.inside.held.items c.self.inside.place c.self.invariant.joined))
+loop-i-init c =
+    so_far_none c.args.self.now c.args.input.now
+    (rw (← c.self.view_is) (view_open c.self.inside.held.items c.self.inside.place c.self.invariant.joined))
 
 pub loop-i-preserved-then-byte-ne10 : goal.loop-i-preserved-then-byte-ne10
 loop-i-preserved-then-byte-ne10 c =
-    so_far_more c.args.self.now c.args.input.now c.loop-i.i c.loop-i.self c.take_byte.new.self c.loop-i.invariant (omega arith) c.take_byte.ensures.step c.take_byte.ensures.no_line
+    so_far_more c.args.self.now c.args.input.now c.loop-i.i c.loop-i.self c.take_byte.new.self c.loop-i.invariant
+    (omega arith) c.take_byte.ensures.step c.take_byte.ensures.no_line
 
 pub loop-i-preserved : goal.loop-i-preserved
 loop-i-preserved c =
-    so_far_newline c.args.self.now c.args.input.now c.loop-i.i c.loop-i.self c.end_line.new.self c.loop-i.invariant (omega arith) c.if-byte-ne10.false c.in_default.ensures.step c.end_line.ensures.new
+    so_far_newline c.args.self.now c.args.input.now c.loop-i.i c.loop-i.self c.end_line.new.self c.loop-i.invariant
+    (omega arith) c.if-byte-ne10.false c.in_default.ensures.step c.end_line.ensures.new
 
 pub returns-in-Some-clause-held : goal.returns-in-Some-clause-held
-returns-in-Some-clause-held c = rw (← c.self.view_is) (view_open c.self.inside.held.items c.self.inside.place c.self.invariant.joined)
+returns-in-Some-clause-held c =
+    rw (← c.self.view_is) (view_open c.self.inside.held.items c.self.inside.place c.self.invariant.joined)
 
 pub returns-in-Some-clause-rest : goal.returns-in-Some-clause-rest
 returns-in-Some-clause-rest c =
-    newline_more c.args.self.now c.args.input.now c.loop-i.i c.loop-i.self c.end_line.new.self (Some c.in-Some.line) c.loop-i.invariant (omega arith) c.if-byte-ne10.false c.in-Some.ensures.step
+    newline_more c.args.self.now c.args.input.now c.loop-i.i c.loop-i.self c.end_line.new.self (Some c.in-Some.line)
+    c.loop-i.invariant (omega arith) c.if-byte-ne10.false c.in-Some.ensures.step
     c.end_line.ensures.new
 
 pub returns-in-Some-clause-first : goal.returns-in-Some-clause-first
 returns-in-Some-clause-first c =
-    first_line c.args.self.now c.args.input.now (c.loop-i.i + 1) c.end_line.new.self c.in-Some.line (returns-in-Some-clause-rest c)
+    first_line c.args.self.now c.args.input.now (c.loop-i.i + 1) c.end_line.new.self c.in-Some.line
+    (returns-in-Some-clause-rest c)
 
 pub returns-in-Some-clause-whole : goal.returns-in-Some-clause-whole
 returns-in-Some-clause-whole c =
-    one_line c.args.self.now c.args.input.now (c.loop-i.i + 1) c.end_line.new.self c.in-Some.line (returns-in-Some-clause-rest c) (nothing_open c.end_line.new.self c.end_line.ensures.new)
+    one_line c.args.self.now c.args.input.now (c.loop-i.i + 1) c.end_line.new.self c.in-Some.line
+    (returns-in-Some-clause-rest c) (nothing_open c.end_line.new.self c.end_line.ensures.new)
 
 pub returns-in-Some-clause-newline : goal.returns-in-Some-clause-newline
 returns-in-Some-clause-newline c =
-    ends_line c.args.self.now c.args.input.now c.loop-i.i c.loop-i.self c.loop-i.invariant (omega arith) c.if-byte-ne10.false
+    ends_line c.args.self.now c.args.input.now c.loop-i.i c.loop-i.self c.loop-i.invariant (omega arith)
+    c.if-byte-ne10.false
 
 pub returns-in-Some-clause-before : goal.returns-in-Some-clause-before
-returns-in-Some-clause-before c = none_before c.args.self.now c.args.input.now c.loop-i.i c.loop-i.self c.loop-i.invariant
+returns-in-Some-clause-before c =
+    none_before c.args.self.now c.args.input.now c.loop-i.i c.loop-i.self c.loop-i.invariant
 
 pub returns-in-Some-clause-no_line : goal.returns-in-Some-clause-no_line
 returns-in-Some-clause-no_line c = nothing_open c.end_line.new.self c.end_line.ensures.new
 
 pub returns-clause-held : goal.returns-clause-held
-returns-clause-held c = rw (← c.self.view_is) (view_open c.self.inside.held.items c.self.inside.place c.self.invariant.joined)
+returns-clause-held c =
+    rw (← c.self.view_is) (view_open c.self.inside.held.items c.self.inside.place c.self.invariant.joined)
 
 pub returns-clause-first : goal.returns-clause-first
-returns-clause-first c = sym (ap head_of (all_read c.args.self.now c.args.input.now c.loop-i.i c.loop-i.self c.loop-i.invariant (omega arith)))
+returns-clause-first c =
+    sym
+    (ap head_of (all_read c.args.self.now c.args.input.now c.loop-i.i c.loop-i.self c.loop-i.invariant (omega arith)))
