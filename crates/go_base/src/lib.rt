@@ -2,6 +2,7 @@
 #![tactic(auto)]
 
 mod colours;
+mod handicaps;
 mod ints;
 mod komis;
 pub mod laws;
@@ -11,6 +12,7 @@ mod sizes;
 mod vertices;
 
 pub use colours::{Colour, Side};
+pub use handicaps::handicap;
 pub use ints::{read_int, write_int};
 pub use komis::Komi;
 pub use moves::Move;

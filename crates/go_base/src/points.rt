@@ -50,6 +50,14 @@ impl Point {
         Some(Point { column, row })
     }
 
+    /// The point where a column and a row cross.
+    pub(crate) fn crossing(column: u32, row: u32) -> Point
+        requires { IsCrossing column row }
+        ensures { result ≡ point column row }
+    {
+        Point { column, row }
+    }
+
     /// The column, 1 to 25, counted from the left.
     pub fn column(self) -> u32
         ensures value { result ≡ column_of self }
