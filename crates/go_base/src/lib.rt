@@ -20,3 +20,6 @@ pub use moves::Move;
 pub use points::Point;
 pub use sizes::Size;
 pub use vertices::Vertex;
+
+#[cfg(test)]
+mod tests;
