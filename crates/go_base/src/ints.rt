@@ -1,6 +1,8 @@
 //! Ints of the protocol.
-ghost use Rattle.std.specs.Prelude.{◌≡◌, ℕ, ◌≤◌, IfSome, IfNone};
-ghost use Rattle.go_base.specs.Int.{SpellsInt, int_of};
+ghost use Rattle.std.specs.Prelude.{◌≡◌, ℕ, IfSome, IfNone};
+ghost use Rattle.go_base.specs.Int.{SpellsInt, int_of, written_int};
+
+use arrayvec::ArrayVec;
 
 /// The greatest int of the protocol.
 const INT_MAX: u32 = 2_147_483_647;
@@ -26,4 +28,17 @@ pub fn read_int(text: &[u8]) -> Option<u32>
         value = value * 10 + digit;
     }
     Some(value)
+}
+
+/// Writes a number in decimal, without leading zeros. Up to 2,147,483,647 this is the written spelling of an int.
+pub fn write_int(number: u32) -> ArrayVec<u8, 10>
+    ensures { result.items ≡ written_int number }
+{
+    let mut text = if number < 10 {
+        ArrayVec::new()
+    } else {
+        write_int(number / 10)
+    };
+    text.push(b'0' + (number % 10) as u8);
+    text
 }

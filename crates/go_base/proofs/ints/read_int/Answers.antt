@@ -1,6 +1,5 @@
-use Rattle.std.proofs.Common.{◌≡◌, ℕ, ◌≤◌, ◌+◌, ◌-◌, ◌<◌, arith, sym, take, get_or, ◌∙◌, length}
+use Rattle.std.proofs.Common.{◌+◌, arith, sym, get_or, ◌∙◌}
 use Rattle.std.proofs.lemmas.Bool.Decides.{nat_tests}
-use Rattle.go_base.specs.Int.{SpellsInt}
 use Rattle.go_base.proofs.IntLemmas.{int_of_spelled, int_of_unspelled, other_byte_spells_none, large_spells_none, next_digit, digit_bounds, not_digit_bounds, whole_spelled}
 use Rattle.go_base.proofs.ints.read_int.Goals as goal
 
@@ -29,5 +28,5 @@ loop-byte-preserved c =
 pub returns-clause-value : goal.returns-clause-value
 returns-clause-value c =
     sym (int_of_spelled c.loop-byte.value c.args.text.now
-        (whole_spelled c.args.text.now c.loop-byte.byte-index c.loop-byte.value (grind (arith, nat_tests)) (omega arith)
-            c.loop-byte.invariant.digits c.loop-byte.invariant.value c.loop-byte.invariant.limit))
+    (whole_spelled c.args.text.now c.loop-byte.byte-index c.loop-byte.value (grind (arith, nat_tests)) (omega arith)
+    c.loop-byte.invariant.digits c.loop-byte.invariant.value c.loop-byte.invariant.limit))

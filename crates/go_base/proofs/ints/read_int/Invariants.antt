@@ -1,4 +1,4 @@
-use Rattle.std.proofs.Common.{◌≡◌, ℕ, ◌≤◌, ◌+◌, take}
+use Rattle.std.proofs.Common.{◌≡◌, ◌≤◌, take}
 use Rattle.std.specs.Str.Parse.{AllDigits, digits_value}
 use Rattle.go_base.proofs.ints.read_int.Given as goal
 
@@ -7,5 +7,5 @@ abbrev pub invariant-loop-byte : goal.invariant-loop-byte
 invariant-loop-byte l = record {
   digits : AllDigits 10 (take l.byte-index l.text);
   value : digits_value 10 (take l.byte-index l.text) ≡ l.value;
-  limit : l.value ≤ 2147483647
+  limit : l.value ≤ 2147483647;
 }
