@@ -5,6 +5,7 @@ use Rattle.std.proofs.Math.ListN.{get_or-append}
 use Rattle.std.proofs.lemmas.List.{get_or_default}
 use Rattle.std.proofs.lemmas.List.Elements.{All-push, All-nil, All-contains, Contains-append_left}
 use Rattle.go_base.specs.Point.{Neighbours, IsOn}
+use Rattle.go_base.specs.Size.{size_max}
 use Rattle.go_board.specs.Board.{at, IsFramed}
 use Rattle.go_board.specs.Chain.{Joined, itself, by_way_of, HasBeside, Touches}
 use Rattle.go_board.specs.Flood.{IsSpread, IsSeeded, AreTouching}
@@ -15,7 +16,7 @@ use Rattle.go_board.specs.declared.board.Cell.TheVariants.{Edge}
 pub record IsSought (board : List Cell) (sought wanted : Cell) (p : ℕ) : Type 0 where
   pub holds : at board p ≡ sought
   pub touches : Touches board p wanted
-  pub on_board : IsOn 25 p
+  pub on_board : IsOn size_max p
 
 -- all found are sought, and each place below n that is beside what is wanted was found
 pub record IsSown (board : List Cell) (sought wanted : Cell) (n : ℕ) (found : List ℕ) : Type 0 where
@@ -46,7 +47,7 @@ pub record IsInside (p : ℕ) : Type 0 where
   pub low : 27 ≤ p
   pub high : p < 676
 
-pub IsOn-inside : (p : ℕ) → IsOn 25 p → IsInside p
+pub IsOn-inside : (p : ℕ) → IsOn size_max p → IsInside p
 IsOn-inside p on =
     let a = on.left in let b = on.right in let c = on.bottom in let d = on.top in
     record { low = omega arith; high = omega arith }

@@ -5,6 +5,7 @@ use Rattle.std.specs.List.{fold}
 use Rattle.std.proofs.Math.ListN.{set, length-set}
 use Rattle.std.proofs.lemmas.List.Sums.{fold_more}
 use Rattle.go_base.specs.Point.{IsOn}
+use Rattle.go_base.specs.Size.{size_max}
 use Rattle.go_base.specs.Handicap.{handicap_points, AllowsHandicap}
 use Rattle.go_board.specs.Board.{at, empty_board, with_black, HasSize, IsFramed, SameEdge}
 use Rattle.go_board.specs.Game.{start}
@@ -22,7 +23,7 @@ pub IsAdding-none : (board : List Cell) → IsAdding board [] board
 IsAdding-none board = record { length_is = refl; cells_are = refl; same_edge = record { kept = λ p e. e; back = λ p e. e } }
 
 pub IsAdding-more : (board : List Cell) (points : List ℕ) (k p : ℕ) (cells : List Cell) → IsFramed board → k < length points → p ≡ get_or points k p
-    → All (λ q. at board q ≢ Edge) points → IsOn 25 p → IsAdding board (take k points) cells → IsAdding board (take (k + 1) points) (set cells p Black)
+    → All (λ q. at board q ≢ Edge) points → IsOn size_max p → IsAdding board (take k points) cells → IsAdding board (take (k + 1) points) (set cells p Black)
 IsAdding-more board points k p cells framed below is on_board inside a =
     let long = a.length_is in
     let len = framed.length_is in
@@ -44,3 +45,18 @@ IsFramed-same_edge old new long same framed = record {
   length_is = long ∙ framed.length_is;
   inside = λ p held. framed.inside p (λ e. held (same.kept p e));
 }
+
+start-none : (size : ℕ) → start size 0 ≡ empty_board size
+unfolding start handicap_points
+start-none size = refl
+
+-- where no handicap is allowed and one may be asked for, there is none
+pub start-not_allowed : (size stones : ℕ) → (stones ≡ 0) ⊎ AllowsHandicap size stones → ¬ AllowsHandicap size stones → empty_board size ≡ start size stones
+start-not_allowed size stones (inl none) out = sym (start-none size) ∙ sym (ap (start size) none)
+start-not_allowed size stones (inr allowed) out = absurd (out allowed)
+
+pub start-from_points : (size stones : ℕ) (points : List ℕ) (cells empty : List Cell) → cells ≡ with_black empty points → empty ≡ empty_board size → points ≡ handicap_points size stones
+    → cells ≡ start size stones
+unfolding start
+start-from_points size stones points cells empty is is_empty are =
+    is ∙ ap (λ b. with_black b points) is_empty ∙ ap (with_black (empty_board size)) are

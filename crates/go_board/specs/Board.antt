@@ -4,6 +4,7 @@
 use Rattle.std.specs.Prelude.{◌≡◌, ◌≢◌, ℕ, ◌&&◌, ◌↔◌, nat_le, if◌then◌else◌, Bool, List, length, map, slice_index_or, slice_set, Option, Some, None}
 use Rattle.std.specs.List.{range_with_len, fold}
 use Rattle.go_base.specs.Point.{column_of, row_of, IsOn}
+use Rattle.go_base.specs.Size.{size_max}
 use Rattle.go_base.specs.declared.colours.Colour.{Colour}
 use Rattle.go_base.specs.declared.colours.Colour.TheVariants as colour
 use Rattle.go_board.specs.declared.board.Cell.{Cell}
@@ -61,7 +62,7 @@ HasSize size board = (p : ℕ) → (at board p ≢ Edge) ↔ IsOn size p
 -- a list of places with edge round the points of the largest board
 pub record IsFramed (board : List Cell) : Type 0 where
   pub length_is : length board ≡ place_count
-  pub inside : (p : ℕ) → at board p ≢ Edge → IsOn 25 p
+  pub inside : (p : ℕ) → at board p ≢ Edge → IsOn size_max p
 
 -- the same places hold edge
 pub record SameEdge (old new : List Cell) : Type 0 where

@@ -1,8 +1,9 @@
 -- A game is its size, komi, handicap and moves: its board and what is legal next are made from the whole list of moves.
-use Rattle.std.specs.Prelude.{◌≡◌, ℕ, ℤ, ◌≤ℤ◌, ◌-◌, ◌≤◌, ◌<◌, ◌⊎◌, List, [], ◌∷◌, ◌++◌, length, take, slice_get, Some}
+use Rattle.std.specs.Prelude.{◌≡◌, ℕ, ℤ, ◌-◌, ◌≤◌, ◌<◌, ◌⊎◌, List, [], ◌∷◌, ◌++◌, length, take, slice_get, Some}
 use Rattle.std.specs.List.{fold}
 use Rattle.go_base.specs.Handicap.{handicap_points, AllowsHandicap}
-use Rattle.go_base.specs.Komi.{least_komi, most_komi}
+use Rattle.go_base.specs.Komi.{IsKomi}
+use Rattle.go_base.specs.Size.{IsSize}
 use Rattle.go_base.specs.declared.colours.Colour.{Colour}
 use Rattle.go_base.specs.declared.vertices.Vertex.{Vertex}
 use Rattle.go_base.specs.declared.vertices.Vertex.TheVariants.{Pass, At}
@@ -82,10 +83,8 @@ IsLegal game c (At p) = IsLegalPlay game c p
 
 -- size, komi and handicap are in their limits, and each move is legal in the game of the moves before it
 pub record IsGame (game : GameRecord) : Type 0 where
-  pub smallest : 1 ≤ game.size
-  pub largest : game.size ≤ 25
-  pub least : least_komi ≤ℤ game.komi
-  pub most : game.komi ≤ℤ most_komi
+  pub size : IsSize game.size
+  pub komi : IsKomi game.komi
   pub handicap : (game.handicap ≡ 0) ⊎ AllowsHandicap game.size game.handicap
   pub few : length game.moves ≤ most_moves
   pub legal : (k : ℕ) (move : Move) → slice_get game.moves k ≡ Some move → IsLegal (first_moves k game) move.colour move.vertex

@@ -1,6 +1,7 @@
 //! A board as an array of places with edge round the points.
 ghost use Rattle.std.specs.Prelude.{◌≡◌, ◌≢◌, ℕ, ◌<◌, ◌≤◌, ◌↔◌, ◌⊎◌, if◌then◌else◌, IsTrue, All};
 ghost use Rattle.go_base.specs.Point.{IsOn};
+ghost use Rattle.go_base.specs.Size.{size_max};
 ghost use Rattle.go_board.specs.Board.{is_point};
 
 use crate::places::Places;
@@ -54,7 +55,7 @@ impl Cell {
 #[inline]
 pub fn place_of(point: Point) -> usize
     ensures value { result ≡ point }
-    ensures point { IsOn 25 result }
+    ensures point { IsOn size_max result }
 {
     ROW * point.row() as usize + point.column() as usize
 }
@@ -169,7 +170,7 @@ impl Board {
     /// Whether a neighbour of a point holds this.
     #[inline]
     fn has_beside(&self, place: usize, wanted: Cell) -> bool
-        requires { IsOn 25 place }
+        requires { IsOn size_max place }
         ensures { IsTrue result ↔ HasBeside self.now place wanted }
     {
         self.cells[place + 1] == wanted
@@ -214,7 +215,7 @@ impl Board {
 
     /// Whether the chain of the stone of this colour on a point has a liberty.
     pub fn is_free(&self, colour: Colour, place: usize) -> bool
-        requires point { IsOn 25 place }
+        requires point { IsOn size_max place }
         requires stone { at self.now place ≡ stone colour }
         ensures { IsTrue result ↔ IsFree self.now place }
     {

@@ -10,7 +10,7 @@ returns-clause-board c =
     ∙ ap empty_board c.get-lines.ensures.value
 
 few : (c : After-loop-place) → c.args.size ≤ 25
-few c = rw (← c.get-lines.ensures.value) c.get-lines.ensures.most
+few c = c.get-lines.ensures.limits.most
 
 pub returns-clause-size : goal.returns-clause-size
 returns-clause-size c = subst (HasSize c.args.size) (sym (returns-clause-board c)) (HasSize-empty_board c.args.size (few c))
