@@ -1,10 +1,26 @@
 //! Laws of the values and their texts.
 //!
 //! Each function does nothing: that it is proved is the law in its contract.
-ghost use Rattle.go_base.specs.Int.{IntsReadBack, SpellsOneInt};
+ghost use Rattle.go_base.specs.Int.{IntOfTells, IntsReadBack, SpellsOneInt};
+ghost use Rattle.go_base.specs.Colour.{ColourOfTells, ColoursReadBack, SpellsOneColour};
+ghost use Rattle.go_base.specs.Point.{NeighboursAreBeside};
 
 /// A written int is read back, and a text spells at most one int.
 pub fn int_laws()
+    ensures function { IntOfTells }
     ensures read_back { IntsReadBack }
     ensures one { SpellsOneInt }
+{}
+
+/// A written colour is read back, and a text spells at most one colour.
+pub fn colour_laws()
+    ensures function { ColourOfTells }
+    ensures read_back { ColoursReadBack }
+    ensures one { SpellsOneColour }
+{}
+
+/// Two points of the largest board are neighbours on the mailbox board exactly where they share a column or a row and stand
+/// next to each other.
+pub fn neighbours_law()
+    ensures { NeighboursAreBeside }
 {}

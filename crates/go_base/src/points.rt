@@ -1,0 +1,95 @@
+//! Points of a board.
+ghost use Rattle.std.specs.Prelude.{◌≡◌, ◌↔◌, IsTrue, IsSome, IfSome};
+ghost use Rattle.go_base.specs.Size.{size_max};
+ghost use Rattle.go_base.specs.Point.{point, column_of, row_of, IsCrossing, IsOn};
+
+use crate::sizes::Size;
+use std::marker::Model;
+
+/// The greatest column and the greatest row of a point.
+const LINE_MAX: u32 = 25;
+
+/// A point of the largest board: where a column and a row cross, both from 1 to 25. A1, in the lower left corner, is
+/// column 1 and row 1.
+///
+/// A contract sees it as its place on a mailbox board of 26 to a row: `26 * row + column`. Such a board is one array, with
+/// the rows one behind the other from the bottom up and one place more to a row than the largest board has columns. That
+/// place and the rows below and above hold no point, so the four neighbours of every point, on any edge, are the places
+/// one less, one more, 26 less and 26 more, and no step leads from the end of one row to the start of the next.
+#[derive(Clone, Copy, Debug, PartialEq, Eq)]
+pub struct Point {
+    column: u32,
+    row: u32,
+}
+
+impl Model for Point {
+    ghost use Rattle.std.specs.Prelude.{ℕ};
+    ghost use Rattle.std.proofs.Common.{arith};
+    ghost use Rattle.go_base.specs.Point.{point, column_of, row_of, IsCrossing};
+
+    ghost Value = { ℕ };
+
+    ghost view = { λ p. point p.column p.row };
+
+    ghost invariant = { λ p. IsCrossing p.column p.row };
+
+    ghost inverse = { λ n. record { column = column_of n; row = row_of n } };
+
+    ghost inverse_ok = { λ a h. Prim.grind arith };
+}
+
+impl Point {
+    /// The point where a column and a row cross, where both are 1 to 25.
+    pub fn new(column: u32, row: u32) -> Option<Point>
+        ensures limits { IsSome result ↔ IsCrossing column row }
+        ensures value { IfSome result (λ p. p ≡ point column row) }
+    {
+        if !(1..=LINE_MAX).contains(&column) || !(1..=LINE_MAX).contains(&row) {
+            return None;
+        }
+        Some(Point { column, row })
+    }
+
+    /// The point where a column and a row cross.
+    pub(crate) fn crossing(column: u32, row: u32) -> Point
+        requires { IsCrossing column row }
+        ensures { result ≡ point column row }
+    {
+        Point { column, row }
+    }
+
+    /// The column, 1 to 25, counted from the left.
+    pub fn column(self) -> u32
+        ensures value { result ≡ column_of self }
+        ensures limits { IsOn size_max self }
+    {
+        self.column
+    }
+
+    /// The row, 1 to 25, counted from the bottom.
+    pub fn row(self) -> u32
+        ensures value { result ≡ row_of self }
+        ensures limits { IsOn size_max self }
+    {
+        self.row
+    }
+
+    /// Whether a board of that size has the point.
+    pub fn on(self, size: Size) -> bool
+        ensures { IsTrue result ↔ IsOn size self }
+    {
+        self.column <= size.get() && self.row <= size.get()
+    }
+}
+
+impl Default for Point {
+    ghost use Rattle.std.specs.Prelude.{◌≡◌};
+    ghost use Rattle.go_base.specs.Point.{point};
+
+    ghost is_default = { λ p. p ≡ point 1 1 };
+
+    /// A1.
+    fn default() -> Point {
+        Point { column: 1, row: 1 }
+    }
+}

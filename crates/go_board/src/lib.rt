@@ -1,0 +1,10 @@
+//!
+//! A [`Game`] is seen by its callers as the record of its size, komi, handicap and moves. Its board, what each colour
+//! has taken and what may be played next are functions of that record (`specs/Game.antt`).
+#![tactic(auto)]
+
+mod board;
+mod faults;
+mod places;
+
+pub use faults::{HandicapFault, NothingToUndo, PlayFault};
