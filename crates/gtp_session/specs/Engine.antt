@@ -1,25 +1,29 @@
 -- An engine: what it holds, and how it answers a text.
-use Rattle.std.specs.Prelude.{◌≡◌, ℕ, Bool, true, false, List, [], ◌∷◌, ◌++◌, map, Option, None, Some}
+use Rattle.std.specs.Prelude.{◌≡◌, ℕ, Bool, true, false, List, [], ◌∷◌, ◌++◌, map, Option, None, Some, pos}
 use Rattle.std.specs.List.{concat}
 use Rattle.arrayvec.specs.ArrayVec.{ArrayVec}
 use Rattle.gtp_wire.specs.declared.lines.Line.{Line}
 use Rattle.gtp_wire.specs.Lines.{lines}
 use Rattle.gtp_wire.specs.Replies.{written_reply}
-use Rattle.gtp_session.specs.Commands.{response, id_of}
+use Rattle.go_board.specs.Game.{GameRecord}
+use Rattle.gtp_session.specs.Commands.{answer, id_of}
 
--- An engine: the text that it was given and has not read as lines, its policy, and whether its session has ended.
+-- An engine: the text that it was given and has not read as lines, its game, its policy, and whether its session has
+-- ended.
 pub record Engine (P : Type 0) : Type 0 where
   pub rest : List ℕ
+  pub game : GameRecord
   pub policy : P
   pub ended : Bool
 
 -- What an engine has beside that text.
 pub record State (P : Type 0) : Type 0 where
+  pub game : GameRecord
   pub policy : P
   pub ended : Bool
 
 abbrev pub state_of : {P : Type 0} → Engine P → State P
-state_of engine = record { policy = engine.policy; ended = engine.ended }
+state_of engine = record { game = engine.game; policy = engine.policy; ended = engine.ended }
 
 -- What a policy may do when it is asked: its state before and its state after.
 abbrev pub May : Type 0 → Type 1
@@ -37,8 +41,9 @@ output_of replies = concat (map (λ reply. reply.text) replies)
 -- One line is answered with this reply. No command asks the policy, so it stays as it is.
 pub record Step {P : Type 0} (may : May P) (old : State P) (line : Line) (reply : WrittenReply) (new : State P) : Type 0 where
   pub policy : new.policy ≡ old.policy
-  pub ended : new.ended ≡ (response line).ended
-  pub text : reply.text ≡ written_reply (response line).ok (id_of line) (response line).text
+  pub game : new.game ≡ (answer old.game line).game
+  pub ended : new.ended ≡ (answer old.game line).ended
+  pub text : reply.text ≡ written_reply (answer old.game line).ok (id_of line) (answer old.game line).text
   pub genmove : reply.genmove ≡ false
 
 module _ {P : Type 0} (may : May P) where
@@ -60,6 +65,13 @@ pub record Replies {P : Type 0} (may : May P) (old : Engine P) (text : List ℕ)
 -- The engine reads the text and writes out.
 abbrev pub Engages : {P : Type 0} → May P → Engine P → List ℕ → Engine P → List ℕ → Type 0
 Engages may old text new out = (replies : List WrittenReply) × Replies may old text new replies × (out ≡ output_of replies)
+
+-- An engine that was given nothing: size 19, komi 0, no handicap and no moves.
+abbrev pub fresh_game : GameRecord
+fresh_game = record { size = 19; komi = pos 0; handicap = 0; moves = [] }
+
+abbrev pub fresh : {P : Type 0} → P → Engine P
+fresh policy = record { rest = []; game = fresh_game; policy = policy; ended = false }
 
 -- the text ends with an LF, and nothing is answered before that
 pub record StopsAtLine {P : Type 0} (may : May P) (old : Engine P) (text : List ℕ) : Type 0 where
