@@ -1,22 +1,22 @@
 -- The engine's commands, and what each of them does to the game and answers.
-use Rattle.std.specs.Prelude.{ℕ, ◌+◌, Bool, true, false, ◌&&◌, nat_le, List, [], ◌∷◌, length, map, find, slice_get, Option, Some, None, is_some, option_and_then, if◌then◌else◌, codes}
+use Rattle.std.specs.Prelude.{◌≡◌, ℕ, ℤ, ◌+◌, Bool, true, false, ◌&&◌, nat_le, List, [], ◌∷◌, length, map, find, slice_get, Option, Some, None, is_some, option_and_then, if◌then◌else◌, codes}
 use Rattle.std.specs.List.{join_with_byte}
 use Rattle.std.specs.Str.{bytes_eq}
 use Rattle.go_base.specs.Int.{int_of}
 use Rattle.go_base.specs.Size.{size_max}
 use Rattle.go_base.specs.Colour.{colour_of}
 use Rattle.go_base.specs.Vertex.{vertex_of, written_vertex}
-use Rattle.go_base.specs.Komi.{komi_of}
 use Rattle.go_base.specs.Handicap.{handicap_points}
 use Rattle.go_base.specs.declared.colours.Colour.{Colour}
 use Rattle.go_base.specs.declared.vertices.Vertex.{Vertex}
 use Rattle.go_base.specs.declared.vertices.Vertex.TheVariants.{At}
 use Rattle.go_board.specs.Game.{GameRecord, most_moves, with_move, without_last, legal?}
-use Rattle.go_board.specs.Show.{shown}
+use Rattle.gtp_session.specs.Decide.{touched?, allows?}
+use Rattle.gtp_wire.specs.Replies.{written_reply}
 use Rattle.gtp_wire.specs.declared.lines.Line.{Line}
 use Rattle.gtp_wire.specs.declared.lines.Line.TheVariants as line
 use Rattle.gtp_session.specs.declared.commands.CommandName.{CommandName}
-use Rattle.gtp_session.specs.declared.commands.CommandName.TheVariants.{ProtocolVersion, Name, Version, KnownCommand, ListCommands, Quit, Boardsize, ClearBoard, Komi, Play, FixedHandicap, Undo, Showboard}
+use Rattle.gtp_session.specs.declared.commands.CommandName.TheVariants.{ProtocolVersion, Name, Version, KnownCommand, ListCommands, Quit, Boardsize, ClearBoard, Play, FixedHandicap, Undo}
 
 -- A command's name. (The standard, administrative, setup, core play and debug commands.)
 abbrev pub spelled : CommandName → List ℕ
@@ -28,44 +28,41 @@ spelled ListCommands = codes "list_commands"
 spelled Quit = codes "quit"
 spelled Boardsize = codes "boardsize"
 spelled ClearBoard = codes "clear_board"
-spelled Komi = codes "komi"
 spelled Play = codes "play"
 spelled FixedHandicap = codes "fixed_handicap"
 spelled Undo = codes "undo"
-spelled Showboard = codes "showboard"
 
 -- all of them, in the order in which `list_commands` names them (own)
 abbrev pub all_commands : List CommandName
 all_commands =
-    ProtocolVersion ∷ Name ∷ Version ∷ KnownCommand ∷ ListCommands ∷ Quit ∷ Boardsize ∷ ClearBoard ∷ Komi ∷ Play
-    ∷ FixedHandicap ∷ Undo ∷ Showboard ∷ []
+    ProtocolVersion ∷ Name ∷ Version ∷ KnownCommand ∷ ListCommands ∷ Quit ∷ Boardsize ∷ ClearBoard ∷ Play
+    ∷ FixedHandicap ∷ Undo ∷ []
 
 -- the command of this name, where there is one; case matters
 abbrev pub command_named : List ℕ → Option CommandName
 command_named word = find (λ command. bytes_eq (spelled command) word) all_commands
 
--- What is answered to a line: the game after it, success or failure, the text of the reply, and whether the session
--- ends. (The standard, response structure.)
+-- What is answered to a line: the game after it, success or failure, and the text of the reply. (The standard, response
+-- structure.)
 pub record Answer : Type 0 where
   pub game : GameRecord
   pub ok : Bool
   pub text : List ℕ
-  pub ended : Bool
 
 -- a success that leaves this game
 abbrev pub succeeds : GameRecord → List ℕ → Answer
-succeeds game text = record { game = game; ok = true; text = text; ended = false }
+succeeds game text = record { game = game; ok = true; text = text }
 
 -- a failure, which leaves the game as it was
 abbrev pub fails : GameRecord → List ℕ → Answer
-fails game text = record { game = game; ok = false; text = text; ended = false }
+fails game text = record { game = game; ok = false; text = text }
 
 -- a missing argument, or one that can't be read
 abbrev pub syntax_error : GameRecord → Answer
 syntax_error game = fails game (codes "syntax error")
 
--- The words of a line from the command's name on; an argument of it, numbered from 1, that is read as a value. Surplus
--- arguments are ignored (own).
+-- A word of a line that is read as a value, where there is one: word 0 is the command's name, and its arguments are the
+-- words from 1 on. Surplus arguments are ignored (own).
 abbrev pub argument : {V : Type 0} → (List ℕ → Option V) → List (List ℕ) → ℕ → Option V
 argument value_of words number = option_and_then (slice_get words number) value_of
 
@@ -121,23 +118,25 @@ answer_to game Name words = succeeds game (codes "stepgo")
 answer_to game Version words = succeeds game (codes "1.0")
 answer_to game KnownCommand words = answer_known game (slice_get words 1)
 answer_to game ListCommands words = succeeds game (join_with_byte 10 (map spelled all_commands))
-answer_to game Quit words = record { game = game; ok = true; text = []; ended = true }
+answer_to game Quit words = succeeds game []
 answer_to game Boardsize words = answer_boardsize game (argument int_of words 1)
 answer_to game ClearBoard words = succeeds (record game { handicap = 0; moves = [] }) []
-answer_to game Komi words = answer_komi game (argument komi_of words 1)
 answer_to game Play words = answer_play game (argument colour_of words 1) (argument vertex_of words 2)
 answer_to game FixedHandicap words = answer_handicap game (argument int_of words 1)
 answer_to game Undo words = answer_undo game
-answer_to game Showboard words = succeeds game (shown game)
 
 -- a command that is named, or an unknown one (the standard, standard error messages)
 abbrev pub answer_to_named : GameRecord → Option CommandName → List (List ℕ) → Answer
 answer_to_named game (Some command) words = answer_to game command words
 answer_to_named game None words = fails game (codes "unknown command")
 
+-- the command that the words of a line name, where they name one
+abbrev pub command_of : List (List ℕ) → Option CommandName
+command_of words = argument command_named words 0
+
 -- the words of a line after its id; a line with an id alone is an unknown command (own)
 abbrev pub answer_to_words : GameRecord → List (List ℕ) → Answer
-answer_to_words game words = answer_to_named game (option_and_then (slice_get words 0) command_named) words
+answer_to_words game words = answer_to_named game (command_of words) words
 
 -- a line; one that is too long is a syntax error (own)
 abbrev pub answer : GameRecord → Line → Answer
@@ -148,3 +147,27 @@ answer game (line.Command command_line) = answer_to_words game command_line.word
 abbrev pub id_of : Line → Option ℕ
 id_of line.TooLong = None
 id_of (line.Command command_line) = command_line.id
+
+abbrev pub is_quit : Option CommandName → Bool
+is_quit (Some Quit) = true
+is_quit (Some ProtocolVersion) = false
+is_quit (Some Name) = false
+is_quit (Some Version) = false
+is_quit (Some KnownCommand) = false
+is_quit (Some ListCommands) = false
+is_quit (Some Boardsize) = false
+is_quit (Some ClearBoard) = false
+is_quit (Some Play) = false
+is_quit (Some FixedHandicap) = false
+is_quit (Some Undo) = false
+is_quit None = false
+
+-- whether the session ends with the line: it is a `quit`
+abbrev pub ends : Line → Bool
+ends line.TooLong = false
+ends (line.Command command_line) = is_quit (command_of command_line.words)
+
+-- The answer was given: this is the game after it, and these are the bytes of the reply.
+pub record Leaves (given : Answer) (id : Option ℕ) (game : GameRecord) (reply : List ℕ) : Type 0 where
+  pub game_is : game ≡ given.game
+  pub reply_is : reply ≡ written_reply given.ok id given.text

@@ -6,7 +6,7 @@ use Rattle.gtp_wire.specs.declared.lines.Line.{Line}
 use Rattle.gtp_wire.specs.Lines.{lines}
 use Rattle.gtp_wire.specs.Replies.{written_reply}
 use Rattle.go_board.specs.Game.{GameRecord}
-use Rattle.gtp_session.specs.Commands.{answer, id_of}
+use Rattle.gtp_session.specs.Commands.{answer, id_of, ends}
 
 -- An engine: the text that it was given and has not read as lines, its game, its policy, and whether its session has
 -- ended.
@@ -42,7 +42,7 @@ output_of replies = concat (map (λ reply. reply.text) replies)
 pub record Step {P : Type 0} (may : May P) (old : State P) (line : Line) (reply : WrittenReply) (new : State P) : Type 0 where
   pub policy : new.policy ≡ old.policy
   pub game : new.game ≡ (answer old.game line).game
-  pub ended : new.ended ≡ (answer old.game line).ended
+  pub ended : new.ended ≡ ends line
   pub text : reply.text ≡ written_reply (answer old.game line).ok (id_of line) (answer old.game line).text
   pub genmove : reply.genmove ≡ false
 

@@ -1,20 +1,20 @@
 //! What each command does to the game and answers: the table of the commands.
-ghost use Rattle.std.specs.Prelude.{◌≡◌, true, false, [], slice_get, option_and_then};
+ghost use Rattle.std.specs.Prelude.{◌≡◌, true, false, codes, slice_get};
 ghost use Rattle.go_base.specs.Int.{int_of};
 ghost use Rattle.go_base.specs.Colour.{colour_of};
 ghost use Rattle.go_base.specs.Vertex.{vertex_of};
-ghost use Rattle.go_base.specs.Komi.{komi_of};
+ghost use Rattle.go_board.specs.Game.{GameRecord};
 ghost use Rattle.gtp_wire.specs.Replies.{IsReplyText, written_reply};
-ghost use Rattle.gtp_session.specs.Commands.{Leaves, command_named, argument, id_of, ends, answer, answer_to, answer_to_words, answer_known, answer_boardsize, answer_komi, answer_play, answer_handicap, answer_undo};
+ghost use Rattle.gtp_session.specs.Commands.{Leaves, command_named, argument, id_of, ends, answer, answer_to, answer_to_words, answer_known, answer_boardsize, answer_komi, answer_play, answer_handicap, answer_undo, answer_move, is_quit, written_points};
 
 use crate::commands::CommandName;
-use go_base::{Colour, Komi, Point, Size, Vertex, read_int};
+use go_base::{Colour, Point, Size, Vertex, read_int};
 use go_board::{Game, HandicapFault, PlayFault};
 use gtp_wire::{CommandLine, Line, ReplyText, write_reply_into};
 use arrayvec::ArrayVec;
 
 /// What `list_commands` answers: the names of the commands, a line each.
-static NAMES: &[u8] = b"protocol_version\nname\nversion\nknown_command\nlist_commands\nquit\nboardsize\nclear_board\nkomi\nplay\nfixed_handicap\nundo\nshowboard";
+static NAMES: &[u8] = b"protocol_version\nname\nversion\nknown_command\nlist_commands\nquit\nboardsize\nclear_board\nplay\nfixed_handicap\nundo";
 
 /// Executes a line, puts the reply in place of what `reply` holds, and tells whether the session ends.
 pub(crate) fn answer(game: &mut Game, line: &Line, reply: &mut ReplyText) -> bool
@@ -60,11 +60,9 @@ fn execute(command: CommandName, game: &mut Game, line: &CommandLine, reply: &mu
         CommandName::Quit => success(line, reply, b""),
         CommandName::Boardsize => boardsize(game, line, reply),
         CommandName::ClearBoard => clear_board(game, line, reply),
-        CommandName::Komi => komi(game, line, reply),
         CommandName::Play => play(game, line, reply),
         CommandName::FixedHandicap => fixed_handicap(game, line, reply),
         CommandName::Undo => undo(game, line, reply),
-        CommandName::Showboard => showboard(game, line, reply),
     }
 }
 
@@ -123,18 +121,6 @@ fn clear_board(game: &mut Game, line: &CommandLine, reply: &mut ReplyText)
     success(line, reply, b"");
 }
 
-fn komi(game: &mut Game, line: &CommandLine, reply: &mut ReplyText)
-    ensures { Leaves (answer_komi game.old (argument komi_of line.now.words 1)) line.now.id game.new reply.new.items }
-{
-    match line.word(1).and_then(Komi::read) {
-        None => syntax_error(line, reply),
-        Some(komi) => {
-            game.set_komi(komi);
-            success(line, reply, b"");
-        }
-    }
-}
-
 fn play(game: &mut Game, line: &CommandLine, reply: &mut ReplyText)
     ensures { Leaves (answer_play game.old (argument colour_of line.now.words 1) (argument vertex_of line.now.words 2)) line.now.id game.new reply.new.items }
 {
@@ -179,8 +165,3 @@ fn undo(game: &mut Game, line: &CommandLine, reply: &mut ReplyText)
     }
 }
 
-fn showboard(game: &Game, line: &CommandLine, reply: &mut ReplyText)
-    ensures { Leaves (answer_to game.now CommandName.Showboard line.now.words) line.now.id game.now reply.new.items }
-{
-    success(line, reply, &game.show());
-}

@@ -13,15 +13,13 @@ pub enum CommandName {
     Quit,
     Boardsize,
     ClearBoard,
-    Komi,
     Play,
     FixedHandicap,
     Undo,
-    Showboard,
 }
 
 /// The commands, in the order in which `list_commands` names them.
-static COMMANDS: [CommandName; 13] = [
+static COMMANDS: [CommandName; 11] = [
     CommandName::ProtocolVersion,
     CommandName::Name,
     CommandName::Version,
@@ -30,11 +28,9 @@ static COMMANDS: [CommandName; 13] = [
     CommandName::Quit,
     CommandName::Boardsize,
     CommandName::ClearBoard,
-    CommandName::Komi,
     CommandName::Play,
     CommandName::FixedHandicap,
     CommandName::Undo,
-    CommandName::Showboard,
 ];
 
 impl CommandName {
@@ -61,11 +57,9 @@ impl CommandName {
             CommandName::Quit => b"quit",
             CommandName::Boardsize => b"boardsize",
             CommandName::ClearBoard => b"clear_board",
-            CommandName::Komi => b"komi",
             CommandName::Play => b"play",
             CommandName::FixedHandicap => b"fixed_handicap",
             CommandName::Undo => b"undo",
-            CommandName::Showboard => b"showboard",
         }
     }
 }

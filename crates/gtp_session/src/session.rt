@@ -1,12 +1,13 @@
 //! A session of an engine.
 ghost use Rattle.std.specs.Prelude.{◌≡◌, ℕ, ◌≤◌, List, [], ◌++◌, length, take, Bool, true, false, IsTrue, IfSome};
-ghost use Rattle.go_base.specs.Int.{int_max};
 ghost use Rattle.gtp_wire.specs.Lines.{lines};
-ghost use Rattle.gtp_session.specs.Commands.{id_of};
+ghost use Rattle.gtp_session.specs.Engine.{fresh_game};
 
-use crate::commands::Response;
+use crate::answers::answer;
 use crate::policy::{NoMoves, Policy};
-use gtp_wire::{Line, LineFed, LineReader, ReplyText, write_reply_into};
+use go_base::{Komi, Size};
+use go_board::Game;
+use gtp_wire::{LineFed, LineReader, ReplyText};
 use std::marker::Model;
 
 /// What a session did with a piece of its input.
@@ -35,6 +36,7 @@ pub struct Taken {
 #[derive(Drop)]
 pub struct Session<P: Policy> {
     reader: LineReader,
+    game: Game,
     policy: P,
     ended: bool,
 }
@@ -46,26 +48,46 @@ impl<P: Policy> Model for Session<P> {
 
     ghost Value = { Engine P };
 
-    ghost view = { λ s. record { rest = s.reader; policy = s.policy; ended = s.ended } };
+    ghost view = { λ s. record { rest = s.reader; game = s.game; policy = s.policy; ended = s.ended } };
 
     ghost invariant = { λ s. lines s.reader ≡ [] };
 }
 
 impl Session<NoMoves> {
-    /// A session that was given nothing.
+    ghost use Rattle.gtp_session.specs.Engine.{fresh};
+
+    /// A session that was given nothing: size 19, komi 0, no handicap and no moves.
     pub fn new() -> Self
-        ensures { result ≡ record { rest = []; policy = record {}; ended = false } }
+        ensures { result ≡ fresh (record {}) }
     {
         Session {
             reader: LineReader::new(),
+            game: fresh_game(),
             policy: NoMoves,
             ended: false,
         }
     }
 }
 
+/// The game of a session that was given nothing.
+fn fresh_game() -> Game
+    ensures { result ≡ fresh_game }
+{
+    match (Size::new(19), Komi::from_half_points(0)) {
+        (Some(size), Some(komi)) => Game::new(size, komi),
+        _ => unreachable!(),
+    }
+}
+
 impl<P: Policy> Session<P> {
     ghost use Rattle.gtp_session.specs.Engine.{Step, Replies, StopsAtLine, state_of, reply_if, replies_of};
+
+    /// The game.
+    pub fn game(&self) -> &Game
+        ensures { result.now ≡ self.now.game }
+    {
+        &self.game
+    }
 
     /// Whether the session has ended.
     pub fn ended(&self) -> bool
@@ -123,34 +145,12 @@ impl<P: Policy> Session<P> {
                 replied: false,
             },
             Some(line) => {
-                self.execute(&line, text);
+                self.ended = answer(&mut self.game, &line, text);
                 Taken {
                     used,
                     replied: true,
                 }
             }
         }
-    }
-
-    /// Answers one line.
-    fn execute(&mut self, line: &Line, text: &mut ReplyText)
-        requires { self.old.ended ≡ false }
-        ensures step { Step P.may (state_of self.old) line.now (record { text = text.new.items; genmove = false }) (state_of self.new) }
-        ensures rest { self.new.rest ≡ self.old.rest }
-    {
-        let response = Response::to(line);
-        self.ended = response.ended();
-        write_reply_into(text, response.ok(), id_of(line), response.text());
-    }
-}
-
-/// The id that the reply repeats.
-fn id_of(line: &Line) -> Option<u32>
-    ensures id { result ≡ id_of line.now }
-    ensures int { IfSome result (λ n. n ≤ int_max) }
-{
-    match line {
-        Line::TooLong => None,
-        Line::Command(command_line) => command_line.id(),
     }
 }
