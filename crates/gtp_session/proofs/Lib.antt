@@ -1,3 +1,5 @@
 pub mod ConversationLemmas
 pub mod CountsLemmas
 pub mod EngineLemmas
+pub mod MoveLemmas
+pub mod PointLemmas

@@ -10,6 +10,8 @@ use Rattle.go_base.specs.Handicap.{handicap_points}
 use Rattle.go_base.specs.declared.colours.Colour.{Colour}
 use Rattle.go_base.specs.declared.vertices.Vertex.{Vertex}
 use Rattle.go_base.specs.declared.vertices.Vertex.TheVariants.{At}
+use Rattle.go_board.specs.declared.faults.PlayFault.{PlayFault}
+use Rattle.go_board.specs.declared.faults.PlayFault.TheVariants.{Full, OffBoard, Occupied, Suicide, Ko}
 use Rattle.go_board.specs.Game.{GameRecord, most_moves, with_move, without_last, legal?}
 use Rattle.gtp_session.specs.Decide.{touched?, allows?}
 use Rattle.gtp_wire.specs.Replies.{written_reply}
@@ -64,7 +66,7 @@ syntax_error game = fails game (codes "syntax error")
 -- A word of a line that is read as a value, where there is one: word 0 is the command's name, and its arguments are the
 -- words from 1 on. Surplus arguments are ignored (own).
 abbrev pub argument : {V : Type 0} → (List ℕ → Option V) → List (List ℕ) → ℕ → Option V
-argument value_of words number = option_and_then (slice_get words number) value_of
+argument value_of words number = option_and_then value_of (slice_get words number)
 
 abbrev pub answer_known : GameRecord → Option (List ℕ) → Answer
 answer_known game None = syntax_error game
@@ -80,6 +82,14 @@ answer_boardsize game (Some size) =
 abbrev pub answer_komi : GameRecord → Option ℤ → Answer
 answer_komi game None = syntax_error game
 answer_komi game (Some komi) = succeeds (record game { komi = komi }) []
+
+-- what is answered to a move that the game refuses
+abbrev pub refusal_text : PlayFault → List ℕ
+refusal_text Full = codes "record full"
+refusal_text OffBoard = codes "illegal move"
+refusal_text Occupied = codes "illegal move"
+refusal_text Suicide = codes "illegal move"
+refusal_text Ko = codes "illegal move"
 
 -- a move of a colour: the record has room, and the move is legal
 abbrev pub answer_move : GameRecord → Colour → Vertex → Answer

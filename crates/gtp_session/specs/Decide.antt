@@ -1,5 +1,5 @@
 -- Decisions of what a handicap needs. The type of a decision says all that there is to know of it.
-use Rattle.std.proofs.Common.{◌≡◌, ℕ, suc, ◌<◌, ◌≤◌, ◌%◌, List, [], ◌∷◌, length, refl, sym, ◌∙◌, arith, inl, inr}
+use Rattle.std.proofs.Common.{◌≡◌, ℕ, zero, suc, ◌<◌, ◌≤◌, ◌%◌, List, [], ◌∷◌, length, refl, sym, ◌∙◌, arith, inl, inr}
 use Rattle.std.specs.Prelude.{◌⊎◌}
 use Rattle.go_base.specs.Handicap.{AllowsHandicap}
 use Rattle.go_base.specs.declared.colours.Colour.TheVariants as colour

@@ -1,11 +1,13 @@
 //! What each command does to the game and answers: the table of the commands.
-ghost use Rattle.std.specs.Prelude.{◌≡◌, true, false, codes, slice_get};
+ghost use Rattle.std.specs.Prelude.{◌≡◌, ◌+◌, ◌≤◌, ◌++◌, length, true, false, codes, slice_get};
 ghost use Rattle.go_base.specs.Int.{int_of};
 ghost use Rattle.go_base.specs.Colour.{colour_of};
-ghost use Rattle.go_base.specs.Vertex.{vertex_of};
+ghost use Rattle.go_base.specs.Vertex.{vertex_of, written_vertex};
+ghost use Rattle.arrayvec.specs.ArrayVec.{array_vec_len};
+ghost use Rattle.go_base.specs.declared.vertices.Vertex.TheVariants.{At};
 ghost use Rattle.go_board.specs.Game.{GameRecord};
 ghost use Rattle.gtp_wire.specs.Replies.{IsReplyText, written_reply};
-ghost use Rattle.gtp_session.specs.Commands.{Leaves, command_named, argument, id_of, ends, answer, answer_to, answer_to_words, answer_known, answer_boardsize, answer_komi, answer_play, answer_handicap, answer_undo, answer_move, is_quit, written_points};
+ghost use Rattle.gtp_session.specs.Commands.{Leaves, command_named, argument, id_of, ends, answer, answer_to, answer_to_words, answer_known, answer_boardsize, answer_komi, answer_play, answer_handicap, answer_undo, answer_move, refusal_text, is_quit, written_points};
 
 use crate::commands::CommandName;
 use go_base::{Colour, Point, Size, Vertex, read_int};
@@ -15,6 +17,9 @@ use arrayvec::ArrayVec;
 
 /// What `list_commands` answers: the names of the commands, a line each.
 static NAMES: &[u8] = b"protocol_version\nname\nversion\nknown_command\nlist_commands\nquit\nboardsize\nclear_board\nplay\nfixed_handicap\nundo";
+
+/// The room for nine vertices and the spaces between them.
+const POINTS_ROOM: usize = 44;
 
 /// Executes a line, puts the reply in place of what `reply` holds, and tells whether the session ends.
 pub(crate) fn answer(game: &mut Game, line: &Line, reply: &mut ReplyText) -> bool
@@ -35,7 +40,7 @@ fn answer_words(game: &mut Game, line: &CommandLine, reply: &mut ReplyText) -> b
     ensures leaves { Leaves (answer_to_words game.old line.now.words) line.now.id game.new reply.new.items }
     ensures ends { result ≡ is_quit (argument command_named line.now.words 0) }
 {
-    match line.word(0).and_then(CommandName::read) {
+    match named_command(line) {
         None => {
             failure(line, reply, b"unknown command");
             false
@@ -89,6 +94,34 @@ fn syntax_error(line: &CommandLine, reply: &mut ReplyText)
     failure(line, reply, b"syntax error");
 }
 
+/// The command that the line names.
+fn named_command(line: &CommandLine) -> Option<CommandName>
+    ensures { result ≡ argument command_named line.now.words 0 }
+{
+    CommandName::read(line.word(0)?)
+}
+
+/// The first argument as an int.
+fn int_argument(line: &CommandLine) -> Option<u32>
+    ensures { result ≡ argument int_of line.now.words 1 }
+{
+    read_int(line.word(1)?)
+}
+
+/// The first argument as a colour.
+fn colour_argument(line: &CommandLine) -> Option<Colour>
+    ensures { result ≡ argument colour_of line.now.words 1 }
+{
+    Colour::read(line.word(1)?)
+}
+
+/// The second argument as a vertex.
+fn vertex_argument(line: &CommandLine) -> Option<Vertex>
+    ensures { result ≡ argument vertex_of line.now.words 2 }
+{
+    Vertex::read(line.word(2)?)
+}
+
 fn known_command(line: &CommandLine, reply: &mut ReplyText)
     ensures { (game : GameRecord) → Leaves (answer_known game (slice_get line.now.words 1)) line.now.id game reply.new.items }
 {
@@ -102,7 +135,7 @@ fn known_command(line: &CommandLine, reply: &mut ReplyText)
 fn boardsize(game: &mut Game, line: &CommandLine, reply: &mut ReplyText)
     ensures { Leaves (answer_boardsize game.old (argument int_of line.now.words 1)) line.now.id game.new reply.new.items }
 {
-    match line.word(1).and_then(read_int) {
+    match int_argument(line) {
         None => syntax_error(line, reply),
         Some(number) => match Size::new(number) {
             None => failure(line, reply, b"unacceptable size"),
@@ -124,9 +157,9 @@ fn clear_board(game: &mut Game, line: &CommandLine, reply: &mut ReplyText)
 fn play(game: &mut Game, line: &CommandLine, reply: &mut ReplyText)
     ensures { Leaves (answer_play game.old (argument colour_of line.now.words 1) (argument vertex_of line.now.words 2)) line.now.id game.new reply.new.items }
 {
-    match line.word(1).and_then(Colour::read) {
+    match colour_argument(line) {
         None => syntax_error(line, reply),
-        Some(colour) => match line.word(2).and_then(Vertex::read) {
+        Some(colour) => match vertex_argument(line) {
             None => syntax_error(line, reply),
             Some(vertex) => make_move(game, colour, vertex, line, reply),
         },
@@ -138,15 +171,25 @@ fn make_move(game: &mut Game, colour: Colour, vertex: Vertex, line: &CommandLine
 {
     match game.play(colour, vertex) {
         Ok(()) => success(line, reply, b""),
-        Err(PlayFault::Full) => failure(line, reply, b"record full"),
-        Err(_) => failure(line, reply, b"illegal move"),
+        Err(fault) => failure(line, reply, refusal_text(fault)),
+    }
+}
+
+/// What is answered to a move that the game refuses.
+fn refusal_text(fault: PlayFault) -> &'static [u8]
+    ensures text { result.now ≡ refusal_text fault }
+    ensures fits { IsReplyText result.now }
+{
+    match fault {
+        PlayFault::Full => b"record full",
+        PlayFault::OffBoard | PlayFault::Occupied | PlayFault::Suicide | PlayFault::Ko => b"illegal move",
     }
 }
 
 fn fixed_handicap(game: &mut Game, line: &CommandLine, reply: &mut ReplyText)
     ensures { Leaves (answer_handicap game.old (argument int_of line.now.words 1)) line.now.id game.new reply.new.items }
 {
-    match line.word(1).and_then(read_int) {
+    match int_argument(line) {
         None => syntax_error(line, reply),
         Some(stones) => match game.place_handicap(stones) {
             Ok(points) => success(line, reply, &written_points(&points)),
@@ -165,3 +208,30 @@ fn undo(game: &mut Game, line: &CommandLine, reply: &mut ReplyText)
     }
 }
 
+
+/// The vertices of points, separated by single spaces.
+fn written_points(points: &[Point]) -> ArrayVec<u8, POINTS_ROOM>
+    requires { length points.now ≤ 9 }
+    ensures { result.items ≡ written_points points.now }
+{
+    let mut text = ArrayVec::new();
+    let [first, more @ ..] = points else {
+        return text;
+    };
+    push_vertex(&mut text, *first);
+    for point in more {
+        text.push(b' ');
+        push_vertex(&mut text, *point);
+    }
+    text
+}
+
+/// Appends the point's vertex.
+fn push_vertex(text: &mut ArrayVec<u8, POINTS_ROOM>, point: Point)
+    requires { array_vec_len text.old + 4 ≤ POINTS_ROOM }
+    ensures bytes { text.new.items ≡ text.old.items ++ written_vertex (At point) }
+    ensures len { array_vec_len text.new ≤ array_vec_len text.old + 4 }
+{
+    let vertex = Vertex::At(point).write();
+    let _ = text.try_extend_from_slice(&vertex);
+}

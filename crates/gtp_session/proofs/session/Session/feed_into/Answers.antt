@@ -1,4 +1,4 @@
-use Rattle.std.proofs.Common.{rules, ◌≡◌, [], true, false, take}
+use Rattle.std.proofs.Common.{rules, refl, ◌≡◌, [], true, false, take}
 use Rattle.std.specs.Option.{option_to_list}
 use Rattle.gtp_wire.specs.Lines.{Finds}
 use Rattle.gtp_session.specs.Engine.Answers.{none}
@@ -18,7 +18,7 @@ returns-in-None-clause-replies g c =
 pub returns-in-Some-clause-replies : goal.returns-in-Some-clause-replies
 returns-in-Some-clause-replies g c =
     let found : Finds c.self.inside.reader (take c.feed-used.result.used c.args.input.now) (option_to_list c.feed-used.result.line) c.feed-used.new.self = record { rest = c.feed-used.ensures.rest; no_line = c.feed-used.ensures.no_line } in
-    (false, rw (← c.self.view_is) (Replies-line g.P.Policy.may c.if-self.false (rw c.in-Some.is at found) c.execute.ensures.step c.execute.ensures.rest))
+    (false, rw (← c.self.view_is) (Replies-line g.P.Policy.may c.if-self.false (rw c.in-Some.is at found) (record { policy = refl; game = c.answer-self-inside.ensures.leaves.game_is; ended = c.answer-self-inside.ensures.ends; text = c.answer-self-inside.ensures.leaves.reply_is; genmove = refl }) refl))
 
 pub returns-in-Some-clause-line : goal.returns-in-Some-clause-line
 returns-in-Some-clause-line g c =
