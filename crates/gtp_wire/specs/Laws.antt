@@ -77,4 +77,5 @@ NoReplyBeginsAnother = (raw : List ℕ) (b : ℕ) (more : List ℕ) → IsWhole 
 
 -- a reply is told first, at its own end, whatever follows it
 abbrev pub RepliesAreToldFirst : Type 0
-RepliesAreToldFirst = (raw later : List ℕ) (value : Reply) → IsReply raw value → IsFirst (raw ++ later) (length raw) (Ok value)
+RepliesAreToldFirst = (raw later : List ℕ) (value : Reply)
+    → IsReply raw value → IsFirst (raw ++ later) (length raw) (Ok value)

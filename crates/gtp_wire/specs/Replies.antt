@@ -83,7 +83,7 @@ pub record IsNoStatus (raw : List ℕ) : Type 0 where
   pub shape : past_blanks raw ≡ byte ∷ more
   pub other : is_status byte ≡ false
 
--- What the raw bytes tell, where no front of them tells anything: a reply; that they begin none; or, with byte 8,193 and
+-- What the raw bytes tell, where no front of them tells anything: a reply; that they begin none; or, with byte 8,193,
 -- whatever it is, that they are too many.
 abbrev pub Tells : List ℕ → Result Reply ReplyFault → Type 0
 Tells raw (Ok value) = IsReply raw value

@@ -33,7 +33,8 @@ impl Model for CommandLine {
 
     ghost Value = { CommandWords };
 
-    ghost view = { λ c. record { id = c.id; words = drop (if is_some c.id then 1 else 0) (words c.text.items) } };
+    ghost view = { λ c.
+        record { id = c.id; words = drop (if is_some c.id then 1 else 0) (words c.text.items) } };
 
     ghost invariant = { λ c. HoldsCommand c.id c.text.items };
 }

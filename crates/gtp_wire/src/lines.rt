@@ -114,8 +114,10 @@ impl LineReader {
 
         // With a line, the bytes used end with the newline that makes it, and make nothing else.
         ensures within { result.used ≤ length input.now }
-        ensures whole { IfSome result.line (λ line. lines (self.old ++ take result.used input.now) ≡ line ∷ []) }
-        ensures newline { IfSome result.line (λ line. EndsLine self.old (take result.used input.now)) }
+        ensures whole { IfSome result.line (λ line.
+            lines (self.old ++ take result.used input.now) ≡ line ∷ []) }
+        ensures newline { IfSome result.line (λ line.
+            EndsLine self.old (take result.used input.now)) }
         ensures before { (k : ℕ) → k < result.used → lines (self.old ++ take k input.now) ≡ [] }
 
         // Without one, all are used.
@@ -123,7 +125,8 @@ impl LineReader {
 
         // Whatever comes next, what is left reads as it would have after the bytes that were used.
         ensures rest { (z : List ℕ) →
-            lines (self.old ++ (take result.used input.now ++ z)) ≡ option_to_list result.line ++ lines (self.new ++ z) }
+            lines (self.old ++ (take result.used input.now ++ z))
+            ≡ option_to_list result.line ++ lines (self.new ++ z) }
         ensures no_line { lines self.new ≡ [] }
 
         // Of a piece that isn't empty one byte at least is used.
@@ -220,7 +223,8 @@ impl LineReader {
 
     /// The line that is held, which a newline ends.
     fn end_line(&mut self) -> Option<Line>
-        ensures step { (z : List ℕ) → lines (self.old ++ 10 ∷ z) ≡ option_to_list result ++ lines z }
+        ensures step { (z : List ℕ) →
+            lines (self.old ++ 10 ∷ z) ≡ option_to_list result ++ lines z }
         ensures new { self.new ≡ [] }
     {
         self.place = Place::Word;
