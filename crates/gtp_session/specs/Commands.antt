@@ -6,6 +6,7 @@ use Rattle.go_base.specs.Int.{int_of}
 use Rattle.go_base.specs.Size.{size_max}
 use Rattle.go_base.specs.Colour.{colour_of}
 use Rattle.go_base.specs.Vertex.{vertex_of, written_vertex}
+use Rattle.go_base.specs.Komi.{komi_of}
 use Rattle.go_base.specs.Handicap.{handicap_points}
 use Rattle.go_base.specs.declared.colours.Colour.{Colour}
 use Rattle.go_base.specs.declared.vertices.Vertex.{Vertex}
@@ -18,7 +19,7 @@ use Rattle.gtp_wire.specs.Replies.{written_reply}
 use Rattle.gtp_wire.specs.declared.lines.Line.{Line}
 use Rattle.gtp_wire.specs.declared.lines.Line.TheVariants as line
 use Rattle.gtp_session.specs.declared.commands.CommandName.{CommandName}
-use Rattle.gtp_session.specs.declared.commands.CommandName.TheVariants.{ProtocolVersion, Name, Version, KnownCommand, ListCommands, Quit, Boardsize, ClearBoard, Play, FixedHandicap, Undo}
+use Rattle.gtp_session.specs.declared.commands.CommandName.TheVariants.{ProtocolVersion, Name, Version, KnownCommand, ListCommands, Quit, Boardsize, ClearBoard, Komi, Play, FixedHandicap, Undo}
 
 -- A command's name. (The standard, administrative, setup, core play and debug commands.)
 abbrev pub spelled : CommandName → List ℕ
@@ -30,6 +31,7 @@ spelled ListCommands = codes "list_commands"
 spelled Quit = codes "quit"
 spelled Boardsize = codes "boardsize"
 spelled ClearBoard = codes "clear_board"
+spelled Komi = codes "komi"
 spelled Play = codes "play"
 spelled FixedHandicap = codes "fixed_handicap"
 spelled Undo = codes "undo"
@@ -37,7 +39,7 @@ spelled Undo = codes "undo"
 -- all of them, in the order in which `list_commands` names them (own)
 abbrev pub all_commands : List CommandName
 all_commands =
-    ProtocolVersion ∷ Name ∷ Version ∷ KnownCommand ∷ ListCommands ∷ Quit ∷ Boardsize ∷ ClearBoard ∷ Play
+    ProtocolVersion ∷ Name ∷ Version ∷ KnownCommand ∷ ListCommands ∷ Quit ∷ Boardsize ∷ ClearBoard ∷ Komi ∷ Play
     ∷ FixedHandicap ∷ Undo ∷ []
 
 -- the command of this name, where there is one; case matters
@@ -131,6 +133,7 @@ answer_to game ListCommands words = succeeds game (join_with_byte 10 (map spelle
 answer_to game Quit words = succeeds game []
 answer_to game Boardsize words = answer_boardsize game (argument int_of words 1)
 answer_to game ClearBoard words = succeeds (record game { handicap = 0; moves = [] }) []
+answer_to game Komi words = answer_komi game (argument komi_of words 1)
 answer_to game Play words = answer_play game (argument colour_of words 1) (argument vertex_of words 2)
 answer_to game FixedHandicap words = answer_handicap game (argument int_of words 1)
 answer_to game Undo words = answer_undo game
@@ -167,6 +170,7 @@ is_quit (Some KnownCommand) = false
 is_quit (Some ListCommands) = false
 is_quit (Some Boardsize) = false
 is_quit (Some ClearBoard) = false
+is_quit (Some Komi) = false
 is_quit (Some Play) = false
 is_quit (Some FixedHandicap) = false
 is_quit (Some Undo) = false

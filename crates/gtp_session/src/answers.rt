@@ -2,6 +2,7 @@
 ghost use Rattle.std.specs.Prelude.{◌≡◌, ◌+◌, ◌≤◌, ◌++◌, length, true, false, codes, slice_get};
 ghost use Rattle.go_base.specs.Int.{int_of};
 ghost use Rattle.go_base.specs.Colour.{colour_of};
+ghost use Rattle.go_base.specs.Komi.{komi_of};
 ghost use Rattle.go_base.specs.Vertex.{vertex_of, written_vertex};
 ghost use Rattle.arrayvec.specs.ArrayVec.{array_vec_len};
 ghost use Rattle.go_base.specs.declared.vertices.Vertex.TheVariants.{At};
@@ -10,13 +11,13 @@ ghost use Rattle.gtp_wire.specs.Replies.{IsReplyText, written_reply};
 ghost use Rattle.gtp_session.specs.Commands.{Leaves, command_named, argument, id_of, ends, answer, answer_to, answer_to_words, answer_known, answer_boardsize, answer_komi, answer_play, answer_handicap, answer_undo, answer_move, refusal_text, is_quit, written_points};
 
 use crate::commands::CommandName;
-use go_base::{Colour, Point, Size, Vertex, read_int};
+use go_base::{Colour, Komi, Point, Size, Vertex, read_int};
 use go_board::{Game, HandicapFault, PlayFault};
 use gtp_wire::{CommandLine, Line, ReplyText, write_reply_into};
 use arrayvec::ArrayVec;
 
 /// What `list_commands` answers: the names of the commands, a line each.
-static NAMES: &[u8] = b"protocol_version\nname\nversion\nknown_command\nlist_commands\nquit\nboardsize\nclear_board\nplay\nfixed_handicap\nundo";
+static NAMES: &[u8] = b"protocol_version\nname\nversion\nknown_command\nlist_commands\nquit\nboardsize\nclear_board\nkomi\nplay\nfixed_handicap\nundo";
 
 /// The room for nine vertices and the spaces between them.
 const POINTS_ROOM: usize = 44;
@@ -65,6 +66,7 @@ fn execute(command: CommandName, game: &mut Game, line: &CommandLine, reply: &mu
         CommandName::Quit => success(line, reply, b""),
         CommandName::Boardsize => boardsize(game, line, reply),
         CommandName::ClearBoard => clear_board(game, line, reply),
+        CommandName::Komi => komi(game, line, reply),
         CommandName::Play => play(game, line, reply),
         CommandName::FixedHandicap => fixed_handicap(game, line, reply),
         CommandName::Undo => undo(game, line, reply),
@@ -115,6 +117,13 @@ fn colour_argument(line: &CommandLine) -> Option<Colour>
     Colour::read(line.word(1)?)
 }
 
+/// The first argument as a komi.
+fn komi_argument(line: &CommandLine) -> Option<Komi>
+    ensures { result ≡ argument komi_of line.now.words 1 }
+{
+    Komi::read(line.word(1)?)
+}
+
 /// The second argument as a vertex.
 fn vertex_argument(line: &CommandLine) -> Option<Vertex>
     ensures { result ≡ argument vertex_of line.now.words 2 }
@@ -152,6 +161,18 @@ fn clear_board(game: &mut Game, line: &CommandLine, reply: &mut ReplyText)
 {
     game.clear();
     success(line, reply, b"");
+}
+
+fn komi(game: &mut Game, line: &CommandLine, reply: &mut ReplyText)
+    ensures { Leaves (answer_komi game.old (argument komi_of line.now.words 1)) line.now.id game.new reply.new.items }
+{
+    match komi_argument(line) {
+        None => syntax_error(line, reply),
+        Some(komi) => {
+            game.set_komi(komi);
+            success(line, reply, b"");
+        }
+    }
 }
 
 fn play(game: &mut Game, line: &CommandLine, reply: &mut ReplyText)

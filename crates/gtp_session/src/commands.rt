@@ -13,13 +13,14 @@ pub enum CommandName {
     Quit,
     Boardsize,
     ClearBoard,
+    Komi,
     Play,
     FixedHandicap,
     Undo,
 }
 
 /// The commands, in the order in which `list_commands` names them.
-static COMMANDS: [CommandName; 11] = [
+static COMMANDS: [CommandName; 12] = [
     CommandName::ProtocolVersion,
     CommandName::Name,
     CommandName::Version,
@@ -28,6 +29,7 @@ static COMMANDS: [CommandName; 11] = [
     CommandName::Quit,
     CommandName::Boardsize,
     CommandName::ClearBoard,
+    CommandName::Komi,
     CommandName::Play,
     CommandName::FixedHandicap,
     CommandName::Undo,
@@ -57,6 +59,7 @@ impl CommandName {
             CommandName::Quit => b"quit",
             CommandName::Boardsize => b"boardsize",
             CommandName::ClearBoard => b"clear_board",
+            CommandName::Komi => b"komi",
             CommandName::Play => b"play",
             CommandName::FixedHandicap => b"fixed_handicap",
             CommandName::Undo => b"undo",
