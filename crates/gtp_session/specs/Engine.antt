@@ -66,6 +66,18 @@ pub record Replies {P : Type 0} (may : May P) (old : Engine P) (text : List ℕ)
 abbrev pub Engages : {P : Type 0} → May P → Engine P → List ℕ → Engine P → List ℕ → Type 0
 Engages may old text new out = (replies : List WrittenReply) × Replies may old text new replies × (out ≡ output_of replies)
 
+-- One text and then another are both, with the replies joined.
+abbrev pub RepliesJoin : {P : Type 0} → May P → Type 0
+RepliesJoin {P} may =
+    (a b c : Engine P) (text next : List ℕ) (replies more : List WrittenReply)
+    → Replies may a text b replies → Replies may b next c more → Replies may a (text ++ next) c (replies ++ more)
+
+-- One text and then another are both, with the outputs joined.
+abbrev pub EngagesJoin : {P : Type 0} → May P → Type 0
+EngagesJoin {P} may =
+    (a b c : Engine P) (text next out more : List ℕ)
+    → Engages may a text b out → Engages may b next c more → Engages may a (text ++ next) c (out ++ more)
+
 -- An engine that was given nothing: size 19, komi 0, no handicap and no moves.
 abbrev pub fresh_game : GameRecord
 fresh_game = record { size = 19; komi = pos 0; handicap = 0; moves = [] }

@@ -3,6 +3,7 @@
 
 mod answers;
 pub mod commands;
+pub mod laws;
 #[cfg(test)]
 mod memory;
 pub mod policy;

@@ -37,7 +37,7 @@ impl Read for Pieces<'_> {
 /// Takes at most `step` bytes a write, and fails once it took `room` bytes.
 #[derive(Drop)]
 pub struct Limited<'a> {
-    pub taken: &'a mut ArrayVec<u8, 256>,
+    pub taken: &'a mut ArrayVec<u8, 4096>,
     pub room: usize,
     pub step: usize,
 }
