@@ -13,7 +13,7 @@ use Rattle.go_board.specs.Flood.{AreTouching}
 use Rattle.go_board.specs.Put.{IsCaptured, captured?, is_captured, left_at, without_captured, captured_count, put}
 use Rattle.go_board.specs.declared.board.Cell.{Cell}
 use Rattle.go_board.specs.declared.board.Cell.TheVariants.{Edge, Empty}
-use Rattle.go_board.proofs.BoardLemmas.{stone-point, same_or_other}
+use Rattle.go_board.proofs.BoardLemmas.{stone-point, stone-differs, same_or_other}
 
 -- a decision is for a fact that holds, and not for one that doesn't
 pub holds-yes : {A : Type 0} (d : Dec A) → A → holds d ≡ true
@@ -103,6 +103,13 @@ IsClearing-count board c n cells removed all k = k.counted ∙ ap (λ m. count_b
 
 -- ---- what removing stones leaves
 
+-- what isn't edge is on the list
+in_list : (board : List Cell) (p : ℕ) → at board p ≢ Edge → p < length board
+in_list board p point = elim (inside p (length board)) [ inl below ↦ below | inr past ↦ absurd (point (get_or_past board p Edge past)) ]
+  where
+    inside : (k n : ℕ) → (k < n) ⊎ (n ≤ k)
+    inside k n = grind arith
+
 -- an edge stays an edge
 left_at-edge : (board : List Cell) (c : Colour) (p : ℕ) → at board p ≡ Edge → left_at board c p ≡ Edge
 left_at-edge board c p e =
@@ -142,14 +149,14 @@ SameEdge-without_captured board c = record {
   back = λ p e. edge-from_left_at board c p (sym (at-without_captured board c p) ∙ e);
 }
 
-pub SameEdge-set : (board : List Cell) (p : ℕ) (x : Cell) → p < length board → at board p ≢ Edge → x ≢ Edge → SameEdge board (set board p x)
-SameEdge-set board p x in_range point filled = record {
+pub SameEdge-set : (board : List Cell) (p : ℕ) (x : Cell) → at board p ≢ Edge → x ≢ Edge → SameEdge board (set board p x)
+SameEdge-set board p x point filled = record {
   kept = λ q e. elim (same_or_other q p) [
     | inl same ↦ absurd (point (ap (λ r. at board r) (sym same) ∙ e))
     | inr another ↦ get_or-set_other board p q x Edge another ∙ e
   ];
   back = λ q e. elim (same_or_other q p) [
-    | inl same ↦ absurd (filled (sym (get_or-set_same board p x Edge in_range) ∙ ap (λ r. at (set board p x) r) (sym same) ∙ e))
+    | inl same ↦ absurd (filled (sym (get_or-set_same board p x Edge (in_list board p point)) ∙ ap (λ r. at (set board p x) r) (sym same) ∙ e))
     | inr another ↦ sym (get_or-set_other board p q x Edge another) ∙ e
   ];
 }
@@ -162,14 +169,22 @@ IsFramed-without_captured board c framed = record {
 }
 
 -- a play changes what the points hold, and no edge
-pub SameEdge-put : (board : List Cell) (c : Colour) (p : ℕ) → p < length board → at board p ≢ Edge → SameEdge board (put board c p)
+pub SameEdge-put : (board : List Cell) (c : Colour) (p : ℕ) → at board p ≢ Edge → SameEdge board (put board c p)
 unfolding put
-SameEdge-put board c p in_range point =
+SameEdge-put board c p point =
     SameEdge-trans board (set board p (stone c)) (without_captured (set board p (stone c)) (other c))
-    (SameEdge-set board p (stone c) in_range point (stone-point c)) (SameEdge-without_captured (set board p (stone c)) (other c))
+    (SameEdge-set board p (stone c) point (stone-point c)) (SameEdge-without_captured (set board p (stone c)) (other c))
 
 pub HasSize-same_edge : (size : ℕ) (old new : List Cell) → SameEdge old new → HasSize size old → HasSize size new
 HasSize-same_edge size old new same has p = (
   (λ held. (has p).0 (λ e. held (same.kept p e))),
   (λ on e. (has p).1 on (same.back p e)),
 )
+
+-- the new stone stays
+pub at-put : (board : List Cell) (c : Colour) (p : ℕ) → at board p ≢ Edge → at (put board c p) p ≡ stone c
+unfolding put
+at-put board c p point =
+    let here : at (set board p (stone c)) p ≡ stone c = get_or-set_same board p (stone c) Edge (in_list board p point) in
+    let kept : is_captured (set board p (stone c)) (other c) p ≡ false = holds-no (captured? (set board p (stone c)) (other c) p) (λ k. stone-differs c (sym here ∙ k.0)) in
+    at-without_captured (set board p (stone c)) (other c) p ∙ ap (λ (b : Bool). cond b Empty (at (set board p (stone c)) p)) kept ∙ here

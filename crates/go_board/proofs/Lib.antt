@@ -5,3 +5,6 @@ pub mod CaptureLemmas
 pub mod EmptyLemmas
 pub mod StartLemmas
 pub mod AreaLemmas
+pub mod TakenLemmas
+pub mod GameLemmas
+pub mod NextLemmas

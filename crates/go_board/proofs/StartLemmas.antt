@@ -25,19 +25,14 @@ IsAdding-none board = record { length_is = refl; cells_are = refl; same_edge = r
 pub IsAdding-more : (board : List Cell) (points : List ℕ) (k p : ℕ) (cells : List Cell) → IsFramed board → k < length points → p ≡ get_or points k p
     → All (λ q. at board q ≢ Edge) points → IsOn size_max p → IsAdding board (take k points) cells → IsAdding board (take (k + 1) points) (set cells p Black)
 IsAdding-more board points k p cells framed below is on_board inside a =
-    let long = a.length_is in
-    let len = framed.length_is in
-    let right = inside.right in
-    let top = inside.top in
-    let in_range : p < length cells = omega arith in
     let point : at board p ≢ Edge = subst (λ q. at board q ≢ Edge) (sym is) (on_board k p below) in
     record {
-      length_is = length-set cells p Black ∙ long;
+      length_is = length-set cells p Black ∙ a.length_is;
       cells_are = ap (λ b. set b p Black) a.cells_are
           ∙ ap (λ q. set (with_black board (take k points)) q Black) is
           ∙ sym (fold_more (λ b q. slice_set b q Black) board points k p below);
       same_edge = SameEdge-trans board cells (set cells p Black) a.same_edge
-          (SameEdge-set cells p Black in_range (λ e. point (a.same_edge.back p e)) (λ e. cc));
+          (SameEdge-set cells p Black (λ e. point (a.same_edge.back p e)) (λ e. cc));
     }
 
 pub IsFramed-same_edge : (old new : List Cell) → length new ≡ length old → SameEdge old new → IsFramed old → IsFramed new

@@ -1,6 +1,7 @@
 -- Decisions: a fact, or that it doesn't hold. The type of a decision says all that there is to know of it, so none is ever computed.
-use Rattle.std.proofs.Common.{◌≡◌, ℕ, ◌<◌, List, [], ◌∷◌, Bool, true, false, refl, arith, inl, inr}
+use Rattle.std.proofs.Common.{◌≡◌, ℕ, ◌<◌, ◌≤◌, List, [], ◌∷◌, Bool, true, false, refl, arith, inl, inr}
 use Rattle.std.specs.Prelude.{◌⊎◌}
+use Rattle.go_base.specs.Point.{column_of, row_of, IsOn}
 use Rattle.go_board.specs.declared.board.Cell.{Cell}
 use Rattle.go_board.specs.declared.board.Cell.TheVariants.{Edge, Empty, Black, White}
 
@@ -41,6 +42,15 @@ number? m n = from_sum (grind arith)
 
 pub below? : (m n : ℕ) → Dec (m < n)
 below? m n = from_sum (grind arith)
+
+at_most? : (m n : ℕ) → Dec (m ≤ n)
+at_most? m n = from_sum (grind arith)
+
+-- whether a place is a point of a board of that size
+pub on? : (size p : ℕ) → Dec (IsOn size p)
+on? size p =
+    by? (λ h. record { left = h.0; right = (h.1).0; bottom = ((h.1).1).0; top = ((h.1).1).1 }) (λ o. (o.left, (o.right, (o.bottom, o.top))))
+    (both? (at_most? 1 (column_of p)) (both? (at_most? (column_of p) size) (both? (at_most? 1 (row_of p)) (at_most? (row_of p) size))))
 
 pub cell? : (a b : Cell) → Dec (a ≡ b)
 cell? Edge Edge = yes refl

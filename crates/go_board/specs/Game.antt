@@ -3,6 +3,7 @@ use Rattle.std.specs.Prelude.{◌≡◌, ℕ, ℤ, ◌-◌, ◌≤◌, ◌<◌, 
 use Rattle.std.specs.List.{fold}
 use Rattle.go_base.specs.Handicap.{handicap_points, AllowsHandicap}
 use Rattle.go_base.specs.Komi.{IsKomi}
+use Rattle.go_base.specs.Point.{IsOn}
 use Rattle.go_base.specs.Size.{IsSize}
 use Rattle.go_base.specs.declared.colours.Colour.{Colour}
 use Rattle.go_base.specs.declared.vertices.Vertex.{Vertex}
@@ -12,7 +13,7 @@ use Rattle.go_board.specs.declared.board.Cell.{Cell}
 use Rattle.go_board.specs.declared.board.Cell.TheVariants.{Empty}
 use Rattle.go_board.specs.Board.{at, empty_board, with_black}
 use Rattle.go_board.specs.Chain.{IsFree}
-use Rattle.go_board.specs.Decide.{both?, not?, by?, below?, cell?, boards?}
+use Rattle.go_board.specs.Decide.{both?, not?, by?, below?, on?, cell?, boards?}
 use Rattle.go_board.specs.DecideChains.{touches?}
 use Rattle.go_board.specs.Put.{put}
 
@@ -70,8 +71,9 @@ pub record Repeats (game : GameRecord) (next : List Cell) : Type 0 where
   pub moved : 0 < length game.moves
   pub same : next ≡ board_of (without_last game)
 
--- the point is empty, the new stone's chain has a liberty once the other colour's stones are removed, and it is no ko
+-- the point is on the board and empty, the new stone's chain has a liberty once the other colour's stones are removed, and the play is no ko
 pub record IsLegalPlay (game : GameRecord) (c : Colour) (p : ℕ) : Type 0 where
+  pub on_board : IsOn game.size p
   pub empty : at (board_of game) p ≡ Empty
   pub free : IsFree (put (board_of game) c p) p
   pub no_ko : ¬ Repeats game (put (board_of game) c p)
@@ -99,9 +101,10 @@ repeats? game next =
 pub legal? : (game : GameRecord) (c : Colour) (v : Vertex) → Dec (IsLegal game c v)
 legal? game c Pass = yes tt
 legal? game c (At p) =
-    by? (λ h. record { empty = h.0; free = (h.1).0; no_ko = (h.1).1 }) (λ l. (l.empty, (l.free, l.no_ko)))
+    by? (λ h. record { on_board = h.0; empty = (h.1).0; free = ((h.1).1).0; no_ko = ((h.1).1).1 }) (λ l. (l.on_board, (l.empty, (l.free, l.no_ko))))
+    (both? (on? game.size p)
     (both? (cell? (at (board_of game) p) Empty)
-    (both? (touches? (put (board_of game) c p) p Empty) (not? (repeats? game (put (board_of game) c p)))))
+    (both? (touches? (put (board_of game) c p) p Empty) (not? (repeats? game (put (board_of game) c p))))))
 
 -- ---- the end
 

@@ -9,3 +9,4 @@ pub mod Area
 pub mod Refusals
 pub mod Places
 pub mod Flood
+pub mod Kept

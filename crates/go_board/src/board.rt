@@ -1,7 +1,7 @@
 //! A board as an array of places with edge round the points.
 ghost use Rattle.std.specs.Prelude.{◌≡◌, ◌≢◌, ℕ, ◌<◌, ◌≤◌, ◌↔◌, ◌⊎◌, if◌then◌else◌, IsTrue, All};
 ghost use Rattle.go_base.specs.Point.{IsOn};
-ghost use Rattle.go_base.specs.Size.{size_max};
+ghost use Rattle.go_base.specs.Size.{size_max, IsSize};
 ghost use Rattle.go_board.specs.Board.{is_point};
 
 use crate::places::Places;
@@ -111,6 +111,7 @@ impl Board {
     pub fn empty(size: Size) -> Self
         ensures board { result ≡ empty_board size }
         ensures size { HasSize size result }
+        ensures limits { IsSize size }
     {
         let lines = size.get();
         let mut cells = [Cell::Edge; PLACES];
@@ -125,6 +126,7 @@ impl Board {
         requires { (stones ≡ 0) ⊎ AllowsHandicap size stones }
         ensures board { result ≡ start size stones }
         ensures size { HasSize size result }
+        ensures limits { IsSize size }
     {
         let mut board = Board::empty(size);
         if let Some(points) = handicap(size, stones) {
