@@ -9,6 +9,7 @@ pub mod laws;
 mod moves;
 mod points;
 mod sizes;
+mod texts;
 mod vertices;
 
 pub use colours::{Colour, Side};
