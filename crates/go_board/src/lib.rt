@@ -8,6 +8,7 @@ mod board;
 mod faults;
 mod game;
 mod places;
+mod show;
 
 pub use faults::{HandicapFault, NothingToUndo, PlayFault};
 pub use game::Game;
