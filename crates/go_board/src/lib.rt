@@ -11,3 +11,6 @@ mod places;
 
 pub use faults::{HandicapFault, NothingToUndo, PlayFault};
 pub use game::Game;
+
+#[cfg(test)]
+mod tests;
