@@ -1,11 +1,19 @@
 //! Komi.
-ghost use Rattle.std.specs.Prelude.{◌≡◌, ◌↔◌, IsSome, IfSome};
-ghost use Rattle.go_base.specs.Komi.{IsKomi};
+ghost use Rattle.std.specs.Prelude.{◌≡◌, ◌↔◌, ◌+◌, ◌<◌, ◌≤◌, ℤ, pos, neg_ℤ, IsTrue, IsSome, IfSome, IfNone, if◌then◌else◌};
+ghost use Rattle.std.specs.Option.{option_copied};
+ghost use Rattle.go_base.specs.HalfPoints.{written_half_points};
+ghost use Rattle.go_base.specs.Komi.{IsKomi, SpellsKomi, komi_of, sign_of, minus, without_sign, front_digits, behind_digits, decimals_of, half_of, are_zeros, half_points_max, unsigned_half_points_of};
 
+use crate::ints::{read_int, write_int};
+use crate::texts::push_bytes;
+use arrayvec::ArrayVec;
 use std::marker::Model;
 
 /// The greatest komi in half points, either way.
 const HALF_POINTS_MAX: i32 = 1_999_999_999;
+
+/// The most digits of a komi on either side of the point.
+const DIGITS_MAX: usize = 9;
 
 /// What White gets for playing second: a number of half points, at most 1,999,999,999 either way.
 #[derive(Clone, Copy, Debug, PartialEq, Eq)]
@@ -27,6 +35,20 @@ impl Model for Komi {
 }
 
 impl Komi {
+    /// Reads a komi in points: a `+` or `-` or neither, at most nine digits, and then nothing, or a point and at most nine
+    /// digits, which are zeros, or a 5 followed by zeros. There is at least one digit in all.
+    pub fn read(text: &[u8]) -> Option<Komi>
+        ensures read { IfSome result (λ komi. SpellsKomi komi text.now) }
+        ensures unread { IfNone result ((half_points : ℤ) → SpellsKomi half_points text.now → ⊥) }
+        ensures value { result ≡ komi_of text.now }
+    {
+        let (is_negative, unsigned) = split_sign(text);
+        let magnitude = read_unsigned(unsigned)?;
+        Some(Komi {
+            half_points: signed(is_negative, magnitude),
+        })
+    }
+
     /// The komi of that many half points, where they are at most 1,999,999,999 either way.
     pub fn from_half_points(half_points: i32) -> Option<Komi>
         ensures limits { IsSome result ↔ IsKomi half_points }
@@ -45,4 +67,119 @@ impl Komi {
     {
         self.half_points
     }
+
+    /// The written spelling in points: `-` where it is negative, the whole part without leading zeros, and `.5` where there
+    /// is a half.
+    pub fn write(self) -> ArrayVec<u8, 12>
+        ensures { result.items ≡ written_half_points self }
+    {
+        let points = write_half_points(self.half_points.unsigned_abs());
+        if self.half_points >= 0 {
+            return points;
+        }
+        let mut text = ArrayVec::new();
+        text.push(b'-');
+        push_bytes(&mut text, &points);
+        text
+    }
+}
+
+/// Writes a number of half points in points: the whole part without leading zeros, and `.5` where there is a half.
+pub fn write_half_points(half_points: u32) -> ArrayVec<u8, 12>
+    ensures { result.items ≡ written_half_points (pos half_points) }
+{
+    let mut text = ArrayVec::new();
+    push_bytes(&mut text, &write_int(half_points / 2));
+    if half_points % 2 == 1 {
+        push_bytes(&mut text, b".5");
+    }
+    text
+}
+
+/// The number with its sign.
+fn signed(is_negative: bool, magnitude: u32) -> i32
+    requires { magnitude ≤ half_points_max }
+    ensures { result ≡ (if is_negative then neg_ℤ (pos magnitude) else pos magnitude) }
+{
+    if is_negative {
+        -(magnitude as i32)
+    } else {
+        magnitude as i32
+    }
+}
+
+/// Whether the text begins with a minus, and what follows its sign, or all of it where it has none.
+fn split_sign(text: &[u8]) -> (bool, &[u8])
+    ensures negative { IsTrue result.0 ↔ (sign_of text.now ≡ minus) }
+    ensures unsigned { result.1.now ≡ without_sign text.now }
+{
+    match text {
+        [b'-', unsigned @ ..] => (true, unsigned),
+        [b'+', unsigned @ ..] => (false, unsigned),
+        _ => (false, text),
+    }
+}
+
+/// The half points that a text without a sign spells.
+fn read_unsigned(text: &[u8]) -> Option<u32>
+    ensures value { result ≡ unsigned_half_points_of text.now }
+    ensures limit { IfSome result (λ half_points. half_points ≤ half_points_max) }
+{
+    let (whole, rest) = split_digits(text);
+    let decimals = read_decimals(rest)?;
+    let half = read_half(decimals)?;
+    if !may_stand(whole.len(), decimals.len()) {
+        return None;
+    }
+    let points = read_int(whole).unwrap_or(0);
+    Some(2 * points + half)
+}
+
+/// Whether so many digits may stand before the point and behind it: at least one in all, and at most nine on either side.
+fn may_stand(before: usize, behind: usize) -> bool
+    ensures { IsTrue result ↔ ((0 < before + behind) × (before ≤ 9) × (behind ≤ 9)) }
+{
+    (before > 0 || behind > 0) && before <= DIGITS_MAX && behind <= DIGITS_MAX
+}
+
+/// The digits in front, and what follows them.
+fn split_digits(text: &[u8]) -> (&[u8], &[u8])
+    ensures front { result.0.now ≡ front_digits text.now }
+    ensures behind { result.1.now ≡ behind_digits text.now }
+{
+    let mut end = 0;
+    while end < text.len() && text[end].is_ascii_digit() {
+        end += 1;
+    }
+    text.split_at(end)
+}
+
+/// What follows the point.
+fn read_decimals(rest: &[u8]) -> Option<&[u8]>
+    ensures { option_copied result ≡ decimals_of rest.now }
+{
+    match rest {
+        [] => Some(rest),
+        [b'.', decimals @ ..] => Some(decimals),
+        _ => None,
+    }
+}
+
+/// The half points of the digits behind the point: of none, of zeros, or of 5 and zeros.
+fn read_half(decimals: &[u8]) -> Option<u32>
+    ensures value { result ≡ half_of decimals.now }
+    ensures limit { IfSome result (λ halves. halves ≤ 1) }
+{
+    match decimals {
+        [] => Some(0),
+        [b'0', zeros @ ..] if are_zeros(zeros) => Some(0),
+        [b'5', zeros @ ..] if are_zeros(zeros) => Some(1),
+        _ => None,
+    }
+}
+
+fn are_zeros(digits: &[u8]) -> bool
+    ensures { result ≡ are_zeros digits.now }
+{
+    digits.iter().all(|digit| *digit == b'0')
 }

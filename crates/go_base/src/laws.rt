@@ -4,6 +4,7 @@
 ghost use Rattle.go_base.specs.Int.{IntOfTells, IntsReadBack, SpellsOneInt};
 ghost use Rattle.go_base.specs.Colour.{ColourOfTells, ColoursReadBack, SpellsOneColour};
 ghost use Rattle.go_base.specs.Vertex.{VertexOfTells, VerticesReadBack, SpellsOneVertex};
+ghost use Rattle.go_base.specs.Komi.{KomiOfTells, KomisReadBack, SpellsOneKomi};
 ghost use Rattle.go_base.specs.Point.{NeighboursAreBeside};
 
 /// A written int is read back, and a text spells at most one int.
@@ -25,6 +26,13 @@ pub fn vertex_laws()
     ensures function { VertexOfTells }
     ensures read_back { VerticesReadBack }
     ensures one { SpellsOneVertex }
+{}
+
+/// A written komi is read back, and a text spells at most one komi.
+pub fn komi_laws()
+    ensures function { KomiOfTells }
+    ensures read_back { KomisReadBack }
+    ensures one { SpellsOneKomi }
 {}
 
 /// Two points of the largest board are neighbours on the mailbox board exactly where they share a column or a row and stand

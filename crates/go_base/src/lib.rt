@@ -15,8 +15,11 @@ mod vertices;
 pub use colours::{Colour, Side};
 pub use handicaps::handicap;
 pub use ints::{read_int, write_int};
-pub use komis::Komi;
+pub use komis::{Komi, write_half_points};
 pub use moves::Move;
 pub use points::Point;
 pub use sizes::Size;
 pub use vertices::Vertex;
+
+#[cfg(test)]
+mod tests;

@@ -51,6 +51,7 @@ impl Game {
     ghost use Rattle.go_board.specs.Board.{stone_at};
     ghost use Rattle.go_board.specs.Game.{most_moves, HasRoom, first_moves, without_last, with_move, board_of, Repeats, IsLegal, IsGame, IsFinished};
     ghost use Rattle.go_board.specs.Taken.{taken};
+    ghost use Rattle.go_board.specs.Area.{score};
     ghost use Rattle.go_board.specs.Refusals.{RefusesPoint, RefusesVertex, Refuses, IsTouched, RefusesHandicap};
     ghost use Rattle.go_board.specs.Kept.{IsNext};
     ghost use Rattle.go_base.specs.declared.vertices.Vertex.TheVariants.{At};
@@ -293,6 +294,16 @@ impl Game {
             Colour::Black => self.taken_by_black,
             Colour::White => self.taken_by_white,
         }
+    }
+
+    /// The score in half points, positive for Black: twice the area of Black, less that of White, and less komi.
+    #[tactic(auto, unfolding(crate::specs::Area::score))]
+    pub fn score(&self) -> i32
+        ensures { result ≡ score self.now }
+    {
+        let black = self.board.area(Colour::Black) as i32;
+        let white = self.board.area(Colour::White) as i32;
+        2 * (black - white) - self.komi.half_points()
     }
 
     /// Whether the last two moves of the record are passes.

@@ -12,3 +12,6 @@ mod show;
 
 pub use faults::{HandicapFault, NothingToUndo, PlayFault};
 pub use game::Game;
+
+#[cfg(test)]
+mod tests;

@@ -1,0 +1,13 @@
+-- The written form of half points, for a komi and for a score, which goes past the limits of a komi. (Own; the standard's
+-- topics komi and final_score have such numbers as floats.)
+use Rattle.std.specs.Prelude.{ℕ, ◌+◌, ◌/◌, ◌%◌, ◌==◌, ℤ, pos, negsuc, List, [], ◌++◌, codes, if◌then◌else◌}
+use Rattle.go_base.specs.Int.{written_int}
+
+-- a number of half points as points: the whole part without leading zeros, and `.5` where there is a half
+abbrev pub written_points : ℕ → List ℕ
+written_points half_points = written_int (half_points / 2) ++ (if half_points % 2 == 1 then codes ".5" else [])
+
+-- the same of any whole number, with `-` before it where it is negative
+abbrev pub written_half_points : ℤ → List ℕ
+written_half_points (pos n) = written_points n
+written_half_points (negsuc n) = codes "-" ++ written_points (n + 1)
