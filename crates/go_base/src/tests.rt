@@ -381,7 +381,7 @@ fn slow_column(byte: u8) -> Option<u32>
 
 #[test]
 fn each_reader_of_one_byte_is_a_slow_reading(rt: HostRuntime) {
-    for code in 0..256 {
+    for code in 0..256u32 {
         let byte = code as u8;
         let text = [byte];
         let colour = match byte {
@@ -400,7 +400,9 @@ fn each_reader_of_one_byte_is_a_slow_reading(rt: HostRuntime) {
 }
 
 /// The int of two bytes.
-fn slow_int(first: u8, second: u8) -> Option<u32> {
+fn slow_int(first: u8, second: u8) -> Option<u32>
+    ensures { IfSome result (λ number. number < 100) }
+{
     let tens = slow_digit(first)?;
     let ones = slow_digit(second)?;
     Some(10 * tens + ones)
@@ -427,8 +429,8 @@ fn slow_komi(first: u8, second: u8) -> Option<i32> {
 
 #[test]
 fn each_reader_of_two_bytes_is_a_slow_reading(rt: HostRuntime) {
-    for first in 0..256 {
-        for second in 0..256 {
+    for first in 0..256u32 {
+        for second in 0..256u32 {
             let text = [first as u8, second as u8];
             assert_eq!(rt; read_int(&text), slow_int(text[0], text[1]));
             assert_eq!(rt; Colour::read(&text), None);
