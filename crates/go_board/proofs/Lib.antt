@@ -8,3 +8,4 @@ pub mod AreaLemmas
 pub mod TakenLemmas
 pub mod GameLemmas
 pub mod NextLemmas
+pub mod ShowLemmas

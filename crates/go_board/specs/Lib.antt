@@ -10,3 +10,4 @@ pub mod Refusals
 pub mod Places
 pub mod Flood
 pub mod Kept
+pub mod Show

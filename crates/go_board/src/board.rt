@@ -222,7 +222,9 @@ impl Board {
         ensures { IsTrue result ↔ IsFree self.now place }
     {
         self.has_beside(place, Cell::Empty)
-            || self.touching(Cell::stone(colour), Cell::Empty).contains(place)
+            || self
+                .touching(Cell::stone(colour), Cell::Empty)
+                .contains(place)
     }
 
     /// Removes, all at once, the stones of this colour whose chains have no liberty. Answers how many there were.

@@ -8,6 +8,10 @@ mod board;
 mod faults;
 mod game;
 mod places;
+mod show;
 
 pub use faults::{HandicapFault, NothingToUndo, PlayFault};
 pub use game::Game;
+
+#[cfg(test)]
+mod tests;

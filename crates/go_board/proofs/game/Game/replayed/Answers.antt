@@ -11,8 +11,8 @@ loop-made-preserved c =
     let moves : List Move = c.deref.result.now in
     let same : moves ≡ c.args.self.now.moves = (c.deref.ensures).0 ∙ ap (λ (g : GameRecord). g.moves) c.self.view_is in
     let made : slice_get moves c.loop-made.made-index ≡ Some c.made-item.result =
-        slice_get-take moves c.args.count c.loop-made.made-index c.made-item.result
-        (slice_get-read (take c.args.count moves) c.loop-made.made-index c.made-item.result c.loop-made-test.true c.made-item.is) in
+    slice_get-take moves c.args.count c.loop-made.made-index c.made-item.result
+    (slice_get-read (take c.args.count moves) c.loop-made.made-index c.made-item.result c.loop-made-test.true c.made-item.is) in
     first_moves-more c.args.self.now c.loop-made.game c.play.new.self c.loop-made.made-index c.made-item.result c.play.result
     (subst IsGame c.self.view_is c.self.invariant.game) (subst (λ ms. slice_get ms c.loop-made.made-index ≡ Some c.made-item.result) same made)
     c.loop-made.invariant c.play.ensures.played c.play.ensures.answer

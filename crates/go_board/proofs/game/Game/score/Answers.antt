@@ -11,6 +11,6 @@ returns c =
     let least = c.half_points.ensures.limits.least in
     let most = c.half_points.ensures.limits.most in
     let areas = score-from_areas c.args.self.now c.self.inside.board c.area-black.result c.area-white.result c.self.inside.komi
-        (subst (λ (g : GameRecord). c.self.inside.board ≡ board_of g) c.self.view_is c.self.invariant.board_is)
-        c.area-black.ensures.area c.area-white.ensures.area (ap (λ (g : GameRecord). g.komi) c.self.view_is) in
+    (subst (λ (g : GameRecord). c.self.inside.board ≡ board_of g) c.self.view_is c.self.invariant.board_is)
+    c.area-black.ensures.area c.area-white.ensures.area (ap (λ (g : GameRecord). g.komi) c.self.view_is) in
     omega (arith, ints, areas, c.half_points.ensures.value)
