@@ -54,7 +54,9 @@ impl Colour {
 
 /// Whether the text is one of two words, whatever the case of its letters.
 fn is_either(text: &[u8], letter: &[u8], name: &[u8]) -> bool
-    ensures { IsTrue result ↔ (IsWord (str_to_ascii_lowercase letter.now) text.now ⊎ IsWord (str_to_ascii_lowercase name.now) text.now) }
+    ensures { IsTrue result
+        ↔ (IsWord (str_to_ascii_lowercase letter.now) text.now
+        ⊎ IsWord (str_to_ascii_lowercase name.now) text.now) }
 {
     text.eq_ignore_ascii_case(letter) || text.eq_ignore_ascii_case(name)
 }

@@ -2,7 +2,9 @@
 ghost use Rattle.std.specs.Prelude.{◌≡◌, ◌↔◌, ◌+◌, ◌<◌, ◌≤◌, ℤ, pos, neg_ℤ, IsTrue, IsSome, IfSome, IfNone, if◌then◌else◌};
 ghost use Rattle.std.specs.Option.{option_copied};
 ghost use Rattle.go_base.specs.HalfPoints.{written_half_points};
-ghost use Rattle.go_base.specs.Komi.{IsKomi, SpellsKomi, komi_of, sign_of, minus, without_sign, front_digits, behind_digits, decimals_of, half_of, are_zeros, half_points_max, unsigned_half_points_of};
+ghost use Rattle.go_base.specs.Komi.{IsKomi, SpellsKomi, komi_of, half_points_max};
+ghost use Rattle.go_base.specs.Komi.{sign_of, minus, without_sign, unsigned_half_points_of};
+ghost use Rattle.go_base.specs.Komi.{front_digits, behind_digits, decimals_of, half_of, are_zeros};
 
 use crate::ints::{read_int, write_int};
 use crate::texts::push_bytes;

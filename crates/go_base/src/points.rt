@@ -78,7 +78,8 @@ impl Point {
     pub fn on(self, size: Size) -> bool
         ensures { IsTrue result ↔ IsOn size self }
     {
-        self.column <= size.get() && self.row <= size.get()
+        let number = size.get();
+        number >= self.column && number >= self.row
     }
 }
 
