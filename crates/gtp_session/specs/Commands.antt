@@ -15,11 +15,12 @@ use Rattle.go_board.specs.declared.faults.PlayFault.{PlayFault}
 use Rattle.go_board.specs.declared.faults.PlayFault.TheVariants.{Full, OffBoard, Occupied, Suicide, Ko}
 use Rattle.go_board.specs.Game.{GameRecord, most_moves, with_move, without_last, legal?}
 use Rattle.gtp_session.specs.Decide.{touched?, allows?}
+use Rattle.go_board.specs.Show.{shown}
 use Rattle.gtp_wire.specs.Replies.{written_reply}
 use Rattle.gtp_wire.specs.declared.lines.Line.{Line}
 use Rattle.gtp_wire.specs.declared.lines.Line.TheVariants as line
 use Rattle.gtp_session.specs.declared.commands.CommandName.{CommandName}
-use Rattle.gtp_session.specs.declared.commands.CommandName.TheVariants.{ProtocolVersion, Name, Version, KnownCommand, ListCommands, Quit, Boardsize, ClearBoard, Komi, Play, FixedHandicap, Undo}
+use Rattle.gtp_session.specs.declared.commands.CommandName.TheVariants.{ProtocolVersion, Name, Version, KnownCommand, ListCommands, Quit, Boardsize, ClearBoard, Komi, Play, FixedHandicap, Undo, Showboard}
 
 -- A command's name. (The standard, administrative, setup, core play and debug commands.)
 abbrev pub spelled : CommandName → List ℕ
@@ -35,12 +36,13 @@ spelled Komi = codes "komi"
 spelled Play = codes "play"
 spelled FixedHandicap = codes "fixed_handicap"
 spelled Undo = codes "undo"
+spelled Showboard = codes "showboard"
 
 -- all of them, in the order in which `list_commands` names them (own)
 abbrev pub all_commands : List CommandName
 all_commands =
     ProtocolVersion ∷ Name ∷ Version ∷ KnownCommand ∷ ListCommands ∷ Quit ∷ Boardsize ∷ ClearBoard ∷ Komi ∷ Play
-    ∷ FixedHandicap ∷ Undo ∷ []
+    ∷ FixedHandicap ∷ Undo ∷ Showboard ∷ []
 
 -- the command of this name, where there is one; case matters
 abbrev pub command_named : List ℕ → Option CommandName
@@ -137,6 +139,7 @@ answer_to game Komi words = answer_komi game (argument komi_of words 1)
 answer_to game Play words = answer_play game (argument colour_of words 1) (argument vertex_of words 2)
 answer_to game FixedHandicap words = answer_handicap game (argument int_of words 1)
 answer_to game Undo words = answer_undo game
+answer_to game Showboard words = succeeds game (shown game)
 
 -- a command that is named, or an unknown one (the standard, standard error messages)
 abbrev pub answer_to_named : GameRecord → Option CommandName → List (List ℕ) → Answer
@@ -174,6 +177,7 @@ is_quit (Some Komi) = false
 is_quit (Some Play) = false
 is_quit (Some FixedHandicap) = false
 is_quit (Some Undo) = false
+is_quit (Some Showboard) = false
 is_quit None = false
 
 -- whether the session ends with the line: it is a `quit`

@@ -17,7 +17,7 @@ use gtp_wire::{CommandLine, Line, ReplyText, write_reply_into};
 use arrayvec::ArrayVec;
 
 /// What `list_commands` answers: the names of the commands, a line each.
-static NAMES: &[u8] = b"protocol_version\nname\nversion\nknown_command\nlist_commands\nquit\nboardsize\nclear_board\nkomi\nplay\nfixed_handicap\nundo";
+static NAMES: &[u8] = b"protocol_version\nname\nversion\nknown_command\nlist_commands\nquit\nboardsize\nclear_board\nkomi\nplay\nfixed_handicap\nundo\nshowboard";
 
 /// The room for nine vertices and the spaces between them.
 const POINTS_ROOM: usize = 44;
@@ -70,6 +70,7 @@ fn execute(command: CommandName, game: &mut Game, line: &CommandLine, reply: &mu
         CommandName::Play => play(game, line, reply),
         CommandName::FixedHandicap => fixed_handicap(game, line, reply),
         CommandName::Undo => undo(game, line, reply),
+        CommandName::Showboard => showboard(game, line, reply),
     }
 }
 
@@ -229,6 +230,14 @@ fn undo(game: &mut Game, line: &CommandLine, reply: &mut ReplyText)
     }
 }
 
+
+fn showboard(game: &Game, line: &CommandLine, reply: &mut ReplyText)
+    ensures { Leaves (answer_to game.now CommandName.Showboard line.now.words) line.now.id game.now reply.new.items }
+{
+    // Its contract tells that the size is in its limits.
+    let _ = game.size();
+    success(line, reply, &game.show());
+}
 
 /// The vertices of points, separated by single spaces.
 fn written_points(points: &[Point]) -> ArrayVec<u8, POINTS_ROOM>

@@ -17,10 +17,11 @@ pub enum CommandName {
     Play,
     FixedHandicap,
     Undo,
+    Showboard,
 }
 
 /// The commands, in the order in which `list_commands` names them.
-static COMMANDS: [CommandName; 12] = [
+static COMMANDS: [CommandName; 13] = [
     CommandName::ProtocolVersion,
     CommandName::Name,
     CommandName::Version,
@@ -33,6 +34,7 @@ static COMMANDS: [CommandName; 12] = [
     CommandName::Play,
     CommandName::FixedHandicap,
     CommandName::Undo,
+    CommandName::Showboard,
 ];
 
 impl CommandName {
@@ -63,6 +65,7 @@ impl CommandName {
             CommandName::Play => b"play",
             CommandName::FixedHandicap => b"fixed_handicap",
             CommandName::Undo => b"undo",
+            CommandName::Showboard => b"showboard",
         }
     }
 }
