@@ -3,3 +3,4 @@ pub mod CountsLemmas
 pub mod EngineLemmas
 pub mod MoveLemmas
 pub mod PointLemmas
+pub mod TextLemmas

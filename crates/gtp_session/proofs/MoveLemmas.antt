@@ -63,3 +63,20 @@ untouched game stones (no _) (no _) k l = refl
 pub answer_handicap-bad : (game : GameRecord) (stones : ℕ) → (IsTouched game → ⊥) → (AllowsHandicap game.size stones → ⊥)
     → answer_handicap game (Some stones) ≡ fails game (codes "invalid number of stones")
 answer_handicap-bad game stones k l = untouched game stones (touched? game) (allows? game.size stones) k l
+
+allowed : (game : GameRecord) (stones : ℕ) (d : Dec (IsTouched game)) (e : Dec (AllowsHandicap game.size stones)) → (IsTouched game → ⊥) → AllowsHandicap game.size stones
+    → elim d [
+      | yes _ ↦ fails game (codes "board not empty")
+      | no _ ↦ elim e [
+          | yes _ ↦ succeeds (record game { handicap = stones }) (written_points (handicap_points game.size stones))
+          | no _ ↦ fails game (codes "invalid number of stones")
+        ]
+      ] ≡ succeeds (record game { handicap = stones }) (written_points (handicap_points game.size stones))
+allowed game stones (yes t) e k a = absurd (k t)
+allowed game stones (no _) (yes _) k a = refl
+allowed game stones (no _) (no l) k a = absurd (l a)
+
+-- a number of stones that the size allows, on an empty board
+pub answer_handicap-good : (game : GameRecord) (stones : ℕ) → (IsTouched game → ⊥) → AllowsHandicap game.size stones
+    → answer_handicap game (Some stones) ≡ succeeds (record game { handicap = stones }) (written_points (handicap_points game.size stones))
+answer_handicap-good game stones k a = allowed game stones (touched? game) (allows? game.size stones) k a

@@ -211,6 +211,8 @@ fn refusal_text(fault: PlayFault) -> &'static [u8]
 fn fixed_handicap(game: &mut Game, line: &CommandLine, reply: &mut ReplyText)
     ensures { Leaves (answer_handicap game.old (argument int_of line.now.words 1)) line.now.id game.new reply.new.items }
 {
+    // Its contract tells that the size is in its limits.
+    let _ = game.size();
     match int_argument(line) {
         None => syntax_error(line, reply),
         Some(stones) => match game.place_handicap(stones) {
