@@ -1,5 +1,5 @@
 -- What is refused is answered as the table says.
-use Rattle.std.proofs.Common.{◌≡◌, ℕ, ◌<◌, [], length, Bool, true, false, refl, arith, Some}
+use Rattle.std.proofs.Common.{◌≡◌, ℕ, ◌<◌, [], length, true, false, refl, arith, Some}
 use Rattle.std.proofs.lemmas.Bool.Decides.{nat_tests}
 use Rattle.std.specs.Prelude.{codes, nat_le}
 use Rattle.go_base.specs.Handicap.{AllowsHandicap, handicap_points}
@@ -51,10 +51,10 @@ untouched : (game : GameRecord) (stones : ℕ) (d : Dec (IsTouched game)) (e : D
     → elim d [
       | yes _ ↦ fails game (codes "board not empty")
       | no _ ↦ elim e [
-          | yes _ ↦ succeeds (record game { handicap = stones }) (written_points (handicap_points game.size stones))
-          | no _ ↦ fails game (codes "invalid number of stones")
-        ]
-      ] ≡ fails game (codes "invalid number of stones")
+        | yes _ ↦ succeeds (record game { handicap = stones }) (written_points (handicap_points game.size stones))
+        | no _ ↦ fails game (codes "invalid number of stones")
+      ]
+    ] ≡ fails game (codes "invalid number of stones")
 untouched game stones (yes t) e k l = absurd (k t)
 untouched game stones (no _) (yes a) k l = absurd (l a)
 untouched game stones (no _) (no _) k l = refl
@@ -68,10 +68,10 @@ allowed : (game : GameRecord) (stones : ℕ) (d : Dec (IsTouched game)) (e : Dec
     → elim d [
       | yes _ ↦ fails game (codes "board not empty")
       | no _ ↦ elim e [
-          | yes _ ↦ succeeds (record game { handicap = stones }) (written_points (handicap_points game.size stones))
-          | no _ ↦ fails game (codes "invalid number of stones")
-        ]
-      ] ≡ succeeds (record game { handicap = stones }) (written_points (handicap_points game.size stones))
+        | yes _ ↦ succeeds (record game { handicap = stones }) (written_points (handicap_points game.size stones))
+        | no _ ↦ fails game (codes "invalid number of stones")
+      ]
+    ] ≡ succeeds (record game { handicap = stones }) (written_points (handicap_points game.size stones))
 allowed game stones (yes t) e k a = absurd (k t)
 allowed game stones (no _) (yes _) k a = refl
 allowed game stones (no _) (no l) k a = absurd (l a)

@@ -1,8 +1,8 @@
 -- Texts that a reply may have.
-use Rattle.std.proofs.Common.{◌≡◌, ℕ, zero, suc, ◌+◌, ◌-◌, ◌*◌, ◌/◌, ◌%◌, ◌^◌, ◌<◌, ◌≤◌, List, [], ◌∷◌, ◌++◌, length, map, reverse, Bool, true, false, cond, eqb, Option, Some, None, refl, sym, ◌∙◌, ap, subst, arith, ◌&&◌, ◌||◌, ◌⊎◌, inl, inr, append_assoc, append-nil, length-append, lit≤, lit<}
+use Rattle.std.proofs.Common.{◌≡◌, ℕ, zero, suc, ◌+◌, ◌*◌, ◌/◌, ◌%◌, ◌^◌, ◌<◌, ◌≤◌, List, [], ◌∷◌, ◌++◌, length, map, reverse, Bool, true, false, cond, eqb, Option, Some, None, refl, ◌∙◌, ap, arith, append-nil, length-append, lit≤, lit<}
 use Rattle.std.specs.Prelude.{codes, All}
 use Rattle.std.specs.List.{range_with_len, flat_map, join_with_byte, list_all, AllByRecursion}
-use Rattle.std.specs.Fmt.{digits, digits_onto, digit_glyph, decimal}
+use Rattle.std.specs.Fmt.{digits, digits_onto, digit_glyph}
 use Rattle.std.proofs.lemmas.Bool.Decides.{nat_tests}
 use Rattle.std.proofs.lemmas.List.{reverse-append}
 use Rattle.std.proofs.lemmas.List.Elements.{recursion_from_All}
@@ -13,15 +13,14 @@ use Rattle.go_base.specs.Int.{written_int}
 use Rattle.go_base.specs.Point.{point, column_of, row_of, IsOn}
 use Rattle.go_base.specs.Size.{IsSize}
 use Rattle.go_base.specs.Vertex.{letter_of, written_vertex}
-use Rattle.go_base.specs.declared.vertices.Vertex.{Vertex}
 use Rattle.go_base.specs.declared.vertices.Vertex.TheVariants.{At}
 use Rattle.go_base.specs.declared.colours.Colour.{Colour}
 use Rattle.go_base.specs.declared.colours.Colour.TheVariants.{Black, White}
-use Rattle.go_base.proofs.HandicapLemmas.{IsSound, handicap_sound}
+use Rattle.go_base.proofs.HandicapLemmas.{handicap_sound}
 use Rattle.go_board.specs.Board.{stone_at}
 use Rattle.go_board.specs.Game.{GameRecord, board_of}
 use Rattle.go_board.specs.Taken.{taken}
-use Rattle.go_board.specs.Show.{shown_point, shown_points, shown_row, shown_letters, shown_captures, rows_down, shown_lines, shown}
+use Rattle.go_board.specs.Show.{shown_point, shown_points, shown_row, shown_letters, shown_captures, rows_down, shown}
 use Rattle.gtp_wire.specs.Bytes.{is_newline, is_blank}
 use Rattle.gtp_wire.specs.Replies.{has_two_newlines, is_shown, begins_blank, IsReplyText}
 

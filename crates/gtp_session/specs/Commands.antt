@@ -1,5 +1,5 @@
 -- The engine's commands, and what each of them does to the game and answers.
-use Rattle.std.specs.Prelude.{◌≡◌, ℕ, ℤ, ◌+◌, Bool, true, false, ◌&&◌, nat_le, List, [], ◌∷◌, length, map, find, slice_get, Option, Some, None, is_some, option_and_then, if◌then◌else◌, codes}
+use Rattle.std.specs.Prelude.{◌≡◌, ℕ, ℤ, Bool, true, false, ◌&&◌, nat_le, List, [], ◌∷◌, length, map, find, slice_get, Option, Some, None, is_some, option_and_then, if◌then◌else◌, codes}
 use Rattle.std.specs.List.{join_with_byte}
 use Rattle.std.specs.Str.{bytes_eq}
 use Rattle.go_base.specs.Int.{int_of}
@@ -114,8 +114,8 @@ abbrev pub answer_handicap : GameRecord → Option ℕ → Answer
 answer_handicap game None = syntax_error game
 answer_handicap game (Some stones) =
     elim (touched? game) [
-    | yes _ ↦ fails game (codes "board not empty")
-    | no _ ↦ elim (allows? game.size stones) [
+      | yes _ ↦ fails game (codes "board not empty")
+      | no _ ↦ elim (allows? game.size stones) [
         | yes _ ↦ succeeds (record game { handicap = stones }) (written_points (handicap_points game.size stones))
         | no _ ↦ fails game (codes "invalid number of stones")
       ]

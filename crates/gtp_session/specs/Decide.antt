@@ -1,11 +1,11 @@
 -- Decisions of what a handicap needs. The type of a decision says all that there is to know of it.
-use Rattle.std.proofs.Common.{◌≡◌, ℕ, zero, suc, ◌<◌, ◌≤◌, ◌%◌, List, [], ◌∷◌, length, refl, sym, ◌∙◌, arith, inl, inr}
+use Rattle.std.proofs.Common.{◌≡◌, ℕ, zero, suc, ◌≤◌, ◌%◌, List, [], ◌∷◌, length, refl, arith, inl, inr}
 use Rattle.std.specs.Prelude.{◌⊎◌}
 use Rattle.go_base.specs.Handicap.{AllowsHandicap}
 use Rattle.go_base.specs.declared.colours.Colour.TheVariants as colour
 use Rattle.go_board.specs.declared.board.Cell.{Cell}
 use Rattle.go_board.specs.declared.board.Cell.TheVariants.{Edge, Empty, Black, White}
-use Rattle.go_board.specs.Board.{at, stone, IsStone, HasStone}
+use Rattle.go_board.specs.Board.{at, IsStone, HasStone}
 use Rattle.go_board.specs.Decide.{either?, both?, by?, number?, below?}
 use Rattle.go_board.specs.Game.{GameRecord, board_of}
 use Rattle.go_board.specs.Refusals.{IsTouched}

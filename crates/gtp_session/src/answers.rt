@@ -11,13 +11,14 @@ ghost use Rattle.gtp_wire.specs.Replies.{IsReplyText, written_reply};
 ghost use Rattle.gtp_session.specs.Commands.{Leaves, command_named, argument, id_of, ends, answer, answer_to, answer_to_words, answer_known, answer_boardsize, answer_komi, answer_play, answer_handicap, answer_undo, answer_move, refusal_text, is_quit, written_points};
 
 use crate::commands::CommandName;
+use arrayvec::ArrayVec;
 use go_base::{Colour, Komi, Point, Size, Vertex, read_int};
 use go_board::{Game, HandicapFault, PlayFault};
 use gtp_wire::{CommandLine, Line, ReplyText, write_reply_into};
-use arrayvec::ArrayVec;
 
 /// What `list_commands` answers: the names of the commands, a line each.
-static NAMES: &[u8] = b"protocol_version\nname\nversion\nknown_command\nlist_commands\nquit\nboardsize\nclear_board\nkomi\nplay\nfixed_handicap\nundo\nshowboard";
+static NAMES: &[u8] =
+    b"protocol_version\nname\nversion\nknown_command\nlist_commands\nquit\nboardsize\nclear_board\nkomi\nplay\nfixed_handicap\nundo\nshowboard";
 
 /// The room for nine vertices and the spaces between them.
 const POINTS_ROOM: usize = 44;
@@ -188,7 +189,13 @@ fn play(game: &mut Game, line: &CommandLine, reply: &mut ReplyText)
     }
 }
 
-fn make_move(game: &mut Game, colour: Colour, vertex: Vertex, line: &CommandLine, reply: &mut ReplyText)
+fn make_move(
+    game: &mut Game,
+    colour: Colour,
+    vertex: Vertex,
+    line: &CommandLine,
+    reply: &mut ReplyText,
+)
     ensures { Leaves (answer_move game.old colour vertex) line.now.id game.new reply.new.items }
 {
     match game.play(colour, vertex) {
@@ -204,7 +211,8 @@ fn refusal_text(fault: PlayFault) -> &'static [u8]
 {
     match fault {
         PlayFault::Full => b"record full",
-        PlayFault::OffBoard | PlayFault::Occupied | PlayFault::Suicide | PlayFault::Ko => b"illegal move",
+        PlayFault::OffBoard | PlayFault::Occupied | PlayFault::Suicide | PlayFault::Ko =>
+            b"illegal move",
     }
 }
 
@@ -231,7 +239,6 @@ fn undo(game: &mut Game, line: &CommandLine, reply: &mut ReplyText)
         Err(_) => failure(line, reply, b"cannot undo"),
     }
 }
-
 
 fn showboard(game: &Game, line: &CommandLine, reply: &mut ReplyText)
     ensures { Leaves (answer_to game.now CommandName.Showboard line.now.words) line.now.id game.now reply.new.items }

@@ -8,5 +8,4 @@ use crate::policy::Policy;
 pub fn texts_join<P: Policy>()
     ensures replies { RepliesJoin P.may }
     ensures outputs { EngagesJoin P.may }
-{
-}
+{}

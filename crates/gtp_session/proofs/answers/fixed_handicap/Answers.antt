@@ -9,14 +9,14 @@ pub success-requires : goal.success-requires
 success-requires c =
     let fits = handicap_fits c.args.game.now.size c.in-Some.stones c.size.ensures.game.size c.in-Ok.ensures.answer.1 in
     let is : c.deref-in-Ok.result.now ≡ written_points c.in-Ok.points.items =
-        c.deref-in-Ok.ensures.0 ∙ c.written_points.ensures ∙ ap written_points c.deref.ensures.0 in
+    c.deref-in-Ok.ensures.0 ∙ c.written_points.ensures ∙ ap written_points c.deref.ensures.0 in
     subst IsReplyText (sym (is ∙ ap written_points c.in-Ok.ensures.ok)) fits
 
 pub returns-in-Ok : goal.returns-in-Ok
 returns-in-Ok c =
     let good = answer_handicap-good c.args.game.now c.in-Some.stones c.in-Ok.ensures.answer.0 c.in-Ok.ensures.answer.1 in
     let is : c.deref-in-Ok.result.now ≡ written_points c.in-Ok.points.items =
-        c.deref-in-Ok.ensures.0 ∙ c.written_points.ensures ∙ ap written_points c.deref.ensures.0 in
+    c.deref-in-Ok.ensures.0 ∙ c.written_points.ensures ∙ ap written_points c.deref.ensures.0 in
     rw (← c.int_argument.ensures, c.in-Some.is, good)
     (record {
       game_is = c.in-Ok.ensures.placed;

@@ -1,5 +1,4 @@
-use Rattle.std.proofs.Common.{rules, ◌≡◌, ◌∙◌, sym, ap}
-use Rattle.gtp_wire.specs.Replies.{written_reply}
+use Rattle.std.proofs.Common.{rules}
 use Rattle.gtp_session.proofs.MoveLemmas.{answer_move-refused}
 use Rattle.gtp_session.proofs.answers.make_move.Goals as goal
 

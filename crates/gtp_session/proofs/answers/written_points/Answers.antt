@@ -1,4 +1,4 @@
-use Rattle.std.proofs.Common.{rules, ◌≡◌, ◌++◌, ◌∙◌, ap, arith, List, ℕ}
+use Rattle.std.proofs.Common.{rules, ◌++◌, ◌∙◌, ap, List, ℕ}
 use Rattle.go_base.specs.Vertex.{written_vertex}
 use Rattle.go_base.specs.declared.vertices.Vertex.TheVariants.{At}
 use Rattle.gtp_session.proofs.PointLemmas.{AreWritten-push}
