@@ -7,7 +7,8 @@ use Rattle.std.proofs.lemmas.List.{map-id, get_or_past}
 use Rattle.std.proofs.lemmas.List.FromFn.{fill_by_all, sum_by-map-range_with_len_more, get_or-map-range_with_len, length-map-range_with_len}
 use Rattle.go_base.specs.Colour.{other}
 use Rattle.go_base.specs.declared.colours.Colour.{Colour}
-use Rattle.go_board.specs.Board.{at, stone, IsFramed, HasSize, SameEdge}
+use Rattle.go_board.specs.Board.{at, stone}
+use Rattle.go_board.specs.Frame.{IsFramed, HasSize, SameEdge}
 use Rattle.go_board.specs.Decide.{holds}
 use Rattle.go_board.specs.Flood.{AreTouching}
 use Rattle.go_board.specs.Put.{IsCaptured, captured?, is_captured, left_at, without_captured, captured_count, put}

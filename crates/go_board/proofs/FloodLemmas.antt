@@ -6,7 +6,8 @@ use Rattle.std.proofs.lemmas.List.{get_or_default}
 use Rattle.std.proofs.lemmas.List.Elements.{All-push, All-nil, All-contains, Contains-append_left}
 use Rattle.go_base.specs.Point.{Neighbours, IsOn}
 use Rattle.go_base.specs.Size.{size_max}
-use Rattle.go_board.specs.Board.{at, IsFramed}
+use Rattle.go_board.specs.Board.{at}
+use Rattle.go_board.specs.Frame.{IsFramed}
 use Rattle.go_board.specs.Chain.{Joined, itself, by_way_of, HasBeside, Touches}
 use Rattle.go_board.specs.Flood.{IsSpread, IsSeeded, AreTouching}
 use Rattle.go_board.specs.declared.board.Cell.{Cell}

@@ -13,7 +13,7 @@ use Rattle.go_base.specs.declared.colours.Colour.TheVariants as colour
 use Rattle.go_base.specs.declared.vertices.Vertex.{Vertex}
 use Rattle.go_base.specs.declared.vertices.Vertex.TheVariants.{Pass, At}
 use Rattle.go_base.specs.declared.moves.Move.{Move}
-use Rattle.go_board.specs.Board.{HasSize}
+use Rattle.go_board.specs.Frame.{HasSize}
 use Rattle.go_board.specs.Game.{GameRecord, HasRoom, start, board, board_of, first_moves, without_last, with_move, after, IsGame, IsLegal}
 use Rattle.go_board.specs.Kept.{record_of, IsKept, IsNext}
 use Rattle.go_board.specs.Refusals.{RefusesVertex, Refuses}

@@ -3,7 +3,8 @@ use Rattle.std.proofs.Common.{◌≡◌, ℕ, ◌≤◌, List, sym, ◌∙◌, a
 use Rattle.std.specs.Prelude.{◌≢◌}
 use Rattle.go_base.specs.declared.colours.Colour.{Colour}
 use Rattle.go_base.specs.declared.vertices.Vertex.TheVariants.{At}
-use Rattle.go_board.specs.Board.{at, HasSize}
+use Rattle.go_board.specs.Board.{at}
+use Rattle.go_board.specs.Frame.{HasSize}
 use Rattle.go_board.specs.Chain.{IsFree}
 use Rattle.go_board.specs.Game.{GameRecord, board_of, Repeats}
 use Rattle.go_board.specs.Kept.{record_of, IsKept, IsNext}

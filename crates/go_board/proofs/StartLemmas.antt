@@ -7,7 +7,8 @@ use Rattle.std.proofs.lemmas.List.Sums.{fold_more}
 use Rattle.go_base.specs.Point.{IsOn}
 use Rattle.go_base.specs.Size.{size_max}
 use Rattle.go_base.specs.Handicap.{handicap_points, AllowsHandicap}
-use Rattle.go_board.specs.Board.{at, empty_board, with_black, HasSize, IsFramed, SameEdge}
+use Rattle.go_board.specs.Board.{at, empty_board, with_black}
+use Rattle.go_board.specs.Frame.{HasSize, IsFramed, SameEdge}
 use Rattle.go_board.specs.Game.{start}
 use Rattle.go_board.specs.declared.board.Cell.{Cell}
 use Rattle.go_board.specs.declared.board.Cell.TheVariants.{Edge, Black}

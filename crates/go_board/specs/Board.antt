@@ -1,10 +1,11 @@
--- A board is the list of what its places hold.
--- The places are numbered as points are, row by row from the bottom with 26 places to a row: the point of a column and a row is the place
--- 26 * row + column. A place that is no point of the board's size holds edge, so each neighbour of a point is a place of the list too.
-use Rattle.std.specs.Prelude.{◌≡◌, ◌≢◌, ℕ, ◌&&◌, ◌↔◌, nat_le, if◌then◌else◌, Bool, List, length, map, slice_index_or, slice_set, Option, Some, None}
+-- Boards. (Own: the standard leaves to the engine how it keeps one.)
+--
+-- A board is the list of what its places hold. The places are numbered as points are, row by row from the bottom with 26
+-- places to a row: the point of a column and a row is the place 26 * row + column. A place that is no point of the board's
+-- size holds edge, so each neighbour of a point is a place of the list too.
+use Rattle.std.specs.Prelude.{◌≡◌, ℕ, ◌&&◌, nat_le, if◌then◌else◌, Bool, List, map, slice_index_or, slice_set, Option, Some, None}
 use Rattle.std.specs.List.{range_with_len, fold}
-use Rattle.go_base.specs.Point.{column_of, row_of, IsOn}
-use Rattle.go_base.specs.Size.{size_max}
+use Rattle.go_base.specs.Point.{column_of, row_of}
 use Rattle.go_base.specs.declared.colours.Colour.{Colour}
 use Rattle.go_base.specs.declared.colours.Colour.TheVariants as colour
 use Rattle.go_board.specs.declared.board.Cell.{Cell}
@@ -54,17 +55,3 @@ empty_board size = map (λ p. if is_point size p then Empty else Edge) (range_wi
 -- the board with black stones set on these points, and nothing removed
 abbrev pub with_black : List Cell → List ℕ → List Cell
 with_black board points = fold (λ b p. slice_set b p Black) board points
-
--- a board of this size: its points, and no other place, aren't edge
-abbrev pub HasSize : ℕ → List Cell → Type 0
-HasSize size board = (p : ℕ) → (at board p ≢ Edge) ↔ IsOn size p
-
--- a list of places with edge round the points of the largest board
-pub record IsFramed (board : List Cell) : Type 0 where
-  pub length_is : length board ≡ place_count
-  pub inside : (p : ℕ) → at board p ≢ Edge → IsOn size_max p
-
--- the same places hold edge
-pub record SameEdge (old new : List Cell) : Type 0 where
-  pub kept : (p : ℕ) → at old p ≡ Edge → at new p ≡ Edge
-  pub back : (p : ℕ) → at new p ≡ Edge → at old p ≡ Edge

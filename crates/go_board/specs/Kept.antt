@@ -5,7 +5,8 @@ use Rattle.go_base.specs.declared.colours.Colour.TheVariants.{Black, White}
 use Rattle.go_base.specs.declared.vertices.Vertex.{Vertex}
 use Rattle.go_board.specs.declared.game.Game.TheInside.{Inside}
 use Rattle.go_board.specs.declared.game.Played.{Played}
-use Rattle.go_board.specs.Board.{place_count, HasSize}
+use Rattle.go_board.specs.Board.{place_count}
+use Rattle.go_board.specs.Frame.{HasSize}
 use Rattle.go_board.specs.Game.{GameRecord, IsGame, IsLegal, board_of, without_last, after_vertex}
 use Rattle.go_board.specs.Taken.{taken, captures_of_vertex}
 

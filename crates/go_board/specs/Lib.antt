@@ -1,4 +1,5 @@
 pub mod Board
+pub mod Frame
 pub mod Chain
 pub mod Decide
 pub mod DecideChains

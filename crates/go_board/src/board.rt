@@ -87,7 +87,7 @@ impl Model for Board {
 
     ghost Value = { List Cell };
 
-    ghost use Rattle.go_board.specs.Board.{IsFramed};
+    ghost use Rattle.go_board.specs.Frame.{IsFramed};
 
     ghost view = { λ b. b.cells };
 
@@ -97,7 +97,8 @@ impl Model for Board {
 }
 
 impl Board {
-    ghost use Rattle.go_board.specs.Board.{place_count, at, stone, empty_board, with_black, HasStone, HasSize, SameEdge};
+    ghost use Rattle.go_board.specs.Board.{place_count, at, stone, empty_board, with_black, HasStone};
+    ghost use Rattle.go_board.specs.Frame.{HasSize, SameEdge};
     ghost use Rattle.go_base.specs.Colour.{other};
     ghost use Rattle.go_base.specs.Handicap.{AllowsHandicap};
     ghost use Rattle.go_board.specs.Area.{CountsFor, area};

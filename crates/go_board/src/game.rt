@@ -310,20 +310,10 @@ impl Game {
     pub fn finished(&self) -> bool
         ensures { IsTrue result ↔ IsFinished self.now }
     {
-        matches!(
-            self.moves(),
-            [
-                ..,
-                Move {
-                    vertex: Vertex::Pass,
-                    ..
-                },
-                Move {
-                    vertex: Vertex::Pass,
-                    ..
-                }
-            ]
-        )
+        let [.., first, second] = self.moves() else {
+            return false;
+        };
+        first.vertex == Vertex::Pass && second.vertex == Vertex::Pass
     }
 }
 

@@ -1,5 +1,6 @@
 use Rattle.std.proofs.Common.{◌≡◌, ◌∙◌, sym, ap, subst}
-use Rattle.go_board.specs.Board.{at, HasSize}
+use Rattle.go_board.specs.Board.{at}
+use Rattle.go_board.specs.Frame.{HasSize}
 use Rattle.go_board.specs.Game.{board_of}
 use Rattle.go_board.proofs.CaptureLemmas.{at-put}
 use Rattle.go_board.proofs.NextLemmas.{empty-point, IsNext-put}
