@@ -118,3 +118,26 @@ impl Read for Waiting<'_> {
         Ok(count)
     }
 }
+
+/// Takes each text whole, counts the writes, and fails one that comes before the reply that it took was flushed.
+#[derive(Drop)]
+pub struct Strict {
+    pub writes: Rc<Cell<u32>>,
+    pub whole: bool,
+}
+
+impl Write for Strict {
+    fn write(&mut self, buf: &[u8]) -> io::Result<usize> {
+        if self.whole {
+            return Err(io::Error::from(ErrorKind::BrokenPipe));
+        }
+        self.whole = buf.ends_with(b"\n\n");
+        self.writes.set(self.writes.get().saturating_add(1));
+        Ok(buf.len())
+    }
+
+    fn flush(&mut self) -> io::Result<()> {
+        self.whole = false;
+        Ok(())
+    }
+}

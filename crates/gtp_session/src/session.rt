@@ -126,6 +126,7 @@ impl<P: Policy> Session<P> {
     pub fn feed_into(&mut self, input: &[u8], text: &mut ReplyText) -> Taken
         ensures within { result.used ≤ length input.now }
         ensures replies { (genmove : Bool) × Replies P.may self.old (take result.used input.now) self.new (reply_if result.replied text.new.items genmove) }
+        ensures kept { result.replied ≡ false → text.new ≡ text.old }
         ensures line { IsTrue result.replied → StopsAtLine P.may self.old (take result.used input.now) }
         ensures all { result.replied ≡ false → self.old.ended ≡ false → result.used ≡ length input.now }
         ensures over { self.old.ended ≡ true → (result.used ≡ 0) × (result.replied ≡ false) }

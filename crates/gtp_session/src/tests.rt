@@ -1,5 +1,5 @@
 //! Conversations over memory.
-use crate::memory::{Limited, Pieces, Telling, Waiting};
+use crate::memory::{Limited, Pieces, Strict, Telling, Waiting};
 use crate::policy::NoMoves;
 use crate::serve::{ServeFault, Served, serve, serve_within};
 use crate::session::Session;
@@ -77,7 +77,7 @@ fn comments_and_control_characters_are_no_part_of_a_line(rt: HostRuntime) {
 }
 
 #[test]
-fn an_id_is_an_int_and_is_repeated_as_it_is_written(rt: HostRuntime) {
+fn an_id_is_an_int_and_is_repeated_without_leading_zeros(rt: HostRuntime) {
     assert_serves(
         &rt,
         b"99999999999 name\n",
@@ -491,5 +491,36 @@ fn a_play_whose_reply_breaks_was_made_and_the_next_was_not(rt: HostRuntime) -> R
     assert_eq!(rt; session.game().moves().len(), 1);
     let point = Point::new(1, 1).ok_or("no point")?;
     assert_eq!(rt; session.game().at(point), Some(Colour::Black));
+    Ok(())
+}
+
+#[test]
+fn a_reply_is_one_write_and_is_flushed_before_the_next(rt: HostRuntime) -> Result<(), Fail> {
+    let writes = Rc::new(rt.alloc(), Cell::new(0))?;
+    let mut session = Session::new();
+    let mut reader = reader_of(b"1 name\n2 version\n3 quit\n", &[], None);
+    let mut writer = Counted::new(Strict {
+        writes: writes.clone()?,
+        whole: false,
+    });
+    let answer = serve(&mut reader, &mut writer, &mut session);
+    assert_eq!(rt; answer, Ok(Served::Quit));
+    assert_eq!(rt; writes.get(), 3);
+    Ok(())
+}
+
+#[test]
+fn one_read_has_room_for_4096_bytes(rt: HostRuntime) -> Result<(), Fail> {
+    let mut input = Vec::new(rt.alloc());
+    input.extend_from_slice(b"name")?;
+    input.resize(4095, b' ')?;
+    input.push(b'\n')?;
+    let mut taken = ArrayVec::new();
+    let mut session = Session::new();
+    let mut reader = reader_of(&input, &[], None);
+    let mut writer = writer_of(&mut taken, 4096, 100);
+    let answer = serve_within(&mut reader, &mut writer, &mut session, 1);
+    assert_eq!(rt; answer, Err(ServeFault::TooManyReads));
+    assert_eq!(rt; taken.as_slice(), b"= stepgo\n\n".as_slice());
     Ok(())
 }
