@@ -18,8 +18,8 @@ const LINE_MAX: u32 = 25;
 /// one less, one more, 26 less and 26 more, and no step leads from the end of one row to the start of the next.
 #[derive(Clone, Copy, Debug, PartialEq, Eq)]
 pub struct Point {
-    column: u32,
-    row: u32,
+    column: u8,
+    row: u8,
 }
 
 impl Model for Point {
@@ -47,7 +47,7 @@ impl Point {
         if !(1..=LINE_MAX).contains(&column) || !(1..=LINE_MAX).contains(&row) {
             return None;
         }
-        Some(Point { column, row })
+        Some(Point::crossing(column, row))
     }
 
     /// The point where a column and a row cross.
@@ -55,7 +55,10 @@ impl Point {
         requires { IsCrossing column row }
         ensures { result ≡ point column row }
     {
-        Point { column, row }
+        Point {
+            column: column as u8,
+            row: row as u8,
+        }
     }
 
     /// The column, 1 to 25, counted from the left.
@@ -63,7 +66,7 @@ impl Point {
         ensures value { result ≡ column_of self }
         ensures limits { IsOn size_max self }
     {
-        self.column
+        u32::from(self.column)
     }
 
     /// The row, 1 to 25, counted from the bottom.
@@ -71,15 +74,14 @@ impl Point {
         ensures value { result ≡ row_of self }
         ensures limits { IsOn size_max self }
     {
-        self.row
+        u32::from(self.row)
     }
 
     /// Whether a board of that size has the point.
     pub fn on(self, size: Size) -> bool
         ensures { IsTrue result ↔ IsOn size self }
     {
-        let number = size.get();
-        number >= self.column && number >= self.row
+        self.column() <= size.get() && self.row() <= size.get()
     }
 }
 

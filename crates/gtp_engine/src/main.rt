@@ -1,21 +1,11 @@
 //! An engine that speaks the Go Text Protocol, version 2, on its standard input and output.
 #![tactic(auto)]
 
-pub mod commands;
-#[cfg(test)]
-mod memory;
-pub mod policy;
-pub mod serve;
-pub mod session;
-pub mod streams;
-#[cfg(test)]
-mod tests;
-
-use serve::serve;
-use session::Session;
+use gtp_session::serve::serve;
+use gtp_session::session::Session;
+use gtp_session::streams::Counted;
 use std::io::Write;
 use std::process::ExitCode;
-use streams::Counted;
 
 /// Serves until `quit` or the end of the input, with status 0. A fault of its own is told on the standard error in one
 /// line, with status 3.

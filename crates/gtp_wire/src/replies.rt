@@ -1,5 +1,5 @@
 //! Replies, and their writer.
-ghost use Rattle.std.specs.Prelude.{◌≡◌, ℕ, ◌+◌, ◌≤◌, ◌++◌, length, IfSome};
+ghost use Rattle.std.specs.Prelude.{◌≡◌, ℕ, ◌+◌, ◌<◌, ◌≤◌, [], ◌++◌, length, IfSome};
 ghost use Rattle.arrayvec.specs.ArrayVec.{array_vec_len};
 ghost use Rattle.go_base.specs.Int.{int_max};
 ghost use Rattle.gtp_wire.specs.Replies.{IsReply, IsReplyText, reply_text_max, written_reply, written_id, spaced};
@@ -31,6 +31,9 @@ pub enum ReplyFault {
 /// The bytes of a reply that is written.
 pub type ReplyText = ArrayVec<u8, REPLY_ROOM>;
 
+/// The most bytes that the text of a written reply has.
+const REPLY_TEXT_LIMIT: usize = 2000;
+
 /// The room for a status, an id, a space, a text and two newlines.
 const REPLY_ROOM: usize = 2048;
 
@@ -52,15 +55,19 @@ pub fn write_reply(ok: bool, id: Option<u32>, text: &[u8]) -> ReplyText
     out
 }
 
-/// Writes a reply as `write_reply` does, in place of what `out` holds.
+/// Writes a reply as `write_reply` does, in place of what `out` holds. Of a text of more than 2,000 bytes it writes
+/// nothing.
 pub fn write_reply_into(out: &mut ReplyText, ok: bool, id: Option<u32>, text: &[u8])
-    requires id_fits { IfSome id (λ n. n ≤ int_max) }
-    requires text_fits { IsReplyText text.now }
-    ensures bytes { out.new.items ≡ written_reply ok id text.now }
-    // They are one reply, of this status, id and text.
-    ensures reply { (value : Reply) → value.ok ≡ ok → value.id ≡ id → value.text.items ≡ text.now →
-        IsReply out.new.items value }
+    ensures bytes { length text.now ≤ reply_text_max → out.new.items ≡ written_reply ok id text.now }
+    ensures nothing { reply_text_max < length text.now → out.new.items ≡ [] }
+    // Where id and text are those of a reply, the bytes are one reply, of this status, id and text.
+    ensures reply { IfSome id (λ n. n ≤ int_max) → IsReplyText text.now →
+        (value : Reply) → value.ok ≡ ok → value.id ≡ id → value.text.items ≡ text.now → IsReply out.new.items value }
 {
+    if text.len() > REPLY_TEXT_LIMIT {
+        out.clear();
+        return;
+    }
     put_reply(out, ok, id, text);
 }
 

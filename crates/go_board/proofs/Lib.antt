@@ -1,0 +1,11 @@
+pub mod PlacesLemmas
+pub mod FloodLemmas
+pub mod BoardLemmas
+pub mod CaptureLemmas
+pub mod EmptyLemmas
+pub mod StartLemmas
+pub mod AreaLemmas
+pub mod TakenLemmas
+pub mod GameLemmas
+pub mod NextLemmas
+pub mod ShowLemmas

@@ -1,0 +1,5 @@
+use Rattle.go_board.proofs.GameLemmas.{IsKept-komi}
+use Rattle.go_board.proofs.game.Game.set_komi.Goals as goal
+
+pub invariant_of-self : goal.invariant_of-self
+invariant_of-self c = IsKept-komi c.self.inside c.args.komi c.half_points.ensures.limits c.self.invariant

@@ -1,0 +1,34 @@
+use Rattle.std.proofs.Common.{◌≡◌, ◌+◌, List, ℕ, [], ◌∷◌, ◌++◌, arith, ap, ◌∙◌}
+use Rattle.go_board.proofs.ShowLemmas.{letters_before, letters_before-first, letters_before-more, letters_before-all}
+use Rattle.go_board.proofs.show.push_letters.Goals as goal
+
+pub loop-column-init : goal.loop-column-init
+loop-column-init c = record {
+  few = omega arith;
+  written = c.push.ensures.items ∙ letters_before-first c.args.text.now.items;
+  len = omega arith;
+}
+
+pub loop-column-preserved : goal.loop-column-preserved
+loop-column-preserved c = record {
+  few = omega arith;
+  written =
+      c.push-in-loop-column-2.ensures.items
+      ∙ ap (λ t. t ++ c.letter.result ∷ []) (c.push-in-loop-column.ensures.items ∙ ap (λ t. t ++ 32 ∷ []) c.loop-column.invariant.written)
+      ∙ ap (λ b. ((c.args.text.now.items ++ letters_before c.loop-column.column) ++ 32 ∷ []) ++ b ∷ []) c.letter.ensures
+      ∙ letters_before-more c.loop-column.column c.args.text.now.items (omega arith);
+  len = omega arith;
+}
+
+pub returns-clause-letters : goal.returns-clause-letters
+returns-clause-letters c =
+    c.loop-column.invariant.written
+    ∙ letters_before-all c.args.size c.loop-column.column c.args.text.now.items (omega arith)
+
+pub returns-2-clause-letters : goal.returns-2-clause-letters
+returns-2-clause-letters c =
+    c.push-in-loop-column-2.ensures.items
+    ∙ ap (λ t. t ++ c.letter.result ∷ []) (c.push-in-loop-column.ensures.items ∙ ap (λ t. t ++ 32 ∷ []) c.loop-column.invariant.written)
+    ∙ ap (λ b. ((c.args.text.now.items ++ letters_before c.loop-column.column) ++ 32 ∷ []) ++ b ∷ []) c.letter.ensures
+    ∙ letters_before-more c.loop-column.column c.args.text.now.items (omega arith)
+    ∙ letters_before-all c.args.size (c.loop-column.column + 1) c.args.text.now.items (omega arith)

@@ -1,0 +1,116 @@
+-- A game is its size, komi, handicap and moves: its board and what is legal next are made from the whole list of moves.
+use Rattle.std.specs.Prelude.{◌≡◌, ℕ, ℤ, ◌-◌, ◌≤◌, ◌<◌, ◌⊎◌, List, [], ◌∷◌, ◌++◌, length, take, slice_get, Some}
+use Rattle.std.specs.List.{fold}
+use Rattle.go_base.specs.Handicap.{handicap_points, AllowsHandicap}
+use Rattle.go_base.specs.Komi.{IsKomi}
+use Rattle.go_base.specs.Point.{IsOn}
+use Rattle.go_base.specs.Size.{IsSize}
+use Rattle.go_base.specs.declared.colours.Colour.{Colour}
+use Rattle.go_base.specs.declared.vertices.Vertex.{Vertex}
+use Rattle.go_base.specs.declared.vertices.Vertex.TheVariants.{Pass, At}
+use Rattle.go_base.specs.declared.moves.Move.{Move}
+use Rattle.go_board.specs.declared.board.Cell.{Cell}
+use Rattle.go_board.specs.declared.board.Cell.TheVariants.{Empty}
+use Rattle.go_board.specs.Board.{at, empty_board, with_black}
+use Rattle.go_board.specs.Chain.{IsFree}
+use Rattle.go_board.specs.Decide.{both?, not?, by?, below?, on?, cell?, boards?}
+use Rattle.go_board.specs.DecideChains.{touches?}
+use Rattle.go_board.specs.Put.{put}
+
+-- komi in half points, handicap 0 where there is none
+pub record GameRecord : Type 0 where
+  pub size : ℕ
+  pub komi : ℤ
+  pub handicap : ℕ
+  pub moves : List Move
+
+-- how many moves a record has room for
+abbrev pub most_moves : ℕ
+most_moves = 2000
+
+abbrev pub HasRoom : GameRecord → Type 0
+HasRoom game = length game.moves < most_moves
+
+-- the game of the first so many moves
+abbrev pub first_moves : ℕ → GameRecord → GameRecord
+first_moves n game = record game { moves = take n game.moves }
+
+-- the game without its last move
+abbrev pub without_last : GameRecord → GameRecord
+without_last game = first_moves (length game.moves - 1) game
+
+-- the game with one move more
+abbrev pub with_move : GameRecord → Colour → Vertex → GameRecord
+with_move game c v = record game { moves = game.moves ++ record { colour = c; vertex = v } ∷ [] }
+
+-- ---- the board
+
+-- the board before the first move: Black's stones on the handicap's points
+unfoldable pub start : ℕ → ℕ → List Cell
+start size handicap = with_black (empty_board size) (handicap_points size handicap)
+
+abbrev pub after_vertex : List Cell → Colour → Vertex → List Cell
+after_vertex board c Pass = board
+after_vertex board c (At p) = put board c p
+
+-- the board after a move; a pass changes nothing
+abbrev pub after : List Cell → Move → List Cell
+after board move = after_vertex board move.colour move.vertex
+
+-- the board of a list of moves
+unfoldable pub board : ℕ → ℕ → List Move → List Cell
+board size handicap moves = fold after (start size handicap) moves
+
+abbrev pub board_of : GameRecord → List Cell
+board_of game = board game.size game.handicap game.moves
+
+-- ---- what is legal
+
+-- the board would be the one before the previous move: simple ko, for which a pass is a move too; without a move there is no ko
+pub record Repeats (game : GameRecord) (next : List Cell) : Type 0 where
+  pub moved : 0 < length game.moves
+  pub same : next ≡ board_of (without_last game)
+
+-- the point is on the board and empty, the new stone's chain has a liberty once the other colour's stones are removed, and the play is no ko
+pub record IsLegalPlay (game : GameRecord) (c : Colour) (p : ℕ) : Type 0 where
+  pub on_board : IsOn game.size p
+  pub empty : at (board_of game) p ≡ Empty
+  pub free : IsFree (put (board_of game) c p) p
+  pub no_ko : ¬ Repeats game (put (board_of game) c p)
+
+-- a pass is always legal
+abbrev pub IsLegal : GameRecord → Colour → Vertex → Type 0
+IsLegal game c Pass = Unit {0}
+IsLegal game c (At p) = IsLegalPlay game c p
+
+-- size, komi and handicap are in their limits, and each move is legal in the game of the moves before it
+pub record IsGame (game : GameRecord) : Type 0 where
+  pub size : IsSize game.size
+  pub komi : IsKomi game.komi
+  pub handicap : (game.handicap ≡ 0) ⊎ AllowsHandicap game.size game.handicap
+  pub few : length game.moves ≤ most_moves
+  pub legal : (k : ℕ) (move : Move) → slice_get game.moves k ≡ Some move → IsLegal (first_moves k game) move.colour move.vertex
+
+-- ---- decisions, for definitions that go by what is legal
+
+pub repeats? : (game : GameRecord) (next : List Cell) → Dec (Repeats game next)
+repeats? game next =
+    by? (λ h. record { moved = h.0; same = h.1 }) (λ r. (r.moved, r.same))
+    (both? (below? 0 (length game.moves)) (boards? next (board_of (without_last game))))
+
+pub legal? : (game : GameRecord) (c : Colour) (v : Vertex) → Dec (IsLegal game c v)
+legal? game c Pass = yes tt
+legal? game c (At p) =
+    by? (λ h. record { on_board = h.0; empty = (h.1).0; free = ((h.1).1).0; no_ko = ((h.1).1).1 }) (λ l. (l.on_board, (l.empty, (l.free, l.no_ko))))
+    (both? (on? game.size p)
+    (both? (cell? (at (board_of game) p) Empty)
+    (both? (touches? (put (board_of game) c p) p Empty) (not? (repeats? game (put (board_of game) c p))))))
+
+-- ---- the end
+
+-- the last two moves are passes
+pub record IsFinished (game : GameRecord) : Type 0 where
+  pub before : List Move
+  pub first : Colour
+  pub second : Colour
+  pub ends : game.moves ≡ before ++ record { colour = first; vertex = Pass } ∷ record { colour = second; vertex = Pass } ∷ []

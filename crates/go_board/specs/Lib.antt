@@ -1,0 +1,14 @@
+pub mod Board
+pub mod Frame
+pub mod Chain
+pub mod Decide
+pub mod DecideChains
+pub mod Put
+pub mod Game
+pub mod Taken
+pub mod Area
+pub mod Refusals
+pub mod Places
+pub mod Flood
+pub mod Kept
+pub mod Show

@@ -1,0 +1,289 @@
+//! A board as an array of places with edge round the points.
+ghost use Rattle.std.specs.Prelude.{◌≡◌, ◌≢◌, ℕ, ◌<◌, ◌≤◌, ◌↔◌, ◌⊎◌, if◌then◌else◌, IsTrue, All};
+ghost use Rattle.go_base.specs.Point.{IsOn};
+ghost use Rattle.go_base.specs.Size.{size_max, IsSize};
+ghost use Rattle.go_board.specs.Board.{is_point};
+
+use crate::places::Places;
+use go_base::{Colour, Point, Size, handicap};
+use std::marker::Model;
+
+/// How many places a row has: its points and its edge.
+pub const ROW: usize = 26;
+
+/// How many places a board has: 27 rows of them.
+pub const PLACES: usize = 27 * ROW;
+
+/// What a place holds.
+#[derive(Clone, Copy, PartialEq, Eq, Debug)]
+#[repr(u8)]
+pub enum Cell {
+    /// The place is no point of the board.
+    Edge,
+    /// The point has no stone.
+    Empty,
+    /// The point has a black stone.
+    Black,
+    /// The point has a white stone.
+    White,
+}
+
+impl Cell {
+    ghost use Rattle.go_board.specs.Board.{stone, IsStone};
+
+    /// The stone of this colour.
+    #[inline]
+    pub fn stone(colour: Colour) -> Cell
+        ensures { result ≡ stone colour }
+    {
+        match colour {
+            Colour::Black => Cell::Black,
+            Colour::White => Cell::White,
+        }
+    }
+
+    /// Whether this is a stone.
+    #[inline]
+    pub fn is_stone(self) -> bool
+        ensures { IsTrue result ↔ IsStone self }
+    {
+        matches!(self, Cell::Black | Cell::White)
+    }
+}
+
+/// The place of a point.
+#[inline]
+pub fn place_of(point: Point) -> usize
+    ensures value { result ≡ point }
+    ensures point { IsOn size_max result }
+{
+    ROW * point.row() as usize + point.column() as usize
+}
+
+/// What a place holds on a board with so many lines each way, and without a stone.
+#[inline]
+fn empty_cell(lines: u32, place: usize) -> Cell
+    ensures { result ≡ (if is_point lines place then Cell.Empty else Cell.Edge) }
+{
+    let lines = lines as usize;
+    let column = place % ROW;
+    let row = place / ROW;
+    if 1 <= column && column <= lines && 1 <= row && row <= lines {
+        Cell::Empty
+    } else {
+        Cell::Edge
+    }
+}
+
+/// A board: what each of its places holds.
+#[derive(Clone, Copy)]
+pub struct Board {
+    cells: [Cell; PLACES],
+}
+
+impl Model for Board {
+    ghost use Rattle.std.specs.Prelude.{List};
+    ghost use Rattle.go_board.specs.declared.board.Cell.{Cell};
+
+    ghost Value = { List Cell };
+
+    ghost use Rattle.go_board.specs.Frame.{IsFramed};
+
+    ghost view = { λ b. b.cells };
+
+    ghost invariant = { λ b. IsFramed b.cells };
+
+    ghost inverse = { λ cells. record { cells = cells } };
+}
+
+impl Board {
+    ghost use Rattle.go_board.specs.Board.{place_count, at, stone, empty_board, with_black, HasStone};
+    ghost use Rattle.go_board.specs.Frame.{HasSize, SameEdge};
+    ghost use Rattle.go_base.specs.Colour.{other};
+    ghost use Rattle.go_base.specs.Handicap.{AllowsHandicap};
+    ghost use Rattle.go_board.specs.Area.{CountsFor, area};
+    ghost use Rattle.go_board.specs.Chain.{HasBeside, IsFree};
+    ghost use Rattle.go_board.specs.Flood.{IsSpread, AreTouching};
+    ghost use Rattle.go_board.specs.Game.{start};
+    ghost use Rattle.go_board.specs.Put.{without_captured, captured_count, put, captures};
+    ghost use Rattle.go_board.specs.declared.board.Cell.TheVariants.{Edge};
+
+    /// The board of this size without a stone.
+    pub fn empty(size: Size) -> Self
+        ensures board { result ≡ empty_board size }
+        ensures size { HasSize size result }
+        ensures limits { IsSize size }
+    {
+        let lines = size.get();
+        let mut cells = [Cell::Edge; PLACES];
+        for (place, cell) in cells.iter_mut().enumerate() {
+            *cell = empty_cell(lines, place);
+        }
+        Board { cells }
+    }
+
+    /// The board before the first move: Black's stones on the handicap's points, where there is a handicap.
+    pub fn start(size: Size, stones: u32) -> Self
+        requires { (stones ≡ 0) ⊎ AllowsHandicap size stones }
+        ensures board { result ≡ start size stones }
+        ensures size { HasSize size result }
+        ensures limits { IsSize size }
+    {
+        let mut board = Board::empty(size);
+        if let Some(points) = handicap(size, stones) {
+            board.add_black(&points);
+        }
+        board
+    }
+
+    /// Sets black stones on points of the board.
+    fn add_black(&mut self, points: &[Point])
+        requires { All (λ p. at self.old p ≢ Edge) points.now }
+        ensures board { self.new ≡ with_black self.old points.now }
+        ensures edge { SameEdge self.old self.new }
+    {
+        for point in points {
+            self.cells[place_of(*point)] = Cell::Black;
+        }
+    }
+
+    /// Whether a stone is on the board.
+    pub fn has_stone(&self) -> bool
+        ensures { IsTrue result ↔ HasStone self.now }
+    {
+        self.cells.iter().any(|cell| cell.is_stone())
+    }
+
+    /// What a place holds.
+    #[inline]
+    pub fn at(&self, place: usize) -> Cell
+        requires { place < place_count }
+        ensures { result ≡ at self.now place }
+    {
+        self.cells[place]
+    }
+
+    /// Whether both boards hold the same at each place.
+    pub fn is_same(&self, other: &Board) -> bool
+        ensures { IsTrue result ↔ (self.now ≡ other.now) }
+    {
+        self.cells == other.cells
+    }
+
+    /// Whether a neighbour of a point holds this.
+    #[inline]
+    fn has_beside(&self, place: usize, wanted: Cell) -> bool
+        requires { IsOn size_max place }
+        ensures { IsTrue result ↔ HasBeside self.now place wanted }
+    {
+        self.cells[place + 1] == wanted
+            || self.cells[place - 1] == wanted
+            || self.cells[place + ROW] == wanted
+            || self.cells[place - ROW] == wanted
+    }
+
+    /// The places that hold what is sought and whose chain or region touches what is wanted.
+    pub fn touching(&self, sought: Cell, wanted: Cell) -> Places
+        requires { sought ≢ Edge }
+        ensures { AreTouching self.now sought wanted result }
+    {
+        let mut found = Places::new();
+        for (place, cell) in self.cells.iter().enumerate() {
+            if *cell == sought && self.has_beside(place, wanted) {
+                found.insert(place);
+            }
+        }
+        let mut next = 0;
+        while next < found.len() {
+            let place = found.get(next);
+            self.spread(sought, place + 1, &mut found);
+            self.spread(sought, place - 1, &mut found);
+            self.spread(sought, place + ROW, &mut found);
+            self.spread(sought, place - ROW, &mut found);
+            next += 1;
+        }
+        found
+    }
+
+    /// Puts a place in, if it holds what is sought.
+    #[inline]
+    fn spread(&self, sought: Cell, place: usize, found: &mut Places)
+        requires { place < place_count }
+        ensures { IsSpread self.now sought place found.old found.new }
+    {
+        if self.cells[place] == sought {
+            found.insert(place);
+        }
+    }
+
+    /// Whether the chain of the stone of this colour on a point has a liberty.
+    pub fn is_free(&self, colour: Colour, place: usize) -> bool
+        requires point { IsOn size_max place }
+        requires stone { at self.now place ≡ stone colour }
+        ensures { IsTrue result ↔ IsFree self.now place }
+    {
+        self.has_beside(place, Cell::Empty)
+            || self
+                .touching(Cell::stone(colour), Cell::Empty)
+                .contains(place)
+    }
+
+    /// Removes, all at once, the stones of this colour whose chains have no liberty. Answers how many there were.
+    fn remove_captured(&mut self, colour: Colour) -> u32
+        ensures board { self.new ≡ without_captured self.old colour }
+        ensures count { result ≡ captured_count self.old colour }
+        ensures few { result ≤ place_count }
+    {
+        let stone = Cell::stone(colour);
+        let free = self.touching(stone, Cell::Empty);
+        let mut removed = 0;
+        for (place, cell) in self.cells.iter_mut().enumerate() {
+            if *cell == stone && !free.contains(place) {
+                *cell = Cell::Empty;
+                removed += 1;
+            }
+        }
+        removed
+    }
+
+    /// Puts a stone on a point, and then removes the other colour's stones that have no liberty. Answers how many it took.
+    #[tactic(auto, unfolding(crate::specs::Put::put, crate::specs::Put::captures))]
+    pub fn put(&mut self, colour: Colour, place: usize) -> u32
+        requires { at self.old place ≢ Edge }
+        ensures board { self.new ≡ put self.old colour place }
+        ensures taken { result ≡ captures self.old colour place }
+        ensures few { result ≤ place_count }
+    {
+        self.cells[place] = Cell::stone(colour);
+        self.remove_captured(colour.other())
+    }
+
+    /// How many points count for a colour: those with its stones, and those of empty regions that only its stones are beside.
+    pub fn area(&self, colour: Colour) -> u32
+        ensures area { result ≡ area self.now colour }
+        ensures few { result ≤ place_count }
+    {
+        let mine = self.touching(Cell::Empty, Cell::stone(colour));
+        let theirs = self.touching(Cell::Empty, Cell::stone(colour.other()));
+        let mut area = 0;
+        for place in 0..PLACES {
+            if self.counts_for(colour, &mine, &theirs, place) {
+                area += 1;
+            }
+        }
+        area
+    }
+
+    /// Whether a point counts for a colour, where `mine` and `theirs` are the empty points of the regions beside its stones and beside the other's.
+    #[inline]
+    fn counts_for(&self, colour: Colour, mine: &Places, theirs: &Places, place: usize) -> bool
+        requires few { place < place_count }
+        requires mine { AreTouching self.now Cell.Empty (stone colour) mine.now }
+        requires theirs { AreTouching self.now Cell.Empty (stone (other colour)) theirs.now }
+        ensures { IsTrue result ↔ CountsFor self.now colour place }
+    {
+        let cell = self.at(place);
+        cell == Cell::stone(colour)
+            || cell == Cell::Empty && mine.contains(place) && !theirs.contains(place)
+    }
+}

@@ -1,0 +1,328 @@
+//! A game: the record of its moves, and the board that the record makes.
+ghost use Rattle.std.specs.Prelude.{◌≡◌, ℕ, ◌<◌, ◌≤◌, ◌↔◌, ◌⊎◌, ◌+◌, ◌*◌, [], ◌∷◌, ◌++◌, if◌then◌else◌, IsTrue, IsErr, IfOk, OnOk, OnErr, MatchResult, length};
+ghost use Rattle.go_base.specs.Handicap.{AllowsHandicap, handicap_points};
+ghost use Rattle.go_board.specs.Board.{place_count};
+ghost use Rattle.go_board.specs.Taken.{same_colour};
+
+use crate::board::{Board, Cell, place_of};
+use crate::faults::{HandicapFault, NothingToUndo, PlayFault};
+use arrayvec::ArrayVec;
+use go_base::{Colour, Komi, Move, Point, Size, Vertex, handicap};
+use std::marker::Model;
+
+/// How many moves a record has room for.
+const MOST_MOVES: usize = 2000;
+
+/// A board after a move, and how many stones the move took.
+#[derive(Clone, Copy)]
+struct Played {
+    board: Board,
+    taken: u32,
+}
+
+/// A game of Go: its size, komi and handicap, and the moves made so far.
+///
+/// Each move of the record was legal when it was made. The two colours may move in any order.
+#[derive(Drop)]
+pub struct Game {
+    size: Size,
+    komi: Komi,
+    handicap: u32,
+    moves: ArrayVec<Move, MOST_MOVES>,
+    board: Board,
+    before: Board,
+    taken_by_black: u32,
+    taken_by_white: u32,
+}
+
+impl Model for Game {
+    ghost use Rattle.go_board.specs.Game.{GameRecord};
+
+    ghost Value = { GameRecord };
+
+    ghost use Rattle.go_board.specs.Kept.{record_of, IsKept};
+
+    ghost view = { record_of };
+
+    ghost invariant = { IsKept };
+}
+
+impl Game {
+    ghost use Rattle.go_board.specs.Board.{stone_at};
+    ghost use Rattle.go_board.specs.Game.{most_moves, HasRoom, first_moves, without_last, with_move, board_of, Repeats, IsLegal, IsGame, IsFinished};
+    ghost use Rattle.go_board.specs.Taken.{taken};
+    ghost use Rattle.go_board.specs.Area.{score};
+    ghost use Rattle.go_board.specs.Refusals.{RefusesPoint, RefusesVertex, Refuses, IsTouched, RefusesHandicap};
+    ghost use Rattle.go_board.specs.Kept.{IsNext};
+    ghost use Rattle.go_base.specs.declared.vertices.Vertex.TheVariants.{At};
+
+    /// A game without handicap and moves.
+    pub fn new(size: Size, komi: Komi) -> Self
+        ensures { result ≡ record { size = size; komi = komi; handicap = 0; moves = [] } }
+    {
+        Game::opening(size, komi, 0)
+    }
+
+    /// A game with so many handicap stones, or none, and without moves.
+    fn opening(size: Size, komi: Komi, stones: u32) -> Self
+        requires { (stones ≡ 0) ⊎ AllowsHandicap size stones }
+        ensures { result ≡ record { size = size; komi = komi; handicap = stones; moves = [] } }
+    {
+        // Its contract tells that komi is in its limits.
+        let _ = komi.half_points();
+        let start = Board::start(size, stones);
+        Game {
+            size,
+            komi,
+            handicap: stones,
+            moves: ArrayVec::new(),
+            board: start,
+            before: start,
+            taken_by_black: 0,
+            taken_by_white: 0,
+        }
+    }
+
+    /// Sets the size, and takes off all stones, the handicap and the record. Komi stays.
+    pub fn set_size(&mut self, size: Size)
+        ensures { self.new ≡ record self.old { size = size; handicap = 0; moves = [] } }
+    {
+        *self = Game::opening(size, self.komi, 0);
+    }
+
+    /// Sets komi. All else stays.
+    pub fn set_komi(&mut self, komi: Komi)
+        ensures { self.new ≡ record self.old { komi = komi } }
+    {
+        // Its contract tells that komi is in its limits.
+        let _ = komi.half_points();
+        self.komi = komi;
+    }
+
+    /// Takes off all stones, the handicap and the record. Size and komi stay.
+    pub fn clear(&mut self)
+        ensures { self.new ≡ record self.old { handicap = 0; moves = [] } }
+    {
+        *self = Game::opening(self.size, self.komi, 0);
+    }
+
+    /// Puts that many of Black's handicap stones on the board, and answers their points in the order of the table.
+    ///
+    /// # Errors
+    ///
+    /// In this order, and the game stays as it was: `NotEmpty` where a stone is on the board or a move is in the record;
+    /// `BadNumber` where the size doesn't allow that number.
+    pub fn place_handicap(&mut self, stones: u32) -> Result<ArrayVec<Point, 9>, HandicapFault>
+        ensures ok { IfOk result (λ points. points.items ≡ handicap_points self.old.size stones) }
+        ensures placed { OnOk result (self.new ≡ record self.old { handicap = stones }) }
+        ensures unchanged { OnErr result (self.new ≡ self.old) }
+
+        // Which cause comes first stands in `RefusesHandicap`.
+        ensures answer { MatchResult result
+            (λ _. (¬ IsTouched self.old) × AllowsHandicap self.old.size stones)
+            (RefusesHandicap self.old stones) }
+    {
+        if !self.moves.is_empty() || self.board.has_stone() {
+            return Err(HandicapFault::NotEmpty);
+        }
+        let Some(points) = handicap(self.size, stones) else {
+            return Err(HandicapFault::BadNumber);
+        };
+        *self = Game::opening(self.size, self.komi, stones);
+        Ok(points)
+    }
+
+    /// Whether a colour may make a move next. The number of moves in the record doesn't count here.
+    pub fn legal(&self, colour: Colour, vertex: Vertex) -> bool
+        ensures legal { IsTrue result ↔ IsLegal self.now colour vertex }
+        ensures game { IsGame self.now }
+    {
+        self.next(colour, vertex).is_ok()
+    }
+
+    /// Makes a move, and adds it to the record.
+    ///
+    /// # Errors
+    ///
+    /// In this order, and the game stays as it was: `Full` where the record has 2,000 moves, `OffBoard` and `Occupied` by
+    /// the point, `Suicide` where the new stone's chain would have no liberty, `Ko` where the board would be the one before
+    /// the previous move. A pass is refused by `Full` alone.
+    pub fn play(&mut self, colour: Colour, vertex: Vertex) -> Result<(), PlayFault>
+        ensures played { OnOk result (self.new ≡ with_move self.old colour vertex) }
+        ensures unchanged { OnErr result (self.new ≡ self.old) }
+
+        // Which cause comes first stands in `Refuses`.
+        ensures answer { MatchResult result
+            (λ _. IsLegal self.old colour vertex × HasRoom self.old)
+            (Refuses self.old colour vertex) }
+    {
+        if self.moves.is_full() {
+            return Err(PlayFault::Full);
+        }
+        let made = Move { colour, vertex };
+        let played = self.next(made.colour, made.vertex)?;
+        self.before = self.board;
+        self.board = played.board;
+        self.taken_by_black = with_taken(self.taken_by_black, played.taken, colour, Colour::Black);
+        self.taken_by_white = with_taken(self.taken_by_white, played.taken, colour, Colour::White);
+        self.moves.push(made);
+        Ok(())
+    }
+
+    /// What a move would leave, or why it is refused.
+    fn next(&self, colour: Colour, vertex: Vertex) -> Result<Played, PlayFault>
+        ensures next { MatchResult result
+            (IsNext self.now colour vertex)
+            (RefusesVertex self.now colour vertex) }
+        ensures game { IsGame self.now }
+    {
+        match vertex {
+            Vertex::Pass => Ok(Played {
+                board: self.board,
+                taken: 0,
+            }),
+            Vertex::At(point) => self.next_at(colour, point),
+        }
+    }
+
+    /// What a play on a point would leave, or why it is refused.
+    fn next_at(&self, colour: Colour, point: Point) -> Result<Played, PlayFault>
+        ensures { MatchResult result
+            (IsNext self.now colour (At point))
+            (RefusesPoint self.now colour point) }
+    {
+        let place = place_of(point);
+        match self.board.at(place) {
+            Cell::Edge => return Err(PlayFault::OffBoard),
+            Cell::Black | Cell::White => return Err(PlayFault::Occupied),
+            Cell::Empty => {}
+        }
+        let mut board = self.board;
+        let taken = board.put(colour, place);
+        if !board.is_free(colour, place) {
+            return Err(PlayFault::Suicide);
+        }
+        if self.repeats(&board) {
+            return Err(PlayFault::Ko);
+        }
+        Ok(Played { board, taken })
+    }
+
+    /// Whether a board after a play would repeat an earlier one: the one before the previous move.
+    fn repeats(&self, next: &Board) -> bool
+        ensures { IsTrue result ↔ Repeats self.now next.now }
+    {
+        !self.moves.is_empty() && next.is_same(&self.before)
+    }
+
+    /// Takes back the last move of the record with its captures. Handicap stones are never taken back.
+    ///
+    /// # Errors
+    ///
+    /// `NothingToUndo` where the record has no move. The game stays as it was.
+    pub fn undo(&mut self) -> Result<Move, NothingToUndo>
+        ensures last { IfOk result (λ last. self.old.moves ≡ self.new.moves ++ last ∷ []) }
+        ensures shorter { OnOk result (self.new ≡ without_last self.old) }
+        ensures nothing { IsErr result ↔ (self.old.moves ≡ []) }
+        ensures unchanged { OnErr result (self.new ≡ self.old) }
+    {
+        let Some(last) = self.moves.last().copied() else {
+            return Err(NothingToUndo);
+        };
+        *self = self.replayed(self.moves.len() - 1);
+        Ok(last)
+    }
+
+    /// The game of the first so many moves, played again.
+    fn replayed(&self, count: usize) -> Game
+        requires { count ≤ length self.now.moves }
+        ensures { result ≡ first_moves count self.now }
+    {
+        let mut game = Game::opening(self.size, self.komi, self.handicap);
+        for made in &self.moves[..count] {
+            let _ = game.play(made.colour, made.vertex);
+        }
+        game
+    }
+
+    /// The size of the board.
+    pub fn size(&self) -> Size
+        ensures size { result ≡ self.now.size }
+        ensures game { IsGame self.now }
+    {
+        self.size
+    }
+
+    /// Komi.
+    pub fn komi(&self) -> Komi
+        ensures { result ≡ self.now.komi }
+    {
+        self.komi
+    }
+
+    /// The number of handicap stones, 0 where there is no handicap.
+    pub fn handicap(&self) -> u32
+        ensures { result ≡ self.now.handicap }
+    {
+        self.handicap
+    }
+
+    /// The moves made so far, in order.
+    pub fn moves(&self) -> &[Move]
+        ensures moves { result.now ≡ self.now.moves }
+        ensures game { IsGame self.now }
+    {
+        &self.moves
+    }
+
+    /// The stone on a point: none where the point is empty or off the board.
+    pub fn at(&self, point: Point) -> Option<Colour>
+        ensures { result ≡ stone_at (board_of self.now) point }
+    {
+        match self.board.at(place_of(point)) {
+            Cell::Black => Some(Colour::Black),
+            Cell::White => Some(Colour::White),
+            Cell::Empty | Cell::Edge => None,
+        }
+    }
+
+    /// How many stones this colour's moves in the record have taken.
+    pub fn captured(&self, colour: Colour) -> u32
+        ensures { result ≡ taken self.now colour }
+    {
+        match colour {
+            Colour::Black => self.taken_by_black,
+            Colour::White => self.taken_by_white,
+        }
+    }
+
+    /// The score in half points, positive for Black: twice the area of Black, less that of White, and less komi.
+    #[tactic(auto, unfolding(crate::specs::Area::score))]
+    pub fn score(&self) -> i32
+        ensures { result ≡ score self.now }
+    {
+        let black = self.board.area(Colour::Black) as i32;
+        let white = self.board.area(Colour::White) as i32;
+        2 * (black - white) - self.komi.half_points()
+    }
+
+    /// Whether the last two moves of the record are passes.
+    pub fn finished(&self) -> bool
+        ensures { IsTrue result ↔ IsFinished self.now }
+    {
+        let [.., first, second] = self.moves() else {
+            return false;
+        };
+        first.vertex == Vertex::Pass && second.vertex == Vertex::Pass
+    }
+}
+
+/// What a colour has taken after a move of `mover` that took so many stones.
+#[inline]
+fn with_taken(had: u32, taken: u32, mover: Colour, colour: Colour) -> u32
+    requires had { had ≤ place_count * MOST_MOVES }
+    requires taken { taken ≤ place_count }
+    ensures { result ≡ had + (if same_colour mover colour then taken else 0) }
+{
+    if mover == colour { had + taken } else { had }
+}

@@ -1,0 +1,80 @@
+//! A set of places that remembers the order in which they were put in.
+ghost use Rattle.std.specs.Prelude.{◌≡◌, ℕ, ◌<◌, ◌≤◌, ◌↔◌, ◌⊎◌, [], ◌∷◌, ◌++◌, Contains, IsTrue, length, slice_index};
+ghost use Rattle.go_board.specs.Board.{place_count};
+
+use crate::board::PLACES;
+use arrayvec::ArrayVec;
+use std::marker::Model;
+
+/// Places of a board, each once, in the order in which they were put in.
+#[derive(Drop)]
+pub struct Places {
+    marked: [bool; PLACES],
+    order: ArrayVec<u16, PLACES>,
+}
+
+impl Model for Places {
+    ghost use Rattle.std.specs.Prelude.{List, ℕ};
+
+    ghost Value = { List ℕ };
+
+    ghost use Rattle.go_board.specs.Places.{places_of, AreMarked};
+
+    ghost view = { places_of };
+
+    ghost invariant = { AreMarked };
+}
+
+impl Places {
+    /// No place.
+    #[inline]
+    pub fn new() -> Self
+        ensures { result ≡ [] }
+    {
+        Places {
+            marked: [false; PLACES],
+            order: ArrayVec::new(),
+        }
+    }
+
+    /// How many places there are.
+    #[inline]
+    pub fn len(&self) -> usize
+        ensures value { result ≡ length self.now }
+        ensures few { result ≤ place_count }
+    {
+        self.order.len()
+    }
+
+    /// Whether a place is there.
+    #[inline]
+    pub fn contains(&self, place: usize) -> bool
+        requires { place < place_count }
+        ensures { IsTrue result ↔ Contains self.now place }
+    {
+        self.marked[place]
+    }
+
+    /// The place that was put in after `index` others.
+    #[inline]
+    pub fn get(&self, index: usize) -> usize
+        requires { index < length self.now }
+        ensures value { result ≡ slice_index self.now index }
+        ensures below { result < place_count }
+    {
+        usize::from(self.order[index])
+    }
+
+    /// Puts a place in, unless it is there.
+    #[inline]
+    pub fn insert(&mut self, place: usize)
+        requires { place < place_count }
+        ensures put_in { Contains self.new place }
+        ensures kept { (self.new ≡ self.old) ⊎ (self.new ≡ self.old ++ place ∷ []) }
+    {
+        if !self.marked[place] {
+            self.marked[place] = true;
+            self.order.push(place as u16);
+        }
+    }
+}

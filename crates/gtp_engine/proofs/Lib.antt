@@ -1,4 +1,0 @@
-pub mod CommandLemmas
-pub mod ConversationLemmas
-pub mod CountsLemmas
-pub mod EngineLemmas

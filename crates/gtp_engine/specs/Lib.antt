@@ -1,4 +1,0 @@
-pub mod Counts
-pub mod Commands
-pub mod Engine
-pub mod Conversation

@@ -1,0 +1,100 @@
+-- Laws of an engine's replies.
+use Rattle.std.proofs.Common.{◌≡◌, ℕ, Bool, true, false, List, [], ◌∷◌, ◌++◌, refl, sym, ap, ◌∙◌, append_assoc}
+use Rattle.std.proofs.lemmas.List.{append-nil}
+use Rattle.gtp_wire.specs.declared.lines.Line.{Line}
+use Rattle.gtp_wire.specs.Lines.{lines, EndsLine, Finds}
+use Rattle.gtp_wire.proofs.ReadingLemmas.{tail_of, lines_more, Finds-lines}
+use Rattle.gtp_session.specs.Engine.{Engine, State, May, WrittenReply, state_of, Step, Answers, Replies, StopsAtLine}
+use Rattle.gtp_session.specs.Engine.Answers.{none, over, more}
+
+-- a text without a byte has no line
+pub lines-nothing : lines [] ≡ []
+unfolding lines
+lines-nothing = refl
+
+-- a text without a line stands for itself
+pub Finds-none : (old text : List ℕ) → lines (old ++ text) ≡ [] → Finds old text [] (old ++ text)
+Finds-none old text e = record { rest = λ later. ap lines (sym (append_assoc old text later)); no_line = e }
+
+ended_both : {P : Type 0} (a b : Engine P) → a.ended ≡ true → b.ended ≡ false → b ≡ a → ⊥
+ended_both a b e f g = let h : b.ended ≡ a.ended = ap (λ x. x.ended) g in cc
+
+module _ {P : Type 0} (may : May P) where
+  -- a state that has ended stays, whatever lines come
+  pub Answers-over : {old new : State P} {ls : List Line} {rs : List WrittenReply} → old.ended ≡ true → Answers may old ls rs new → (rs ≡ []) × (new ≡ old)
+  Answers-over e none = (refl, refl)
+  Answers-over e (over f) = (refl, refl)
+  Answers-over e (more f step rest) = cc
+
+  -- what is answered to two texts of lines, one after the other
+  pub Answers-then : {a b c : State P} {xs ys : List Line} {rs ss : List WrittenReply} → Answers may a xs rs b → Answers may b ys ss c → Answers may a (xs ++ ys) (rs ++ ss) c
+  Answers-then none q = q
+  Answers-then {a} {b} {c} {xs} {ys} {rs} {ss} (over e) q =
+      let o = Answers-over e q in
+      rw (o.0, o.1) (over e)
+  Answers-then (more e step p) q = more e step (Answers-then p q)
+
+  -- an engine that has ended gives no reply, whatever it is given
+  pub Replies-over : (a : Engine P) (text : List ℕ) → a.ended ≡ true → Replies may a text a []
+  Replies-over a text e = record { answered = over e; unread = λ f later. cc; idle = λ _. refl }
+
+  -- lines are found in the text, and those after it stand in the new rest
+  pub Replies-found : {a b : Engine P} {text : List ℕ} {found : List Line} {rs : List WrittenReply} → a.ended ≡ false → Finds a.rest text found b.rest
+      → Answers may (state_of a) found rs (state_of b) → Replies may a text b rs
+  Replies-found {a} {b} {text} {found} {rs} e f p =
+      record {
+        answered = rw (← Finds-lines f) p;
+        unread = λ _ later. f.rest later ∙ ap (λ (t : List Line). t ++ lines (b.rest ++ later)) (Finds-lines f);
+        idle = λ t. cc;
+      }
+
+  both : {a b c : Engine P} {text next : List ℕ} {rs ss : List WrittenReply} (t : Bool) → b.ended ≡ t → Replies may a text b rs → Replies may b next c ss → Replies may a (text ++ next) c (rs ++ ss)
+  both {a} {b} {c} {text} {next} {rs} {ss} true e p q =
+      let same : c ≡ b = q.idle e in
+      let none_more : ss ≡ [] = (Answers-over e q.answered).0 in
+      let longer : List Line = lines (tail_of (a.rest ++ text) ++ next) in
+      let split : lines (a.rest ++ (text ++ next)) ≡ lines (a.rest ++ text) ++ longer = ap lines (sym (append_assoc a.rest text next)) ∙ lines_more (a.rest ++ text) next in
+      rw (same, none_more) (record {
+        answered = rw split (Answers-then p.answered (over e));
+        unread = λ f later. cc;
+        idle = λ f. p.idle f;
+      })
+  both {a} {b} {c} {text} {next} {rs} {ss} false e p q =
+      let split : lines (a.rest ++ (text ++ next)) ≡ lines (a.rest ++ text) ++ lines (b.rest ++ next) = p.unread e next in
+      record {
+        answered = rw split (Answers-then p.answered q.answered);
+        unread = λ f later.
+            ap (λ (t : List ℕ). lines (a.rest ++ t)) (append_assoc text next later) ∙ p.unread e (next ++ later)
+            ∙ ap (λ (t : List Line). lines (a.rest ++ text) ++ t) (q.unread f later)
+            ∙ sym (append_assoc (lines (a.rest ++ text)) (lines (b.rest ++ next)) (lines (c.rest ++ later)))
+            ∙ ap (λ (t : List Line). t ++ lines (c.rest ++ later)) (sym split);
+        idle = λ f. let g : b ≡ a = p.idle f in absurd (ended_both a b f e g);
+      }
+
+  -- the replies to one text and then to the next are those to both
+  pub Replies-then : {a b c : Engine P} {text next : List ℕ} {rs ss : List WrittenReply} → Replies may a text b rs → Replies may b next c ss → Replies may a (text ++ next) c (rs ++ ss)
+  Replies-then {b = b} p q = both b.ended refl p q
+
+  -- one line is found, and answered
+  pub Replies-line : {a b : Engine P} {text rest : List ℕ} {line : Line} {reply : WrittenReply} → a.ended ≡ false → Finds a.rest text (line ∷ []) rest
+      → Step may (state_of a) line reply (state_of b) → b.rest ≡ rest → Replies may a text b (reply ∷ [])
+  Replies-line e f step r = Replies-found e (rw r f) (more e step none)
+
+  -- the text ends with the line that it finds
+  pub StopsAtLine-found : {a : Engine P} {text : List ℕ} → a.ended ≡ false → EndsLine a.rest text → StopsAtLine may a text
+  StopsAtLine-found {a} {text} e ends =
+      record {
+        front = ends.front;
+        between = record a { rest = a.rest ++ ends.front };
+        ends = ends.newline;
+        before = Replies-found e (Finds-none a.rest ends.front ends.before) none;
+      }
+
+  -- nothing is read, and nothing is answered
+  pub Replies-nothing : (a : Engine P) → lines a.rest ≡ [] → Replies may a [] a []
+  Replies-nothing a e =
+      record {
+        answered = rw (append-nil, e) none;
+        unread = λ _ later. rw (append-nil a.rest, e) refl;
+        idle = λ _. refl;
+      }

@@ -1,0 +1,6 @@
+pub mod ConversationLemmas
+pub mod CountsLemmas
+pub mod EngineLemmas
+pub mod MoveLemmas
+pub mod PointLemmas
+pub mod TextLemmas

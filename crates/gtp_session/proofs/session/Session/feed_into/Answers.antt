@@ -1,0 +1,26 @@
+use Rattle.std.proofs.Common.{rules, refl, ◌≡◌, [], true, false, take}
+use Rattle.std.specs.Option.{option_to_list}
+use Rattle.gtp_wire.specs.Lines.{Finds}
+use Rattle.gtp_session.specs.Engine.Answers.{none}
+use Rattle.gtp_session.proofs.EngineLemmas.{Replies-over, Replies-found, Replies-line, StopsAtLine-found}
+use Rattle.gtp_session.proofs.session.Session.feed_into.Goals as goal
+
+pub returns-then-self-clause-replies : goal.returns-then-self-clause-replies
+returns-then-self-clause-replies g c =
+    let e : c.args.self.now.ended ≡ true = search rules in
+    (false, Replies-over g.P.Policy.may c.args.self.now [] e)
+
+pub returns-in-None-clause-replies : goal.returns-in-None-clause-replies
+returns-in-None-clause-replies g c =
+    let found : Finds c.self.inside.reader (take c.feed-used.result.used c.args.input.now) (option_to_list c.feed-used.result.line) c.feed-used.new.self = record { rest = c.feed-used.ensures.rest; no_line = c.feed-used.ensures.no_line } in
+    (false, rw (← c.self.view_is) (Replies-found g.P.Policy.may c.if-self.false (rw c.in-None.is at found) none))
+
+pub returns-in-Some-clause-replies : goal.returns-in-Some-clause-replies
+returns-in-Some-clause-replies g c =
+    let found : Finds c.self.inside.reader (take c.feed-used.result.used c.args.input.now) (option_to_list c.feed-used.result.line) c.feed-used.new.self = record { rest = c.feed-used.ensures.rest; no_line = c.feed-used.ensures.no_line } in
+    (false, rw (← c.self.view_is) (Replies-line g.P.Policy.may c.if-self.false (rw c.in-Some.is at found) (record { policy = refl; game = c.answer-self-inside.ensures.leaves.game_is; ended = c.answer-self-inside.ensures.ends; text = c.answer-self-inside.ensures.leaves.reply_is; genmove = refl }) refl))
+
+pub returns-in-Some-clause-line : goal.returns-in-Some-clause-line
+returns-in-Some-clause-line g c =
+    let ends = rw c.in-Some.is at c.feed-used.ensures.newline in
+    λ _. rw (← c.self.view_is) (StopsAtLine-found g.P.Policy.may c.if-self.false ends)

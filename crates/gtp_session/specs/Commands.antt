@@ -1,0 +1,191 @@
+-- The engine's commands, and what each of them does to the game and answers.
+use Rattle.std.specs.Prelude.{◌≡◌, ℕ, ℤ, Bool, true, false, ◌&&◌, nat_le, List, [], ◌∷◌, length, map, find, slice_get, Option, Some, None, is_some, option_and_then, if◌then◌else◌, codes}
+use Rattle.std.specs.List.{join_with_byte}
+use Rattle.std.specs.Str.{bytes_eq}
+use Rattle.go_base.specs.Int.{int_of}
+use Rattle.go_base.specs.Size.{size_max}
+use Rattle.go_base.specs.Colour.{colour_of}
+use Rattle.go_base.specs.Vertex.{vertex_of, written_vertex}
+use Rattle.go_base.specs.Komi.{komi_of}
+use Rattle.go_base.specs.Handicap.{handicap_points}
+use Rattle.go_base.specs.declared.colours.Colour.{Colour}
+use Rattle.go_base.specs.declared.vertices.Vertex.{Vertex}
+use Rattle.go_base.specs.declared.vertices.Vertex.TheVariants.{At}
+use Rattle.go_board.specs.declared.faults.PlayFault.{PlayFault}
+use Rattle.go_board.specs.declared.faults.PlayFault.TheVariants.{Full, OffBoard, Occupied, Suicide, Ko}
+use Rattle.go_board.specs.Game.{GameRecord, most_moves, with_move, without_last, legal?}
+use Rattle.gtp_session.specs.Decide.{touched?, allows?}
+use Rattle.go_board.specs.Show.{shown}
+use Rattle.gtp_wire.specs.Replies.{written_reply}
+use Rattle.gtp_wire.specs.declared.lines.Line.{Line}
+use Rattle.gtp_wire.specs.declared.lines.Line.TheVariants as line
+use Rattle.gtp_session.specs.declared.commands.CommandName.{CommandName}
+use Rattle.gtp_session.specs.declared.commands.CommandName.TheVariants.{ProtocolVersion, Name, Version, KnownCommand, ListCommands, Quit, Boardsize, ClearBoard, Komi, Play, FixedHandicap, Undo, Showboard}
+
+-- A command's name. (The standard, administrative, setup, core play and debug commands.)
+abbrev pub spelled : CommandName → List ℕ
+spelled ProtocolVersion = codes "protocol_version"
+spelled Name = codes "name"
+spelled Version = codes "version"
+spelled KnownCommand = codes "known_command"
+spelled ListCommands = codes "list_commands"
+spelled Quit = codes "quit"
+spelled Boardsize = codes "boardsize"
+spelled ClearBoard = codes "clear_board"
+spelled Komi = codes "komi"
+spelled Play = codes "play"
+spelled FixedHandicap = codes "fixed_handicap"
+spelled Undo = codes "undo"
+spelled Showboard = codes "showboard"
+
+-- all of them, in the order in which `list_commands` names them (own)
+abbrev pub all_commands : List CommandName
+all_commands =
+    ProtocolVersion ∷ Name ∷ Version ∷ KnownCommand ∷ ListCommands ∷ Quit ∷ Boardsize ∷ ClearBoard ∷ Komi ∷ Play
+    ∷ FixedHandicap ∷ Undo ∷ Showboard ∷ []
+
+-- the command of this name, where there is one; case matters
+abbrev pub command_named : List ℕ → Option CommandName
+command_named word = find (λ command. bytes_eq (spelled command) word) all_commands
+
+-- What is answered to a line: the game after it, success or failure, and the text of the reply. (The standard, response
+-- structure.)
+pub record Answer : Type 0 where
+  pub game : GameRecord
+  pub ok : Bool
+  pub text : List ℕ
+
+-- a success that leaves this game
+abbrev pub succeeds : GameRecord → List ℕ → Answer
+succeeds game text = record { game = game; ok = true; text = text }
+
+-- a failure, which leaves the game as it was
+abbrev pub fails : GameRecord → List ℕ → Answer
+fails game text = record { game = game; ok = false; text = text }
+
+-- a missing argument, or one that can't be read
+abbrev pub syntax_error : GameRecord → Answer
+syntax_error game = fails game (codes "syntax error")
+
+-- A word of a line that is read as a value, where there is one: word 0 is the command's name, and its arguments are the
+-- words from 1 on. Surplus arguments are ignored (own).
+abbrev pub argument : {V : Type 0} → (List ℕ → Option V) → List (List ℕ) → ℕ → Option V
+argument value_of words number = option_and_then value_of (slice_get words number)
+
+abbrev pub answer_known : GameRecord → Option (List ℕ) → Answer
+answer_known game None = syntax_error game
+answer_known game (Some name) = succeeds game (if is_some (command_named name) then codes "true" else codes "false")
+
+-- sizes are 1 to 25; board, handicap, record and captures are emptied, and komi stays
+abbrev pub answer_boardsize : GameRecord → Option ℕ → Answer
+answer_boardsize game None = syntax_error game
+answer_boardsize game (Some size) =
+    if nat_le 1 size && nat_le size size_max then succeeds (record game { size = size; handicap = 0; moves = [] }) []
+    else fails game (codes "unacceptable size")
+
+abbrev pub answer_komi : GameRecord → Option ℤ → Answer
+answer_komi game None = syntax_error game
+answer_komi game (Some komi) = succeeds (record game { komi = komi }) []
+
+-- what is answered to a move that the game refuses
+abbrev pub refusal_text : PlayFault → List ℕ
+refusal_text Full = codes "record full"
+refusal_text OffBoard = codes "illegal move"
+refusal_text Occupied = codes "illegal move"
+refusal_text Suicide = codes "illegal move"
+refusal_text Ko = codes "illegal move"
+
+-- a move of a colour: the record has room, and the move is legal
+abbrev pub answer_move : GameRecord → Colour → Vertex → Answer
+answer_move game colour vertex =
+    if nat_le most_moves (length game.moves) then fails game (codes "record full")
+    else elim (legal? game colour vertex) [ yes _ ↦ succeeds (with_move game colour vertex) [] | no _ ↦ fails game (codes "illegal move") ]
+
+abbrev pub answer_play : GameRecord → Option Colour → Option Vertex → Answer
+answer_play game None vertex = syntax_error game
+answer_play game (Some colour) None = syntax_error game
+answer_play game (Some colour) (Some vertex) = answer_move game colour vertex
+
+-- the points' vertices, separated by single spaces
+abbrev pub written_points : List ℕ → List ℕ
+written_points points = join_with_byte 32 (map (λ p. written_vertex (At p)) points)
+
+abbrev pub answer_handicap : GameRecord → Option ℕ → Answer
+answer_handicap game None = syntax_error game
+answer_handicap game (Some stones) =
+    elim (touched? game) [
+      | yes _ ↦ fails game (codes "board not empty")
+      | no _ ↦ elim (allows? game.size stones) [
+        | yes _ ↦ succeeds (record game { handicap = stones }) (written_points (handicap_points game.size stones))
+        | no _ ↦ fails game (codes "invalid number of stones")
+      ]
+    ]
+
+-- the last move is taken back, where there is one
+abbrev pub answer_undo : GameRecord → Answer
+answer_undo game = if nat_le 1 (length game.moves) then succeeds (without_last game) [] else fails game (codes "cannot undo")
+
+-- Each command with the words of its line.
+abbrev pub answer_to : GameRecord → CommandName → List (List ℕ) → Answer
+answer_to game ProtocolVersion words = succeeds game (codes "2")
+answer_to game Name words = succeeds game (codes "stepgo")
+answer_to game Version words = succeeds game (codes "1.0")
+answer_to game KnownCommand words = answer_known game (slice_get words 1)
+answer_to game ListCommands words = succeeds game (join_with_byte 10 (map spelled all_commands))
+answer_to game Quit words = succeeds game []
+answer_to game Boardsize words = answer_boardsize game (argument int_of words 1)
+answer_to game ClearBoard words = succeeds (record game { handicap = 0; moves = [] }) []
+answer_to game Komi words = answer_komi game (argument komi_of words 1)
+answer_to game Play words = answer_play game (argument colour_of words 1) (argument vertex_of words 2)
+answer_to game FixedHandicap words = answer_handicap game (argument int_of words 1)
+answer_to game Undo words = answer_undo game
+answer_to game Showboard words = succeeds game (shown game)
+
+-- a command that is named, or an unknown one (the standard, standard error messages)
+abbrev pub answer_to_named : GameRecord → Option CommandName → List (List ℕ) → Answer
+answer_to_named game (Some command) words = answer_to game command words
+answer_to_named game None words = fails game (codes "unknown command")
+
+-- the command that the words of a line name, where they name one
+abbrev pub command_of : List (List ℕ) → Option CommandName
+command_of words = argument command_named words 0
+
+-- the words of a line after its id; a line with an id alone is an unknown command (own)
+abbrev pub answer_to_words : GameRecord → List (List ℕ) → Answer
+answer_to_words game words = answer_to_named game (command_of words) words
+
+-- a line; one that is too long is a syntax error (own)
+abbrev pub answer : GameRecord → Line → Answer
+answer game line.TooLong = syntax_error game
+answer game (line.Command command_line) = answer_to_words game command_line.words
+
+-- the id that the reply repeats; a line that is too long has none (own)
+abbrev pub id_of : Line → Option ℕ
+id_of line.TooLong = None
+id_of (line.Command command_line) = command_line.id
+
+abbrev pub is_quit : Option CommandName → Bool
+is_quit (Some Quit) = true
+is_quit (Some ProtocolVersion) = false
+is_quit (Some Name) = false
+is_quit (Some Version) = false
+is_quit (Some KnownCommand) = false
+is_quit (Some ListCommands) = false
+is_quit (Some Boardsize) = false
+is_quit (Some ClearBoard) = false
+is_quit (Some Komi) = false
+is_quit (Some Play) = false
+is_quit (Some FixedHandicap) = false
+is_quit (Some Undo) = false
+is_quit (Some Showboard) = false
+is_quit None = false
+
+-- whether the session ends with the line: it is a `quit`
+abbrev pub ends : Line → Bool
+ends line.TooLong = false
+ends (line.Command command_line) = is_quit (command_of command_line.words)
+
+-- The answer was given: this is the game after it, and these are the bytes of the reply.
+pub record Leaves (given : Answer) (id : Option ℕ) (game : GameRecord) (reply : List ℕ) : Type 0 where
+  pub game_is : game ≡ given.game
+  pub reply_is : reply ≡ written_reply given.ok id given.text

@@ -1,0 +1,5 @@
+pub mod Counts
+pub mod Decide
+pub mod Commands
+pub mod Engine
+pub mod Conversation

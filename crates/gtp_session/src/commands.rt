@@ -1,0 +1,71 @@
+//! The commands that the engine knows.
+ghost use Rattle.std.specs.Prelude.{◌≡◌};
+ghost use Rattle.gtp_session.specs.Commands.{spelled, command_named};
+
+/// A command that the engine knows.
+#[derive(Clone, Copy, Debug, PartialEq, Eq)]
+pub enum CommandName {
+    ProtocolVersion,
+    Name,
+    Version,
+    KnownCommand,
+    ListCommands,
+    Quit,
+    Boardsize,
+    ClearBoard,
+    Komi,
+    Play,
+    FixedHandicap,
+    Undo,
+    Showboard,
+}
+
+/// The commands, in the order in which `list_commands` names them.
+static COMMANDS: [CommandName; 13] = [
+    CommandName::ProtocolVersion,
+    CommandName::Name,
+    CommandName::Version,
+    CommandName::KnownCommand,
+    CommandName::ListCommands,
+    CommandName::Quit,
+    CommandName::Boardsize,
+    CommandName::ClearBoard,
+    CommandName::Komi,
+    CommandName::Play,
+    CommandName::FixedHandicap,
+    CommandName::Undo,
+    CommandName::Showboard,
+];
+
+impl CommandName {
+    /// The command of this name, where there is one. Case matters.
+    pub fn read(word: &[u8]) -> Option<CommandName>
+        ensures { result ≡ command_named word.now }
+    {
+        COMMANDS
+            .iter()
+            .copied()
+            .find(|command| command.name() == word)
+    }
+
+    /// The command's name.
+    pub fn name(self) -> &'static [u8]
+        ensures { result.now ≡ spelled self }
+    {
+        match self {
+            CommandName::ProtocolVersion => b"protocol_version",
+            CommandName::Name => b"name",
+            CommandName::Version => b"version",
+            CommandName::KnownCommand => b"known_command",
+            CommandName::ListCommands => b"list_commands",
+            CommandName::Quit => b"quit",
+            CommandName::Boardsize => b"boardsize",
+            CommandName::ClearBoard => b"clear_board",
+            CommandName::Komi => b"komi",
+            CommandName::Play => b"play",
+            CommandName::FixedHandicap => b"fixed_handicap",
+            CommandName::Undo => b"undo",
+            CommandName::Showboard => b"showboard",
+        }
+    }
+}

@@ -1,0 +1,526 @@
+//! Conversations over memory.
+use crate::memory::{Limited, Pieces, Strict, Telling, Waiting};
+use crate::policy::NoMoves;
+use crate::serve::{ServeFault, Served, serve, serve_within};
+use crate::session::Session;
+use crate::streams::Counted;
+use arrayvec::ArrayVec;
+use go_base::{Colour, Point};
+use std::alloc::Global;
+use std::cell::Cell;
+use std::process::Abort;
+use std::rc::Rc;
+use std::test::Fail;
+
+/// A reader of this text in pieces of these sizes, which fails the read of one number.
+fn reader_of<'a>(
+    text: &'a [u8],
+    sizes: &'a [usize],
+    failing: Option<usize>,
+) -> Counted<Pieces<'a>> {
+    Counted::new(Pieces {
+        rest: text,
+        sizes,
+        turn: 0,
+        failing,
+    })
+}
+
+/// A writer that takes this many bytes, so many in a write, and then fails.
+fn writer_of<'a>(
+    taken: &'a mut ArrayVec<u8, 4096>,
+    room: usize,
+    step: usize,
+) -> Counted<Limited<'a>> {
+    Counted::new(Limited { taken, room, step })
+}
+
+/// A fresh engine answers the input, in pieces of these sizes, with the output, and ends like this.
+fn assert_serves(rt: &impl Abort, input: &[u8], sizes: &[usize], output: &[u8], served: Served) {
+    let mut taken = ArrayVec::new();
+    let mut session: Session<NoMoves> = Session::new();
+    let mut reader = reader_of(input, sizes, None);
+    let mut writer = writer_of(&mut taken, 4096, 100);
+    let answer = serve(&mut reader, &mut writer, &mut session);
+    assert_eq!(rt; answer, Ok(served));
+    assert_eq!(rt; session.ended(), served == Served::Quit);
+    assert_eq!(rt; taken.as_slice(), output);
+}
+
+/// The same in one piece, in each two pieces, and byte after byte.
+fn assert_serves_in_any_cuts(rt: &impl Abort, input: &[u8], output: &[u8], served: Served) {
+    assert_serves(rt, input, &[], output, served);
+    assert_serves(rt, input, &[1; 512], output, served);
+    for first in 1..input.len() {
+        assert_serves(rt, input, &[first], output, served);
+    }
+}
+
+#[test]
+fn the_first_conversation(rt: HostRuntime) {
+    assert_serves_in_any_cuts(
+        &rt,
+        b"1 protocol_version\n2 quit\n",
+        b"=1 2\n\n=2\n\n",
+        Served::Quit,
+    );
+}
+
+#[test]
+fn comments_and_control_characters_are_no_part_of_a_line(rt: HostRuntime) {
+    assert_serves_in_any_cuts(
+        &rt,
+        b"# a comment\n\t\n3\tna\x01me # x\r\n",
+        b"=3 stepgo\n\n",
+        Served::EndOfInput,
+    );
+}
+
+#[test]
+fn an_id_is_an_int_and_is_repeated_without_leading_zeros(rt: HostRuntime) {
+    assert_serves(
+        &rt,
+        b"99999999999 name\n",
+        &[],
+        b"? unknown command\n\n",
+        Served::EndOfInput,
+    );
+    assert_serves(
+        &rt,
+        b"5\n",
+        &[],
+        b"?5 unknown command\n\n",
+        Served::EndOfInput,
+    );
+    assert_serves(
+        &rt,
+        b"2147483647 name\n",
+        &[],
+        b"=2147483647 stepgo\n\n",
+        Served::EndOfInput,
+    );
+    assert_serves(
+        &rt,
+        b"2147483648 name\n",
+        &[],
+        b"? unknown command\n\n",
+        Served::EndOfInput,
+    );
+    assert_serves(
+        &rt,
+        b"007 version\n",
+        &[],
+        b"=7 1.0\n\n",
+        Served::EndOfInput,
+    );
+}
+
+#[test]
+fn the_words_of_a_line_have_at_most_1000_bytes(rt: HostRuntime) -> Result<(), Fail> {
+    let cases: [(&[u8], usize, &[u8]); 3] = [
+        (b"known_command ", 986, b"= false\n\n"),
+        (b"known_command ", 987, b"? syntax error\n\n"),
+        (b"7 known_command ", 985, b"? syntax error\n\n"),
+    ];
+    for (front, letters, output) in cases {
+        let mut input = Vec::new(rt.alloc());
+        input.extend_from_slice(front)?;
+        input.resize(front.len() + letters, b'x')?;
+        input.push(b'\n')?;
+        assert_serves(&rt, &input, &[], output, Served::EndOfInput);
+    }
+    let mut input = Vec::new(rt.alloc());
+    input.resize(5000, b' ')?;
+    input.extend_from_slice(b"name")?;
+    input.resize(10_004, b' ')?;
+    input.push(b'\n')?;
+    assert_serves(&rt, &input, &[], b"= stepgo\n\n", Served::EndOfInput);
+    Ok(())
+}
+
+#[test]
+fn an_unfinished_last_line_is_not_executed(rt: HostRuntime) {
+    assert_serves_in_any_cuts(&rt, b"name", b"", Served::EndOfInput);
+    assert_serves_in_any_cuts(&rt, b"name\nquit", b"= stepgo\n\n", Served::EndOfInput);
+}
+
+#[test]
+fn nothing_is_executed_after_quit(rt: HostRuntime) {
+    assert_serves_in_any_cuts(&rt, b"quit\nname\n", b"=\n\n", Served::Quit);
+}
+
+#[test]
+fn known_command_speaks_of_the_commands_that_are_there(rt: HostRuntime) {
+    assert_serves(
+        &rt,
+        b"known_command quit\n",
+        &[],
+        b"= true\n\n",
+        Served::EndOfInput,
+    );
+    assert_serves(
+        &rt,
+        b"known_command time_left\n",
+        &[],
+        b"= false\n\n",
+        Served::EndOfInput,
+    );
+    assert_serves(
+        &rt,
+        b"known_command Quit\n",
+        &[],
+        b"= false\n\n",
+        Served::EndOfInput,
+    );
+    assert_serves(
+        &rt,
+        b"known_command\n",
+        &[],
+        b"? syntax error\n\n",
+        Served::EndOfInput,
+    );
+    assert_serves(
+        &rt,
+        b"time_left b 10 0\n",
+        &[],
+        b"? unknown command\n\n",
+        Served::EndOfInput,
+    );
+    assert_serves(&rt, b"name x y\n", &[], b"= stepgo\n\n", Served::EndOfInput);
+}
+
+#[test]
+fn list_commands_names_one_command_a_line(rt: HostRuntime) {
+    assert_serves_in_any_cuts(
+        &rt,
+        b"list_commands\n",
+        b"= protocol_version\nname\nversion\nknown_command\nlist_commands\nquit\nboardsize\nclear_board\nkomi\nplay\nfixed_handicap\nundo\nshowboard\n\n",
+        Served::EndOfInput,
+    );
+}
+
+#[test]
+fn replies_go_out_in_as_many_writes_as_the_writer_wants(rt: HostRuntime) {
+    for step in [1, 2, 3, 100] {
+        let mut taken = ArrayVec::new();
+        let mut session = Session::new();
+        let mut reader = reader_of(b"1 name\n2 version\n", &[], None);
+        let mut writer = writer_of(&mut taken, 4096, step);
+        let answer = serve(&mut reader, &mut writer, &mut session);
+        assert_eq!(rt; answer, Ok(Served::EndOfInput));
+        assert_eq!(rt; taken.as_slice(), b"=1 stepgo\n\n=2 1.0\n\n".as_slice());
+    }
+}
+
+#[test]
+fn nothing_is_executed_after_a_writer_that_breaks(rt: HostRuntime) {
+    let mut taken = ArrayVec::new();
+    let mut session = Session::new();
+    let mut reader = reader_of(b"1 name\n2 quit\n", &[], None);
+    let mut writer = writer_of(&mut taken, 3, 100);
+    let answer = serve(&mut reader, &mut writer, &mut session);
+    assert_eq!(rt; answer, Err(ServeFault::Write));
+    assert_eq!(rt; taken.as_slice(), b"=1 ".as_slice());
+    assert!(rt; !session.ended());
+}
+
+#[test]
+fn no_read_is_allowed(rt: HostRuntime) {
+    let mut taken = ArrayVec::new();
+    let mut session = Session::new();
+    let mut reader = reader_of(b"name\n", &[], None);
+    let mut writer = writer_of(&mut taken, 4096, 100);
+    let answer = serve_within(&mut reader, &mut writer, &mut session, 0);
+    assert_eq!(rt; answer, Err(ServeFault::TooManyReads));
+    assert_eq!(rt; taken.len(), 0);
+}
+
+#[test]
+fn reads_are_counted(rt: HostRuntime) {
+    let mut taken = ArrayVec::new();
+    let mut session = Session::new();
+    let mut reader = reader_of(b"1 name\n2 version\nquit\n", &[7, 10], None);
+    let mut writer = writer_of(&mut taken, 4096, 100);
+    let answer = serve_within(&mut reader, &mut writer, &mut session, 2);
+    assert_eq!(rt; answer, Err(ServeFault::TooManyReads));
+    let answer = serve_within(&mut reader, &mut writer, &mut session, 1);
+    assert_eq!(rt; answer, Ok(Served::Quit));
+    let answer = serve_within(&mut reader, &mut writer, &mut session, 0);
+    assert_eq!(rt; answer, Ok(Served::Quit));
+    assert_eq!(rt;
+        taken.as_slice(),
+        b"=1 stepgo\n\n=2 1.0\n\n=\n\n".as_slice()
+    );
+}
+
+#[test]
+fn a_read_that_fails_ends_the_conversation(rt: HostRuntime) {
+    let mut taken = ArrayVec::new();
+    let mut session = Session::new();
+    let mut reader = reader_of(b"name\nquit\n", &[], Some(0));
+    let mut writer = writer_of(&mut taken, 4096, 100);
+    let answer = serve(&mut reader, &mut writer, &mut session);
+    assert_eq!(rt; answer, Err(ServeFault::Read));
+    assert_eq!(rt; taken.len(), 0);
+}
+
+#[test]
+fn a_conversation_goes_on_after_a_read_that_failed(rt: HostRuntime) {
+    let mut taken = ArrayVec::new();
+    let mut session = Session::new();
+    let mut reader = reader_of(b"name\nquit\n", &[7], Some(1));
+    let mut writer = writer_of(&mut taken, 4096, 100);
+    let answer = serve(&mut reader, &mut writer, &mut session);
+    assert_eq!(rt; answer, Err(ServeFault::Read));
+    let answer = serve(&mut reader, &mut writer, &mut session);
+    assert_eq!(rt; answer, Ok(Served::Quit));
+    assert_eq!(rt; taken.as_slice(), b"= stepgo\n\n=\n\n".as_slice());
+}
+
+#[test]
+fn each_line_is_answered_and_flushed_before_the_next_is_read(rt: HostRuntime) -> Result<(), Fail> {
+    let flushed = Rc::new(rt.alloc(), Cell::new(0))?;
+    let lines: [&[u8]; 3] = [b"1 name\n", b"2 version\n", b"3 quit\n"];
+    let mut reader = Counted::new(Waiting {
+        lines: &lines,
+        next: 0,
+        flushed: flushed.clone()?,
+    });
+    let mut writer = Counted::new(Telling {
+        replies: 0,
+        last: 0,
+        flushed,
+    });
+    let mut session = Session::new();
+    let answer = serve(&mut reader, &mut writer, &mut session);
+    assert_eq!(rt; answer, Ok(Served::Quit));
+    Ok(())
+}
+
+/// Each command is answered by the reply beside it, in a fresh session, in any cuts.
+fn assert_answers(rt: &impl Abort, alloc: Global, lines: &[(&[u8], &[u8])]) -> Result<(), Fail> {
+    let mut input = Vec::new(alloc);
+    let mut output = Vec::new(alloc);
+    for (command, reply) in lines {
+        input.extend_from_slice(command)?;
+        input.push(b'\n')?;
+        output.extend_from_slice(reply)?;
+        output.extend_from_slice(b"\n\n")?;
+    }
+    assert_serves_in_any_cuts(rt, &input, &output, Served::EndOfInput);
+    Ok(())
+}
+
+#[test]
+fn comments_and_control_characters_in_a_play(rt: HostRuntime) -> Result<(), Fail> {
+    let input = b"# a game\n\t\n3\tpl\x01ay b D4 # corner\r\n";
+    assert_serves_in_any_cuts(&rt, input, b"=3\n\n", Served::EndOfInput);
+    let mut taken = ArrayVec::new();
+    let mut session = Session::new();
+    let mut reader = reader_of(input, &[], None);
+    let mut writer = writer_of(&mut taken, 4096, 100);
+    let answer = serve(&mut reader, &mut writer, &mut session);
+    assert_eq!(rt; answer, Ok(Served::EndOfInput));
+    assert_eq!(rt; session.game().moves().len(), 1);
+    let point = Point::new(4, 4).ok_or("no point")?;
+    assert_eq!(rt; session.game().at(point), Some(Colour::Black));
+    Ok(())
+}
+
+#[test]
+fn an_unfinished_play_is_not_executed(rt: HostRuntime) {
+    let mut taken = ArrayVec::new();
+    let mut session = Session::new();
+    let mut reader = reader_of(b"play b D1", &[], None);
+    let mut writer = writer_of(&mut taken, 4096, 100);
+    let answer = serve(&mut reader, &mut writer, &mut session);
+    assert_eq!(rt; answer, Ok(Served::EndOfInput));
+    assert_eq!(rt; session.game().moves().len(), 0);
+    assert_eq!(rt; taken.len(), 0);
+}
+
+#[test]
+fn spellings_and_refusals_of_play(rt: HostRuntime) -> Result<(), Fail> {
+    let lines: [(&[u8], &[u8]); 11] = [
+        (b"boardsize 9", b"="),
+        (b"play b I5", b"? syntax error"),
+        (b"play b a1", b"="),
+        (b"play w Z25", b"? illegal move"),
+        (b"play w A26", b"? syntax error"),
+        (b"play w B01", b"? syntax error"),
+        (b"play w pAsS", b"="),
+        (b"play green B1", b"? syntax error"),
+        (b"PLAY b B1", b"? unknown command"),
+        (b"boardsize 26", b"? unacceptable size"),
+        (b"boardsize nine", b"? syntax error"),
+    ];
+    assert_answers(&rt, rt.alloc(), &lines)
+}
+
+#[test]
+fn suicide_is_illegal(rt: HostRuntime) -> Result<(), Fail> {
+    let lines: [(&[u8], &[u8]); 4] = [
+        (b"boardsize 2", b"="),
+        (b"play b B1", b"="),
+        (b"play b A2", b"="),
+        (b"play w A1", b"? illegal move"),
+    ];
+    assert_answers(&rt, rt.alloc(), &lines)
+}
+
+#[test]
+fn ko_is_lifted_by_passes(rt: HostRuntime) -> Result<(), Fail> {
+    let lines: [(&[u8], &[u8]); 12] = [
+        (b"boardsize 4", b"="),
+        (b"play b A2", b"="),
+        (b"play w C1", b"="),
+        (b"play b B1", b"="),
+        (b"play w B2", b"="),
+        (b"play b D4", b"="),
+        (b"play w A1", b"="),
+        (b"play b B1", b"? illegal move"),
+        (b"play b pass", b"="),
+        (b"play w pass", b"="),
+        (b"play b B1", b"="),
+        (
+            b"showboard",
+            b"= . . . X 4\n. . . . 3\nX O . . 2\n. X O . 1\nA B C D\ncaptures B 1 W 1",
+        ),
+    ];
+    assert_answers(&rt, rt.alloc(), &lines)
+}
+
+#[test]
+fn undo_takes_a_capture_back(rt: HostRuntime) -> Result<(), Fail> {
+    let lines: [(&[u8], &[u8]); 8] = [
+        (b"boardsize 2", b"="),
+        (b"play b A1", b"="),
+        (b"play w B1", b"="),
+        (b"play b A2", b"="),
+        (b"play w B2", b"="),
+        (b"showboard", b"= . O 2\n. O 1\nA B\ncaptures B 0 W 2"),
+        (b"undo", b"="),
+        (b"showboard", b"= X . 2\nX O 1\nA B\ncaptures B 0 W 0"),
+    ];
+    assert_answers(&rt, rt.alloc(), &lines)
+}
+
+#[test]
+fn fixed_handicaps_and_their_refusals(rt: HostRuntime) -> Result<(), Fail> {
+    let lines: [(&[u8], &[u8]); 12] = [
+        (b"fixed_handicap 3", b"= D4 Q16 D16"),
+        (b"fixed_handicap 1", b"? board not empty"),
+        (b"boardsize 9", b"="),
+        (b"fixed_handicap 1", b"? invalid number of stones"),
+        (b"fixed_handicap 10", b"? invalid number of stones"),
+        (b"fixed_handicap 9", b"= C3 G7 C7 G3 C5 G5 E3 E7 E5"),
+        (b"boardsize 8", b"="),
+        (b"fixed_handicap 5", b"? invalid number of stones"),
+        (b"fixed_handicap 4", b"= C3 F6 C6 F3"),
+        (b"clear_board", b"="),
+        (b"play b pass", b"="),
+        (b"fixed_handicap 2", b"? board not empty"),
+    ];
+    assert_answers(&rt, rt.alloc(), &lines)
+}
+
+#[test]
+fn handicap_stones_are_never_taken_back(rt: HostRuntime) -> Result<(), Fail> {
+    let lines: [(&[u8], &[u8]); 3] = [
+        (b"undo", b"? cannot undo"),
+        (b"fixed_handicap 2", b"= D4 Q16"),
+        (b"undo", b"? cannot undo"),
+    ];
+    assert_answers(&rt, rt.alloc(), &lines)
+}
+
+#[test]
+fn spellings_of_komi(rt: HostRuntime) -> Result<(), Fail> {
+    let lines: [(&[u8], &[u8]); 7] = [
+        (b"komi -3.50", b"="),
+        (b"komi .5", b"="),
+        (b"komi 6.7", b"? syntax error"),
+        (b"komi 1e1", b"? syntax error"),
+        (b"komi .", b"? syntax error"),
+        (b"komi 0000000006.5", b"? syntax error"),
+        (b"komi +7.", b"="),
+    ];
+    assert_answers(&rt, rt.alloc(), &lines)
+}
+
+#[test]
+fn a_full_record_refuses_before_the_board_does(rt: HostRuntime) -> Result<(), Fail> {
+    let mut input = Vec::new(rt.alloc());
+    let mut output = Vec::new(rt.alloc());
+    for _ in 0..2000 {
+        input.extend_from_slice(b"play b pass\n")?;
+        output.extend_from_slice(b"=\n\n")?;
+    }
+    let lines: [(&[u8], &[u8]); 5] = [
+        (b"play b pass", b"? record full"),
+        (b"play b Z25", b"? record full"),
+        (b"undo", b"="),
+        (b"play b Z25", b"? illegal move"),
+        (b"play b pass", b"="),
+    ];
+    for (command, reply) in lines {
+        input.extend_from_slice(command)?;
+        input.push(b'\n')?;
+        output.extend_from_slice(reply)?;
+        output.extend_from_slice(b"\n\n")?;
+    }
+    let mut taken = Vec::new(rt.alloc());
+    let mut session = Session::new();
+    let mut reader = reader_of(&input, &[], None);
+    let mut writer = Counted::new(&mut taken);
+    let answer = serve(&mut reader, &mut writer, &mut session);
+    assert_eq!(rt; answer, Ok(Served::EndOfInput));
+    assert_eq!(rt; taken.as_slice(), output.as_slice());
+    Ok(())
+}
+
+#[test]
+fn a_play_whose_reply_breaks_was_made_and_the_next_was_not(rt: HostRuntime) -> Result<(), Fail> {
+    let mut taken = ArrayVec::new();
+    let mut session = Session::new();
+    let mut reader = reader_of(b"1 play b A1\n2 play b B1\n", &[], None);
+    let mut writer = writer_of(&mut taken, 3, 100);
+    let answer = serve(&mut reader, &mut writer, &mut session);
+    assert_eq!(rt; answer, Err(ServeFault::Write));
+    assert_eq!(rt; taken.as_slice(), b"=1\n".as_slice());
+    assert_eq!(rt; session.game().moves().len(), 1);
+    let point = Point::new(1, 1).ok_or("no point")?;
+    assert_eq!(rt; session.game().at(point), Some(Colour::Black));
+    Ok(())
+}
+
+#[test]
+fn a_reply_is_one_write_and_is_flushed_before_the_next(rt: HostRuntime) -> Result<(), Fail> {
+    let writes = Rc::new(rt.alloc(), Cell::new(0))?;
+    let mut session = Session::new();
+    let mut reader = reader_of(b"1 name\n2 version\n3 quit\n", &[], None);
+    let mut writer = Counted::new(Strict {
+        writes: writes.clone()?,
+        whole: false,
+    });
+    let answer = serve(&mut reader, &mut writer, &mut session);
+    assert_eq!(rt; answer, Ok(Served::Quit));
+    assert_eq!(rt; writes.get(), 3);
+    Ok(())
+}
+
+#[test]
+fn one_read_has_room_for_4096_bytes(rt: HostRuntime) -> Result<(), Fail> {
+    let mut input = Vec::new(rt.alloc());
+    input.extend_from_slice(b"name")?;
+    input.resize(4095, b' ')?;
+    input.push(b'\n')?;
+    let mut taken = ArrayVec::new();
+    let mut session = Session::new();
+    let mut reader = reader_of(&input, &[], None);
+    let mut writer = writer_of(&mut taken, 4096, 100);
+    let answer = serve_within(&mut reader, &mut writer, &mut session, 1);
+    assert_eq!(rt; answer, Err(ServeFault::TooManyReads));
+    assert_eq!(rt; taken.as_slice(), b"= stepgo\n\n".as_slice());
+    Ok(())
+}
