@@ -329,6 +329,7 @@ fn comments_and_control_characters_in_a_play(rt: HostRuntime) -> Result<(), Fail
 
 #[test]
 fn an_unfinished_play_is_not_executed(rt: HostRuntime) {
+    assert_serves_in_any_cuts(&rt, b"play b D1", b"", Served::EndOfInput);
     let mut taken = ArrayVec::new();
     let mut session = Session::new();
     let mut reader = reader_of(b"play b D1", &[], None);
