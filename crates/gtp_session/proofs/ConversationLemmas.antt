@@ -9,7 +9,8 @@ use Rattle.std.specs.Prelude.{map}
 use Rattle.std.proofs.lemmas.List.Folds.{concat-append}
 use Rattle.std.proofs.lemmas.List.{map-append}
 use Rattle.gtp_wire.specs.Lines.{lines}
-use Rattle.gtp_session.specs.Engine.{Engine, May, WrittenReply, Replies, StopsAtLine, output_of}
+use Rattle.gtp_session.specs.Policy.{May}
+use Rattle.gtp_session.specs.Engine.{Engine, WrittenReply, Replies, StopsAtLine, output_of}
 use Rattle.gtp_session.specs.Conversation.{TakesPart, Delivered, Breaks, Conversation, BrokenConversation, GivesAtLeast, GivesBytes}
 use Rattle.gtp_session.proofs.EngineLemmas.{Replies-nothing, Replies-then}
 

@@ -4,7 +4,8 @@ use Rattle.std.proofs.lemmas.List.{append-nil}
 use Rattle.gtp_wire.specs.declared.lines.Line.{Line}
 use Rattle.gtp_wire.specs.Lines.{lines, EndsLine, Finds}
 use Rattle.gtp_wire.proofs.ReadingLemmas.{tail_of, lines_more, Finds-lines}
-use Rattle.gtp_session.specs.Engine.{Engine, State, May, WrittenReply, state_of, Step, Answers, Replies, StopsAtLine}
+use Rattle.gtp_session.specs.Policy.{May}
+use Rattle.gtp_session.specs.Engine.{Engine, State, WrittenReply, state_of, Step, Answers, Replies, StopsAtLine}
 use Rattle.gtp_session.specs.Engine.Answers.{none, over, more}
 
 -- a text without a byte has no line

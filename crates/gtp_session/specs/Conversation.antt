@@ -1,7 +1,8 @@
 -- What an engine, a reader and a writer did together.
 use Rattle.std.specs.Prelude.{◌≡◌, ℕ, ◌<◌, ◌≤◌, List, [], ◌∷◌, ◌++◌, length, take, Option, Some, None, Result, Ok, Err}
 use Rattle.std.specs.Io.KnownBytes.{Consumes, Appends, Keeps, IsAtEnd}
-use Rattle.gtp_session.specs.Engine.{Engine, May, WrittenReply, Replies, output_of}
+use Rattle.gtp_session.specs.Policy.{May}
+use Rattle.gtp_session.specs.Engine.{Engine, WrittenReply, Replies, output_of}
 
 -- The engine read this input and the writer took its replies, each whole.
 pub record Delivered {P : Type 0} (may : May P) (old : Engine P) (input : List ℕ) (new : Engine P) (held holds : Option (List ℕ)) : Type 0 where

@@ -6,6 +6,7 @@ use Rattle.gtp_wire.specs.declared.lines.Line.{Line}
 use Rattle.gtp_wire.specs.Lines.{lines}
 use Rattle.gtp_wire.specs.Replies.{written_reply}
 use Rattle.go_board.specs.Game.{GameRecord}
+use Rattle.gtp_session.specs.Policy.{May}
 use Rattle.gtp_session.specs.Commands.{answer, id_of, ends}
 
 -- An engine: the text that it was given and has not read as lines, its game, its policy, and whether its session has
@@ -24,10 +25,6 @@ pub record State (P : Type 0) : Type 0 where
 
 abbrev pub state_of : {P : Type 0} → Engine P → State P
 state_of engine = record { game = engine.game; policy = engine.policy; ended = engine.ended }
-
--- What a policy may do when it is asked: its state before and its state after.
-abbrev pub May : Type 0 → Type 1
-May P = P → P → Type 0
 
 -- A reply as it is written, and whether the line that it answers was a `genmove` that succeeded.
 pub record WrittenReply : Type 0 where

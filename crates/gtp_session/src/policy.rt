@@ -1,15 +1,31 @@
 //! Policies, which choose an engine's moves.
+ghost use Rattle.go_base.specs.declared.colours.Colour.{Colour};
+ghost use Rattle.go_board.specs.Game.{GameRecord};
+ghost use Rattle.gtp_session.specs.declared.policy.Choice.{Choice};
+ghost use Rattle.gtp_session.specs.Policy.{IsLawful};
+
+use go_base::{Colour, Vertex};
+use go_board::Game;
+
+/// What a policy chooses.
+#[derive(Clone, Copy, Debug, PartialEq, Eq)]
+pub enum Choice {
+    /// To resign.
+    Resign,
+    /// To play on a point, or to pass.
+    Play(Vertex),
+}
 
 /// What chooses the moves of an engine.
 pub trait Policy: Drop {
-    // Asked for a move, the first state may leave the second.
-    ghost may: { Self → Self → Type 0 };
-}
+    // Asked in a game for a colour, the first state may make this choice and leave the second state.
+    ghost may: { Self → GameRecord → Colour → Choice → Self → Type 0 };
 
-/// The policy of an engine that plays no moves.
-#[derive(Clone, Copy, Debug, PartialEq, Eq)]
-pub struct NoMoves;
+    /// Chooses what the colour does next in the game. Whose turn it is doesn't count.
+    fn choose(&mut self, game: &Game, colour: Colour) -> Choice
+        ensures { may self.old game.now colour result self.new };
 
-impl Policy for NoMoves {
-    ghost may = { λ old new. ⊥ };
+    // Every choice that it may make is lawful.
+    ghost lawful: { (old : Self) (game : GameRecord) (colour : Colour) (choice : Choice) (new : Self) →
+        may old game colour choice new → IsLawful game colour choice };
 }

@@ -4,7 +4,7 @@ ghost use Rattle.gtp_wire.specs.Lines.{lines};
 ghost use Rattle.gtp_session.specs.Engine.{fresh_game};
 
 use crate::answers::answer;
-use crate::policy::{NoMoves, Policy};
+use crate::policy::Policy;
 use go_base::{Komi, Size};
 use go_board::Game;
 use gtp_wire::{LineFed, LineReader, ReplyText};
@@ -53,22 +53,6 @@ impl<P: Policy> Model for Session<P> {
     ghost invariant = { λ s. lines s.reader ≡ [] };
 }
 
-impl Session<NoMoves> {
-    ghost use Rattle.gtp_session.specs.Engine.{fresh};
-
-    /// A session that was given nothing: size 19, komi 0, no handicap and no moves.
-    pub fn new() -> Self
-        ensures { result ≡ fresh (record {}) }
-    {
-        Session {
-            reader: LineReader::new(),
-            game: fresh_game(),
-            policy: NoMoves,
-            ended: false,
-        }
-    }
-}
-
 /// The game of a session that was given nothing.
 fn fresh_game() -> Game
     ensures { result ≡ fresh_game }
@@ -80,7 +64,19 @@ fn fresh_game() -> Game
 }
 
 impl<P: Policy> Session<P> {
-    ghost use Rattle.gtp_session.specs.Engine.{Step, Replies, StopsAtLine, state_of, reply_if, replies_of};
+    ghost use Rattle.gtp_session.specs.Engine.{Step, Replies, StopsAtLine, fresh, state_of, reply_if, replies_of};
+
+    /// A session with this policy that was given nothing: size 19, komi 0, no handicap and no moves.
+    pub fn new(policy: P) -> Self
+        ensures { result ≡ fresh policy }
+    {
+        Session {
+            reader: LineReader::new(),
+            game: fresh_game(),
+            policy,
+            ended: false,
+        }
+    }
 
     /// The game.
     pub fn game(&self) -> &Game
