@@ -11,7 +11,7 @@ use go_base::{Colour, Komi, Move, Point, Size, Vertex, handicap};
 use std::marker::Model;
 
 /// How many moves a record has room for.
-const MOST_MOVES: usize = 2000;
+pub const MOST_MOVES: usize = 2000;
 
 /// A board after a move, and how many stones the move took.
 #[derive(Clone, Copy)]

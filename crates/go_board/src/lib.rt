@@ -11,7 +11,7 @@ mod places;
 mod show;
 
 pub use faults::{HandicapFault, NothingToUndo, PlayFault};
-pub use game::Game;
+pub use game::{Game, MOST_MOVES};
 
 #[cfg(test)]
 mod tests;

@@ -1,10 +1,15 @@
 -- Laws of an engine's replies.
-use Rattle.std.proofs.Common.{◌≡◌, ℕ, Bool, true, false, List, [], ◌∷◌, ◌++◌, refl, sym, ap, ◌∙◌, append_assoc}
+use Rattle.std.proofs.Common.{◌≡◌, ℕ, Bool, true, false, Option, Some, None, List, [], ◌∷◌, ◌++◌, refl, sym, ap, ◌∙◌, append_assoc}
 use Rattle.std.proofs.lemmas.List.{append-nil}
 use Rattle.gtp_wire.specs.declared.lines.Line.{Line}
 use Rattle.gtp_wire.specs.Lines.{lines, EndsLine, Finds}
 use Rattle.gtp_wire.proofs.ReadingLemmas.{tail_of, lines_more, Finds-lines}
+use Rattle.std.specs.Prelude.{◌&&◌}
+use Rattle.go_base.specs.declared.colours.Colour.{Colour}
+use Rattle.go_board.specs.Game.{GameRecord}
+use Rattle.gtp_session.specs.declared.policy.Choice.TheVariants.{Resign}
 use Rattle.gtp_session.specs.Policy.{May}
+use Rattle.gtp_session.specs.Commands.{answer, asked, ends, id_of, is_genmove_line, Executes}
 use Rattle.gtp_session.specs.Engine.{Engine, State, WrittenReply, state_of, Step, Answers, Replies, StopsAtLine}
 use Rattle.gtp_session.specs.Engine.Answers.{none, over, more}
 
@@ -90,6 +95,33 @@ module _ {P : Type 0} (may : May P) where
         ends = ends.newline;
         before = Replies-found e (Finds-none a.rest ends.front ends.before) none;
       }
+
+  -- a line that was executed is a step
+  pub Step-executes : (old : State P) (line : Line) (game : GameRecord) (policy : P) (ended : Bool) (text : List ℕ) (colour : Option Colour) → asked old.game line ≡ colour
+      → Executes may old.game old.policy colour (answer old.game line) (id_of line) game policy text → ended ≡ ends line
+      → (genmove : Bool) × Step may old line (record { text = text; genmove = genmove }) (record { game = game; policy = policy; ended = ended })
+  Step-executes old line game policy ended text None a e end =
+      let given = e.1 Resign in
+      (is_genmove_line line && (answer old.game line Resign).ok,
+      record {
+        choice = Resign;
+        policy = rw a e.0;
+        game = given.game_is;
+        ended = end;
+        text = given.reply_is;
+        genmove = refl;
+      })
+  Step-executes old line game policy ended text (Some colour) a e end =
+      let given = (e.1).1 in
+      (is_genmove_line line && (answer old.game line e.0).ok,
+      record {
+        choice = e.0;
+        policy = rw a (e.1).0;
+        game = given.game_is;
+        ended = end;
+        text = given.reply_is;
+        genmove = refl;
+      })
 
   -- nothing is read, and nothing is answered
   pub Replies-nothing : (a : Engine P) → lines a.rest ≡ [] → Replies may a [] a []

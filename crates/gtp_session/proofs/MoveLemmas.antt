@@ -11,7 +11,7 @@ use Rattle.go_board.specs.declared.faults.PlayFault.TheVariants.{Full, OffBoard,
 use Rattle.go_board.specs.Game.{GameRecord, IsLegal, HasRoom, most_moves, with_move, legal?}
 use Rattle.go_board.specs.Refusals.{Refuses, RefusesVertex, IsTouched}
 use Rattle.gtp_session.specs.Decide.{touched?, allows?}
-use Rattle.gtp_session.specs.Commands.{succeeds, fails, answer_move, answer_handicap, refusal_text, written_points}
+use Rattle.gtp_session.specs.Commands.{succeeds, fails, answer_move, answer_handicap, refusal_text, written_vertices}
 
 -- a vertex that is refused is not legal
 pub refused-illegal : (game : GameRecord) (c : Colour) (v : Vertex) (fault : PlayFault) → RefusesVertex game c v fault → IsLegal game c v → ⊥
@@ -51,7 +51,7 @@ untouched : (game : GameRecord) (stones : ℕ) (d : Dec (IsTouched game)) (e : D
     → elim d [
       | yes _ ↦ fails game (codes "board not empty")
       | no _ ↦ elim e [
-        | yes _ ↦ succeeds (record game { handicap = stones }) (written_points (handicap_points game.size stones))
+        | yes _ ↦ succeeds (record game { handicap = stones }) (written_vertices (handicap_points game.size stones))
         | no _ ↦ fails game (codes "invalid number of stones")
       ]
     ] ≡ fails game (codes "invalid number of stones")
@@ -68,15 +68,15 @@ allowed : (game : GameRecord) (stones : ℕ) (d : Dec (IsTouched game)) (e : Dec
     → elim d [
       | yes _ ↦ fails game (codes "board not empty")
       | no _ ↦ elim e [
-        | yes _ ↦ succeeds (record game { handicap = stones }) (written_points (handicap_points game.size stones))
+        | yes _ ↦ succeeds (record game { handicap = stones }) (written_vertices (handicap_points game.size stones))
         | no _ ↦ fails game (codes "invalid number of stones")
       ]
-    ] ≡ succeeds (record game { handicap = stones }) (written_points (handicap_points game.size stones))
+    ] ≡ succeeds (record game { handicap = stones }) (written_vertices (handicap_points game.size stones))
 allowed game stones (yes t) e k a = absurd (k t)
 allowed game stones (no _) (yes _) k a = refl
 allowed game stones (no _) (no l) k a = absurd (l a)
 
 -- a number of stones that the size allows, on an empty board
 pub answer_handicap-good : (game : GameRecord) (stones : ℕ) → (IsTouched game → ⊥) → AllowsHandicap game.size stones
-    → answer_handicap game (Some stones) ≡ succeeds (record game { handicap = stones }) (written_points (handicap_points game.size stones))
+    → answer_handicap game (Some stones) ≡ succeeds (record game { handicap = stones }) (written_vertices (handicap_points game.size stones))
 answer_handicap-good game stones k a = allowed game stones (touched? game) (allows? game.size stones) k a

@@ -5,7 +5,7 @@ use Rattle.std.specs.List.{join_with_byte}
 use Rattle.std.specs.Prelude.{map}
 use Rattle.go_base.specs.Vertex.{written_vertex}
 use Rattle.go_base.specs.declared.vertices.Vertex.TheVariants.{At}
-use Rattle.gtp_session.specs.Commands.{written_points}
+use Rattle.gtp_session.specs.Commands.{written_vertices}
 
 -- one piece more
 join-push : (c : ℕ) (first : List ℕ) (pieces : List (List ℕ)) (last : List ℕ)
@@ -16,9 +16,9 @@ join-push c first (piece ∷ pieces) last =
     ∙ sym (append_assoc first (c ∷ join_with_byte c (piece ∷ pieces)) (c ∷ last))
 
 -- one point more
-pub written_points-push : (first : ℕ) (points : List ℕ) (last : ℕ)
-    → written_points (first ∷ (points ++ last ∷ [])) ≡ written_points (first ∷ points) ++ 32 ∷ written_vertex (At last)
-written_points-push first points last =
+pub written_vertices-push : (first : ℕ) (points : List ℕ) (last : ℕ)
+    → written_vertices (first ∷ (points ++ last ∷ [])) ≡ written_vertices (first ∷ points) ++ 32 ∷ written_vertex (At last)
+written_vertices-push first points last =
     ap (λ (t : List (List ℕ)). join_with_byte 32 (written_vertex (At first) ∷ t)) (map-push points)
     ∙ join-push 32 (written_vertex (At first)) (map (λ p. written_vertex (At p)) points) (written_vertex (At last))
   where
@@ -32,7 +32,7 @@ pub record AreWritten (points more : List ℕ) (count : ℕ) (text : List ℕ) :
   pub all : points ≡ first ∷ more
   pub few : length points ≤ 9
   pub short : length text ≤ 4 + 5 * count
-  pub written : text ≡ written_points (first ∷ take count more)
+  pub written : text ≡ written_vertices (first ∷ take count more)
 
 -- one more is written
 pub AreWritten-push : (points more : List ℕ) (count : ℕ) (text new : List ℕ) (last : ℕ) → AreWritten points more count text → count < length more
@@ -47,7 +47,7 @@ AreWritten-push points more count text new last so_far inside is longer appended
       written =
           appended ∙ append_assoc text (32 ∷ []) (written_vertex (At last))
           ∙ ap (λ (t : List ℕ). t ++ 32 ∷ written_vertex (At last)) so_far.written
-          ∙ sym (written_points-push so_far.first (take count more) last)
-          ∙ ap (λ (p : ℕ). written_points (so_far.first ∷ (take count more ++ p ∷ []))) is
-          ∙ ap (λ (t : List ℕ). written_points (so_far.first ∷ t)) (sym (take_more more count last inside));
+          ∙ sym (written_vertices-push so_far.first (take count more) last)
+          ∙ ap (λ (p : ℕ). written_vertices (so_far.first ∷ (take count more ++ p ∷ []))) is
+          ∙ ap (λ (t : List ℕ). written_vertices (so_far.first ∷ t)) (sym (take_more more count last inside));
     }

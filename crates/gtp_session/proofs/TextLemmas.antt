@@ -1,6 +1,7 @@
 -- Texts that a reply may have.
 use Rattle.std.proofs.Common.{◌≡◌, ℕ, zero, suc, ◌+◌, ◌*◌, ◌/◌, ◌%◌, ◌^◌, ◌<◌, ◌≤◌, List, [], ◌∷◌, ◌++◌, length, map, reverse, Bool, true, false, cond, eqb, Option, Some, None, refl, ◌∙◌, ap, arith, append-nil, length-append, lit≤, lit<}
-use Rattle.std.specs.Prelude.{codes, All}
+use lib.Signed.{mag}
+use Rattle.std.specs.Prelude.{codes, All, ℤ, pos, negsuc}
 use Rattle.std.specs.List.{range_with_len, flat_map, join_with_byte, list_all, AllByRecursion}
 use Rattle.std.specs.Fmt.{digits, digits_onto, digit_glyph}
 use Rattle.std.proofs.lemmas.Bool.Decides.{nat_tests}
@@ -13,14 +14,16 @@ use Rattle.go_base.specs.Int.{written_int}
 use Rattle.go_base.specs.Point.{point, column_of, row_of, IsOn}
 use Rattle.go_base.specs.Size.{IsSize}
 use Rattle.go_base.specs.Vertex.{letter_of, written_vertex}
-use Rattle.go_base.specs.declared.vertices.Vertex.TheVariants.{At}
+use Rattle.go_base.specs.declared.vertices.Vertex.{Vertex}
+use Rattle.go_base.specs.declared.vertices.Vertex.TheVariants.{Pass, At}
 use Rattle.go_base.specs.declared.colours.Colour.{Colour}
 use Rattle.go_base.specs.declared.colours.Colour.TheVariants.{Black, White}
 use Rattle.go_base.proofs.HandicapLemmas.{handicap_sound}
 use Rattle.go_board.specs.Board.{stone_at}
-use Rattle.go_board.specs.Game.{GameRecord, board_of}
+use Rattle.go_board.specs.Game.{GameRecord, board_of, IsLegal}
 use Rattle.go_board.specs.Taken.{taken}
 use Rattle.go_board.specs.Show.{shown_point, shown_points, shown_row, shown_letters, shown_captures, rows_down, shown}
+use Rattle.gtp_session.specs.Commands.{score_text}
 use Rattle.gtp_wire.specs.Bytes.{is_newline, is_blank}
 use Rattle.gtp_wire.specs.Replies.{has_two_newlines, is_shown, begins_blank, IsReplyText}
 
@@ -244,6 +247,12 @@ neat-vertex size p most on = ink (letter-ink (column_of p) (omega (arith, on.rig
 short-vertex : (size p : ℕ) → size ≤ 25 → IsOn size p → length (written_vertex (At p)) ≤ 3
 short-vertex size p most on = omega (arith, length-decimal-le 2 (row_of p) (omega arith) (omega (arith, on.top)) (omega (arith, on.top)))
 
+-- a vertex that is legal may be the text of a reply
+pub vertex_fits : (game : GameRecord) (c : Colour) (v : Vertex) → game.size ≤ 25 → IsLegal game c v → IsReplyText (written_vertex v)
+vertex_fits game c Pass most legal = record { fits = lit≤ tt; shown = refl; single = refl; front = refl; end = refl }
+vertex_fits game c (At p) most legal =
+    IsReplyText-neat (written_vertex (At p)) (omega (arith, short-vertex game.size p most legal.on_board)) (neat-vertex game.size p most legal.on_board)
+
 neat-vertices : (size : ℕ) (points : List ℕ) → size ≤ 25 → AllByRecursion (IsOn size) points → AllByRecursion IsNeat (map (λ p. written_vertex (At p)) points)
 neat-vertices size [] most all = tt
 neat-vertices size (p ∷ points) most all = (neat-vertex size p most all.0, neat-vertices size points most all.1)
@@ -315,3 +324,9 @@ pub white_score_fits : (n : ℕ) → n < 2 ^ 32 → IsReplyText (codes "W+" ++ w
 white_score_fits n few =
     IsReplyText-neat (codes "W+" ++ written_points n) (omega (arith, short-written_points n few))
     (ink (record { least = lit≤ tt; most = lit≤ tt }) (ink (record { least = lit≤ tt; most = lit≤ tt }) (neat-written_points n)))
+
+-- a score may be the text of a reply
+pub score_fits : (half_points : ℤ) → mag half_points < 2147483648 → IsReplyText (score_text half_points)
+score_fits (pos zero) fits = IsReplyText-neat (written_points 0) (omega (arith, short-written_points 0 (lit< tt))) (neat-written_points 0)
+score_fits (pos (suc n)) fits = black_score_fits (suc n) (omega (arith, fits))
+score_fits (negsuc n) fits = white_score_fits (n + 1) (omega (arith, fits))

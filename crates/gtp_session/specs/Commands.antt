@@ -1,5 +1,5 @@
 -- The engine's commands, and what each of them does to the game and answers.
-use Rattle.std.specs.Prelude.{◌≡◌, ℕ, ℤ, Bool, true, false, ◌&&◌, nat_le, List, [], ◌∷◌, length, map, find, slice_get, Option, Some, None, is_some, option_and_then, if◌then◌else◌, codes}
+use Rattle.std.specs.Prelude.{◌≡◌, ℕ, ℤ, Bool, true, false, ◌&&◌, zero, suc, ◌+◌, nat_le, pos, negsuc, List, [], ◌∷◌, ◌++◌, length, map, find, slice_get, Option, Some, None, is_some, option_and_then, if◌then◌else◌, MatchOption, codes}
 use Rattle.std.specs.List.{join_with_byte}
 use Rattle.std.specs.Str.{bytes_eq}
 use Rattle.go_base.specs.Int.{int_of}
@@ -7,6 +7,7 @@ use Rattle.go_base.specs.Size.{size_max}
 use Rattle.go_base.specs.Colour.{colour_of}
 use Rattle.go_base.specs.Vertex.{vertex_of, written_vertex}
 use Rattle.go_base.specs.Komi.{komi_of}
+use Rattle.go_base.specs.HalfPoints.{written_points}
 use Rattle.go_base.specs.Handicap.{handicap_points}
 use Rattle.go_base.specs.declared.colours.Colour.{Colour}
 use Rattle.go_base.specs.declared.vertices.Vertex.{Vertex}
@@ -16,11 +17,15 @@ use Rattle.go_board.specs.declared.faults.PlayFault.TheVariants.{Full, OffBoard,
 use Rattle.go_board.specs.Game.{GameRecord, most_moves, with_move, without_last, legal?}
 use Rattle.gtp_session.specs.Decide.{touched?, allows?}
 use Rattle.go_board.specs.Show.{shown}
+use Rattle.go_board.specs.Area.{score}
 use Rattle.gtp_wire.specs.Replies.{written_reply}
 use Rattle.gtp_wire.specs.declared.lines.Line.{Line}
 use Rattle.gtp_wire.specs.declared.lines.Line.TheVariants as line
+use Rattle.gtp_session.specs.Policy.{May}
+use Rattle.gtp_session.specs.declared.policy.Choice.{Choice}
+use Rattle.gtp_session.specs.declared.policy.Choice.TheVariants as choice
 use Rattle.gtp_session.specs.declared.commands.CommandName.{CommandName}
-use Rattle.gtp_session.specs.declared.commands.CommandName.TheVariants.{ProtocolVersion, Name, Version, KnownCommand, ListCommands, Quit, Boardsize, ClearBoard, Komi, Play, FixedHandicap, Undo, Showboard}
+use Rattle.gtp_session.specs.declared.commands.CommandName.TheVariants.{ProtocolVersion, Name, Version, KnownCommand, ListCommands, Quit, Boardsize, ClearBoard, Komi, Play, Genmove, FixedHandicap, Undo, FinalScore, Showboard}
 
 -- A command's name. (The standard, administrative, setup, core play and debug commands.)
 abbrev pub spelled : CommandName → List ℕ
@@ -34,15 +39,21 @@ spelled Boardsize = codes "boardsize"
 spelled ClearBoard = codes "clear_board"
 spelled Komi = codes "komi"
 spelled Play = codes "play"
+spelled Genmove = codes "genmove"
 spelled FixedHandicap = codes "fixed_handicap"
 spelled Undo = codes "undo"
+spelled FinalScore = codes "final_score"
 spelled Showboard = codes "showboard"
 
 -- all of them, in the order in which `list_commands` names them (own)
 abbrev pub all_commands : List CommandName
 all_commands =
     ProtocolVersion ∷ Name ∷ Version ∷ KnownCommand ∷ ListCommands ∷ Quit ∷ Boardsize ∷ ClearBoard ∷ Komi ∷ Play
-    ∷ FixedHandicap ∷ Undo ∷ Showboard ∷ []
+    ∷ Genmove ∷ FixedHandicap ∷ Undo ∷ FinalScore ∷ Showboard ∷ []
+
+-- their names, one per row (the standard, administrative commands: list_commands)
+abbrev pub all_names : List ℕ
+all_names = join_with_byte 10 (map spelled all_commands)
 
 -- the command of this name, where there is one; case matters
 abbrev pub command_named : List ℕ → Option CommandName
@@ -83,6 +94,10 @@ answer_boardsize game (Some size) =
     if nat_le 1 size && nat_le size size_max then succeeds (record game { size = size; handicap = 0; moves = [] }) []
     else fails game (codes "unacceptable size")
 
+-- board, handicap, record and captures are emptied, and size and komi stay
+abbrev pub answer_clear : GameRecord → Answer
+answer_clear game = succeeds (record game { handicap = 0; moves = [] }) []
+
 abbrev pub answer_komi : GameRecord → Option ℤ → Answer
 answer_komi game None = syntax_error game
 answer_komi game (Some komi) = succeeds (record game { komi = komi }) []
@@ -107,8 +122,8 @@ answer_play game (Some colour) None = syntax_error game
 answer_play game (Some colour) (Some vertex) = answer_move game colour vertex
 
 -- the points' vertices, separated by single spaces
-abbrev pub written_points : List ℕ → List ℕ
-written_points points = join_with_byte 32 (map (λ p. written_vertex (At p)) points)
+abbrev pub written_vertices : List ℕ → List ℕ
+written_vertices points = join_with_byte 32 (map (λ p. written_vertex (At p)) points)
 
 abbrev pub answer_handicap : GameRecord → Option ℕ → Answer
 answer_handicap game None = syntax_error game
@@ -116,7 +131,7 @@ answer_handicap game (Some stones) =
     elim (touched? game) [
       | yes _ ↦ fails game (codes "board not empty")
       | no _ ↦ elim (allows? game.size stones) [
-        | yes _ ↦ succeeds (record game { handicap = stones }) (written_points (handicap_points game.size stones))
+        | yes _ ↦ succeeds (record game { handicap = stones }) (written_vertices (handicap_points game.size stones))
         | no _ ↦ fails game (codes "invalid number of stones")
       ]
     ]
@@ -125,39 +140,77 @@ answer_handicap game (Some stones) =
 abbrev pub answer_undo : GameRecord → Answer
 answer_undo game = if nat_le 1 (length game.moves) then succeeds (without_last game) [] else fails game (codes "cannot undo")
 
--- Each command with the words of its line.
-abbrev pub answer_to : GameRecord → CommandName → List (List ℕ) → Answer
-answer_to game ProtocolVersion words = succeeds game (codes "2")
-answer_to game Name words = succeeds game (codes "stepgo")
-answer_to game Version words = succeeds game (codes "1.0")
-answer_to game KnownCommand words = answer_known game (slice_get words 1)
-answer_to game ListCommands words = succeeds game (join_with_byte 10 (map spelled all_commands))
-answer_to game Quit words = succeeds game []
-answer_to game Boardsize words = answer_boardsize game (argument int_of words 1)
-answer_to game ClearBoard words = succeeds (record game { handicap = 0; moves = [] }) []
-answer_to game Komi words = answer_komi game (argument komi_of words 1)
-answer_to game Play words = answer_play game (argument colour_of words 1) (argument vertex_of words 2)
-answer_to game FixedHandicap words = answer_handicap game (argument int_of words 1)
-answer_to game Undo words = answer_undo game
-answer_to game Showboard words = succeeds game (shown game)
+-- ---- genmove
+
+-- What the policy chooses for a colour: a vertex is played and answered; a resignation changes nothing.
+abbrev pub answer_choice : GameRecord → Colour → Choice → Answer
+answer_choice game colour choice.Resign = succeeds game (codes "resign")
+answer_choice game colour (choice.Play vertex) = succeeds (with_move game colour vertex) (written_vertex vertex)
+
+abbrev pub answer_genmove : GameRecord → Option Colour → Choice → Answer
+answer_genmove game None choice = syntax_error game
+answer_genmove game (Some colour) choice =
+    if nat_le most_moves (length game.moves) then fails game (codes "record full") else answer_choice game colour choice
+
+-- the colour for which a policy is asked: the one that is read, where the record has room
+abbrev pub asked_by_genmove : GameRecord → Option Colour → Option Colour
+asked_by_genmove game None = None
+asked_by_genmove game (Some colour) = if nat_le most_moves (length game.moves) then None else Some colour
+
+-- ---- final_score
+
+-- the colour that leads, before its points; nothing where the score is even
+abbrev pub leader : ℤ → List ℕ
+leader (pos zero) = []
+leader (pos (suc n)) = codes "B+"
+leader (negsuc n) = codes "W+"
+
+-- how many half points it leads by
+abbrev pub lead : ℤ → ℕ
+lead (pos n) = n
+lead (negsuc n) = n + 1
+
+-- `B+` or `W+` and the points, or `0` (the standard, tournament commands: final_score)
+abbrev pub score_text : ℤ → List ℕ
+score_text half_points = leader half_points ++ written_points (lead half_points)
+
+-- ---- every command
+
+-- Each command with the words of its line, and with what the policy chooses where it is asked.
+abbrev pub answer_to : GameRecord → CommandName → List (List ℕ) → Choice → Answer
+answer_to game ProtocolVersion words choice = succeeds game (codes "2")
+answer_to game Name words choice = succeeds game (codes "stepgo")
+answer_to game Version words choice = succeeds game (codes "1.0")
+answer_to game KnownCommand words choice = answer_known game (slice_get words 1)
+answer_to game ListCommands words choice = succeeds game all_names
+answer_to game Quit words choice = succeeds game []
+answer_to game Boardsize words choice = answer_boardsize game (argument int_of words 1)
+answer_to game ClearBoard words choice = answer_clear game
+answer_to game Komi words choice = answer_komi game (argument komi_of words 1)
+answer_to game Play words choice = answer_play game (argument colour_of words 1) (argument vertex_of words 2)
+answer_to game Genmove words choice = answer_genmove game (argument colour_of words 1) choice
+answer_to game FixedHandicap words choice = answer_handicap game (argument int_of words 1)
+answer_to game Undo words choice = answer_undo game
+answer_to game FinalScore words choice = succeeds game (score_text (score game))
+answer_to game Showboard words choice = succeeds game (shown game)
 
 -- a command that is named, or an unknown one (the standard, standard error messages)
-abbrev pub answer_to_named : GameRecord → Option CommandName → List (List ℕ) → Answer
-answer_to_named game (Some command) words = answer_to game command words
-answer_to_named game None words = fails game (codes "unknown command")
+abbrev pub answer_to_named : GameRecord → Option CommandName → List (List ℕ) → Choice → Answer
+answer_to_named game (Some command) words choice = answer_to game command words choice
+answer_to_named game None words choice = fails game (codes "unknown command")
 
 -- the command that the words of a line name, where they name one
 abbrev pub command_of : List (List ℕ) → Option CommandName
 command_of words = argument command_named words 0
 
 -- the words of a line after its id; a line with an id alone is an unknown command (own)
-abbrev pub answer_to_words : GameRecord → List (List ℕ) → Answer
-answer_to_words game words = answer_to_named game (command_of words) words
+abbrev pub answer_to_words : GameRecord → List (List ℕ) → Choice → Answer
+answer_to_words game words choice = answer_to_named game (command_of words) words choice
 
 -- a line; one that is too long is a syntax error (own)
-abbrev pub answer : GameRecord → Line → Answer
-answer game line.TooLong = syntax_error game
-answer game (line.Command command_line) = answer_to_words game command_line.words
+abbrev pub answer : GameRecord → Line → Choice → Answer
+answer game line.TooLong choice = syntax_error game
+answer game (line.Command command_line) choice = answer_to_words game command_line.words choice
 
 -- the id that the reply repeats; a line that is too long has none (own)
 abbrev pub id_of : Line → Option ℕ
@@ -175,8 +228,10 @@ is_quit (Some Boardsize) = false
 is_quit (Some ClearBoard) = false
 is_quit (Some Komi) = false
 is_quit (Some Play) = false
+is_quit (Some Genmove) = false
 is_quit (Some FixedHandicap) = false
 is_quit (Some Undo) = false
+is_quit (Some FinalScore) = false
 is_quit (Some Showboard) = false
 is_quit None = false
 
@@ -185,7 +240,54 @@ abbrev pub ends : Line → Bool
 ends line.TooLong = false
 ends (line.Command command_line) = is_quit (command_of command_line.words)
 
+abbrev pub is_genmove : Option CommandName → Bool
+is_genmove (Some Genmove) = true
+is_genmove (Some ProtocolVersion) = false
+is_genmove (Some Name) = false
+is_genmove (Some Version) = false
+is_genmove (Some KnownCommand) = false
+is_genmove (Some ListCommands) = false
+is_genmove (Some Quit) = false
+is_genmove (Some Boardsize) = false
+is_genmove (Some ClearBoard) = false
+is_genmove (Some Komi) = false
+is_genmove (Some Play) = false
+is_genmove (Some FixedHandicap) = false
+is_genmove (Some Undo) = false
+is_genmove (Some FinalScore) = false
+is_genmove (Some Showboard) = false
+is_genmove None = false
+
+-- whether the line is a `genmove`
+abbrev pub is_genmove_line : Line → Bool
+is_genmove_line line.TooLong = false
+is_genmove_line (line.Command command_line) = is_genmove (command_of command_line.words)
+
+-- the colour for which a command asks the policy, where it does
+abbrev pub asked_by_command : GameRecord → CommandName → List (List ℕ) → Option Colour
+asked_by_command game command words = if is_genmove (Some command) then asked_by_genmove game (argument colour_of words 1) else None
+
+abbrev pub asked_by_named : GameRecord → Option CommandName → List (List ℕ) → Option Colour
+asked_by_named game (Some command) words = asked_by_command game command words
+asked_by_named game None words = None
+
+abbrev pub asked_by_words : GameRecord → List (List ℕ) → Option Colour
+asked_by_words game words = asked_by_named game (command_of words) words
+
+-- The colour for which the line asks the policy: it is a `genmove` with a colour, and the record isn't full. No other
+-- line asks it.
+abbrev pub asked : GameRecord → Line → Option Colour
+asked game line.TooLong = None
+asked game (line.Command command_line) = asked_by_words game command_line.words
+
 -- The answer was given: this is the game after it, and these are the bytes of the reply.
 pub record Leaves (given : Answer) (id : Option ℕ) (game : GameRecord) (reply : List ℕ) : Type 0 where
   pub game_is : game ≡ given.game
   pub reply_is : reply ≡ written_reply given.ok id given.text
+
+-- The policy was asked for this colour, or not at all, and the answer to what it chose was given.
+abbrev pub Executes : {P : Type 0} → May P → GameRecord → P → Option Colour → (Choice → Answer) → Option ℕ → GameRecord → P → List ℕ → Type 0
+Executes may game policy asked given id game_now policy_now reply =
+    MatchOption asked
+    ((policy_now ≡ policy) × ((choice : Choice) → Leaves (given choice) id game_now reply))
+    (λ colour. (choice : Choice) × (may policy game colour choice policy_now × Leaves (given choice) id game_now reply))

@@ -1,5 +1,5 @@
 -- An engine: what it holds, and how it answers a text.
-use Rattle.std.specs.Prelude.{◌≡◌, ℕ, Bool, true, false, List, [], ◌∷◌, ◌++◌, map, Option, None, Some, pos}
+use Rattle.std.specs.Prelude.{◌≡◌, ℕ, Bool, true, false, ◌&&◌, List, [], ◌∷◌, ◌++◌, map, Option, None, Some, MatchOption, pos}
 use Rattle.std.specs.List.{concat}
 use Rattle.arrayvec.specs.ArrayVec.{ArrayVec}
 use Rattle.gtp_wire.specs.declared.lines.Line.{Line}
@@ -7,7 +7,8 @@ use Rattle.gtp_wire.specs.Lines.{lines}
 use Rattle.gtp_wire.specs.Replies.{written_reply}
 use Rattle.go_board.specs.Game.{GameRecord}
 use Rattle.gtp_session.specs.Policy.{May}
-use Rattle.gtp_session.specs.Commands.{answer, id_of, ends}
+use Rattle.gtp_session.specs.declared.policy.Choice.{Choice}
+use Rattle.gtp_session.specs.Commands.{answer, asked, id_of, ends, is_genmove_line}
 
 -- An engine: the text that it was given and has not read as lines, its game, its policy, and whether its session has
 -- ended.
@@ -35,13 +36,14 @@ pub record WrittenReply : Type 0 where
 abbrev pub output_of : List WrittenReply → List ℕ
 output_of replies = concat (map (λ reply. reply.text) replies)
 
--- One line is answered with this reply. No command asks the policy, so it stays as it is.
+-- One line is answered with this reply. The policy is asked where the line asks it, and otherwise it stays.
 pub record Step {P : Type 0} (may : May P) (old : State P) (line : Line) (reply : WrittenReply) (new : State P) : Type 0 where
-  pub policy : new.policy ≡ old.policy
-  pub game : new.game ≡ (answer old.game line).game
+  pub choice : Choice
+  pub policy : MatchOption (asked old.game line) (new.policy ≡ old.policy) (λ colour. may old.policy old.game colour choice new.policy)
+  pub game : new.game ≡ (answer old.game line choice).game
   pub ended : new.ended ≡ ends line
-  pub text : reply.text ≡ written_reply (answer old.game line).ok (id_of line) (answer old.game line).text
-  pub genmove : reply.genmove ≡ false
+  pub text : reply.text ≡ written_reply (answer old.game line choice).ok (id_of line) (answer old.game line choice).text
+  pub genmove : reply.genmove ≡ (is_genmove_line line && (answer old.game line choice).ok)
 
 module _ {P : Type 0} (may : May P) where
   -- The lines are answered one after the other, up to and with the first that ends the session.

@@ -1,31 +1,45 @@
 //! What each command does to the game and answers: the table of the commands.
-ghost use Rattle.std.specs.Prelude.{◌≡◌, ◌+◌, ◌≤◌, ◌++◌, length, true, false, codes, slice_get};
+ghost use Rattle.std.specs.Prelude.{◌≡◌, ◌+◌, ◌≤◌, ◌++◌, length, true, false, codes, slice_get, nat_le};
 ghost use Rattle.go_base.specs.Int.{int_of};
 ghost use Rattle.go_base.specs.Colour.{colour_of};
 ghost use Rattle.go_base.specs.Komi.{komi_of};
 ghost use Rattle.go_base.specs.Vertex.{vertex_of, written_vertex};
 ghost use Rattle.arrayvec.specs.ArrayVec.{array_vec_len};
 ghost use Rattle.go_base.specs.declared.vertices.Vertex.TheVariants.{At};
-ghost use Rattle.go_board.specs.Game.{GameRecord};
+ghost use Rattle.go_board.specs.Game.{GameRecord, most_moves, HasRoom, IsLegal};
+ghost use Rattle.go_board.specs.Area.{score};
+ghost use Rattle.go_board.specs.Show.{shown};
+ghost use Rattle.gtp_session.specs.Policy.{IsLawful};
+ghost use Rattle.gtp_session.specs.declared.policy.Choice.{Choice};
+ghost use Rattle.gtp_session.specs.declared.policy.Choice.TheVariants as choice;
 ghost use Rattle.gtp_wire.specs.Replies.{IsReplyText, written_reply};
-ghost use Rattle.gtp_session.specs.Commands.{Leaves, command_named, argument, id_of, ends, answer, answer_to, answer_to_words, answer_known, answer_boardsize, answer_komi, answer_play, answer_handicap, answer_undo, answer_move, refusal_text, is_quit, written_points};
+ghost use Rattle.gtp_session.specs.Commands.{Leaves, Executes, command_named, argument, id_of, ends, asked, asked_by_words, asked_by_command, asked_by_genmove, succeeds, all_names, score_text, leader, answer, answer_to, answer_to_words, answer_known, answer_boardsize, answer_clear, answer_komi, answer_play, answer_genmove, answer_choice, answer_handicap, answer_undo, answer_move, refusal_text, is_quit, written_vertices};
 
 use crate::commands::CommandName;
+use crate::policy::{Choice, Policy};
 use arrayvec::ArrayVec;
-use go_base::{Colour, Komi, Point, Size, Vertex, read_int};
-use go_board::{Game, HandicapFault, PlayFault};
+use go_base::{Colour, Komi, Move, Point, Size, Vertex, read_int, write_half_points};
+use go_board::{Game, HandicapFault, MOST_MOVES, PlayFault};
 use gtp_wire::{CommandLine, Line, ReplyText, write_reply_into};
 
 /// What `list_commands` answers: the names of the commands, a line each.
 static NAMES: &[u8] =
-    b"protocol_version\nname\nversion\nknown_command\nlist_commands\nquit\nboardsize\nclear_board\nkomi\nplay\nfixed_handicap\nundo\nshowboard";
+    b"protocol_version\nname\nversion\nknown_command\nlist_commands\nquit\nboardsize\nclear_board\nkomi\nplay\ngenmove\nfixed_handicap\nundo\nfinal_score\nshowboard";
 
 /// The room for nine vertices and the spaces between them.
-const POINTS_ROOM: usize = 44;
+const VERTICES_ROOM: usize = 44;
+
+/// The room for a score: the colour that leads, a plus sign, and the points.
+const SCORE_ROOM: usize = 14;
 
 /// Executes a line, puts the reply in place of what `reply` holds, and tells whether the session ends.
-pub(crate) fn answer(game: &mut Game, line: &Line, reply: &mut ReplyText) -> bool
-    ensures leaves { Leaves (answer game.old line.now) (id_of line.now) game.new reply.new.items }
+pub(crate) fn answer<P: Policy>(
+    game: &mut Game,
+    policy: &mut P,
+    line: &Line,
+    reply: &mut ReplyText,
+) -> bool
+    ensures executes { Executes P.may game.old policy.old (asked game.old line.now) (answer game.old line.now) (id_of line.now) game.new policy.new reply.new.items }
     ensures ends { result ≡ ends line.now }
 {
     match line {
@@ -33,13 +47,18 @@ pub(crate) fn answer(game: &mut Game, line: &Line, reply: &mut ReplyText) -> boo
             write_reply_into(reply, false, None, b"syntax error");
             false
         }
-        Line::Command(line) => answer_words(game, line, reply),
+        Line::Command(line) => answer_words(game, policy, line, reply),
     }
 }
 
 /// The same for a line that isn't too long.
-fn answer_words(game: &mut Game, line: &CommandLine, reply: &mut ReplyText) -> bool
-    ensures leaves { Leaves (answer_to_words game.old line.now.words) line.now.id game.new reply.new.items }
+fn answer_words<P: Policy>(
+    game: &mut Game,
+    policy: &mut P,
+    line: &CommandLine,
+    reply: &mut ReplyText,
+) -> bool
+    ensures executes { Executes P.may game.old policy.old (asked_by_words game.old line.now.words) (answer_to_words game.old line.now.words) line.now.id game.new policy.new reply.new.items }
     ensures ends { result ≡ is_quit (argument command_named line.now.words 0) }
 {
     match named_command(line) {
@@ -48,29 +67,37 @@ fn answer_words(game: &mut Game, line: &CommandLine, reply: &mut ReplyText) -> b
             false
         }
         Some(command) => {
-            execute(command, game, line, reply);
+            execute(command, game, policy, line, reply);
             command == CommandName::Quit
         }
     }
 }
 
 /// Executes a command.
-fn execute(command: CommandName, game: &mut Game, line: &CommandLine, reply: &mut ReplyText)
-    ensures { Leaves (answer_to game.old command line.now.words) line.now.id game.new reply.new.items }
+fn execute<P: Policy>(
+    command: CommandName,
+    game: &mut Game,
+    policy: &mut P,
+    line: &CommandLine,
+    reply: &mut ReplyText,
+)
+    ensures { Executes P.may game.old policy.old (asked_by_command game.old command line.now.words) (answer_to game.old command line.now.words) line.now.id game.new policy.new reply.new.items }
 {
     match command {
         CommandName::ProtocolVersion => success(line, reply, b"2"),
         CommandName::Name => success(line, reply, b"stepgo"),
         CommandName::Version => success(line, reply, b"1.0"),
         CommandName::KnownCommand => known_command(line, reply),
-        CommandName::ListCommands => success(line, reply, NAMES),
+        CommandName::ListCommands => list_commands(line, reply),
         CommandName::Quit => success(line, reply, b""),
         CommandName::Boardsize => boardsize(game, line, reply),
         CommandName::ClearBoard => clear_board(game, line, reply),
         CommandName::Komi => komi(game, line, reply),
         CommandName::Play => play(game, line, reply),
+        CommandName::Genmove => genmove(game, policy, line, reply),
         CommandName::FixedHandicap => fixed_handicap(game, line, reply),
         CommandName::Undo => undo(game, line, reply),
+        CommandName::FinalScore => final_score(game, line, reply),
         CommandName::Showboard => showboard(game, line, reply),
     }
 }
@@ -143,6 +170,12 @@ fn known_command(line: &CommandLine, reply: &mut ReplyText)
     }
 }
 
+fn list_commands(line: &CommandLine, reply: &mut ReplyText)
+    ensures { reply.new.items ≡ written_reply true line.now.id all_names }
+{
+    success(line, reply, NAMES);
+}
+
 fn boardsize(game: &mut Game, line: &CommandLine, reply: &mut ReplyText)
     ensures { Leaves (answer_boardsize game.old (argument int_of line.now.words 1)) line.now.id game.new reply.new.items }
 {
@@ -159,7 +192,7 @@ fn boardsize(game: &mut Game, line: &CommandLine, reply: &mut ReplyText)
 }
 
 fn clear_board(game: &mut Game, line: &CommandLine, reply: &mut ReplyText)
-    ensures { Leaves (answer_to game.old CommandName.ClearBoard line.now.words) line.now.id game.new reply.new.items }
+    ensures { Leaves (answer_clear game.old) line.now.id game.new reply.new.items }
 {
     game.clear();
     success(line, reply, b"");
@@ -216,6 +249,81 @@ fn refusal_text(fault: PlayFault) -> &'static [u8]
     }
 }
 
+fn genmove<P: Policy>(
+    game: &mut Game,
+    policy: &mut P,
+    line: &CommandLine,
+    reply: &mut ReplyText,
+)
+    ensures { Executes P.may game.old policy.old (asked_by_genmove game.old (argument colour_of line.now.words 1)) (answer_genmove game.old (argument colour_of line.now.words 1)) line.now.id game.new policy.new reply.new.items }
+{
+    match colour_argument(line) {
+        None => syntax_error(line, reply),
+        Some(_) if is_full(game) => failure(line, reply, b"record full"),
+        Some(colour) => ask(game, policy, colour, line, reply),
+    }
+}
+
+/// Whether the record has no room for a move.
+fn is_full(game: &Game) -> bool
+    ensures { result ≡ nat_le most_moves (length game.now.moves) }
+{
+    game.moves().len() >= MOST_MOVES
+}
+
+/// Asks the policy for a colour's move, and makes it.
+fn ask<P: Policy>(
+    game: &mut Game,
+    policy: &mut P,
+    colour: Colour,
+    line: &CommandLine,
+    reply: &mut ReplyText,
+)
+    requires { HasRoom game.old }
+    ensures { (choice : Choice) × (P.may policy.old game.old colour choice policy.new × Leaves (answer_choice game.old colour choice) line.now.id game.new reply.new.items) }
+{
+    let choice = policy.choose(game, colour);
+    make_choice(game, colour, choice, line, reply);
+}
+
+/// Does what a policy chose.
+fn make_choice(
+    game: &mut Game,
+    colour: Colour,
+    choice: Choice,
+    line: &CommandLine,
+    reply: &mut ReplyText,
+)
+    requires room { HasRoom game.old }
+    requires lawful { IsLawful game.old colour choice }
+    ensures { Leaves (answer_choice game.old colour choice) line.now.id game.new reply.new.items }
+{
+    match choice {
+        Choice::Resign => success(line, reply, b"resign"),
+        Choice::Play(vertex) => play_choice(game, colour, vertex, line, reply),
+    }
+}
+
+/// Makes a move that is legal, and answers its vertex.
+fn play_choice(
+    game: &mut Game,
+    colour: Colour,
+    vertex: Vertex,
+    line: &CommandLine,
+    reply: &mut ReplyText,
+)
+    requires room { HasRoom game.old }
+    requires legal { IsLegal game.old colour vertex }
+    ensures { Leaves (answer_choice game.old colour (choice.Play vertex)) line.now.id game.new reply.new.items }
+{
+    // Its contract tells that the size is in its limits.
+    let _ = game.size();
+    let made = Move { colour, vertex };
+    let text = made.vertex.write();
+    let _ = game.play(made.colour, made.vertex);
+    success(line, reply, &text);
+}
+
 fn fixed_handicap(game: &mut Game, line: &CommandLine, reply: &mut ReplyText)
     ensures { Leaves (answer_handicap game.old (argument int_of line.now.words 1)) line.now.id game.new reply.new.items }
 {
@@ -224,7 +332,7 @@ fn fixed_handicap(game: &mut Game, line: &CommandLine, reply: &mut ReplyText)
     match int_argument(line) {
         None => syntax_error(line, reply),
         Some(stones) => match game.place_handicap(stones) {
-            Ok(points) => success(line, reply, &written_points(&points)),
+            Ok(points) => success(line, reply, &written_vertices(&points)),
             Err(HandicapFault::NotEmpty) => failure(line, reply, b"board not empty"),
             Err(HandicapFault::BadNumber) => failure(line, reply, b"invalid number of stones"),
         },
@@ -240,8 +348,36 @@ fn undo(game: &mut Game, line: &CommandLine, reply: &mut ReplyText)
     }
 }
 
+fn final_score(game: &Game, line: &CommandLine, reply: &mut ReplyText)
+    ensures { Leaves (succeeds game.now (score_text (score game.now))) line.now.id game.now reply.new.items }
+{
+    success(line, reply, &written_score(game.score()));
+}
+
+/// The colour that leads and its points, or `0`.
+fn written_score(half_points: i32) -> ArrayVec<u8, SCORE_ROOM>
+    ensures { result.items ≡ score_text half_points }
+{
+    let mut text = ArrayVec::new();
+    let _ = text.try_extend_from_slice(leader(half_points));
+    let _ = text.try_extend_from_slice(&write_half_points(half_points.unsigned_abs()));
+    text
+}
+
+/// What stands before the points.
+fn leader(half_points: i32) -> &'static [u8]
+    ensures leader { result.now ≡ leader half_points }
+    ensures few { length result.now ≤ 2 }
+{
+    match half_points {
+        0 => b"",
+        1.. => b"B+",
+        _ => b"W+",
+    }
+}
+
 fn showboard(game: &Game, line: &CommandLine, reply: &mut ReplyText)
-    ensures { Leaves (answer_to game.now CommandName.Showboard line.now.words) line.now.id game.now reply.new.items }
+    ensures { Leaves (succeeds game.now (shown game.now)) line.now.id game.now reply.new.items }
 {
     // Its contract tells that the size is in its limits.
     let _ = game.size();
@@ -249,9 +385,9 @@ fn showboard(game: &Game, line: &CommandLine, reply: &mut ReplyText)
 }
 
 /// The vertices of points, separated by single spaces.
-fn written_points(points: &[Point]) -> ArrayVec<u8, POINTS_ROOM>
+fn written_vertices(points: &[Point]) -> ArrayVec<u8, VERTICES_ROOM>
     requires { length points.now ≤ 9 }
-    ensures { result.items ≡ written_points points.now }
+    ensures { result.items ≡ written_vertices points.now }
 {
     let mut text = ArrayVec::new();
     let [first, more @ ..] = points else {
@@ -266,8 +402,8 @@ fn written_points(points: &[Point]) -> ArrayVec<u8, POINTS_ROOM>
 }
 
 /// Appends the point's vertex.
-fn push_vertex(text: &mut ArrayVec<u8, POINTS_ROOM>, point: Point)
-    requires { array_vec_len text.old + 4 ≤ POINTS_ROOM }
+fn push_vertex(text: &mut ArrayVec<u8, VERTICES_ROOM>, point: Point)
+    requires { array_vec_len text.old + 4 ≤ VERTICES_ROOM }
     ensures bytes { text.new.items ≡ text.old.items ++ written_vertex (At point) }
     ensures len { array_vec_len text.new ≤ array_vec_len text.old + 4 }
 {

@@ -5,23 +5,40 @@ ghost use Rattle.gtp_session.specs.Commands.{spelled, command_named};
 /// A command that the engine knows.
 #[derive(Clone, Copy, Debug, PartialEq, Eq)]
 pub enum CommandName {
+    /// `protocol_version`
     ProtocolVersion,
+    /// `name`
     Name,
+    /// `version`
     Version,
+    /// `known_command`
     KnownCommand,
+    /// `list_commands`
     ListCommands,
+    /// `quit`
     Quit,
+    /// `boardsize`
     Boardsize,
+    /// `clear_board`
     ClearBoard,
+    /// `komi`
     Komi,
+    /// `play`
     Play,
+    /// `genmove`
+    Genmove,
+    /// `fixed_handicap`
     FixedHandicap,
+    /// `undo`
     Undo,
+    /// `final_score`
+    FinalScore,
+    /// `showboard`
     Showboard,
 }
 
 /// The commands, in the order in which `list_commands` names them.
-static COMMANDS: [CommandName; 13] = [
+static COMMANDS: [CommandName; 15] = [
     CommandName::ProtocolVersion,
     CommandName::Name,
     CommandName::Version,
@@ -32,8 +49,10 @@ static COMMANDS: [CommandName; 13] = [
     CommandName::ClearBoard,
     CommandName::Komi,
     CommandName::Play,
+    CommandName::Genmove,
     CommandName::FixedHandicap,
     CommandName::Undo,
+    CommandName::FinalScore,
     CommandName::Showboard,
 ];
 
@@ -63,8 +82,10 @@ impl CommandName {
             CommandName::ClearBoard => b"clear_board",
             CommandName::Komi => b"komi",
             CommandName::Play => b"play",
+            CommandName::Genmove => b"genmove",
             CommandName::FixedHandicap => b"fixed_handicap",
             CommandName::Undo => b"undo",
+            CommandName::FinalScore => b"final_score",
             CommandName::Showboard => b"showboard",
         }
     }

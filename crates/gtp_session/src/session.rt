@@ -142,7 +142,7 @@ impl<P: Policy> Session<P> {
                 replied: false,
             },
             Some(line) => {
-                self.ended = answer(&mut self.game, &line, text);
+                self.ended = answer(&mut self.game, &mut self.policy, &line, text);
                 Taken {
                     used,
                     replied: true,

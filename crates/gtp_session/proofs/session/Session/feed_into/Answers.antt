@@ -2,7 +2,8 @@ use Rattle.std.proofs.Common.{rules, refl, ◌≡◌, [], true, false, take}
 use Rattle.std.specs.Option.{option_to_list}
 use Rattle.gtp_wire.specs.Lines.{Finds}
 use Rattle.gtp_session.specs.Engine.Answers.{none}
-use Rattle.gtp_session.proofs.EngineLemmas.{Replies-over, Replies-found, Replies-line, StopsAtLine-found}
+use Rattle.gtp_session.specs.Commands.{asked}
+use Rattle.gtp_session.proofs.EngineLemmas.{Step-executes, Replies-over, Replies-found, Replies-line, StopsAtLine-found}
 use Rattle.gtp_session.proofs.session.Session.feed_into.Goals as goal
 
 pub returns-then-self-clause-replies : goal.returns-then-self-clause-replies
@@ -18,7 +19,9 @@ returns-in-None-clause-replies g c =
 pub returns-in-Some-clause-replies : goal.returns-in-Some-clause-replies
 returns-in-Some-clause-replies g c =
     let found : Finds c.self.inside.reader (take c.feed-used.result.used c.args.input.now) (option_to_list c.feed-used.result.line) c.feed-used.new.self = record { rest = c.feed-used.ensures.rest; no_line = c.feed-used.ensures.no_line } in
-    (false, rw (← c.self.view_is) (Replies-line g.P.Policy.may c.if-self.false (rw c.in-Some.is at found) (record { policy = refl; game = c.answer-self-inside.ensures.leaves.game_is; ended = c.answer-self-inside.ensures.ends; text = c.answer-self-inside.ensures.leaves.reply_is; genmove = refl }) refl))
+    let stepped = Step-executes g.P.Policy.may (record { game = c.self.inside.game; policy = c.self.inside.policy; ended = c.self.inside.ended }) c.in-Some.line c.answer-self-inside.new.game c.answer-self-inside.new.policy c.answer-self-inside.result
+    c.answer-self-inside.new.reply.items (asked c.self.inside.game c.in-Some.line) refl c.answer-self-inside.ensures.executes c.answer-self-inside.ensures.ends in
+    (stepped.0, rw (← c.self.view_is) (Replies-line g.P.Policy.may c.if-self.false (rw c.in-Some.is at found) stepped.1 refl))
 
 pub returns-in-Some-clause-line : goal.returns-in-Some-clause-line
 returns-in-Some-clause-line g c =
