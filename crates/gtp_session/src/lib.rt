@@ -2,6 +2,8 @@
 #![tactic(auto)]
 
 mod answers;
+#[cfg(test)]
+mod command_tests;
 pub mod commands;
 pub mod laws;
 #[cfg(test)]

@@ -1,6 +1,7 @@
 //! Conversations over memory.
 use crate::memory::{Limited, Pieces, Strict, Telling, Waiting};
-use crate::policy::NoMoves;
+use crate::first::First;
+use crate::policy::Policy;
 use crate::serve::{ServeFault, Served, serve, serve_within};
 use crate::session::Session;
 use crate::streams::Counted;
@@ -35,10 +36,28 @@ fn writer_of<'a>(
     Counted::new(Limited { taken, room, step })
 }
 
-/// A fresh engine answers the input, in pieces of these sizes, with the output, and ends like this.
-fn assert_serves(rt: &impl Abort, input: &[u8], sizes: &[usize], output: &[u8], served: Served) {
+/// A fresh engine with the first policy answers the input, in pieces of these sizes, with the output, and ends like this.
+pub fn assert_serves(
+    rt: &impl Abort,
+    input: &[u8],
+    sizes: &[usize],
+    output: &[u8],
+    served: Served,
+) {
+    assert_policy_serves(rt, First, input, sizes, output, served);
+}
+
+/// The same with a policy.
+pub fn assert_policy_serves<P: Policy>(
+    rt: &impl Abort,
+    policy: P,
+    input: &[u8],
+    sizes: &[usize],
+    output: &[u8],
+    served: Served,
+) {
     let mut taken = ArrayVec::new();
-    let mut session: Session<NoMoves> = Session::new();
+    let mut session = Session::new(policy);
     let mut reader = reader_of(input, sizes, None);
     let mut writer = writer_of(&mut taken, 4096, 100);
     let answer = serve(&mut reader, &mut writer, &mut session);
@@ -48,7 +67,7 @@ fn assert_serves(rt: &impl Abort, input: &[u8], sizes: &[usize], output: &[u8], 
 }
 
 /// The same in one piece, in each two pieces, and byte after byte.
-fn assert_serves_in_any_cuts(rt: &impl Abort, input: &[u8], output: &[u8], served: Served) {
+pub fn assert_serves_in_any_cuts(rt: &impl Abort, input: &[u8], output: &[u8], served: Served) {
     assert_serves(rt, input, &[], output, served);
     assert_serves(rt, input, &[1; 512], output, served);
     for first in 1..input.len() {
@@ -150,60 +169,10 @@ fn nothing_is_executed_after_quit(rt: HostRuntime) {
 }
 
 #[test]
-fn known_command_speaks_of_the_commands_that_are_there(rt: HostRuntime) {
-    assert_serves(
-        &rt,
-        b"known_command quit\n",
-        &[],
-        b"= true\n\n",
-        Served::EndOfInput,
-    );
-    assert_serves(
-        &rt,
-        b"known_command time_left\n",
-        &[],
-        b"= false\n\n",
-        Served::EndOfInput,
-    );
-    assert_serves(
-        &rt,
-        b"known_command Quit\n",
-        &[],
-        b"= false\n\n",
-        Served::EndOfInput,
-    );
-    assert_serves(
-        &rt,
-        b"known_command\n",
-        &[],
-        b"? syntax error\n\n",
-        Served::EndOfInput,
-    );
-    assert_serves(
-        &rt,
-        b"time_left b 10 0\n",
-        &[],
-        b"? unknown command\n\n",
-        Served::EndOfInput,
-    );
-    assert_serves(&rt, b"name x y\n", &[], b"= stepgo\n\n", Served::EndOfInput);
-}
-
-#[test]
-fn list_commands_names_one_command_a_line(rt: HostRuntime) {
-    assert_serves_in_any_cuts(
-        &rt,
-        b"list_commands\n",
-        b"= protocol_version\nname\nversion\nknown_command\nlist_commands\nquit\nboardsize\nclear_board\nkomi\nplay\nfixed_handicap\nundo\nshowboard\n\n",
-        Served::EndOfInput,
-    );
-}
-
-#[test]
 fn replies_go_out_in_as_many_writes_as_the_writer_wants(rt: HostRuntime) {
     for step in [1, 2, 3, 100] {
         let mut taken = ArrayVec::new();
-        let mut session = Session::new();
+        let mut session = Session::new(First);
         let mut reader = reader_of(b"1 name\n2 version\n", &[], None);
         let mut writer = writer_of(&mut taken, 4096, step);
         let answer = serve(&mut reader, &mut writer, &mut session);
@@ -215,7 +184,7 @@ fn replies_go_out_in_as_many_writes_as_the_writer_wants(rt: HostRuntime) {
 #[test]
 fn nothing_is_executed_after_a_writer_that_breaks(rt: HostRuntime) {
     let mut taken = ArrayVec::new();
-    let mut session = Session::new();
+    let mut session = Session::new(First);
     let mut reader = reader_of(b"1 name\n2 quit\n", &[], None);
     let mut writer = writer_of(&mut taken, 3, 100);
     let answer = serve(&mut reader, &mut writer, &mut session);
@@ -227,7 +196,7 @@ fn nothing_is_executed_after_a_writer_that_breaks(rt: HostRuntime) {
 #[test]
 fn no_read_is_allowed(rt: HostRuntime) {
     let mut taken = ArrayVec::new();
-    let mut session = Session::new();
+    let mut session = Session::new(First);
     let mut reader = reader_of(b"name\n", &[], None);
     let mut writer = writer_of(&mut taken, 4096, 100);
     let answer = serve_within(&mut reader, &mut writer, &mut session, 0);
@@ -238,7 +207,7 @@ fn no_read_is_allowed(rt: HostRuntime) {
 #[test]
 fn reads_are_counted(rt: HostRuntime) {
     let mut taken = ArrayVec::new();
-    let mut session = Session::new();
+    let mut session = Session::new(First);
     let mut reader = reader_of(b"1 name\n2 version\nquit\n", &[7, 10], None);
     let mut writer = writer_of(&mut taken, 4096, 100);
     let answer = serve_within(&mut reader, &mut writer, &mut session, 2);
@@ -256,7 +225,7 @@ fn reads_are_counted(rt: HostRuntime) {
 #[test]
 fn a_read_that_fails_ends_the_conversation(rt: HostRuntime) {
     let mut taken = ArrayVec::new();
-    let mut session = Session::new();
+    let mut session = Session::new(First);
     let mut reader = reader_of(b"name\nquit\n", &[], Some(0));
     let mut writer = writer_of(&mut taken, 4096, 100);
     let answer = serve(&mut reader, &mut writer, &mut session);
@@ -265,9 +234,20 @@ fn a_read_that_fails_ends_the_conversation(rt: HostRuntime) {
 }
 
 #[test]
+fn nothing_is_read_after_quit(rt: HostRuntime) {
+    let mut taken = ArrayVec::new();
+    let mut session = Session::new(First);
+    let mut reader = reader_of(b"name\nquit\nname\n", &[10], Some(1));
+    let mut writer = writer_of(&mut taken, 4096, 100);
+    let answer = serve(&mut reader, &mut writer, &mut session);
+    assert_eq!(rt; answer, Ok(Served::Quit));
+    assert_eq!(rt; taken.as_slice(), b"= stepgo\n\n=\n\n".as_slice());
+}
+
+#[test]
 fn a_conversation_goes_on_after_a_read_that_failed(rt: HostRuntime) {
     let mut taken = ArrayVec::new();
-    let mut session = Session::new();
+    let mut session = Session::new(First);
     let mut reader = reader_of(b"name\nquit\n", &[7], Some(1));
     let mut writer = writer_of(&mut taken, 4096, 100);
     let answer = serve(&mut reader, &mut writer, &mut session);
@@ -291,23 +271,9 @@ fn each_line_is_answered_and_flushed_before_the_next_is_read(rt: HostRuntime) ->
         last: 0,
         flushed,
     });
-    let mut session = Session::new();
+    let mut session = Session::new(First);
     let answer = serve(&mut reader, &mut writer, &mut session);
     assert_eq!(rt; answer, Ok(Served::Quit));
-    Ok(())
-}
-
-/// Each command is answered by the reply beside it, in a fresh session, in any cuts.
-fn assert_answers(rt: &impl Abort, alloc: Global, lines: &[(&[u8], &[u8])]) -> Result<(), Fail> {
-    let mut input = Vec::new(alloc);
-    let mut output = Vec::new(alloc);
-    for (command, reply) in lines {
-        input.extend_from_slice(command)?;
-        input.push(b'\n')?;
-        output.extend_from_slice(reply)?;
-        output.extend_from_slice(b"\n\n")?;
-    }
-    assert_serves_in_any_cuts(rt, &input, &output, Served::EndOfInput);
     Ok(())
 }
 
@@ -316,7 +282,7 @@ fn comments_and_control_characters_in_a_play(rt: HostRuntime) -> Result<(), Fail
     let input = b"# a game\n\t\n3\tpl\x01ay b D4 # corner\r\n";
     assert_serves_in_any_cuts(&rt, input, b"=3\n\n", Served::EndOfInput);
     let mut taken = ArrayVec::new();
-    let mut session = Session::new();
+    let mut session = Session::new(First);
     let mut reader = reader_of(input, &[], None);
     let mut writer = writer_of(&mut taken, 4096, 100);
     let answer = serve(&mut reader, &mut writer, &mut session);
@@ -331,7 +297,7 @@ fn comments_and_control_characters_in_a_play(rt: HostRuntime) -> Result<(), Fail
 fn an_unfinished_play_is_not_executed(rt: HostRuntime) {
     assert_serves_in_any_cuts(&rt, b"play b D1", b"", Served::EndOfInput);
     let mut taken = ArrayVec::new();
-    let mut session = Session::new();
+    let mut session = Session::new(First);
     let mut reader = reader_of(b"play b D1", &[], None);
     let mut writer = writer_of(&mut taken, 4096, 100);
     let answer = serve(&mut reader, &mut writer, &mut session);
@@ -341,149 +307,9 @@ fn an_unfinished_play_is_not_executed(rt: HostRuntime) {
 }
 
 #[test]
-fn spellings_and_refusals_of_play(rt: HostRuntime) -> Result<(), Fail> {
-    let lines: [(&[u8], &[u8]); 11] = [
-        (b"boardsize 9", b"="),
-        (b"play b I5", b"? syntax error"),
-        (b"play b a1", b"="),
-        (b"play w Z25", b"? illegal move"),
-        (b"play w A26", b"? syntax error"),
-        (b"play w B01", b"? syntax error"),
-        (b"play w pAsS", b"="),
-        (b"play green B1", b"? syntax error"),
-        (b"PLAY b B1", b"? unknown command"),
-        (b"boardsize 26", b"? unacceptable size"),
-        (b"boardsize nine", b"? syntax error"),
-    ];
-    assert_answers(&rt, rt.alloc(), &lines)
-}
-
-#[test]
-fn suicide_is_illegal(rt: HostRuntime) -> Result<(), Fail> {
-    let lines: [(&[u8], &[u8]); 4] = [
-        (b"boardsize 2", b"="),
-        (b"play b B1", b"="),
-        (b"play b A2", b"="),
-        (b"play w A1", b"? illegal move"),
-    ];
-    assert_answers(&rt, rt.alloc(), &lines)
-}
-
-#[test]
-fn ko_is_lifted_by_passes(rt: HostRuntime) -> Result<(), Fail> {
-    let lines: [(&[u8], &[u8]); 12] = [
-        (b"boardsize 4", b"="),
-        (b"play b A2", b"="),
-        (b"play w C1", b"="),
-        (b"play b B1", b"="),
-        (b"play w B2", b"="),
-        (b"play b D4", b"="),
-        (b"play w A1", b"="),
-        (b"play b B1", b"? illegal move"),
-        (b"play b pass", b"="),
-        (b"play w pass", b"="),
-        (b"play b B1", b"="),
-        (
-            b"showboard",
-            b"= . . . X 4\n. . . . 3\nX O . . 2\n. X O . 1\nA B C D\ncaptures B 1 W 1",
-        ),
-    ];
-    assert_answers(&rt, rt.alloc(), &lines)
-}
-
-#[test]
-fn undo_takes_a_capture_back(rt: HostRuntime) -> Result<(), Fail> {
-    let lines: [(&[u8], &[u8]); 8] = [
-        (b"boardsize 2", b"="),
-        (b"play b A1", b"="),
-        (b"play w B1", b"="),
-        (b"play b A2", b"="),
-        (b"play w B2", b"="),
-        (b"showboard", b"= . O 2\n. O 1\nA B\ncaptures B 0 W 2"),
-        (b"undo", b"="),
-        (b"showboard", b"= X . 2\nX O 1\nA B\ncaptures B 0 W 0"),
-    ];
-    assert_answers(&rt, rt.alloc(), &lines)
-}
-
-#[test]
-fn fixed_handicaps_and_their_refusals(rt: HostRuntime) -> Result<(), Fail> {
-    let lines: [(&[u8], &[u8]); 12] = [
-        (b"fixed_handicap 3", b"= D4 Q16 D16"),
-        (b"fixed_handicap 1", b"? board not empty"),
-        (b"boardsize 9", b"="),
-        (b"fixed_handicap 1", b"? invalid number of stones"),
-        (b"fixed_handicap 10", b"? invalid number of stones"),
-        (b"fixed_handicap 9", b"= C3 G7 C7 G3 C5 G5 E3 E7 E5"),
-        (b"boardsize 8", b"="),
-        (b"fixed_handicap 5", b"? invalid number of stones"),
-        (b"fixed_handicap 4", b"= C3 F6 C6 F3"),
-        (b"clear_board", b"="),
-        (b"play b pass", b"="),
-        (b"fixed_handicap 2", b"? board not empty"),
-    ];
-    assert_answers(&rt, rt.alloc(), &lines)
-}
-
-#[test]
-fn handicap_stones_are_never_taken_back(rt: HostRuntime) -> Result<(), Fail> {
-    let lines: [(&[u8], &[u8]); 3] = [
-        (b"undo", b"? cannot undo"),
-        (b"fixed_handicap 2", b"= D4 Q16"),
-        (b"undo", b"? cannot undo"),
-    ];
-    assert_answers(&rt, rt.alloc(), &lines)
-}
-
-#[test]
-fn spellings_of_komi(rt: HostRuntime) -> Result<(), Fail> {
-    let lines: [(&[u8], &[u8]); 7] = [
-        (b"komi -3.50", b"="),
-        (b"komi .5", b"="),
-        (b"komi 6.7", b"? syntax error"),
-        (b"komi 1e1", b"? syntax error"),
-        (b"komi .", b"? syntax error"),
-        (b"komi 0000000006.5", b"? syntax error"),
-        (b"komi +7.", b"="),
-    ];
-    assert_answers(&rt, rt.alloc(), &lines)
-}
-
-#[test]
-fn a_full_record_refuses_before_the_board_does(rt: HostRuntime) -> Result<(), Fail> {
-    let mut input = Vec::new(rt.alloc());
-    let mut output = Vec::new(rt.alloc());
-    for _ in 0..2000 {
-        input.extend_from_slice(b"play b pass\n")?;
-        output.extend_from_slice(b"=\n\n")?;
-    }
-    let lines: [(&[u8], &[u8]); 5] = [
-        (b"play b pass", b"? record full"),
-        (b"play b Z25", b"? record full"),
-        (b"undo", b"="),
-        (b"play b Z25", b"? illegal move"),
-        (b"play b pass", b"="),
-    ];
-    for (command, reply) in lines {
-        input.extend_from_slice(command)?;
-        input.push(b'\n')?;
-        output.extend_from_slice(reply)?;
-        output.extend_from_slice(b"\n\n")?;
-    }
-    let mut taken = Vec::new(rt.alloc());
-    let mut session = Session::new();
-    let mut reader = reader_of(&input, &[], None);
-    let mut writer = Counted::new(&mut taken);
-    let answer = serve(&mut reader, &mut writer, &mut session);
-    assert_eq!(rt; answer, Ok(Served::EndOfInput));
-    assert_eq!(rt; taken.as_slice(), output.as_slice());
-    Ok(())
-}
-
-#[test]
 fn a_play_whose_reply_breaks_was_made_and_the_next_was_not(rt: HostRuntime) -> Result<(), Fail> {
     let mut taken = ArrayVec::new();
-    let mut session = Session::new();
+    let mut session = Session::new(First);
     let mut reader = reader_of(b"1 play b A1\n2 play b B1\n", &[], None);
     let mut writer = writer_of(&mut taken, 3, 100);
     let answer = serve(&mut reader, &mut writer, &mut session);
@@ -498,7 +324,7 @@ fn a_play_whose_reply_breaks_was_made_and_the_next_was_not(rt: HostRuntime) -> R
 #[test]
 fn a_reply_is_one_write_and_is_flushed_before_the_next(rt: HostRuntime) -> Result<(), Fail> {
     let writes = Rc::new(rt.alloc(), Cell::new(0))?;
-    let mut session = Session::new();
+    let mut session = Session::new(First);
     let mut reader = reader_of(b"1 name\n2 version\n3 quit\n", &[], None);
     let mut writer = Counted::new(Strict {
         writes: writes.clone()?,
@@ -517,7 +343,7 @@ fn one_read_has_room_for_4096_bytes(rt: HostRuntime) -> Result<(), Fail> {
     input.resize(4095, b' ')?;
     input.push(b'\n')?;
     let mut taken = ArrayVec::new();
-    let mut session = Session::new();
+    let mut session = Session::new(First);
     let mut reader = reader_of(&input, &[], None);
     let mut writer = writer_of(&mut taken, 4096, 100);
     let answer = serve_within(&mut reader, &mut writer, &mut session, 1);
