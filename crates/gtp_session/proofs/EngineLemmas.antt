@@ -101,27 +101,29 @@ module _ {P : Type 0} (may : May P) where
       → Executes may old.game old.policy colour (answer old.game line) (id_of line) game policy text → ended ≡ ends line
       → (genmove : Bool) × Step may old line (record { text = text; genmove = genmove }) (record { game = game; policy = policy; ended = ended })
   Step-executes old line game policy ended text None a e end =
-      let given = e.1 Resign in
-      (is_genmove_line line && (answer old.game line Resign).ok,
-      record {
-        choice = Resign;
-        policy = rw a e.0;
-        game = given.game_is;
-        ended = end;
-        text = given.reply_is;
-        genmove = refl;
-      })
+      let given = e.1 Resign in (
+        is_genmove_line line && (answer old.game line Resign).ok,
+        record {
+          choice = Resign;
+          policy = rw a e.0;
+          game = given.game_is;
+          ended = end;
+          text = given.reply_is;
+          genmove = refl;
+        },
+      )
   Step-executes old line game policy ended text (Some colour) a e end =
-      let given = (e.1).1 in
-      (is_genmove_line line && (answer old.game line e.0).ok,
-      record {
-        choice = e.0;
-        policy = rw a (e.1).0;
-        game = given.game_is;
-        ended = end;
-        text = given.reply_is;
-        genmove = refl;
-      })
+      let given = (e.1).1 in (
+        is_genmove_line line && (answer old.game line e.0).ok,
+        record {
+          choice = e.0;
+          policy = rw a (e.1).0;
+          game = given.game_is;
+          ended = end;
+          text = given.reply_is;
+          genmove = refl;
+        },
+      )
 
   -- nothing is read, and nothing is answered
   pub Replies-nothing : (a : Engine P) → lines a.rest ≡ [] → Replies may a [] a []

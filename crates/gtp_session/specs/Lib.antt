@@ -1,6 +1,10 @@
 pub mod Counts
 pub mod Decide
 pub mod Policy
+pub mod Candidates
+pub mod Random
+pub mod Book
+pub mod Lawful
 pub mod Commands
 pub mod Engine
 pub mod Conversation

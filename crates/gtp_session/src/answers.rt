@@ -249,12 +249,7 @@ fn refusal_text(fault: PlayFault) -> &'static [u8]
     }
 }
 
-fn genmove<P: Policy>(
-    game: &mut Game,
-    policy: &mut P,
-    line: &CommandLine,
-    reply: &mut ReplyText,
-)
+fn genmove<P: Policy>(game: &mut Game, policy: &mut P, line: &CommandLine, reply: &mut ReplyText)
     ensures { Executes P.may game.old policy.old (asked_by_genmove game.old (argument colour_of line.now.words 1)) (answer_genmove game.old (argument colour_of line.now.words 1)) line.now.id game.new policy.new reply.new.items }
 {
     match colour_argument(line) {

@@ -5,7 +5,7 @@ use crate::memory::Pieces;
 use crate::serve::{Served, serve};
 use crate::session::Session;
 use crate::streams::Counted;
-use crate::tests::{assert_serves_in_any_cuts, assert_policy_serves};
+use crate::tests::{assert_policy_serves, assert_serves_in_any_cuts};
 use std::alloc::{Allocator, Global};
 use std::process::Abort;
 use std::test::Fail;
@@ -360,4 +360,3 @@ fn a_full_record_refuses_before_the_board_does(rt: HostRuntime) -> Result<(), Fa
     }
     Ok(())
 }
-

@@ -2,13 +2,19 @@
 #![tactic(auto)]
 
 mod answers;
+pub mod book;
+mod candidates;
 #[cfg(test)]
 mod command_tests;
 pub mod commands;
+pub mod first;
 pub mod laws;
 #[cfg(test)]
 mod memory;
 pub mod policy;
+#[cfg(test)]
+mod policy_tests;
+pub mod random;
 pub mod serve;
 pub mod session;
 pub mod streams;

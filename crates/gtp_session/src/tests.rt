@@ -1,6 +1,6 @@
 //! Conversations over memory.
-use crate::memory::{Limited, Pieces, Strict, Telling, Waiting};
 use crate::first::First;
+use crate::memory::{Limited, Pieces, Strict, Telling, Waiting};
 use crate::policy::Policy;
 use crate::serve::{ServeFault, Served, serve, serve_within};
 use crate::session::Session;

@@ -1,0 +1,108 @@
+//! The points that a policy chooses among.
+ghost use Rattle.std.specs.Prelude.{◌≡◌, ◌+◌, ◌*◌, ◌≤◌, ◌++◌, ◌↔◌, IsTrue, slice_get};
+ghost use Rattle.arrayvec.specs.ArrayVec.{array_vec_len};
+ghost use Rattle.go_base.specs.Point.{point, IsOn, Neighbours};
+ghost use Rattle.go_base.specs.Size.{size_max, IsSize};
+ghost use Rattle.gtp_session.specs.Candidates.{IsOpen, HasOpenNeighbour, IsCandidate, row_points, points_of, candidates, chosen};
+
+use crate::policy::Choice;
+use arrayvec::ArrayVec;
+use go_base::{Colour, Point, Size, Vertex};
+use go_board::Game;
+
+/// As many points as the largest board has.
+pub(crate) const POINTS_MOST: usize = 625;
+
+/// Points of a board, at most all of them.
+pub(crate) type Points = ArrayVec<Point, POINTS_MOST>;
+
+/// The candidates for a colour, in the order A1, B1, .., A2, B2, ...
+pub(crate) fn candidates(game: &Game, colour: Colour) -> Points
+    ensures { result.items ≡ candidates game.now colour }
+{
+    let mut found = Points::new();
+    for point in &points_of(game.size()) {
+        if is_candidate(game, colour, *point) {
+            found.push(*point);
+        }
+    }
+    found
+}
+
+/// The first candidate for a colour, where there is one.
+pub(crate) fn first_candidate(game: &Game, colour: Colour) -> Option<Point>
+    ensures { result ≡ slice_get (candidates game.now colour) 0 }
+{
+    for point in &points_of(game.size()) {
+        if is_candidate(game, colour, *point) {
+            return Some(*point);
+        }
+    }
+    None
+}
+
+/// The play on this point, or a pass where there is none.
+pub(crate) fn chosen(point: Option<Point>) -> Choice
+    ensures { result ≡ chosen point }
+{
+    match point {
+        Some(point) => Choice::Play(Vertex::At(point)),
+        None => Choice::Play(Vertex::Pass),
+    }
+}
+
+/// Whether the point is legal for the colour and has a neighbour that is empty or holds a stone of the other colour.
+fn is_candidate(game: &Game, colour: Colour, point: Point) -> bool
+    ensures { IsTrue result ↔ IsCandidate game.now colour point }
+{
+    has_open_neighbour(game, colour, point) && game.legal(colour, Vertex::At(point))
+}
+
+/// Whether the point has a neighbour that is empty or holds a stone of the other colour.
+fn has_open_neighbour(game: &Game, colour: Colour, point: Point) -> bool
+    ensures { IsTrue result ↔ HasOpenNeighbour game.now colour point }
+{
+    let (column, row) = (point.column(), point.row());
+    is_open(game, colour, column - 1, row)
+        || is_open(game, colour, column + 1, row)
+        || is_open(game, colour, column, row - 1)
+        || is_open(game, colour, column, row + 1)
+}
+
+/// Whether a column and a row cross on the board, on a point that is empty or holds a stone of the other colour.
+fn is_open(game: &Game, colour: Colour, column: u32, row: u32) -> bool
+    requires column { column ≤ size_max + 1 }
+    requires row { row ≤ size_max + 1 }
+    ensures { IsTrue result ↔ IsOpen game.now colour (point column row) }
+{
+    match Point::new(column, row) {
+        Some(point) => point.on(game.size()) && game.at(point) != Some(colour),
+        None => false,
+    }
+}
+
+/// The points of a board of this size, in the order A1, B1, .., A2, B2, ...
+fn points_of(size: Size) -> Points
+    ensures { result.items ≡ points_of size }
+{
+    let mut points = Points::new();
+    for row in 1..=size.get() {
+        push_row(&mut points, size, row);
+    }
+    points
+}
+
+/// Appends the points of a row.
+fn push_row(points: &mut Points, size: Size, row: u32)
+    requires least { 1 ≤ row }
+    requires most { row ≤ size_max }
+    requires room { array_vec_len points.old + size ≤ POINTS_MOST }
+    ensures row { points.new.items ≡ points.old.items ++ row_points size row }
+    ensures len { array_vec_len points.new ≡ array_vec_len points.old + size }
+{
+    for column in 1..=size.get() {
+        if let Some(point) = Point::new(column, row) {
+            points.push(point);
+        }
+    }
+}

@@ -1,0 +1,26 @@
+//! The policy that takes the first candidate.
+ghost use Rattle.std.specs.Prelude.{◌≡◌, slice_get};
+ghost use Rattle.gtp_session.specs.Candidates.{candidates, chosen};
+ghost use Rattle.gtp_session.specs.Lawful.{lawful_candidate};
+
+use crate::candidates::{chosen, first_candidate};
+use crate::policy::{Choice, Policy};
+use go_base::Colour;
+use go_board::Game;
+
+/// Chooses the first candidate, or a pass where there is none.
+///
+/// A candidate for a colour is a legal point that has a neighbour which is empty or holds a stone of the other colour. The
+/// candidates stand in the order A1, B1, .., A2, B2, ...
+#[derive(Clone, Copy, Debug, Drop)]
+pub struct First;
+
+impl Policy for First {
+    ghost may = { λ old game colour choice new. choice ≡ chosen (slice_get (candidates game colour) 0) };
+
+    fn choose(&mut self, game: &Game, colour: Colour) -> Choice {
+        chosen(first_candidate(game, colour))
+    }
+
+    ghost lawful = { λ old game colour choice new e. lawful_candidate game colour 0 choice e };
+}

@@ -1,0 +1,58 @@
+//! The policy that draws a candidate.
+ghost use Rattle.std.specs.Prelude.{◌≡◌};
+ghost use Rattle.gtp_session.specs.Candidates.{candidates};
+ghost use Rattle.gtp_session.specs.Random.{generator_of, MayDraw};
+ghost use Rattle.gtp_session.specs.Lawful.{lawful_draw};
+
+use crate::candidates::{candidates, chosen};
+use crate::policy::{Choice, Policy};
+use go_base::{Colour, Vertex};
+use go_board::Game;
+use rand_core::SeedableRng;
+use rand_core::utils::NextWord;
+use rand_pcg::Pcg64;
+use std::marker::Model;
+
+/// Chooses the candidate that the next word of a generator names, and passes where there is none.
+///
+/// The candidates are those of [`First`](crate::first::First), in the same order. Of `n` of them it takes number
+/// `word mod n`, counted from 0. Where there is none it draws no word.
+#[derive(Drop)]
+pub struct Random {
+    generator: Pcg64,
+}
+
+impl Model for Random {
+    ghost use Rattle.rand_pcg.specs.Lcg.{Lcg};
+
+    ghost Value = { Lcg };
+
+    ghost view = { λ r. r.generator };
+}
+
+impl Random {
+    /// A policy with the generator that `seed_from_u64` makes of the seed.
+    pub fn new(seed: u32) -> Self
+        ensures { result ≡ generator_of seed }
+    {
+        Random {
+            generator: Pcg64::seed_from_u64(u64::from(seed)),
+        }
+    }
+}
+
+impl Policy for Random {
+    ghost may = { λ old game colour choice new. MayDraw (candidates game colour) old choice new };
+
+    fn choose(&mut self, game: &Game, colour: Colour) -> Choice {
+        let all = candidates(game, colour);
+        if all.is_empty() {
+            return Choice::Play(Vertex::Pass);
+        }
+        let word = self.generator.next_word();
+        let number = word % all.len() as u64;
+        chosen(all.get(number as usize).copied())
+    }
+
+    ghost lawful = { λ old game colour choice new e. lawful_draw game colour old choice new e };
+}
