@@ -5,3 +5,4 @@ pub mod MoveLemmas
 pub mod PointLemmas
 pub mod TextLemmas
 pub mod CandidatesLemmas
+pub mod BookLemmas
