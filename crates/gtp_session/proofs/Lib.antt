@@ -4,3 +4,5 @@ pub mod EngineLemmas
 pub mod MoveLemmas
 pub mod PointLemmas
 pub mod TextLemmas
+pub mod CandidatesLemmas
+pub mod BookLemmas

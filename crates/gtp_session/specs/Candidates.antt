@@ -115,12 +115,13 @@ fact (no k) e = cc
 -- what stands in a filtered list passes the test
 passes : {X : Type 0} (test : X → Bool) (xs : List X) (k : ℕ) (x : X) → slice_get (filter test xs) k ≡ Some x → test x ≡ true
 passes test [] k x e = cc
-passes test (y ∷ ys) k x e = step (test y) refl k e
+passes test (y ∷ ys) k x e = step (test y) refl k e (λ j f. passes test ys j x f)
   where
-    step : (b : Bool) → test y ≡ b → (k : ℕ) → slice_get (cond b (y ∷ filter test ys) (filter test ys)) k ≡ Some x → test x ≡ true
-    step true t zero e = let same : y ≡ x = cc in subst (λ z. test z ≡ true) same t
-    step true t (suc k) e = passes test ys k x e
-    step false t k e = passes test ys k x e
+    step : (b : Bool) → test y ≡ b → (k : ℕ) → slice_get (cond b (y ∷ filter test ys) (filter test ys)) k ≡ Some x
+        → ((j : ℕ) → slice_get (filter test ys) j ≡ Some x → test x ≡ true) → test x ≡ true
+    step true t zero e rest = let same : y ≡ x = cc in subst (λ z. test z ≡ true) same t
+    step true t (suc k) e rest = rest k e
+    step false t k e rest = rest k e
 
 -- the candidates are candidates, and so they are legal
 pub candidates-are : (game : GameRecord) (colour : Colour) (k p : ℕ) → slice_get (candidates game colour) k ≡ Some p → IsCandidate game colour p

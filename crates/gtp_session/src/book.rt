@@ -77,9 +77,10 @@ impl Book {
         let mut places = ArrayVec::new();
         for part in text.split(|byte| *byte == b',') {
             let place = Place::read(part)?;
-            if places.try_push(place).is_err() {
+            if places.is_full() {
                 return None;
             }
+            places.push(place);
         }
         Some(Book { places })
     }

@@ -1,8 +1,9 @@
 //! The points that a policy chooses among.
-ghost use Rattle.std.specs.Prelude.{◌≡◌, ◌+◌, ◌*◌, ◌≤◌, ◌++◌, ◌↔◌, IsTrue, slice_get};
+ghost use Rattle.std.specs.Prelude.{◌≡◌, ◌+◌, ◌<◌, ◌≤◌, [], ◌∷◌, ◌++◌, ◌↔◌, ◌⊎◌, IsTrue, slice_get, Some, None};
 ghost use Rattle.arrayvec.specs.ArrayVec.{array_vec_len};
-ghost use Rattle.go_base.specs.Point.{point, IsOn, Neighbours};
-ghost use Rattle.go_base.specs.Size.{size_max, IsSize};
+ghost use Rattle.go_base.specs.Point.{point, IsCrossing};
+ghost use Rattle.go_base.specs.Size.{size_max};
+ghost use Rattle.go_base.specs.Colour.{other};
 ghost use Rattle.gtp_session.specs.Candidates.{IsOpen, HasOpenNeighbour, IsCandidate, row_points, points_of, candidates, chosen};
 
 use crate::policy::Choice;
@@ -20,8 +21,9 @@ pub(crate) type Points = ArrayVec<Point, POINTS_MOST>;
 pub(crate) fn candidates(game: &Game, colour: Colour) -> Points
     ensures { result.items ≡ candidates game.now colour }
 {
+    let points = points_of(game.size());
     let mut found = Points::new();
-    for point in &points_of(game.size()) {
+    for point in points.iter() {
         if is_candidate(game, colour, *point) {
             found.push(*point);
         }
@@ -33,7 +35,8 @@ pub(crate) fn candidates(game: &Game, colour: Colour) -> Points
 pub(crate) fn first_candidate(game: &Game, colour: Colour) -> Option<Point>
     ensures { result ≡ slice_get (candidates game.now colour) 0 }
 {
-    for point in &points_of(game.size()) {
+    let points = points_of(game.size());
+    for point in points.iter() {
         if is_candidate(game, colour, *point) {
             return Some(*point);
         }
@@ -75,9 +78,20 @@ fn is_open(game: &Game, colour: Colour, column: u32, row: u32) -> bool
     requires row { row ≤ size_max + 1 }
     ensures { IsTrue result ↔ IsOpen game.now colour (point column row) }
 {
+    let size = game.size();
     match Point::new(column, row) {
-        Some(point) => point.on(game.size()) && game.at(point) != Some(colour),
+        Some(point) => point.on(size) && allows(colour, game.at(point)),
         None => false,
+    }
+}
+
+/// Whether a point that holds this is empty or holds a stone of the other colour.
+fn allows(colour: Colour, stone: Option<Colour>) -> bool
+    ensures { IsTrue result ↔ ((stone ≡ None) ⊎ (stone ≡ Some (other colour))) }
+{
+    match stone {
+        None => true,
+        Some(stone) => stone == colour.other(),
     }
 }
 
@@ -101,8 +115,18 @@ fn push_row(points: &mut Points, size: Size, row: u32)
     ensures len { array_vec_len points.new ≡ array_vec_len points.old + size }
 {
     for column in 1..=size.get() {
-        if let Some(point) = Point::new(column, row) {
-            points.push(point);
-        }
+        push_point(points, column, row);
+    }
+}
+
+/// Appends the point where a column and a row cross.
+fn push_point(points: &mut Points, column: u32, row: u32)
+    requires crossing { IsCrossing column row }
+    requires room { array_vec_len points.old < POINTS_MOST }
+    ensures point { points.new.items ≡ points.old.items ++ point column row ∷ [] }
+    ensures len { array_vec_len points.new ≡ array_vec_len points.old + 1 }
+{
+    if let Some(point) = Point::new(column, row) {
+        points.push(point);
     }
 }
