@@ -1,0 +1,25 @@
+-- The statuses with which the program ends. (Own.)
+use Rattle.std.specs.Prelude.{◌≡◌, ◌⊎◌, ℕ}
+use Rattle.gtp_engine.specs.declared.fault.Fault.{Fault}
+use Rattle.gtp_engine.specs.declared.fault.Fault.TheVariants.{BadArgument, BadBook, OutOfMemory, Serve}
+
+-- after `quit`, at the end of the input, and after the help
+abbrev pub done : ℕ
+done = 0
+
+-- the arguments have a mistake
+abbrev pub usage_fault : ℕ
+usage_fault = 2
+
+-- the program could not go on
+abbrev pub own_fault : ℕ
+own_fault = 3
+
+abbrev pub status_of : Fault → ℕ
+status_of BadArgument = usage_fault
+status_of BadBook = usage_fault
+status_of OutOfMemory = own_fault
+status_of (Serve fault) = own_fault
+
+abbrev pub IsStatus : ℕ → Type 0
+IsStatus n = (n ≡ done) ⊎ (n ≡ usage_fault) ⊎ (n ≡ own_fault)

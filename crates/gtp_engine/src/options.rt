@@ -1,0 +1,92 @@
+//! The options of the command line.
+use clap::{Arg, ArgMatches, Command, Error, value_parser};
+use std::alloc::{AllocError, Global};
+use std::convert::AsStr;
+
+/// A policy, by its name.
+#[derive(Clone, Copy, Debug, PartialEq, Eq)]
+pub enum PolicyName {
+    /// `first`
+    First,
+    /// `random`
+    Random,
+    /// `book`
+    Book,
+}
+
+/// What the command line asks for.
+#[derive(Clone, Copy, Debug, PartialEq, Eq)]
+pub struct Options<'a> {
+    /// The policy that chooses the moves.
+    pub policy: PolicyName,
+    /// The seed of the random policy.
+    pub seed: u32,
+    /// The text of the book, which is not read yet.
+    pub book: &'a str,
+}
+
+static POLICY_NAMES: [&str; 3] = ["first", "random", "book"];
+
+/// Reads the words of a command line, of which the first is the program's name. The error is a mistake in the words, a
+/// request for help, or want of memory; its `Display` is the text for the user.
+pub fn read_options<'a, S: AsStr>(alloc: Global, words: &'a [S]) -> Result<Options<'a>, Error> {
+    let matches = command(alloc)?.try_get_matches_from(words)?;
+    Ok(Options {
+        policy: policy_of(&matches),
+        seed: matches.get_one::<u32>("seed").unwrap_or(1),
+        book: matches.get_str("book").unwrap_or(""),
+    })
+}
+
+/// The policy that the matches name.
+fn policy_of(matches: &ArgMatches<'_>) -> PolicyName {
+    match matches.get_str("policy") {
+        Some("random") => PolicyName::Random,
+        Some("book") => PolicyName::Book,
+        _ => PolicyName::First,
+    }
+}
+
+/// The command line, with its help.
+fn command<'a>(alloc: Global) -> Result<Command<'a>, AllocError> {
+    Command::new(alloc, "gtp_engine")
+        .bin_name("gtp_engine")?
+        .about(
+            "A Go engine that speaks the Go Text Protocol, version 2, on standard input and output",
+        )
+        .arg(policy_option(alloc))?
+        .arg(seed_option(alloc))?
+        .arg(book_option(alloc))
+}
+
+/// `--policy`
+fn policy_option<'a>(alloc: Global) -> Arg<'a> {
+    Arg::new(alloc, "policy")
+        .long("policy")
+        .value_name("POLICY")
+        .value_parser(POLICY_NAMES.as_slice())
+        .default_value("first")
+        .help("How genmove chooses: the first candidate, one at random, or what the book says")
+}
+
+/// `--seed`
+fn seed_option<'a>(alloc: Global) -> Arg<'a> {
+    Arg::new(alloc, "seed")
+        .long("seed")
+        .value_name("N")
+        .value_parser(value_parser!(u32))
+        .default_value("1")
+        .help("Seed of the random policy, 0 to 4294967295")
+}
+
+/// `--book`
+fn book_option<'a>(alloc: Global) -> Arg<'a> {
+    Arg::new(alloc, "book")
+        .long("book")
+        .value_name("TEXT")
+        .default_value("")
+        .hide_default_value(true)
+        .help(
+            "Book of the book policy: at most 2000 places with commas between, each a vertex, `resign` or empty [default: empty]",
+        )
+}
