@@ -1,5 +1,7 @@
 -- The statuses with which the program ends. (Own.)
 use Rattle.std.specs.Prelude.{◌≡◌, ◌⊎◌, ℕ}
+use Rattle.clap.specs.declared.error.kind.ErrorKind.{ErrorKind}
+use Rattle.clap.specs.declared.error.kind.ErrorKind.TheVariants.{DisplayHelp, DisplayVersion}
 use Rattle.gtp_engine.specs.declared.fault.Fault.{Fault}
 use Rattle.gtp_engine.specs.declared.fault.Fault.TheVariants.{BadArgument, BadBook, OutOfMemory, Serve}
 
@@ -23,3 +25,7 @@ status_of (Serve fault) = own_fault
 
 abbrev pub IsStatus : ℕ → Type 0
 IsStatus n = (n ≡ done) ⊎ (n ≡ usage_fault) ⊎ (n ≡ own_fault)
+
+-- the words ask for the help, or for the version, which there is none of
+abbrev pub IsRequest : ErrorKind → Type 0
+IsRequest kind = (kind ≡ DisplayHelp) ⊎ (kind ≡ DisplayVersion)

@@ -18,9 +18,9 @@ fn main(rt: HostRuntime) -> ExitCode {
         Ok(words) => run(
             rt.alloc(),
             words.as_slice(),
-            rt.stdin(),
-            rt.stdout(),
-            rt.stderr(),
+            &mut rt.stdin(),
+            &mut rt.stdout(),
+            &mut rt.stderr(),
         ),
         Err(error) => tell(Fault::of_arguments(&error), &mut rt.stderr()),
     };

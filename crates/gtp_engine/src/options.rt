@@ -1,4 +1,12 @@
 //! The options of the command line.
+ghost use Rattle.std.specs.Prelude.{◌≡◌, ◌≢◌, List, [], map, Some, None, codes, false, IfOk, IfErr};
+ghost use Rattle.std.specs.Borrow.{Bor};
+ghost use Rattle.clap.specs.Words.{app_of, first_value, found_of, kind_of, rule_of, Text};
+ghost use Rattle.clap.specs.declared.builder.value_parser.ValueParser.TheVariants.{Names, Signed};
+ghost use Rattle.clap.specs.declared.error.kind.ErrorKind.TheVariants.{OutOfMemory};
+ghost use Rattle.std.specs.Prelude.{pos};
+ghost use Rattle.gtp_engine.specs.Options.{ArePolicyNames, AsksFor, HasFault, IsCommandLine, option_rule, policy_named};
+
 use clap::{Arg, ArgMatches, Command, Error, value_parser};
 use std::alloc::{AllocError, Global};
 use std::convert::AsStr;
@@ -29,7 +37,10 @@ static POLICY_NAMES: [&str; 3] = ["first", "random", "book"];
 
 /// Reads the words of a command line, of which the first is the program's name. The error is a mistake in the words, a
 /// request for help, or want of memory; its `Display` is the text for the user.
-pub fn read_options<'a, S: AsStr>(alloc: Global, words: &'a [S]) -> Result<Options<'a>, Error> {
+pub fn read_options<'a, S: AsStr>(alloc: Global, words: &'a [S]) -> Result<Options<'a>, Error>
+    ensures asked { IfOk result (AsksFor (map S.text words.entry.now)) }
+    ensures fault { IfErr result (λ error. kind_of error ≢ OutOfMemory → HasFault (map S.text words.entry.now) (kind_of error)) }
+{
     let matches = command(alloc)?.try_get_matches_from(words)?;
     Ok(Options {
         policy: policy_of(&matches),
@@ -39,7 +50,9 @@ pub fn read_options<'a, S: AsStr>(alloc: Global, words: &'a [S]) -> Result<Optio
 }
 
 /// The policy that the matches name.
-fn policy_of(matches: &ArgMatches<'_>) -> PolicyName {
+fn policy_of(matches: &ArgMatches<'_>) -> PolicyName
+    ensures { result ≡ policy_named (first_value (found_of matches.now) (codes "policy")) }
+{
     match matches.get_str("policy") {
         Some("random") => PolicyName::Random,
         Some("book") => PolicyName::Book,
@@ -48,7 +61,9 @@ fn policy_of(matches: &ArgMatches<'_>) -> PolicyName {
 }
 
 /// The command line, with its help.
-fn command<'a>(alloc: Global) -> Result<Command<'a>, AllocError> {
+fn command<'a>(alloc: Global) -> Result<Command<'a>, AllocError>
+    ensures { IfOk result (λ command. IsCommandLine (app_of command)) }
+{
     Command::new(alloc, "gtp_engine")
         .bin_name("gtp_engine")?
         .about(
@@ -60,7 +75,11 @@ fn command<'a>(alloc: Global) -> Result<Command<'a>, AllocError> {
 }
 
 /// `--policy`
-fn policy_option<'a>(alloc: Global) -> Arg<'a> {
+fn policy_option<'a>(alloc: Global) -> Arg<'a>
+    ensures rule { (names : Bor (List (Bor Text))) × ArePolicyNames names
+        × (rule_of result ≡ option_rule (codes "policy") (Some (Names names)) (codes "first")) }
+    ensures local { result.global ≡ false }
+{
     Arg::new(alloc, "policy")
         .long("policy")
         .value_name("POLICY")
@@ -70,7 +89,10 @@ fn policy_option<'a>(alloc: Global) -> Arg<'a> {
 }
 
 /// `--seed`
-fn seed_option<'a>(alloc: Global) -> Arg<'a> {
+fn seed_option<'a>(alloc: Global) -> Arg<'a>
+    ensures rule { rule_of result ≡ option_rule (codes "seed") (Some (Signed (pos 0) (pos 4294967295))) (codes "1") }
+    ensures local { result.global ≡ false }
+{
     Arg::new(alloc, "seed")
         .long("seed")
         .value_name("N")
@@ -80,7 +102,10 @@ fn seed_option<'a>(alloc: Global) -> Arg<'a> {
 }
 
 /// `--book`
-fn book_option<'a>(alloc: Global) -> Arg<'a> {
+fn book_option<'a>(alloc: Global) -> Arg<'a>
+    ensures rule { rule_of result ≡ option_rule (codes "book") None [] }
+    ensures local { result.global ≡ false }
+{
     Arg::new(alloc, "book")
         .long("book")
         .value_name("TEXT")

@@ -1,5 +1,10 @@
 //! The program, over any reader and writers.
-ghost use Rattle.gtp_engine.specs.Status.{IsStatus};
+ghost use Rattle.std.specs.Prelude.{◌≡◌, ◌≢◌};
+ghost use Rattle.std.specs.Io.KnownBytes.{IsAtEnd};
+ghost use Rattle.clap.specs.Words.{kind_of};
+ghost use Rattle.gtp_session.specs.Conversation.{Conversation, BrokenConversation};
+ghost use Rattle.gtp_session.specs.Engine.{Engine, fresh};
+ghost use Rattle.gtp_engine.specs.Status.{IsStatus, IsRequest, done, usage_fault, own_fault};
 
 use crate::fault::{Fault, tell};
 use crate::options::{PolicyName, read_options};
@@ -11,7 +16,7 @@ use gtp_session::policy::Policy;
 use gtp_session::random::Random;
 use gtp_session::serve::{ServeFault, Served, serve};
 use gtp_session::session::Session;
-use gtp_session::streams::Counted;
+use gtp_session::streams::{Counted, Incoming, Outgoing};
 use std::alloc::Global;
 use std::convert::AsStr;
 use std::fmt::Display;
@@ -26,38 +31,46 @@ use std::io::{Read, Write};
 /// - 3 where a read or a write failed, the reads were too many, or memory was refused.
 ///
 /// What a status other than 0 means is told on `errors`, and whether that can be written changes nothing.
-pub fn run<S: AsStr, R: Read + Drop, W: Write + Drop, E: Write + Drop>(
+pub fn run<S: AsStr, R: Read, W: Write, E: Write>(
     alloc: Global,
     words: &[S],
-    input: R,
-    output: W,
-    errors: E,
+    input: &mut R,
+    output: &mut W,
+    errors: &mut E,
 ) -> u8
-    ensures { IsStatus result }
+    ensures status { IsStatus result }
+    // After a mistake in the words nothing was read, and nothing written but what the mistake is.
+    ensures usage { result ≡ usage_fault → (input.new ≡ input.old) × (output.new ≡ output.old) }
+    ensures quiet { result ≡ done → errors.new ≡ errors.old }
 {
-    let mut output = output;
-    let mut errors = errors;
     let options = match read_options(alloc, words) {
         Ok(options) => options,
-        Err(error) => return answer_error(&error, &mut output, &mut errors),
+        Err(error) => return answer_error(&error, output, errors),
     };
     let Some(book) = Book::read(options.book.as_bytes()) else {
-        return tell(Fault::BadBook, &mut errors);
+        return tell(Fault::BadBook, errors);
     };
+    let mut reader = Counted::new(input);
+    let mut writer = Counted::new(output);
     let served = match options.policy {
-        PolicyName::First => converse(First, input, output),
-        PolicyName::Random => converse(Random::new(options.seed), input, output),
-        PolicyName::Book => converse(book, input, output),
+        PolicyName::First => converse(First, &mut reader, &mut writer),
+        PolicyName::Random => converse(Random::new(options.seed), &mut reader, &mut writer),
+        PolicyName::Book => converse(book, &mut reader, &mut writer),
     };
     match served {
         Ok(_) => 0,
-        Err(fault) => tell(Fault::Serve(fault), &mut errors),
+        Err(fault) => tell(Fault::Serve(fault), errors),
     }
 }
 
 /// Tells what `clap` answers in place of options, and answers the status.
 fn answer_error<W: Write, E: Write>(error: &Error, output: &mut W, errors: &mut E) -> u8
-    ensures { IsStatus result }
+    ensures status { IsStatus result }
+    ensures usage { result ≡ usage_fault → output.new ≡ output.old }
+    ensures quiet { result ≡ done → errors.new ≡ errors.old }
+    // Only a request for help or for the version, of which there is none, is no fault.
+    ensures shown { result ≡ done → IsRequest (kind_of error.now) }
+    ensures memory { kind_of error.now ≡ ErrorKind.OutOfMemory → result ≡ own_fault }
 {
     if error.kind() == ErrorKind::OutOfMemory {
         return tell(Fault::OutOfMemory, errors);
@@ -79,13 +92,19 @@ fn print<T: Display, W: Write>(text: &T, writer: &mut W) -> io::Result<()> {
 }
 
 /// Serves a new session with this policy.
-fn converse<P: Policy, R: Read + Drop, W: Write + Drop>(
+fn converse<P: Policy, R: Incoming, W: Outgoing>(
     policy: P,
-    input: R,
-    output: W,
-) -> Result<Served, ServeFault> {
-    let mut reader = Counted::new(input);
-    let mut writer = Counted::new(output);
+    reader: &mut R,
+    writer: &mut W,
+) -> Result<Served, ServeFault>
+    // What the writer took is the replies of an engine that was given nothing before, to all that the reader gave.
+    ensures answers { result ≢ Err ServeFault.Write → (engine : Engine P) × Conversation P.may (fresh policy) engine
+        (R.remaining reader.old) (R.remaining reader.new) (W.contents writer.old) (W.contents writer.new) }
+    ensures end_of_input { result ≡ Ok Served.EndOfInput → IsAtEnd (R.remaining reader.new) }
+    // After a fault of the writer it is a front of them.
+    ensures breaks { result ≡ Err ServeFault.Write → (engine : Engine P) × BrokenConversation P.may (fresh policy) engine
+        (R.remaining reader.old) (R.remaining reader.new) (W.contents writer.old) (W.contents writer.new) }
+{
     let mut session = Session::new(policy);
-    serve(&mut reader, &mut writer, &mut session)
+    serve(reader, writer, &mut session)
 }

@@ -37,12 +37,19 @@ struct Ran {
 
 /// Runs the program with these arguments after its name, over the input.
 fn run_with(alloc: Global, arguments: &[&str], input: &[u8]) -> Result<Ran, Fail> {
+    let mut input = input;
     let mut words = Vec::new(alloc);
     words.push("gtp_engine")?;
     words.extend_from_slice(arguments)?;
     let mut output = Vec::new(alloc);
     let mut errors = Vec::new(alloc);
-    let status = run(alloc, words.as_slice(), input, &mut output, &mut errors);
+    let status = run(
+        alloc,
+        words.as_slice(),
+        &mut input,
+        &mut output,
+        &mut errors,
+    );
     Ok(Ran {
         status,
         output,
@@ -224,7 +231,7 @@ fn a_read_that_fails_is_status_3(rt: HostRuntime) -> Result<(), Fail> {
     let status = run(
         rt.alloc(),
         words.as_slice(),
-        Broken,
+        &mut Broken,
         &mut output,
         &mut errors,
     );
@@ -242,8 +249,8 @@ fn a_write_that_fails_is_status_3(rt: HostRuntime) -> Result<(), Fail> {
         let status = run(
             rt.alloc(),
             words,
-            b"1 name\n".as_slice(),
-            Broken,
+            &mut b"1 name\n".as_slice(),
+            &mut Broken,
             &mut errors,
         );
         assert_eq!(rt; status, 3);
@@ -260,7 +267,8 @@ fn the_status_stays_where_nothing_can_be_told(rt: HostRuntime) -> Result<(), Fai
         (&["gtp_engine"], 3),
     ];
     for (words, wanted) in cases {
-        assert_eq!(rt; run(rt.alloc(), words, Broken, Broken, Broken), wanted);
+        let status = run(rt.alloc(), words, &mut Broken, &mut Broken, &mut Broken);
+        assert_eq!(rt; status, wanted);
     }
     Ok(())
 }

@@ -1,0 +1,7 @@
+use Rattle.gtp_engine.proofs.run.converse.Goals as goal
+
+pub returns-clause-answers : goal.returns-clause-answers
+returns-clause-answers g c = λ ok. (c.serve.new.session, rw (← c.new-session.ensures) (c.serve.ensures.answers ok))
+
+pub returns-clause-breaks : goal.returns-clause-breaks
+returns-clause-breaks g c = λ broke. (c.serve.new.session, rw (← c.new-session.ensures) (c.serve.ensures.breaks broke))
