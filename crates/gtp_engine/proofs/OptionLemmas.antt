@@ -4,7 +4,7 @@ use Rattle.std.specs.Borrow.{Bor}
 use Rattle.std.specs.Prelude.{Ok, Err, Result, option_map, unwrap_or}
 use Rattle.std.specs.Str.Parse.{ParsesUnsigned}
 use Rattle.clap.specs.Matches.{ReadsOne}
-use Rattle.clap.specs.Words.{Text, is_simple}
+use Rattle.clap.specs.Words.{Text, is_simple, is_simple_and_free}
 use Rattle.clap.proofs.OnLiterals.{clap_on_literals}
 use Rattle.gtp_engine.specs.Options.{SpellsSeed, command_line}
 
@@ -12,6 +12,11 @@ use Rattle.gtp_engine.specs.Options.{SpellsSeed, command_line}
 pub is_simple-command_line : (names : Bor (List (Bor Text))) → is_simple (command_line names) ≡ true
 unfolding clap_on_literals
 is_simple-command_line names = refl
+
+-- and no option has a rule on another
+pub is_simple_and_free-command_line : (names : Bor (List (Bor Text))) → is_simple_and_free (command_line names) ≡ true
+unfolding clap_on_literals
+is_simple_and_free-command_line names = refl
 
 -- a text, or the empty text where there is none
 pub now-unwrap_or : (o : Option (Bor Text)) (d : Bor Text) → d.now ≡ [] → (unwrap_or o d).now ≡ unwrap_or (option_map (λ s. s.now) o) []

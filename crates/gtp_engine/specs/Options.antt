@@ -1,5 +1,5 @@
 -- The program's command line, in the words of the crate `clap`, and what it asks for. (Own.)
-use Rattle.std.specs.Prelude.{◌≡◌, ◌<◌, ◌^◌, ℕ, pos, List, [], ◌∷◌, map, Option, Some, None, codes, unwrap_or, if◌then◌else◌}
+use Rattle.std.specs.Prelude.{◌≡◌, ◌<◌, ◌^◌, ◌⊎◌, ℕ, pos, List, [], ◌∷◌, map, Option, Some, None, codes, unwrap_or, if◌then◌else◌}
 use Rattle.std.specs.Borrow.{Bor}
 use Rattle.std.specs.Str.{bytes_eq}
 use Rattle.std.specs.Str.Parse.{IsNumeral, digits_value, without_leading_plus}
@@ -9,6 +9,7 @@ use Rattle.clap.specs.declared.builder.value_parser.ValueParser.TheVariants.{Nam
 use Rattle.clap.specs.declared.error.kind.ErrorKind.{ErrorKind}
 use Rattle.gtp_engine.specs.declared.options.Options.{Options}
 use Rattle.gtp_engine.specs.declared.options.PolicyName.{PolicyName}
+use Rattle.gtp_engine.specs.Status.{IsRequest}
 use Rattle.gtp_engine.specs.declared.options.PolicyName.TheVariants.{First, Random, Book}
 
 -- the names of the policies, as a program keeps them
@@ -54,6 +55,7 @@ pub record Ask (rows : List Row) (options : Options) : Type 0 where
 pub record AsksFor (words : List Text) (options : Options) : Type 0 where
   pub names : Bor (List (Bor Text))
   pub are_names : ArePolicyNames names
+  pub no_fault : fault_of (command_line names) words ≡ []
   pub asked : Ask (matches_of (command_line names) words) options
 
 -- the words have a mistake of this kind, or ask for help
@@ -61,3 +63,7 @@ pub record HasFault (words : List Text) (kind : ErrorKind) : Type 0 where
   pub names : Bor (List (Bor Text))
   pub are_names : ArePolicyNames names
   pub among : IsAmong kind (fault_of (command_line names) words)
+
+-- the words have no mistake, or ask for help
+abbrev pub MayGoWell : List Text → Type 0
+MayGoWell words = ((options : Options) × AsksFor words options) ⊎ ((kind : ErrorKind) × IsRequest kind × HasFault words kind)

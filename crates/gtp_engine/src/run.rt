@@ -1,9 +1,10 @@
 //! The program, over any reader and writers.
-ghost use Rattle.std.specs.Prelude.{◌≡◌, ◌≢◌};
+ghost use Rattle.std.specs.Prelude.{◌≡◌, ◌≢◌, map};
 ghost use Rattle.std.specs.Io.KnownBytes.{IsAtEnd};
 ghost use Rattle.clap.specs.Words.{kind_of};
 ghost use Rattle.gtp_session.specs.Conversation.{Conversation, BrokenConversation};
 ghost use Rattle.gtp_session.specs.Engine.{Engine, fresh};
+ghost use Rattle.gtp_engine.specs.Options.{MayGoWell};
 ghost use Rattle.gtp_engine.specs.Status.{IsStatus, IsRequest, done, usage_fault, own_fault};
 
 use crate::fault::{Fault, tell};
@@ -42,6 +43,7 @@ pub fn run<S: AsStr, R: Read, W: Write, E: Write>(
     // After a mistake in the words nothing was read, and nothing written but what the mistake is.
     ensures usage { result ≡ usage_fault → (input.new ≡ input.old) × (output.new ≡ output.old) }
     ensures quiet { result ≡ done → errors.new ≡ errors.old }
+    ensures well { result ≡ done → MayGoWell (map S.text words.now) }
 {
     let options = match read_options(alloc, words) {
         Ok(options) => options,

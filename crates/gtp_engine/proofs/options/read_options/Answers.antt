@@ -1,10 +1,10 @@
-use Rattle.std.proofs.Common.{◌≡◌, ◌∙◌, refl, ap, map, codes, []}
+use Rattle.std.proofs.Common.{◌≡◌, ◌∙◌, refl, sym, ap, map, codes, []}
 use Rattle.std.specs.Prelude.{unwrap_or}
-use Rattle.clap.specs.Words.{first_of, found_of, is_simple, matches_of, one_of, rows_of}
+use Rattle.clap.specs.Words.{fault_of, first_of, found_of, is_simple, is_simple_and_free, matches_of, one_of, rows_of}
 use Rattle.clap.proofs.WalkLemmas.{first_value-rows, one_text-rows}
 use Rattle.std.specs.Str.Parse.{ParsesUnsigned, ExplainsUnsignedError, HasUnsignedDigitsIfOk}
 use Rattle.gtp_engine.specs.Options.{command_line, policy_named}
-use Rattle.gtp_engine.proofs.OptionLemmas.{is_simple-command_line, now-unwrap_or, ReadsOne-spells}
+use Rattle.gtp_engine.proofs.OptionLemmas.{is_simple-command_line, is_simple_and_free-command_line, now-unwrap_or, ReadsOne-spells}
 use Rattle.gtp_engine.proofs.options.read_options.Goals as goal
 
 pub returns-clause-asked : goal.returns-clause-asked
@@ -17,6 +17,8 @@ returns-clause-asked g c =
     record {
       names = line.names;
       are_names = line.are_names;
+      no_fault = sym (ap (λ app. fault_of app words) line.is)
+          ∙ c.in_ok-matches.ensures.kinds (ap is_simple_and_free line.is ∙ is_simple_and_free-command_line line.names);
       asked = record {
         policy = c.policy_of.ensures ∙ ap policy_named (first_value-rows found (codes "policy") ∙ ap (first_of (codes "policy")) rows);
         seed = λ text is. rw c.unwrap_or.ensures (ReadsOne-spells _
