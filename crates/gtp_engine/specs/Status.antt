@@ -1,7 +1,9 @@
 -- The statuses with which the program ends. (Own.)
-use Rattle.std.specs.Prelude.{◌≡◌, ◌⊎◌, ℕ}
+use Rattle.std.specs.Prelude.{◌≡◌, ◌⊎◌, ℕ, Result, Ok, Err}
 use Rattle.clap.specs.declared.error.kind.ErrorKind.{ErrorKind}
 use Rattle.clap.specs.declared.error.kind.ErrorKind.TheVariants.{DisplayHelp, DisplayVersion}
+use Rattle.gtp_session.specs.declared.serve.Served.{Served}
+use Rattle.gtp_session.specs.declared.serve.ServeFault.{ServeFault}
 use Rattle.gtp_engine.specs.declared.fault.Fault.{Fault}
 use Rattle.gtp_engine.specs.declared.fault.Fault.TheVariants.{BadArgument, BadBook, OutOfMemory, Serve}
 
@@ -22,6 +24,11 @@ status_of BadArgument = usage_fault
 status_of BadBook = usage_fault
 status_of OutOfMemory = own_fault
 status_of (Serve fault) = own_fault
+
+-- a conversation that came to its end is done, and one that stopped before is a fault
+abbrev pub status_after : Result Served ServeFault → ℕ
+status_after (Ok served) = done
+status_after (Err fault) = own_fault
 
 abbrev pub IsStatus : ℕ → Type 0
 IsStatus n = (n ≡ done) ⊎ (n ≡ usage_fault) ⊎ (n ≡ own_fault)

@@ -85,7 +85,7 @@ fn policy_option<'a>(alloc: Global) -> Arg<'a>
         .value_name("POLICY")
         .value_parser(POLICY_NAMES.as_slice())
         .default_value("first")
-        .help("How genmove chooses: the first candidate, one at random, or what the book says")
+        .help("What genmove plays: the first candidate, one drawn at random, or what the book says")
 }
 
 /// `--seed`
@@ -98,7 +98,7 @@ fn seed_option<'a>(alloc: Global) -> Arg<'a>
         .value_name("N")
         .value_parser(value_parser!(u32))
         .default_value("1")
-        .help("Seed of the random policy, 0 to 4294967295")
+        .help("Seed of the random policy, a whole number from 0 to 4294967295")
 }
 
 /// `--book`
@@ -112,6 +112,6 @@ fn book_option<'a>(alloc: Global) -> Arg<'a>
         .default_value("")
         .hide_default_value(true)
         .help(
-            "Book of the book policy: at most 2000 places with commas between, each a vertex, `resign` or empty [default: empty]",
+            "Places of the book policy, at most 2000, with commas between: each a vertex, resign, or empty for a pass [default: empty]",
         )
 }

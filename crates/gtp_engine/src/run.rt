@@ -1,11 +1,12 @@
 //! The program, over any reader and writers.
-ghost use Rattle.std.specs.Prelude.{◌≡◌, ◌≢◌, map};
+ghost use Rattle.std.specs.Prelude.{◌≡◌, ◌≢◌, map, true, false};
 ghost use Rattle.std.specs.Io.KnownBytes.{IsAtEnd};
 ghost use Rattle.clap.specs.Words.{kind_of};
 ghost use Rattle.gtp_session.specs.Conversation.{Conversation, BrokenConversation};
+ghost use Rattle.gtp_session.specs.Counts.{raised};
 ghost use Rattle.gtp_session.specs.Engine.{Engine, fresh};
 ghost use Rattle.gtp_engine.specs.Options.{MayGoWell};
-ghost use Rattle.gtp_engine.specs.Status.{IsStatus, IsRequest, done, usage_fault, own_fault};
+ghost use Rattle.gtp_engine.specs.Status.{IsStatus, IsRequest, done, usage_fault, own_fault, status_after};
 
 use crate::fault::{Fault, tell};
 use crate::options::{PolicyName, read_options};
@@ -15,7 +16,7 @@ use gtp_session::book::Book;
 use gtp_session::first::First;
 use gtp_session::policy::Policy;
 use gtp_session::random::Random;
-use gtp_session::serve::{ServeFault, Served, serve};
+use gtp_session::serve::{MOST_READS, ServeFault, Served, serve};
 use gtp_session::session::Session;
 use gtp_session::streams::{Counted, Incoming, Outgoing};
 use std::alloc::Global;
@@ -59,6 +60,14 @@ pub fn run<S: AsStr, R: Read, W: Write, E: Write>(
         PolicyName::Random => converse(Random::new(options.seed), &mut reader, &mut writer),
         PolicyName::Book => converse(book, &mut reader, &mut writer),
     };
+    end(served, errors)
+}
+
+/// Tells a fault of the conversation, and answers the status.
+fn end<E: Write>(served: Result<Served, ServeFault>, errors: &mut E) -> u8
+    ensures status { result ≡ status_after served }
+    ensures quiet { result ≡ done → errors.new ≡ errors.old }
+{
     match served {
         Ok(_) => 0,
         Err(fault) => tell(Fault::Serve(fault), errors),
@@ -101,11 +110,17 @@ fn converse<P: Policy, R: Incoming, W: Outgoing>(
 ) -> Result<Served, ServeFault>
     // What the writer took is the replies of an engine that was given nothing before, to all that the reader gave.
     ensures answers { result ≢ Err ServeFault.Write → (engine : Engine P) × Conversation P.may (fresh policy) engine
-        (R.remaining reader.old) (R.remaining reader.new) (W.contents writer.old) (W.contents writer.new) }
+        (R.remaining reader.old) (R.remaining reader.new) (W.contents writer.old) (W.contents writer.new)
+        × (result ≡ Ok Served.Quit → engine.ended ≡ true) × (result ≡ Ok Served.EndOfInput → engine.ended ≡ false) }
     ensures end_of_input { result ≡ Ok Served.EndOfInput → IsAtEnd (R.remaining reader.new) }
     // After a fault of the writer it is a front of them.
     ensures breaks { result ≡ Err ServeFault.Write → (engine : Engine P) × BrokenConversation P.may (fresh policy) engine
         (R.remaining reader.old) (R.remaining reader.new) (W.contents writer.old) (W.contents writer.new) }
+    ensures read_failed { result ≡ Err ServeFault.Read → R.failures reader.new ≡ raised (R.failures reader.old) 1 }
+    ensures read_held { result ≢ Err ServeFault.Read → R.failures reader.new ≡ R.failures reader.old }
+    ensures write_failed { result ≡ Err ServeFault.Write → W.failures writer.new ≡ raised (W.failures writer.old) 1 }
+    ensures write_held { result ≢ Err ServeFault.Write → W.failures writer.new ≡ W.failures writer.old }
+    ensures too_many { result ≡ Err ServeFault.TooManyReads → R.reads reader.new ≡ raised (R.reads reader.old) MOST_READS }
 {
     let mut session = Session::new(policy);
     serve(reader, writer, &mut session)
