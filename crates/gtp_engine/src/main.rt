@@ -1,23 +1,33 @@
 //! An engine that speaks the Go Text Protocol, version 2, on its standard input and output.
 #![tactic(auto)]
 
-use gtp_session::serve::serve;
-use gtp_session::session::Session;
-use gtp_session::streams::Counted;
-use std::io::Write;
-use std::process::ExitCode;
+mod fault;
+mod options;
+pub mod run;
+#[cfg(test)]
+mod tests;
 
-/// Serves until `quit` or the end of the input, with status 0. A fault of its own is told on the standard error in one
-/// line, with status 3.
+use fault::{Fault, tell};
+use run::run;
+use std::process::ExitCode;
+use std::{env, io};
+
+/// Runs the engine on the arguments and the standard streams, and ends with its status.
 fn main(rt: HostRuntime) -> ExitCode {
-    let mut reader = Counted::new(rt.stdin());
-    let mut writer = Counted::new(rt.stdout());
-    let mut session = Session::new();
-    match serve(&mut reader, &mut writer, &mut session) {
-        Ok(_) => ExitCode::SUCCESS,
-        Err(fault) => {
-            let _ = writeln!(rt.stderr(), "gtp_engine: {fault}");
-            ExitCode::from(3)
-        }
-    }
+    let status = match arguments(&rt) {
+        Ok(words) => run(
+            rt.alloc(),
+            words.as_slice(),
+            &mut rt.stdin(),
+            &mut rt.stdout(),
+            &mut rt.stderr(),
+        ),
+        Err(error) => tell(Fault::of_arguments(&error), &mut rt.stderr()),
+    };
+    ExitCode::from(status)
+}
+
+/// The program's name and its arguments.
+fn arguments(rt: &HostRuntime) -> io::Result<Vec<String>> {
+    Ok(env::args(rt)?.collect(rt.alloc())?)
 }
