@@ -6,9 +6,9 @@ ghost use Rattle.go_base.specs.Size.{size_max};
 ghost use Rattle.go_base.specs.Colour.{other};
 ghost use Rattle.gtp_session.specs.Candidates.{IsOpen, HasOpenNeighbour, IsCandidate, row_points, points_of, candidates, chosen};
 
+use crate::policy::Choice;
 use arrayvec::ArrayVec;
 use go_base::{Colour, Point, Size, Vertex};
-use crate::policy::Choice;
 use go_board::Game;
 
 /// As many points as the largest board has.

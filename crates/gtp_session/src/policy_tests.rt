@@ -158,8 +158,14 @@ fn first_takes_a1_on_an_empty_board(rt: HostRuntime) -> Result<(), Fail> {
 #[test]
 fn first_passes_on_the_board_of_one_point(rt: HostRuntime) -> Result<(), Fail> {
     let mut game = fresh(1)?;
-    assert_eq!(rt; choose_and_play(&mut First, &mut game, Colour::Black)?, PASS);
-    assert_eq!(rt; choose_and_play(&mut First, &mut game, Colour::White)?, PASS);
+    assert_eq!(rt;
+        choose_and_play(&mut First, &mut game, Colour::Black)?,
+        PASS
+    );
+    assert_eq!(rt;
+        choose_and_play(&mut First, &mut game, Colour::White)?,
+        PASS
+    );
     assert!(rt; game.finished());
     Ok(())
 }
@@ -172,14 +178,19 @@ fn first_against_itself_on_four_points(rt: HostRuntime) -> Result<(), Fail> {
         b"A1", b"B1", b"A2", b"B2", b"A1", b"A2", b"A1", b"B1", b"A2", b"B2",
     ];
     for text in moves {
-        assert_eq!(rt; choose_and_play(&mut First, &mut game, colour)?, play(text)?);
+        assert_eq!(rt;
+            choose_and_play(&mut First, &mut game, colour)?,
+            play(text)?
+        );
         colour = colour.other();
     }
     Ok(())
 }
 
 #[test]
-fn random_takes_the_candidates_that_the_words_of_its_seed_name(rt: HostRuntime) -> Result<(), Fail> {
+fn random_takes_the_candidates_that_the_words_of_its_seed_name(
+    rt: HostRuntime,
+) -> Result<(), Fail> {
     for seed in [1, 4_294_967_295] {
         let mut game = fresh(5)?;
         let mut policy = Random::new(seed);
@@ -266,10 +277,19 @@ fn a_book_has_at_most_2000_places(rt: HostRuntime) -> Result<(), Fail> {
 fn a_book_is_read_by_the_length_of_the_record(rt: HostRuntime) -> Result<(), Fail> {
     let mut book = Book::read(b"C3,,resign").ok_or("book")?;
     let mut game = fresh(9)?;
-    assert_eq!(rt; choose_and_play(&mut book, &mut game, Colour::Black)?, play(b"C3")?);
+    assert_eq!(rt;
+        choose_and_play(&mut book, &mut game, Colour::Black)?,
+        play(b"C3")?
+    );
     assert_eq!(rt; choose_and_play(&mut book, &mut game, Colour::White)?, PASS);
-    assert_eq!(rt; choose_and_play(&mut book, &mut game, Colour::Black)?, Choice::Resign);
-    assert_eq!(rt; choose_and_play(&mut book, &mut game, Colour::Black)?, Choice::Resign);
+    assert_eq!(rt;
+        choose_and_play(&mut book, &mut game, Colour::Black)?,
+        Choice::Resign
+    );
+    assert_eq!(rt;
+        choose_and_play(&mut book, &mut game, Colour::Black)?,
+        Choice::Resign
+    );
     // Past its last place it passes.
     game.play(Colour::Black, Vertex::Pass)?;
     assert_eq!(rt; choose_and_play(&mut book, &mut game, Colour::White)?, PASS);
