@@ -1,10 +1,9 @@
 -- A policy that reads its choices from a book. (Own.)
-use Rattle.std.specs.Prelude.{◌≡◌, ℕ, Bool, ◌==◌, nat_le, List, [], ◌∷◌, length, map, slice_get, Option, Some, None, option_map, if◌then◌else◌, codes}
+use Rattle.std.specs.Prelude.{ℕ, ◌==◌, nat_le, List, [], ◌∷◌, length, map, slice_get, Option, Some, None, option_map, if◌then◌else◌, codes}
 use Rattle.std.specs.List.{slice_split}
 use Rattle.go_base.specs.Vertex.{vertex_of}
 use Rattle.go_base.specs.Word.{is_word}
 use Rattle.go_base.specs.declared.colours.Colour.{Colour}
-use Rattle.go_base.specs.declared.vertices.Vertex.{Vertex}
 use Rattle.go_base.specs.declared.vertices.Vertex.TheVariants.{Pass}
 use Rattle.go_board.specs.Game.{GameRecord, legal?}
 use Rattle.gtp_session.specs.declared.policy.Choice.{Choice}

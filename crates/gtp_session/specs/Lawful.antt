@@ -3,7 +3,7 @@ use Rattle.std.proofs.Common.{◌≡◌, ℕ, ◌%◌, List, [], ◌∷◌, leng
 use Rattle.std.specs.Prelude.{slice_get}
 use Rattle.go_base.specs.declared.colours.Colour.{Colour}
 use Rattle.go_base.specs.declared.vertices.Vertex.{Vertex}
-use Rattle.go_base.specs.declared.vertices.Vertex.TheVariants.{Pass, At}
+use Rattle.go_base.specs.declared.vertices.Vertex.TheVariants.{Pass}
 use Rattle.go_board.specs.Game.{GameRecord, IsLegal, legal?}
 use Rattle.rand_pcg.specs.Lcg.{Lcg}
 use Rattle.rand_pcg.specs.Pcg.{pcg64}
@@ -13,7 +13,7 @@ use Rattle.gtp_session.specs.declared.book.Place.{Place}
 use Rattle.gtp_session.specs.declared.book.Place.TheVariants.{Empty, Resign, Play}
 use Rattle.gtp_session.specs.Policy.{IsLawful}
 use Rattle.gtp_session.specs.Candidates.{candidates, chosen, candidates-are}
-use Rattle.gtp_session.specs.Random.{MayDraw, drawn}
+use Rattle.gtp_session.specs.Random.{MayDraw}
 use Rattle.gtp_session.specs.Book.{choice_at}
 
 -- a candidate of any number, or a pass

@@ -1,4 +1,4 @@
-use Rattle.std.proofs.Common.{◌≡◌, ◌+◌, ◌++◌, [], ◌∷◌, length, take, refl, sym, ap, ◌∙◌, arith}
+use Rattle.std.proofs.Common.{◌++◌, [], ◌∷◌, length, sym, ap, ◌∙◌, arith}
 use Rattle.arrayvec.specs.ArrayVec.{array_vec_len}
 use Rattle.gtp_session.specs.Candidates.{points_of}
 use Rattle.gtp_session.proofs.CandidatesLemmas.{not_true, among-none, among-yes, among-no, among-all}

@@ -1,6 +1,5 @@
-use Rattle.std.proofs.Common.{rules, ◌≡◌, ℕ, List, ap, sym, ◌∙◌}
+use Rattle.std.proofs.Common.{rules, ap, sym, ◌∙◌}
 use Rattle.std.specs.Prelude.{◌==◌}
-use Rattle.std.specs.List.{slice_split}
 use Rattle.std.specs.Slice.Iter.{split_rest, split_done, split_callee}
 use Rattle.std.proofs.lemmas.Iterator.Splits.{YieldsList-from_slice_split}
 use Rattle.gtp_session.proofs.BookLemmas.{HasRead-none, HasRead-more, HasRead-bad, HasRead-full, HasRead-all, full, has_room}
@@ -11,8 +10,8 @@ loop-part-init c =
     let same = c.into_iter-part-iterator.ensures.into_iter_gives in
     HasRead-none _ _ _ _
     (YieldsList-from_slice_split _ (λ b. b == 44) c.args.text.now
-      (ap split_rest same ∙ c.split-part-items.ensures.rest) (ap split_done same ∙ c.split-part-items.ensures.done) (ap split_callee same ∙ c.split-part-items.ensures.closure)
-      (λ x b q k. search rules)).runs
+    (ap split_rest same ∙ c.split-part-items.ensures.rest) (ap split_done same ∙ c.split-part-items.ensures.done) (ap split_callee same ∙ c.split-part-items.ensures.closure)
+    (λ x b q k. search rules)).runs
     c.new-places.ensures
 
 pub returns-in_err-place : goal.returns-in_err-place
