@@ -6,7 +6,7 @@ use crate::policy::{Choice, Policy};
 use crate::random::Random;
 use arrayvec::ArrayVec;
 use go_base::{Colour, Komi, Point, Size, Vertex};
-use go_board::Game;
+use go_board::{Game, PlayFault};
 use rand_core::{Rng, SeedableRng};
 use rand_pcg::Pcg64;
 use std::process::Abort;
@@ -43,6 +43,14 @@ fn play(text: &[u8]) -> Result<Choice, Fail> {
     Ok(Choice::Play(vertex(text)?))
 }
 
+/// Plays what was chosen.
+fn play_choice(game: &mut Game, colour: Colour, choice: &Choice) -> Result<(), PlayFault> {
+    match choice {
+        Choice::Resign => Ok(()),
+        Choice::Play(vertex) => game.play(colour, *vertex),
+    }
+}
+
 /// Asks the policy, and plays what it chooses.
 fn choose_and_play<P: Policy>(
     policy: &mut P,
@@ -50,13 +58,11 @@ fn choose_and_play<P: Policy>(
     colour: Colour,
 ) -> Result<Choice, Fail> {
     let choice = policy.choose(game, colour);
-    if let Choice::Play(vertex) = choice {
-        game.play(colour, vertex)?;
-    }
+    play_choice(game, colour, &choice)?;
     Ok(choice)
 }
 
-/// The candidates, looked for at each of 27 columns and rows and with each neighbour in turn.
+/// The candidates, looked for at each column and row and with each point of the board as a neighbour.
 fn slow_candidates(game: &Game, colour: Colour) -> ArrayVec<Point, 625> {
     let mut found = ArrayVec::new();
     for row in 1..=25 {
