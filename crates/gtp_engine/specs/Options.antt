@@ -64,6 +64,6 @@ pub record HasFault (words : List Text) (kind : ErrorKind) : Type 0 where
   pub are_names : ArePolicyNames names
   pub among : IsAmong kind (fault_of (command_line names) words)
 
--- the words have no mistake, or ask for help
-abbrev pub MayGoWell : List Text → Type 0
-MayGoWell words = ((options : Options) × AsksFor words options) ⊎ ((kind : ErrorKind) × IsRequest kind × HasFault words kind)
+-- the words ask for options, or for help
+abbrev pub HasNoMistake : List Text → Type 0
+HasNoMistake words = ((options : Options) × AsksFor words options) ⊎ ((kind : ErrorKind) × IsRequest kind × HasFault words kind)

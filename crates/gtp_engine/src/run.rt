@@ -5,7 +5,7 @@ ghost use Rattle.clap.specs.Words.{kind_of};
 ghost use Rattle.gtp_session.specs.Conversation.{Conversation, BrokenConversation};
 ghost use Rattle.gtp_session.specs.Counts.{raised};
 ghost use Rattle.gtp_session.specs.Engine.{Engine, fresh};
-ghost use Rattle.gtp_engine.specs.Options.{MayGoWell};
+ghost use Rattle.gtp_engine.specs.Options.{HasNoMistake};
 ghost use Rattle.gtp_engine.specs.Status.{IsStatus, IsRequest, done, usage_fault, own_fault, status_after};
 
 use crate::fault::{Fault, tell};
@@ -44,7 +44,7 @@ pub fn run<S: AsStr, R: Read, W: Write, E: Write>(
     // After a mistake in the words nothing was read, and nothing written but what the mistake is.
     ensures usage { result ≡ usage_fault → (input.new ≡ input.old) × (output.new ≡ output.old) }
     ensures quiet { result ≡ done → errors.new ≡ errors.old }
-    ensures well { result ≡ done → MayGoWell (map S.text words.now) }
+    ensures no_mistake { result ≡ done → HasNoMistake (map S.text words.now) }
 {
     let options = match read_options(alloc, words) {
         Ok(options) => options,

@@ -289,13 +289,23 @@ fn arguments_that_cannot_be_collected_are_told(rt: HostRuntime) -> Result<(), Fa
 }
 
 #[test]
-fn the_first_policy_plays_the_first_candidate(rt: HostRuntime) -> Result<(), Fail> {
-    assert_answers(
-        &rt,
+fn the_first_policy_plays_the_first_candidate_and_is_the_default(
+    rt: HostRuntime,
+) -> Result<(), Fail> {
+    let lists: [&[&str]; 3] = [
         &["--policy", "first"],
-        b"boardsize 2\ngenmove b\ngenmove w\nboardsize 1\ngenmove b\n",
-        b"=\n\n= A1\n\n= B1\n\n=\n\n= pass\n\n",
-    )
+        &[],
+        &["--seed", "7", "--book", "C3"],
+    ];
+    for arguments in lists {
+        assert_answers(
+            &rt,
+            arguments,
+            b"boardsize 2\ngenmove b\ngenmove w\nboardsize 1\ngenmove b\n",
+            b"=\n\n= A1\n\n= B1\n\n=\n\n= pass\n\n",
+        )?;
+    }
+    Ok(())
 }
 
 #[test]
@@ -305,7 +315,8 @@ fn the_book_policy_plays_by_the_book(rt: HostRuntime) -> Result<(), Fail> {
         &["--policy", "book", "--book", "C3,,resign"],
         b"boardsize 9\ngenmove b\ngenmove w\ngenmove b\ngenmove b\ngenmove\nplay b C3\n",
         b"=\n\n= C3\n\n= pass\n\n= resign\n\n= resign\n\n? syntax error\n\n? illegal move\n\n",
-    )
+    )?;
+    assert_answers(&rt, &["--policy", "book"], b"genmove b\n", b"= pass\n\n")
 }
 
 /// A board of size 9 and twenty moves.
@@ -323,5 +334,16 @@ fn one_seed_plays_one_game_and_another_seed_another(rt: HostRuntime) -> Result<(
     assert_eq!(rt; first.status, 0);
     assert_eq!(rt; first.output.as_slice(), again.output.as_slice());
     assert!(rt; first.output.as_slice() != other.output.as_slice());
+    Ok(())
+}
+
+#[test]
+fn the_default_seed_is_1(rt: HostRuntime) -> Result<(), Fail> {
+    let named = ["--policy", "random", "--seed", "1"];
+    let default = ["--policy", "random"];
+    let one = run_with(rt.alloc(), named.as_slice(), TWENTY_MOVES)?;
+    let again = run_with(rt.alloc(), default.as_slice(), TWENTY_MOVES)?;
+    assert_eq!(rt; one.status, 0);
+    assert_eq!(rt; one.output.as_slice(), again.output.as_slice());
     Ok(())
 }
