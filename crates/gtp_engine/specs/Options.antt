@@ -7,6 +7,8 @@ use Rattle.clap.specs.Words.{App, IsAmong, Row, Rule, Text, fault_of, first_of, 
 use Rattle.clap.specs.declared.builder.value_parser.ValueParser.{ValueParser}
 use Rattle.clap.specs.declared.builder.value_parser.ValueParser.TheVariants.{Names, Signed}
 use Rattle.clap.specs.declared.error.kind.ErrorKind.{ErrorKind}
+use Rattle.gtp_session.specs.Book.{book_of}
+use Rattle.gtp_session.specs.declared.book.Place.{Place}
 use Rattle.gtp_engine.specs.declared.options.Options.{Options}
 use Rattle.gtp_engine.specs.declared.options.PolicyName.{PolicyName}
 use Rattle.gtp_engine.specs.Status.{IsRequest}
@@ -64,6 +66,13 @@ pub record HasFault (words : List Text) (kind : ErrorKind) : Type 0 where
   pub are_names : ArePolicyNames names
   pub among : IsAmong kind (fault_of (command_line names) words)
 
--- the words ask for options, or for help
+-- the text is a book
+pub record IsBook (text : List ℕ) : Type 0 where
+  pub places : List Place
+  pub spells : book_of text ≡ Some places
+
+-- the words ask for options with a book, or for help
 abbrev pub HasNoMistake : List Text → Type 0
-HasNoMistake words = ((options : Options) × AsksFor words options) ⊎ ((kind : ErrorKind) × IsRequest kind × HasFault words kind)
+HasNoMistake words =
+    ((options : Options) × AsksFor words options × IsBook options.book.now)
+    ⊎ ((kind : ErrorKind) × IsRequest kind × HasFault words kind)

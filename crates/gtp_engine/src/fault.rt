@@ -1,5 +1,6 @@
 //! The faults that the program tells in a line of its own.
-ghost use Rattle.std.specs.Prelude.{◌≡◌};
+ghost use Rattle.std.specs.Prelude.{◌≡◌, ◌≢◌};
+ghost use Rattle.std_io.specs.IoError.{error_kind};
 ghost use Rattle.gtp_engine.specs.Status.{status_of};
 
 use gtp_session::serve::ServeFault;
@@ -21,7 +22,10 @@ pub enum Fault {
 
 impl Fault {
     /// The fault of arguments that could not be collected.
-    pub fn of_arguments(error: &io::Error) -> Self {
+    pub fn of_arguments(error: &io::Error) -> Self
+        ensures memory { error_kind error.now ≡ ErrorKind.OutOfMemory → result ≡ Fault.OutOfMemory }
+        ensures other { error_kind error.now ≢ ErrorKind.OutOfMemory → result ≡ Fault.BadArgument }
+    {
         match error.kind() {
             ErrorKind::OutOfMemory => Fault::OutOfMemory,
             _ => Fault::BadArgument,

@@ -1,6 +1,10 @@
 //! Runs of the program over memory.
 use crate::fault::{Fault, tell};
 use crate::run::run;
+use gtp_session::random::Random;
+use gtp_session::serve::{ServeFault, serve};
+use gtp_session::session::Session;
+use gtp_session::streams::Counted;
 use std::alloc::Global;
 use std::io::{ErrorKind, Read, Write};
 use std::process::Abort;
@@ -337,13 +341,56 @@ fn one_seed_plays_one_game_and_another_seed_another(rt: HostRuntime) -> Result<(
     Ok(())
 }
 
+/// What a fresh engine writes that draws by this seed.
+fn drawn_with(alloc: Global, seed: u32, input: &[u8]) -> Result<Vec<u8>, Fail> {
+    let mut input = input;
+    let mut output = Vec::new(alloc);
+    let mut session = Session::new(Random::new(seed));
+    let mut reader = Counted::new(&mut input);
+    let mut writer = Counted::new(&mut output);
+    let _ = serve(&mut reader, &mut writer, &mut session);
+    Ok(output)
+}
+
+#[test]
+fn the_seed_is_that_of_the_random_policy(rt: HostRuntime) -> Result<(), Fail> {
+    let cases: [(&str, u32); 4] = [
+        ("0", 0),
+        ("1", 1),
+        ("7", 7),
+        ("4294967295", 4_294_967_295),
+    ];
+    for (text, seed) in cases {
+        let words = ["--policy", "random", "--seed", text];
+        let ran = run_with(rt.alloc(), words.as_slice(), TWENTY_MOVES)?;
+        let drawn = drawn_with(rt.alloc(), seed, TWENTY_MOVES)?;
+        assert_eq!(rt; ran.status, 0);
+        assert_eq!(rt; ran.output.as_slice(), drawn.as_slice());
+    }
+    Ok(())
+}
+
 #[test]
 fn the_default_seed_is_1(rt: HostRuntime) -> Result<(), Fail> {
-    let named = ["--policy", "random", "--seed", "1"];
-    let default = ["--policy", "random"];
-    let one = run_with(rt.alloc(), named.as_slice(), TWENTY_MOVES)?;
-    let again = run_with(rt.alloc(), default.as_slice(), TWENTY_MOVES)?;
-    assert_eq!(rt; one.status, 0);
-    assert_eq!(rt; one.output.as_slice(), again.output.as_slice());
+    let words = ["--policy", "random"];
+    let ran = run_with(rt.alloc(), words.as_slice(), TWENTY_MOVES)?;
+    let drawn = drawn_with(rt.alloc(), 1, TWENTY_MOVES)?;
+    assert_eq!(rt; ran.status, 0);
+    assert_eq!(rt; ran.output.as_slice(), drawn.as_slice());
+    Ok(())
+}
+
+#[test]
+fn each_fault_of_a_conversation_is_told(rt: HostRuntime) -> Result<(), Fail> {
+    let cases = [
+        (ServeFault::Read, "gtp_engine: read fault\n"),
+        (ServeFault::Write, "gtp_engine: write fault\n"),
+        (ServeFault::TooManyReads, "gtp_engine: too many reads\n"),
+    ];
+    for (fault, text) in cases {
+        let mut errors = Vec::new(rt.alloc());
+        assert_eq!(rt; tell(Fault::Serve(fault), &mut errors), 3);
+        assert_eq!(rt; errors.as_slice(), text.as_bytes());
+    }
     Ok(())
 }
