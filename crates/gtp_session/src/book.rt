@@ -24,7 +24,7 @@ pub enum Place {
 }
 
 impl Place {
-    /// Reads a place: a vertex, `resign` in small or capital letters, or nothing.
+    /// Reads a place: a vertex, `resign` in small or capital letters, or nothing. `None` for any other text.
     pub fn read(text: &[u8]) -> Option<Place>
         ensures { result ≡ place_of text.now }
     {

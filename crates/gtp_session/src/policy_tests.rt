@@ -139,11 +139,11 @@ fn a_point_among_own_stones_is_no_candidate(rt: HostRuntime) -> Result<(), Fail>
 
 #[test]
 fn candidates_are_those_of_a_slow_search(rt: HostRuntime) -> Result<(), Fail> {
-    for size in [1, 2, 5, 25] {
+    for (size, moves) in [(1, 4), (2, 20), (5, 60), (25, 8)] {
         let mut game = fresh(size)?;
         let mut policy = Random::new(size);
         let mut colour = Colour::Black;
-        for _ in 0..60 {
+        for _ in 0..moves {
             let found = candidates(&game, colour);
             assert_eq!(rt; found.as_slice(), slow_candidates(&game, colour).as_slice());
             choose_and_play(&mut policy, &mut game, colour)?;
