@@ -1,11 +1,10 @@
 //! The faults that the program tells in a line of its own.
 ghost use Rattle.std.specs.Prelude.{◌≡◌, ◌≢◌};
-ghost use Rattle.std_io.specs.IoError.{error_kind};
 ghost use Rattle.gtp_engine.specs.Status.{status_of};
 
 use gtp_session::serve::ServeFault;
+use std::fmt;
 use std::io::{ErrorKind, Write};
-use std::{fmt, io};
 
 /// Why the program ends before its conversation does, where `clap` has no text for it.
 #[derive(Clone, Copy, Debug, PartialEq, Eq, Drop)]
@@ -21,12 +20,12 @@ pub enum Fault {
 }
 
 impl Fault {
-    /// The fault of arguments that could not be collected.
-    pub fn of_arguments(error: &io::Error) -> Self
-        ensures memory { error_kind error.now ≡ ErrorKind.OutOfMemory → result ≡ Fault.OutOfMemory }
-        ensures other { error_kind error.now ≢ ErrorKind.OutOfMemory → result ≡ Fault.BadArgument }
+    /// The fault of arguments that could not be collected, by the kind of the error.
+    pub fn of_arguments(kind: ErrorKind) -> Self
+        ensures memory { kind ≡ ErrorKind.OutOfMemory → result ≡ Fault.OutOfMemory }
+        ensures other { kind ≢ ErrorKind.OutOfMemory → result ≡ Fault.BadArgument }
     {
-        match error.kind() {
+        match kind {
             ErrorKind::OutOfMemory => Fault::OutOfMemory,
             _ => Fault::BadArgument,
         }

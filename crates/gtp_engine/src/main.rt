@@ -22,7 +22,7 @@ fn main(rt: HostRuntime) -> ExitCode {
             &mut rt.stdout(),
             &mut rt.stderr(),
         ),
-        Err(error) => tell(Fault::of_arguments(&error), &mut rt.stderr()),
+        Err(error) => tell(Fault::of_arguments(error.kind()), &mut rt.stderr()),
     };
     ExitCode::from(status)
 }

@@ -285,7 +285,7 @@ fn arguments_that_cannot_be_collected_are_told(rt: HostRuntime) -> Result<(), Fa
     ];
     for (kind, status, text) in cases {
         let mut errors = Vec::new(rt.alloc());
-        let fault = Fault::of_arguments(&io::Error::from(kind));
+        let fault = Fault::of_arguments(kind);
         assert_eq!(rt; tell(fault, &mut errors), status);
         assert_eq!(rt; errors.as_slice(), text.as_bytes());
     }
@@ -354,12 +354,7 @@ fn drawn_with(alloc: Global, seed: u32, input: &[u8]) -> Result<Vec<u8>, Fail> {
 
 #[test]
 fn the_seed_is_that_of_the_random_policy(rt: HostRuntime) -> Result<(), Fail> {
-    let cases: [(&str, u32); 4] = [
-        ("0", 0),
-        ("1", 1),
-        ("7", 7),
-        ("4294967295", 4_294_967_295),
-    ];
+    let cases: [(&str, u32); 4] = [("0", 0), ("1", 1), ("7", 7), ("4294967295", 4_294_967_295)];
     for (text, seed) in cases {
         let words = ["--policy", "random", "--seed", text];
         let ran = run_with(rt.alloc(), words.as_slice(), TWENTY_MOVES)?;
