@@ -32,7 +32,8 @@ pub struct Taken {
 
 /// A session of an engine, which reads command lines and answers each with a reply.
 ///
-/// It is seen as an engine: the text that it was given and has not read as lines, its policy, and whether it has ended.
+/// It is seen as an engine: the text that it was given and has not read as lines, its game, its policy, and whether it
+/// has ended.
 #[derive(Drop)]
 pub struct Session<P: Policy> {
     reader: LineReader,
