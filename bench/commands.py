@@ -17,7 +17,8 @@ The works:
               `undo`. Made for the peak of memory
 
 and three that ask about one position, an empty board of --size or, with --half, one on which half as many plays were made
-as it has points. Slow programs get fewer commands, about two seconds of them:
+as it has points. Slow programs get fewer commands, half a second of them or more, after a first that counts only where it takes
+two seconds:
   showboard   `showboard`, in one burst
   final_score `final_score`, one at a time; a play, its `final_score` and an `undo` after each aren't timed, and are there
               since GNU Go keeps the answer to the last position that it was asked for
@@ -167,12 +168,15 @@ def measure(words, mark, before, lines, singly):
 
 
 def seconds_each(program, command, between, most):
-    """The seconds of one such command, over as many as fit into the time, at most so many; and how many these are."""
-    first = timed(program, command, between, 1)
-    if first >= SECONDS:
-        return first, 1
-    count = max(1, min(most, int(SECONDS / first)))
-    return timed(program, command, between, count) / count, count
+    """The seconds of one such command, over as many as take some time, at most so many; and how many these are."""
+    seconds, count = timed(program, command, between, 1), 1
+    if seconds >= SECONDS:
+        return seconds, count
+    seconds = timed(program, command, between, count)
+    while count < most and seconds < SECONDS / 4:
+        count = min(most, 4 * count)
+        seconds = timed(program, command, between, count)
+    return seconds / count, count
 
 
 def timed(program, command, between, count):
