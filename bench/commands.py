@@ -1,7 +1,7 @@
 #!/usr/bin/env python3
 """GTP commands through a pipe, measured for several engines in turn in one run.
 
-usage: bench/commands.py [--work NAME] [--count N] [--rounds N] [--singly] ENGINE..
+usage: bench/commands.py [--work NAME] [--size N] [--half] [--count N] [--rounds N] [--singly] ENGINE..
 
 Each ENGINE is a command line, split at spaces. Each gets the same lines, in one burst or, with --singly, one at a time as
 a controller sends them: the next one once the reply to the last has come. A round is one run of each program, one after
@@ -12,12 +12,26 @@ The works:
               write a line
   pairs       a `play` and an `undo`, on an empty 19x19
   play        plays of one colour to and fro over an empty 19x19, taken back by `clear_board` every 200
-  showboard   `showboard`, on 19x19 with 100 stones
   replay      a game of 200 moves on 19x19, from `clear_board` on
+  full        2,000 times `genmove`, of both colours in turn, which fills our record; then `final_score`, `showboard` and
+              `undo`. Made for the peak of memory
+
+and three that ask about one position, an empty board of --size or, with --half, one on which half as many plays were made
+as it has points. Slow programs get fewer commands, half a second of them or more, after a first that counts only where it takes
+two seconds:
+  showboard   `showboard`, in one burst
+  final_score `final_score`, one at a time; a play, its `final_score` and an `undo` after each aren't timed, and are there
+              since GNU Go keeps the answer to the last position that it was asked for
+  genmove     `genmove b`, one at a time; the `undo` after each isn't timed. In an ENGINE, {book} stands for a book whose
+              place for this position is a free point
+
+The plays of a half full board are drawn, always the same: the points in a shuffled order, Black and White in turn, of which
+those are taken that the first ENGINE takes. Each ENGINE has to take them too.
 """
 
 import argparse
 import os
+import random
 import subprocess
 import sys
 import tempfile
@@ -25,6 +39,9 @@ import threading
 import time
 
 LETTERS = "ABCDEFGHJKLMNOPQRST"
+POSITION_WORKS = {"showboard": "showboard", "final_score": "final_score", "genmove": "genmove b"}
+BETWEEN = {"final_score": ["play b {free}", "final_score", "undo"], "genmove": ["undo"]}
+SECONDS = 2.0
 
 
 def game_moves():
@@ -45,13 +62,47 @@ def lines_of(work, count):
         return [], ["name"] * count
     if work == "pairs":
         return start, ["play b Q16", "undo"] * (count // 2)
-    if work == "showboard":
-        return start + moves[:100], ["showboard"] * count
+    if work == "full":
+        return start, ["genmove b", "genmove w"] * 1000 + ["final_score", "showboard", "undo"]
     if work == "play":
         return start, (moves + ["clear_board"]) * (count // 201)
     if work == "replay":
         return start, (["clear_board"] + moves) * (count // 201)
     sys.exit(f"no such work: {work}")
+
+
+def replies(words, lines):
+    """What a program answers to these lines."""
+    text = "\n".join(lines + ["quit"]) + "\n"
+    done = subprocess.run(words, input=text, stdout=subprocess.PIPE, check=True, encoding="ascii")
+    return done.stdout.split("\n\n")
+
+
+def plays_of(engines, size, half):
+    """The plays that make the position: none, or half as many as there are points."""
+    if not half:
+        return []
+    points = [letter + str(row) for letter in LETTERS[:size] for row in range(1, size + 1)]
+    random.Random(1).shuffle(points)
+    tried = [f"play {'bw'[number % 2]} {point}" for number, point in enumerate(points)]
+    start = [f"boardsize {size}", "clear_board"]
+    taken = [play for play, reply in zip(tried, replies(engines[0].split(), start + tried)[2:]) if reply.startswith("=")]
+    plays = taken[: size * size // 2]
+    for engine in engines:
+        if not all(reply.startswith("=") for reply in replies(with_book(engine, size, plays), start + plays)[:-1]):
+            sys.exit(f"{engine} refuses a play of the position")
+    return plays
+
+
+def free_point(size, plays):
+    """The first point that no play named."""
+    named = {play.split()[2] for play in plays}
+    return next(letter + str(row) for letter in LETTERS[:size] for row in range(1, size + 1) if letter + str(row) not in named)
+
+
+def with_book(engine, size, plays):
+    """The words of an engine's command line, with a book whose place for the position is a free point."""
+    return engine.replace("{book}", "," * len(plays) + free_point(size, plays)).split()
 
 
 class Program:
@@ -116,14 +167,91 @@ def measure(words, mark, before, lines, singly):
     return seconds, peak
 
 
+def seconds_each(program, command, between, most):
+    """The seconds of one such command, over as many as take some time, at most so many; and how many these are."""
+    seconds, count = timed(program, command, between, 1), 1
+    if seconds >= SECONDS:
+        return seconds, count
+    seconds = timed(program, command, between, count)
+    while count < most and seconds < SECONDS / 4:
+        count = min(most, 4 * count)
+        seconds = timed(program, command, between, count)
+    return seconds / count, count
+
+
+def timed(program, command, between, count):
+    """The seconds of so many commands: in one burst, or one at a time where there are commands between them."""
+    return timed_singly(program, command, between, count) if between else timed_burst(program, command, count)
+
+
+def timed_burst(program, command, count):
+    """The seconds of so many commands in one burst."""
+    text = (command + "\n").encode() * count
+    began = time.perf_counter()
+    sender = threading.Thread(target=program.send, args=(text,))
+    sender.start()
+    program.await_answers(count)
+    sender.join()
+    return time.perf_counter() - began
+
+
+def timed_singly(program, command, between, count):
+    """The seconds of so many commands, one at a time, without the commands between them."""
+    text = (command + "\n").encode()
+    seconds = 0.0
+    for _ in range(count):
+        began = time.perf_counter()
+        program.send(text)
+        program.await_answers(1)
+        seconds += time.perf_counter() - began
+        for line in between:
+            program.send(line.encode() + b"\n")
+            program.await_answers(1)
+    return seconds
+
+
+def measure_position(words, before, command, between, most):
+    """The seconds of one command in a position, how many were timed, and the peak memory."""
+    program = Program(words, b"\n\n")
+    for line in before:
+        program.send(line.encode() + b"\n")
+        program.await_answers(1)
+    each, count = seconds_each(program, command, between, most)
+    peak = program.peak_kilobytes()
+    program.end()
+    return each, count, peak
+
+
+def position_table(options):
+    """Measures a command in a position, for each program in turn, and prints a line for each."""
+    plays = plays_of(options.engines, options.size, options.half)
+    before = [f"boardsize {options.size}", "clear_board"] + plays
+    between = [line.replace("{free}", free_point(options.size, plays)) for line in BETWEEN.get(options.work, [])]
+    best = {}
+    for _ in range(options.rounds):
+        for engine in options.engines:
+            words = with_book(engine, options.size, plays)
+            got = measure_position(words, before, POSITION_WORKS[options.work], between, options.count)
+            best[engine] = min(best.get(engine, got), got)
+    first = best[options.engines[0]][0]
+    print(f"{options.work} on {options.size}x{options.size} with {len(plays)} plays, the best of {options.rounds} rounds")
+    for engine, (each, count, peak) in best.items():
+        print(f"{engine}: {each * 1e6:,.1f} microseconds each of {count:,}, {each / first:,.2f} times the first's time, peak {peak} kB")
+
+
 def main():
     parser = argparse.ArgumentParser(description=__doc__, formatter_class=argparse.RawDescriptionHelpFormatter)
     parser.add_argument("--work", default="name")
+    parser.add_argument("--size", type=int, default=19, choices=range(5, 20))
+    parser.add_argument("--half", action="store_true")
     parser.add_argument("--count", type=int, default=20_100)
     parser.add_argument("--rounds", type=int, default=5)
     parser.add_argument("--singly", action="store_true")
     parser.add_argument("engines", nargs="+")
     options = parser.parse_args()
+    if options.work in POSITION_WORKS:
+        position_table(options)
+        return
     here = os.path.dirname(os.path.abspath(__file__))
     before, lines = lines_of(options.work, options.count)
     with tempfile.TemporaryDirectory() as folder:
