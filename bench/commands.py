@@ -17,8 +17,7 @@ The works:
               `undo`. Made for the peak of memory
 
 and three that ask about one position, an empty board of --size or, with --half, one on which half as many plays were made
-as it has points. Slow programs get fewer commands, half a second of them or more, after a first that counts only where it takes
-two seconds:
+as it has points. Each is asked for half a second or more, after a first time that counts only where it takes two seconds:
   showboard   `showboard`, in one burst
   final_score `final_score`, one at a time; a play, its `final_score` and an `undo` after each aren't timed, and are there
               since GNU Go keeps the answer to the last position that it was asked for
