@@ -1,6 +1,6 @@
 -- What one more move does to the record and the board.
 use Rattle.std.proofs.Common.{◌≡◌, ℕ, zero, suc, ◌+◌, ◌-◌, ◌<◌, ◌≤◌, List, [], ◌∷◌, ◌++◌, length, take, get_or, refl, sym, ◌∙◌, ap, subst, arith, inl, inr, add-one, lit≤, Bool}
-use Rattle.std.specs.Prelude.{ℤ, ◌⊎◌, ◌≢◌, Result, Ok, Err, Some, slice_get, MatchResult, OnOk, IsTrue, is_ok, ◌↔◌, if◌then◌else◌}
+use Rattle.std.specs.Prelude.{ℤ, ◌⊎◌, Result, Ok, Err, Some, slice_get, MatchResult, OnOk, IsTrue, is_ok, ◌↔◌, if◌then◌else◌}
 use Rattle.std.specs.List.{fold}
 use Rattle.std.proofs.lemmas.Bool.{false≢true}
 use Rattle.std.proofs.lemmas.List.{take-append-le, take_at, length_push, length-take-le}
