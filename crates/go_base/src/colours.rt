@@ -6,7 +6,9 @@ ghost use Rattle.go_base.specs.Word.{IsWord};
 /// The colour of a stone, and of the player who plays it.
 #[derive(Clone, Copy, Debug, PartialEq, Eq)]
 pub enum Colour {
+    /// Black: a handicap puts its stones on the board.
     Black,
+    /// White: komi counts for it.
     White,
 }
 
@@ -16,7 +18,8 @@ pub type Side = Colour;
 impl Colour {
     ghost use Rattle.go_base.specs.Colour.{other, SpellsColour, colour_of, written_colour};
 
-    /// Reads a colour: `b`, `black`, `w` or `white`, in small or capital letters.
+    /// Reads a colour: the word `b` or `black`, `w` or `white`, where each letter may be small or capital. `None` for every
+    /// other text.
     pub fn read(text: &[u8]) -> Option<Colour>
         ensures read { IfSome result (λ colour. SpellsColour colour text.now) }
         ensures unread { IfNone result ((colour : Colour) → SpellsColour colour text.now → ⊥) }

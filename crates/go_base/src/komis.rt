@@ -17,7 +17,8 @@ const HALF_POINTS_MAX: i32 = 1_999_999_999;
 /// The most digits of a komi on either side of the point.
 const DIGITS_MAX: usize = 9;
 
-/// What White gets for playing second: a number of half points, at most 1,999,999,999 either way.
+/// What White gets for playing second: a number of half points, from -1,999,999,999 to 1,999,999,999. The score is less by
+/// komi, so a komi below zero is in Black's favour.
 #[derive(Clone, Copy, Debug, PartialEq, Eq)]
 pub struct Komi {
     half_points: i32,
@@ -38,7 +39,7 @@ impl Model for Komi {
 
 impl Komi {
     /// Reads a komi in points: a `+` or `-` or neither, at most nine digits, and then nothing, or a point and at most nine
-    /// digits, which are zeros, or a 5 followed by zeros. There is at least one digit in all.
+    /// digits, which are zeros, or a 5 followed by zeros. There is at least one digit in all. `None` for every other text.
     pub fn read(text: &[u8]) -> Option<Komi>
         ensures read { IfSome result (λ komi. SpellsKomi komi text.now) }
         ensures unread { IfNone result ((half_points : ℤ) → SpellsKomi half_points text.now → ⊥) }
@@ -51,7 +52,7 @@ impl Komi {
         })
     }
 
-    /// The komi of that many half points, where they are at most 1,999,999,999 either way.
+    /// The komi of that many half points, from -1,999,999,999 to 1,999,999,999. `None` for every other number.
     pub fn from_half_points(half_points: i32) -> Option<Komi>
         ensures limits { IsSome result ↔ IsKomi half_points }
         ensures value { IfSome result (λ komi. komi ≡ half_points) }

@@ -5,7 +5,9 @@ use crate::vertices::Vertex;
 /// A colour and what it plays.
 #[derive(Clone, Copy, Debug, PartialEq, Eq)]
 pub struct Move {
+    /// Who moves.
     pub colour: Colour,
+    /// The point of the new stone, or a pass.
     pub vertex: Vertex,
 }
 

@@ -11,7 +11,9 @@ use arrayvec::ArrayVec;
 /// A point, or a pass.
 #[derive(Clone, Copy, Debug, PartialEq, Eq)]
 pub enum Vertex {
+    /// No stone is put down.
     Pass,
+    /// A stone is put on this point.
     At(Point),
 }
 
@@ -19,7 +21,8 @@ impl Vertex {
     ghost use Rattle.go_base.specs.Vertex.{SpellsVertex, vertex_of, written_vertex};
 
     /// Reads a vertex: the letter of a column, `A` to `H` or `J` to `Z`, and a row, 1 to 25 without leading zeros; or
-    /// `pass`. The letters may be small or capital.
+    /// `pass`. The letters may be small or capital. `None` for every other text. A point that is read may be off a board that
+    /// is smaller than the largest.
     pub fn read(text: &[u8]) -> Option<Vertex>
         ensures read { IfSome result (λ vertex. SpellsVertex vertex text.now) }
         ensures unread { IfNone result ((vertex : Vertex) → SpellsVertex vertex text.now → ⊥) }

@@ -1,5 +1,5 @@
 -- Counting the points of a colour, place by place.
-use Rattle.std.proofs.Common.{◌≡◌, ℕ, ◌+◌, ◌≤◌, List, sym, ◌∙◌, ap, arith, Bool, cond}
+use Rattle.std.proofs.Common.{◌≡◌, ℕ, ◌+◌, List, sym, ◌∙◌, ap, arith, Bool, cond}
 use Rattle.std.specs.Prelude.{ℤ, pos, ◌*ℤ◌, ◌-ℤ◌, count_by}
 use Rattle.std.specs.List.{range_with_len}
 use Rattle.go_base.specs.declared.colours.Colour.{Colour}

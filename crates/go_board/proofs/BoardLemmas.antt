@@ -1,5 +1,5 @@
 -- Places and their stones.
-use Rattle.std.proofs.Common.{◌≡◌, ℕ, List, sym, ◌∙◌, subst, arith, inl, inr, get_or-set_other, slice_set}
+use Rattle.std.proofs.Common.{◌≡◌, ℕ, List, sym, ◌∙◌, subst, arith, inl, inr, get_or-set_other}
 use Rattle.std.specs.Prelude.{◌⊎◌, ◌≢◌}
 use Rattle.std.proofs.Math.ListN.{set, length-set}
 use Rattle.go_base.specs.Colour.{other}
@@ -11,7 +11,7 @@ use Rattle.go_board.specs.Board.{at, stone}
 use Rattle.go_board.specs.Frame.{IsFramed}
 use Rattle.go_board.specs.Chain.{itself, HasBeside, IsFree}
 use Rattle.go_board.specs.declared.board.Cell.{Cell}
-use Rattle.go_board.specs.declared.board.Cell.TheVariants.{Edge, Empty, Black, White}
+use Rattle.go_board.specs.declared.board.Cell.TheVariants.{Edge, Empty}
 
 pub stone-point : (c : Colour) → stone c ≢ Edge
 stone-point colour.Black = λ e. cc

@@ -1,11 +1,10 @@
 -- The board without a stone.
 use Rattle.std.proofs.Common.{◌≡◌, ℕ, ◌<◌, ◌≤◌, List, length, refl, sym, ◌∙◌, ap, arith, inl, inr, Bool, true, false, cond}
-use Rattle.std.specs.Prelude.{◌⊎◌, ◌≢◌, map, if◌then◌else◌}
-use Rattle.std.specs.List.{range_with_len}
+use Rattle.std.specs.Prelude.{◌⊎◌, ◌≢◌, if◌then◌else◌}
 use Rattle.std.proofs.lemmas.Bool.Decides.{nat_tests}
 use Rattle.std.proofs.lemmas.List.{get_or_past}
 use Rattle.std.proofs.lemmas.List.FromFn.{fill_by_all, get_or-map-range_with_len, length-map-range_with_len}
-use Rattle.go_base.specs.Point.{column_of, row_of, IsOn}
+use Rattle.go_base.specs.Point.{IsOn}
 use Rattle.go_board.specs.Board.{at, is_point, empty_board}
 use Rattle.go_board.specs.Frame.{HasSize, IsFramed}
 use Rattle.go_board.specs.declared.board.Cell.{Cell}

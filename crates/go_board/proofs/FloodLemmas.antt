@@ -1,6 +1,6 @@
 -- A flood: a list of places that grows by the neighbours of each of its places in turn.
 use Rattle.std.proofs.Common.{◌≡◌, ℕ, ◌+◌, ◌-◌, ◌<◌, ◌≤◌, List, [], ◌∷◌, ◌++◌, length, All, Contains, refl, sym, ◌∙◌, ap, subst, arith, inl, inr, length-append}
-use Rattle.std.specs.Prelude.{◌⊎◌, ◌≢◌, ◌↔◌, slice_index}
+use Rattle.std.specs.Prelude.{◌⊎◌, ◌≢◌, slice_index}
 use Rattle.std.proofs.Math.ListN.{get_or-append}
 use Rattle.std.proofs.lemmas.List.{get_or_default}
 use Rattle.std.proofs.lemmas.List.Elements.{All-push, All-nil, All-contains, Contains-append_left}
@@ -9,7 +9,7 @@ use Rattle.go_base.specs.Size.{size_max}
 use Rattle.go_board.specs.Board.{at}
 use Rattle.go_board.specs.Frame.{IsFramed}
 use Rattle.go_board.specs.Chain.{Joined, itself, by_way_of, HasBeside, Touches}
-use Rattle.go_board.specs.Flood.{IsSpread, IsSeeded, AreTouching}
+use Rattle.go_board.specs.Flood.{IsSpread, AreTouching}
 use Rattle.go_board.specs.declared.board.Cell.{Cell}
 use Rattle.go_board.specs.declared.board.Cell.TheVariants.{Edge}
 
@@ -18,6 +18,11 @@ pub record IsSought (board : List Cell) (sought wanted : Cell) (p : ℕ) : Type 
   pub holds : at board p ≡ sought
   pub touches : Touches board p wanted
   pub on_board : IsOn size_max p
+
+-- the new list is the old one with the place, where it holds what is sought beside what is wanted
+pub record IsSeeded (board : List Cell) (sought wanted : Cell) (place : ℕ) (old new : List ℕ) : Type 0 where
+  pub has : at board place ≡ sought → HasBeside board place wanted → Contains new place
+  pub was : ((at board place ≡ sought) × HasBeside board place wanted × (new ≡ old ++ place ∷ [])) ⊎ (new ≡ old)
 
 -- all found are sought, and each place below n that is beside what is wanted was found
 pub record IsSown (board : List Cell) (sought wanted : Cell) (n : ℕ) (found : List ℕ) : Type 0 where

@@ -1,6 +1,6 @@
 -- What one more move does to the record and the board.
 use Rattle.std.proofs.Common.{◌≡◌, ℕ, zero, suc, ◌+◌, ◌-◌, ◌<◌, ◌≤◌, List, [], ◌∷◌, ◌++◌, length, take, get_or, refl, sym, ◌∙◌, ap, subst, arith, inl, inr, add-one, lit≤, Bool}
-use Rattle.std.specs.Prelude.{ℤ, ◌⊎◌, ◌≢◌, Result, Ok, Err, Some, slice_get, MatchResult, OnOk, IsTrue, is_ok, ◌↔◌, if◌then◌else◌}
+use Rattle.std.specs.Prelude.{ℤ, ◌⊎◌, Result, Ok, Err, Some, slice_get, MatchResult, OnOk, IsTrue, is_ok, ◌↔◌, if◌then◌else◌}
 use Rattle.std.specs.List.{fold}
 use Rattle.std.proofs.lemmas.Bool.{false≢true}
 use Rattle.std.proofs.lemmas.List.{take-append-le, take_at, length_push, length-take-le}
@@ -156,13 +156,13 @@ slice_get-below (x ∷ xs) zero m e = omega arith
 slice_get-below (x ∷ xs) (suc k) m e = let h = slice_get-below xs k m e in omega arith
 
 -- a legal move isn't refused
-legal-or_refused : (game : GameRecord) (c : Colour) (v : Vertex) (fault : PlayFault) → IsLegal game c v → RefusesVertex game c v fault → ⊥
+pub legal-or_refused : (game : GameRecord) (c : Colour) (v : Vertex) (fault : PlayFault) → IsLegal game c v → RefusesVertex game c v fault → ⊥
 legal-or_refused game c Pass fault l r = r
 legal-or_refused game c (At p) Full l r = r
 legal-or_refused game c (At p) OffBoard l r = r l.on_board
 legal-or_refused game c (At p) Occupied l r = r.1 l.empty
-legal-or_refused game c (At p) Suicide l r = r.1 l.free
-legal-or_refused game c (At p) Ko l r = l.no_ko (r.1).1
+legal-or_refused game c (At p) Suicide l r = (r.1).1 l.free
+legal-or_refused game c (At p) Ko l r = l.no_ko ((r.1).1).1
 
 refused : (game : GameRecord) (c : Colour) (v : Vertex) (fault : PlayFault) → HasRoom game → IsLegal game c v → Refuses game c v fault → ⊥
 refused game c v Full room l r = absurd (omega arith)

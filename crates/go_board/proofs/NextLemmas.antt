@@ -7,11 +7,10 @@ use Rattle.go_board.specs.Board.{at}
 use Rattle.go_board.specs.Frame.{HasSize}
 use Rattle.go_board.specs.Chain.{IsFree}
 use Rattle.go_board.specs.Game.{GameRecord, board_of, Repeats}
-use Rattle.go_board.specs.Kept.{record_of, IsKept, IsNext}
+use Rattle.go_board.specs.Kept.{IsNext}
 use Rattle.go_board.specs.Put.{put, captures}
 use Rattle.go_board.specs.declared.board.Cell.{Cell}
 use Rattle.go_board.specs.declared.board.Cell.TheVariants.{Edge, Empty}
-use Rattle.go_board.specs.declared.game.Game.TheInside.{Inside}
 use Rattle.go_board.proofs.CaptureLemmas.{SameEdge-put, HasSize-same_edge}
 
 pub empty-point : (board : List Cell) (p : ℕ) → at board p ≡ Empty → at board p ≢ Edge

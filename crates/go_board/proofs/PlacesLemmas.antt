@@ -1,6 +1,6 @@
 -- Marks and the list of the marked places.
 use Rattle.std.proofs.Common.{◌≡◌, ℕ, zero, suc, ◌+◌, ◌<◌, Bool, true, false, cond, List, [], ◌∷◌, ◌++◌, length, get_or, replicate, Contains, sym, ◌∙◌, ap, subst, arith, inl, inr, get_or-set_other, get_or-set_same}
-use Rattle.std.specs.Prelude.{count_by, All, ◌⊎◌, ◌≢◌}
+use Rattle.std.specs.Prelude.{count_by, ◌⊎◌, ◌≢◌}
 use Rattle.std.proofs.Math.ListN.{set, length-set}
 use Rattle.std.proofs.lemmas.List.{length_push}
 use Rattle.std.proofs.lemmas.List.Sums.{sum_by-set, count_by-le-length}

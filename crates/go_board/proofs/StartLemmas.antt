@@ -1,14 +1,13 @@
 -- The board before the first move.
-use Rattle.std.proofs.Common.{◌≡◌, ℕ, ◌+◌, ◌<◌, ◌≤◌, List, [], ◌∷◌, length, take, get_or, refl, sym, ◌∙◌, ap, subst, arith, inl, inr, slice_set, All}
+use Rattle.std.proofs.Common.{◌≡◌, ℕ, ◌+◌, ◌<◌, List, [], length, take, get_or, refl, sym, ◌∙◌, ap, subst, inl, inr, slice_set, All}
 use Rattle.std.specs.Prelude.{◌⊎◌, ◌≢◌}
-use Rattle.std.specs.List.{fold}
 use Rattle.std.proofs.Math.ListN.{set, length-set}
 use Rattle.std.proofs.lemmas.List.Sums.{fold_more}
 use Rattle.go_base.specs.Point.{IsOn}
 use Rattle.go_base.specs.Size.{size_max}
 use Rattle.go_base.specs.Handicap.{handicap_points, AllowsHandicap}
 use Rattle.go_board.specs.Board.{at, empty_board, with_black}
-use Rattle.go_board.specs.Frame.{HasSize, IsFramed, SameEdge}
+use Rattle.go_board.specs.Frame.{IsFramed, SameEdge}
 use Rattle.go_board.specs.Game.{start}
 use Rattle.go_board.specs.declared.board.Cell.{Cell}
 use Rattle.go_board.specs.declared.board.Cell.TheVariants.{Edge, Black}

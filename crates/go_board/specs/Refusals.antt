@@ -1,5 +1,5 @@
 -- Why a call of a game is refused: the first cause, in the order of checking.
-use Rattle.std.specs.Prelude.{◌≡◌, ◌≢◌, ℕ, ◌<◌, ◌⊎◌, length}
+use Rattle.std.specs.Prelude.{◌≡◌, ◌≢◌, ℕ, ◌<◌, ◌≤◌, ◌⊎◌, length}
 use Rattle.go_base.specs.Point.{IsOn}
 use Rattle.go_base.specs.Handicap.{AllowsHandicap}
 use Rattle.go_base.specs.declared.colours.Colour.{Colour}
@@ -20,8 +20,9 @@ abbrev pub RefusesPoint : GameRecord → Colour → ℕ → PlayFault → Type 0
 RefusesPoint game c p Full = ⊥
 RefusesPoint game c p OffBoard = ¬ IsOn game.size p
 RefusesPoint game c p Occupied = IsOn game.size p × (at (board_of game) p ≢ Empty)
-RefusesPoint game c p Suicide = (at (board_of game) p ≡ Empty) × ¬ IsFree (put (board_of game) c p) p
-RefusesPoint game c p Ko = (at (board_of game) p ≡ Empty) × (IsFree (put (board_of game) c p) p × Repeats game (put (board_of game) c p))
+RefusesPoint game c p Suicide = IsOn game.size p × ((at (board_of game) p ≡ Empty) × ¬ IsFree (put (board_of game) c p) p)
+RefusesPoint game c p Ko =
+    IsOn game.size p × ((at (board_of game) p ≡ Empty) × (IsFree (put (board_of game) c p) p × Repeats game (put (board_of game) c p)))
 
 -- a pass is never refused, where the record has room
 abbrev pub RefusesVertex : GameRecord → Colour → Vertex → PlayFault → Type 0
@@ -30,7 +31,7 @@ RefusesVertex game c (At p) fault = RefusesPoint game c p fault
 
 -- why a move is refused
 abbrev pub Refuses : GameRecord → Colour → Vertex → PlayFault → Type 0
-Refuses game c v Full = length game.moves ≡ most_moves
+Refuses game c v Full = most_moves ≤ length game.moves
 Refuses game c v OffBoard = HasRoom game × RefusesVertex game c v OffBoard
 Refuses game c v Occupied = HasRoom game × RefusesVertex game c v Occupied
 Refuses game c v Suicide = HasRoom game × RefusesVertex game c v Suicide

@@ -132,7 +132,9 @@ impl Game {
         Ok(points)
     }
 
-    /// Whether a colour may make a move next. The number of moves in the record doesn't count here.
+    /// Whether a colour may make a move next: a pass always; a point of the board that is empty, where the new stone's chain
+    /// then has a liberty and the board isn't the one before the previous move. The number of moves in the record doesn't
+    /// count.
     pub fn legal(&self, colour: Colour, vertex: Vertex) -> bool
         ensures legal { IsTrue result ↔ IsLegal self.now colour vertex }
         ensures game { IsGame self.now }
@@ -144,9 +146,9 @@ impl Game {
     ///
     /// # Errors
     ///
-    /// In this order, and the game stays as it was: `Full` where the record has 2,000 moves, `OffBoard` and `Occupied` by
-    /// the point, `Suicide` where the new stone's chain would have no liberty, `Ko` where the board would be the one before
-    /// the previous move. A pass is refused by `Full` alone.
+    /// In this order, and the game stays as it was: `Full` where the record has 2,000 moves, `OffBoard` where the board
+    /// doesn't have the point, `Occupied` where a stone is on it, `Suicide` where the new stone's chain would have no
+    /// liberty, `Ko` where the board would be the one before the previous move. A pass is refused by `Full` alone.
     pub fn play(&mut self, colour: Colour, vertex: Vertex) -> Result<(), PlayFault>
         ensures played { OnOk result (self.new ≡ with_move self.old colour vertex) }
         ensures unchanged { OnErr result (self.new ≡ self.old) }
@@ -253,7 +255,7 @@ impl Game {
         self.size
     }
 
-    /// Komi.
+    /// What White gets for playing second, as it was set last. The score is less by it.
     pub fn komi(&self) -> Komi
         ensures { result ≡ self.now.komi }
     {
@@ -296,7 +298,10 @@ impl Game {
         }
     }
 
-    /// The score in half points, positive for Black: twice the area of Black, less that of White, and less komi.
+    /// The score in half points, positive where Black leads: twice the difference of Black's area and White's, less komi.
+    ///
+    /// A point counts for the colour of its stone, and an empty one where the stones beside its region are of one colour
+    /// alone, for that colour.
     #[tactic(auto, unfolding(crate::specs::Area::score))]
     pub fn score(&self) -> i32
         ensures { result ≡ score self.now }

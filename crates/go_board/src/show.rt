@@ -38,7 +38,7 @@ impl Game {
     ///
     /// A row has `X` for a black stone, `O` for a white one and `.` for an empty point, from column A on and each followed
     /// by a space, and then its number.
-    pub fn show(&self) -> ArrayVec<u8, TEXT_ROOM>
+    pub fn show(&self) -> ArrayVec<u8, 2000>
         ensures { result.items ≡ shown self.now }
     {
         let size = self.size().get();

@@ -1,3 +1,7 @@
+//! Examples worked out by hand, and games of random moves beside those of a slow game.
+mod random;
+mod slow;
+
 use crate::{Game, HandicapFault, NothingToUndo, PlayFault};
 use go_base::{Colour, Komi, Move, Point, Size, Vertex};
 use std::process::Abort;
@@ -101,6 +105,67 @@ fn a_stone_that_captures_is_no_suicide(rt: HostRuntime) {
     );
     assert_board(&rt, &game, &["X.", "XO"]);
     assert_captured(&rt, &game, 0, 0);
+}
+
+#[test]
+fn one_stone_takes_two_chains(rt: HostRuntime) {
+    let mut game = new_game(&rt, 3);
+    play_all(
+        &rt,
+        &mut game,
+        &[
+            (Colour::Black, "A3"),
+            (Colour::Black, "B2"),
+            (Colour::Black, "C1"),
+            (Colour::White, "A2"),
+            (Colour::White, "B1"),
+        ],
+    );
+    assert_eq!(rt;
+        play(&rt, &mut game, Colour::White, "A1"),
+        Err(PlayFault::Suicide)
+    );
+    play_all(&rt, &mut game, &[(Colour::Black, "A1")]);
+    assert_board(&rt, &game, &["X..", ".X.", "X.X"]);
+    assert_captured(&rt, &game, 2, 0);
+}
+
+#[test]
+fn three_stones_taken_for_one_are_no_ko(rt: HostRuntime) {
+    let mut game = new_game(&rt, 4);
+    play_all(
+        &rt,
+        &mut game,
+        &[
+            (Colour::Black, "A3"),
+            (Colour::Black, "B3"),
+            (Colour::Black, "C2"),
+            (Colour::Black, "C1"),
+            (Colour::White, "A2"),
+            (Colour::White, "B2"),
+            (Colour::Black, "A1"),
+            (Colour::White, "B1"),
+        ],
+    );
+    assert_board(&rt, &game, &["....", "XX..", "OOX.", ".OX."]);
+    assert_captured(&rt, &game, 0, 1);
+    play_all(&rt, &mut game, &[(Colour::Black, "A1")]);
+    assert_board(&rt, &game, &["....", "XX..", "..X.", "X.X."]);
+    assert_captured(&rt, &game, 3, 1);
+}
+
+#[test]
+fn the_last_column_of_the_largest_board_is_an_edge(rt: HostRuntime) {
+    let mut game = new_game(&rt, 25);
+    play_all(
+        &rt,
+        &mut game,
+        &[(Colour::Black, "Y1"), (Colour::Black, "Z2")],
+    );
+    assert_eq!(rt;
+        play(&rt, &mut game, Colour::White, "Z1"),
+        Err(PlayFault::Suicide)
+    );
 }
 
 /// White has just captured B1 with A1, and Black may not capture back at once.
@@ -297,114 +362,46 @@ fn area_and_the_end(rt: HostRuntime) {
     assert!(rt; game.finished());
 }
 
-/// A linear congruential generator with 64 bits of state.
-#[derive(Drop)]
-struct Draws {
-    state: u64,
-}
-
-impl Draws {
-    /// A number below `limit`, or 0.
-    fn below(&mut self, limit: u32) -> u32 {
-        self.state = self
-            .state
-            .wrapping_mul(6_364_136_223_846_793_005)
-            .wrapping_add(1_442_695_040_888_963_407);
-        ((self.state >> 40) as u32).checked_rem(limit).unwrap_or(0)
-    }
-
-    fn colour(&mut self) -> Colour {
-        if self.below(2) == 0 {
-            Colour::Black
-        } else {
-            Colour::White
-        }
-    }
-
-    /// A vertex: sometimes a pass, sometimes a point off the board.
-    fn vertex(&mut self, rt: &impl Abort, lines: u32) -> Vertex {
-        if self.below(12) == 0 {
-            return Vertex::Pass;
-        }
-        let sides = lines.saturating_add(1);
-        let column = self.below(sides).saturating_add(1);
-        let row = self.below(sides).saturating_add(1);
-        Vertex::At(Point::new(column, row).expect(rt, "a point"))
-    }
-}
-
-/// Plays the record of a game in a fresh one.
-fn played_again(rt: &impl Abort, game: &Game) -> Game {
-    let mut again = Game::new(game.size(), game.komi());
-    if game.handicap() > 0 {
-        assert!(rt; again.place_handicap(game.handicap()).is_ok());
-    }
-    for made in game.moves() {
-        assert_eq!(rt; again.play(made.colour, made.vertex), Ok(()));
-    }
-    again
-}
-
-/// Compares two games point by point.
-fn assert_same(rt: &impl Abort, one: &Game, two: &Game) {
-    assert_eq!(rt; one.size(), two.size());
-    assert_eq!(rt; one.komi(), two.komi());
-    assert_eq!(rt; one.handicap(), two.handicap());
-    assert_eq!(rt; one.moves(), two.moves());
-    let lines = one.size().get();
-    for row in 1..=lines {
-        for column in 1..=lines {
-            let point = Point::new(column, row).expect(rt, "a point");
-            assert_eq!(rt; one.at(point), two.at(point), "column {column}, row {row}");
-        }
-    }
-    for colour in [Colour::Black, Colour::White] {
-        assert_eq!(rt; one.captured(colour), two.captured(colour));
-    }
-}
-
-/// One random move. `twin` is the same game, and is so again afterwards.
-fn step(rt: &impl Abort, draws: &mut Draws, game: &mut Game, twin: &mut Game) {
-    let colour = draws.colour();
-    let vertex = draws.vertex(rt, game.size().get());
-    let made = Move { colour, vertex };
-    let legal = game.legal(made.colour, made.vertex);
-    let played = game.play(made.colour, made.vertex);
-    assert_eq!(rt; played.is_ok(), legal);
-    if legal {
-        assert_eq!(rt; game.moves().last().copied(), Some(made));
-        *twin = played_again(rt, game);
-    }
-    assert_same(rt, game, twin);
-}
-
-/// Takes one move back, and compares with the record that is left.
-fn back(rt: &impl Abort, game: &mut Game) {
-    let last = game.moves().last().copied();
-    let count = game.moves().len();
-    assert_eq!(rt; game.undo().ok(), last);
-    assert_eq!(rt; game.moves().len().saturating_add(1), count);
-    assert_same(rt, game, &played_again(rt, game));
+#[test]
+fn a_region_beside_both_colours_counts_for_neither(rt: HostRuntime) {
+    let mut game = new_game(&rt, 3);
+    play_all(
+        &rt,
+        &mut game,
+        &[(Colour::Black, "A2"), (Colour::White, "C2")],
+    );
+    assert_eq!(rt; game.score(), 0);
+    play_all(&rt, &mut game, &[(Colour::White, "B2")]);
+    assert_eq!(rt; game.score(), -2);
 }
 
 #[test]
-fn random_games_are_those_of_their_records(rt: HostRuntime) {
-    let mut draws = Draws { state: 7 };
-    for number in 0..300 {
-        let lines = number % 9 + 1;
-        let mut game = new_game(&rt, lines);
-        let _ = game.place_handicap(draws.below(6));
-        let mut twin = played_again(&rt, &game);
-        for _ in 0..60 {
-            step(&rt, &mut draws, &mut game, &mut twin);
-            if draws.below(10) == 0 && !game.moves().is_empty() {
-                back(&rt, &mut game);
-                twin = played_again(&rt, &game);
-            }
-        }
-        for _ in 0..game.moves().len() {
-            back(&rt, &mut game);
-        }
-        assert_eq!(rt; game.undo(), Err(NothingToUndo));
+fn each_fault_has_its_text(rt: HostRuntime) -> Result<(), Fail> {
+    for (fault, text) in [
+        (
+            HandicapFault::NotEmpty,
+            "the board is not empty, or moves were made on it",
+        ),
+        (
+            HandicapFault::BadNumber,
+            "the board's size does not allow this number of handicap stones",
+        ),
+    ] {
+        assert_eq!(rt; fault.to_string(rt.alloc())?.as_str(), text);
     }
+    for (fault, text) in [
+        (PlayFault::Full, "the record of moves is full"),
+        (PlayFault::OffBoard, "the point is off the board"),
+        (PlayFault::Occupied, "the point is occupied"),
+        (PlayFault::Suicide, "the stone would have no liberty"),
+        (
+            PlayFault::Ko,
+            "the board would be the same as before the previous move",
+        ),
+    ] {
+        assert_eq!(rt; fault.to_string(rt.alloc())?.as_str(), text);
+    }
+    let nothing = NothingToUndo.to_string(rt.alloc())?;
+    assert_eq!(rt; nothing.as_str(), "there is no move to take back");
+    Ok(())
 }

@@ -1,29 +1,20 @@
 -- What is refused is answered as the table says.
-use Rattle.std.proofs.Common.{◌≡◌, ℕ, ◌<◌, [], length, true, false, refl, arith, Some}
+use Rattle.std.proofs.Common.{◌≡◌, ℕ, ◌<◌, ◌≤◌, [], length, true, false, refl, arith, Some}
 use Rattle.std.proofs.lemmas.Bool.Decides.{nat_tests}
 use Rattle.std.specs.Prelude.{codes, nat_le}
 use Rattle.go_base.specs.Handicap.{AllowsHandicap, handicap_points}
 use Rattle.go_base.specs.declared.colours.Colour.{Colour}
 use Rattle.go_base.specs.declared.vertices.Vertex.{Vertex}
-use Rattle.go_base.specs.declared.vertices.Vertex.TheVariants.{Pass, At}
 use Rattle.go_board.specs.declared.faults.PlayFault.{PlayFault}
 use Rattle.go_board.specs.declared.faults.PlayFault.TheVariants.{Full, OffBoard, Occupied, Suicide, Ko}
 use Rattle.go_board.specs.Game.{GameRecord, IsLegal, HasRoom, most_moves, with_move, legal?}
 use Rattle.go_board.specs.Refusals.{Refuses, RefusesVertex, IsTouched}
+use Rattle.go_board.proofs.GameLemmas.{legal-or_refused}
 use Rattle.gtp_session.specs.Decide.{touched?, allows?}
 use Rattle.gtp_session.specs.Commands.{succeeds, fails, answer_move, answer_handicap, refusal_text, written_vertices}
 
--- a vertex that is refused is not legal
-pub refused-illegal : (game : GameRecord) (c : Colour) (v : Vertex) (fault : PlayFault) → RefusesVertex game c v fault → IsLegal game c v → ⊥
-refused-illegal game c Pass fault r l = r
-refused-illegal game c (At p) Full r l = r
-refused-illegal game c (At p) OffBoard r l = r l.on_board
-refused-illegal game c (At p) Occupied r l = r.1 l.empty
-refused-illegal game c (At p) Suicide r l = r.1 l.free
-refused-illegal game c (At p) Ko r l = l.no_ko (r.1).1
-
-full_test : (n : ℕ) → n ≡ most_moves → nat_le most_moves n ≡ true
-full_test n e = grind (arith, nat_tests)
+full_test : (n : ℕ) → most_moves ≤ n → nat_le most_moves n ≡ true
+full_test n h = grind (arith, nat_tests)
 
 room_test : (n : ℕ) → n < most_moves → nat_le most_moves n ≡ false
 room_test n h = grind (arith, nat_tests)
@@ -36,7 +27,7 @@ not_legal game c v (no _) k = refl
 refused_vertex : (game : GameRecord) (c : Colour) (v : Vertex) (fault : PlayFault) → HasRoom game → RefusesVertex game c v fault
     → answer_move game c v ≡ fails game (codes "illegal move")
 refused_vertex game c v fault room r =
-    rw (room_test (length game.moves) room) (not_legal game c v (legal? game c v) (refused-illegal game c v fault r))
+    rw (room_test (length game.moves) room) (not_legal game c v (legal? game c v) (λ l. legal-or_refused game c v fault l r))
 
 -- a move that is refused is answered by the text of its refusal
 pub answer_move-refused : (game : GameRecord) (c : Colour) (v : Vertex) (fault : PlayFault) → Refuses game c v fault

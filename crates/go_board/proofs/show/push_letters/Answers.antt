@@ -1,4 +1,4 @@
-use Rattle.std.proofs.Common.{◌≡◌, ◌+◌, List, ℕ, [], ◌∷◌, ◌++◌, arith, ap, ◌∙◌}
+use Rattle.std.proofs.Common.{◌+◌, [], ◌∷◌, ◌++◌, arith, ap, ◌∙◌}
 use Rattle.go_board.proofs.ShowLemmas.{letters_before, letters_before-first, letters_before-more, letters_before-all}
 use Rattle.go_board.proofs.show.push_letters.Goals as goal
 

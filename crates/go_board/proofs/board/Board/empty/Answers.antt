@@ -1,4 +1,4 @@
-use Rattle.std.proofs.Common.{◌≡◌, ◌≤◌, ◌∙◌, ap, sym, subst, rules}
+use Rattle.std.proofs.Common.{◌≤◌, ◌∙◌, ap, sym, subst}
 use Rattle.go_board.specs.Board.{empty_board}
 use Rattle.go_board.specs.Frame.{HasSize}
 use Rattle.go_board.proofs.EmptyLemmas.{empty_board-from_places, HasSize-empty_board, IsFramed-has_size}

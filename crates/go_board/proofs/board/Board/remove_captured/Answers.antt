@@ -1,9 +1,7 @@
-use Rattle.std.proofs.Common.{◌≡◌, ◌<◌, ◌∙◌, List, length, sym, ap, subst, arith, rules, slice_set, Contains}
-use Rattle.std.specs.Prelude.{◌≢◌}
+use Rattle.std.proofs.Common.{◌≡◌, ◌<◌, List, length, sym, subst, arith, rules, slice_set, Contains}
 use Rattle.std.proofs.lemmas.Grind.{common_steps}
 use Rattle.go_board.specs.Board.{at}
 use Rattle.go_board.specs.Frame.{IsFramed}
-use Rattle.go_board.specs.Put.{without_captured}
 use Rattle.go_board.specs.declared.board.Cell.{Cell}
 use Rattle.go_board.specs.declared.board.Cell.TheVariants.{Empty}
 use Rattle.go_board.proofs.CaptureLemmas.{IsClearing-removed, IsClearing-kept, IsClearing-done, IsClearing-count, IsFramed-without_captured}

@@ -1,4 +1,4 @@
-use Rattle.std.proofs.Common.{◌≡◌, ◌∙◌, rules}
+use Rattle.std.proofs.Common.{◌∙◌, rules}
 use Rattle.go_board.proofs.StartLemmas.{start-not_allowed, start-from_points}
 use Rattle.go_board.proofs.board.Board.start.Goals as goal
 

@@ -1,6 +1,5 @@
 use Rattle.std.proofs.Common.{◌<◌, arith, length, rules}
-use Rattle.go_board.specs.Flood.{IsSeeded}
-use Rattle.go_board.proofs.FloodLemmas.{IsSown-more, IsFlooded-more, IsFlooded-done}
+use Rattle.go_board.proofs.FloodLemmas.{IsSeeded, IsSown-more, IsFlooded-more, IsFlooded-done}
 use Rattle.go_board.proofs.board.Board.touching.Goals as goal
 use Rattle.go_board.proofs.board.Board.touching.Goals.{then-eq+then-has_beside, else-eq, else-eq-via-then-eq+else-has_beside, else-eq-via-else-eq}
 

@@ -1,4 +1,4 @@
-use Rattle.std.proofs.Common.{◌≡◌, ◌≤◌, subst, ap, sym, arith, ◌∙◌}
+use Rattle.std.proofs.Common.{◌≡◌, subst, ap, arith}
 use Rattle.std.proofs.lemmas.Int.{ints}
 use Rattle.go_board.specs.Game.{GameRecord, board_of}
 use Rattle.go_board.proofs.AreaLemmas.{score-from_areas}

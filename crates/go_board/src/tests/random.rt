@@ -1,0 +1,161 @@
+//! Games of random moves, legal ones and others, beside the same games of a slow game.
+use super::new_game;
+use super::slow::SlowGame;
+use crate::{Game, NothingToUndo, PlayFault};
+use go_base::{Colour, Move, Point, Vertex};
+use std::process::Abort;
+use std::test::Fail;
+
+/// A linear congruential generator with 64 bits of state.
+#[derive(Drop)]
+struct Draws {
+    state: u64,
+}
+
+impl Draws {
+    /// A number below `limit`, or 0.
+    fn below(&mut self, limit: u32) -> u32 {
+        self.state = self
+            .state
+            .wrapping_mul(6_364_136_223_846_793_005)
+            .wrapping_add(1_442_695_040_888_963_407);
+        ((self.state >> 40) as u32).checked_rem(limit).unwrap_or(0)
+    }
+
+    fn colour(&mut self) -> Colour {
+        if self.below(2) == 0 {
+            Colour::Black
+        } else {
+            Colour::White
+        }
+    }
+
+    /// A vertex: sometimes a pass, sometimes a point off the board.
+    fn vertex(&mut self, rt: &impl Abort, lines: u32) -> Vertex {
+        if self.below(12) == 0 {
+            return Vertex::Pass;
+        }
+        let sides = lines.saturating_add(1);
+        let column = self.below(sides).saturating_add(1);
+        let row = self.below(sides).saturating_add(1);
+        Vertex::At(at(rt, column, row))
+    }
+}
+
+fn at(rt: &impl Abort, column: u32, row: u32) -> Point {
+    Point::new(column, row).expect(rt, "a point")
+}
+
+/// Compares two games by their moves, captures and scores, and point by point.
+fn assert_same(rt: &impl Abort, game: &Game, slow: &SlowGame) {
+    assert_eq!(rt; game.moves(), slow.moves());
+    for colour in [Colour::Black, Colour::White] {
+        assert_eq!(rt; game.captured(colour), slow.captured(colour));
+    }
+    assert_eq!(rt; game.score(), slow.score());
+    let lines = game.size().get();
+    for row in 1..=lines {
+        for column in 1..=lines {
+            let point = at(rt, column, row);
+            assert_eq!(rt;
+                game.at(point),
+                slow.at(point),
+                "column {column}, row {row}"
+            );
+        }
+    }
+}
+
+/// Compares what is legal next, on each point of the board and one line further.
+fn assert_same_legal(rt: &impl Abort, game: &Game, slow: &SlowGame) {
+    let lines = game.size().get();
+    for row in 1..=lines.saturating_add(1) {
+        for column in 1..=lines.saturating_add(1) {
+            for colour in [Colour::Black, Colour::White] {
+                let made = Move {
+                    colour,
+                    vertex: Vertex::At(at(rt, column, row)),
+                };
+                let wanted = slow.legal(made.colour, made.vertex);
+                assert_eq!(rt;
+                    game.legal(made.colour, made.vertex),
+                    wanted,
+                    "column {column}, row {row}"
+                );
+            }
+        }
+    }
+}
+
+/// A colour and a vertex to try: at times the point of a stone that the previous move took, where a ko would be.
+fn draw(rt: &impl Abort, draws: &mut Draws, game: &Game, slow: &SlowGame) -> Move {
+    if let (Some(point), Some(last)) = (slow.just_taken(), game.moves().last()) {
+        if draws.below(2) == 0 {
+            return Move {
+                colour: last.colour.other(),
+                vertex: Vertex::At(point),
+            };
+        }
+    }
+    Move {
+        colour: draws.colour(),
+        vertex: draws.vertex(rt, game.size().get()),
+    }
+}
+
+/// Tries one random move, and answers what came of it.
+fn step(
+    rt: &impl Abort,
+    draws: &mut Draws,
+    game: &mut Game,
+    slow: &mut SlowGame,
+) -> Result<(), PlayFault> {
+    let made = draw(rt, draws, game, slow);
+    let legal = game.legal(made.colour, made.vertex);
+    let wanted = slow.play(made.colour, made.vertex);
+    assert_eq!(rt; legal, wanted.is_ok());
+    assert_eq!(rt; game.play(made.colour, made.vertex), wanted);
+    assert_same(rt, game, slow);
+    wanted
+}
+
+/// Takes one move back.
+fn back(rt: &impl Abort, game: &mut Game, slow: &mut SlowGame) {
+    assert_eq!(rt; game.undo(), slow.undo().ok_or(NothingToUndo));
+    assert_same(rt, game, slow);
+}
+
+/// Both games, fresh. On seven lines they begin with two handicap stones.
+fn fresh(rt: &impl Abort, lines: u32) -> Result<(Game, SlowGame), Fail> {
+    let mut game = new_game(rt, lines);
+    let mut slow = SlowGame::new(lines);
+    if lines == 7 {
+        game.place_handicap(2)?;
+        slow.put(Colour::Black, at(rt, 3, 3));
+        slow.put(Colour::Black, at(rt, 5, 5));
+    }
+    Ok((game, slow))
+}
+
+#[test]
+fn random_games_go_as_slow_ones(rt: HostRuntime) -> Result<(), Fail> {
+    let mut draws = Draws { state: 7 };
+    let (mut suicides, mut kos) = (0_u32, 0_u32);
+    for number in 0..20 {
+        let (mut game, mut slow) = fresh(&rt, number % 7 + 1)?;
+        for _ in 0..80 {
+            match step(&rt, &mut draws, &mut game, &mut slow) {
+                Err(PlayFault::Suicide) => suicides = suicides.saturating_add(1),
+                Err(PlayFault::Ko) => kos = kos.saturating_add(1),
+                _ => {}
+            }
+            if draws.below(10) == 0 {
+                back(&rt, &mut game, &mut slow);
+            }
+        }
+        assert_same_legal(&rt, &game, &slow);
+    }
+    assert!(rt; suicides > 0);
+    assert!(rt; kos > 0);
+    Ok(())
+}
