@@ -233,7 +233,8 @@ def small_boards(r, talk):
 
 
 def big_boards(r, talk):
-    """Games on boards of 6x6 to 25x25."""
+    """Games on boards of 6x6 to 25x25, with few genmoves, which take the reference long."""
+    talk.generated = r.choice([0, 0.1, 0.3, 0.6])
     play_some(r, talk, r.randint(6, 25), r.choice([20, 60, 120]), [9, 13, 19, 25])
 
 
@@ -285,7 +286,8 @@ def mutated_lines(r, talk):
 def quit_in_the_middle(r, talk):
     """Games on small boards with a quit, or what is nearly one, before their end."""
     small_boards(r, talk)
-    ending = r.choice([b"quit", b"quit", b"7 quit now", b"qu\x00it#", b"\tquit\r", b"quit " + b"x" * 995, b"quit " + b"x" * 996, b"QUIT", b"name quit"])
+    long = [b"quit " + b"x" * 995, b"quit " + b"x" * 996]
+    ending = r.choice([b"quit", b"quit", b"7 quit now", b"qu\x00it#", b"\tquit\r", *long, b"QUIT", b"name quit"])
     lines = talk.data.split(b"\n")
     lines.insert(r.randrange(len(lines)), ending)
     talk.data = b"\n".join(lines)
@@ -315,14 +317,14 @@ def full_records(r, talk):
 # Each kind by its short name: what it is called, what makes it, and how often: one in so many.
 KINDS = {
     "small": ("small boards", small_boards, 1),
-    "big": ("big boards", big_boards, 10),
+    "big": ("big boards", big_boards, 4),
     "bytes": ("bytes and control characters", any_bytes, 1),
     "long": ("long lines", long_lines, 1),
     "values": ("spellings of values", spellings, 1),
     "mutated": ("mutated lines", mutated_lines, 1),
     "books": ("books", small_boards, 1),
     "quit": ("quit in the middle", quit_in_the_middle, 1),
-    "full": ("full records", full_records, 50),
+    "full": ("full records", full_records, 25),
 }
 
 

@@ -17,12 +17,18 @@ def points(size):
     return [(column, row) for row in range(1, size + 1) for column in range(1, size + 1)]
 
 
+def is_on(size, point):
+    """Does the board have this point?"""
+    column, row = point
+    return 1 <= column <= size and 1 <= row <= size
+
+
 @lru_cache(maxsize=None)
 def neighbours(size, point):
     """The points of the board that share a side with this one."""
     column, row = point
     beside = [(column - 1, row), (column + 1, row), (column, row - 1), (column, row + 1)]
-    return [(c, r) for c, r in beside if 1 <= c <= size and 1 <= r <= size]
+    return [other for other in beside if is_on(size, other)]
 
 
 def joined(board, size, point):
@@ -37,12 +43,22 @@ def joined(board, size, point):
     return found
 
 
-def parts(board, size, content):
-    """All chains of this colour; all empty regions where the content is None."""
+def chains(board, size, colour):
+    """All chains of this colour."""
+    return parts(board, size, [point for point, stone in board.items() if stone == colour])
+
+
+def regions(board, size):
+    """All empty regions."""
+    return parts(board, size, [point for point in points(size) if point not in board])
+
+
+def parts(board, size, alike):
+    """These points, which are all that are alike, as the sets of those that are joined."""
     found = []
     seen = set()
-    for point in points(size):
-        if board.get(point) == content and point not in seen:
+    for point in alike:
+        if point not in seen:
             part = joined(board, size, point)
             seen |= part
             found.append(part)
@@ -58,7 +74,7 @@ def put(board, size, colour, point):
     """The board after a stone of this colour is put on this point, and then every stone of the other colour whose chain has no
     liberty is removed, all at once."""
     board = {**board, point: colour}
-    captured = [chain for chain in parts(board, size, values.other(colour)) if not has_liberty(board, size, chain)]
+    captured = [chain for chain in chains(board, size, values.other(colour)) if not has_liberty(board, size, chain)]
     for chain in captured:
         for stone in chain:
             del board[stone]
@@ -92,7 +108,7 @@ class Game:
         """
         if vertex == PASS:
             return self.board()
-        if vertex not in points(self.size) or vertex in self.board():
+        if not is_on(self.size, vertex) or vertex in self.board():
             return None
         board = put(self.board(), self.size, colour, vertex)
         if not has_liberty(board, self.size, joined(board, self.size, vertex)):
@@ -140,7 +156,7 @@ class Game:
         area = {BLACK: 0, WHITE: 0}
         for colour in self.board().values():
             area[colour] += 1
-        for region in parts(self.board(), self.size, None):
+        for region in regions(self.board(), self.size):
             beside = {self.board().get(near) for point in region for near in neighbours(self.size, point)} - {None}
             if len(beside) == 1:
                 area[beside.pop()] += len(region)

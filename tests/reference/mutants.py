@@ -13,6 +13,7 @@ right_after = Game.after
 right_begin = Game.begin
 right_candidates = policies.candidates
 right_put = rules.put
+right_undo = Game.undo
 right_read_int = values.read_int
 right_read_komi = values.read_komi
 right_read_line = engine.read_line
@@ -44,7 +45,7 @@ def no_board_comes_back(game, colour, vertex):
 
 
 def suicide_is_legal(game, colour, vertex):
-    if vertex == PASS or vertex not in rules.points(game.size) or vertex in game.board():
+    if vertex == PASS or not rules.is_on(game.size, vertex) or vertex in game.board():
         return right_after(game, colour, vertex)
     board = rules.put(game.board(), game.size, colour, vertex)
     own = rules.joined(board, game.size, vertex)
@@ -63,18 +64,16 @@ def own_chain_is_taken_first(board, size, colour, point):
 
 def one_chain_is_taken(board, size, colour, point):
     made = {**board, point: colour}
-    for chain in rules.parts(board, size, values.other(colour)):
+    for chain in rules.chains(board, size, values.other(colour)):
         if not rules.has_liberty(made, size, chain):
             return {stone: its for stone, its in made.items() if stone not in chain}
     return made
 
 
 def undo_loses_what_was_captured(game):
-    before = game.boards[-2]
-    game.moves.pop()
-    game.boards.pop()
-    if len(game.boards) > 1:
-        game.boards[-1] = {point: its for point, its in before.items() if point in game.boards[-1]}
+    last = game.boards[-1]
+    right_undo(game)
+    game.boards[-1] = {point: its for point, its in game.board().items() if point in last}
 
 
 def undo_takes_handicap_back(self, arguments):
