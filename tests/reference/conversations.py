@@ -226,8 +226,30 @@ def play_some(r, talk, size, steps, sizes):
     talk.say(b"final_score")
 
 
+def ko_fight(r, talk):
+    """A ko in one of the corners, which both colours take and take back, with passes, undos and other moves between."""
+    size = r.randint(3, 5)
+    swapped, right, top = (r.random() < 0.5 for _ in range(3))
+    first, second = r.choice([(b"b", b"w"), (b"w", b"b")])
+
+    def play(colour, column, row):
+        column, row = (row, column) if swapped else (column, row)
+        point = (size + 1 - column if right else column, size + 1 - row if top else row)
+        return b"play " + colour + b" " + values.write_vertex(point)
+
+    talk.line(b"boardsize %d" % size)
+    for line in (play(first, 1, 2), play(second, 3, 1), play(first, 2, 1), play(second, 2, 2)):
+        talk.line(line)
+    for _ in range(r.randint(5, 30)):
+        colour = r.choice([first, second])
+        others = [b"play " + colour + b" pass", b"undo", b"genmove " + colour, b"showboard", play(colour, r.randint(1, size), size)]
+        talk.line(r.choice([play(second, 1, 1), play(first, 2, 1), r.choice(others)]))
+
+
 def small_boards(r, talk):
     """Games on boards of 1x1 to 5x5."""
+    if r.random() < 0.25:
+        ko_fight(r, talk)
     for _ in range(r.choice([1, 1, 2])):
         play_some(r, talk, r.choice(SMALL_SIZES), r.choice([5, 20, 60, 120]), SMALL_SIZES)
 
