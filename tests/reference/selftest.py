@@ -1,0 +1,82 @@
+#!/usr/bin/env python3
+"""Ties the reference to worked examples, none of which was taken from the program or from the reference.
+
+`python3 tests/reference/selftest.py` says what it finds; tests/compare calls `failures` before it compares.
+"""
+import re
+import sys
+from pathlib import Path
+
+sys.dont_write_bytecode = True
+sys.path.insert(0, str(Path(__file__).resolve().parent.parent))
+
+from reference import engine, policies  # noqa: E402
+
+WORKED = Path(__file__).resolve().parent / "worked.txt"
+# What the generator's author prints for the state 42 and the stream 54, in the demonstration of his C library ..
+WORDS = [0x86B1DA1D72062B68, 0x1304AA46C9853D39, 0xA3670E9E0DD50358, 0xF9090E529A7DAE00, 0xC85B9FD837996F2C, 0x606121F8E3919196]
+# .. and the first word that the tests of Rust's rand_pcg have for the seed 0.
+FIRST_WORD_OF_0 = 2354861276966075475
+
+
+def worked():
+    """The worked conversations: of each its name, its options, its input and the output that it has to have."""
+    for section in re.split(r"^== ", WORKED.read_text(), flags=re.MULTILINE)[1:]:
+        heading, *lines = section.rstrip("\n").split("\n")
+        name, _, options = heading.partition(" | ")
+        words = options.split()
+        said = b""
+        wanted = b""
+        for line, following in zip(lines, lines[1:] + [""]):
+            if line.startswith("    "):
+                wanted += line[4:].encode() + (b"\n" if following.startswith("    ") else b"\n\n")
+            else:
+                said += bytes_of(line) + b"\n"
+        yield name, dict(zip(words[::2], words[1::2])), said, wanted
+
+
+def bytes_of(line):
+    """The bytes that a line of a worked input stands for."""
+    spelled = line.replace("\\t", "\\x09").replace("\\r", "\\x0d").encode()
+    return re.sub(rb"\\x([0-9a-f]{2})", lambda found: bytes([int(found[1], 16)]), spelled)
+
+
+def computed():
+    """Conversations that are too long to be written out."""
+    passes = b"play b pass\n" * 2000
+    after = b"play b pass\nplay b Z25\ngenmove w\ngenmove\nundo\nplay b Z25\nplay b pass\n"
+    replies = b"? record full\n\n" * 3 + b"? syntax error\n\n=\n\n? illegal move\n\n=\n\n"
+    yield "a full record refuses before the board does", {}, passes + after, b"=\n\n" * 2000 + replies
+    lengths = b"known_command %s\nknown_command %s\n7 known_command %s\n" % (b"x" * 986, b"x" * 987, b"x" * 985)
+    yield "a line has at most 1,000 bytes of words", {}, lengths, b"= false\n\n? syntax error\n\n? syntax error\n\n"
+    spaces = b" " * 5000 + b"name" + b" " * 5000 + b"#" + b"x" * 5000 + b"\n"
+    yield "what doesn't count may be longer", {}, spaces, b"= stepgo\n\n"
+
+
+def failures():
+    """What the reference gets wrong, a text each, and how many worked conversations there are."""
+    found = []
+    conversations = [*worked(), *computed()]
+    for name, options, said, wanted in conversations:
+        policy, seed, book = options.get("--policy", "first"), int(options.get("--seed", 1)), options.get("--book", "").encode()
+        got = engine.run(policy, seed, book, said)
+        if got != (0, wanted, b""):
+            found.append(f"{name}: {wanted!r} is wanted, not {got!r}")
+        cut = engine.start(policy, seed, book)
+        if b"".join(cut.feed(said[place : place + 1]) for place in range(len(said))) != wanted:
+            found.append(f"{name}, fed byte after byte")
+    generator = policies.Generator(42, 54 << 1)
+    if [generator.word() for _ in WORDS] != WORDS:
+        found.append("the words of the generator")
+    if policies.Generator.of_seed(0).word() != FIRST_WORD_OF_0:
+        found.append("the first word of the seed 0")
+    for book in (b"C3,D44", b"," * 2000, b" ", b"I1"):
+        if engine.run("first", 1, book, b"name\n") != (2, b"", b"gtp_engine: bad book\n"):
+            found.append(f"the book {book[:20]!r}")
+    return found, len(conversations)
+
+
+if __name__ == "__main__":
+    wrong, count = failures()
+    print("\n".join(f"FAILED: {text}" for text in wrong) or f"ok: the reference gives the {count} worked conversations")
+    sys.exit(1 if wrong else 0)

@@ -1,0 +1,108 @@
+"""The values of the Go Text Protocol (GTP), and how they are spelled: docs/values.md in Python.
+
+Texts are bytes. A colour is BLACK or WHITE, a point is a pair (column, row), both counted from 1 at A1, the lower left corner,
+and a vertex is a point or PASS. Komi is a whole number of half points.
+"""
+import re
+
+BLACK = "black"
+WHITE = "white"
+PASS = "pass"
+COLUMNS = b"ABCDEFGHJKLMNOPQRSTUVWXYZ"
+GREATEST_INT = 2147483647
+
+
+def other(colour):
+    """The other colour."""
+    return WHITE if colour == BLACK else BLACK
+
+
+def read_int(text):
+    """The int that this text spells, or None.
+
+    An int is one digit or more and nothing else, of a value up to 2,147,483,647; leading zeros are allowed.
+    (The standard, simple entities: int.)
+    """
+    if not re.fullmatch(rb"[0-9]+", text) or int(text) > GREATEST_INT:
+        return None
+    return int(text)
+
+
+def read_colour(text):
+    """The colour that this text spells, or None.
+
+    A colour is b, black, w or white, in small or capital letters or a mixture. (The standard, simple entities: color.)
+    """
+    return {b"b": BLACK, b"black": BLACK, b"w": WHITE, b"white": WHITE}.get(text.lower())
+
+
+def read_vertex(text):
+    """The vertex that this text spells, or None.
+
+    A vertex is a column's letter, small or capital and never I, and a row from 1 to 25; or pass, in any letters. (The standard,
+    simple entities: vertex; that a row has no leading zeros is own.)
+    """
+    if text.lower() == b"pass":
+        return PASS
+    spelled = re.fullmatch(rb"([A-HJ-Z])([1-9]|1[0-9]|2[0-5])", text.upper())
+    if not spelled:
+        return None
+    return COLUMNS.index(spelled[1]) + 1, int(spelled[2])
+
+
+def write_vertex(vertex):
+    """A vertex in its one written form: the capital letter and the row, or pass. (Own.)"""
+    if vertex == PASS:
+        return b"pass"
+    column, row = vertex
+    return b"%c%d" % (COLUMNS[column - 1], row)
+
+
+def read_komi(text):
+    """The half points that this text spells as a komi, or None.
+
+    A komi is a plus, a minus or neither; at most nine digits; then nothing, or a point and at most nine digits, which are zeros
+    alone, or a 5 and zeros behind it; at least one digit in all. (The standard, komi, has a float; the rest is own.)
+    """
+    spelled = re.fullmatch(rb"([+-]?)([0-9]{0,9})(?:\.(0{0,9}|50{0,8}))?", text)
+    if not spelled:
+        return None
+    sign, whole, fraction = spelled[1], spelled[2], spelled[3] or b""
+    if whole + fraction == b"":
+        return None
+    half_points = 2 * int(whole or b"0") + (1 if fraction.startswith(b"5") else 0)
+    return -half_points if sign == b"-" else half_points
+
+
+def write_half_points(half_points):
+    """A number of half points, zero or more, in points: 13 is 6.5, 14 is 7. (Own.)"""
+    return b"%d" % (half_points // 2) + (b".5" if half_points % 2 == 1 else b"")
+
+
+def handicap_points(size, number):
+    """The points of this many handicap stones in their order, or None where the size doesn't allow the number.
+
+    Odd sizes from 9 up allow 2 to 9 stones, size 7 and even sizes from 8 up 2 to 4, sizes below 7 none. The low line is the third
+    on sizes below 13 and the fourth from 13 up, and the high line stands as far from the other edge. (The standard, fixed handicap
+    placement, describes such points; the table, its order and its sizes are own.)
+    """
+    most = 0 if size < 7 else 9 if size % 2 == 1 and size >= 9 else 4
+    if not 2 <= number <= most:
+        return None
+    low = 3 if size < 13 else 4
+    high = size + 1 - low
+    middle = (size + 1) // 2
+    corners = [(low, low), (high, high), (low, high), (high, low)]
+    sides = [(low, middle), (high, middle)]
+    ends = [(middle, low), (middle, high)]
+    centre = [(middle, middle)]
+    return {
+        2: corners[:2],
+        3: corners[:3],
+        4: corners,
+        5: corners + centre,
+        6: corners + sides,
+        7: corners + sides + centre,
+        8: corners + sides + ends,
+        9: corners + sides + ends + centre,
+    }[number]
