@@ -1,8 +1,9 @@
 #!/bin/sh
 # Runs one benchmark, as `sh bench/run.sh board`.
 #
-# The program is bench/NAME/main.txt (the gate takes every .rt file for one of a crate's), and bench/NAME/needs names the libraries that it stands on. It is proved like any other
-# program, but in a copy of the repository's crates, so that the gate needn't run it.
+# The program is bench/NAME/main.txt (rt ci takes every .rt file for one of a crate's), and bench/NAME/needs names the
+# libraries that it stands on. It is proved like any other program, but in a copy of the repository's crates, so that rt ci
+# needn't run it.
 set -eu
 name=$1
 top=$(cd "$(dirname "$0")/.." && pwd)
