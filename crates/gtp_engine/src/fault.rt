@@ -13,7 +13,7 @@ pub enum Fault {
     BadArgument,
     /// The text of `--book` is no book.
     BadBook,
-    /// Memory was refused.
+    /// Memory was refused while the arguments were collected or the options read.
     OutOfMemory,
     /// The conversation stopped, or the help could not be written.
     Serve(ServeFault),

@@ -25,11 +25,11 @@ pub enum PolicyName {
 /// What the command line asks for.
 #[derive(Clone, Copy, Debug, PartialEq, Eq)]
 pub struct Options<'a> {
-    /// The policy that chooses the moves.
+    /// The policy that chooses the moves; `first` where the words don't say.
     pub policy: PolicyName,
-    /// The seed of the random policy.
+    /// The seed of the random policy; 1 where the words don't say.
     pub seed: u32,
-    /// The text of the book, which is not read yet.
+    /// The text of the book, which is not read yet; empty where the words don't say.
     pub book: &'a str,
 }
 

@@ -32,7 +32,8 @@ use std::io::{Read, Write};
 /// - 2 where the words have a mistake, or the text of `--book` is no book, whatever the policy is;
 /// - 3 where a read or a write failed, the reads were too many, or memory was refused.
 ///
-/// What a status other than 0 means is told on `errors`, and whether that can be written changes nothing.
+/// What a status other than 0 means is told on `errors`, and whether that can be written changes nothing. `alloc` gives the
+/// memory for reading the words; the conversation takes none.
 pub fn run<S: AsStr, R: Read, W: Write, E: Write>(
     alloc: Global,
     words: &[S],

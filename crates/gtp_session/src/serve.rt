@@ -38,7 +38,14 @@ pub enum ServeFault {
 pub const MOST_READS: u32 = 1_000_000_000;
 
 /// Reads, executes and answers until the session ends, the input ends, a call fails, or a further read would be one
-/// too many. Each reply is written and flushed before anything further is executed or read.
+/// too many. Each reply is written and flushed before anything further is executed or read. A session that has ended
+/// answers `Quit` without a read.
+///
+/// # Errors
+///
+/// `Read` where a read failed; what came before it was answered. `Write` where a write or a flush failed; the line was
+/// executed, and its reply went out in part or wasn't flushed. `TooManyReads` after so many reads that each gave bytes,
+/// the session being still open; with 0 reads at once.
 pub fn serve_within<R: Incoming, W: Outgoing, P: Policy>(
     reader: &mut R,
     writer: &mut W,
@@ -158,7 +165,12 @@ fn is_too_many(answer: Result<Served, ServeFault>) -> bool
     }
 }
 
-/// Serves one read at a time, so that what a read brought is answered before the next.
+/// As [`serve_within`], one read at a time and 1,000,000,000 reads at most, so that what a read brought is answered before
+/// the next.
+///
+/// # Errors
+///
+/// As those of [`serve_within`]; `TooManyReads` after 1,000,000,000 reads.
 pub fn serve<R: Incoming, W: Outgoing, P: Policy>(
     reader: &mut R,
     writer: &mut W,

@@ -79,14 +79,14 @@ impl<P: Policy> Session<P> {
         }
     }
 
-    /// The game.
+    /// The game, as it stands after the lines that were answered so far.
     pub fn game(&self) -> &Game
         ensures { result.now ≡ self.now.game }
     {
         &self.game
     }
 
-    /// Whether the session has ended.
+    /// Whether the session has ended, by a `quit`.
     pub fn ended(&self) -> bool
         ensures ended { result ≡ self.now.ended }
         // No whole line is held back.
@@ -97,6 +97,9 @@ impl<P: Policy> Session<P> {
 
     /// Takes the next piece up to and with the newline that ends the first line that has a word, or all of it, and
     /// answers that line. A session that has ended uses no byte and gives no reply.
+    ///
+    /// What it didn't use is for the next call: `input[used..]`. A line that is too long is answered `? syntax error`,
+    /// and a blank one gets no reply.
     pub fn feed(&mut self, input: &[u8]) -> Fed
         ensures within { result.used ≤ length input.now }
         // The bytes that are used are read and answered, by a reply or by none.
@@ -119,7 +122,7 @@ impl<P: Policy> Session<P> {
         }
     }
 
-    /// The same, with the reply written in place of what `text` holds.
+    /// As [`Session::feed`], with the reply written in place of what `text` holds. Without a reply `text` stays.
     pub fn feed_into(&mut self, input: &[u8], text: &mut ReplyText) -> Taken
         ensures within { result.used ≤ length input.now }
         ensures replies { (genmove : Bool) × Replies P.may self.old (take result.used input.now) self.new (reply_if result.replied text.new.items genmove) }

@@ -14,7 +14,7 @@ use thiserror::Error;
 #[error("broken stream")]
 pub struct Broken;
 
-/// A reader that counts its reads and those that failed. Each count stays at its greatest value.
+/// A reader that counts its reads and those that failed. Each count stays at its greatest value, 2^64 - 1.
 pub trait Incoming {
     // The bytes that reads will give from here on, where they are known.
     ghost remaining: { Self → Option (List ℕ) };
@@ -62,7 +62,7 @@ pub trait Outgoing {
 }
 
 /// Any reader or writer of the standard library, with its counts: its reads, its calls that failed, and whether what it
-/// took waits for a flush.
+/// took waits for a flush. A write that takes no byte of a text that isn't empty counts as failed.
 #[derive(Drop)]
 pub struct Counted<T> {
     inner: T,
