@@ -1,6 +1,6 @@
 """The reference engine: the bytes of a conversation in, the bytes of the answers out. docs/protocol.md in Python.
 
-It was written from the rules, apart from the program, and shares no code with it.
+It states the rules in the most literal way, and shares no code with the program.
 """
 from . import policies, values
 from .game import Game
