@@ -81,7 +81,7 @@ slice_get-push (y ∷ ms) m x (suc k) e = elim (slice_get-push ms m x k e) [
   | inr new ↦ let h = new.0 in inr (omega arith, new.1)
 ]
 
-IsGame-with_move : (game : GameRecord) (c : Colour) (v : Vertex) → IsGame game → HasRoom game → IsLegal game c v → IsGame (with_move game c v)
+pub IsGame-with_move : (game : GameRecord) (c : Colour) (v : Vertex) → IsGame game → HasRoom game → IsLegal game c v → IsGame (with_move game c v)
 IsGame-with_move game c v g room legal =
     let m : Move = record { colour = c; vertex = v } in
     record {

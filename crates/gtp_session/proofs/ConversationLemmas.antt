@@ -1,5 +1,5 @@
 -- Laws of what a writer took and a reader gave.
-use Rattle.std.proofs.Common.{◌≡◌, ℕ, ◌+◌, ◌-◌, ◌≤◌, List, [], ◌∷◌, ◌++◌, length, take, drop, Option, sym, ap, ◌∙◌, append_assoc, arith}
+use Rattle.std.proofs.Common.{◌≡◌, ℕ, ◌+◌, ◌-◌, ◌≤◌, List, [], ◌∷◌, ◌++◌, length, take, drop, Option, sym, ap, ◌∙◌, append_assoc, arith, subst}
 use Rattle.std.proofs.Math.Seq.{take-add}
 use Rattle.std.proofs.lemmas.List.{append-nil, take-append-drop, take_all, length-drop, length-append, length-take-le}
 use Rattle.std.proofs.KnownBytes.{Appends-nil, Appends-trans, Appends-kept, Consumes-nil, Consumes-trans}
@@ -174,3 +174,8 @@ GivesAtLeast-both {a = a} {b = b} {c = c} p q =
 pub GivesAtLeast-read : {a b c : Option (List ℕ)} {m : ℕ} (count : ℕ) (buffer : List ℕ) → GivesAtLeast a b m → GivesBytes b c count buffer → GivesAtLeast a c (m + 1)
 GivesAtLeast-read count buffer p q =
     GivesAtLeast-both p (record { input = take count buffer; given = q.given; enough = omega (arith, length-take-le count buffer, q.some, q.within) })
+
+-- a read that gave nothing changes nothing
+pub GivesAtLeast-end : {a b c : Option (List ℕ)} {m : ℕ} → GivesAtLeast a b m → Consumes b c [] → GivesAtLeast a c m
+GivesAtLeast-end {a} {b} {c} {m} gave none =
+    subst (λ (n : ℕ). GivesAtLeast a c n) (omega arith) (GivesAtLeast-both {n = 0} gave (record { input = []; given = none; enough = omega arith }))

@@ -6,3 +6,4 @@ pub mod PointLemmas
 pub mod TextLemmas
 pub mod CandidatesLemmas
 pub mod BookLemmas
+pub mod AnswerLemmas

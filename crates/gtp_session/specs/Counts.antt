@@ -33,3 +33,7 @@ module _ {E : Type 0} where
   abbrev pub waiting_after_flush : {T : Type 0} → Bool → Result T E → Bool
   waiting_after_flush waiting (Ok _) = false
   waiting_after_flush waiting (Err _) = waiting
+
+-- the reads that a conversation makes at most (own)
+abbrev pub most_reads : ℕ
+most_reads = 1000000000

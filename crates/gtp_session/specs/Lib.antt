@@ -8,3 +8,4 @@ pub mod Lawful
 pub mod Commands
 pub mod Engine
 pub mod Conversation
+pub mod Laws

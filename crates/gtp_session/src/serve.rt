@@ -1,7 +1,7 @@
 //! A session over a reader and a writer.
-ghost use Rattle.std.specs.Prelude.{◌≡◌, ◌≢◌, ℕ, ◌<◌, ◌≤◌, length, [], true, false, OnOk, OnErr};
+ghost use Rattle.std.specs.Prelude.{◌≡◌, ◌≢◌, ℕ, ◌+◌, ◌<◌, ◌≤◌, length, [], true, false, OnOk, OnErr};
 ghost use Rattle.std.specs.Io.KnownBytes.{Appends, IsAtEnd};
-ghost use Rattle.gtp_session.specs.Counts.{raised, failures_after};
+ghost use Rattle.gtp_session.specs.Counts.{raised, failures_after, most_reads};
 ghost use Rattle.gtp_wire.specs.Lines.{lines};
 ghost use Rattle.gtp_session.specs.Conversation.{Delivered, Breaks, Conversation, BrokenConversation, TakesPart, GivesAtLeast, GivesPiece};
 
@@ -67,6 +67,8 @@ pub fn serve_within<R: Incoming, W: Outgoing, P: Policy>(
     ensures too_many { result ≡ Err ServeFault.TooManyReads → R.reads reader.new ≡ raised (R.reads reader.old) reads }
     // Each of them gave at least one byte.
     ensures gave { result ≡ Err ServeFault.TooManyReads → GivesAtLeast (R.remaining reader.old) (R.remaining reader.new) reads }
+    // At the end of the input the last read gave nothing, and each before it at least one byte.
+    ensures gave_before { result ≡ Ok Served.EndOfInput → (made : ℕ) × (R.reads reader.new ≡ raised (R.reads reader.old) (made + 1)) × GivesAtLeast (R.remaining reader.old) (R.remaining reader.new) made }
     ensures read_failed { result ≡ Err ServeFault.Read → R.failures reader.new ≡ raised (R.failures reader.old) 1 }
     ensures read_held { result ≢ Err ServeFault.Read → R.failures reader.new ≡ R.failures reader.old }
     ensures write_failed { result ≡ Err ServeFault.Write → W.failures writer.new ≡ raised (W.failures writer.old) 1 }
@@ -184,10 +186,12 @@ pub fn serve<R: Incoming, W: Outgoing, P: Policy>(
     ensures breaks { result ≡ Err ServeFault.Write → BrokenConversation P.may session.old session.new
         (R.remaining reader.old) (R.remaining reader.new) (W.contents writer.old) (W.contents writer.new) }
     ensures over { session.old.ended ≡ true → (result ≡ Ok Served.Quit) × (reader.new ≡ reader.old) × (writer.new ≡ writer.old) × (session.new ≡ session.old) }
-    ensures reads { (made : ℕ) × (made ≤ MOST_READS) × (R.reads reader.new ≡ raised (R.reads reader.old) made) }
-    ensures too_many { result ≡ Err ServeFault.TooManyReads → R.reads reader.new ≡ raised (R.reads reader.old) MOST_READS }
+    ensures reads { (made : ℕ) × (made ≤ most_reads) × (R.reads reader.new ≡ raised (R.reads reader.old) made) }
+    ensures too_many { result ≡ Err ServeFault.TooManyReads → R.reads reader.new ≡ raised (R.reads reader.old) most_reads }
     // Each of them gave at least one byte.
-    ensures gave { result ≡ Err ServeFault.TooManyReads → GivesAtLeast (R.remaining reader.old) (R.remaining reader.new) MOST_READS }
+    ensures gave { result ≡ Err ServeFault.TooManyReads → GivesAtLeast (R.remaining reader.old) (R.remaining reader.new) most_reads }
+    // At the end of the input the last read gave nothing, and each before it at least one byte.
+    ensures gave_before { result ≡ Ok Served.EndOfInput → (made : ℕ) × (R.reads reader.new ≡ raised (R.reads reader.old) (made + 1)) × GivesAtLeast (R.remaining reader.old) (R.remaining reader.new) made }
     ensures read_failed { result ≡ Err ServeFault.Read → R.failures reader.new ≡ raised (R.failures reader.old) 1 }
     ensures read_held { result ≢ Err ServeFault.Read → R.failures reader.new ≡ R.failures reader.old }
     ensures write_failed { result ≡ Err ServeFault.Write → W.failures writer.new ≡ raised (W.failures writer.old) 1 }

@@ -157,3 +157,21 @@ Finds-pieces none (fed piece more) =
 pub SameFuture-append : (a b text : List ℕ) → SameFuture a b → SameFuture (a ++ text) (b ++ text)
 SameFuture-append a b text same later =
     ap lines (append_assoc a text later) ∙ same (text ++ later) ∙ ap lines (sym (append_assoc b text later))
+
+tail_newline : (held t : List ℕ) → tail_from held (t ++ 10 ∷ []) ≡ []
+unfolding tail_from
+tail_newline held [] = refl
+tail_newline held (b ∷ t) = elim (test_cases (is_newline b)) [
+  | inl e ↦ rw e (tail_newline [] t)
+  | inr e ↦ rw e (tail_newline (held ++ b ∷ []) t)
+]
+
+tail_of_newline : (text : List ℕ) → tail_of (text ++ 10 ∷ []) ≡ []
+unfolding tail_of
+tail_of_newline text = ap (tail_from []) (filter-append is_kept text (10 ∷ [])) ∙ tail_newline [] (filter is_kept text)
+
+-- what stands behind a newline is read by itself
+pub lines_anew : (text later : List ℕ) → lines (text ++ 10 ∷ later) ≡ lines (text ++ 10 ∷ []) ++ lines later
+lines_anew text later =
+    ap lines (sym (append_assoc text (10 ∷ []) later)) ∙ lines_more (text ++ 10 ∷ []) later
+    ∙ ap (λ (t : List ℕ). lines (text ++ 10 ∷ []) ++ lines (t ++ later)) (tail_of_newline text)

@@ -1,13 +1,13 @@
 -- A text tells one thing first, and no reply begins another.
-use Rattle.std.proofs.Common.{◌≡◌, ℕ, ◌<◌, ◌≤◌, List, [], ◌∷◌, ◌++◌, length, take, drop, Result, Ok, Err, true, false, refl, sym, ◌∙◌, ap, subst, arith, inl, inr, map, filter, append_assoc, length-append, length-drop}
+use Rattle.std.proofs.Common.{◌≡◌, ℕ, ◌<◌, ◌≤◌, List, [], ◌∷◌, ◌++◌, length, take, drop, Result, Ok, Err, true, false, refl, sym, ◌∙◌, ap, subst, arith, inl, inr, map, filter, append_assoc, length-append, length-drop, append-nil}
 use Rattle.std.proofs.lemmas.Bool.{cases_lt}
-use Rattle.std.proofs.lemmas.List.{same_from_push, append_cancel_right, map-append, take-append-le, take-append-drop, take_all}
+use Rattle.std.proofs.lemmas.List.{same_from_push, append_cancel_right, map-append, take-append-le, take-append-drop, take_all, take-take, length-take-le}
 use Rattle.std.proofs.lemmas.List.Elements.{filter-append}
 use Rattle.gtp_wire.specs.declared.replies.Reply.{Reply}
 use Rattle.gtp_wire.specs.declared.replies.ReplyFault.{ReplyFault}
 use Rattle.gtp_wire.specs.declared.replies.ReplyFault.TheVariants.{Overlong, NoStatus}
 use Rattle.gtp_wire.specs.Bytes.{is_kept, space_for_tab, is_blank}
-use Rattle.gtp_wire.specs.Replies.{prepared, behind, past_blanks, has_two_newlines, IsWhole, IsReply, IsNoStatus, Tells, IsFirst, reply_of, is_status}
+use Rattle.gtp_wire.specs.Replies.{prepared, behind, past_blanks, has_two_newlines, IsWhole, IsReply, IsNoStatus, Tells, TellsNothing, IsFirst, reply_of, is_status}
 use Rattle.gtp_wire.proofs.NewlineLemmas.{has_two_newlines_front, two_newlines}
 use Rattle.gtp_wire.proofs.ReplyLemmas.{no_status_begun, behind_some}
 use Rattle.gtp_wire.proofs.WrittenLemmas.{last_of}
@@ -124,3 +124,21 @@ reply_is_first raw later value reply =
         behind_front : (l : List ℕ) → 0 < length l → IsWhole (take n raw ++ l) → Tells (take n raw) other → ⊥
         behind_front [] some whole told = omega arith
         behind_front (b ∷ more) some whole told = front_is_quiet (take n raw) b more other whole told
+
+-- a reply that is cut short tells nothing
+pub front_tells_nothing : (raw : List ℕ) (value : Reply) (k : ℕ) → IsReply raw value → k < length raw → TellsNothing (take k raw)
+front_tells_nothing raw value k reply less n answer inside told =
+    let first = reply_is_first raw [] value reply in
+    let short : n ≤ k = omega (arith, inside, length-take-le k raw (omega arith)) in
+    let T : List ℕ → Type 0 = λ t. Tells t answer in
+    first.before n answer (omega arith) (subst T (take-take n k raw short ∙ ap (take n) (sym (append-nil raw))) told)
+
+-- what a text tells first a longer one tells first
+pub told_longer : (text later : List ℕ) (place : ℕ) (answer : Result Reply ReplyFault) → IsFirst text place answer → IsFirst (text ++ later) place answer
+told_longer text later place answer first =
+    let inside = first.inside in
+    record {
+      inside = omega (arith, inside, length-append text later);
+      told = subst (λ (t : List ℕ). Tells t answer) (sym (take-append-le place text later inside)) first.told;
+      before = λ n other less told. first.before n other less (subst (λ (t : List ℕ). Tells t other) (take-append-le n text later (omega (arith, inside, less))) told);
+    }

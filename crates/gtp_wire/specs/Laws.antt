@@ -1,5 +1,5 @@
 -- Laws of lines and replies: what holds of the definitions alone, whatever code reads and writes the bytes.
-use Rattle.std.specs.Prelude.{◌≡◌, ◌≢◌, ℕ, ◌≤◌, true, List, [], ◌∷◌, ◌++◌, length, take, drop, All, Option, None, Result, Ok, IfSome}
+use Rattle.std.specs.Prelude.{◌≡◌, ◌≢◌, ℕ, ◌<◌, ◌≤◌, Bool, true, List, [], ◌∷◌, ◌++◌, length, take, drop, All, Option, None, Result, Ok, IfSome}
 use Rattle.std.specs.List.{concat, join_with_byte, list_all}
 use Rattle.std.specs.Option.{option_to_list}
 use Rattle.go_base.specs.Int.{int_max, int_of}
@@ -9,7 +9,7 @@ use Rattle.gtp_wire.specs.declared.replies.Reply.{Reply}
 use Rattle.gtp_wire.specs.declared.replies.ReplyFault.{ReplyFault}
 use Rattle.gtp_wire.specs.Lines.{lines, line_max, Finds, SameFuture}
 use Rattle.gtp_wire.specs.Words.{is_word, id_words}
-use Rattle.gtp_wire.specs.Replies.{IsWhole, IsReply, IsFirst}
+use Rattle.gtp_wire.specs.Replies.{IsWhole, IsReply, IsFirst, TellsNothing, IsReplyText, written_reply}
 
 -- the lines of a text begin those of every longer text
 abbrev pub LinesGoOn : Type 0
@@ -79,3 +79,21 @@ NoReplyBeginsAnother = (raw : List ℕ) (b : ℕ) (more : List ℕ) → IsWhole 
 abbrev pub RepliesAreToldFirst : Type 0
 RepliesAreToldFirst = (raw later : List ℕ) (value : Reply)
     → IsReply raw value → IsFirst (raw ++ later) (length raw) (Ok value)
+
+-- what stands behind a newline is read by itself
+abbrev pub NewlinesBeginAnew : Type 0
+NewlinesBeginAnew = (text later : List ℕ) → lines (text ++ 10 ∷ later) ≡ lines (text ++ 10 ∷ []) ++ lines later
+
+-- a text that is written as a reply is one reply
+abbrev pub WrittenRepliesAreReplies : Type 0
+WrittenRepliesAreReplies = (ok : Bool) (id : Option ℕ) (text : List ℕ) (value : Reply)
+    → IfSome id (λ n. n ≤ int_max) → IsReplyText text → value.ok ≡ ok → value.id ≡ id → value.text.items ≡ text
+    → IsReply (written_reply ok id text) value
+
+-- a reply that is cut short tells nothing
+abbrev pub FrontsTellNothing : Type 0
+FrontsTellNothing = (raw : List ℕ) (value : Reply) (k : ℕ) → IsReply raw value → k < length raw → TellsNothing (take k raw)
+
+-- what a text tells first a longer one tells first
+abbrev pub ToldStaysTold : Type 0
+ToldStaysTold = (text later : List ℕ) (place : ℕ) (answer : Result Reply ReplyFault) → IsFirst text place answer → IsFirst (text ++ later) place answer

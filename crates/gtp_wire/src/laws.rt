@@ -1,5 +1,5 @@
 //! Laws of lines and replies, for the crates that use them. Each is the contract of a function that does nothing.
-ghost use Rattle.gtp_wire.specs.Laws.{LinesGoOn, OnlyNewlinesEndLines, TextsAreRead, FindsAgree, FindsJoin, AnyPiecesReadAlike, WrittenLinesAreRead, RepliesHaveOneValue, OneThingIsToldFirst, NoReplyBeginsAnother, RepliesAreToldFirst};
+ghost use Rattle.gtp_wire.specs.Laws.{LinesGoOn, OnlyNewlinesEndLines, TextsAreRead, FindsAgree, FindsJoin, AnyPiecesReadAlike, WrittenLinesAreRead, RepliesHaveOneValue, OneThingIsToldFirst, NoReplyBeginsAnother, RepliesAreToldFirst, NewlinesBeginAnew, WrittenRepliesAreReplies, FrontsTellNothing, ToldStaysTold};
 
 /// The lines of a text begin those of every longer text.
 pub fn lines_go_on()
@@ -54,4 +54,24 @@ pub fn no_reply_begins_another()
 /// A reply is told first, at its own end, whatever follows it.
 pub fn replies_are_told_first()
     ensures { RepliesAreToldFirst }
+{}
+
+/// A law.
+pub fn newlines_begin_anew()
+    ensures { NewlinesBeginAnew }
+{}
+
+/// A law.
+pub fn written_replies_are_replies()
+    ensures { WrittenRepliesAreReplies }
+{}
+
+/// A law.
+pub fn fronts_tell_nothing()
+    ensures { FrontsTellNothing }
+{}
+
+/// A law.
+pub fn told_stays_told()
+    ensures { ToldStaysTold }
 {}

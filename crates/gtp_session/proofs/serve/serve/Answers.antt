@@ -1,6 +1,7 @@
-use Rattle.std.proofs.Common.{rules, ◌≡◌, ◌≢◌, ◌+◌, arith, refl, sym, ◌∙◌, Ok, Err}
+use Rattle.std.proofs.Common.{rules, ◌≡◌, ◌≢◌, ◌+◌, arith, refl, sym, ap, ◌∙◌, Ok, Err}
 use Rattle.gtp_session.specs.declared.serve.Served.TheVariants.{Quit}
 use Rattle.gtp_session.specs.declared.serve.ServeFault.TheVariants.{Read, Write, TooManyReads}
+use Rattle.gtp_session.specs.Counts.{raised}
 use Rattle.gtp_session.proofs.CountsLemmas.{raised-none, raised-then}
 use Rattle.gtp_session.proofs.ConversationLemmas.{GivesAtLeast-nothing, GivesAtLeast-both, Conversation-nothing, Conversation-both, BrokenConversation-after}
 use Rattle.gtp_session.proofs.serve.serve.Goals as goal
@@ -49,3 +50,8 @@ loop-turn-preserved g c =
       write_held = done.write_held no_write ∙ c.loop-turn.invariant.write_held;
       flushed = λ h. done.flushed no_write (c.loop-turn.invariant.flushed h);
     }
+
+pub returns-then-not-is_too_many-clause-gave_before : goal.returns-then-not-is_too_many-clause-gave_before
+returns-then-not-is_too_many-clause-gave_before g c = λ h.
+    let before = c.serve_within-answer.ensures.gave_before h in
+    (c.loop-turn._turn + before.0, rw (before.1, c.loop-turn.invariant.reads) (raised-then _ _ _ ∙ ap (raised _) (omega arith)), GivesAtLeast-both c.loop-turn.invariant.gave before.2)

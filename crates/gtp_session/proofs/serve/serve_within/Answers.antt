@@ -1,6 +1,6 @@
 use Rattle.std.proofs.Common.{rules, ◌+◌, arith, refl, sym}
 use Rattle.gtp_session.proofs.CountsLemmas.{raised-none, raised-then}
-use Rattle.gtp_session.proofs.ConversationLemmas.{GivesAtLeast-nothing, GivesAtLeast-read, Conversation-nothing, Conversation-read, BrokenConversation-read}
+use Rattle.gtp_session.proofs.ConversationLemmas.{GivesAtLeast-nothing, GivesAtLeast-read, GivesAtLeast-end, Conversation-nothing, Conversation-read, BrokenConversation-read}
 use Rattle.gtp_session.proofs.serve.serve_within.Goals as goal
 
 pub returns-then-ended-clause-answers : goal.returns-then-ended-clause-answers
@@ -56,3 +56,8 @@ loop-turn-preserved g c =
       write_held = search rules;
       flushed = search rules;
     }
+
+pub returns-in-Ok-None-clause-gave_before : goal.returns-in-Ok-None-clause-gave_before
+returns-in-Ok-None-clause-gave_before g c =
+    let piece = rw c.in-Ok-None.field-0-is at c.in-Ok-None.ensures.piece in
+    λ _. (c.loop-turn._turn, rw (c.read_piece.ensures.reads, c.loop-turn.invariant.reads) (raised-then _ _ _), GivesAtLeast-end c.loop-turn.invariant.gave piece.0)

@@ -1,0 +1,15 @@
+pub mod WordLemmas
+pub mod PassLemmas
+pub mod NextLemmas
+pub mod HearLemmas
+pub mod SaysLemmas
+pub mod ScriptLemmas
+pub mod SoundLemmas
+pub mod ReplySound
+pub mod HeardLemmas
+pub mod OpeningLemmas
+pub mod MoveTextLemmas
+pub mod CallsLemmas
+pub mod BoundLemmas
+pub mod AuditLemmas
+pub mod LimitLemmas
