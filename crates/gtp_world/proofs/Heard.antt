@@ -96,7 +96,7 @@ own_id n x y = rw (same_id n) refl
     same_id : (k : ℕ) → (k == k) ≡ true
     same_id k = grind (arith, nat_tests)
 
-scripted_outcome : (game : GameRecord) (s : Colour) (o : Order) (r : Reply) (g g1 : GameRecord) → Answered g o r g1 → GoesWellOn game.size g o.command
+pub scripted_outcome : (game : GameRecord) (s : Colour) (o : Order) (r : Reply) (g g1 : GameRecord) → Answered g o r g1 → GoesWellOn game.size g o.command
     → outcome game s (Some o) r ≡ Confirms
 scripted_outcome game s o r g g1 a well =
     let reply : r ≡ made_reply o.id (succeeds_with g o.command) = a.reply ∙ ap (made_reply o.id) (well_answer g o.id o.command a.choice well.well) in
