@@ -25,12 +25,13 @@ use Rattle.gtp_match.proofs.NextLemmas.{Tests, tests_of, next_live, at_black_dow
 use Rattle.gtp_match.proofs.SoundLemmas.{my_engine, idle_plan}
 use Rattle.gtp_world.specs.declared.events.Event.{Event}
 use Rattle.gtp_world.specs.declared.events.Event.TheVariants.{Act, ToEngine, ToController}
-use Rattle.gtp_world.specs.Lane.{Lane, Makes}
-use Rattle.gtp_world.specs.World.{World, opening, Starts, Sends, Heard, Acts, Happens, Runs}
+use Rattle.gtp_world.specs.Lane.{Lane, SidePolicies}
+use Rattle.gtp_world.specs.World.{World, opening, Starts, Sends, SideHears, Acts, Happens, Runs}
 use Rattle.gtp_world.specs.Settle.{start_of, script_left, round, rounds, settle, RunsWhereUp, MaySettle, IsSettled, Settles}
-use Rattle.gtp_world.proofs.Invariant.{Bare, bare, Joint, flipped, Inv}
+use Rattle.gtp_world.proofs.Invariant.{flipped}
 use Rattle.gtp_world.proofs.Happenings.{opening_has, happens_keeps, runs_keep}
 use Rattle.gtp_world.proofs.Rounds.{IsReady, RoundDone, round_done}
+use Rattle.gtp_world.specs.Joined.{BareLane, bare, AreJoined, IsJoined}
 
 -- ---- what comes next
 
@@ -80,7 +81,7 @@ module _ (c : Controller) (black white : Incarnation) (none : c.verdict ≡ None
   sends_white all less =
       next_live c none
       ∙ sym (at_white_lacks (to_move c.game) tests black_free white_free (ap is_down black_up) (ap is_down white_up) (ap (lacks c.game) black_up ∙ lacks_none c.game black all)
-          (ap (lacks c.game) white_up ∙ lacks_some c.game white white_idle less))
+      (ap (lacks c.game) white_up ∙ lacks_some c.game white white_idle less))
 
 -- ---- lists
 
@@ -114,10 +115,10 @@ stays_ready {P} up up2 l l2 n e f h = record {
 new_ready : {P : Type 0} (up : Option Incarnation) (l : Lane P) (e : Engine P) → up ≡ Some new_incarnation → l.engine ≡ Some e → IsReady up l 0
 new_ready up l e is runs = record { incarnation = new_incarnation; is_up = is; idle = refl; confirmed = refl; running = e; runs = runs }
 
-module _ {B W : Type 0} (mb : Makes B) (mw : Makes W) (law_b : AllowsLawful mb.may) (law_w : AllowsLawful mw.may) where
+module _ {B W : Type 0} (mb : SidePolicies B) (mw : SidePolicies W) (law_b : AllowsLawful mb.may) (law_w : AllowsLawful mw.may) where
   -- both sides are up with running engines and nothing unanswered, and have confirmed so many commands
   record Settling (game : GameRecord) (v : World B W) (black_count white_count : ℕ) : Type 0 where
-    inv : Inv v
+    inv : IsJoined v
     none : v.controller.verdict ≡ None
     game_is : v.controller.game ≡ game
     black : IsReady v.controller.sides.black.up v.black black_count
@@ -141,7 +142,7 @@ module _ {B W : Type 0} (mb : Makes B) (mw : Makes W) (law_b : AllowsLawful mb.m
     settling : Settling game world black_count white_count
     rest : Runs mb mw world later last
 
-  keeps : (v : World B W) (e : Event) (v2 : World B W) → Happens mb mw v e v2 → Inv v → Inv v2
+  keeps : (v : World B W) (e : Event) (v2 : World B W) → Happens mb mw v e v2 → IsJoined v → IsJoined v2
   keeps v e v2 h j = happens_keeps mb mw law_b law_w v e v2 h j
 
   -- a round of Black
@@ -152,7 +153,7 @@ module _ {B W : Type 0} (mb : Makes B) (mw : Makes W) (law_b : AllowsLawful mb.m
       let fewer : h.black.incarnation.confirmed < length (script c.game) = omega (arith, less, h.black.confirmed, ap (λ (g : GameRecord). length (script g)) h.game_is) in
       let is : next c ≡ Send Black = sends_black c h.black.incarnation h.white.incarnation h.none h.black.is_up h.white.is_up h.black.idle h.white.idle fewer in
       let acts : Sends Black c v.black v1.controller v1.black × (v1.white ≡ v.white) = subst (λ (x : Action). Acts mb mw v x v1) is a in
-      let hears : Heard Black v1.controller v2.black 100 v3.controller v3.black = subst (λ (x : Controller). Heard Black x v2.black 100 v3.controller v3.black) b.1 d.0 in
+      let hears : SideHears Black v1.controller v2.black 100 v3.controller v3.black = subst (λ (x : Controller). SideHears Black x v2.black 100 v3.controller v3.black) b.1 d.0 in
       let here : slice_get (script c.game) n ≡ Some k = ap (λ (g : GameRecord). slice_get (script g) n) h.game_is ∙ scripted in
       let done : RoundDone Black c v3.controller v3.black n =
       round_done mb.may law_b Black c v.black (bare v.white) n is h.inv h.none h.black k here v1.controller v1.black acts.0 v2.black b.0 v3.controller v3.black hears in
@@ -178,9 +179,9 @@ module _ {B W : Type 0} (mb : Makes B) (mw : Makes W) (law_b : AllowsLawful mb.m
       let enough : length (script c.game) ≤ h.black.incarnation.confirmed = omega (arith, all, h.black.confirmed, size) in
       let is : next c ≡ Send White = sends_white c h.black.incarnation h.white.incarnation h.none h.black.is_up h.white.is_up h.black.idle h.white.idle enough fewer in
       let acts : Sends White c v.white v1.controller v1.white × (v1.black ≡ v.black) = subst (λ (x : Action). Acts mb mw v x v1) is a in
-      let hears : Heard White v1.controller v2.white 100 v3.controller v3.white = subst (λ (x : Controller). Heard White x v2.white 100 v3.controller v3.white) b.1 d.0 in
+      let hears : SideHears White v1.controller v2.white 100 v3.controller v3.white = subst (λ (x : Controller). SideHears White x v2.white 100 v3.controller v3.white) b.1 d.0 in
       let here : slice_get (script c.game) m ≡ Some k = ap (λ (g : GameRecord). slice_get (script g) m) h.game_is ∙ scripted in
-      let joint : Joint c White (bare v.white) (bare v.black) = flipped c Black (bare v.black) (bare v.white) h.inv in
+      let joint : AreJoined c White (bare v.white) (bare v.black) = flipped c Black (bare v.black) (bare v.white) h.inv in
       let done : RoundDone White c v3.controller v3.white m =
       round_done mw.may law_w White c v.white (bare v.black) m is joint h.none h.white k here v1.controller v1.white acts.0 v2.white b.0 v3.controller v3.white hears in
       record {
@@ -223,7 +224,7 @@ module _ {B W : Type 0} (mb : Makes B) (mw : Makes W) (law_b : AllowsLawful mb.m
   record BlackBegun (old : World B W) (later : List Event) (last : World B W) : Type 0 where
     world : World B W
     count : ℕ
-    inv : Inv world
+    inv : IsJoined world
     none : world.controller.verdict ≡ None
     game_is : world.controller.game ≡ old.controller.game
     black : IsReady world.controller.sides.black.up world.black count
@@ -241,7 +242,7 @@ module _ {B W : Type 0} (mb : Makes B) (mw : Makes W) (law_b : AllowsLawful mb.m
   left_of : (game : GameRecord) (u : Incarnation) → u.unanswered ≡ [] → drop u.confirmed (script game) ≡ script_left game (Some u)
   left_of game u idle = let number : u.confirmed ≡ u.confirmed + length u.unanswered = omega (arith, ap length idle) in ap (λ (n : ℕ). drop n (script game)) number
 
-  black_begins : (old last : World B W) (later : List Event) → Inv old → MaySettle old → Runs mb mw old (start_of old.controller.sides.black.up ++ later) last → BlackBegun old later last
+  black_begins : (old last : World B W) (later : List Event) → IsJoined old → MaySettle old → Runs mb mw old (start_of old.controller.sides.black.up ++ later) last → BlackBegun old later last
   black_begins old last later j may runs = by_up old.controller.sides.black.up refl (may.idle Black) may.black runs
     where
       started_by : (v1 : World B W) → old.controller.sides.black.up ≡ None → Happens mb mw old Act v1 → Runs mb mw v1 later last → BlackBegun old later last
@@ -254,7 +255,7 @@ module _ {B W : Type 0} (mb : Makes B) (mw : Makes W) (law_b : AllowsLawful mb.m
             inv = keeps old Act v1 a j;
             none = ap (λ (d : Controller). d.verdict) begun.0.controller_is ∙ may.verdict;
             game_is = ap (λ (d : Controller). d.game) begun.0.controller_is;
-            black = new_ready v1.controller.sides.black.up v1.black (fresh begun.0.begins.policy) (ap (λ (d : Controller). d.sides.black.up) begun.0.controller_is) (ap (λ (l : Lane B). l.engine) begun.0.begins.lane);
+            black = new_ready v1.controller.sides.black.up v1.black (fresh begun.0.fresh_lane.policy) (ap (λ (d : Controller). d.sides.black.up) begun.0.controller_is) (ap (λ (l : Lane B). l.engine) begun.0.fresh_lane.lane);
             left = sym (ap (script_left old.controller.game) down);
             others = ap (λ (d : Controller). d.sides.white.up) begun.0.controller_is;
             white = begun.1;
@@ -307,7 +308,7 @@ module _ {B W : Type 0} (mb : Makes B) (mw : Makes W) (law_b : AllowsLawful mb.m
               none = ap (λ (d : Controller). d.verdict) begun.0.controller_is ∙ h.none;
               game_is = ap (λ (d : Controller). d.game) begun.0.controller_is ∙ h.game_is;
               black = stays_ready c.sides.black.up v1.controller.sides.black.up h.world.black v1.black h.count (ap (λ (d : Controller). d.sides.black.up) begun.0.controller_is) begun.1 h.black;
-              white = new_ready v1.controller.sides.white.up v1.white (fresh begun.0.begins.policy) (ap (λ (d : Controller). d.sides.white.up) begun.0.controller_is) (ap (λ (l : Lane W). l.engine) begun.0.begins.lane);
+              white = new_ready v1.controller.sides.white.up v1.white (fresh begun.0.fresh_lane.policy) (ap (λ (d : Controller). d.sides.white.up) begun.0.controller_is) (ap (λ (l : Lane W). l.engine) begun.0.fresh_lane.lane);
             };
             black_is = h.left;
             white_is = sym (ap (script_left old.controller.game) down);
@@ -367,7 +368,7 @@ module _ {B W : Type 0} (mb : Makes B) (mw : Makes W) (law_b : AllowsLawful mb.m
       let game = old.controller.game in
       let black_left = script_left game old.controller.sides.black.up in
       let white_left = script_left game old.controller.sides.white.up in
-      let j : Inv old = runs_keep mb mw law_b law_w (opening setup) events old reached (opening_has setup is) in
+      let j : IsJoined old = runs_keep mb mw law_b law_w (opening setup) events old reached (opening_has setup is) in
       let one = black_begins old last (start_of old.controller.sides.white.up ++ (rounds Black black_left ++ rounds White white_left)) j may runs in
       let two = white_begins old last (rounds Black black_left ++ rounds White white_left) may one in
       let three : Reaches game (length (script game)) two.white_count (rounds White white_left) last =

@@ -41,13 +41,15 @@ use Rattle.gtp_match.specs.Sound.{EndsAs, InScript, IsAsked, IsSoundEngine, IsId
 use Rattle.gtp_match.proofs.ScriptLemmas.{script_longer}
 use Rattle.gtp_match.proofs.SoundLemmas.{my_engine, their_side, one_idle, idle_plan, nothing_told}
 use Rattle.gtp_match.proofs.ReplySound.{reply_sound, quiet_sound}
-use Rattle.gtp_world.proofs.OrderLines.{IsFit}
-use Rattle.gtp_world.proofs.OrderAnswers.{exec, GoesWell, Answered, made_reply, reply_text, well_answer, genmove_answer, genmove_asks, succeeds_with}
+use Rattle.gtp_world.proofs.OrderAnswers.{well_answer, genmove_answer, genmove_asks, succeeds_with}
 use Rattle.gtp_world.proofs.ReplyReads.{well_heard, choice_heard, outcome_of_choice}
-use Rattle.gtp_world.proofs.Replay.{GoesWellOn, well_at, after_one_more, script_well, replayed, replayed_all, replayed_longer}
-use Rattle.gtp_world.proofs.Exchange.{Owes, AllMay, replies_text, owes_replies}
-use Rattle.gtp_world.proofs.Invariant.{Body, Bare, Running, Uncut, Live, Exchanged, SideHolds, Fair, Joint, joint_put, bare_still}
+use Rattle.gtp_world.proofs.Replay.{GoesWellOn, well_at, after_one_more, script_well, replayed_all, replayed_longer}
+use Rattle.gtp_world.proofs.Exchange.{owes_replies}
+use Rattle.gtp_world.proofs.Invariant.{joint_put}
 use Rattle.gtp_world.proofs.Sides.{live_any, judged_any, alike, Brings, arrives, quiet_or_first}
+use Rattle.gtp_world.specs.Exchange.{CanBeWritten, Answered, reply_with_id, reply_bytes, replayed, Owes, AllMayBeSent, all_reply_bytes}
+use Rattle.gtp_world.specs.CommandAnswers.{after_command, GoesWell}
+use Rattle.gtp_world.specs.Joined.{EngineBody, BareLane, WillReadWhereRunning, CutByCrash, IsJoinedInPlay, IsJoinedAtEnd, IsJoinedSide, IsFair, AreJoined, bare_empty}
 
 -- ---- what is kept reads alike
 
@@ -67,10 +69,10 @@ kept_longer kept reader begun x k r =
 
 -- ---- a side whose first reply has come whole
 
-next_live : (game : GameRecord) (n sent : ℕ) (us : List Order) (more : List Reply) (waiting : List Order) (ahead : GameRecord) (e : Option Body) (te tc cut : List ℕ)
-    → length us ≤ most_unanswered → Owes (replayed game n) us more waiting ahead → AllByRecursion IsFit waiting → AllMay ahead waiting
-    → tc ++ cut ≡ replies_text more → Running e te ahead waiting → Uncut e cut
-    → Live game (record { confirmed = n; sent = sent; unanswered = us; reader = [] }) (record { engine = e; to_engine = te; to_controller = tc })
+next_live : (game : GameRecord) (n sent : ℕ) (us : List Order) (more : List Reply) (waiting : List Order) (ahead : GameRecord) (e : Option EngineBody) (te tc cut : List ℕ)
+    → length us ≤ most_unanswered → Owes (replayed game n) us more waiting ahead → AllByRecursion CanBeWritten waiting → AllMayBeSent ahead waiting
+    → tc ++ cut ≡ all_reply_bytes more → WillReadWhereRunning e te ahead waiting → CutByCrash e cut
+    → IsJoinedInPlay game (record { confirmed = n; sent = sent; unanswered = us; reader = [] }) (record { engine = e; to_engine = te; to_controller = tc })
 next_live game n sent us more waiting ahead e te tc cut few owes fit may arriving runs uncut = record {
   few = few;
   replies = more;
@@ -99,12 +101,12 @@ own_id n x y = rw (same_id n) refl
 pub scripted_outcome : (game : GameRecord) (s : Colour) (o : Order) (r : Reply) (g g1 : GameRecord) → Answered g o r g1 → GoesWellOn game.size g o.command
     → outcome game s (Some o) r ≡ Confirms
 scripted_outcome game s o r g g1 a well =
-    let reply : r ≡ made_reply o.id (succeeds_with g o.command) = a.reply ∙ ap (made_reply o.id) (well_answer g o.id o.command a.choice well.well) in
+    let reply : r ≡ reply_with_id o.id (succeeds_with g o.command) = a.reply ∙ ap (reply_with_id o.id) (well_answer g o.id o.command a.choice well.well) in
     ap (outcome game s (Some o)) reply
-    ∙ own_id o.id (outcome_of game s o.command (made_reply o.id (succeeds_with g o.command))) (Down WrongId)
+    ∙ own_id o.id (outcome_of game s o.command (reply_with_id o.id (succeeds_with g o.command))) (Down WrongId)
     ∙ well_heard game g s o.id o.command well.well well.sized
 
-scripted_game : (o : Order) (r : Reply) (g g1 : GameRecord) → Answered g o r g1 → GoesWell g o.command → g1 ≡ exec g o.command
+scripted_game : (o : Order) (r : Reply) (g g1 : GameRecord) → Answered g o r g1 → GoesWell g o.command → g1 ≡ after_command g o.command
 scripted_game o r g g1 a well = a.game ∙ ap (λ (x : Answer). x.game) (well_answer g o.id o.command a.choice well)
 
 -- what was chosen, and how it is heard
@@ -123,17 +125,17 @@ chose game s id r g1 room most a =
       choice = a.choice;
       lawful = lawful;
       heard =
-          ap (outcome game s (Some (record { id = id; command = Genmove s }))) (a.reply ∙ ap (made_reply id) given)
-          ∙ own_id id (outcome_of game s (Genmove s) (made_reply id (answer_choice game s a.choice))) (Down WrongId)
+          ap (outcome game s (Some (record { id = id; command = Genmove s }))) (a.reply ∙ ap (reply_with_id id) given)
+          ∙ own_id id (outcome_of game s (Genmove s) (reply_with_id id (answer_choice game s a.choice))) (Down WrongId)
           ∙ choice_heard game s s id a.choice most lawful;
       game_is = a.game ∙ ap (λ (x : Answer). x.game) given;
     }
 
 -- ---- the record grows: a side with nothing unanswered lacks the new command
 
-theirs_moved : (c : Controller) (s : Colour) (mover : Colour) (v : Vertex) (verdict : Option Verdict) (up : Option Incarnation) (l : Bare)
+theirs_moved : (c : Controller) (s : Colour) (mover : Colour) (v : Vertex) (verdict : Option Verdict) (up : Option Incarnation) (l : BareLane)
     → c.verdict ≡ None → IfSome up (IsSoundEngine c s)
-    → SideHolds c.game None up l → IsIdle up → SideHolds (with_move c.game mover v) verdict up l
+    → IsJoinedSide c.game None up l → IsIdle up → IsJoinedSide (with_move c.game mover v) verdict up l
 theirs_moved c s mover v verdict None l none sound h idle = h
 theirs_moved c s mover v verdict (Some u) l none sound h idle =
     let within : u.confirmed ≤ length (script c.game) = idle_plan c.game s u (sound.under_way none) idle in
@@ -155,10 +157,10 @@ theirs_moved c s mover v verdict (Some u) l none sound h idle =
       uncut = h.uncut;
     })
 
-fair_ended : (setup : SetupRecord) (game : GameRecord) (sides : Sides) (most : ℕ) → Fair most sides (verdict_after setup game)
+fair_ended : (setup : SetupRecord) (game : GameRecord) (sides : Sides) (most : ℕ) → IsFair most sides (verdict_after setup game)
 fair_ended setup game sides most = go (ends_with_passes game.moves) (length game.moves == setup.max_moves)
   where
-    go : (a b : Bool) → Fair most sides (cond a (Some (Score (score game))) (cond b (Some Limit) None))
+    go : (a b : Bool) → IsFair most sides (cond a (Some (Score (score game))) (cond b (Some Limit) None))
     go true b = tt
     go false true = tt
     go false false = tt
@@ -166,30 +168,30 @@ fair_ended setup game sides most = go (ends_with_passes game.moves) (length game
 -- ---- a whole reply that the side owes
 
 -- what hearing it leaves
-abbrev Replied : Controller → Colour → Incarnation → Bare → Bare → Outcome → Type 0
-Replied c s u l lo o = (fault_of o ≡ None) × Joint (after_outcome c s (heard_reply u) o) s l lo
+abbrev Replied : Controller → Colour → Incarnation → BareLane → BareLane → Outcome → Type 0
+Replied c s u l lo o = (fault_of o ≡ None) × AreJoined (after_outcome c s (heard_reply u) o) s l lo
 
 -- what is left of a side once its oldest order is answered
-record Left (game : GameRecord) (n : ℕ) (us : List Order) (e : Option Body) (te tc : List ℕ) : Type 0 where
+record Left (game : GameRecord) (n : ℕ) (us : List Order) (e : Option EngineBody) (te tc : List ℕ) : Type 0 where
   few : length us ≤ most_unanswered
   more : List Reply
   waiting : List Order
   ahead : GameRecord
   owes : Owes (replayed game n) us more waiting ahead
-  fit : AllByRecursion IsFit waiting
-  may : AllMay ahead waiting
+  fit : AllByRecursion CanBeWritten waiting
+  may : AllMayBeSent ahead waiting
   cut : List ℕ
-  arriving : tc ++ cut ≡ replies_text more
-  runs : Running e te ahead waiting
-  uncut : Uncut e cut
+  arriving : tc ++ cut ≡ all_reply_bytes more
+  runs : WillReadWhereRunning e te ahead waiting
+  uncut : CutByCrash e cut
 
-left_live : (game : GameRecord) (n sent : ℕ) (us : List Order) (e : Option Body) (te tc : List ℕ) → Left game n us e te tc
-    → Live game (record { confirmed = n; sent = sent; unanswered = us; reader = [] }) (record { engine = e; to_engine = te; to_controller = tc })
+left_live : (game : GameRecord) (n sent : ℕ) (us : List Order) (e : Option EngineBody) (te tc : List ℕ) → Left game n us e te tc
+    → IsJoinedInPlay game (record { confirmed = n; sent = sent; unanswered = us; reader = [] }) (record { engine = e; to_engine = te; to_controller = tc })
 left_live game n sent us e te tc h = next_live game n sent us h.more h.waiting h.ahead e te tc h.cut h.few h.owes h.fit h.may h.arriving h.runs h.uncut
 
-module _ (c : Controller) (s : Colour) (u : Incarnation) (e : Option Body) (te tc : List ℕ) (lo : Bare) (sound : IsSound c) (none : c.verdict ≡ None)
-    (up : (at c.sides s).up ≡ Some u) (idle : IsIdle (at c.sides (other s)).up) (theirs : SideHolds c.game None (at c.sides (other s)).up lo) where
-  abbrev here : Bare
+module _ (c : Controller) (s : Colour) (u : Incarnation) (e : Option EngineBody) (te tc : List ℕ) (lo : BareLane) (sound : IsSound c) (none : c.verdict ≡ None)
+    (up : (at c.sides s).up ≡ Some u) (idle : IsIdle (at c.sides (other s)).up) (theirs : IsJoinedSide c.game None (at c.sides (other s)).up lo) where
+  abbrev here : BareLane
   here = record { engine = e; to_engine = te; to_controller = tc }
 
   -- the outcome's controller is sound
@@ -200,7 +202,7 @@ module _ (c : Controller) (s : Colour) (u : Incarnation) (e : Option Body) (te t
       → Replied c s u here lo (outcome c.game s (oldest u.unanswered) r)
   confirms r is left =
       let next : Incarnation = confirmed (heard_reply u) in
-      let mine : Live c.game next here = left_live c.game (u.confirmed + 1) u.sent (drop 1 u.unanswered) e te tc left in
+      let mine : IsJoinedInPlay c.game next here = left_live c.game (u.confirmed + 1) u.sent (drop 1 u.unanswered) e te tc left in
       let done : Replied c s u here lo Confirms = (
         refl,
         joint_put c s (with_engine next (at c.sides s)) c.game c.verdict here lo (outcome_sound r Confirms is) (rw none tt)
@@ -213,7 +215,7 @@ module _ (c : Controller) (s : Colour) (u : Incarnation) (e : Option Body) (te t
       → Replied c s u here lo (outcome c.game s (oldest u.unanswered) r)
   resigns r is left =
       let next : Incarnation = answered (heard_reply u) in
-      let mine : Live c.game next here = left_live c.game u.confirmed u.sent (drop 1 u.unanswered) e te tc left in
+      let mine : IsJoinedInPlay c.game next here = left_live c.game u.confirmed u.sent (drop 1 u.unanswered) e te tc left in
       let done : Replied c s u here lo Resigns = (
         refl,
         joint_put c s (with_engine next (at c.sides s)) c.game (Some (Resign s)) here lo (outcome_sound r Resigns is) tt
@@ -228,7 +230,7 @@ module _ (c : Controller) (s : Colour) (u : Incarnation) (e : Option Body) (te t
       let game : GameRecord = with_move c.game s v in
       let verdict : Option Verdict = verdict_after c.setup game in
       let next : Incarnation = confirmed (heard_reply u) in
-      let mine : Live game next here = left_live game (u.confirmed + 1) u.sent (drop 1 u.unanswered) e te tc left in
+      let mine : IsJoinedInPlay game next here = left_live game (u.confirmed + 1) u.sent (drop 1 u.unanswered) e te tc left in
       let done : Replied c s u here lo (Moves v) = (
         refl,
         joint_put c s (with_engine next (at c.sides s)) game verdict here lo (outcome_sound r (Moves v) is)
@@ -242,7 +244,7 @@ module _ (c : Controller) (s : Colour) (u : Incarnation) (e : Option Body) (te t
   -- by the order that the reply answers
   replied_keeps : (r : Reply) (more : List Reply) (waiting : List Order) (ahead : GameRecord) (cut : List ℕ)
       → length u.unanswered ≤ most_unanswered → Owes (replayed c.game u.confirmed) u.unanswered (r ∷ more) waiting ahead
-      → AllByRecursion IsFit waiting → AllMay ahead waiting → tc ++ cut ≡ replies_text more → Running e te ahead waiting → Uncut e cut
+      → AllByRecursion CanBeWritten waiting → AllMayBeSent ahead waiting → tc ++ cut ≡ all_reply_bytes more → WillReadWhereRunning e te ahead waiting → CutByCrash e cut
       → Replied c s u here lo (outcome c.game s (oldest u.unanswered) r)
   replied_keeps r more waiting ahead cut few owes fit may arriving runs uncut = by_orders u.unanswered refl few owes ((my_engine c s u sound up).under_way none).plan
     where
@@ -317,9 +319,9 @@ drop_all [] = refl
 drop_all (x ∷ xs) = drop_all xs
 
 -- bytes that are no whole reply yet
-part_keeps : (game : GameRecord) (u : Incarnation) (e : Option Body) (te x y kept : List ℕ)
-    → (h : Live game u (record { engine = e; to_engine = te; to_controller = x ++ y })) → TellsNothing (h.begun ++ x) → MayKeep kept (u.reader ++ x)
-    → Live game (record u { reader = kept }) (record { engine = e; to_engine = te; to_controller = y })
+part_keeps : (game : GameRecord) (u : Incarnation) (e : Option EngineBody) (te x y kept : List ℕ)
+    → (h : IsJoinedInPlay game u (record { engine = e; to_engine = te; to_controller = x ++ y })) → TellsNothing (h.begun ++ x) → MayKeep kept (u.reader ++ x)
+    → IsJoinedInPlay game (record u { reader = kept }) (record { engine = e; to_engine = te; to_controller = y })
 part_keeps game u e te x y kept h quiet keeps = record {
   few = h.few;
   replies = h.replies;
@@ -337,8 +339,8 @@ part_keeps game u e te x y kept h quiet keeps = record {
   uncut = h.uncut;
 }
 
-heard_settled : (game : GameRecord) (u : Incarnation) (e : Option Body) (te x y : List ℕ) (used : ℕ) → used ≡ length x
-    → Exchanged game u (record { engine = e; to_engine = te; to_controller = x ++ y }) → Exchanged game u (record { engine = e; to_engine = te; to_controller = drop used x ++ y })
+heard_settled : (game : GameRecord) (u : Incarnation) (e : Option EngineBody) (te x y : List ℕ) (used : ℕ) → used ≡ length x
+    → IsJoinedAtEnd game u (record { engine = e; to_engine = te; to_controller = x ++ y }) → IsJoinedAtEnd game u (record { engine = e; to_engine = te; to_controller = drop used x ++ y })
 heard_settled game u e te x y used is h = record {
   few = h.few;
   replies = h.replies;
@@ -352,12 +354,12 @@ heard_settled game u e te x y used is h = record {
 }
 
 -- one call on a side that is up, before any verdict
-module _ (c : Controller) (s : Colour) (u : Incarnation) (e : Option Body) (te : List ℕ) (b : ℕ) (x y : List ℕ) (lo : Bare) (sound : IsSound c) (none : c.verdict ≡ None)
-    (up : (at c.sides s).up ≡ Some u) (mine : Live c.game u (record { engine = e; to_engine = te; to_controller = (b ∷ x) ++ y }))
-    (theirs : SideHolds c.game None (at c.sides (other s)).up lo) where
+module _ (c : Controller) (s : Colour) (u : Incarnation) (e : Option EngineBody) (te : List ℕ) (b : ℕ) (x y : List ℕ) (lo : BareLane) (sound : IsSound c) (none : c.verdict ≡ None)
+    (up : (at c.sides s).up ≡ Some u) (mine : IsJoinedInPlay c.game u (record { engine = e; to_engine = te; to_controller = (b ∷ x) ++ y }))
+    (theirs : IsJoinedSide c.game None (at c.sides (other s)).up lo) where
   -- what is left to show
   abbrev Keeps : ℕ → Option SideFault → Controller → Type 0
-  Keeps used fault c2 = (fault ≡ None) × Joint c2 s (record { engine = e; to_engine = te; to_controller = drop used (b ∷ x) ++ y }) lo
+  Keeps used fault c2 = (fault ≡ None) × AreJoined c2 s (record { engine = e; to_engine = te; to_controller = drop used (b ∷ x) ++ y }) lo
 
   -- what the bytes heard so far tell, by what the reader's text tells
   as_begun : (place : ℕ) (answer : Result Reply ReplyFault) → IsFirst (u.reader ++ b ∷ x) place answer → IsFirst (mine.begun ++ b ∷ x) place answer
@@ -375,13 +377,13 @@ module _ (c : Controller) (s : Colour) (u : Incarnation) (e : Option Body) (te :
       let next : Incarnation = record u { reader = kept } in
       let longer : MayKeep kept (mine.begun ++ b ∷ x) = kept_longer kept u.reader mine.begun (b ∷ x) keeps mine.kept in
       let next_sound : IsSound (with_side_up c s next) = quiet_sound c s u (mine.begun ++ b ∷ x) kept sound none up quiet longer in
-      let live : Live c.game next (record { engine = e; to_engine = te; to_controller = y }) = part_keeps c.game u e te (b ∷ x) y kept mine quiet keeps in
-      let done : Joint (with_side_up c s next) s (record { engine = e; to_engine = te; to_controller = y }) lo =
+      let live : IsJoinedInPlay c.game next (record { engine = e; to_engine = te; to_controller = y }) = part_keeps c.game u e te (b ∷ x) y kept mine quiet keeps in
+      let done : AreJoined (with_side_up c s next) s (record { engine = e; to_engine = te; to_controller = y }) lo =
       joint_put c s (with_engine next (at c.sides s)) c.game c.verdict (record { engine = e; to_engine = te; to_controller = y }) lo next_sound (rw none tt)
       (live_any c.game c.verdict next (record { engine = e; to_engine = te; to_controller = y }) live) (judged_any c.game c.verdict (at c.sides (other s)).up lo theirs)
       in
       let all : y ≡ drop (length (b ∷ x)) (b ∷ x) ++ y = rw (drop_all (b ∷ x)) refl in
-      (refl, subst (λ (t : List ℕ). Joint (with_side_up c s next) s (record { engine = e; to_engine = te; to_controller = t }) lo) all done)
+      (refl, subst (λ (t : List ℕ). AreJoined (with_side_up c s next) s (record { engine = e; to_engine = te; to_controller = t }) lo) all done)
 
   -- a reply ends within the bytes
   whole_keeps : (used : ℕ) → (k : Brings mine.begun (b ∷ x) y mine.cut mine.replies) → used ≡ k.used
@@ -404,45 +406,45 @@ module _ (c : Controller) (s : Colour) (u : Incarnation) (e : Option Body) (te :
       by_bytes used fault c2 (inl quiet) (HearsUp.quiet {kept = kept} tells keeps) = quiet_keeps kept quiet keeps
       by_bytes used fault c2 (inl quiet) (HearsUp.whole {value = value} first) = absurd (quiet_or_first _ _ _ quiet (as_begun (length u.reader + used) (Ok value) first))
       by_bytes used fault c2 (inl quiet) (HearsUp.broken {shown = shown} first) = absurd (quiet_or_first _ _ _ quiet (as_begun (length u.reader + used) (Err shown) first))
-      by_bytes used fault c2 (inr k) (HearsUp.quiet {kept = kept} tells keeps) = absurd (quiet_or_first _ _ _ tells (as_reader (length (reply_text k.reply)) (Ok k.reply) k.first))
+      by_bytes used fault c2 (inr k) (HearsUp.quiet {kept = kept} tells keeps) = absurd (quiet_or_first _ _ _ tells (as_reader (length (reply_bytes k.reply)) (Ok k.reply) k.first))
       by_bytes used fault c2 (inr k) (HearsUp.broken {shown = shown} first) =
-          absurd (let same = one_first (mine.begun ++ b ∷ x) (length u.reader + used) (length (reply_text k.reply)) (Err shown) (Ok k.reply) (as_begun (length u.reader + used) (Err shown) first) k.first in let bad : Err shown ≡ Ok k.reply = same.1 in cc bad)
+          absurd (let same = one_first (mine.begun ++ b ∷ x) (length u.reader + used) (length (reply_bytes k.reply)) (Err shown) (Ok k.reply) (as_begun (length u.reader + used) (Err shown) first) k.first in let bad : Err shown ≡ Ok k.reply = same.1 in cc bad)
       by_bytes used fault c2 (inr k) (HearsUp.whole {value = value} first) =
-          let same = one_first (mine.begun ++ b ∷ x) (length u.reader + used) (length (reply_text k.reply)) (Ok value) (Ok k.reply) (as_begun (length u.reader + used) (Ok value) first) k.first in
+          let same = one_first (mine.begun ++ b ∷ x) (length u.reader + used) (length (reply_bytes k.reply)) (Ok value) (Ok k.reply) (as_begun (length u.reader + used) (Ok value) first) k.first in
           let value_is : value ≡ k.reply = let both : Ok value ≡ Ok k.reply = same.1 in cc both in
           let used_is : used ≡ k.used = omega (arith, same.0, k.place, mine.kept.0) in
           subst (λ (r : Reply). Keeps used (fault_of (outcome c.game s (oldest u.unanswered) r)) (after_outcome c s (heard_reply u) (outcome c.game s (oldest u.unanswered) r))) (sym value_is)
           (whole_keeps used k used_is)
 
 -- one call that hears bytes: no fault comes, and what joins them is kept, with the used bytes gone
-pub heard_keeps : (c : Controller) (s : Colour) (e : Option Body) (te : List ℕ) (b : ℕ) (x y : List ℕ) (lo : Bare) (used : ℕ) (fault : Option SideFault) (c2 : Controller)
-    → Joint c s (record { engine = e; to_engine = te; to_controller = (b ∷ x) ++ y }) lo → Hears c s (b ∷ x) used fault c2
-    → (fault ≡ None) × Joint c2 s (record { engine = e; to_engine = te; to_controller = drop used (b ∷ x) ++ y }) lo
+pub heard_keeps : (c : Controller) (s : Colour) (e : Option EngineBody) (te : List ℕ) (b : ℕ) (x y : List ℕ) (lo : BareLane) (used : ℕ) (fault : Option SideFault) (c2 : Controller)
+    → AreJoined c s (record { engine = e; to_engine = te; to_controller = (b ∷ x) ++ y }) lo → Hears c s (b ∷ x) used fault c2
+    → (fault ≡ None) × AreJoined c2 s (record { engine = e; to_engine = te; to_controller = drop used (b ∷ x) ++ y }) lo
 heard_keeps c s e te b x y lo used fault c2 j h = by_state c.verdict (at c.sides s).up refl refl j.fair j.mine j.theirs h
   where
-    l : Bare
+    l : BareLane
     l = record { engine = e; to_engine = te; to_controller = (b ∷ x) ++ y }
 
-    by_state : (v : Option Verdict) (up : Option Incarnation) → c.verdict ≡ v → (at c.sides s).up ≡ up → Fair c.setup.max_restarts c.sides v
-        → SideHolds c.game v up (record { engine = e; to_engine = te; to_controller = (b ∷ x) ++ y }) → SideHolds c.game v (at c.sides (other s)).up lo
+    by_state : (v : Option Verdict) (up : Option Incarnation) → c.verdict ≡ v → (at c.sides s).up ≡ up → IsFair c.setup.max_restarts c.sides v
+        → IsJoinedSide c.game v up (record { engine = e; to_engine = te; to_controller = (b ∷ x) ++ y }) → IsJoinedSide c.game v (at c.sides (other s)).up lo
         → HearsWhere MayKeep c s (b ∷ x) v up used fault c2
-        → (fault ≡ None) × Joint c2 s (record { engine = e; to_engine = te; to_controller = drop used (b ∷ x) ++ y }) lo
-    by_state v None v_is up_is fair mine theirs h = absurd (let bad : (b ∷ x) ++ y ≡ [] = ap (λ (k : Bare). k.to_controller) (still_of v mine) in cc bad)
+        → (fault ≡ None) × AreJoined c2 s (record { engine = e; to_engine = te; to_controller = drop used (b ∷ x) ++ y }) lo
+    by_state v None v_is up_is fair mine theirs h = absurd (let bad : (b ∷ x) ++ y ≡ [] = ap (λ (k : BareLane). k.to_controller) (still_of v mine) in cc bad)
       where
-        still_of : (w : Option Verdict) → SideHolds c.game w None (record { engine = e; to_engine = te; to_controller = (b ∷ x) ++ y })
-            → record { engine = e; to_engine = te; to_controller = (b ∷ x) ++ y } ≡ bare_still
+        still_of : (w : Option Verdict) → IsJoinedSide c.game w None (record { engine = e; to_engine = te; to_controller = (b ∷ x) ++ y })
+            → record { engine = e; to_engine = te; to_controller = (b ∷ x) ++ y } ≡ bare_empty
         still_of None m = m
         still_of (Some w) m = m
     by_state (Some v) (Some u) v_is up_is fair mine theirs h =
-        let J : Controller → Type 0 = λ d. Joint d s (record { engine = e; to_engine = te; to_controller = drop used (b ∷ x) ++ y }) lo in
-        let settled : Exchanged c.game u (record { engine = e; to_engine = te; to_controller = drop used (b ∷ x) ++ y }) = heard_settled c.game u e te (b ∷ x) y used h.all mine in
+        let J : Controller → Type 0 = λ d. AreJoined d s (record { engine = e; to_engine = te; to_controller = drop used (b ∷ x) ++ y }) lo in
+        let settled : IsJoinedAtEnd c.game u (record { engine = e; to_engine = te; to_controller = drop used (b ∷ x) ++ y }) = heard_settled c.game u e te (b ∷ x) y used h.all mine in
         (h.no_fault, subst J (sym h.same) (record { sound = j.sound; fair = j.fair; mine = rw (v_is, up_is) settled; theirs = j.theirs }))
     by_state None (Some u) v_is up_is fair mine theirs h = up_keeps c s u e te b x y lo j.sound v_is up_is mine theirs used fault c2 h
 
 -- all bytes of a delivery
-pub hears_keep : (s : Colour) (e : Option Body) (te y : List ℕ) (lo : Bare) (c c2 : Controller) (x : List ℕ) (fault : Option SideFault) → HearsAll s c x fault c2
-    → Joint c s (record { engine = e; to_engine = te; to_controller = x ++ y }) lo
-    → (fault ≡ None) × Joint c2 s (record { engine = e; to_engine = te; to_controller = y }) lo
+pub hears_keep : (s : Colour) (e : Option EngineBody) (te y : List ℕ) (lo : BareLane) (c c2 : Controller) (x : List ℕ) (fault : Option SideFault) → HearsAll s c x fault c2
+    → AreJoined c s (record { engine = e; to_engine = te; to_controller = x ++ y }) lo
+    → (fault ≡ None) × AreJoined c2 s (record { engine = e; to_engine = te; to_controller = y }) lo
 hears_keep s e te y lo c c2 x fault HearsAllBy.used_up j = (refl, j)
 hears_keep s e te y lo c c2 [] fault (HearsAllBy.faulty used some h) j = absurd (omega (arith, some))
 hears_keep s e te y lo c c2 [] fault (HearsAllBy.goes_on used some h more) j = absurd (omega (arith, some))

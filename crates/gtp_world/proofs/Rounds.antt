@@ -39,18 +39,19 @@ use Rattle.gtp_match.specs.ReplyTable.{outcome, after_outcome, fault_of, confirm
 use Rattle.gtp_match.specs.Script.{script}
 use Rattle.gtp_match.proofs.LimitLemmas.{sent_line}
 use Rattle.gtp_match.specs.Sides.{at, put, with_engine, handed as handed_command, heard_reply, confirmed}
-use Rattle.gtp_world.specs.Lane.{Lane, handed, Reads, FedWhere, Fed}
-use Rattle.gtp_world.specs.World.{next_bytes, handed_next, Sends, lane_of, HearsList, HeardWhere, Heard}
-use Rattle.gtp_world.proofs.OrderLines.{IsFit, order_text, short_command}
-use Rattle.gtp_world.proofs.OrderAnswers.{GoesWell, MayBeSent, Answered, answered_is_reply, made_reply, reply_text, success_text, succeeds_with, well_answer, may_be_written}
-use Rattle.gtp_world.proofs.Replay.{GoesWellOn, replayed, script_well, well_at}
-use Rattle.gtp_world.proofs.Exchange.{Owes, replies_text}
-use Rattle.gtp_world.proofs.Invariant.{Body, body, Bare, bare, Live, SideHolds, Joint}
+use Rattle.gtp_world.specs.Lane.{Lane, written_lane, EngineReads, ReadsWhereRunning, LaneReads}
+use Rattle.gtp_world.specs.World.{next_bytes, lane_with_next, Sends, lane_where_up, HearsFront, HearsWhereUp, SideHears}
+use Rattle.gtp_world.proofs.OrderLines.{short_command}
+use Rattle.gtp_world.proofs.OrderAnswers.{answered_is_reply, succeeds_with, well_answer, may_be_written}
+use Rattle.gtp_world.proofs.Replay.{GoesWellOn, script_well, well_at}
 use Rattle.gtp_world.proofs.Agreement.{reply_length}
 use Rattle.gtp_world.proofs.Sides.{quiet_or_first}
 use Rattle.gtp_world.proofs.Heard.{scripted_outcome}
 use Rattle.gtp_world.proofs.Happenings.{send_keeps, fed_keeps}
 use Rattle.gtp_world.proofs.Settle.{idle_lists_empty, no_orders_left, no_replies_left}
+use Rattle.gtp_world.specs.Exchange.{CanBeWritten, sent_bytes, Answered, reply_with_id, reply_bytes, replayed, Owes, all_reply_bytes}
+use Rattle.gtp_world.specs.CommandAnswers.{GoesWell, MayBeSent, success_text}
+use Rattle.gtp_world.specs.Joined.{EngineBody, body, BareLane, bare, IsJoinedInPlay, IsJoinedSide, AreJoined}
 
 -- ---- texts of script commands are short
 
@@ -67,10 +68,10 @@ success_short g (Genmove c) h = absurd h
 success_short g Quit h = absurd h
 
 -- the reply to a script command has at most 50 bytes
-script_reply_short : (g : GameRecord) (o : Order) (r : Reply) (g2 : GameRecord) → GoesWell g o.command → Answered g o r g2 → length (reply_text r) ≤ 50
+script_reply_short : (g : GameRecord) (o : Order) (r : Reply) (g2 : GameRecord) → GoesWell g o.command → Answered g o r g2 → length (reply_bytes r) ≤ 50
 script_reply_short g o r g2 well a =
-    let reply : r ≡ made_reply o.id (succeeds_with g o.command) = a.reply ∙ ap (made_reply o.id) (well_answer g o.id o.command a.choice well) in
-    subst (λ (x : Reply). length (reply_text x) ≤ 50) (sym reply)
+    let reply : r ≡ reply_with_id o.id (succeeds_with g o.command) = a.reply ∙ ap (reply_with_id o.id) (well_answer g o.id o.command a.choice well) in
+    subst (λ (x : Reply). length (reply_bytes x) ≤ 50) (sym reply)
     (omega (arith, reply_length true o.id (success_text g o.command) a.fits, success_short g o.command well))
 
 -- ---- one command is unanswered, all its bytes were read, and the side is heard
@@ -80,9 +81,9 @@ record OneReply (game : GameRecord) (u : Incarnation) (o : Order) (begun tc : Li
   reply : Reply
   game_after : GameRecord
   answered : Answered (replayed game u.confirmed) o reply game_after
-  text : begun ++ tc ≡ reply_text reply
+  text : begun ++ tc ≡ reply_bytes reply
 
-one_reply : (game : GameRecord) (u : Incarnation) (o : Order) (b : Body) (tc : List ℕ) (h : Live game u (record { engine = Some b; to_engine = []; to_controller = tc })) → u.unanswered ≡ o ∷ []
+one_reply : (game : GameRecord) (u : Incarnation) (o : Order) (b : EngineBody) (tc : List ℕ) (h : IsJoinedInPlay game u (record { engine = Some b; to_engine = []; to_controller = tc })) → u.unanswered ≡ o ∷ []
     → OneReply game u o h.begun tc
 one_reply game u o b tc h one =
     let waiting : h.waiting ≡ [] = no_orders_left h.waiting h.runs.begun h.fit h.runs.begun_open (sym (append-nil h.runs.begun) ∙ h.runs.arriving) in
@@ -90,9 +91,9 @@ one_reply game u o b tc h one =
     let G : List Order → Type 0 = λ ws. Owes (replayed game u.confirmed) (o ∷ []) h.replies ws h.ahead in
     by_replies h.replies (subst G waiting (subst F one h.owes)) (sym (append-nil (h.begun ++ tc)) ∙ ap (λ (cut : List ℕ). (h.begun ++ tc) ++ cut) (sym h.uncut) ∙ h.arriving)
   where
-    by_replies : (rs : List Reply) → Owes (replayed game u.confirmed) (o ∷ []) rs [] h.ahead → h.begun ++ tc ≡ replies_text rs → OneReply game u o h.begun tc
+    by_replies : (rs : List Reply) → Owes (replayed game u.confirmed) (o ∷ []) rs [] h.ahead → h.begun ++ tc ≡ all_reply_bytes rs → OneReply game u o h.begun tc
     by_replies [] owes text = absurd (let bad : [] ≡ o ∷ [] = owes.0 in cc bad)
-    by_replies (r ∷ []) owes text = record { reply = r; game_after = owes.0; answered = owes.1; text = text ∙ append-nil (reply_text r) }
+    by_replies (r ∷ []) owes text = record { reply = r; game_after = owes.0; answered = owes.1; text = text ∙ append-nil (reply_bytes r) }
     by_replies (r ∷ q ∷ rs) owes text = absurd owes.2
 
 drop_all : {A : Type 0} (xs : List A) (n : ℕ) → length xs ≤ n → drop n xs ≡ []
@@ -112,9 +113,9 @@ nothing_heard s c c2 bytes fault e HearsAllBy.used_up = refl
 nothing_heard s c c2 bytes fault e (HearsAllBy.faulty used some h) = absurd (omega (arith, some, ap length e))
 nothing_heard s c c2 bytes fault e (HearsAllBy.goes_on used some h more) = absurd (omega (arith, some, ap length e))
 
-module _ (c : Controller) (s : Colour) (u : Incarnation) (o : Order) (b : Body) (tc : List ℕ) (lo : Bare) (j : Joint c s (record { engine = Some b; to_engine = []; to_controller = tc }) lo)
+module _ (c : Controller) (s : Colour) (u : Incarnation) (o : Order) (b : EngineBody) (tc : List ℕ) (lo : BareLane) (j : AreJoined c s (record { engine = Some b; to_engine = []; to_controller = tc }) lo)
     (none : c.verdict ≡ None) (up : (at c.sides s).up ≡ Some u) (one : u.unanswered ≡ o ∷ []) (scripted : slice_get (script c.game) u.confirmed ≡ Some o.command) where
-  abbrev mine : Live c.game u (record { engine = Some b; to_engine = []; to_controller = tc })
+  abbrev mine : IsJoinedInPlay c.game u (record { engine = Some b; to_engine = []; to_controller = tc })
   mine = rw (none, up) at j.mine
 
   abbrev well : GoesWellOn c.game.size (replayed c.game u.confirmed) o.command
@@ -123,7 +124,7 @@ module _ (c : Controller) (s : Colour) (u : Incarnation) (o : Order) (b : Body) 
   abbrev owed : OneReply c.game u o mine.begun tc
   owed = one_reply c.game u o b tc mine one
 
-  is_reply : IsReply (reply_text owed.reply) owed.reply
+  is_reply : IsReply (reply_bytes owed.reply) owed.reply
   is_reply = answered_is_reply (replayed c.game u.confirmed) o owed.reply owed.game_after owed.answered
 
   -- the reply fits into a round's bytes
@@ -136,10 +137,10 @@ module _ (c : Controller) (s : Colour) (u : Incarnation) (o : Order) (b : Body) 
       ap (λ (os : List Order). outcome c.game s (oldest os) owed.reply) one
       ∙ scripted_outcome c.game s o owed.reply (replayed c.game u.confirmed) owed.game_after owed.answered well
 
-  first : IsFirst (u.reader ++ tc) (length (reply_text owed.reply)) (Ok owed.reply)
+  first : IsFirst (u.reader ++ tc) (length (reply_bytes owed.reply)) (Ok owed.reply)
   first =
-      (mine.kept.1 tc (length (reply_text owed.reply)) (Ok owed.reply)).1
-      (subst (λ (t : List ℕ). IsFirst t (length (reply_text owed.reply)) (Ok owed.reply)) (append-nil (reply_text owed.reply) ∙ sym owed.text) (reply_is_first (reply_text owed.reply) [] owed.reply is_reply))
+      (mine.kept.1 tc (length (reply_bytes owed.reply)) (Ok owed.reply)).1
+      (subst (λ (t : List ℕ). IsFirst t (length (reply_bytes owed.reply)) (Ok owed.reply)) (append-nil (reply_bytes owed.reply) ∙ sym owed.text) (reply_is_first (reply_bytes owed.reply) [] owed.reply is_reply))
 
   -- a call uses all bytes, and confirms the command
   abbrev Confirmed : ℕ → Option SideFault → Controller → Type 0
@@ -147,17 +148,16 @@ module _ (c : Controller) (s : Colour) (u : Incarnation) (o : Order) (b : Body) 
 
   up_confirms : (used : ℕ) (fault : Option SideFault) (c2 : Controller) → HearsUp MayKeep c s u tc used fault c2 → Confirmed used fault c2
   up_confirms used fault c2 (HearsUp.whole {value = value} told) =
-      let same = one_first (u.reader ++ tc) (length u.reader + used) (length (reply_text owed.reply)) (Ok value) (Ok owed.reply) told first in
+      let same = one_first (u.reader ++ tc) (length u.reader + used) (length (reply_bytes owed.reply)) (Ok value) (Ok owed.reply) told first in
       let value_is : value ≡ owed.reply = let both : Ok value ≡ Ok owed.reply = same.1 in cc both in
-      let outcome_is : outcome c.game s (oldest u.unanswered) value ≡ Confirms = ap (outcome c.game s (oldest u.unanswered)) value_is ∙ confirms in
-      (
+      let outcome_is : outcome c.game s (oldest u.unanswered) value ≡ Confirms = ap (outcome c.game s (oldest u.unanswered)) value_is ∙ confirms in (
         omega (arith, same.0, mine.kept.0, ap length owed.text, length-append mine.begun tc),
         ap fault_of outcome_is,
         ap (after_outcome c s (heard_reply u)) outcome_is,
       )
   up_confirms used fault c2 (HearsUp.broken {shown = shown} told) =
-      absurd (let same = one_first (u.reader ++ tc) (length u.reader + used) (length (reply_text owed.reply)) (Err shown) (Ok owed.reply) told first in let bad : Err shown ≡ Ok owed.reply = same.1 in cc bad)
-  up_confirms used fault c2 (HearsUp.quiet quiet keeps) = absurd (quiet_or_first (u.reader ++ tc) (length (reply_text owed.reply)) (Ok owed.reply) quiet first)
+      absurd (let same = one_first (u.reader ++ tc) (length u.reader + used) (length (reply_bytes owed.reply)) (Err shown) (Ok owed.reply) told first in let bad : Err shown ≡ Ok owed.reply = same.1 in cc bad)
+  up_confirms used fault c2 (HearsUp.quiet quiet keeps) = absurd (quiet_or_first (u.reader ++ tc) (length (reply_bytes owed.reply)) (Ok owed.reply) quiet first)
 
   one_confirms : (used : ℕ) (fault : Option SideFault) (c2 : Controller) → Hears c s tc used fault c2 → Confirmed used fault c2
   one_confirms used fault c2 h =
@@ -170,7 +170,7 @@ module _ (c : Controller) (s : Colour) (u : Incarnation) (o : Order) (b : Body) 
     where
       by_bytes : (bytes : List ℕ) → tc ≡ bytes → (fault : Option SideFault) (c2 : Controller) → HearsAll s c bytes fault c2 → c2 ≡ confirmed_by c s (heard_reply u)
       by_bytes bytes is fault c2 HearsAllBy.used_up =
-          absurd (let bad : owed.reply ∷ [] ≡ [] = no_replies_left (owed.reply ∷ []) mine.begun (is_reply, tt) mine.begun_quiet (sym (append-nil mine.begun) ∙ ap (λ (t : List ℕ). mine.begun ++ t) (sym is) ∙ owed.text ∙ sym (append-nil (reply_text owed.reply))) in cc bad)
+          absurd (let bad : owed.reply ∷ [] ≡ [] = no_replies_left (owed.reply ∷ []) mine.begun (is_reply, tt) mine.begun_quiet (sym (append-nil mine.begun) ∙ ap (λ (t : List ℕ). mine.begun ++ t) (sym is) ∙ owed.text ∙ sym (append-nil (reply_bytes owed.reply))) in cc bad)
       by_bytes bytes is fault c2 (HearsAllBy.faulty {shown = shown} used some h) =
           absurd (let bad : Some shown ≡ None = (one_confirms used (Some shown) c2 (subst (λ (t : List ℕ). Hears c s t used (Some shown) c2) (sym is) h)).1 in cc bad)
       by_bytes bytes is fault c2 (HearsAllBy.goes_on {mid = mid} used some h more) =
@@ -204,14 +204,14 @@ pub record RoundDone {P : Type 0} (s : Colour) (c c2 : Controller) (l2 : Lane P)
   pub others : (at c2.sides (other s)).up ≡ (at c.sides (other s)).up
 
 -- the lane of a side with nothing unanswered
-idle_lane : {P : Type 0} (c : Controller) (s : Colour) (l : Lane P) (lo : Bare) (u : Incarnation) (e : Engine P) → Joint c s (bare l) lo → c.verdict ≡ None → (at c.sides s).up ≡ Some u
+lane_is_idle : {P : Type 0} (c : Controller) (s : Colour) (l : Lane P) (lo : BareLane) (u : Incarnation) (e : Engine P) → AreJoined c s (bare l) lo → c.verdict ≡ None → (at c.sides s).up ≡ Some u
     → u.unanswered ≡ [] → l.engine ≡ Some e → l ≡ record { engine = Some e; to_engine = []; to_controller = [] }
-idle_lane c s l lo u e j none up idle runs =
-    let live : Live c.game u (bare l) = rw (none, up) at j.mine in
+lane_is_idle c s l lo u e j none up idle runs =
+    let live : IsJoinedInPlay c.game u (bare l) = rw (none, up) at j.mine in
     let empty = idle_lists_empty c.game u (bare l) live idle in
     λ i. record { engine = runs i; to_engine = empty.0 i; to_controller = empty.1 i }
 
-module _ {P : Type 0} (may : May P) (lawful : AllowsLawful may) (s : Colour) (c : Controller) (l : Lane P) (lo : Bare) (count : ℕ) (is : next c ≡ Send s) (j : Joint c s (bare l) lo)
+module _ {P : Type 0} (may : May P) (lawful : AllowsLawful may) (s : Colour) (c : Controller) (l : Lane P) (lo : BareLane) (count : ℕ) (is : next c ≡ Send s) (j : AreJoined c s (bare l) lo)
     (none : c.verdict ≡ None) (ready : IsReady (at c.sides s).up l count) (k : Command) (scripted : slice_get (script c.game) count ≡ Some k) where
   abbrev engine : Incarnation
   engine = ready.incarnation
@@ -248,13 +248,13 @@ module _ {P : Type 0} (may : May P) (lawful : AllowsLawful may) (s : Colour) (c 
   asked_up = ap (λ (x : SideState). x.up) (at_put s (with_engine asked (at c.sides s)) c.sides)
 
   -- the reply is heard
-  heard_done : (after : Engine P) (written : List ℕ) → Joint sender s (bare (fed_lane after written)) lo
-      → (c3 : Controller) (l3 : Lane P) → Heard s sender (fed_lane after written) 100 c3 l3 → RoundDone s c c3 l3 count
+  heard_done : (after : Engine P) (written : List ℕ) → AreJoined sender s (bare (fed_lane after written)) lo
+      → (c3 : Controller) (l3 : Lane P) → SideHears s sender (fed_lane after written) 100 c3 l3 → RoundDone s c c3 l3 count
   heard_done after written j2 c3 l3 heard =
       let one : asked.unanswered ≡ order ∷ [] = ap (λ (os : List Order). os ++ order ∷ []) ready.idle in
       let scripted_now : slice_get (script c.game) engine.confirmed ≡ Some order.command =
       ap (slice_get (script c.game)) ready.confirmed ∙ scripted ∙ ap (λ (x : Command). Some x) (sym command_is) in
-      let h : HearsList s sender (fed_lane after written) 100 c3 l3 = subst (λ (x : Option Incarnation). HeardWhere s sender x (fed_lane after written) 100 c3 l3) asked_up heard in
+      let h : HearsFront s sender (fed_lane after written) 100 c3 l3 = subst (λ (x : Option Incarnation). HearsWhereUp s sender x (fed_lane after written) 100 c3 l3) asked_up heard in
       let fits : length written ≤ 100 = reply_fits sender s asked order (body after) written lo j2 none asked_up one scripted_now in
       let hears : HearsAll s sender written h.fault c3 = subst (λ (t : List ℕ). HearsAll s sender t h.fault c3) (take_all written 100 fits) h.hears in
       let c3_is : c3 ≡ confirmed_by sender s (heard_reply asked) = all_confirm sender s asked order (body after) written lo j2 none asked_up one scripted_now h.fault c3 hears in
@@ -270,24 +270,24 @@ module _ {P : Type 0} (may : May P) (lawful : AllowsLawful may) (s : Colour) (c 
           idle = ap (drop 1) one;
           confirmed = ap (λ (n : ℕ). n + 1) ready.confirmed;
           running = after;
-          runs = ap (λ (x : Lane P). x.engine) h.lane ∙ ap (λ (x : Option Incarnation). (lane_of x (record (fed_lane after written) { to_controller = drop 100 written })).engine) last_up;
+          runs = ap (λ (x : Lane P). x.engine) h.lane ∙ ap (λ (x : Option Incarnation). (lane_where_up x (record (fed_lane after written) { to_controller = drop 100 written })).engine) last_up;
         };
         others =
             ap (λ (d : Controller). (at d.sides (other s)).up) c3_is
             ∙ ap (λ (x : SideState). x.up) (other_put s (with_engine last (at sender.sides s)) sender.sides ∙ other_put s (with_engine asked (at c.sides s)) c.sides);
       }
 
-  pub round_done : (c1 : Controller) (l1 : Lane P) → Sends s c l c1 l1 → (l2 : Lane P) → Fed may l1 100 l2 → (c3 : Controller) (l3 : Lane P) → Heard s c1 l2 100 c3 l3 → RoundDone s c c3 l3 count
+  pub round_done : (c1 : Controller) (l1 : Lane P) → Sends s c l c1 l1 → (l2 : Lane P) → LaneReads may l1 100 l2 → (c3 : Controller) (l3 : Lane P) → SideHears s c1 l2 100 c3 l3 → RoundDone s c c3 l3 count
   round_done c1 l1 sends l2 fed c3 l3 heard =
       let sender_is : c1 ≡ sender = sends.controller_is ∙ ap (λ (x : Option Incarnation). sent_to c s x) ready.is_up in
-      let before : l ≡ record { engine = Some ready.running; to_engine = []; to_controller = [] } = idle_lane c s l lo engine ready.running j none ready.is_up ready.idle ready.runs in
-      let sent_is : l1 ≡ sent_lane = sends.lane ∙ ap (λ (x : Option Incarnation). handed_next c s x l) ready.is_up ∙ ap (λ (x : Lane P). handed x (next_bytes c s engine)) before in
-      let r : Reads may sent_lane 100 ready.running l2 = subst (λ (x : Lane P). Fed may x 100 l2) sent_is fed in
+      let before : l ≡ record { engine = Some ready.running; to_engine = []; to_controller = [] } = lane_is_idle c s l lo engine ready.running j none ready.is_up ready.idle ready.runs in
+      let sent_is : l1 ≡ sent_lane = sends.lane ∙ ap (λ (x : Option Incarnation). lane_with_next c s x l) ready.is_up ∙ ap (λ (x : Lane P). written_lane x (next_bytes c s engine)) before in
+      let r : EngineReads may sent_lane 100 ready.running l2 = subst (λ (x : Lane P). LaneReads may x 100 l2) sent_is fed in
       let fed_is : l2 ≡ fed_lane r.after r.written =
       r.lane ∙ ap (λ (t : List ℕ). record { engine = Some r.after; to_engine = t; to_controller = r.written }) (drop_all (next_bytes c s engine) 100 bytes_short) in
-      let j2 : Joint c1 s (bare l2) lo = fed_keeps may lawful c1 s l1 l2 lo 100 fed (send_keeps c c1 s l l1 lo is sends j) in
-      let now : Joint sender s (bare (fed_lane r.after r.written)) lo =
-      subst (λ (d : Controller). Joint d s (bare (fed_lane r.after r.written)) lo) sender_is (subst (λ (x : Lane P). Joint c1 s (bare x) lo) fed_is j2) in
-      let hears : Heard s sender (fed_lane r.after r.written) 100 c3 l3 =
-      subst (λ (d : Controller). Heard s d (fed_lane r.after r.written) 100 c3 l3) sender_is (subst (λ (x : Lane P). Heard s c1 x 100 c3 l3) fed_is heard) in
+      let j2 : AreJoined c1 s (bare l2) lo = fed_keeps may lawful c1 s l1 l2 lo 100 fed (send_keeps c c1 s l l1 lo is sends j) in
+      let now : AreJoined sender s (bare (fed_lane r.after r.written)) lo =
+      subst (λ (d : Controller). AreJoined d s (bare (fed_lane r.after r.written)) lo) sender_is (subst (λ (x : Lane P). AreJoined c1 s (bare x) lo) fed_is j2) in
+      let hears : SideHears s sender (fed_lane r.after r.written) 100 c3 l3 =
+      subst (λ (d : Controller). SideHears s d (fed_lane r.after r.written) 100 c3 l3) sender_is (subst (λ (x : Lane P). SideHears s c1 x 100 c3 l3) fed_is heard) in
       heard_done r.after r.written now c3 l3 hears

@@ -15,7 +15,7 @@ use Rattle.gtp_match.specs.Sides.{at}
 use Rattle.gtp_match.specs.Sound.{IsIdle}
 use Rattle.gtp_world.specs.declared.events.Event.{Event}
 use Rattle.gtp_world.specs.declared.events.Event.TheVariants.{Act, ToEngine, ToController}
-use Rattle.gtp_world.specs.Lane.{Makes}
+use Rattle.gtp_world.specs.Lane.{SidePolicies}
 use Rattle.gtp_world.specs.World.{World, opening, Runs}
 
 -- ---- the events
@@ -65,10 +65,10 @@ pub record IsSettled {B W : Type 0} (old new : World B W) : Type 0 where
   pub in_step : (side : Colour) → in_step new.controller side ≡ true
   pub record_stays : new.controller.game ≡ old.controller.game
 
-module _ {B W : Type 0} (makes_black : Makes B) (makes_white : Makes W) where
+module _ {B W : Type 0} (policies_black : SidePolicies B) (policies_white : SidePolicies W) where
   -- from each such world that is reached from the opening, every run of these events leads to such a one
   abbrev pub Settles : Type 0
   Settles =
       (setup : SetupRecord) (events : List Event) (old new : World B W) → IsSetup setup
-      → Runs makes_black makes_white (opening setup) events old → MaySettle old
-      → Runs makes_black makes_white old (settle old.controller) new → IsSettled old new
+      → Runs policies_black policies_white (opening setup) events old → MaySettle old
+      → Runs policies_black policies_white old (settle old.controller) new → IsSettled old new

@@ -7,7 +7,7 @@ use gtp_session::random::Random;
 use std::process::Abort;
 
 /// How many lists are drawn.
-const LISTS: u32 = 6_000;
+const LISTS: u32 = 100;
 
 /// How many events a list has.
 const EVENTS: u32 = 200;
@@ -122,13 +122,11 @@ impl Seen {
             (Event::Act, Action::Send(_)) => &mut self.sends,
             (Event::BrokenWrite(_), Action::Send(_)) => &mut self.broken_writes,
             (Event::ToEngine(side, count), _)
-                if world.running(side).is_some() && count > 0 && !world.to_engine(side).is_empty() =>
-            {
-                &mut self.readings
-            }
+                if world.running(side).is_some()
+                    && count > 0
+                    && !world.to_engine(side).is_empty() => { &mut self.readings }
             (Event::ToController(side, count), _)
-                if up(side) && count > 0 && !world.to_controller(side).is_empty() =>
-            {
+                if up(side) && count > 0 && !world.to_controller(side).is_empty() => {
                 &mut self.hearings
             }
             (Event::Crash(side, _), _) if world.running(side).is_some() => &mut self.crashes,
@@ -191,8 +189,12 @@ fn engines_in_step_hold_the_controllers_game_after_every_event(rt: HostRuntime) 
     let mut seen = Seen::new();
     for _ in 0..LISTS {
         let setup = draws.setup(&rt);
-        let black = Seeded { seed: draws.below(1_000_000) };
-        let white = Seeded { seed: draws.below(1_000_000) };
+        let black = Seeded {
+            seed: draws.below(1_000_000),
+        };
+        let white = Seeded {
+            seed: draws.below(1_000_000),
+        };
         let mut world = World::new(setup, black, white);
         let mut events = Events::new();
         for _ in 0..EVENTS {
