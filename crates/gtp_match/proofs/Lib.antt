@@ -11,5 +11,5 @@ pub mod OpeningLemmas
 pub mod MoveTextLemmas
 pub mod CallsLemmas
 pub mod BoundLemmas
-pub mod AuditLemmas
+pub mod VerdictLemmas
 pub mod LimitLemmas
