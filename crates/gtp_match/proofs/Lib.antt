@@ -5,7 +5,10 @@ pub mod HearLemmas
 pub mod SaysLemmas
 pub mod ScriptLemmas
 pub mod SoundLemmas
+pub mod TurnLemmas
+pub mod OutcomeLemmas
 pub mod ReplySound
+pub mod HeardSound
 pub mod HeardLemmas
 pub mod OpeningLemmas
 pub mod MoveTextLemmas
