@@ -9,7 +9,7 @@ use Rattle.go_board.specs.Refusals.{IsTouched}
 use Rattle.gtp_wire.specs.Replies.{written_reply}
 use Rattle.gtp_wire.specs.declared.lines.Line.{Line}
 use Rattle.gtp_session.specs.Policy.{May, IsLawful}
-use Rattle.gtp_session.specs.declared.policy.Choice.{Choice}
+use Rattle.go_base.specs.declared.choices.Choice.{Choice}
 use Rattle.gtp_session.specs.Commands.{answer, asked, id_of, succeeds, answer_move, answer_handicap, written_vertices}
 use Rattle.gtp_session.specs.Engine.{State, WrittenReply, Step}
 
@@ -37,4 +37,4 @@ GenmovesAreLawful {P} may = (old new : State P) (line : Line) (reply : WrittenRe
     → Step may old line reply new → asked old.game line ≡ Some colour
     → ((new.game ≡ old.game) × (reply.text ≡ written_reply true (id_of line) (codes "resign")))
     ⊎ ((vertex : Vertex) × IsLegal old.game colour vertex × (new.game ≡ with_move old.game colour vertex)
-        × (reply.text ≡ written_reply true (id_of line) (written_vertex vertex)))
+    × (reply.text ≡ written_reply true (id_of line) (written_vertex vertex)))
