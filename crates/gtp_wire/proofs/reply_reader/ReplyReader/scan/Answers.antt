@@ -51,4 +51,4 @@ loop-i-preserved c =
     let room : length c.args.self.now + c.loop-i.i < reply_max =
     omega (arith, c.len-room.ensures.value, ap length c.self.view_is, c.if-i-room.false) in
     next_reaches c.args.self.now c.args.input.now c.loop-i.i c.loop-i.phase (To c.in-To.next) (omega arith) room
-          c.loop-i.invariant c.in-To.ensures
+    c.loop-i.invariant c.in-To.ensures
