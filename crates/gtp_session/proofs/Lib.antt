@@ -7,3 +7,6 @@ pub mod TextLemmas
 pub mod CandidatesLemmas
 pub mod BookLemmas
 pub mod AnswerLemmas
+pub mod SpokenLemmas
+pub mod ReadBack
+pub mod CommandLemmas

@@ -38,7 +38,8 @@ answer_move-refused game c v Occupied r = refused_vertex game c v Occupied r.0 r
 answer_move-refused game c v Suicide r = refused_vertex game c v Suicide r.0 r.1
 answer_move-refused game c v Ko r = refused_vertex game c v Ko r.0 r.1
 
-untouched : (game : GameRecord) (stones : ℕ) (d : Dec (IsTouched game)) (e : Dec (AllowsHandicap game.size stones)) → (IsTouched game → ⊥) → (AllowsHandicap game.size stones → ⊥)
+untouched : (game : GameRecord) (stones : ℕ) (d : Dec (IsTouched game)) (e : Dec (AllowsHandicap game.size stones))
+    → (IsTouched game → ⊥) → (AllowsHandicap game.size stones → ⊥)
     → elim d [
       | yes _ ↦ fails game (codes "board not empty")
       | no _ ↦ elim e [
@@ -55,7 +56,8 @@ pub answer_handicap-bad : (game : GameRecord) (stones : ℕ) → (IsTouched game
     → answer_handicap game (Some stones) ≡ fails game (codes "invalid number of stones")
 answer_handicap-bad game stones k l = untouched game stones (touched? game) (allows? game.size stones) k l
 
-allowed : (game : GameRecord) (stones : ℕ) (d : Dec (IsTouched game)) (e : Dec (AllowsHandicap game.size stones)) → (IsTouched game → ⊥) → AllowsHandicap game.size stones
+allowed : (game : GameRecord) (stones : ℕ) (d : Dec (IsTouched game)) (e : Dec (AllowsHandicap game.size stones))
+    → (IsTouched game → ⊥) → AllowsHandicap game.size stones
     → elim d [
       | yes _ ↦ fails game (codes "board not empty")
       | no _ ↦ elim e [
@@ -69,5 +71,6 @@ allowed game stones (no _) (no l) k a = absurd (l a)
 
 -- a number of stones that the size allows, on an empty board
 pub answer_handicap-good : (game : GameRecord) (stones : ℕ) → (IsTouched game → ⊥) → AllowsHandicap game.size stones
-    → answer_handicap game (Some stones) ≡ succeeds (record game { handicap = stones }) (written_vertices (handicap_points game.size stones))
+    → answer_handicap game (Some stones)
+    ≡ succeeds (record game { handicap = stones }) (written_vertices (handicap_points game.size stones))
 answer_handicap-good game stones k a = allowed game stones (touched? game) (allows? game.size stones) k a

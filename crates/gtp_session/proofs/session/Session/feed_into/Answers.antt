@@ -4,6 +4,8 @@ use Rattle.gtp_wire.specs.Lines.{Finds}
 use Rattle.gtp_session.specs.Engine.Answers.{none}
 use Rattle.gtp_session.specs.Commands.{asked}
 use Rattle.gtp_session.proofs.EngineLemmas.{Step-executes, Replies-over, Replies-found, Replies-line, StopsAtLine-found}
+use Rattle.go_base.specs.Size.{IsSize}
+use Rattle.gtp_session.proofs.SpokenLemmas.{replies_spoken}
 use Rattle.gtp_session.proofs.session.Session.feed_into.Goals as goal
 
 pub returns-then-self-clause-replies : goal.returns-then-self-clause-replies
@@ -27,3 +29,10 @@ pub returns-in-Some-clause-line : goal.returns-in-Some-clause-line
 returns-in-Some-clause-line g c =
     let ends = rw c.in-Some.is at c.feed-used.ensures.newline in
     λ _. rw (← c.self.view_is) (StopsAtLine-found g.P.Policy.may c.if-self.false ends)
+
+pub returns-in-Some-clause-spoken : goal.returns-in-Some-clause-spoken
+returns-in-Some-clause-spoken g c =
+    let may = g.P.Policy.may in
+    let given = (returns-in-Some-clause-replies g c).1 in
+    let size : IsSize c.args.self.now.game.size = rw (← c.self.view_is) c.size.ensures.game.size in
+    λ _. (replies_spoken may g.met.P.Policy.lawful _ _ _ _ size given).0

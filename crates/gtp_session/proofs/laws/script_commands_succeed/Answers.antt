@@ -1,0 +1,5 @@
+use Rattle.gtp_session.proofs.CommandLemmas.{well_answer}
+use Rattle.gtp_session.proofs.laws.script_commands_succeed.Goals as goal
+
+pub returns : goal.returns
+returns c game id command choice well = well_answer game id command choice well
