@@ -1,5 +1,5 @@
 -- What is answered to a line that asks a policy, and to one that asks none.
-use Rattle.std.proofs.Common.{◌≡◌, ℕ, ◌<◌, List, [], length, Bool, true, false, cond, Option, Some, None, refl, inl, inr, ap, sym, ◌∙◌, subst, arith}
+use Rattle.std.proofs.Common.{◌≡◌, ℕ, ◌<◌, List, [], length, Bool, true, false, cond, Option, Some, None, refl, inl, inr, ap, ◌∙◌, arith}
 use Rattle.std.proofs.lemmas.Bool.Decides.{nat_tests}
 use Rattle.std.specs.Prelude.{◌⊎◌, codes, nat_le}
 use Rattle.go_base.specs.Colour.{colour_of}

@@ -1,8 +1,7 @@
 -- What an engine answers to the commands that a controller sends.
-use Rattle.std.proofs.Common.{◌≡◌, ℕ, ◌<◌, ◌≤◌, List, [], length, Bool, Option, Some, None, true, false, refl, sym, ◌∙◌, ap, subst, arith, lit≤}
+use Rattle.std.proofs.Common.{◌≡◌, ℕ, ◌<◌, ◌≤◌, [], length, Option, Some, true, false, refl, sym, ◌∙◌, ap, subst, arith, lit≤}
 use Rattle.std.specs.Prelude.{IfSome, IsTrue, ◌↔◌, nat_le, ◌&&◌}
 use Rattle.std.proofs.lemmas.Bool.Decides.{nat_tests}
-use Rattle.go_base.specs.Int.{int_max}
 use Rattle.go_base.specs.Size.{IsSize, size_max}
 use Rattle.go_base.specs.Vertex.{IsVertex, vertex_of, written_vertex}
 use Rattle.go_base.specs.declared.colours.Colour.{Colour}

@@ -1,38 +1,26 @@
 -- What is answered may be the text of a reply, and so it is one reply.
-use Rattle.std.proofs.Common.{◌≡◌, ℕ, zero, suc, ◌+◌, ◌*◌, ◌/◌, ◌%◌, ◌<◌, ◌≤◌, List, [], ◌∷◌, ◌++◌, length, map, reverse, Bool, true, false, cond, eqb, Option, Some, None, refl, sym, subst, ◌∙◌, ap, arith, length-append, lit≤}
-use Rattle.std.specs.Prelude.{codes, All, ℤ, pos, negsuc, IfSome, is_some, ◌&&◌, nat_le, nat_lt, slice_get, filter, MatchOption}
-use Rattle.std.specs.List.{range_with_len, flat_map, filter_map, join_with_byte, AllByRecursion, slice_split, cons_option}
-use Rattle.std.specs.Fmt.{digits, digits_onto, digit_glyph}
+use Rattle.std.proofs.Common.{◌≡◌, ℕ, ◌≤◌, List, [], ◌∷◌, ◌++◌, length, map, Bool, true, false, cond, Option, Some, None, refl, sym, subst, arith, lit≤}
+use Rattle.std.specs.Prelude.{codes, ℤ, IfSome, is_some, ◌&&◌, nat_le, nat_lt, slice_get, filter, MatchOption}
+use Rattle.std.specs.List.{filter_map, join_with_byte, AllByRecursion, slice_split, cons_option}
 use Rattle.std.proofs.lemmas.Bool.Decides.{nat_tests}
-use Rattle.std.proofs.lemmas.Fmt.{length-decimal-le}
-use Rattle.std.proofs.lemmas.List.{length-reverse, reverse-append}
-use Rattle.std.proofs.lemmas.List.FromFn.{length-range_with_len}
-use Rattle.std.proofs.lemmas.List.Elements.{All-from_recursion, recursion_from_All}
-use Rattle.go_base.specs.Int.{int_max, int_of, written_int}
+use Rattle.go_base.specs.Int.{int_max, int_of}
 use Rattle.go_base.specs.Size.{IsSize, size_max}
 use Rattle.go_base.specs.Colour.{colour_of}
 use Rattle.go_base.specs.Komi.{komi_of}
-use Rattle.go_base.specs.Point.{point}
-use Rattle.go_base.specs.HalfPoints.{written_points}
 use Rattle.go_base.specs.Handicap.{AllowsHandicap, handicap_points}
-use Rattle.go_base.specs.Vertex.{letter_of, vertex_of, written_vertex}
+use Rattle.go_base.specs.Vertex.{vertex_of}
 use Rattle.go_base.specs.declared.colours.Colour.{Colour}
 use Rattle.go_base.specs.declared.vertices.Vertex.{Vertex}
 use Rattle.go_base.proofs.IntLemmas.{spells_int_of}
-use Rattle.go_board.specs.Board.{stone_at}
-use Rattle.go_board.specs.Game.{GameRecord, IsLegal, board_of, most_moves, with_move, without_last, legal?}
+use Rattle.go_board.specs.Game.{GameRecord, IsLegal, most_moves, with_move, without_last, legal?}
 use Rattle.go_board.specs.Refusals.{IsTouched}
 use Rattle.go_board.specs.Area.{score}
-use Rattle.go_board.specs.Taken.{taken}
-use Rattle.go_board.specs.Show.{shown_point, shown_points, shown_row, shown_letters, shown_captures, rows_down, shown}
-use Rattle.go_base.specs.declared.colours.Colour.TheVariants.{Black, White}
 use Rattle.gtp_wire.specs.declared.lines.Line.{Line}
 use Rattle.gtp_wire.specs.declared.lines.Line.TheVariants as line
 use Rattle.gtp_wire.specs.Bytes.{is_kept, is_newline, space_for_tab, before_hash}
 use Rattle.gtp_wire.specs.Words.{words}
 use Rattle.gtp_wire.specs.Lines.{lines, line_max, line_of, line_of_words, but_last}
 use Rattle.gtp_wire.specs.Replies.{IsReply, IsReplyText, written_reply}
-use Rattle.gtp_wire.proofs.LineLemmas.{AllByRecursion-append}
 use Rattle.gtp_wire.proofs.WrittenLemmas.{written_is_read}
 use Rattle.gtp_session.specs.Decide.{touched?, allows?}
 use Rattle.gtp_session.specs.Policy.{May, IsLawful}
@@ -40,7 +28,7 @@ use Rattle.gtp_session.specs.declared.policy.Choice.{Choice}
 use Rattle.gtp_session.specs.declared.policy.Choice.TheVariants as choice
 use Rattle.gtp_session.specs.declared.commands.CommandName.{CommandName}
 use Rattle.gtp_session.specs.declared.commands.CommandName.TheVariants.{ProtocolVersion, Name, Version, KnownCommand, ListCommands, Quit, Boardsize, ClearBoard, Komi, Play, Genmove, FixedHandicap, Undo, FinalScore, Showboard}
-use Rattle.gtp_session.specs.Commands.{Answer, answer, answer_to, answer_to_named, answer_known, answer_boardsize, answer_komi, answer_move, answer_play, answer_handicap, answer_undo, answer_genmove, answer_choice, argument, asked, asked_by_genmove, asked_by_command, asked_by_named, command_of, command_named, succeeds, fails, syntax_error, written_vertices, score_text, all_names, id_of}
+use Rattle.gtp_session.specs.Commands.{Answer, answer, answer_to_named, answer_known, answer_boardsize, answer_komi, answer_play, answer_handicap, answer_undo, answer_genmove, answer_choice, argument, asked, asked_by_genmove, asked_by_named, command_of, command_named, succeeds, fails, syntax_error, written_vertices, id_of}
 use Rattle.gtp_session.specs.Engine.{Engine, State, WrittenReply, Step, Answers, Replies}
 use Rattle.gtp_session.specs.Engine.Answers.{none, over, more}
 use Rattle.gtp_session.specs.Laws.{AllowsLawful}

@@ -1,6 +1,5 @@
 -- Texts that a reply may have.
-use Rattle.std.proofs.Common.{◌≡◌, ℕ, zero, suc, ◌+◌, ◌*◌, ◌/◌, ◌%◌, ◌^◌, ◌<◌, ◌≤◌, List, [], ◌∷◌, ◌++◌, length, map, reverse, Bool, true, false, cond, eqb, Option, Some, None, refl, ◌∙◌, ap, arith, append-nil, length-append, lit≤, lit<}
-use lib.Signed.{mag}
+use Rattle.std.proofs.Common.{◌≡◌, ℕ, zero, suc, ◌+◌, ◌*◌, ◌/◌, ◌%◌, ◌<◌, ◌≤◌, List, [], ◌∷◌, ◌++◌, length, map, reverse, Bool, true, false, cond, eqb, Option, Some, None, refl, ◌∙◌, ap, arith, append-nil, length-append, lit≤, lit<}
 use Rattle.std.specs.Prelude.{codes, All, ℤ, pos, negsuc}
 use Rattle.std.specs.List.{range_with_len, flat_map, join_with_byte, list_all, AllByRecursion}
 use Rattle.std.specs.Fmt.{digits, digits_onto, digit_glyph}

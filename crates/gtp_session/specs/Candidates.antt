@@ -44,7 +44,9 @@ pub open? : (game : GameRecord) (colour : Colour) (p : ℕ) → Dec (IsOpen game
 open? game colour p =
     by? (λ h. record { on_board = h.0; stone = h.1 }) (λ o. (o.on_board, o.stone))
     (both? (on? game.size p)
-    (either? (stone_is? (stone_at (board_of game) p) None) (stone_is? (stone_at (board_of game) p) (Some (other colour)))))
+    (either?
+    (stone_is? (stone_at (board_of game) p) None)
+    (stone_is? (stone_at (board_of game) p) (Some (other colour)))))
 
 -- q is an open neighbour of p
 abbrev IsOpenBeside : GameRecord → Colour → ℕ → ℕ → Type 0

@@ -1,5 +1,5 @@
 -- What the commands that a controller sends do to an engine.
-use Rattle.std.specs.Prelude.{◌≡◌, ◌≢◌, ℕ, ◌≤◌, List, [], Option, Some, IsTrue, ◌↔◌}
+use Rattle.std.specs.Prelude.{◌≡◌, ℕ, ◌≤◌, List, [], Option, Some, IsTrue, ◌↔◌}
 use Rattle.go_base.specs.Size.{IsSize, size_max}
 use Rattle.go_base.specs.Komi.{IsKomi}
 use Rattle.go_base.specs.Handicap.{AllowsHandicap, handicap_points}
@@ -38,8 +38,8 @@ success_text game (Play move) = []
 success_text game (Genmove colour) = []
 success_text game Quit = []
 
--- A command of a script succeeds at this game: a size or a komi in its limits; a number of handicap stones that the size
--- allows, on an untouched board; a legal move where the record has room. (`genmove` and `quit` stand in no script.)
+-- A command of a script succeeds at this game: a size or a komi in its limits; a number of handicap stones that the
+-- size allows, on an untouched board; a legal move where the record has room. (`genmove` and `quit` stand in no script.)
 abbrev pub GoesWell : GameRecord → Command → Type 0
 GoesWell game (Boardsize size) = IsSize size
 GoesWell game (Komi komi) = IsKomi komi

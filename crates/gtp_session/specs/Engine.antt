@@ -52,7 +52,8 @@ module _ {P : Type 0} (may : May P) where
   pub data Answers : State P → List Line → List WrittenReply → State P → Type 0 where
     none : {old : State P} → Answers old [] [] old
     over : {old : State P} {unread : List Line} → old.ended ≡ true → Answers old unread [] old
-    more : {old mid new : State P} {line : Line} {unread : List Line} {reply : WrittenReply} {replies : List WrittenReply}
+    more : {old mid new : State P} {line : Line} {unread : List Line}
+        {reply : WrittenReply} {replies : List WrittenReply}
         → old.ended ≡ false → Step may old line reply mid → Answers mid unread replies new
         → Answers old (line ∷ unread) (reply ∷ replies) new
 

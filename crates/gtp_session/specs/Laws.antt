@@ -1,5 +1,5 @@
 -- Laws of lines and their answers: what holds of the definitions alone.
-use Rattle.std.specs.Prelude.{◌≡◌, ◌⊎◌, ℕ, true, [], Option, Some, None, codes}
+use Rattle.std.specs.Prelude.{◌≡◌, ◌⊎◌, ℕ, true, [], Some, None, codes}
 use Rattle.go_base.specs.Handicap.{AllowsHandicap, handicap_points}
 use Rattle.go_base.specs.Vertex.{written_vertex}
 use Rattle.go_base.specs.declared.colours.Colour.{Colour}
@@ -35,7 +35,8 @@ HandicapsArePlaced = (game : GameRecord) (stones : ℕ) → (IsTouched game → 
     → answer_handicap game (Some stones)
     ≡ succeeds (record game { handicap = stones }) (written_vertices (handicap_points game.size stones))
 
--- a line that asked the policy is answered by `resign`, and the game stays; or by a vertex that is legal, and it is played
+-- A line that asked the policy is answered by `resign`, and the game stays; or by a vertex that is legal, and it is
+-- played.
 abbrev pub GenmovesAreLawful : {P : Type 0} → May P → Type 0
 GenmovesAreLawful {P} may = (old new : State P) (line : Line) (reply : WrittenReply) (colour : Colour)
     → Step may old line reply new → asked old.game line ≡ Some colour

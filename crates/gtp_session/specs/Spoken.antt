@@ -24,8 +24,8 @@ IsLawfulAt game line choice = IfSome (asked game line) (λ colour. IsLawful game
 abbrev pub reply_of_answer : Option ℕ → Answer → Reply
 reply_of_answer id given = record { ok = given.ok; id = id; text = record { items = given.text } }
 
--- The bytes are one reply, which was written of this status, this id and this text, and the text is one that a reply may
--- have: what a controller reads in them is the same.
+-- The bytes are one reply, which was written of this status, this id and this text, and the text is one that a reply
+-- may have: what a controller reads in them is the same.
 pub record IsSpoken (bytes : List ℕ) : Type 0 where
   pub reply : Reply
   pub text : IsReplyText reply.text.items

@@ -1,4 +1,4 @@
-use Rattle.std.proofs.Common.{◌≡◌, ◌≤◌, ◌∙◌, sym, subst, length}
+use Rattle.std.proofs.Common.{◌≡◌, ◌∙◌, sym, subst}
 use Rattle.go_board.specs.Show.{shown}
 use Rattle.gtp_wire.specs.Replies.{IsReplyText}
 use Rattle.gtp_session.proofs.TextLemmas.{shown_fits}

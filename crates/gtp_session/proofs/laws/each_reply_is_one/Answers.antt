@@ -6,4 +6,5 @@ use Rattle.gtp_session.proofs.laws.each_reply_is_one.Goals as goal
 
 pub returns : goal.returns
 returns g c old new text replies is given =
-    All-from_recursion (λ (r : WrittenReply). IsSpoken r.text) replies (replies_spoken g.P.Policy.may g.met.P.Policy.lawful old new text replies is given)
+    All-from_recursion (λ (r : WrittenReply). IsSpoken r.text) replies
+    (replies_spoken g.P.Policy.may g.met.P.Policy.lawful old new text replies is given)
