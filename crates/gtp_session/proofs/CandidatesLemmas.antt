@@ -7,7 +7,7 @@ use Rattle.std.proofs.lemmas.List.Elements.{filter_more, filter-append}
 use Rattle.std.proofs.lemmas.List.FromFn.{map-range_with_len_more}
 use Rattle.go_base.specs.Point.{point}
 use Rattle.go_base.specs.declared.colours.Colour.{Colour}
-use Rattle.go_board.specs.Decide.{holds}
+use Rattle.go_base.specs.Decide.{holds}
 use Rattle.go_board.specs.Game.{GameRecord}
 use Rattle.gtp_session.specs.Candidates.{row_points, points_of, candidates, IsCandidate, candidate?}
 

@@ -14,13 +14,13 @@ use Rattle.gtp_wire.specs.declared.commands.Command.TheVariants.{Boardsize, Komi
 use Rattle.gtp_wire.specs.Commands.{IsWritable, IsInLimits}
 use Rattle.gtp_wire.specs.Replies.{IsReplyText}
 use Rattle.gtp_session.specs.Policy.{IsLawful}
-use Rattle.gtp_session.specs.declared.policy.Choice.{Choice}
+use Rattle.go_base.specs.declared.choices.Choice.{Choice}
 use Rattle.gtp_session.specs.Commands.{Answer, answer, asked, ends, succeeds, answer_boardsize, answer_komi, answer_handicap, answer_play, answer_genmove, answer_choice, asked_by_genmove}
 use Rattle.gtp_session.specs.CommandAnswers.{line_of_command, after_command, success_text, GoesWell, MayBeSent}
 use Rattle.gtp_session.specs.Spoken.{IsLawfulAt}
 use Rattle.gtp_session.proofs.AnswerLemmas.{answer_move-legal}
 use Rattle.gtp_session.proofs.MoveLemmas.{answer_handicap-good}
-use Rattle.gtp_session.proofs.ReadBack.{size_reads, int_reads, komi_reads, colour_reads, vertex_reads}
+use Rattle.go_base.proofs.ReadBack.{size_reads, int_reads, komi_reads, colour_reads, vertex_reads}
 use Rattle.gtp_session.proofs.SpokenLemmas.{choice_fits}
 use Rattle.gtp_session.proofs.TextLemmas.{handicap_fits}
 

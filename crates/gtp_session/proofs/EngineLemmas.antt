@@ -7,7 +7,7 @@ use Rattle.gtp_wire.proofs.ReadingLemmas.{tail_of, lines_more, Finds-lines}
 use Rattle.std.specs.Prelude.{◌&&◌}
 use Rattle.go_base.specs.declared.colours.Colour.{Colour}
 use Rattle.go_board.specs.Game.{GameRecord}
-use Rattle.gtp_session.specs.declared.policy.Choice.TheVariants.{Resign}
+use Rattle.go_base.specs.declared.choices.Choice.TheVariants.{Resign}
 use Rattle.gtp_session.specs.Policy.{May}
 use Rattle.gtp_session.specs.Commands.{answer, asked, ends, id_of, is_genmove_line, Executes}
 use Rattle.gtp_session.specs.Engine.{Engine, State, WrittenReply, state_of, Step, Answers, Replies, StopsAtLine}

@@ -8,5 +8,4 @@ pub mod CandidatesLemmas
 pub mod BookLemmas
 pub mod AnswerLemmas
 pub mod SpokenLemmas
-pub mod ReadBack
 pub mod CommandLemmas

@@ -22,13 +22,14 @@ use Rattle.gtp_wire.specs.Words.{words}
 use Rattle.gtp_wire.specs.Lines.{lines, line_max, line_of, line_of_words, but_last}
 use Rattle.gtp_wire.specs.Replies.{IsReply, IsReplyText, written_reply}
 use Rattle.gtp_wire.proofs.WrittenLemmas.{written_is_read}
-use Rattle.gtp_session.specs.Decide.{touched?, allows?}
+use Rattle.go_base.specs.Decide.{allows?}
+use Rattle.go_board.specs.DecideGame.{touched?}
 use Rattle.gtp_session.specs.Policy.{May, IsLawful}
-use Rattle.gtp_session.specs.declared.policy.Choice.{Choice}
-use Rattle.gtp_session.specs.declared.policy.Choice.TheVariants as choice
+use Rattle.go_base.specs.declared.choices.Choice.{Choice}
+use Rattle.go_base.specs.declared.choices.Choice.TheVariants as choice
 use Rattle.gtp_session.specs.declared.commands.CommandName.{CommandName}
 use Rattle.gtp_session.specs.declared.commands.CommandName.TheVariants.{ProtocolVersion, Name, Version, KnownCommand, ListCommands, Quit, Boardsize, ClearBoard, Komi, Play, Genmove, FixedHandicap, Undo, FinalScore, Showboard}
-use Rattle.gtp_session.specs.Commands.{Answer, answer, answer_to_named, answer_known, answer_boardsize, answer_komi, answer_play, answer_handicap, answer_undo, answer_genmove, answer_choice, argument, asked, asked_by_genmove, asked_by_named, command_of, command_named, succeeds, fails, syntax_error, written_vertices, id_of}
+use Rattle.gtp_session.specs.Commands.{Answer, answer, answer_to_named, answer_known, answer_boardsize, answer_komi, answer_play, answer_handicap, answer_undo, answer_genmove, answer_choice, argument, asked_by_genmove, asked_by_named, command_of, command_named, succeeds, fails, syntax_error, written_vertices, id_of}
 use Rattle.gtp_session.specs.Engine.{Engine, State, WrittenReply, Step, Answers, Replies}
 use Rattle.gtp_session.specs.Engine.Answers.{none, over, more}
 use Rattle.gtp_session.specs.Laws.{AllowsLawful}

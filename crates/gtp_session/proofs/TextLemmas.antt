@@ -8,7 +8,7 @@ use Rattle.std.proofs.lemmas.List.{reverse-append, length-reverse}
 use Rattle.std.proofs.lemmas.List.FromFn.{length-range_with_len}
 use Rattle.std.proofs.lemmas.List.Elements.{recursion_from_All}
 use Rattle.std.proofs.lemmas.Fmt.{length-decimal-le}
-use Rattle.go_base.specs.HalfPoints.{written_points}
+use Rattle.go_base.specs.HalfPoints.{written_points, score_text}
 use Rattle.go_base.specs.Handicap.{AllowsHandicap, handicap_points}
 use Rattle.go_base.specs.Int.{written_int}
 use Rattle.go_base.specs.Point.{point, column_of, row_of, IsOn}
@@ -23,7 +23,6 @@ use Rattle.go_board.specs.Board.{stone_at}
 use Rattle.go_board.specs.Game.{GameRecord, board_of, IsLegal}
 use Rattle.go_board.specs.Taken.{taken}
 use Rattle.go_board.specs.Show.{shown_point, shown_points, shown_row, shown_letters, shown_captures, rows_down, shown}
-use Rattle.gtp_session.specs.Commands.{score_text}
 use Rattle.gtp_wire.specs.Bytes.{is_newline, is_blank}
 use Rattle.gtp_wire.proofs.LineLemmas.{AllByRecursion-append}
 use Rattle.gtp_wire.specs.Replies.{has_two_newlines, is_shown, begins_blank, IsReplyText}

@@ -6,8 +6,8 @@ use Rattle.go_base.specs.Word.{is_word}
 use Rattle.go_base.specs.declared.colours.Colour.{Colour}
 use Rattle.go_base.specs.declared.vertices.Vertex.TheVariants.{Pass}
 use Rattle.go_board.specs.Game.{GameRecord, legal?}
-use Rattle.gtp_session.specs.declared.policy.Choice.{Choice}
-use Rattle.gtp_session.specs.declared.policy.Choice.TheVariants as choice
+use Rattle.go_base.specs.declared.choices.Choice.{Choice}
+use Rattle.go_base.specs.declared.choices.Choice.TheVariants as choice
 use Rattle.gtp_session.specs.declared.book.Place.{Place}
 use Rattle.gtp_session.specs.declared.book.Place.TheVariants.{Empty, Resign, Play}
 

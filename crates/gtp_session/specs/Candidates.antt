@@ -8,10 +8,11 @@ use Rattle.go_base.specs.declared.colours.Colour.{Colour}
 use Rattle.go_base.specs.declared.colours.Colour.TheVariants.{Black, White}
 use Rattle.go_base.specs.declared.vertices.Vertex.TheVariants.{Pass, At}
 use Rattle.go_board.specs.Board.{stone_at}
-use Rattle.go_board.specs.Decide.{holds, both?, either?, by?, number?, on?}
+use Rattle.go_base.specs.Decide.{holds, both?, either?, by?, number?}
+use Rattle.go_board.specs.Decide.{on?}
 use Rattle.go_board.specs.Game.{GameRecord, board_of, IsLegal, legal?}
-use Rattle.gtp_session.specs.declared.policy.Choice.{Choice}
-use Rattle.gtp_session.specs.declared.policy.Choice.TheVariants.{Play}
+use Rattle.go_base.specs.declared.choices.Choice.{Choice}
+use Rattle.go_base.specs.declared.choices.Choice.TheVariants.{Play}
 
 -- a point of the board that is empty or holds a stone of the other colour
 pub record IsOpen (game : GameRecord) (colour : Colour) (p : ℕ) : Type 0 where

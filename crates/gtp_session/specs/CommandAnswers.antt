@@ -11,7 +11,7 @@ use Rattle.gtp_wire.specs.declared.commands.Command.TheVariants.{Boardsize, Komi
 use Rattle.gtp_wire.specs.declared.lines.Line.{Line}
 use Rattle.gtp_wire.specs.declared.lines.Line.TheVariants as line
 use Rattle.gtp_wire.specs.Commands.{words_of}
-use Rattle.gtp_session.specs.declared.policy.Choice.{Choice}
+use Rattle.go_base.specs.declared.choices.Choice.{Choice}
 use Rattle.gtp_session.specs.Commands.{answer, answer_choice, asked, ends, succeeds, written_vertices}
 
 -- the line of a command that is written with this id, or with none

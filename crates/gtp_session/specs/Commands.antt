@@ -7,7 +7,7 @@ use Rattle.go_base.specs.Size.{size_max}
 use Rattle.go_base.specs.Colour.{colour_of}
 use Rattle.go_base.specs.Vertex.{vertex_of, written_vertex}
 use Rattle.go_base.specs.Komi.{komi_of}
-use Rattle.go_base.specs.HalfPoints.{written_points}
+use Rattle.go_base.specs.HalfPoints.{score_text}
 use Rattle.go_base.specs.Handicap.{handicap_points}
 use Rattle.go_base.specs.declared.colours.Colour.{Colour}
 use Rattle.go_base.specs.declared.vertices.Vertex.{Vertex}
@@ -15,15 +15,16 @@ use Rattle.go_base.specs.declared.vertices.Vertex.TheVariants.{At}
 use Rattle.go_board.specs.declared.faults.PlayFault.{PlayFault}
 use Rattle.go_board.specs.declared.faults.PlayFault.TheVariants.{Full, OffBoard, Occupied, Suicide, Ko}
 use Rattle.go_board.specs.Game.{GameRecord, most_moves, with_move, without_last, legal?}
-use Rattle.gtp_session.specs.Decide.{touched?, allows?}
+use Rattle.go_base.specs.Decide.{allows?}
+use Rattle.go_board.specs.DecideGame.{touched?}
 use Rattle.go_board.specs.Show.{shown}
 use Rattle.go_board.specs.Area.{score}
 use Rattle.gtp_wire.specs.Replies.{written_reply}
 use Rattle.gtp_wire.specs.declared.lines.Line.{Line}
 use Rattle.gtp_wire.specs.declared.lines.Line.TheVariants as line
 use Rattle.gtp_session.specs.Policy.{May}
-use Rattle.gtp_session.specs.declared.policy.Choice.{Choice}
-use Rattle.gtp_session.specs.declared.policy.Choice.TheVariants as choice
+use Rattle.go_base.specs.declared.choices.Choice.{Choice}
+use Rattle.go_base.specs.declared.choices.Choice.TheVariants as choice
 use Rattle.gtp_session.specs.declared.commands.CommandName.{CommandName}
 use Rattle.gtp_session.specs.declared.commands.CommandName.TheVariants.{ProtocolVersion, Name, Version, KnownCommand, ListCommands, Quit, Boardsize, ClearBoard, Komi, Play, Genmove, FixedHandicap, Undo, FinalScore, Showboard}
 
@@ -160,23 +161,6 @@ answer_genmove game (Some colour) choice =
 abbrev pub asked_by_genmove : GameRecord → Option Colour → Option Colour
 asked_by_genmove game None = None
 asked_by_genmove game (Some colour) = if nat_le most_moves (length game.moves) then None else Some colour
-
--- ---- final_score
-
--- the colour that leads, before its points; nothing where the score is even
-abbrev pub leader : ℤ → List ℕ
-leader (pos zero) = []
-leader (pos (suc n)) = codes "B+"
-leader (negsuc n) = codes "W+"
-
--- how many half points it leads by
-abbrev pub lead : ℤ → ℕ
-lead (pos n) = n
-lead (negsuc n) = n + 1
-
--- `B+` or `W+` and the points, or `0` (the standard, tournament commands: final_score)
-abbrev pub score_text : ℤ → List ℕ
-score_text half_points = leader half_points ++ written_points (lead half_points)
 
 -- ---- every command
 

@@ -7,7 +7,7 @@ use Rattle.gtp_wire.specs.Lines.{lines}
 use Rattle.gtp_wire.specs.Replies.{written_reply}
 use Rattle.go_board.specs.Game.{GameRecord}
 use Rattle.gtp_session.specs.Policy.{May}
-use Rattle.gtp_session.specs.declared.policy.Choice.{Choice}
+use Rattle.go_base.specs.declared.choices.Choice.{Choice}
 use Rattle.gtp_session.specs.Commands.{answer, asked, id_of, ends, is_genmove_line}
 
 -- An engine: the text that it was given and has not read as lines, its game, its policy, and whether its session has

@@ -9,7 +9,7 @@ use Rattle.go_board.specs.Refusals.{IsTouched}
 use Rattle.gtp_wire.specs.Replies.{written_reply}
 use Rattle.gtp_wire.specs.declared.lines.Line.{Line}
 use Rattle.gtp_session.specs.Policy.{May, IsLawful}
-use Rattle.gtp_session.specs.declared.policy.Choice.{Choice}
+use Rattle.go_base.specs.declared.choices.Choice.{Choice}
 use Rattle.gtp_session.specs.Commands.{answer, asked, id_of, succeeds, answer_move, answer_handicap, written_vertices}
 use Rattle.gtp_session.specs.Engine.{State, WrittenReply, Step}
 

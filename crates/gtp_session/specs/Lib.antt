@@ -1,5 +1,4 @@
 pub mod Counts
-pub mod Decide
 pub mod Policy
 pub mod Candidates
 pub mod Random

@@ -8,7 +8,7 @@ use Rattle.gtp_wire.specs.declared.replies.Reply.{Reply}
 use Rattle.gtp_wire.specs.Lines.{lines}
 use Rattle.gtp_wire.specs.Replies.{IsReply, IsReplyText, written_reply}
 use Rattle.gtp_session.specs.Policy.{May, IsLawful}
-use Rattle.gtp_session.specs.declared.policy.Choice.{Choice}
+use Rattle.go_base.specs.declared.choices.Choice.{Choice}
 use Rattle.gtp_session.specs.Commands.{Answer, answer, asked, id_of}
 use Rattle.gtp_session.specs.Engine.{Engine, WrittenReply, Replies}
 

@@ -3,6 +3,7 @@ ghost use Rattle.std.specs.Prelude.{◌≡◌, ◌+◌, ◌≤◌, ◌++◌, len
 ghost use Rattle.go_base.specs.Int.{int_of};
 ghost use Rattle.go_base.specs.Colour.{colour_of};
 ghost use Rattle.go_base.specs.Komi.{komi_of};
+ghost use Rattle.go_base.specs.HalfPoints.{score_text};
 ghost use Rattle.go_base.specs.Vertex.{vertex_of, written_vertex};
 ghost use Rattle.arrayvec.specs.ArrayVec.{array_vec_len};
 ghost use Rattle.go_base.specs.declared.vertices.Vertex.TheVariants.{At};
@@ -10,15 +11,15 @@ ghost use Rattle.go_board.specs.Game.{GameRecord, most_moves, HasRoom, IsLegal};
 ghost use Rattle.go_board.specs.Area.{score};
 ghost use Rattle.go_board.specs.Show.{shown};
 ghost use Rattle.gtp_session.specs.Policy.{IsLawful};
-ghost use Rattle.gtp_session.specs.declared.policy.Choice.{Choice};
-ghost use Rattle.gtp_session.specs.declared.policy.Choice.TheVariants as choice;
+ghost use Rattle.go_base.specs.declared.choices.Choice.{Choice};
+ghost use Rattle.go_base.specs.declared.choices.Choice.TheVariants as choice;
 ghost use Rattle.gtp_wire.specs.Replies.{IsReplyText, written_reply};
-ghost use Rattle.gtp_session.specs.Commands.{Leaves, Executes, command_named, argument, id_of, ends, asked, asked_by_words, asked_by_command, asked_by_genmove, succeeds, all_names, score_text, leader, answer, answer_to, answer_to_words, answer_known, answer_boardsize, answer_clear, answer_komi, answer_play, answer_genmove, answer_choice, answer_handicap, answer_undo, answer_move, refusal_text, is_quit, written_vertices};
+ghost use Rattle.gtp_session.specs.Commands.{Leaves, Executes, command_named, argument, id_of, ends, asked, asked_by_words, asked_by_command, asked_by_genmove, succeeds, all_names, answer, answer_to, answer_to_words, answer_known, answer_boardsize, answer_clear, answer_komi, answer_play, answer_genmove, answer_choice, answer_handicap, answer_undo, answer_move, refusal_text, is_quit, written_vertices};
 
 use crate::commands::CommandName;
 use crate::policy::{Choice, Policy};
 use arrayvec::ArrayVec;
-use go_base::{Colour, Komi, Move, Point, Size, Vertex, read_int, write_half_points};
+use go_base::{Colour, Komi, Move, Point, Size, Vertex, read_int, write_score};
 use go_board::{Game, HandicapFault, MOST_MOVES, PlayFault};
 use gtp_wire::{CommandLine, Line, ReplyText, write_reply_into};
 
@@ -28,9 +29,6 @@ static NAMES: &[u8] =
 
 /// The room for nine vertices and the spaces between them.
 const VERTICES_ROOM: usize = 44;
-
-/// The room for a score: the colour that leads, a plus sign, and the points.
-const SCORE_ROOM: usize = 14;
 
 /// Executes a line, puts the reply in place of what `reply` holds, and tells whether the session ends.
 pub(crate) fn answer<P: Policy>(
@@ -366,29 +364,7 @@ fn final_score(game: &Game, line: &CommandLine, reply: &mut ReplyText)
     ensures { Leaves (succeeds game.now (score_text (score game.now))) line.now.id
         game.now reply.new.items }
 {
-    success(line, reply, &written_score(game.score()));
-}
-
-/// The colour that leads and its points, or `0`.
-fn written_score(half_points: i32) -> ArrayVec<u8, SCORE_ROOM>
-    ensures { result.items ≡ score_text half_points }
-{
-    let mut text = ArrayVec::new();
-    let _ = text.try_extend_from_slice(leader(half_points));
-    let _ = text.try_extend_from_slice(&write_half_points(half_points.unsigned_abs()));
-    text
-}
-
-/// What stands before the points.
-fn leader(half_points: i32) -> &'static [u8]
-    ensures leader { result.now ≡ leader half_points }
-    ensures few { length result.now ≤ 2 }
-{
-    match half_points {
-        0 => b"",
-        1.. => b"B+",
-        _ => b"W+",
-    }
+    success(line, reply, &write_score(game.score()));
 }
 
 fn showboard(game: &Game, line: &CommandLine, reply: &mut ReplyText)

@@ -1,20 +1,12 @@
 //! Policies, which choose an engine's moves.
 ghost use Rattle.go_base.specs.declared.colours.Colour.{Colour};
 ghost use Rattle.go_board.specs.Game.{GameRecord};
-ghost use Rattle.gtp_session.specs.declared.policy.Choice.{Choice};
+ghost use Rattle.go_base.specs.declared.choices.Choice.{Choice};
 ghost use Rattle.gtp_session.specs.Policy.{IsLawful};
 
-use go_base::{Colour, Vertex};
+pub use go_base::Choice;
+use go_base::Colour;
 use go_board::Game;
-
-/// What a policy chooses.
-#[derive(Clone, Copy, Debug, PartialEq, Eq)]
-pub enum Choice {
-    /// To resign.
-    Resign,
-    /// To play on a point, or to pass.
-    Play(Vertex),
-}
 
 /// What chooses the moves of an engine.
 pub trait Policy: Drop {

@@ -5,8 +5,8 @@ use Rattle.go_base.specs.Int.{int_max, int_of, written_int}
 use Rattle.go_base.specs.Size.{IsSize}
 use Rattle.go_base.specs.Komi.{IsKomi, komi_of}
 use Rattle.go_base.specs.HalfPoints.{written_half_points}
-use Rattle.go_base.specs.Vertex.{IsVertex, vertex_of, written_vertex}
 use Rattle.go_base.specs.Colour.{colour_of, written_colour}
+use Rattle.go_base.specs.Vertex.{IsVertex, vertex_of, written_vertex}
 use Rattle.go_base.specs.declared.colours.Colour.{Colour}
 use Rattle.go_base.specs.declared.vertices.Vertex.{Vertex}
 use Rattle.go_base.proofs.IntLemmas.{int_of_spelled, spells_written_int}
