@@ -1,8 +1,7 @@
 -- A policy that reads its choices from a book. (Own.)
-use Rattle.std.specs.Prelude.{ℕ, ◌==◌, nat_le, List, [], ◌∷◌, length, map, slice_get, Option, Some, None, option_map, if◌then◌else◌, codes}
+use Rattle.std.specs.Prelude.{ℕ, ◌==◌, nat_le, List, [], ◌∷◌, length, map, slice_get, Option, Some, None, option_map, if◌then◌else◌}
 use Rattle.std.specs.List.{slice_split}
-use Rattle.go_base.specs.Vertex.{vertex_of}
-use Rattle.go_base.specs.Word.{is_word}
+use Rattle.go_base.specs.Choice.{choice_of}
 use Rattle.go_base.specs.declared.colours.Colour.{Colour}
 use Rattle.go_base.specs.declared.vertices.Vertex.TheVariants.{Pass}
 use Rattle.go_board.specs.Game.{GameRecord, legal?}
@@ -15,11 +14,14 @@ use Rattle.gtp_session.specs.declared.book.Place.TheVariants.{Empty, Resign, Pla
 abbrev pub most_places : ℕ
 most_places = 2000
 
--- The place that a text spells, where it spells one: nothing, `resign` in any case, or a vertex.
+-- the place of a choice
+abbrev pub place_of_choice : Choice → Place
+place_of_choice choice.Resign = Resign
+place_of_choice (choice.Play vertex) = Play vertex
+
+-- The place that a text spells, where it spells one: nothing, or a choice, so `resign` in any case, or a vertex.
 abbrev pub place_of : List ℕ → Option Place
-place_of text =
-    if length text == 0 then Some Empty
-    else (if is_word (codes "resign") text then Some Resign else option_map Play (vertex_of text))
+place_of text = if length text == 0 then Some Empty else option_map place_of_choice (choice_of text)
 
 -- the values of a list, where each of its members has one
 abbrev pub one_more : Option Place → Option (List Place) → Option (List Place)

@@ -31,11 +31,11 @@ impl Place {
         if text.is_empty() {
             return Some(Place::Empty);
         }
-        if text.eq_ignore_ascii_case(b"resign") {
-            return Some(Place::Resign);
-        }
-        let vertex = Vertex::read(text)?;
-        Some(Place::Play(vertex))
+        let place = match Choice::read(text)? {
+            Choice::Resign => Place::Resign,
+            Choice::Play(vertex) => Place::Play(vertex),
+        };
+        Some(place)
     }
 }
 
