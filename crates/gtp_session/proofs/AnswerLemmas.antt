@@ -1,6 +1,5 @@
 -- What is answered to a line that asks a policy, and to one that asks none.
-use Rattle.std.proofs.Common.{◌≡◌, ℕ, ◌<◌, List, [], length, Bool, true, false, cond, Option, Some, None, refl, inl, inr, ap, ◌∙◌, arith}
-use Rattle.std.proofs.lemmas.Bool.Decides.{nat_tests}
+use Rattle.std.proofs.Common.{◌≡◌, ℕ, List, [], length, Bool, true, false, cond, Option, Some, None, refl, inl, inr, ap, ◌∙◌}
 use Rattle.std.specs.Prelude.{◌⊎◌, codes, nat_le}
 use Rattle.go_base.specs.Colour.{colour_of}
 use Rattle.go_base.specs.Vertex.{written_vertex}
@@ -18,6 +17,7 @@ use Rattle.gtp_session.specs.declared.commands.CommandName.TheVariants.{Protocol
 use Rattle.gtp_session.specs.Commands.{Answer, answer, asked, id_of, argument, command_of, succeeds, fails, answer_move, answer_choice, answer_genmove, answer_to_named, asked_by_named, asked_by_genmove}
 use Rattle.gtp_session.specs.Engine.{State, WrittenReply, Step}
 use Rattle.gtp_session.specs.Laws.{AllowsLawful}
+use Rattle.gtp_session.proofs.MoveLemmas.{room_test}
 
 by_room_same : {A : Type 0} (x p q : A) (colour : Colour) (t : Bool) → cond t None (Some colour) ≡ None → cond t x p ≡ cond t x q
 by_room_same x p q colour true e = refl
@@ -118,9 +118,6 @@ made : (game : GameRecord) (c : Colour) (v : Vertex) (d : Dec (IsLegal game c v)
     → elim d [ yes _ ↦ succeeds (with_move game c v) [] | no _ ↦ fails game (codes "illegal move") ] ≡ succeeds (with_move game c v) []
 made game c v (yes _) l = refl
 made game c v (no k) l = absurd (k l)
-
-room_test : (n : ℕ) → n < most_moves → nat_le most_moves n ≡ false
-room_test n h = grind (arith, nat_tests)
 
 pub answer_move-legal : (game : GameRecord) (c : Colour) (v : Vertex) → HasRoom game → IsLegal game c v
     → answer_move game c v ≡ succeeds (with_move game c v) []

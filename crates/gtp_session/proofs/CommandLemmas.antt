@@ -1,5 +1,5 @@
 -- What an engine answers to the commands that a controller sends.
-use Rattle.std.proofs.Common.{◌≡◌, ℕ, ◌<◌, ◌≤◌, [], length, Option, Some, true, false, refl, sym, ◌∙◌, ap, subst, arith, lit≤}
+use Rattle.std.proofs.Common.{◌≡◌, ℕ, ◌≤◌, [], length, Option, Some, None, true, false, refl, sym, ◌∙◌, ap, subst, arith}
 use Rattle.std.specs.Prelude.{IfSome, IsTrue, ◌↔◌, nat_le, ◌&&◌}
 use Rattle.std.proofs.lemmas.Bool.Decides.{nat_tests}
 use Rattle.go_base.specs.Size.{IsSize, size_max}
@@ -8,7 +8,7 @@ use Rattle.go_base.specs.declared.colours.Colour.{Colour}
 use Rattle.go_base.specs.declared.vertices.Vertex.{Vertex}
 use Rattle.go_base.specs.declared.vertices.Vertex.TheVariants.{Pass, At}
 use Rattle.go_base.proofs.HandicapLemmas.{handicap_bounds}
-use Rattle.go_board.specs.Game.{GameRecord, HasRoom, IsLegal, most_moves}
+use Rattle.go_board.specs.Game.{GameRecord, HasRoom, IsLegal}
 use Rattle.gtp_wire.specs.declared.commands.Command.{Command}
 use Rattle.gtp_wire.specs.declared.commands.Command.TheVariants.{Boardsize, Komi, ClearBoard, FixedHandicap, Play, Genmove, Quit}
 use Rattle.gtp_wire.specs.Commands.{IsWritable, IsInLimits}
@@ -19,9 +19,9 @@ use Rattle.gtp_session.specs.Commands.{Answer, answer, asked, ends, succeeds, an
 use Rattle.gtp_session.specs.CommandAnswers.{line_of_command, after_command, success_text, GoesWell, MayBeSent}
 use Rattle.gtp_session.specs.Spoken.{IsLawfulAt}
 use Rattle.gtp_session.proofs.AnswerLemmas.{answer_move-legal}
-use Rattle.gtp_session.proofs.MoveLemmas.{answer_handicap-good}
+use Rattle.gtp_session.proofs.MoveLemmas.{answer_handicap-good, room_test}
 use Rattle.go_base.proofs.ReadBack.{size_reads, int_reads, komi_reads, colour_reads, vertex_reads}
-use Rattle.gtp_session.proofs.SpokenLemmas.{choice_fits}
+use Rattle.gtp_session.proofs.SpokenLemmas.{choice_fits, empty_fits}
 use Rattle.gtp_session.proofs.TextLemmas.{handicap_fits}
 
 pub well_may_be_sent : (game : GameRecord) (command : Command) → GoesWell game command → MayBeSent game command
@@ -52,6 +52,17 @@ may_be_written game Quit sent = absurd sent
 
 -- ---- the answer
 
+-- a script command asks no policy
+pub well_asks_none : (game : GameRecord) (id : Option ℕ) (command : Command) → GoesWell game command
+    → asked game (line_of_command id command) ≡ None
+well_asks_none game id (Boardsize size) well = refl
+well_asks_none game id (Komi komi) well = refl
+well_asks_none game id ClearBoard well = refl
+well_asks_none game id (FixedHandicap stones) well = refl
+well_asks_none game id (Play move) well = refl
+well_asks_none game id (Genmove colour) well = absurd well
+well_asks_none game id Quit well = absurd well
+
 size_test : (size : ℕ) → IsSize size → (nat_le 1 size && nat_le size size_max) ≡ true
 size_test size is =
     let least : 1 ≤ size = is.least in
@@ -77,9 +88,6 @@ well_answer game id (Play move) choice well =
     ∙ answer_move-legal game move.colour move.vertex well.0 well.1.0
 well_answer game id (Genmove colour) choice well = absurd well
 well_answer game id Quit choice well = absurd well
-
-room_test : (n : ℕ) → n < most_moves → nat_le most_moves n ≡ false
-room_test n few = grind (arith, nat_tests)
 
 genmove_with_room : (game : GameRecord) (colour : Colour) (choice : Choice) → HasRoom game
     → answer_genmove game (Some colour) choice ≡ answer_choice game colour choice
@@ -122,9 +130,6 @@ quit_ends id (Genmove colour) = (λ h. cc, λ h. cc)
 quit_ends id Quit = (λ h. refl, λ h. refl)
 
 -- ---- the text of the answer
-
-empty_fits : IsReplyText []
-empty_fits = record { fits = lit≤ tt; shown = refl; single = refl; front = refl; end = refl }
 
 success_fits : (game : GameRecord) (command : Command) → GoesWell game command → IsReplyText (success_text game command)
 success_fits game (Boardsize size) well = empty_fits

@@ -17,7 +17,8 @@ use Rattle.gtp_session.specs.Commands.{succeeds, fails, answer_move, answer_hand
 full_test : (n : ℕ) → most_moves ≤ n → nat_le most_moves n ≡ true
 full_test n h = grind (arith, nat_tests)
 
-room_test : (n : ℕ) → n < most_moves → nat_le most_moves n ≡ false
+-- the record has room
+pub room_test : (n : ℕ) → n < most_moves → nat_le most_moves n ≡ false
 room_test n h = grind (arith, nat_tests)
 
 not_legal : (game : GameRecord) (c : Colour) (v : Vertex) (d : Dec (IsLegal game c v)) → (IsLegal game c v → ⊥)

@@ -1,5 +1,5 @@
 -- What the commands that a controller sends do to an engine.
-use Rattle.std.specs.Prelude.{◌≡◌, ℕ, ◌≤◌, List, [], Option, Some, IsTrue, ◌↔◌}
+use Rattle.std.specs.Prelude.{◌≡◌, ℕ, ◌≤◌, List, [], Option, Some, None, IsTrue, ◌↔◌}
 use Rattle.go_base.specs.Size.{IsSize, size_max}
 use Rattle.go_base.specs.Komi.{IsKomi}
 use Rattle.go_base.specs.Handicap.{AllowsHandicap, handicap_points}
@@ -63,10 +63,11 @@ MayBeSent game Quit = ⊥
 
 -- a command of a script that goes well succeeds, and asks no policy
 abbrev pub ScriptCommandsSucceed : Type 0
-ScriptCommandsSucceed =
-    (game : GameRecord) (id : Option ℕ) (command : Command) (choice : Choice) → GoesWell game command
-    → answer game (line_of_command id command) choice ≡ succeeds (after_command game command)
-    (success_text game command)
+ScriptCommandsSucceed = (game : GameRecord) (id : Option ℕ) (command : Command) (choice : Choice)
+    → GoesWell game command
+    → (asked game (line_of_command id command) ≡ None)
+    × (answer game (line_of_command id command) choice
+    ≡ succeeds (after_command game command) (success_text game command))
 
 -- a `genmove` asks the policy for its colour where the record has room, and is answered by what it chooses
 abbrev pub GenmovesAreAnswered : Type 0
@@ -74,6 +75,6 @@ GenmovesAreAnswered = (game : GameRecord) (id : Option ℕ) (colour : Colour) (c
     → (asked game (line_of_command id (Genmove colour)) ≡ Some colour)
     × (answer game (line_of_command id (Genmove colour)) choice ≡ answer_choice game colour choice)
 
--- of the commands only `quit` ends the session, and it succeeds
+-- of the commands only `quit` ends the session
 abbrev pub OnlyQuitEnds : Type 0
 OnlyQuitEnds = (id : Option ℕ) (command : Command) → IsTrue (ends (line_of_command id command)) ↔ (command ≡ Quit)

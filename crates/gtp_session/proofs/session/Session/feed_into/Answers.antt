@@ -25,11 +25,12 @@ returns-in-Some-clause-replies g c =
     let found : Finds c.self.inside.reader (take c.feed-used.result.used c.args.input.now)
     (option_to_list c.feed-used.result.line) c.feed-used.new.self =
     record { rest = c.feed-used.ensures.rest; no_line = c.feed-used.ensures.no_line } in
-    let old = record { game = c.self.inside.game; policy = c.self.inside.policy; ended = c.self.inside.ended } in
     let now = c.answer-self-inside.new in
     let stepped =
-    Step-executes g.P.Policy.may old c.in-Some.line now.game now.policy c.answer-self-inside.result now.reply.items
-    (asked old.game c.in-Some.line) refl c.answer-self-inside.ensures.executes c.answer-self-inside.ensures.ends in
+    Step-executes g.P.Policy.may
+    (record { game = c.self.inside.game; policy = c.self.inside.policy; ended = c.self.inside.ended })
+    c.in-Some.line now.game now.policy c.answer-self-inside.result now.reply.items
+    (asked c.self.inside.game c.in-Some.line) refl c.answer-self-inside.ensures.executes c.answer-self-inside.ensures.ends in
     (stepped.0, rw (← c.self.view_is) (Replies-line g.P.Policy.may c.if-self.false (rw c.in-Some.is at found) stepped.1 refl))
 
 pub returns-in-Some-clause-line : goal.returns-in-Some-clause-line
