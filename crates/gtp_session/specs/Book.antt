@@ -46,7 +46,8 @@ abbrev pub choice_at : GameRecord → Colour → Option Place → Choice
 choice_at game colour None = choice.Play Pass
 choice_at game colour (Some Empty) = choice.Play Pass
 choice_at game colour (Some Resign) = choice.Resign
-choice_at game colour (Some (Play vertex)) = elim (legal? game colour vertex) [ yes _ ↦ choice.Play vertex | no _ ↦ choice.Play Pass ]
+choice_at game colour (Some (Play vertex)) =
+    elim (legal? game colour vertex) [ yes _ ↦ choice.Play vertex | no _ ↦ choice.Play Pass ]
 
 -- What the book chooses: by the place that has the number of the record's moves, counted from 0.
 abbrev pub booked : List Place → GameRecord → Colour → Choice

@@ -1,5 +1,5 @@
 -- The engine's commands, and what each of them does to the game and answers.
-use Rattle.std.specs.Prelude.{◌≡◌, ℕ, ℤ, Bool, true, false, ◌&&◌, zero, suc, ◌+◌, nat_le, pos, negsuc, List, [], ◌∷◌, ◌++◌, length, map, find, slice_get, Option, Some, None, is_some, option_and_then, if◌then◌else◌, MatchOption, codes}
+use Rattle.std.specs.Prelude.{◌≡◌, ℕ, ℤ, Bool, true, false, ◌&&◌, nat_le, List, [], ◌∷◌, length, map, find, slice_get, Option, Some, None, is_some, option_and_then, if◌then◌else◌, MatchOption, codes}
 use Rattle.std.specs.List.{join_with_byte}
 use Rattle.std.specs.Str.{bytes_eq}
 use Rattle.go_base.specs.Int.{int_of}
@@ -115,7 +115,10 @@ refusal_text Ko = codes "illegal move"
 abbrev pub answer_move : GameRecord → Colour → Vertex → Answer
 answer_move game colour vertex =
     if nat_le most_moves (length game.moves) then fails game (codes "record full")
-    else elim (legal? game colour vertex) [ yes _ ↦ succeeds (with_move game colour vertex) [] | no _ ↦ fails game (codes "illegal move") ]
+    else elim (legal? game colour vertex) [
+      | yes _ ↦ succeeds (with_move game colour vertex) []
+      | no _ ↦ fails game (codes "illegal move")
+    ]
 
 abbrev pub answer_play : GameRecord → Option Colour → Option Vertex → Answer
 answer_play game None vertex = syntax_error game
@@ -139,7 +142,8 @@ answer_handicap game (Some stones) =
 
 -- the last move is taken back, where there is one
 abbrev pub answer_undo : GameRecord → Answer
-answer_undo game = if nat_le 1 (length game.moves) then succeeds (without_last game) [] else fails game (codes "cannot undo")
+answer_undo game =
+    if nat_le 1 (length game.moves) then succeeds (without_last game) [] else fails game (codes "cannot undo")
 
 -- ---- genmove
 
@@ -249,7 +253,8 @@ is_genmove_line (line.Command command_line) = is_genmove (command_of command_lin
 
 -- the colour for which a command asks the policy, where it does
 abbrev pub asked_by_command : GameRecord → CommandName → List (List ℕ) → Option Colour
-asked_by_command game command words = if is_genmove (Some command) then asked_by_genmove game (argument colour_of words 1) else None
+asked_by_command game command words =
+    if is_genmove (Some command) then asked_by_genmove game (argument colour_of words 1) else None
 
 abbrev pub asked_by_named : GameRecord → Option CommandName → List (List ℕ) → Option Colour
 asked_by_named game (Some command) words = asked_by_command game command words
@@ -270,7 +275,8 @@ pub record Leaves (given : Answer) (id : Option ℕ) (game : GameRecord) (reply 
   pub reply_is : reply ≡ written_reply given.ok id given.text
 
 -- The policy was asked for this colour, or not at all, and the answer to what it chose was given.
-abbrev pub Executes : {P : Type 0} → May P → GameRecord → P → Option Colour → (Choice → Answer) → Option ℕ → GameRecord → P → List ℕ → Type 0
+abbrev pub Executes : {P : Type 0}
+    → May P → GameRecord → P → Option Colour → (Choice → Answer) → Option ℕ → GameRecord → P → List ℕ → Type 0
 Executes may game policy asked given id game_now policy_now reply =
     MatchOption asked
     ((policy_now ≡ policy) × ((choice : Choice) → Leaves (given choice) id game_now reply))

@@ -8,3 +8,5 @@ pub mod Commands
 pub mod Engine
 pub mod Conversation
 pub mod Laws
+pub mod Spoken
+pub mod CommandAnswers

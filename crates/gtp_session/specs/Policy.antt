@@ -5,7 +5,8 @@ use Rattle.go_board.specs.Game.{GameRecord, IsLegal}
 use Rattle.go_base.specs.declared.choices.Choice.{Choice}
 use Rattle.go_base.specs.declared.choices.Choice.TheVariants.{Resign, Play}
 
--- What a policy may do when it is asked for a colour's move in a game: its state before, its choice, and its state after.
+-- What a policy may do when it is asked for a colour's move in a game: its state before, its choice, and its state
+-- after.
 abbrev pub May : Type 0 → Type 1
 May P = P → GameRecord → Colour → Choice → P → Type 0
 

@@ -37,7 +37,8 @@ pub(crate) fn answer<P: Policy>(
     line: &Line,
     reply: &mut ReplyText,
 ) -> bool
-    ensures executes { Executes P.may game.old policy.old (asked game.old line.now) (answer game.old line.now) (id_of line.now) game.new policy.new reply.new.items }
+    ensures executes { Executes P.may game.old policy.old (asked game.old line.now)
+        (answer game.old line.now) (id_of line.now) game.new policy.new reply.new.items }
     ensures ends { result ≡ ends line.now }
 {
     match line {
@@ -56,7 +57,9 @@ fn answer_words<P: Policy>(
     line: &CommandLine,
     reply: &mut ReplyText,
 ) -> bool
-    ensures executes { Executes P.may game.old policy.old (asked_by_words game.old line.now.words) (answer_to_words game.old line.now.words) line.now.id game.new policy.new reply.new.items }
+    ensures executes { Executes P.may game.old policy.old (asked_by_words game.old line.now.words)
+        (answer_to_words game.old line.now.words) line.now.id
+        game.new policy.new reply.new.items }
     ensures ends { result ≡ is_quit (argument command_named line.now.words 0) }
 {
     match named_command(line) {
@@ -79,7 +82,10 @@ fn execute<P: Policy>(
     line: &CommandLine,
     reply: &mut ReplyText,
 )
-    ensures { Executes P.may game.old policy.old (asked_by_command game.old command line.now.words) (answer_to game.old command line.now.words) line.now.id game.new policy.new reply.new.items }
+    ensures { Executes P.may game.old policy.old
+        (asked_by_command game.old command line.now.words)
+        (answer_to game.old command line.now.words) line.now.id
+        game.new policy.new reply.new.items }
 {
     match command {
         CommandName::ProtocolVersion => success(line, reply, b"2"),
@@ -159,7 +165,8 @@ fn vertex_argument(line: &CommandLine) -> Option<Vertex>
 }
 
 fn known_command(line: &CommandLine, reply: &mut ReplyText)
-    ensures { (game : GameRecord) → Leaves (answer_known game (slice_get line.now.words 1)) line.now.id game reply.new.items }
+    ensures { (game : GameRecord) →
+        Leaves (answer_known game (slice_get line.now.words 1)) line.now.id game reply.new.items }
 {
     match line.word(1) {
         None => syntax_error(line, reply),
@@ -175,7 +182,8 @@ fn list_commands(line: &CommandLine, reply: &mut ReplyText)
 }
 
 fn boardsize(game: &mut Game, line: &CommandLine, reply: &mut ReplyText)
-    ensures { Leaves (answer_boardsize game.old (argument int_of line.now.words 1)) line.now.id game.new reply.new.items }
+    ensures { Leaves (answer_boardsize game.old (argument int_of line.now.words 1)) line.now.id
+        game.new reply.new.items }
 {
     match int_argument(line) {
         None => syntax_error(line, reply),
@@ -197,7 +205,8 @@ fn clear_board(game: &mut Game, line: &CommandLine, reply: &mut ReplyText)
 }
 
 fn komi(game: &mut Game, line: &CommandLine, reply: &mut ReplyText)
-    ensures { Leaves (answer_komi game.old (argument komi_of line.now.words 1)) line.now.id game.new reply.new.items }
+    ensures { Leaves (answer_komi game.old (argument komi_of line.now.words 1)) line.now.id
+        game.new reply.new.items }
 {
     match komi_argument(line) {
         None => syntax_error(line, reply),
@@ -209,7 +218,10 @@ fn komi(game: &mut Game, line: &CommandLine, reply: &mut ReplyText)
 }
 
 fn play(game: &mut Game, line: &CommandLine, reply: &mut ReplyText)
-    ensures { Leaves (answer_play game.old (argument colour_of line.now.words 1) (argument vertex_of line.now.words 2)) line.now.id game.new reply.new.items }
+    ensures { Leaves
+        (answer_play game.old (argument colour_of line.now.words 1)
+        (argument vertex_of line.now.words 2))
+        line.now.id game.new reply.new.items }
 {
     match colour_argument(line) {
         None => syntax_error(line, reply),
@@ -248,7 +260,10 @@ fn refusal_text(fault: PlayFault) -> &'static [u8]
 }
 
 fn genmove<P: Policy>(game: &mut Game, policy: &mut P, line: &CommandLine, reply: &mut ReplyText)
-    ensures { Executes P.may game.old policy.old (asked_by_genmove game.old (argument colour_of line.now.words 1)) (answer_genmove game.old (argument colour_of line.now.words 1)) line.now.id game.new policy.new reply.new.items }
+    ensures { Executes P.may game.old policy.old
+        (asked_by_genmove game.old (argument colour_of line.now.words 1))
+        (answer_genmove game.old (argument colour_of line.now.words 1)) line.now.id
+        game.new policy.new reply.new.items }
 {
     match colour_argument(line) {
         None => syntax_error(line, reply),
@@ -273,7 +288,9 @@ fn ask<P: Policy>(
     reply: &mut ReplyText,
 )
     requires { HasRoom game.old }
-    ensures { (choice : Choice) × (P.may policy.old game.old colour choice policy.new × Leaves (answer_choice game.old colour choice) line.now.id game.new reply.new.items) }
+    ensures { (choice : Choice) × (P.may policy.old game.old colour choice policy.new
+        × Leaves (answer_choice game.old colour choice) line.now.id
+        game.new reply.new.items) }
 {
     let choice = policy.choose(game, colour);
     make_choice(game, colour, choice, line, reply);
@@ -307,7 +324,8 @@ fn play_choice(
 )
     requires room { HasRoom game.old }
     requires legal { IsLegal game.old colour vertex }
-    ensures { Leaves (answer_choice game.old colour (choice.Play vertex)) line.now.id game.new reply.new.items }
+    ensures { Leaves (answer_choice game.old colour (choice.Play vertex)) line.now.id
+        game.new reply.new.items }
 {
     // Its contract tells that the size is in its limits.
     let _ = game.size();
@@ -318,7 +336,8 @@ fn play_choice(
 }
 
 fn fixed_handicap(game: &mut Game, line: &CommandLine, reply: &mut ReplyText)
-    ensures { Leaves (answer_handicap game.old (argument int_of line.now.words 1)) line.now.id game.new reply.new.items }
+    ensures { Leaves (answer_handicap game.old (argument int_of line.now.words 1)) line.now.id
+        game.new reply.new.items }
 {
     // Its contract tells that the size is in its limits.
     let _ = game.size();
@@ -342,7 +361,8 @@ fn undo(game: &mut Game, line: &CommandLine, reply: &mut ReplyText)
 }
 
 fn final_score(game: &Game, line: &CommandLine, reply: &mut ReplyText)
-    ensures { Leaves (succeeds game.now (score_text (score game.now))) line.now.id game.now reply.new.items }
+    ensures { Leaves (succeeds game.now (score_text (score game.now))) line.now.id
+        game.now reply.new.items }
 {
     success(line, reply, &write_score(game.score()));
 }

@@ -97,5 +97,6 @@ impl Policy for Book {
         }
     }
 
-    ghost lawful = { λ old game colour choice new e. lawful_place game colour (slice_get old (length game.moves)) choice e.0 };
+    ghost lawful = { λ old game colour choice new e.
+        lawful_place game colour (slice_get old (length game.moves)) choice e.0 };
 }

@@ -13,8 +13,8 @@ pub trait Policy: Drop {
     // Asked in a game for a colour, the first state may make this choice and leave the second state.
     ghost may: { Self → GameRecord → Colour → Choice → Self → Type 0 };
 
-    /// Chooses what the colour does next in the game: a resignation, or a vertex that is legal for the colour. Whose turn
-    /// it is doesn't count, nor whether the record has room.
+    /// Chooses what the colour does next in the game: a resignation, or a vertex that is legal for the colour. Whose
+    /// turn it is doesn't count, nor whether the record has room.
     fn choose(&mut self, game: &Game, colour: Colour) -> Choice
         ensures { may self.old game.now colour result self.new };
 

@@ -6,5 +6,6 @@ use Rattle.gtp_session.proofs.answers.final_score.Goals as goal
 
 pub success-requires : goal.success-requires
 success-requires c =
-    let is : c.deref.result.now ≡ score_text c.score.result = c.deref.ensures.0 ∙ c.write_score.ensures ∙ ap score_text (search rules) in
-    subst IsReplyText (sym is) (score_fits c.score.result c.score.type_inv)
+    let is : c.deref.result.now ≡ score_text c.score.result =
+    c.deref.ensures.0 ∙ c.write_score.ensures ∙ ap score_text (search rules) in
+    subst IsReplyText (sym is) (score_fits c.score.result)
