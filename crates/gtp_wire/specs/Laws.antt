@@ -154,8 +154,8 @@ pub data AreRead : List ℕ → List (List ℕ) → ℕ → Option (Result Reply
       → ReadsFirst old piece used (Some answer) new
       → AreRead old (piece ∷ pieces) used (Some answer) new
 
--- In whatever pieces a text is read, the same is told first, as many bytes are used, and the same is left, as if it were
--- read whole.
+-- In whatever pieces a text is read, the same is told first, as many bytes are used, and the same is left as if it
+-- were read whole.
 abbrev pub AnyPiecesTellAlike : Type 0
 AnyPiecesTellAlike = (old : List ℕ) (pieces : List (List ℕ)) (used : ℕ) (got : Option (Result Reply ReplyFault))
     (new : List ℕ)

@@ -1,4 +1,6 @@
-//! Laws of lines, commands and replies, for the crates that use them. Each is the contract of a function that does nothing.
+//! Laws of lines, commands and replies, for the crates that use them.
+//!
+//! Each is the contract of a function that does nothing.
 ghost use Rattle.gtp_wire.specs.Laws.{LinesGoOn, OnlyNewlinesEndLines, NewlinesBeginAnew, TextsAreRead};
 ghost use Rattle.gtp_wire.specs.Laws.{FindsAgree, FindsJoin, AnyPiecesReadAlike, WrittenLinesAreRead};
 ghost use Rattle.gtp_wire.specs.Laws.{WrittenCommandsAreLines, CommandFrontsAreOpen, CommandsAreShort};
