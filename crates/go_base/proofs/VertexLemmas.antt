@@ -131,14 +131,24 @@ spells_point_of p (letter ∷ digits) e =
 
 -- ---- a vertex
 
--- a text that spells a point is shorter than `pass`
-point_no_pass : (p : ℕ) (text : List ℕ) → SpellsPoint p text → bytes_eq (str_to_ascii_lowercase text) (codes "pass") ≡ false
-point_no_pass p text spelled =
+-- a text that spells a point has at most three bytes
+pub short_point : (p : ℕ) (text : List ℕ) → SpellsPoint p text → length text ≤ 3
+short_point p text spelled =
     let digits = written_int (row_of p) in
     let top : row_of p ≤ 25 = spelled.on.top in
     let short : length digits ≤ 2 = length-decimal-le 2 (row_of p) (omega arith) (omega arith) (omega arith) in
     let len : length text ≡ length (spelled.letter ∷ digits) = ap length spelled.shape in
-    let lower : length (str_to_ascii_lowercase text) ≡ length text = length-map text to_ascii_lowercase in
+    omega arith
+
+-- a word has as many bytes in small letters
+pub length-lowercase : (text : List ℕ) → length (str_to_ascii_lowercase text) ≡ length text
+length-lowercase text = length-map text to_ascii_lowercase
+
+-- so it is shorter than `pass`
+point_no_pass : (p : ℕ) (text : List ℕ) → SpellsPoint p text → bytes_eq (str_to_ascii_lowercase text) (codes "pass") ≡ false
+point_no_pass p text spelled =
+    let short = short_point p text spelled in
+    let lower = length-lowercase text in
     false_from_ne_true _ (λ e. let four : length (str_to_ascii_lowercase text) ≡ 4 = ap length ((bytes_eq-Decides (str_to_ascii_lowercase text) (codes "pass")).0 e) in omega arith)
 
 -- where a text spells a vertex, that is the vertex of it

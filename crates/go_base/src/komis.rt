@@ -6,8 +6,8 @@ ghost use Rattle.go_base.specs.Komi.{IsKomi, SpellsKomi, komi_of, half_points_ma
 ghost use Rattle.go_base.specs.Komi.{sign_of, minus, without_sign, unsigned_half_points_of};
 ghost use Rattle.go_base.specs.Komi.{front_digits, behind_digits, decimals_of, half_of, are_zeros};
 
-use crate::ints::{read_int, write_int};
-use crate::texts::push_bytes;
+use crate::ints::read_int;
+use crate::scores::write_half_points;
 use arrayvec::ArrayVec;
 use std::marker::Model;
 
@@ -82,21 +82,9 @@ impl Komi {
         }
         let mut text = ArrayVec::new();
         text.push(b'-');
-        push_bytes(&mut text, &points);
+        let _ = text.try_extend_from_slice(&points);
         text
     }
-}
-
-/// Writes a number of half points in points: the whole part without leading zeros, and `.5` where there is a half.
-pub fn write_half_points(half_points: u32) -> ArrayVec<u8, 12>
-    ensures { result.items ≡ written_half_points (pos half_points) }
-{
-    let mut text = ArrayVec::new();
-    push_bytes(&mut text, &write_int(half_points / 2));
-    if half_points % 2 == 1 {
-        push_bytes(&mut text, b".5");
-    }
-    text
 }
 
 /// The number with its sign.

@@ -4,6 +4,7 @@
 ghost use Rattle.go_base.specs.Int.{IntOfTells, IntsReadBack, SpellsOneInt};
 ghost use Rattle.go_base.specs.Colour.{ColourOfTells, ColoursReadBack, SpellsOneColour};
 ghost use Rattle.go_base.specs.Vertex.{VertexOfTells, VerticesReadBack, SpellsOneVertex};
+ghost use Rattle.go_base.specs.Choice.{ChoiceOfTells, SpellsOneChoice};
 ghost use Rattle.go_base.specs.Komi.{KomiOfTells, KomisReadBack, SpellsOneKomi};
 ghost use Rattle.go_base.specs.Point.{NeighboursAreBeside};
 
@@ -26,6 +27,12 @@ pub fn vertex_laws()
     ensures function { VertexOfTells }
     ensures read_back { VerticesReadBack }
     ensures one { SpellsOneVertex }
+{}
+
+/// A text spells at most one choice.
+pub fn choice_laws()
+    ensures function { ChoiceOfTells }
+    ensures one { SpellsOneChoice }
 {}
 
 /// A written komi is read back, and a text spells at most one komi.

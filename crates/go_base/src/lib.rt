@@ -1,6 +1,7 @@
 //! The values of the protocol and of Go, and their texts.
 #![tactic(auto)]
 
+mod choices;
 mod colours;
 mod handicaps;
 mod ints;
@@ -8,16 +9,18 @@ mod komis;
 pub mod laws;
 mod moves;
 mod points;
+mod scores;
 mod sizes;
-mod texts;
 mod vertices;
 
+pub use choices::Choice;
 pub use colours::{Colour, Side};
 pub use handicaps::handicap;
 pub use ints::{read_int, write_int};
-pub use komis::{Komi, write_half_points};
+pub use komis::Komi;
 pub use moves::Move;
 pub use points::Point;
+pub use scores::{write_half_points, write_score};
 pub use sizes::Size;
 pub use vertices::Vertex;
 

@@ -2,6 +2,7 @@
 ghost use Rattle.std.specs.Prelude.{◌≡◌, ◌↔◌, IsTrue, IsSome, IfSome};
 ghost use Rattle.go_base.specs.Size.{size_max};
 ghost use Rattle.go_base.specs.Point.{point, column_of, row_of, IsCrossing, IsOn};
+ghost use Rattle.go_base.specs.Vertex.{letter_of};
 
 use crate::sizes::Size;
 use std::marker::Model;
@@ -75,6 +76,18 @@ impl Point {
         ensures limits { IsOn size_max self }
     {
         u32::from(self.row)
+    }
+
+    /// The capital letter of the column: `A` to `H` for 1 to 8, and `J` to `Z` for 9 to 25.
+    pub fn letter(self) -> u8
+        ensures { result ≡ letter_of (column_of self) }
+    {
+        let column = self.column() as u8;
+        if column <= 8 {
+            b'A' - 1 + column
+        } else {
+            b'J' - 9 + column
+        }
     }
 
     /// Whether a board of that size has the point.

@@ -165,6 +165,31 @@ fn vertices_are_written_in_capitals(rt: HostRuntime) {
 }
 
 #[test]
+fn choices_are_resign_in_any_case_or_vertices(rt: HostRuntime) {
+    for text in ["resign", "RESIGN", "Resign", "rEsIgN"] {
+        assert_eq!(rt;
+            Choice::read(text.as_bytes()),
+            Some(Choice::Resign),
+            "{text}"
+        );
+    }
+    for text in ["J5", "j5"] {
+        let read = Choice::read(text.as_bytes());
+        assert_eq!(rt;
+            read,
+            Some(Choice::Play(Vertex::At(at(&rt, 9, 5)))),
+            "{text}"
+        );
+    }
+    assert_eq!(rt; Choice::read(b"PaSs"), Some(Choice::Play(Vertex::Pass)));
+    for text in [
+        "", "resig", "resigns", "resign ", " resign", "re", "I5", "A26", "D4 D5",
+    ] {
+        assert_eq!(rt; Choice::read(text.as_bytes()), None, "{text}");
+    }
+}
+
+#[test]
 fn komi_is_read_in_half_points(rt: HostRuntime) {
     let spelled = [
         ("6.5", 13),
@@ -243,6 +268,36 @@ fn a_score_past_the_limits_of_komi_is_written_like_one(rt: HostRuntime) {
         write_half_points(4_294_967_295).as_slice(),
         b"2147483647.5".as_slice()
     );
+}
+
+#[test]
+fn a_score_names_the_colour_that_leads(rt: HostRuntime) {
+    let written = [
+        (17, "B+8.5"),
+        (-1, "W+0.5"),
+        (0, "0"),
+        (1, "B+0.5"),
+        (2, "B+1"),
+        (-14, "W+7"),
+        (2_000_001_249, "B+1000000624.5"),
+        (-2_000_001_249, "W+1000000624.5"),
+        (2_147_483_647, "B+1073741823.5"),
+        (-2_147_483_648, "W+1073741824"),
+    ];
+    for (half_points, text) in written {
+        assert_eq!(rt;
+            write_score(half_points).as_slice(),
+            text.as_bytes(),
+            "{text}"
+        );
+    }
+}
+
+#[test]
+fn letters_of_columns_leave_out_i(rt: HostRuntime) {
+    for (column, letter) in [(1, b'A'), (8, b'H'), (9, b'J'), (10, b'K'), (25, b'Z')] {
+        assert_eq!(rt; at(&rt, column, 7).letter(), letter);
+    }
 }
 
 #[test]
@@ -337,6 +392,7 @@ fn long_texts_are_read_or_refused(rt: HostRuntime) {
     assert_eq!(rt; read_int(&text), Some(0));
     assert_eq!(rt; Colour::read(&text), None);
     assert_eq!(rt; Vertex::read(&text), None);
+    assert_eq!(rt; Choice::read(&text), None);
     assert_eq!(rt; Komi::read(&text), None);
     text[4999] = b'7';
     assert_eq!(rt; read_int(&text), Some(7));
@@ -349,6 +405,7 @@ fn the_laws_hold() {
     laws::int_laws();
     laws::colour_laws();
     laws::vertex_laws();
+    laws::choice_laws();
     laws::komi_laws();
     laws::neighbours_law();
 }
@@ -435,6 +492,10 @@ fn each_reader_of_two_bytes_is_a_slow_reading(rt: HostRuntime) {
             assert_eq!(rt; read_int(&text), slow_int(text[0], text[1]));
             assert_eq!(rt; Colour::read(&text), None);
             assert_eq!(rt; Vertex::read(&text), slow_vertex(text[0], text[1]));
+            assert_eq!(rt;
+                Choice::read(&text),
+                slow_vertex(text[0], text[1]).map(Choice::Play)
+            );
             assert_eq!(rt;
                 Komi::read(&text).map(|komi| komi.half_points()),
                 slow_komi(text[0], text[1])

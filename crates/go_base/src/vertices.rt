@@ -1,11 +1,11 @@
 //! Vertices: what a move plays.
 ghost use Rattle.std.specs.Prelude.{◌≡◌, ◌≤◌, IfSome, IfNone};
 ghost use Rattle.go_base.specs.Size.{size_max};
-ghost use Rattle.go_base.specs.Vertex.{letter_of, column_of_letter, row_of_digits, point_of};
+ghost use Rattle.go_base.specs.Vertex.{column_of_letter, row_of_digits, point_of, written_vertex};
+ghost use Rattle.go_base.specs.declared.vertices.Vertex.TheVariants.{At};
 
 use crate::ints::{read_int, write_int};
 use crate::points::Point;
-use crate::texts::push_bytes;
 use arrayvec::ArrayVec;
 
 /// A point, or a pass.
@@ -18,7 +18,7 @@ pub enum Vertex {
 }
 
 impl Vertex {
-    ghost use Rattle.go_base.specs.Vertex.{SpellsVertex, vertex_of, written_vertex};
+    ghost use Rattle.go_base.specs.Vertex.{SpellsVertex, vertex_of};
 
     /// Reads a vertex: the letter of a column, `A` to `H` or `J` to `Z`, and a row, 1 to 25 without leading zeros; or
     /// `pass`. The letters may be small or capital. `None` for every other text. A point that is read may be off a board that
@@ -39,15 +39,10 @@ impl Vertex {
     pub fn write(self) -> ArrayVec<u8, 4>
         ensures { result.items ≡ written_vertex self }
     {
-        let mut text = ArrayVec::new();
         match self {
-            Vertex::Pass => push_bytes(&mut text, b"pass"),
-            Vertex::At(point) => {
-                text.push(column_letter(point.column()));
-                push_bytes(&mut text, &write_int(point.row()));
-            }
+            Vertex::Pass => ArrayVec::from(*b"pass"),
+            Vertex::At(point) => write_point(point),
         }
-        text
     }
 }
 
@@ -86,16 +81,14 @@ fn read_row(digits: &[u8]) -> Option<u32>
     read_int(digits)
 }
 
-/// The capital letter of a column.
-fn column_letter(column: u32) -> u8
-    requires { column ≤ size_max }
-    ensures { result ≡ letter_of column }
+/// The capital letter of the point's column and its row.
+fn write_point(point: Point) -> ArrayVec<u8, 4>
+    ensures { result.items ≡ written_vertex (At point) }
 {
-    if column <= 8 {
-        b'A' - 1 + column as u8
-    } else {
-        b'J' - 9 + column as u8
-    }
+    let mut text = ArrayVec::new();
+    text.push(point.letter());
+    let _ = text.try_extend_from_slice(&write_int(point.row()));
+    text
 }
 
 impl Default for Vertex {

@@ -9,7 +9,7 @@ use Rattle.go_base.specs.Colour.{other}
 use Rattle.go_base.specs.declared.colours.Colour.{Colour}
 use Rattle.go_board.specs.Board.{at, stone}
 use Rattle.go_board.specs.Frame.{IsFramed, HasSize, SameEdge}
-use Rattle.go_board.specs.Decide.{holds}
+use Rattle.go_base.specs.Decide.{holds}
 use Rattle.go_board.specs.Flood.{AreTouching}
 use Rattle.go_board.specs.Put.{IsCaptured, captured?, is_captured, left_at, without_captured, captured_count, put}
 use Rattle.go_board.specs.declared.board.Cell.{Cell}

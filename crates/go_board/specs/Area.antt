@@ -8,7 +8,8 @@ use Rattle.go_board.specs.declared.board.Cell.{Cell}
 use Rattle.go_board.specs.declared.board.Cell.TheVariants.{Empty}
 use Rattle.go_board.specs.Board.{place_count, at, stone}
 use Rattle.go_board.specs.Chain.{Touches}
-use Rattle.go_board.specs.Decide.{holds, both?, either?, not?, cell?}
+use Rattle.go_base.specs.Decide.{holds, both?, either?, not?}
+use Rattle.go_board.specs.Decide.{cell?}
 use Rattle.go_board.specs.DecideChains.{touches?}
 use Rattle.go_board.specs.Game.{GameRecord, board_of}
 

@@ -6,7 +6,8 @@ use Rattle.std.proofs.lemmas.List.{get_or_past}
 use Rattle.go_base.specs.Point.{Neighbours}
 use Rattle.go_board.specs.Board.{at}
 use Rattle.go_board.specs.Chain.{Joined, itself, by_way_of, HasBeside, Touches}
-use Rattle.go_board.specs.Decide.{both?, either?, not?, by?, number?, cell?}
+use Rattle.go_base.specs.Decide.{both?, either?, not?, by?, number?}
+use Rattle.go_board.specs.Decide.{cell?}
 use Rattle.go_board.specs.declared.board.Cell.{Cell}
 use Rattle.go_board.specs.declared.board.Cell.TheVariants.{Edge}
 

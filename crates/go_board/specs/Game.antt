@@ -13,7 +13,8 @@ use Rattle.go_board.specs.declared.board.Cell.{Cell}
 use Rattle.go_board.specs.declared.board.Cell.TheVariants.{Empty}
 use Rattle.go_board.specs.Board.{at, empty_board, with_black}
 use Rattle.go_board.specs.Chain.{IsFree}
-use Rattle.go_board.specs.Decide.{both?, not?, by?, below?, on?, cell?, boards?}
+use Rattle.go_base.specs.Decide.{both?, not?, by?, below?}
+use Rattle.go_board.specs.Decide.{on?, cell?, boards?}
 use Rattle.go_board.specs.DecideChains.{touches?}
 use Rattle.go_board.specs.Put.{put}
 

@@ -8,6 +8,7 @@ pub mod Game
 pub mod Taken
 pub mod Area
 pub mod Refusals
+pub mod DecideGame
 pub mod Places
 pub mod Flood
 pub mod Kept

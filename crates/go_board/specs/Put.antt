@@ -7,7 +7,8 @@ use Rattle.go_board.specs.declared.board.Cell.{Cell}
 use Rattle.go_board.specs.declared.board.Cell.TheVariants.{Empty}
 use Rattle.go_board.specs.Board.{at, stone}
 use Rattle.go_board.specs.Chain.{IsFree}
-use Rattle.go_board.specs.Decide.{holds, both?, not?, cell?}
+use Rattle.go_base.specs.Decide.{holds, both?, not?}
+use Rattle.go_board.specs.Decide.{cell?}
 use Rattle.go_board.specs.DecideChains.{touches?}
 
 -- p holds a stone of this colour, and its chain has no liberty

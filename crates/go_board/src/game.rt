@@ -1,5 +1,6 @@
 //! A game: the record of its moves, and the board that the record makes.
 ghost use Rattle.std.specs.Prelude.{◌≡◌, ℕ, ◌<◌, ◌≤◌, ◌↔◌, ◌⊎◌, ◌+◌, ◌*◌, [], ◌∷◌, ◌++◌, if◌then◌else◌, IsTrue, IsErr, IfOk, OnOk, OnErr, MatchResult, length};
+ghost use Rattle.go_base.specs.Decide.{holds};
 ghost use Rattle.go_base.specs.Handicap.{AllowsHandicap, handicap_points};
 ghost use Rattle.go_board.specs.Board.{place_count};
 ghost use Rattle.go_board.specs.Taken.{same_colour};
@@ -50,6 +51,7 @@ impl Model for Game {
 impl Game {
     ghost use Rattle.go_board.specs.Board.{stone_at};
     ghost use Rattle.go_board.specs.Game.{most_moves, HasRoom, first_moves, without_last, with_move, board_of, Repeats, IsLegal, IsGame, IsFinished};
+    ghost use Rattle.go_board.specs.DecideGame.{finished?};
     ghost use Rattle.go_board.specs.Taken.{taken};
     ghost use Rattle.go_board.specs.Area.{score};
     ghost use Rattle.go_board.specs.Refusals.{RefusesPoint, RefusesVertex, Refuses, IsTouched, RefusesHandicap};
@@ -313,7 +315,8 @@ impl Game {
 
     /// Whether the last two moves of the record are passes.
     pub fn finished(&self) -> bool
-        ensures { IsTrue result ↔ IsFinished self.now }
+        ensures passes { IsTrue result ↔ IsFinished self.now }
+        ensures decided { result ≡ holds (finished? self.now) }
     {
         let [.., first, second] = self.moves() else {
             return false;

@@ -1,5 +1,5 @@
 //! A game's board as text.
-ghost use Rattle.std.specs.Prelude.{◌≡◌, ℕ, ◌+◌, ◌≤◌, [], ◌∷◌, ◌++◌, length};
+ghost use Rattle.std.specs.Prelude.{◌≡◌, ◌+◌, ◌<◌, ◌≤◌, [], ◌∷◌, ◌++◌};
 ghost use Rattle.arrayvec.specs.ArrayVec.{array_vec_len};
 ghost use Rattle.go_base.specs.Point.{point, IsCrossing};
 ghost use Rattle.go_base.specs.Size.{size_max, IsSize};
@@ -62,7 +62,7 @@ impl Game {
         ensures few { array_vec_len text.new ≤ array_vec_len text.old + ROW_MOST }
     {
         self.push_points(text, row);
-        push_bytes(text, &write_int(row));
+        let _ = text.try_extend_from_slice(&write_int(row));
     }
 
     /// Appends the points of a row.
@@ -94,10 +94,10 @@ impl Game {
         requires { array_vec_len text.old + CAPTURES_MOST ≤ TEXT_ROOM }
         ensures { text.new.items ≡ text.old.items ++ shown_captures self.now }
     {
-        push_bytes(text, b"captures B ");
-        push_bytes(text, &write_int(self.captured(Colour::Black)));
-        push_bytes(text, b" W ");
-        push_bytes(text, &write_int(self.captured(Colour::White)));
+        let _ = text.try_extend_from_slice(b"captures B ");
+        let _ = text.try_extend_from_slice(&write_int(self.captured(Colour::Black)));
+        let _ = text.try_extend_from_slice(b" W ");
+        let _ = text.try_extend_from_slice(&write_int(self.captured(Colour::White)));
     }
 }
 
@@ -122,28 +122,20 @@ fn push_letters(text: &mut BoardText, size: u32)
     text.push(b'A');
     for column in 2..=size {
         text.push(b' ');
-        text.push(letter(column));
+        push_letter(text, column);
     }
 }
 
-/// The letter of a column: `A` to `H`, then `J` to `Z`.
-fn letter(column: u32) -> u8
-    requires { column ≤ size_max }
-    ensures { result ≡ letter_of column }
+/// Appends the letter of a column.
+fn push_letter(text: &mut BoardText, column: u32)
+    requires column { IsCrossing column 1 }
+    requires room { array_vec_len text.old < TEXT_ROOM }
+    ensures letter { text.new.items ≡ text.old.items ++ letter_of column ∷ [] }
+    ensures len { array_vec_len text.new ≡ array_vec_len text.old + 1 }
 {
-    if column <= 8 {
-        b'A' - 1 + column as u8
-    } else {
-        b'J' - 9 + column as u8
+    if let Some(point) = Point::new(column, 1) {
+        text.push(point.letter());
     }
-}
-
-/// Appends the bytes.
-fn push_bytes(text: &mut BoardText, bytes: &[u8])
-    requires { array_vec_len text.old + length bytes.now ≤ TEXT_ROOM }
-    ensures { text.new.items ≡ text.old.items ++ bytes.now }
-{
-    let _ = text.try_extend_from_slice(bytes);
 }
 
 #[cfg(test)]

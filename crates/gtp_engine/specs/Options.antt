@@ -39,7 +39,8 @@ pub record IsCommandLine (app : App) : Type 0 where
 -- the policy of this name
 abbrev pub policy_named : Option Text → PolicyName
 policy_named None = First
-policy_named (Some name) = if bytes_eq name (codes "random") then Random else (if bytes_eq name (codes "book") then Book else First)
+policy_named (Some name) =
+    if bytes_eq name (codes "random") then Random else (if bytes_eq name (codes "book") then Book else First)
 
 -- the number that the text spells, where it spells one of 32 bits
 abbrev pub SpellsSeed : Text → ℕ → Type 0

@@ -39,7 +39,8 @@ static POLICY_NAMES: [&str; 3] = ["first", "random", "book"];
 /// request for help, or want of memory; its `Display` is the text for the user.
 pub fn read_options<'a, S: AsStr>(alloc: Global, words: &'a [S]) -> Result<Options<'a>, Error>
     ensures asked { IfOk result (AsksFor (map S.text words.entry.now)) }
-    ensures fault { IfErr result (λ error. kind_of error ≢ OutOfMemory → HasFault (map S.text words.entry.now) (kind_of error)) }
+    ensures fault { IfErr result (λ error. kind_of error ≢ OutOfMemory →
+        HasFault (map S.text words.entry.now) (kind_of error)) }
 {
     let matches = command(alloc)?.try_get_matches_from(words)?;
     Ok(Options {
@@ -90,7 +91,8 @@ fn policy_option<'a>(alloc: Global) -> Arg<'a>
 
 /// `--seed`
 fn seed_option<'a>(alloc: Global) -> Arg<'a>
-    ensures rule { rule_of result ≡ option_rule (codes "seed") (Some (Signed (pos 0) (pos 4294967295))) (codes "1") }
+    ensures rule { rule_of result ≡
+        option_rule (codes "seed") (Some (Signed (pos 0) (pos 4294967295))) (codes "1") }
     ensures local { result.global ≡ false }
 {
     Arg::new(alloc, "seed")

@@ -32,8 +32,8 @@ use std::io::{Read, Write};
 /// - 2 where the words have a mistake, or the text of `--book` is no book, whatever the policy is;
 /// - 3 where a read or a write failed, the reads were too many, or memory was refused.
 ///
-/// What a status other than 0 means is told on `errors`, and whether that can be written changes nothing. `alloc` gives the
-/// memory for reading the words; the conversation takes none.
+/// What a status other than 0 means is told on `errors`, and whether that can be written changes nothing. `alloc` gives
+/// the memory for reading the words; the conversation takes none.
 pub fn run<S: AsStr, R: Read, W: Write, E: Write>(
     alloc: Global,
     words: &[S],
@@ -110,18 +110,28 @@ fn converse<P: Policy, R: Incoming, W: Outgoing>(
     writer: &mut W,
 ) -> Result<Served, ServeFault>
     // What the writer took is the replies of an engine that was given nothing before, to all that the reader gave.
-    ensures answers { result ≢ Err ServeFault.Write → (engine : Engine P) × Conversation P.may (fresh policy) engine
-        (R.remaining reader.old) (R.remaining reader.new) (W.contents writer.old) (W.contents writer.new)
-        × (result ≡ Ok Served.Quit → engine.ended ≡ true) × (result ≡ Ok Served.EndOfInput → engine.ended ≡ false) }
+    ensures answers { result ≢ Err ServeFault.Write → (engine : Engine P)
+        × Conversation P.may (fresh policy) engine
+        (R.remaining reader.old) (R.remaining reader.new)
+        (W.contents writer.old) (W.contents writer.new)
+        × (result ≡ Ok Served.Quit → engine.ended ≡ true)
+        × (result ≡ Ok Served.EndOfInput → engine.ended ≡ false) }
     ensures end_of_input { result ≡ Ok Served.EndOfInput → IsAtEnd (R.remaining reader.new) }
     // After a fault of the writer it is a front of them.
-    ensures breaks { result ≡ Err ServeFault.Write → (engine : Engine P) × BrokenConversation P.may (fresh policy) engine
-        (R.remaining reader.old) (R.remaining reader.new) (W.contents writer.old) (W.contents writer.new) }
-    ensures read_failed { result ≡ Err ServeFault.Read → R.failures reader.new ≡ raised (R.failures reader.old) 1 }
-    ensures read_held { result ≢ Err ServeFault.Read → R.failures reader.new ≡ R.failures reader.old }
-    ensures write_failed { result ≡ Err ServeFault.Write → W.failures writer.new ≡ raised (W.failures writer.old) 1 }
-    ensures write_held { result ≢ Err ServeFault.Write → W.failures writer.new ≡ W.failures writer.old }
-    ensures too_many { result ≡ Err ServeFault.TooManyReads → R.reads reader.new ≡ raised (R.reads reader.old) MOST_READS }
+    ensures breaks { result ≡ Err ServeFault.Write → (engine : Engine P)
+        × BrokenConversation P.may (fresh policy) engine
+        (R.remaining reader.old) (R.remaining reader.new)
+        (W.contents writer.old) (W.contents writer.new) }
+    ensures read_failed { result ≡ Err ServeFault.Read →
+        R.failures reader.new ≡ raised (R.failures reader.old) 1 }
+    ensures read_held { result ≢ Err ServeFault.Read →
+        R.failures reader.new ≡ R.failures reader.old }
+    ensures write_failed { result ≡ Err ServeFault.Write →
+        W.failures writer.new ≡ raised (W.failures writer.old) 1 }
+    ensures write_held { result ≢ Err ServeFault.Write →
+        W.failures writer.new ≡ W.failures writer.old }
+    ensures too_many { result ≡ Err ServeFault.TooManyReads →
+        R.reads reader.new ≡ raised (R.reads reader.old) MOST_READS }
 {
     let mut session = Session::new(policy);
     serve(reader, writer, &mut session)

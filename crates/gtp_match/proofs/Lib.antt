@@ -5,11 +5,14 @@ pub mod HearLemmas
 pub mod SaysLemmas
 pub mod ScriptLemmas
 pub mod SoundLemmas
+pub mod TurnLemmas
+pub mod OutcomeLemmas
 pub mod ReplySound
+pub mod HeardSound
 pub mod HeardLemmas
 pub mod OpeningLemmas
 pub mod MoveTextLemmas
 pub mod CallsLemmas
 pub mod BoundLemmas
-pub mod AuditLemmas
+pub mod VerdictLemmas
 pub mod LimitLemmas

@@ -1,6 +1,5 @@
 -- What is answered to a line that asks a policy, and to one that asks none.
-use Rattle.std.proofs.Common.{◌≡◌, ℕ, ◌<◌, List, [], length, Bool, true, false, cond, Option, Some, None, refl, inl, inr, ap, sym, ◌∙◌, subst, arith}
-use Rattle.std.proofs.lemmas.Bool.Decides.{nat_tests}
+use Rattle.std.proofs.Common.{◌≡◌, ℕ, List, [], length, Bool, true, false, cond, Option, Some, None, refl, inl, inr, ap, ◌∙◌}
 use Rattle.std.specs.Prelude.{◌⊎◌, codes, nat_le}
 use Rattle.go_base.specs.Colour.{colour_of}
 use Rattle.go_base.specs.Vertex.{written_vertex}
@@ -11,23 +10,28 @@ use Rattle.gtp_wire.specs.Replies.{written_reply}
 use Rattle.gtp_wire.specs.declared.lines.Line.{Line}
 use Rattle.gtp_wire.specs.declared.lines.Line.TheVariants as line
 use Rattle.gtp_session.specs.Policy.{May, IsLawful}
-use Rattle.gtp_session.specs.declared.policy.Choice.{Choice}
-use Rattle.gtp_session.specs.declared.policy.Choice.TheVariants as choice
+use Rattle.go_base.specs.declared.choices.Choice.{Choice}
+use Rattle.go_base.specs.declared.choices.Choice.TheVariants as choice
 use Rattle.gtp_session.specs.declared.commands.CommandName.{CommandName}
 use Rattle.gtp_session.specs.declared.commands.CommandName.TheVariants.{ProtocolVersion, Name, Version, KnownCommand, ListCommands, Quit, Boardsize, ClearBoard, Komi, Play, Genmove, FixedHandicap, Undo, FinalScore, Showboard}
 use Rattle.gtp_session.specs.Commands.{Answer, answer, asked, id_of, argument, command_of, succeeds, fails, answer_move, answer_choice, answer_genmove, answer_to_named, asked_by_named, asked_by_genmove}
 use Rattle.gtp_session.specs.Engine.{State, WrittenReply, Step}
 use Rattle.gtp_session.specs.Laws.{AllowsLawful}
+use Rattle.gtp_session.proofs.MoveLemmas.{room_test}
 
 by_room_same : {A : Type 0} (x p q : A) (colour : Colour) (t : Bool) → cond t None (Some colour) ≡ None → cond t x p ≡ cond t x q
 by_room_same x p q colour true e = refl
 by_room_same x p q colour false e = cc
 
-genmove_same : (game : GameRecord) (o : Option Colour) (a b : Choice) → asked_by_genmove game o ≡ None → answer_genmove game o a ≡ answer_genmove game o b
+genmove_same : (game : GameRecord) (o : Option Colour) (a b : Choice) → asked_by_genmove game o ≡ None
+    → answer_genmove game o a ≡ answer_genmove game o b
 genmove_same game None a b e = refl
-genmove_same game (Some colour) a b e = by_room_same (fails game (codes "record full")) (answer_choice game colour a) (answer_choice game colour b) colour (nat_le most_moves (length game.moves)) e
+genmove_same game (Some colour) a b e =
+    by_room_same (fails game (codes "record full")) (answer_choice game colour a) (answer_choice game colour b) colour
+    (nat_le most_moves (length game.moves)) e
 
-named_same : (game : GameRecord) (named : Option CommandName) (words : List (List ℕ)) (a b : Choice) → asked_by_named game named words ≡ None → answer_to_named game named words a ≡ answer_to_named game named words b
+named_same : (game : GameRecord) (named : Option CommandName) (words : List (List ℕ)) (a b : Choice)
+    → asked_by_named game named words ≡ None → answer_to_named game named words a ≡ answer_to_named game named words b
 named_same game None words a b e = refl
 named_same game (Some Genmove) words a b e = genmove_same game (argument colour_of words 1) a b e
 named_same game (Some ProtocolVersion) words a b e = refl
@@ -49,15 +53,22 @@ pub answer-same : (game : GameRecord) (l : Line) (a b : Choice) → asked game l
 answer-same game line.TooLong a b e = refl
 answer-same game (line.Command cl) a b e = named_same game (command_of cl.words) cl.words a b e
 
-by_room_asked : {A : Type 0} (x : A) (colour asked_for : Colour) (f : Colour → A) (t : Bool) → cond t None (Some colour) ≡ Some asked_for → cond t x (f colour) ≡ f asked_for
+by_room_asked : {A : Type 0} (x : A) (colour asked_for : Colour) (f : Colour → A) (t : Bool)
+    → cond t None (Some colour) ≡ Some asked_for → cond t x (f colour) ≡ f asked_for
 by_room_asked x colour asked_for f true e = cc
 by_room_asked x colour asked_for f false e = let same : colour ≡ asked_for = cc in ap f same
 
-genmove_asked : (game : GameRecord) (o : Option Colour) (choice : Choice) (colour : Colour) → asked_by_genmove game o ≡ Some colour → answer_genmove game o choice ≡ answer_choice game colour choice
+genmove_asked : (game : GameRecord) (o : Option Colour) (choice : Choice) (colour : Colour)
+    → asked_by_genmove game o ≡ Some colour → answer_genmove game o choice ≡ answer_choice game colour choice
 genmove_asked game None choice colour e = cc
-genmove_asked game (Some c) choice colour e = by_room_asked (fails game (codes "record full")) c colour (λ (d : Colour). answer_choice game d choice) (nat_le most_moves (length game.moves)) e
+genmove_asked game (Some c) choice colour e =
+    by_room_asked (fails game (codes "record full")) c colour (λ (d : Colour). answer_choice game d choice)
+    (nat_le most_moves (length game.moves)) e
 
-named_asked : (game : GameRecord) (named : Option CommandName) (words : List (List ℕ)) (choice : Choice) (colour : Colour) → asked_by_named game named words ≡ Some colour → answer_to_named game named words choice ≡ answer_choice game colour choice
+named_asked : (game : GameRecord) (named : Option CommandName) (words : List (List ℕ)) (choice : Choice)
+    (colour : Colour)
+    → asked_by_named game named words ≡ Some colour
+    → answer_to_named game named words choice ≡ answer_choice game colour choice
 named_asked game None words choice colour e = cc
 named_asked game (Some Genmove) words choice colour e = genmove_asked game (argument colour_of words 1) choice colour e
 named_asked game (Some ProtocolVersion) words choice colour e = cc
@@ -75,7 +86,8 @@ named_asked game (Some Undo) words choice colour e = cc
 named_asked game (Some FinalScore) words choice colour e = cc
 named_asked game (Some Showboard) words choice colour e = cc
 
-answer-asked : (game : GameRecord) (l : Line) (choice : Choice) (colour : Colour) → asked game l ≡ Some colour → answer game l choice ≡ answer_choice game colour choice
+answer-asked : (game : GameRecord) (l : Line) (choice : Choice) (colour : Colour) → asked game l ≡ Some colour
+    → answer game l choice ≡ answer_choice game colour choice
 answer-asked game line.TooLong choice colour e = cc
 answer-asked game (line.Command cl) choice colour e = named_asked game (command_of cl.words) cl.words choice colour e
 
@@ -83,7 +95,8 @@ by_choice : (game new_game : GameRecord) (text : List ℕ) (id : Option ℕ) (co
     → new_game ≡ (answer_choice game colour choice).game
     → text ≡ written_reply (answer_choice game colour choice).ok id (answer_choice game colour choice).text
     → ((new_game ≡ game) × (text ≡ written_reply true id (codes "resign")))
-    ⊎ ((vertex : Vertex) × IsLegal game colour vertex × (new_game ≡ with_move game colour vertex) × (text ≡ written_reply true id (written_vertex vertex)))
+    ⊎ ((vertex : Vertex) × IsLegal game colour vertex × (new_game ≡ with_move game colour vertex)
+    × (text ≡ written_reply true id (written_vertex vertex)))
 by_choice game new_game text id colour choice.Resign lawful g t = inl (g, t)
 by_choice game new_game text id colour (choice.Play vertex) lawful g t = inr (vertex, lawful, g, t)
 
@@ -91,7 +104,8 @@ module _ {P : Type 0} (may : May P) where
   pub genmove-lawful : AllowsLawful may → {old new : State P} {l : Line} {reply : WrittenReply} {colour : Colour}
       → Step may old l reply new → asked old.game l ≡ Some colour
       → ((new.game ≡ old.game) × (reply.text ≡ written_reply true (id_of l) (codes "resign")))
-      ⊎ ((vertex : Vertex) × IsLegal old.game colour vertex × (new.game ≡ with_move old.game colour vertex) × (reply.text ≡ written_reply true (id_of l) (written_vertex vertex)))
+      ⊎ ((vertex : Vertex) × IsLegal old.game colour vertex × (new.game ≡ with_move old.game colour vertex)
+      × (reply.text ≡ written_reply true (id_of l) (written_vertex vertex)))
   genmove-lawful lawful {old} {new} {l} {reply} {colour} step e =
       let given = answer-asked old.game l step.choice colour e in
       let allowed = rw e at step.policy in
@@ -105,8 +119,6 @@ made : (game : GameRecord) (c : Colour) (v : Vertex) (d : Dec (IsLegal game c v)
 made game c v (yes _) l = refl
 made game c v (no k) l = absurd (k l)
 
-room_test : (n : ℕ) → n < most_moves → nat_le most_moves n ≡ false
-room_test n h = grind (arith, nat_tests)
-
-pub answer_move-legal : (game : GameRecord) (c : Colour) (v : Vertex) → HasRoom game → IsLegal game c v → answer_move game c v ≡ succeeds (with_move game c v) []
+pub answer_move-legal : (game : GameRecord) (c : Colour) (v : Vertex) → HasRoom game → IsLegal game c v
+    → answer_move game c v ≡ succeeds (with_move game c v) []
 answer_move-legal game c v room legal = rw (room_test (length game.moves) room) (made game c v (legal? game c v) legal)

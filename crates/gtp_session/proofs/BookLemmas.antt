@@ -11,7 +11,8 @@ abbrev onto : List Place → Option (List Place) → Option (List Place)
 onto places more = option_map (λ (rest : List Place). places ++ rest) more
 
 -- of all parts these places were read, and an iterator has the others left
-pub record HasRead {S : Type 0} (steps : S → Option (Bor (List ℕ)) → S → Type 0) (s : S) (all : List (List ℕ)) (places : List Place) : Type 0 where
+pub record HasRead {S : Type 0} (steps : S → Option (Bor (List ℕ)) → S → Type 0) (s : S) (all : List (List ℕ))
+    (places : List Place) : Type 0 where
   left : List (List ℕ)
   yields : AlwaysYields steps (λ part. part.now) s left
   reads : all_places (map place_of all) ≡ onto places (all_places (map place_of left))
@@ -38,12 +39,15 @@ goes : {S : Type 0} (steps : S → Option (Bor (List ℕ)) → S → Type 0) (s 
 goes steps s t part [] y step = absurd (y part t step)
 goes steps s t part (l ∷ ls) y step = let m = y.1 part t step in record { others = ls; is = ap (λ (k : List ℕ). k ∷ ls) (sym m.0); yields = m.1 }
 
-onto-more : (places : List Place) (place : Place) (more : Option (List Place)) → onto places (one_more (Some place) more) ≡ onto (places ++ place ∷ []) more
+onto-more : (places : List Place) (place : Place) (more : Option (List Place))
+    → onto places (one_more (Some place) more) ≡ onto (places ++ place ∷ []) more
 onto-more places place None = refl
 onto-more places place (Some more) = ap Some (sym (append_assoc places (place ∷ []) more))
 
-pub HasRead-more : {S : Type 0} (steps : S → Option (Bor (List ℕ)) → S → Type 0) (s t : S) (all : List (List ℕ)) (places new : List Place) (part : Bor (List ℕ)) (place : Place)
-    → HasRead steps s all places → steps s (Some part) t → Some place ≡ place_of part.now → new ≡ places ++ place ∷ [] → length places < most_places → HasRead steps t all new
+pub HasRead-more : {S : Type 0} (steps : S → Option (Bor (List ℕ)) → S → Type 0) (s t : S) (all : List (List ℕ))
+    (places new : List Place) (part : Bor (List ℕ)) (place : Place)
+    → HasRead steps s all places → steps s (Some part) t → Some place ≡ place_of part.now → new ≡ places ++ place ∷ []
+    → length places < most_places → HasRead steps t all new
 HasRead-more steps s t all places new part place h step is pushed room =
     let g = goes steps s t part h.left h.yields step in
     subst (λ (l : List Place). HasRead steps t all l) (sym pushed) (record {
@@ -58,7 +62,8 @@ HasRead-more steps s t all places new part place h step is pushed room =
     })
 
 -- a part that is no place
-pub HasRead-bad : {S : Type 0} (steps : S → Option (Bor (List ℕ)) → S → Type 0) (s t : S) (all : List (List ℕ)) (places : List Place) (part : Bor (List ℕ))
+pub HasRead-bad : {S : Type 0} (steps : S → Option (Bor (List ℕ)) → S → Type 0) (s t : S) (all : List (List ℕ))
+    (places : List Place) (part : Bor (List ℕ))
     → HasRead steps s all places → steps s (Some part) t → None ≡ place_of part.now → where_few (all_places (map place_of all)) ≡ None
 HasRead-bad steps s t all places part h step is =
     let g = goes steps s t part h.left h.yields step in
@@ -75,8 +80,10 @@ too_many places many = by_test (nat_le (length places) most_places) refl
     by_test false e = refl
 
 -- a place for which there is no room
-pub HasRead-full : {S : Type 0} (steps : S → Option (Bor (List ℕ)) → S → Type 0) (s t : S) (all : List (List ℕ)) (places : List Place) (part : Bor (List ℕ)) (place : Place)
-    → HasRead steps s all places → steps s (Some part) t → Some place ≡ place_of part.now → length places ≡ most_places → where_few (all_places (map place_of all)) ≡ None
+pub HasRead-full : {S : Type 0} (steps : S → Option (Bor (List ℕ)) → S → Type 0) (s t : S) (all : List (List ℕ))
+    (places : List Place) (part : Bor (List ℕ)) (place : Place)
+    → HasRead steps s all places → steps s (Some part) t → Some place ≡ place_of part.now → length places ≡ most_places
+    → where_few (all_places (map place_of all)) ≡ None
 HasRead-full steps s t all places part place h step is full =
     let g = goes steps s t part h.left h.yields step in
     ap where_few
@@ -88,7 +95,9 @@ HasRead-full steps s t all places part place h step is full =
   where
     past : (more : Option (List Place)) → where_few (onto (places ++ place ∷ []) more) ≡ None
     past None = refl
-    past (Some more) = too_many ((places ++ place ∷ []) ++ more) (omega (arith, length-append (places ++ place ∷ []) more, length-append places (place ∷ [])))
+    past (Some more) =
+        too_many ((places ++ place ∷ []) ++ more)
+        (omega (arith, length-append (places ++ place ∷ []) more, length-append places (place ∷ [])))
 
 -- no part is left
 pub HasRead-all : {S : Type 0} (steps : S → Option (Bor (List ℕ)) → S → Type 0) (s t : S) (all : List (List ℕ)) (places : List Place)
@@ -103,7 +112,8 @@ HasRead-all steps s t all places h step =
         by_test true e = refl
         by_test false e = absurd (let k : most_places < length places = grind (arith, nat_tests) in let f = h.few in omega arith)
 
-    by_left : (left : List (List ℕ)) → AlwaysYields steps (λ part. part.now) s left → all_places (map place_of all) ≡ onto places (all_places (map place_of left))
+    by_left : (left : List (List ℕ)) → AlwaysYields steps (λ part. part.now) s left
+        → all_places (map place_of all) ≡ onto places (all_places (map place_of left))
         → Some places ≡ where_few (all_places (map place_of all))
     by_left [] y e = sym (ap where_few (e ∙ ap Some (append-nil places)) ∙ fits)
     by_left (l ∷ ls) y e = absurd (y.0 t step)

@@ -7,7 +7,7 @@ use Rattle.std.proofs.lemmas.List.Elements.{filter_more, filter-append}
 use Rattle.std.proofs.lemmas.List.FromFn.{map-range_with_len_more}
 use Rattle.go_base.specs.Point.{point}
 use Rattle.go_base.specs.declared.colours.Colour.{Colour}
-use Rattle.go_board.specs.Decide.{holds}
+use Rattle.go_base.specs.Decide.{holds}
 use Rattle.go_board.specs.Game.{GameRecord}
 use Rattle.gtp_session.specs.Candidates.{row_points, points_of, candidates, IsCandidate, candidate?}
 
@@ -31,7 +31,8 @@ points_before-more row column points least =
     ∙ ap (λ l. points ++ l) (sym (map-range_with_len_more f 1 (column - 1) column (omega arith)))
     ∙ ap (λ n. points ++ map f (range_with_len 1 n)) (let e : column - 1 + 1 ≡ column + 1 - 1 = omega arith in e)
 
-pub points_before-all : (row size column : ℕ) (points : List ℕ) → column ≡ size + 1 → points ++ points_before row column ≡ points ++ row_points size row
+pub points_before-all : (row size column : ℕ) (points : List ℕ) → column ≡ size + 1
+    → points ++ points_before row column ≡ points ++ row_points size row
 unfolding points_before
 points_before-all row size column points past = ap (λ n. points ++ row_points n row) (let e : column - 1 ≡ size = omega arith in e)
 
@@ -45,7 +46,8 @@ range-more : (a n : ℕ) → range_with_len a (n + 1) ≡ range_with_len a n ++ 
 range-more a zero = ap (λ k. k ∷ []) (omega arith)
 range-more a (suc n) =
     ap (range_with_len a) (add-one (suc n))
-    ∙ ap (λ l. a ∷ l) (ap (range_with_len (a + 1)) (sym (add-one n)) ∙ range-more (a + 1) n ∙ ap (λ k. range_with_len (a + 1) n ++ k ∷ []) (omega arith))
+    ∙ ap (λ l. a ∷ l)
+    (ap (range_with_len (a + 1)) (sym (add-one n)) ∙ range-more (a + 1) n ∙ ap (λ k. range_with_len (a + 1) n ++ k ∷ []) (omega arith))
 
 -- one row more
 pub rows_before-more : (size row : ℕ) → 1 ≤ row → rows_before size row ++ row_points size row ≡ rows_before size (row + 1)
@@ -88,7 +90,8 @@ unfolding among
 among-none game colour points = refl
 
 -- one point more, which is a candidate
-pub among-yes : (game : GameRecord) (colour : Colour) (points : List ℕ) (i p : ℕ) → i < length points → p ≡ get_or points i p → IsCandidate game colour p
+pub among-yes : (game : GameRecord) (colour : Colour) (points : List ℕ) (i p : ℕ) → i < length points
+    → p ≡ get_or points i p → IsCandidate game colour p
     → among game colour (take (i + 1) points) ≡ among game colour (take i points) ++ p ∷ []
 unfolding among
 among-yes game colour points i p inside here is =
@@ -98,7 +101,8 @@ among-yes game colour points i p inside here is =
     ∙ ap (λ b. filter test (take i points) ++ cond b (p ∷ []) []) (holds-yes (candidate? game colour p) is)
 
 -- one point more, which is none
-pub among-no : (game : GameRecord) (colour : Colour) (points : List ℕ) (i p : ℕ) → i < length points → p ≡ get_or points i p → (IsCandidate game colour p → ⊥)
+pub among-no : (game : GameRecord) (colour : Colour) (points : List ℕ) (i p : ℕ) → i < length points
+    → p ≡ get_or points i p → (IsCandidate game colour p → ⊥)
     → among game colour (take (i + 1) points) ≡ among game colour (take i points)
 unfolding among
 among-no game colour points i p inside here is_not =

@@ -16,7 +16,9 @@ use Rattle.gtp_session.proofs.EngineLemmas.{Replies-nothing, Replies-then}
 
 -- the output of replies after others
 pub output_of-append : (rs ss : List WrittenReply) → output_of (rs ++ ss) ≡ output_of rs ++ output_of ss
-output_of-append rs ss = ap concat (map-append (λ reply. reply.text) rs ss) ∙ concat-append (map (λ reply. reply.text) rs) (map (λ reply. reply.text) ss)
+output_of-append rs ss =
+    ap concat (map-append (λ reply. reply.text) rs ss)
+    ∙ concat-append (map (λ reply. reply.text) rs) (map (λ reply. reply.text) ss)
 
 -- `&text[done..]`
 abbrev pub tail : List ℕ → ℕ → List ℕ
@@ -41,7 +43,8 @@ split-at text done used =
     ∙ append_assoc (take done text) (take used (tail text done)) (drop (done + used) text)
 
 -- more of a text was taken
-pub Appends-take : (a b c : Option (List ℕ)) (text : List ℕ) (done more : ℕ) → Appends a b (take done text) → Appends b c (take more (tail text done)) → Appends a c (take (done + more) text)
+pub Appends-take : (a b c : Option (List ℕ)) (text : List ℕ) (done more : ℕ) → Appends a b (take done text)
+    → Appends b c (take more (tail text done)) → Appends a c (take (done + more) text)
 Appends-take a b c text done more p q = rw (take-tail text done more) (Appends-trans a b c _ _ p q)
 
 -- a part was taken, and then nothing
@@ -61,7 +64,8 @@ module _ {P : Type 0} (may : May P) where
 
   -- more is read, and its replies are written
   pub Delivered-then : {a b c : Engine P} {text next : List ℕ} {held mid holds : Option (List ℕ)} (rs : List WrittenReply)
-      → Delivered may a text b held mid → Replies may b next c rs → Appends mid holds (output_of rs) → Delivered may a (text ++ next) c held holds
+      → Delivered may a text b held mid → Replies may b next c rs → Appends mid holds (output_of rs)
+      → Delivered may a (text ++ next) c held holds
   Delivered-then {held = held} {mid = mid} {holds = holds} rs p q taken =
       record {
         replies = p.replies ++ rs;
@@ -76,7 +80,8 @@ module _ {P : Type 0} (may : May P) where
 
   -- one more reply is written
   pub Delivered-reply : {a b c : Engine P} {text next : List ℕ} {reply : WrittenReply} {held mid holds : Option (List ℕ)}
-      → Delivered may a text b held mid → Replies may b next c (reply ∷ []) → Appends mid holds reply.text → Delivered may a (text ++ next) c held holds
+      → Delivered may a text b held mid → Replies may b next c (reply ∷ []) → Appends mid holds reply.text
+      → Delivered may a (text ++ next) c held holds
   Delivered-reply {reply = reply} p q taken = Delivered-then (reply ∷ []) p q (rw (append-nil reply.text) taken)
 
   -- both were delivered
@@ -89,7 +94,8 @@ module _ {P : Type 0} (may : May P) where
       → Delivered may a text b held mid → Replies may b next c (reply ∷ []) → StopsAtLine may b next → TakesPart reply.text mid holds
       → Breaks may a (text ++ (next ++ more)) c held holds
   Breaks-reply {a} {b} {c} {text} {next} {reply} more {held} {mid} {holds} p q stops cut =
-      let split : text ++ next ≡ (text ++ stops.front) ++ 10 ∷ [] = ap (λ (t : List ℕ). text ++ t) stops.ends ∙ sym (append_assoc text stops.front (10 ∷ [])) in
+      let split : text ++ next ≡ (text ++ stops.front) ++ 10 ∷ [] =
+      ap (λ (t : List ℕ). text ++ t) stops.ends ∙ sym (append_assoc text stops.front (10 ∷ [])) in
       record {
         front = text ++ stops.front;
         unread = more;
@@ -117,11 +123,15 @@ module _ {P : Type 0} (may : May P) where
         replies = p.replies ++ q.replies;
         before = Replies-then may p.engine q.before;
         last = q.last;
-        engine = rw (append_assoc text q.front (10 ∷ []), append_assoc p.replies q.replies (q.last ∷ [])) (Replies-then may p.engine q.engine);
+        engine =
+            rw (append_assoc text q.front (10 ∷ []), append_assoc p.replies q.replies (q.last ∷ []))
+            (Replies-then may p.engine q.engine);
         part = q.part;
         left = q.left;
         cut = q.cut;
-        taken = rw (output_of-append p.replies q.replies, append_assoc (output_of p.replies) (output_of q.replies) q.part) (Appends-trans held mid holds _ _ p.taken q.taken);
+        taken =
+            rw (output_of-append p.replies q.replies, append_assoc (output_of p.replies) (output_of q.replies) q.part)
+            (Appends-trans held mid holds _ _ p.taken q.taken);
       }
 
   -- nothing was read
@@ -171,11 +181,17 @@ GivesAtLeast-both {a = a} {b = b} {c = c} p q =
     }
 
 -- one read more, which gave at least one byte
-pub GivesAtLeast-read : {a b c : Option (List ℕ)} {m : ℕ} (count : ℕ) (buffer : List ℕ) → GivesAtLeast a b m → GivesBytes b c count buffer → GivesAtLeast a c (m + 1)
+pub GivesAtLeast-read : {a b c : Option (List ℕ)} {m : ℕ} (count : ℕ) (buffer : List ℕ) → GivesAtLeast a b m
+    → GivesBytes b c count buffer → GivesAtLeast a c (m + 1)
 GivesAtLeast-read count buffer p q =
-    GivesAtLeast-both p (record { input = take count buffer; given = q.given; enough = omega (arith, length-take-le count buffer, q.some, q.within) })
+    GivesAtLeast-both p (record {
+      input = take count buffer;
+      given = q.given;
+      enough = omega (arith, length-take-le count buffer, q.some, q.within);
+    })
 
 -- a read that gave nothing changes nothing
 pub GivesAtLeast-end : {a b c : Option (List ℕ)} {m : ℕ} → GivesAtLeast a b m → Consumes b c [] → GivesAtLeast a c m
 GivesAtLeast-end {a} {b} {c} {m} gave none =
-    subst (λ (n : ℕ). GivesAtLeast a c n) (omega arith) (GivesAtLeast-both {n = 0} gave (record { input = []; given = none; enough = omega arith }))
+    subst (λ (n : ℕ). GivesAtLeast a c n) (omega arith)
+    (GivesAtLeast-both {n = 0} gave (record { input = []; given = none; enough = omega arith }))

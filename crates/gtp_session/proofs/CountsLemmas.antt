@@ -6,7 +6,8 @@ pub raised-none : (count : ℕ) → raised count 0 ≡ count
 raised-none count = omega arith
 
 -- `most` is a number that no proof has to look at
-min_then : (top count m n : ℕ) → (count + min m (top - count)) + min n (top - (count + min m (top - count))) ≡ count + min (m + n) (top - count)
+min_then : (top count m n : ℕ)
+    → (count + min m (top - count)) + min n (top - (count + min m (top - count))) ≡ count + min (m + n) (top - count)
 min_then top count m n = omega arith
 
 pub raised-then : (count m n : ℕ) → raised (raised count m) n ≡ raised count (m + n)

@@ -7,7 +7,7 @@ use Rattle.gtp_wire.proofs.ReadingLemmas.{tail_of, lines_more, Finds-lines}
 use Rattle.std.specs.Prelude.{◌&&◌}
 use Rattle.go_base.specs.declared.colours.Colour.{Colour}
 use Rattle.go_board.specs.Game.{GameRecord}
-use Rattle.gtp_session.specs.declared.policy.Choice.TheVariants.{Resign}
+use Rattle.go_base.specs.declared.choices.Choice.TheVariants.{Resign}
 use Rattle.gtp_session.specs.Policy.{May}
 use Rattle.gtp_session.specs.Commands.{answer, asked, ends, id_of, is_genmove_line, Executes}
 use Rattle.gtp_session.specs.Engine.{Engine, State, WrittenReply, state_of, Step, Answers, Replies, StopsAtLine}
@@ -27,13 +27,15 @@ ended_both a b e f g = let h : b.ended ≡ a.ended = ap (λ x. x.ended) g in cc
 
 module _ {P : Type 0} (may : May P) where
   -- a state that has ended stays, whatever lines come
-  pub Answers-over : {old new : State P} {ls : List Line} {rs : List WrittenReply} → old.ended ≡ true → Answers may old ls rs new → (rs ≡ []) × (new ≡ old)
+  pub Answers-over : {old new : State P} {ls : List Line} {rs : List WrittenReply} → old.ended ≡ true
+      → Answers may old ls rs new → (rs ≡ []) × (new ≡ old)
   Answers-over e none = (refl, refl)
   Answers-over e (over f) = (refl, refl)
   Answers-over e (more f step rest) = cc
 
   -- what is answered to two texts of lines, one after the other
-  pub Answers-then : {a b c : State P} {xs ys : List Line} {rs ss : List WrittenReply} → Answers may a xs rs b → Answers may b ys ss c → Answers may a (xs ++ ys) (rs ++ ss) c
+  pub Answers-then : {a b c : State P} {xs ys : List Line} {rs ss : List WrittenReply} → Answers may a xs rs b
+      → Answers may b ys ss c → Answers may a (xs ++ ys) (rs ++ ss) c
   Answers-then none q = q
   Answers-then {a} {b} {c} {xs} {ys} {rs} {ss} (over e) q =
       let o = Answers-over e q in
@@ -45,7 +47,8 @@ module _ {P : Type 0} (may : May P) where
   Replies-over a text e = record { answered = over e; unread = λ f later. cc; idle = λ _. refl }
 
   -- lines are found in the text, and those after it stand in the new rest
-  pub Replies-found : {a b : Engine P} {text : List ℕ} {found : List Line} {rs : List WrittenReply} → a.ended ≡ false → Finds a.rest text found b.rest
+  pub Replies-found : {a b : Engine P} {text : List ℕ} {found : List Line} {rs : List WrittenReply} → a.ended ≡ false
+      → Finds a.rest text found b.rest
       → Answers may (state_of a) found rs (state_of b) → Replies may a text b rs
   Replies-found {a} {b} {text} {found} {rs} e f p =
       record {
@@ -54,12 +57,14 @@ module _ {P : Type 0} (may : May P) where
         idle = λ t. cc;
       }
 
-  both : {a b c : Engine P} {text next : List ℕ} {rs ss : List WrittenReply} (t : Bool) → b.ended ≡ t → Replies may a text b rs → Replies may b next c ss → Replies may a (text ++ next) c (rs ++ ss)
+  both : {a b c : Engine P} {text next : List ℕ} {rs ss : List WrittenReply} (t : Bool) → b.ended ≡ t
+      → Replies may a text b rs → Replies may b next c ss → Replies may a (text ++ next) c (rs ++ ss)
   both {a} {b} {c} {text} {next} {rs} {ss} true e p q =
       let same : c ≡ b = q.idle e in
       let none_more : ss ≡ [] = (Answers-over e q.answered).0 in
       let longer : List Line = lines (tail_of (a.rest ++ text) ++ next) in
-      let split : lines (a.rest ++ (text ++ next)) ≡ lines (a.rest ++ text) ++ longer = ap lines (sym (append_assoc a.rest text next)) ∙ lines_more (a.rest ++ text) next in
+      let split : lines (a.rest ++ (text ++ next)) ≡ lines (a.rest ++ text) ++ longer =
+      ap lines (sym (append_assoc a.rest text next)) ∙ lines_more (a.rest ++ text) next in
       rw (same, none_more) (record {
         answered = rw split (Answers-then p.answered (over e));
         unread = λ f later. cc;
@@ -78,11 +83,13 @@ module _ {P : Type 0} (may : May P) where
       }
 
   -- the replies to one text and then to the next are those to both
-  pub Replies-then : {a b c : Engine P} {text next : List ℕ} {rs ss : List WrittenReply} → Replies may a text b rs → Replies may b next c ss → Replies may a (text ++ next) c (rs ++ ss)
+  pub Replies-then : {a b c : Engine P} {text next : List ℕ} {rs ss : List WrittenReply} → Replies may a text b rs
+      → Replies may b next c ss → Replies may a (text ++ next) c (rs ++ ss)
   Replies-then {b = b} p q = both b.ended refl p q
 
   -- one line is found, and answered
-  pub Replies-line : {a b : Engine P} {text rest : List ℕ} {line : Line} {reply : WrittenReply} → a.ended ≡ false → Finds a.rest text (line ∷ []) rest
+  pub Replies-line : {a b : Engine P} {text rest : List ℕ} {line : Line} {reply : WrittenReply} → a.ended ≡ false
+      → Finds a.rest text (line ∷ []) rest
       → Step may (state_of a) line reply (state_of b) → b.rest ≡ rest → Replies may a text b (reply ∷ [])
   Replies-line e f step r = Replies-found e (rw r f) (more e step none)
 
@@ -97,9 +104,11 @@ module _ {P : Type 0} (may : May P) where
       }
 
   -- a line that was executed is a step
-  pub Step-executes : (old : State P) (line : Line) (game : GameRecord) (policy : P) (ended : Bool) (text : List ℕ) (colour : Option Colour) → asked old.game line ≡ colour
+  pub Step-executes : (old : State P) (line : Line) (game : GameRecord) (policy : P) (ended : Bool) (text : List ℕ)
+      (colour : Option Colour) → asked old.game line ≡ colour
       → Executes may old.game old.policy colour (answer old.game line) (id_of line) game policy text → ended ≡ ends line
-      → (genmove : Bool) × Step may old line (record { text = text; genmove = genmove }) (record { game = game; policy = policy; ended = ended })
+      → (genmove : Bool)
+      × Step may old line (record { text = text; genmove = genmove }) (record { game = game; policy = policy; ended = ended })
   Step-executes old line game policy ended text None a e end =
       let given = e.1 Resign in (
         is_genmove_line line && (answer old.game line Resign).ok,

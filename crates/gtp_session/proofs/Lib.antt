@@ -7,3 +7,5 @@ pub mod TextLemmas
 pub mod CandidatesLemmas
 pub mod BookLemmas
 pub mod AnswerLemmas
+pub mod SpokenLemmas
+pub mod CommandLemmas

@@ -10,13 +10,15 @@ use Rattle.go_board.specs.declared.faults.PlayFault.TheVariants.{Full, OffBoard,
 use Rattle.go_board.specs.Game.{GameRecord, IsLegal, HasRoom, most_moves, with_move, legal?}
 use Rattle.go_board.specs.Refusals.{Refuses, RefusesVertex, IsTouched}
 use Rattle.go_board.proofs.GameLemmas.{legal-or_refused}
-use Rattle.gtp_session.specs.Decide.{touched?, allows?}
+use Rattle.go_base.specs.Decide.{allows?}
+use Rattle.go_board.specs.DecideGame.{touched?}
 use Rattle.gtp_session.specs.Commands.{succeeds, fails, answer_move, answer_handicap, refusal_text, written_vertices}
 
 full_test : (n : ℕ) → most_moves ≤ n → nat_le most_moves n ≡ true
 full_test n h = grind (arith, nat_tests)
 
-room_test : (n : ℕ) → n < most_moves → nat_le most_moves n ≡ false
+-- the record has room
+pub room_test : (n : ℕ) → n < most_moves → nat_le most_moves n ≡ false
 room_test n h = grind (arith, nat_tests)
 
 not_legal : (game : GameRecord) (c : Colour) (v : Vertex) (d : Dec (IsLegal game c v)) → (IsLegal game c v → ⊥)
@@ -38,7 +40,8 @@ answer_move-refused game c v Occupied r = refused_vertex game c v Occupied r.0 r
 answer_move-refused game c v Suicide r = refused_vertex game c v Suicide r.0 r.1
 answer_move-refused game c v Ko r = refused_vertex game c v Ko r.0 r.1
 
-untouched : (game : GameRecord) (stones : ℕ) (d : Dec (IsTouched game)) (e : Dec (AllowsHandicap game.size stones)) → (IsTouched game → ⊥) → (AllowsHandicap game.size stones → ⊥)
+untouched : (game : GameRecord) (stones : ℕ) (d : Dec (IsTouched game)) (e : Dec (AllowsHandicap game.size stones))
+    → (IsTouched game → ⊥) → (AllowsHandicap game.size stones → ⊥)
     → elim d [
       | yes _ ↦ fails game (codes "board not empty")
       | no _ ↦ elim e [
@@ -55,7 +58,8 @@ pub answer_handicap-bad : (game : GameRecord) (stones : ℕ) → (IsTouched game
     → answer_handicap game (Some stones) ≡ fails game (codes "invalid number of stones")
 answer_handicap-bad game stones k l = untouched game stones (touched? game) (allows? game.size stones) k l
 
-allowed : (game : GameRecord) (stones : ℕ) (d : Dec (IsTouched game)) (e : Dec (AllowsHandicap game.size stones)) → (IsTouched game → ⊥) → AllowsHandicap game.size stones
+allowed : (game : GameRecord) (stones : ℕ) (d : Dec (IsTouched game)) (e : Dec (AllowsHandicap game.size stones))
+    → (IsTouched game → ⊥) → AllowsHandicap game.size stones
     → elim d [
       | yes _ ↦ fails game (codes "board not empty")
       | no _ ↦ elim e [
@@ -69,5 +73,6 @@ allowed game stones (no _) (no l) k a = absurd (l a)
 
 -- a number of stones that the size allows, on an empty board
 pub answer_handicap-good : (game : GameRecord) (stones : ℕ) → (IsTouched game → ⊥) → AllowsHandicap game.size stones
-    → answer_handicap game (Some stones) ≡ succeeds (record game { handicap = stones }) (written_vertices (handicap_points game.size stones))
+    → answer_handicap game (Some stones)
+    ≡ succeeds (record game { handicap = stones }) (written_vertices (handicap_points game.size stones))
 answer_handicap-good game stones k a = allowed game stones (touched? game) (allows? game.size stones) k a

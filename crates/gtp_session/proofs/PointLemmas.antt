@@ -22,7 +22,9 @@ written_vertices-push first points last =
     ap (λ (t : List (List ℕ)). join_with_byte 32 (written_vertex (At first) ∷ t)) (map-push points)
     ∙ join-push 32 (written_vertex (At first)) (map (λ p. written_vertex (At p)) points) (written_vertex (At last))
   where
-    map-push : (ps : List ℕ) → map (λ p. written_vertex (At p)) (ps ++ last ∷ []) ≡ map (λ p. written_vertex (At p)) ps ++ written_vertex (At last) ∷ []
+    map-push : (ps : List ℕ)
+        → map (λ p. written_vertex (At p)) (ps ++ last ∷ [])
+        ≡ map (λ p. written_vertex (At p)) ps ++ written_vertex (At last) ∷ []
     map-push [] = refl
     map-push (p ∷ ps) = ap (λ (t : List (List ℕ)). written_vertex (At p) ∷ t) (map-push ps)
 
@@ -35,7 +37,8 @@ pub record AreWritten (points more : List ℕ) (count : ℕ) (text : List ℕ) :
   pub written : text ≡ written_vertices (first ∷ take count more)
 
 -- one more is written
-pub AreWritten-push : (points more : List ℕ) (count : ℕ) (text new : List ℕ) (last : ℕ) → AreWritten points more count text → count < length more
+pub AreWritten-push : (points more : List ℕ) (count : ℕ) (text new : List ℕ) (last : ℕ)
+    → AreWritten points more count text → count < length more
     → last ≡ get_or more count last → length new ≤ length text + 5 → new ≡ (text ++ 32 ∷ []) ++ written_vertex (At last)
     → AreWritten points more (count + 1) new
 AreWritten-push points more count text new last so_far inside is longer appended =

@@ -1,14 +1,14 @@
 -- Texts that a reply may have.
-use Rattle.std.proofs.Common.{◌≡◌, ℕ, zero, suc, ◌+◌, ◌*◌, ◌/◌, ◌%◌, ◌^◌, ◌<◌, ◌≤◌, List, [], ◌∷◌, ◌++◌, length, map, reverse, Bool, true, false, cond, eqb, Option, Some, None, refl, ◌∙◌, ap, arith, append-nil, length-append, lit≤, lit<}
-use lib.Signed.{mag}
+use Rattle.std.proofs.Common.{◌≡◌, ℕ, zero, suc, ◌+◌, ◌*◌, ◌/◌, ◌%◌, ◌<◌, ◌≤◌, List, [], ◌∷◌, ◌++◌, length, map, reverse, Bool, true, false, cond, eqb, Option, Some, None, refl, ◌∙◌, ap, arith, append-nil, length-append, lit≤, lit<}
 use Rattle.std.specs.Prelude.{codes, All, ℤ, pos, negsuc}
 use Rattle.std.specs.List.{range_with_len, flat_map, join_with_byte, list_all, AllByRecursion}
 use Rattle.std.specs.Fmt.{digits, digits_onto, digit_glyph}
 use Rattle.std.proofs.lemmas.Bool.Decides.{nat_tests}
-use Rattle.std.proofs.lemmas.List.{reverse-append}
+use Rattle.std.proofs.lemmas.List.{reverse-append, length-reverse}
+use Rattle.std.proofs.lemmas.List.FromFn.{length-range_with_len}
 use Rattle.std.proofs.lemmas.List.Elements.{recursion_from_All}
 use Rattle.std.proofs.lemmas.Fmt.{length-decimal-le}
-use Rattle.go_base.specs.HalfPoints.{written_points}
+use Rattle.go_base.specs.HalfPoints.{written_points, score_text}
 use Rattle.go_base.specs.Handicap.{AllowsHandicap, handicap_points}
 use Rattle.go_base.specs.Int.{written_int}
 use Rattle.go_base.specs.Point.{point, column_of, row_of, IsOn}
@@ -23,8 +23,8 @@ use Rattle.go_board.specs.Board.{stone_at}
 use Rattle.go_board.specs.Game.{GameRecord, board_of, IsLegal}
 use Rattle.go_board.specs.Taken.{taken}
 use Rattle.go_board.specs.Show.{shown_point, shown_points, shown_row, shown_letters, shown_captures, rows_down, shown}
-use Rattle.gtp_session.specs.Commands.{score_text}
 use Rattle.gtp_wire.specs.Bytes.{is_newline, is_blank}
+use Rattle.gtp_wire.proofs.LineLemmas.{AllByRecursion-append}
 use Rattle.gtp_wire.specs.Replies.{has_two_newlines, is_shown, begins_blank, IsReplyText}
 
 -- ---- neat texts: bytes 33 to 126, with at most one space or newline between each two
@@ -64,9 +64,11 @@ neat-word b [] all = last all.0
 neat-word b (c ∷ w) all = ink all.0 (neat-word c w all.1)
 
 -- pieces with a space or a newline between each two
-pub neat-joined : (g : ℕ) (piece : List ℕ) (pieces : List (List ℕ)) → IsGap g → AllByRecursion IsNeat (piece ∷ pieces) → IsNeat (join_with_byte g (piece ∷ pieces))
+pub neat-joined : (g : ℕ) (piece : List ℕ) (pieces : List (List ℕ)) → IsGap g → AllByRecursion IsNeat (piece ∷ pieces)
+    → IsNeat (join_with_byte g (piece ∷ pieces))
 neat-joined g piece [] s all = all.0
-neat-joined g piece (next ∷ pieces) s all = neat-apart piece g (join_with_byte g (next ∷ pieces)) all.0 s (neat-joined g next pieces s all.1)
+neat-joined g piece (next ∷ pieces) s all =
+    neat-apart piece g (join_with_byte g (next ∷ pieces)) all.0 s (neat-joined g next pieces s all.1)
 
 -- ---- a neat text is one that a reply may have
 
@@ -99,9 +101,11 @@ neat-single [] n = elim n [ ]
 neat-single (x ∷ []) n = refl
 neat-single (x ∷ y ∷ t) (ink i n) = rw (ink-newline x i) (neat-single (y ∷ t) n)
 neat-single (x ∷ g ∷ []) (gap i s n) = elim n [ ]
-neat-single (x ∷ g ∷ y ∷ t) (gap i s n) = rw (ink-newline x i) (no_second g y t s (ink-newline y (neat-front y t n)) (neat-single (y ∷ t) n))
+neat-single (x ∷ g ∷ y ∷ t) (gap i s n) =
+    rw (ink-newline x i) (no_second g y t s (ink-newline y (neat-front y t n)) (neat-single (y ∷ t) n))
   where
-    no_second : (h z : ℕ) (u : List ℕ) → IsGap h → is_newline z ≡ false → has_two_newlines (z ∷ u) ≡ false → has_two_newlines (h ∷ z ∷ u) ≡ false
+    no_second : (h z : ℕ) (u : List ℕ) → IsGap h → is_newline z ≡ false → has_two_newlines (z ∷ u) ≡ false
+        → has_two_newlines (h ∷ z ∷ u) ≡ false
     no_second h z u space other single = single
     no_second h z u newline other single = rw other single
 
@@ -171,6 +175,109 @@ neat-written_int n =
     (either_some (eqb (n / 10) 0) (d ∷ []) (digits_onto 63 10 false (n / 10) (d ∷ [])) one (digits_onto-some 63 (n / 10) (d ∷ []) one))
     (digits_onto-ink 64 n [] tt)
 
+-- ---- how long texts are
+
+either_length : (b : Bool) (s t : List ℕ) (most : ℕ) → length s ≤ most → length t ≤ most → length (cond b s t) ≤ most
+either_length true s t most hs ht = hs
+either_length false s t most hs ht = ht
+
+digits_onto-few : (k n : ℕ) (acc : List ℕ) → length (digits_onto k 10 false n acc) ≤ k + length acc
+digits_onto-few zero n acc = omega arith
+digits_onto-few (suc k) n acc =
+    let d = digit_glyph false (n % 10) in
+    either_length (eqb (n / 10) 0) (d ∷ acc) (digits_onto k 10 false (n / 10) (d ∷ acc)) (suc k + length acc)
+    (omega arith) (omega (arith, digits_onto-few k (n / 10) (d ∷ acc)))
+
+-- whatever the number
+written_int-few : (n : ℕ) → length (written_int n) ≤ 64
+unfolding digits
+written_int-few n = digits_onto-few 64 n []
+
+joined_step : (g : ℕ) (piece : List ℕ) (pieces : List (List ℕ))
+    → length (join_with_byte g (piece ∷ pieces)) ≤ length piece + 1 + length (join_with_byte g pieces)
+joined_step g piece [] = omega arith
+joined_step g piece (next ∷ pieces) = omega (arith, length-append piece (g ∷ join_with_byte g (next ∷ pieces)))
+
+short-point : (stone : Option Colour) (points : List ℕ) → length (shown_point stone ++ points) ≤ 2 + length points
+short-point None points = omega arith
+short-point (Some Black) points = omega arith
+short-point (Some White) points = omega arith
+
+short-points : (stone_of : ℕ → Option Colour) (first n : ℕ)
+    → length (flat_map (λ k. shown_point (stone_of k)) (range_with_len first n)) ≤ 2 * n
+short-points stone_of first zero = omega arith
+short-points stone_of first (suc n) =
+    omega (
+      arith,
+      short-points stone_of (first + 1) n,
+      short-point (stone_of first) (flat_map (λ k. shown_point (stone_of k)) (range_with_len (first + 1) n)),
+    )
+
+short-row : (game : GameRecord) (row : ℕ) → game.size ≤ 25 → row ≤ 25 → length (shown_row game row) ≤ 52
+unfolding shown_points
+short-row game row most top =
+    let stone_of : ℕ → Option Colour = λ k. stone_at (board_of game) (point k row) in
+    omega (
+      arith,
+      most,
+      short-points stone_of 1 game.size,
+      length-append (flat_map (λ k. shown_point (stone_of k)) (range_with_len 1 game.size)) (written_int row),
+      length-decimal-le 2 row (omega arith) (omega (arith, top)) (omega (arith, top)),
+    )
+
+short-rows : (game : GameRecord) (rows : List ℕ) (letters captures : List ℕ) → game.size ≤ 25 → AllByRecursion (λ row. row ≤ 25) rows
+    → length (join_with_byte 10 (map (shown_row game) rows ++ letters ∷ captures ∷ []))
+    ≤ 53 * length rows + (length letters + 1 + length captures)
+short-rows game [] letters captures most top = omega (arith, length-append letters (10 ∷ captures))
+short-rows game (row ∷ rows) letters captures most top =
+    omega (
+      arith,
+      joined_step 10 (shown_row game row) (map (shown_row game) rows ++ letters ∷ captures ∷ []),
+      short-row game row most top.0,
+      short-rows game rows letters captures most top.1,
+    )
+
+short-letters : (first n : ℕ) → length (join_with_byte 32 (map (λ k. letter_of k ∷ []) (range_with_len first n))) ≤ 2 * n
+short-letters first zero = omega arith
+short-letters first (suc n) =
+    omega (
+      arith,
+      short-letters (first + 1) n,
+      joined_step 32 (letter_of first ∷ []) (map (λ k. letter_of k ∷ []) (range_with_len (first + 1) n)),
+    )
+
+short-captures : (game : GameRecord) → length (shown_captures game) ≤ 142
+short-captures game =
+    omega (
+      arith,
+      length-append (written_int (taken game Black)) (codes " W " ++ written_int (taken game White)),
+      written_int-few (taken game Black),
+      written_int-few (taken game White),
+    )
+
+range_most : (first n : ℕ) → first + n ≤ 26 → AllByRecursion (λ row. row ≤ 25) (range_with_len first n)
+range_most first zero most = tt
+range_most first (suc n) most = (omega (arith, most), range_most (first + 1) n (omega (arith, most)))
+
+all_reversed : (P : ℕ → Type 0) (xs : List ℕ) → AllByRecursion P xs → AllByRecursion P (reverse xs)
+all_reversed P [] all = tt
+all_reversed P (x ∷ xs) all =
+    rw (reverse-append (x ∷ []) xs) (AllByRecursion-append P (reverse xs) (x ∷ []) (all_reversed P xs all.1) (all.0, tt))
+
+-- a board's text of any game
+pub shown_short : (game : GameRecord) → game.size ≤ 25 → length (shown game) ≤ 2000
+unfolding shown shown_letters
+shown_short game most =
+    omega (
+      arith,
+      most,
+      short-captures game,
+      short-letters 1 game.size,
+      short-rows game (rows_down game.size) (shown_letters game.size) (shown_captures game) most
+          (all_reversed (λ row. row ≤ 25) (range_with_len 1 game.size) (range_most 1 game.size (omega (arith, most)))),
+      length-reverse (range_with_len 1 game.size) ∙ length-range_with_len 1 game.size,
+    )
+
 -- ---- a board's text
 
 neat-point : (stone : Option Colour) (points text : List ℕ) → IsNeat (points ++ text) → IsNeat ((shown_point stone ++ points) ++ text)
@@ -178,16 +285,20 @@ neat-point None points text n = gap (record { least = lit≤ tt; most = lit≤ t
 neat-point (Some Black) points text n = gap (record { least = lit≤ tt; most = lit≤ tt }) space n
 neat-point (Some White) points text n = gap (record { least = lit≤ tt; most = lit≤ tt }) space n
 
-neat-points : (stone_of : ℕ → Option Colour) (columns text : List ℕ) → IsNeat text → IsNeat (flat_map (λ k. shown_point (stone_of k)) columns ++ text)
+neat-points : (stone_of : ℕ → Option Colour) (columns text : List ℕ) → IsNeat text
+    → IsNeat (flat_map (λ k. shown_point (stone_of k)) columns ++ text)
 neat-points stone_of [] text n = n
 neat-points stone_of (k ∷ columns) text n =
     neat-point (stone_of k) (flat_map (λ j. shown_point (stone_of j)) columns) text (neat-points stone_of columns text n)
 
 neat-row : (game : GameRecord) (row : ℕ) → IsNeat (shown_row game row)
 unfolding shown_points
-neat-row game row = neat-points (λ k. stone_at (board_of game) (point k row)) (range_with_len 1 game.size) (written_int row) (neat-written_int row)
+neat-row game row =
+    neat-points (λ k. stone_at (board_of game) (point k row)) (range_with_len 1 game.size) (written_int row)
+    (neat-written_int row)
 
-neat-rows : (game : GameRecord) (rows : List ℕ) (below : List (List ℕ)) → AllByRecursion IsNeat below → AllByRecursion IsNeat (map (shown_row game) rows ++ below)
+neat-rows : (game : GameRecord) (rows : List ℕ) (below : List (List ℕ)) → AllByRecursion IsNeat below
+    → AllByRecursion IsNeat (map (shown_row game) rows ++ below)
 neat-rows game [] below all = all
 neat-rows game (row ∷ rows) below all = (neat-row game row, neat-rows game rows below all)
 
@@ -223,7 +334,8 @@ neat-captures game =
     let letter : (b : ℕ) → 33 ≤ b → b ≤ 126 → IsNeat (b ∷ []) = λ b least most. last (record { least = least; most = most }) in
     neat-apart (codes "captures") 32 _ neat_captures_word space
     (neat-apart (codes "B") 32 _ (letter 66 (lit≤ tt) (lit≤ tt)) space
-    (neat-apart (written_int (taken game Black)) 32 _ black space (neat-apart (codes "W") 32 _ (letter 87 (lit≤ tt) (lit≤ tt)) space white)))
+    (neat-apart (written_int (taken game Black)) 32 _ black space
+    (neat-apart (codes "W") 32 _ (letter 87 (lit≤ tt) (lit≤ tt)) space white)))
 
 neat-lines : (game : GameRecord) (rows : List ℕ) (letters captures : List ℕ) → IsNeat letters → IsNeat captures
     → IsNeat (join_with_byte 10 (map (shown_row game) rows ++ letters ∷ captures ∷ []))
@@ -233,11 +345,14 @@ neat-lines game (row ∷ rows) letters captures nl nc =
     (neat-row game row, neat-rows game rows (letters ∷ captures ∷ []) (nl, (nc, tt)))
 
 -- the text of a board may be that of a reply
-pub shown_fits : (game : GameRecord) → 1 ≤ game.size → game.size ≤ 25 → length (shown game) ≤ 2000 → IsReplyText (shown game)
+pub shown_fits : (game : GameRecord) → IsSize game.size → IsReplyText (shown game)
 unfolding shown
-shown_fits game least most few =
-    IsReplyText-neat (shown game) few
-    (neat-lines game (rows_down game.size) (shown_letters game.size) (shown_captures game) (neat-letters game.size least most) (neat-captures game))
+shown_fits game is_size =
+    let least : 1 ≤ game.size = is_size.least in
+    let most : game.size ≤ 25 = is_size.most in
+    IsReplyText-neat (shown game) (shown_short game most)
+    (neat-lines game (rows_down game.size) (shown_letters game.size) (shown_captures game)
+    (neat-letters game.size least most) (neat-captures game))
 
 -- ---- points
 
@@ -251,9 +366,11 @@ short-vertex size p most on = omega (arith, length-decimal-le 2 (row_of p) (omeg
 pub vertex_fits : (game : GameRecord) (c : Colour) (v : Vertex) → game.size ≤ 25 → IsLegal game c v → IsReplyText (written_vertex v)
 vertex_fits game c Pass most legal = record { fits = lit≤ tt; shown = refl; single = refl; front = refl; end = refl }
 vertex_fits game c (At p) most legal =
-    IsReplyText-neat (written_vertex (At p)) (omega (arith, short-vertex game.size p most legal.on_board)) (neat-vertex game.size p most legal.on_board)
+    IsReplyText-neat (written_vertex (At p)) (omega (arith, short-vertex game.size p most legal.on_board))
+    (neat-vertex game.size p most legal.on_board)
 
-neat-vertices : (size : ℕ) (points : List ℕ) → size ≤ 25 → AllByRecursion (IsOn size) points → AllByRecursion IsNeat (map (λ p. written_vertex (At p)) points)
+neat-vertices : (size : ℕ) (points : List ℕ) → size ≤ 25 → AllByRecursion (IsOn size) points
+    → AllByRecursion IsNeat (map (λ p. written_vertex (At p)) points)
 neat-vertices size [] most all = tt
 neat-vertices size (p ∷ points) most all = (neat-vertex size p most all.0, neat-vertices size points most all.1)
 
@@ -263,7 +380,13 @@ short-vertices size [] most all = lit≤ tt
 short-vertices size (p ∷ []) most all = omega (arith, short-vertex size p most all.0)
 short-vertices size (p ∷ q ∷ points) most all =
     let rest = join_with_byte 32 (map (λ k. written_vertex (At k)) (q ∷ points)) in
-    omega (arith, length-append (written_vertex (At p)) (32 ∷ rest), short-vertex size p most all.0, short-vertices size (q ∷ points) most all.1)
+    omega (
+      arith,
+      length-append (written_vertex (At p))
+          (32 ∷ rest),
+      short-vertex size p most all.0,
+      short-vertices size (q ∷ points) most all.1,
+    )
 
 points_fit-all : (size : ℕ) (points : List ℕ) → size ≤ 25 → AllByRecursion (IsOn size) points → length points ≤ 9
     → IsReplyText (join_with_byte 32 (map (λ p. written_vertex (At p)) points))
@@ -295,38 +418,43 @@ few_handicap_points size stones =
 pub handicap_fits : (size stones : ℕ) → IsSize size → AllowsHandicap size stones
     → IsReplyText (join_with_byte 32 (map (λ p. written_vertex (At p)) (handicap_points size stones)))
 handicap_fits size stones is_size allowed =
-    points_fit size (handicap_points size stones) is_size.most (handicap_sound size stones is_size allowed).on_board (few_handicap_points size stones)
+    points_fit size (handicap_points size stones) is_size.most (handicap_sound size stones is_size allowed).on_board
+    (few_handicap_points size stones)
 
 -- ---- scores
 
 neat-halved : (half : Bool) (t : List ℕ) → IsNeat t → IsNeat (t ++ cond half (codes ".5") [])
-neat-halved true t n = neat-append t (codes ".5") n (ink (record { least = lit≤ tt; most = lit≤ tt }) (last (record { least = lit≤ tt; most = lit≤ tt })))
+neat-halved true t n =
+    neat-append t (codes ".5") n (ink (record { least = lit≤ tt; most = lit≤ tt })
+    (last (record { least = lit≤ tt; most = lit≤ tt })))
 neat-halved false t n = rw append-nil n
 
 pub neat-written_points : (n : ℕ) → IsNeat (written_points n)
 neat-written_points n = neat-halved (eqb (n % 2) 1) (written_int (n / 2)) (neat-written_int (n / 2))
 
-short-halved : (half : Bool) (t : List ℕ) → length (t ++ cond half (codes ".5") []) ≤ length t + 2
-short-halved true t = omega (arith, length-append t (codes ".5"))
-short-halved false t = rw append-nil (omega arith)
-
-pub short-written_points : (n : ℕ) → n < 2 ^ 32 → length (written_points n) ≤ 12
-short-written_points n few =
-    omega (arith, short-halved (eqb (n % 2) 1) (written_int (n / 2)), length-decimal-le 10 (n / 2) (omega arith) (omega arith) (omega arith))
+short-written_points : (n : ℕ) → length (written_points n) ≤ 66
+short-written_points n =
+    let half : List ℕ = cond (eqb (n % 2) 1) (codes ".5") [] in
+    omega (
+      arith,
+      length-append (written_int (n / 2)) half,
+      written_int-few (n / 2),
+      either_length (eqb (n % 2) 1) (codes ".5") [] 2 (lit≤ tt) (lit≤ tt),
+    )
 
 -- a score behind the winner's letter may be the text of a reply
-pub black_score_fits : (n : ℕ) → n < 2 ^ 32 → IsReplyText (codes "B+" ++ written_points n)
-black_score_fits n few =
-    IsReplyText-neat (codes "B+" ++ written_points n) (omega (arith, short-written_points n few))
+black_score_fits : (n : ℕ) → IsReplyText (codes "B+" ++ written_points n)
+black_score_fits n =
+    IsReplyText-neat (codes "B+" ++ written_points n) (omega (arith, short-written_points n))
     (ink (record { least = lit≤ tt; most = lit≤ tt }) (ink (record { least = lit≤ tt; most = lit≤ tt }) (neat-written_points n)))
 
-pub white_score_fits : (n : ℕ) → n < 2 ^ 32 → IsReplyText (codes "W+" ++ written_points n)
-white_score_fits n few =
-    IsReplyText-neat (codes "W+" ++ written_points n) (omega (arith, short-written_points n few))
+white_score_fits : (n : ℕ) → IsReplyText (codes "W+" ++ written_points n)
+white_score_fits n =
+    IsReplyText-neat (codes "W+" ++ written_points n) (omega (arith, short-written_points n))
     (ink (record { least = lit≤ tt; most = lit≤ tt }) (ink (record { least = lit≤ tt; most = lit≤ tt }) (neat-written_points n)))
 
 -- a score may be the text of a reply
-pub score_fits : (half_points : ℤ) → mag half_points < 2147483648 → IsReplyText (score_text half_points)
-score_fits (pos zero) fits = IsReplyText-neat (written_points 0) (omega (arith, short-written_points 0 (lit< tt))) (neat-written_points 0)
-score_fits (pos (suc n)) fits = black_score_fits (suc n) (omega (arith, fits))
-score_fits (negsuc n) fits = white_score_fits (n + 1) (omega (arith, fits))
+pub score_fits : (half_points : ℤ) → IsReplyText (score_text half_points)
+score_fits (pos zero) = IsReplyText-neat (written_points 0) (omega (arith, short-written_points 0)) (neat-written_points 0)
+score_fits (pos (suc n)) = black_score_fits (suc n)
+score_fits (negsuc n) = white_score_fits (n + 1)

@@ -1,13 +1,12 @@
 -- A policy that reads its choices from a book. (Own.)
-use Rattle.std.specs.Prelude.{ℕ, ◌==◌, nat_le, List, [], ◌∷◌, length, map, slice_get, Option, Some, None, option_map, if◌then◌else◌, codes}
+use Rattle.std.specs.Prelude.{ℕ, ◌==◌, nat_le, List, [], ◌∷◌, length, map, slice_get, Option, Some, None, option_map, if◌then◌else◌}
 use Rattle.std.specs.List.{slice_split}
-use Rattle.go_base.specs.Vertex.{vertex_of}
-use Rattle.go_base.specs.Word.{is_word}
+use Rattle.go_base.specs.Choice.{choice_of}
 use Rattle.go_base.specs.declared.colours.Colour.{Colour}
 use Rattle.go_base.specs.declared.vertices.Vertex.TheVariants.{Pass}
 use Rattle.go_board.specs.Game.{GameRecord, legal?}
-use Rattle.gtp_session.specs.declared.policy.Choice.{Choice}
-use Rattle.gtp_session.specs.declared.policy.Choice.TheVariants as choice
+use Rattle.go_base.specs.declared.choices.Choice.{Choice}
+use Rattle.go_base.specs.declared.choices.Choice.TheVariants as choice
 use Rattle.gtp_session.specs.declared.book.Place.{Place}
 use Rattle.gtp_session.specs.declared.book.Place.TheVariants.{Empty, Resign, Play}
 
@@ -15,11 +14,14 @@ use Rattle.gtp_session.specs.declared.book.Place.TheVariants.{Empty, Resign, Pla
 abbrev pub most_places : ℕ
 most_places = 2000
 
--- The place that a text spells, where it spells one: nothing, `resign` in any case, or a vertex.
+-- the place of a choice
+abbrev pub place_of_choice : Choice → Place
+place_of_choice choice.Resign = Resign
+place_of_choice (choice.Play vertex) = Play vertex
+
+-- The place that a text spells, where it spells one: nothing, or a choice, so `resign` in any case, or a vertex.
 abbrev pub place_of : List ℕ → Option Place
-place_of text =
-    if length text == 0 then Some Empty
-    else (if is_word (codes "resign") text then Some Resign else option_map Play (vertex_of text))
+place_of text = if length text == 0 then Some Empty else option_map place_of_choice (choice_of text)
 
 -- the values of a list, where each of its members has one
 abbrev pub one_more : Option Place → Option (List Place) → Option (List Place)
@@ -44,7 +46,8 @@ abbrev pub choice_at : GameRecord → Colour → Option Place → Choice
 choice_at game colour None = choice.Play Pass
 choice_at game colour (Some Empty) = choice.Play Pass
 choice_at game colour (Some Resign) = choice.Resign
-choice_at game colour (Some (Play vertex)) = elim (legal? game colour vertex) [ yes _ ↦ choice.Play vertex | no _ ↦ choice.Play Pass ]
+choice_at game colour (Some (Play vertex)) =
+    elim (legal? game colour vertex) [ yes _ ↦ choice.Play vertex | no _ ↦ choice.Play Pass ]
 
 -- What the book chooses: by the place that has the number of the record's moves, counted from 0.
 abbrev pub booked : List Place → GameRecord → Colour → Choice

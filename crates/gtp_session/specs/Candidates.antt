@@ -8,10 +8,11 @@ use Rattle.go_base.specs.declared.colours.Colour.{Colour}
 use Rattle.go_base.specs.declared.colours.Colour.TheVariants.{Black, White}
 use Rattle.go_base.specs.declared.vertices.Vertex.TheVariants.{Pass, At}
 use Rattle.go_board.specs.Board.{stone_at}
-use Rattle.go_board.specs.Decide.{holds, both?, either?, by?, number?, on?}
+use Rattle.go_base.specs.Decide.{holds, both?, either?, by?, number?}
+use Rattle.go_board.specs.Decide.{on?}
 use Rattle.go_board.specs.Game.{GameRecord, board_of, IsLegal, legal?}
-use Rattle.gtp_session.specs.declared.policy.Choice.{Choice}
-use Rattle.gtp_session.specs.declared.policy.Choice.TheVariants.{Play}
+use Rattle.go_base.specs.declared.choices.Choice.{Choice}
+use Rattle.go_base.specs.declared.choices.Choice.TheVariants.{Play}
 
 -- a point of the board that is empty or holds a stone of the other colour
 pub record IsOpen (game : GameRecord) (colour : Colour) (p : ℕ) : Type 0 where
@@ -43,7 +44,10 @@ stone_is? (Some White) (Some Black) = no (λ e. cc)
 pub open? : (game : GameRecord) (colour : Colour) (p : ℕ) → Dec (IsOpen game colour p)
 open? game colour p =
     by? (λ h. record { on_board = h.0; stone = h.1 }) (λ o. (o.on_board, o.stone))
-    (both? (on? game.size p) (either? (stone_is? (stone_at (board_of game) p) None) (stone_is? (stone_at (board_of game) p) (Some (other colour)))))
+    (both? (on? game.size p)
+    (either?
+    (stone_is? (stone_at (board_of game) p) None)
+    (stone_is? (stone_at (board_of game) p) (Some (other colour)))))
 
 -- q is an open neighbour of p
 abbrev IsOpenBeside : GameRecord → Colour → ℕ → ℕ → Type 0
@@ -51,12 +55,15 @@ IsOpenBeside game colour p q = Neighbours p q × IsOpen game colour q
 
 open_beside? : (game : GameRecord) (colour : Colour) (p q : ℕ) → Dec (IsOpenBeside game colour p q)
 open_beside? game colour p q =
-    both? (either? (number? q (p + 1)) (either? (number? p (q + 1)) (either? (number? q (p + 26)) (number? p (q + 26))))) (open? game colour q)
+    both?
+    (either? (number? q (p + 1)) (either? (number? p (q + 1)) (either? (number? q (p + 26)) (number? p (q + 26)))))
+    (open? game colour q)
 
 -- one of the four neighbours is open
 abbrev FourBeside : GameRecord → Colour → ℕ → Type 0
 FourBeside game colour p =
-    IsOpenBeside game colour p (p + 1) ⊎ (IsOpenBeside game colour p (p - 1) ⊎ (IsOpenBeside game colour p (p + 26) ⊎ IsOpenBeside game colour p (p - 26)))
+    IsOpenBeside game colour p (p + 1)
+    ⊎ (IsOpenBeside game colour p (p - 1) ⊎ (IsOpenBeside game colour p (p + 26) ⊎ IsOpenBeside game colour p (p - 26)))
 
 pub open_neighbour? : (game : GameRecord) (colour : Colour) (p : ℕ) → Dec (HasOpenNeighbour game colour p)
 open_neighbour? game colour p =
@@ -113,7 +120,8 @@ fact (yes a) e = a
 fact (no k) e = cc
 
 -- what stands in a filtered list passes the test
-passes : {X : Type 0} (test : X → Bool) (xs : List X) (k : ℕ) (x : X) → slice_get (filter test xs) k ≡ Some x → test x ≡ true
+passes : {X : Type 0} (test : X → Bool) (xs : List X) (k : ℕ) (x : X)
+    → slice_get (filter test xs) k ≡ Some x → test x ≡ true
 passes test [] k x e = cc
 passes test (y ∷ ys) k x e = step (test y) refl k e (λ j f. passes test ys j x f)
   where
@@ -124,6 +132,8 @@ passes test (y ∷ ys) k x e = step (test y) refl k e (λ j f. passes test ys j 
     step false t k e rest = rest k e
 
 -- the candidates are candidates, and so they are legal
-pub candidates-are : (game : GameRecord) (colour : Colour) (k p : ℕ) → slice_get (candidates game colour) k ≡ Some p → IsCandidate game colour p
+pub candidates-are : (game : GameRecord) (colour : Colour) (k p : ℕ)
+    → slice_get (candidates game colour) k ≡ Some p → IsCandidate game colour p
 unfolding candidates
-candidates-are game colour k p e = fact (candidate? game colour p) (passes (λ p. holds (candidate? game colour p)) (points_of game.size) k p e)
+candidates-are game colour k p e =
+    fact (candidate? game colour p) (passes (λ p. holds (candidate? game colour p)) (points_of game.size) k p e)

@@ -1,5 +1,5 @@
 -- The engine's commands, and what each of them does to the game and answers.
-use Rattle.std.specs.Prelude.{◌≡◌, ℕ, ℤ, Bool, true, false, ◌&&◌, zero, suc, ◌+◌, nat_le, pos, negsuc, List, [], ◌∷◌, ◌++◌, length, map, find, slice_get, Option, Some, None, is_some, option_and_then, if◌then◌else◌, MatchOption, codes}
+use Rattle.std.specs.Prelude.{◌≡◌, ℕ, ℤ, Bool, true, false, ◌&&◌, nat_le, List, [], ◌∷◌, length, map, find, slice_get, Option, Some, None, is_some, option_and_then, if◌then◌else◌, MatchOption, codes}
 use Rattle.std.specs.List.{join_with_byte}
 use Rattle.std.specs.Str.{bytes_eq}
 use Rattle.go_base.specs.Int.{int_of}
@@ -7,7 +7,7 @@ use Rattle.go_base.specs.Size.{size_max}
 use Rattle.go_base.specs.Colour.{colour_of}
 use Rattle.go_base.specs.Vertex.{vertex_of, written_vertex}
 use Rattle.go_base.specs.Komi.{komi_of}
-use Rattle.go_base.specs.HalfPoints.{written_points}
+use Rattle.go_base.specs.HalfPoints.{score_text}
 use Rattle.go_base.specs.Handicap.{handicap_points}
 use Rattle.go_base.specs.declared.colours.Colour.{Colour}
 use Rattle.go_base.specs.declared.vertices.Vertex.{Vertex}
@@ -15,15 +15,16 @@ use Rattle.go_base.specs.declared.vertices.Vertex.TheVariants.{At}
 use Rattle.go_board.specs.declared.faults.PlayFault.{PlayFault}
 use Rattle.go_board.specs.declared.faults.PlayFault.TheVariants.{Full, OffBoard, Occupied, Suicide, Ko}
 use Rattle.go_board.specs.Game.{GameRecord, most_moves, with_move, without_last, legal?}
-use Rattle.gtp_session.specs.Decide.{touched?, allows?}
+use Rattle.go_base.specs.Decide.{allows?}
+use Rattle.go_board.specs.DecideGame.{touched?}
 use Rattle.go_board.specs.Show.{shown}
 use Rattle.go_board.specs.Area.{score}
 use Rattle.gtp_wire.specs.Replies.{written_reply}
 use Rattle.gtp_wire.specs.declared.lines.Line.{Line}
 use Rattle.gtp_wire.specs.declared.lines.Line.TheVariants as line
 use Rattle.gtp_session.specs.Policy.{May}
-use Rattle.gtp_session.specs.declared.policy.Choice.{Choice}
-use Rattle.gtp_session.specs.declared.policy.Choice.TheVariants as choice
+use Rattle.go_base.specs.declared.choices.Choice.{Choice}
+use Rattle.go_base.specs.declared.choices.Choice.TheVariants as choice
 use Rattle.gtp_session.specs.declared.commands.CommandName.{CommandName}
 use Rattle.gtp_session.specs.declared.commands.CommandName.TheVariants.{ProtocolVersion, Name, Version, KnownCommand, ListCommands, Quit, Boardsize, ClearBoard, Komi, Play, Genmove, FixedHandicap, Undo, FinalScore, Showboard}
 
@@ -114,7 +115,10 @@ refusal_text Ko = codes "illegal move"
 abbrev pub answer_move : GameRecord → Colour → Vertex → Answer
 answer_move game colour vertex =
     if nat_le most_moves (length game.moves) then fails game (codes "record full")
-    else elim (legal? game colour vertex) [ yes _ ↦ succeeds (with_move game colour vertex) [] | no _ ↦ fails game (codes "illegal move") ]
+    else elim (legal? game colour vertex) [
+      | yes _ ↦ succeeds (with_move game colour vertex) []
+      | no _ ↦ fails game (codes "illegal move")
+    ]
 
 abbrev pub answer_play : GameRecord → Option Colour → Option Vertex → Answer
 answer_play game None vertex = syntax_error game
@@ -138,7 +142,8 @@ answer_handicap game (Some stones) =
 
 -- the last move is taken back, where there is one
 abbrev pub answer_undo : GameRecord → Answer
-answer_undo game = if nat_le 1 (length game.moves) then succeeds (without_last game) [] else fails game (codes "cannot undo")
+answer_undo game =
+    if nat_le 1 (length game.moves) then succeeds (without_last game) [] else fails game (codes "cannot undo")
 
 -- ---- genmove
 
@@ -156,23 +161,6 @@ answer_genmove game (Some colour) choice =
 abbrev pub asked_by_genmove : GameRecord → Option Colour → Option Colour
 asked_by_genmove game None = None
 asked_by_genmove game (Some colour) = if nat_le most_moves (length game.moves) then None else Some colour
-
--- ---- final_score
-
--- the colour that leads, before its points; nothing where the score is even
-abbrev pub leader : ℤ → List ℕ
-leader (pos zero) = []
-leader (pos (suc n)) = codes "B+"
-leader (negsuc n) = codes "W+"
-
--- how many half points it leads by
-abbrev pub lead : ℤ → ℕ
-lead (pos n) = n
-lead (negsuc n) = n + 1
-
--- `B+` or `W+` and the points, or `0` (the standard, tournament commands: final_score)
-abbrev pub score_text : ℤ → List ℕ
-score_text half_points = leader half_points ++ written_points (lead half_points)
 
 -- ---- every command
 
@@ -265,7 +253,8 @@ is_genmove_line (line.Command command_line) = is_genmove (command_of command_lin
 
 -- the colour for which a command asks the policy, where it does
 abbrev pub asked_by_command : GameRecord → CommandName → List (List ℕ) → Option Colour
-asked_by_command game command words = if is_genmove (Some command) then asked_by_genmove game (argument colour_of words 1) else None
+asked_by_command game command words =
+    if is_genmove (Some command) then asked_by_genmove game (argument colour_of words 1) else None
 
 abbrev pub asked_by_named : GameRecord → Option CommandName → List (List ℕ) → Option Colour
 asked_by_named game (Some command) words = asked_by_command game command words
@@ -286,7 +275,8 @@ pub record Leaves (given : Answer) (id : Option ℕ) (game : GameRecord) (reply 
   pub reply_is : reply ≡ written_reply given.ok id given.text
 
 -- The policy was asked for this colour, or not at all, and the answer to what it chose was given.
-abbrev pub Executes : {P : Type 0} → May P → GameRecord → P → Option Colour → (Choice → Answer) → Option ℕ → GameRecord → P → List ℕ → Type 0
+abbrev pub Executes : {P : Type 0}
+    → May P → GameRecord → P → Option Colour → (Choice → Answer) → Option ℕ → GameRecord → P → List ℕ → Type 0
 Executes may game policy asked given id game_now policy_now reply =
     MatchOption asked
     ((policy_now ≡ policy) × ((choice : Choice) → Leaves (given choice) id game_now reply))

@@ -5,14 +5,16 @@ use Rattle.gtp_session.specs.Policy.{May}
 use Rattle.gtp_session.specs.Engine.{Engine, WrittenReply, Replies, output_of}
 
 -- The engine read this input and the writer took its replies, each whole.
-pub record Delivered {P : Type 0} (may : May P) (old : Engine P) (input : List ℕ) (new : Engine P) (held holds : Option (List ℕ)) : Type 0 where
+pub record Delivered {P : Type 0} (may : May P) (old : Engine P) (input : List ℕ) (new : Engine P)
+    (held holds : Option (List ℕ)) : Type 0 where
   pub replies : List WrittenReply
   pub engine : Replies may old input new replies
   pub taken : Appends held holds (output_of replies)
 
 -- The engine read the input up to and with the LF of a line. The writer took the replies before that line's whole,
 -- and the beginning of that line's.
-pub record Breaks {P : Type 0} (may : May P) (old : Engine P) (input : List ℕ) (new : Engine P) (held holds : Option (List ℕ)) : Type 0 where
+pub record Breaks {P : Type 0} (may : May P) (old : Engine P) (input : List ℕ) (new : Engine P)
+    (held holds : Option (List ℕ)) : Type 0 where
   pub front : List ℕ
   pub unread : List ℕ
   pub upto : input ≡ front ++ 10 ∷ unread
@@ -28,13 +30,15 @@ pub record Breaks {P : Type 0} (may : May P) (old : Engine P) (input : List ℕ)
   pub taken : Appends held holds (output_of replies ++ part)
 
 -- what the reader gave was read and answered
-pub record Conversation {P : Type 0} (may : May P) (old new : Engine P) (gives gives_now held holds : Option (List ℕ)) : Type 0 where
+pub record Conversation {P : Type 0} (may : May P) (old new : Engine P)
+    (gives gives_now held holds : Option (List ℕ)) : Type 0 where
   pub input : List ℕ
   pub given : Consumes gives gives_now input
   pub delivered : Delivered may old input new held holds
 
 -- what the reader gave was read and answered up to a fault of the writer
-pub record BrokenConversation {P : Type 0} (may : May P) (old new : Engine P) (gives gives_now held holds : Option (List ℕ)) : Type 0 where
+pub record BrokenConversation {P : Type 0} (may : May P) (old new : Engine P)
+    (gives gives_now held holds : Option (List ℕ)) : Type 0 where
   pub input : List ℕ
   pub given : Consumes gives gives_now input
   pub breaks : Breaks may old input new held holds

@@ -7,7 +7,7 @@ use Rattle.gtp_wire.specs.Lines.{lines}
 use Rattle.gtp_wire.specs.Replies.{written_reply}
 use Rattle.go_board.specs.Game.{GameRecord}
 use Rattle.gtp_session.specs.Policy.{May}
-use Rattle.gtp_session.specs.declared.policy.Choice.{Choice}
+use Rattle.go_base.specs.declared.choices.Choice.{Choice}
 use Rattle.gtp_session.specs.Commands.{answer, asked, id_of, ends, is_genmove_line}
 
 -- An engine: the text that it was given and has not read as lines, its game, its policy, and whether its session has
@@ -37,9 +37,11 @@ abbrev pub output_of : List WrittenReply → List ℕ
 output_of replies = concat (map (λ reply. reply.text) replies)
 
 -- One line is answered with this reply. The policy is asked where the line asks it, and otherwise it stays.
-pub record Step {P : Type 0} (may : May P) (old : State P) (line : Line) (reply : WrittenReply) (new : State P) : Type 0 where
+pub record Step {P : Type 0} (may : May P) (old : State P) (line : Line) (reply : WrittenReply)
+    (new : State P) : Type 0 where
   pub choice : Choice
-  pub policy : MatchOption (asked old.game line) (new.policy ≡ old.policy) (λ colour. may old.policy old.game colour choice new.policy)
+  pub policy : MatchOption (asked old.game line) (new.policy ≡ old.policy)
+      (λ colour. may old.policy old.game colour choice new.policy)
   pub game : new.game ≡ (answer old.game line choice).game
   pub ended : new.ended ≡ ends line
   pub text : reply.text ≡ written_reply (answer old.game line choice).ok (id_of line) (answer old.game line choice).text
@@ -50,20 +52,25 @@ module _ {P : Type 0} (may : May P) where
   pub data Answers : State P → List Line → List WrittenReply → State P → Type 0 where
     none : {old : State P} → Answers old [] [] old
     over : {old : State P} {unread : List Line} → old.ended ≡ true → Answers old unread [] old
-    more : {old mid new : State P} {line : Line} {unread : List Line} {reply : WrittenReply} {replies : List WrittenReply}
-        → old.ended ≡ false → Step may old line reply mid → Answers mid unread replies new → Answers old (line ∷ unread) (reply ∷ replies) new
+    more : {old mid new : State P} {line : Line} {unread : List Line}
+        {reply : WrittenReply} {replies : List WrittenReply}
+        → old.ended ≡ false → Step may old line reply mid → Answers mid unread replies new
+        → Answers old (line ∷ unread) (reply ∷ replies) new
 
 -- The engine reads the text and gives these replies, one for each line.
-pub record Replies {P : Type 0} (may : May P) (old : Engine P) (text : List ℕ) (new : Engine P) (replies : List WrittenReply) : Type 0 where
+pub record Replies {P : Type 0} (may : May P) (old : Engine P) (text : List ℕ) (new : Engine P)
+    (replies : List WrittenReply) : Type 0 where
   pub answered : Answers may (state_of old) (lines (old.rest ++ text)) replies (state_of new)
   -- until it ends, what it holds back and whatever follows have the lines that are still to be answered
-  pub unread : new.ended ≡ false → (later : List ℕ) → lines (old.rest ++ (text ++ later)) ≡ lines (old.rest ++ text) ++ lines (new.rest ++ later)
+  pub unread : new.ended ≡ false → (later : List ℕ)
+      → lines (old.rest ++ (text ++ later)) ≡ lines (old.rest ++ text) ++ lines (new.rest ++ later)
   -- once it has ended it stays as it is
   pub idle : old.ended ≡ true → new ≡ old
 
 -- The engine reads the text and writes out.
 abbrev pub Engages : {P : Type 0} → May P → Engine P → List ℕ → Engine P → List ℕ → Type 0
-Engages may old text new out = (replies : List WrittenReply) × Replies may old text new replies × (out ≡ output_of replies)
+Engages may old text new out =
+    (replies : List WrittenReply) × Replies may old text new replies × (out ≡ output_of replies)
 
 -- One text and then another are both, with the replies joined.
 abbrev pub RepliesJoin : {P : Type 0} → May P → Type 0

@@ -1,5 +1,5 @@
 -- Laws of lines and their answers: what holds of the definitions alone.
-use Rattle.std.specs.Prelude.{◌≡◌, ◌⊎◌, ℕ, true, [], Option, Some, None, codes}
+use Rattle.std.specs.Prelude.{◌≡◌, ◌⊎◌, ℕ, true, [], Some, None, codes}
 use Rattle.go_base.specs.Handicap.{AllowsHandicap, handicap_points}
 use Rattle.go_base.specs.Vertex.{written_vertex}
 use Rattle.go_base.specs.declared.colours.Colour.{Colour}
@@ -9,17 +9,20 @@ use Rattle.go_board.specs.Refusals.{IsTouched}
 use Rattle.gtp_wire.specs.Replies.{written_reply}
 use Rattle.gtp_wire.specs.declared.lines.Line.{Line}
 use Rattle.gtp_session.specs.Policy.{May, IsLawful}
-use Rattle.gtp_session.specs.declared.policy.Choice.{Choice}
+use Rattle.go_base.specs.declared.choices.Choice.{Choice}
 use Rattle.gtp_session.specs.Commands.{answer, asked, id_of, succeeds, answer_move, answer_handicap, written_vertices}
 use Rattle.gtp_session.specs.Engine.{State, WrittenReply, Step}
 
 -- every choice that the relation allows is lawful
 abbrev pub AllowsLawful : {P : Type 0} → May P → Type 0
-AllowsLawful {P} may = (old : P) (game : GameRecord) (colour : Colour) (choice : Choice) (new : P) → may old game colour choice new → IsLawful game colour choice
+AllowsLawful {P} may =
+    (old : P) (game : GameRecord) (colour : Colour) (choice : Choice) (new : P)
+    → may old game colour choice new → IsLawful game colour choice
 
 -- where a line asks no policy, its answer doesn't depend on a choice
 abbrev pub ChoicesDoNotCount : Type 0
-ChoicesDoNotCount = (game : GameRecord) (line : Line) (a b : Choice) → asked game line ≡ None → answer game line a ≡ answer game line b
+ChoicesDoNotCount = (game : GameRecord) (line : Line) (a b : Choice)
+    → asked game line ≡ None → answer game line a ≡ answer game line b
 
 -- a legal move is made where the record has room
 abbrev pub LegalMovesAreMade : Type 0
@@ -29,12 +32,14 @@ LegalMovesAreMade = (game : GameRecord) (colour : Colour) (vertex : Vertex) → 
 -- handicap stones are placed on an empty board
 abbrev pub HandicapsArePlaced : Type 0
 HandicapsArePlaced = (game : GameRecord) (stones : ℕ) → (IsTouched game → ⊥) → AllowsHandicap game.size stones
-    → answer_handicap game (Some stones) ≡ succeeds (record game { handicap = stones }) (written_vertices (handicap_points game.size stones))
+    → answer_handicap game (Some stones)
+    ≡ succeeds (record game { handicap = stones }) (written_vertices (handicap_points game.size stones))
 
--- a line that asked the policy is answered by `resign`, and the game stays; or by a vertex that is legal, and it is played
+-- A line that asked the policy is answered by `resign`, and the game stays; or by a vertex that is legal, and it is
+-- played.
 abbrev pub GenmovesAreLawful : {P : Type 0} → May P → Type 0
 GenmovesAreLawful {P} may = (old new : State P) (line : Line) (reply : WrittenReply) (colour : Colour)
     → Step may old line reply new → asked old.game line ≡ Some colour
     → ((new.game ≡ old.game) × (reply.text ≡ written_reply true (id_of line) (codes "resign")))
     ⊎ ((vertex : Vertex) × IsLegal old.game colour vertex × (new.game ≡ with_move old.game colour vertex)
-        × (reply.text ≡ written_reply true (id_of line) (written_vertex vertex)))
+    × (reply.text ≡ written_reply true (id_of line) (written_vertex vertex)))

@@ -1,5 +1,4 @@
 pub mod Counts
-pub mod Decide
 pub mod Policy
 pub mod Candidates
 pub mod Random
@@ -9,3 +8,5 @@ pub mod Commands
 pub mod Engine
 pub mod Conversation
 pub mod Laws
+pub mod Spoken
+pub mod CommandAnswers

@@ -2,10 +2,11 @@
 use Rattle.std.specs.Prelude.{⊤}
 use Rattle.go_base.specs.declared.colours.Colour.{Colour}
 use Rattle.go_board.specs.Game.{GameRecord, IsLegal}
-use Rattle.gtp_session.specs.declared.policy.Choice.{Choice}
-use Rattle.gtp_session.specs.declared.policy.Choice.TheVariants.{Resign, Play}
+use Rattle.go_base.specs.declared.choices.Choice.{Choice}
+use Rattle.go_base.specs.declared.choices.Choice.TheVariants.{Resign, Play}
 
--- What a policy may do when it is asked for a colour's move in a game: its state before, its choice, and its state after.
+-- What a policy may do when it is asked for a colour's move in a game: its state before, its choice, and its state
+-- after.
 abbrev pub May : Type 0 → Type 1
 May P = P → GameRecord → Colour → Choice → P → Type 0
 

@@ -4,8 +4,8 @@ use Rattle.go_base.specs.declared.vertices.Vertex.TheVariants.{Pass}
 use Rattle.rand_core.specs.Pcg32Seed.{pcg32_seed}
 use Rattle.rand_pcg.specs.Lcg.{Lcg}
 use Rattle.rand_pcg.specs.Pcg.{pcg64, pcg64_of_seed}
-use Rattle.gtp_session.specs.declared.policy.Choice.{Choice}
-use Rattle.gtp_session.specs.declared.policy.Choice.TheVariants.{Play}
+use Rattle.go_base.specs.declared.choices.Choice.{Choice}
+use Rattle.go_base.specs.declared.choices.Choice.TheVariants.{Play}
 use Rattle.gtp_session.specs.Candidates.{chosen}
 
 -- the generator that `seed_from_u64` makes of a seed

@@ -3,6 +3,7 @@ ghost use Rattle.std.specs.Prelude.{◌≡◌, ◌+◌, ◌≤◌, ◌++◌, len
 ghost use Rattle.go_base.specs.Int.{int_of};
 ghost use Rattle.go_base.specs.Colour.{colour_of};
 ghost use Rattle.go_base.specs.Komi.{komi_of};
+ghost use Rattle.go_base.specs.HalfPoints.{score_text};
 ghost use Rattle.go_base.specs.Vertex.{vertex_of, written_vertex};
 ghost use Rattle.arrayvec.specs.ArrayVec.{array_vec_len};
 ghost use Rattle.go_base.specs.declared.vertices.Vertex.TheVariants.{At};
@@ -10,15 +11,15 @@ ghost use Rattle.go_board.specs.Game.{GameRecord, most_moves, HasRoom, IsLegal};
 ghost use Rattle.go_board.specs.Area.{score};
 ghost use Rattle.go_board.specs.Show.{shown};
 ghost use Rattle.gtp_session.specs.Policy.{IsLawful};
-ghost use Rattle.gtp_session.specs.declared.policy.Choice.{Choice};
-ghost use Rattle.gtp_session.specs.declared.policy.Choice.TheVariants as choice;
+ghost use Rattle.go_base.specs.declared.choices.Choice.{Choice};
+ghost use Rattle.go_base.specs.declared.choices.Choice.TheVariants as choice;
 ghost use Rattle.gtp_wire.specs.Replies.{IsReplyText, written_reply};
-ghost use Rattle.gtp_session.specs.Commands.{Leaves, Executes, command_named, argument, id_of, ends, asked, asked_by_words, asked_by_command, asked_by_genmove, succeeds, all_names, score_text, leader, answer, answer_to, answer_to_words, answer_known, answer_boardsize, answer_clear, answer_komi, answer_play, answer_genmove, answer_choice, answer_handicap, answer_undo, answer_move, refusal_text, is_quit, written_vertices};
+ghost use Rattle.gtp_session.specs.Commands.{Leaves, Executes, command_named, argument, id_of, ends, asked, asked_by_words, asked_by_command, asked_by_genmove, succeeds, all_names, answer, answer_to, answer_to_words, answer_known, answer_boardsize, answer_clear, answer_komi, answer_play, answer_genmove, answer_choice, answer_handicap, answer_undo, answer_move, refusal_text, is_quit, written_vertices};
 
 use crate::commands::CommandName;
 use crate::policy::{Choice, Policy};
 use arrayvec::ArrayVec;
-use go_base::{Colour, Komi, Move, Point, Size, Vertex, read_int, write_half_points};
+use go_base::{Colour, Komi, Move, Point, Size, Vertex, read_int, write_score};
 use go_board::{Game, HandicapFault, MOST_MOVES, PlayFault};
 use gtp_wire::{CommandLine, Line, ReplyText, write_reply_into};
 
@@ -29,9 +30,6 @@ static NAMES: &[u8] =
 /// The room for nine vertices and the spaces between them.
 const VERTICES_ROOM: usize = 44;
 
-/// The room for a score: the colour that leads, a plus sign, and the points.
-const SCORE_ROOM: usize = 14;
-
 /// Executes a line, puts the reply in place of what `reply` holds, and tells whether the session ends.
 pub(crate) fn answer<P: Policy>(
     game: &mut Game,
@@ -39,7 +37,8 @@ pub(crate) fn answer<P: Policy>(
     line: &Line,
     reply: &mut ReplyText,
 ) -> bool
-    ensures executes { Executes P.may game.old policy.old (asked game.old line.now) (answer game.old line.now) (id_of line.now) game.new policy.new reply.new.items }
+    ensures executes { Executes P.may game.old policy.old (asked game.old line.now)
+        (answer game.old line.now) (id_of line.now) game.new policy.new reply.new.items }
     ensures ends { result ≡ ends line.now }
 {
     match line {
@@ -58,7 +57,9 @@ fn answer_words<P: Policy>(
     line: &CommandLine,
     reply: &mut ReplyText,
 ) -> bool
-    ensures executes { Executes P.may game.old policy.old (asked_by_words game.old line.now.words) (answer_to_words game.old line.now.words) line.now.id game.new policy.new reply.new.items }
+    ensures executes { Executes P.may game.old policy.old (asked_by_words game.old line.now.words)
+        (answer_to_words game.old line.now.words) line.now.id
+        game.new policy.new reply.new.items }
     ensures ends { result ≡ is_quit (argument command_named line.now.words 0) }
 {
     match named_command(line) {
@@ -81,7 +82,10 @@ fn execute<P: Policy>(
     line: &CommandLine,
     reply: &mut ReplyText,
 )
-    ensures { Executes P.may game.old policy.old (asked_by_command game.old command line.now.words) (answer_to game.old command line.now.words) line.now.id game.new policy.new reply.new.items }
+    ensures { Executes P.may game.old policy.old
+        (asked_by_command game.old command line.now.words)
+        (answer_to game.old command line.now.words) line.now.id
+        game.new policy.new reply.new.items }
 {
     match command {
         CommandName::ProtocolVersion => success(line, reply, b"2"),
@@ -161,7 +165,8 @@ fn vertex_argument(line: &CommandLine) -> Option<Vertex>
 }
 
 fn known_command(line: &CommandLine, reply: &mut ReplyText)
-    ensures { (game : GameRecord) → Leaves (answer_known game (slice_get line.now.words 1)) line.now.id game reply.new.items }
+    ensures { (game : GameRecord) →
+        Leaves (answer_known game (slice_get line.now.words 1)) line.now.id game reply.new.items }
 {
     match line.word(1) {
         None => syntax_error(line, reply),
@@ -177,7 +182,8 @@ fn list_commands(line: &CommandLine, reply: &mut ReplyText)
 }
 
 fn boardsize(game: &mut Game, line: &CommandLine, reply: &mut ReplyText)
-    ensures { Leaves (answer_boardsize game.old (argument int_of line.now.words 1)) line.now.id game.new reply.new.items }
+    ensures { Leaves (answer_boardsize game.old (argument int_of line.now.words 1)) line.now.id
+        game.new reply.new.items }
 {
     match int_argument(line) {
         None => syntax_error(line, reply),
@@ -199,7 +205,8 @@ fn clear_board(game: &mut Game, line: &CommandLine, reply: &mut ReplyText)
 }
 
 fn komi(game: &mut Game, line: &CommandLine, reply: &mut ReplyText)
-    ensures { Leaves (answer_komi game.old (argument komi_of line.now.words 1)) line.now.id game.new reply.new.items }
+    ensures { Leaves (answer_komi game.old (argument komi_of line.now.words 1)) line.now.id
+        game.new reply.new.items }
 {
     match komi_argument(line) {
         None => syntax_error(line, reply),
@@ -211,7 +218,10 @@ fn komi(game: &mut Game, line: &CommandLine, reply: &mut ReplyText)
 }
 
 fn play(game: &mut Game, line: &CommandLine, reply: &mut ReplyText)
-    ensures { Leaves (answer_play game.old (argument colour_of line.now.words 1) (argument vertex_of line.now.words 2)) line.now.id game.new reply.new.items }
+    ensures { Leaves
+        (answer_play game.old (argument colour_of line.now.words 1)
+        (argument vertex_of line.now.words 2))
+        line.now.id game.new reply.new.items }
 {
     match colour_argument(line) {
         None => syntax_error(line, reply),
@@ -250,7 +260,10 @@ fn refusal_text(fault: PlayFault) -> &'static [u8]
 }
 
 fn genmove<P: Policy>(game: &mut Game, policy: &mut P, line: &CommandLine, reply: &mut ReplyText)
-    ensures { Executes P.may game.old policy.old (asked_by_genmove game.old (argument colour_of line.now.words 1)) (answer_genmove game.old (argument colour_of line.now.words 1)) line.now.id game.new policy.new reply.new.items }
+    ensures { Executes P.may game.old policy.old
+        (asked_by_genmove game.old (argument colour_of line.now.words 1))
+        (answer_genmove game.old (argument colour_of line.now.words 1)) line.now.id
+        game.new policy.new reply.new.items }
 {
     match colour_argument(line) {
         None => syntax_error(line, reply),
@@ -275,7 +288,9 @@ fn ask<P: Policy>(
     reply: &mut ReplyText,
 )
     requires { HasRoom game.old }
-    ensures { (choice : Choice) × (P.may policy.old game.old colour choice policy.new × Leaves (answer_choice game.old colour choice) line.now.id game.new reply.new.items) }
+    ensures { (choice : Choice) × (P.may policy.old game.old colour choice policy.new
+        × Leaves (answer_choice game.old colour choice) line.now.id
+        game.new reply.new.items) }
 {
     let choice = policy.choose(game, colour);
     make_choice(game, colour, choice, line, reply);
@@ -309,7 +324,8 @@ fn play_choice(
 )
     requires room { HasRoom game.old }
     requires legal { IsLegal game.old colour vertex }
-    ensures { Leaves (answer_choice game.old colour (choice.Play vertex)) line.now.id game.new reply.new.items }
+    ensures { Leaves (answer_choice game.old colour (choice.Play vertex)) line.now.id
+        game.new reply.new.items }
 {
     // Its contract tells that the size is in its limits.
     let _ = game.size();
@@ -320,7 +336,8 @@ fn play_choice(
 }
 
 fn fixed_handicap(game: &mut Game, line: &CommandLine, reply: &mut ReplyText)
-    ensures { Leaves (answer_handicap game.old (argument int_of line.now.words 1)) line.now.id game.new reply.new.items }
+    ensures { Leaves (answer_handicap game.old (argument int_of line.now.words 1)) line.now.id
+        game.new reply.new.items }
 {
     // Its contract tells that the size is in its limits.
     let _ = game.size();
@@ -344,31 +361,10 @@ fn undo(game: &mut Game, line: &CommandLine, reply: &mut ReplyText)
 }
 
 fn final_score(game: &Game, line: &CommandLine, reply: &mut ReplyText)
-    ensures { Leaves (succeeds game.now (score_text (score game.now))) line.now.id game.now reply.new.items }
+    ensures { Leaves (succeeds game.now (score_text (score game.now))) line.now.id
+        game.now reply.new.items }
 {
-    success(line, reply, &written_score(game.score()));
-}
-
-/// The colour that leads and its points, or `0`.
-fn written_score(half_points: i32) -> ArrayVec<u8, SCORE_ROOM>
-    ensures { result.items ≡ score_text half_points }
-{
-    let mut text = ArrayVec::new();
-    let _ = text.try_extend_from_slice(leader(half_points));
-    let _ = text.try_extend_from_slice(&write_half_points(half_points.unsigned_abs()));
-    text
-}
-
-/// What stands before the points.
-fn leader(half_points: i32) -> &'static [u8]
-    ensures leader { result.now ≡ leader half_points }
-    ensures few { length result.now ≤ 2 }
-{
-    match half_points {
-        0 => b"",
-        1.. => b"B+",
-        _ => b"W+",
-    }
+    success(line, reply, &write_score(game.score()));
 }
 
 fn showboard(game: &Game, line: &CommandLine, reply: &mut ReplyText)

@@ -31,11 +31,11 @@ impl Place {
         if text.is_empty() {
             return Some(Place::Empty);
         }
-        if text.eq_ignore_ascii_case(b"resign") {
-            return Some(Place::Resign);
-        }
-        let vertex = Vertex::read(text)?;
-        Some(Place::Play(vertex))
+        let place = match Choice::read(text)? {
+            Choice::Resign => Place::Resign,
+            Choice::Play(vertex) => Place::Play(vertex),
+        };
+        Some(place)
     }
 }
 
@@ -97,5 +97,6 @@ impl Policy for Book {
         }
     }
 
-    ghost lawful = { λ old game colour choice new e. lawful_place game colour (slice_get old (length game.moves)) choice e.0 };
+    ghost lawful = { λ old game colour choice new e.
+        lawful_place game colour (slice_get old (length game.moves)) choice e.0 };
 }

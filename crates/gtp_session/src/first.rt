@@ -10,13 +10,14 @@ use go_board::Game;
 
 /// Chooses the first candidate, or a pass where there is none.
 ///
-/// A candidate for a colour is a legal point that has a neighbour which is empty or holds a stone of the other colour. The
-/// candidates stand in the order A1, B1, .., A2, B2, ...
+/// A candidate for a colour is a legal point that has a neighbour which is empty or holds a stone of the other colour.
+/// The candidates stand in the order A1, B1, .., A2, B2, ...
 #[derive(Clone, Copy, Debug, Drop)]
 pub struct First;
 
 impl Policy for First {
-    ghost may = { λ old game colour choice new. choice ≡ chosen (slice_get (candidates game colour) 0) };
+    ghost may = { λ old game colour choice new.
+        choice ≡ chosen (slice_get (candidates game colour) 0) };
 
     fn choose(&mut self, game: &Game, colour: Colour) -> Choice {
         chosen(first_candidate(game, colour))

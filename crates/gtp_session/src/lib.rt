@@ -15,6 +15,8 @@ pub mod policy;
 #[cfg(test)]
 mod policy_tests;
 pub mod random;
+#[cfg(test)]
+mod reply_tests;
 pub mod serve;
 pub mod session;
 pub mod streams;

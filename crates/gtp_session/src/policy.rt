@@ -1,28 +1,20 @@
 //! Policies, which choose an engine's moves.
 ghost use Rattle.go_base.specs.declared.colours.Colour.{Colour};
 ghost use Rattle.go_board.specs.Game.{GameRecord};
-ghost use Rattle.gtp_session.specs.declared.policy.Choice.{Choice};
+ghost use Rattle.go_base.specs.declared.choices.Choice.{Choice};
 ghost use Rattle.gtp_session.specs.Policy.{IsLawful};
 
-use go_base::{Colour, Vertex};
+pub use go_base::Choice;
+use go_base::Colour;
 use go_board::Game;
-
-/// What a policy chooses.
-#[derive(Clone, Copy, Debug, PartialEq, Eq)]
-pub enum Choice {
-    /// To resign.
-    Resign,
-    /// To play on a point, or to pass.
-    Play(Vertex),
-}
 
 /// What chooses the moves of an engine.
 pub trait Policy: Drop {
     // Asked in a game for a colour, the first state may make this choice and leave the second state.
     ghost may: { Self → GameRecord → Colour → Choice → Self → Type 0 };
 
-    /// Chooses what the colour does next in the game: a resignation, or a vertex that is legal for the colour. Whose turn
-    /// it is doesn't count, nor whether the record has room.
+    /// Chooses what the colour does next in the game: a resignation, or a vertex that is legal for the colour. Whose
+    /// turn it is doesn't count, nor whether the record has room.
     fn choose(&mut self, game: &Game, colour: Colour) -> Choice
         ensures { may self.old game.now colour result self.new };
 

@@ -54,26 +54,41 @@ pub fn serve_within<R: Incoming, W: Outgoing, P: Policy>(
 ) -> Result<Served, ServeFault>
     // What the reader gave was answered, and the writer took each reply whole.
     ensures answers { result ≢ Err ServeFault.Write → Conversation P.may session.old session.new
-        (R.remaining reader.old) (R.remaining reader.new) (W.contents writer.old) (W.contents writer.new) }
+        (R.remaining reader.old) (R.remaining reader.new)
+        (W.contents writer.old) (W.contents writer.new) }
     ensures end_of_input { result ≡ Ok Served.EndOfInput → IsAtEnd (R.remaining reader.new) }
-    ensures open { result ≢ Ok Served.Quit → result ≢ Err ServeFault.Write → session.new.ended ≡ false }
+    ensures open { result ≢ Ok Served.Quit → result ≢ Err ServeFault.Write →
+        session.new.ended ≡ false }
     ensures quit { result ≡ Ok Served.Quit → session.new.ended ≡ true }
     // After a fault of the writer nothing further was executed.
-    ensures breaks { result ≡ Err ServeFault.Write → BrokenConversation P.may session.old session.new
-        (R.remaining reader.old) (R.remaining reader.new) (W.contents writer.old) (W.contents writer.new) }
+    ensures breaks { result ≡ Err ServeFault.Write →
+        BrokenConversation P.may session.old session.new
+        (R.remaining reader.old) (R.remaining reader.new)
+        (W.contents writer.old) (W.contents writer.new) }
     // A session that has ended reads nothing.
-    ensures over { session.old.ended ≡ true → (result ≡ Ok Served.Quit) × (reader.new ≡ reader.old) × (writer.new ≡ writer.old) × (session.new ≡ session.old) }
-    ensures reads { (made : ℕ) × (made ≤ reads) × (R.reads reader.new ≡ raised (R.reads reader.old) made) }
-    ensures too_many { result ≡ Err ServeFault.TooManyReads → R.reads reader.new ≡ raised (R.reads reader.old) reads }
+    ensures over { session.old.ended ≡ true → (result ≡ Ok Served.Quit)
+        × (reader.new ≡ reader.old) × (writer.new ≡ writer.old) × (session.new ≡ session.old) }
+    ensures reads { (made : ℕ) × (made ≤ reads)
+        × (R.reads reader.new ≡ raised (R.reads reader.old) made) }
+    ensures too_many { result ≡ Err ServeFault.TooManyReads →
+        R.reads reader.new ≡ raised (R.reads reader.old) reads }
     // Each of them gave at least one byte.
-    ensures gave { result ≡ Err ServeFault.TooManyReads → GivesAtLeast (R.remaining reader.old) (R.remaining reader.new) reads }
+    ensures gave { result ≡ Err ServeFault.TooManyReads →
+        GivesAtLeast (R.remaining reader.old) (R.remaining reader.new) reads }
     // At the end of the input the last read gave nothing, and each before it at least one byte.
-    ensures gave_before { result ≡ Ok Served.EndOfInput → (made : ℕ) × (R.reads reader.new ≡ raised (R.reads reader.old) (made + 1)) × GivesAtLeast (R.remaining reader.old) (R.remaining reader.new) made }
-    ensures read_failed { result ≡ Err ServeFault.Read → R.failures reader.new ≡ raised (R.failures reader.old) 1 }
-    ensures read_held { result ≢ Err ServeFault.Read → R.failures reader.new ≡ R.failures reader.old }
-    ensures write_failed { result ≡ Err ServeFault.Write → W.failures writer.new ≡ raised (W.failures writer.old) 1 }
-    ensures write_held { result ≢ Err ServeFault.Write → W.failures writer.new ≡ W.failures writer.old }
-    ensures flushed { result ≢ Err ServeFault.Write → W.waiting writer.old ≡ false → W.waiting writer.new ≡ false }
+    ensures gave_before { result ≡ Ok Served.EndOfInput → (made : ℕ)
+        × (R.reads reader.new ≡ raised (R.reads reader.old) (made + 1))
+        × GivesAtLeast (R.remaining reader.old) (R.remaining reader.new) made }
+    ensures read_failed { result ≡ Err ServeFault.Read →
+        R.failures reader.new ≡ raised (R.failures reader.old) 1 }
+    ensures read_held { result ≢ Err ServeFault.Read →
+        R.failures reader.new ≡ R.failures reader.old }
+    ensures write_failed { result ≡ Err ServeFault.Write →
+        W.failures writer.new ≡ raised (W.failures writer.old) 1 }
+    ensures write_held { result ≢ Err ServeFault.Write →
+        W.failures writer.new ≡ W.failures writer.old }
+    ensures flushed { result ≢ Err ServeFault.Write → W.waiting writer.old ≡ false →
+        W.waiting writer.new ≡ false }
 {
     if session.ended() {
         return Ok(Served::Quit);
@@ -117,8 +132,10 @@ fn answer_all<W: Outgoing, P: Policy>(
     input: &[u8],
 ) -> Result<(), Broken>
     requires { lines session.old.rest ≡ [] }
-    ensures delivered { OnOk result (Delivered P.may session.old input.now session.new (W.contents writer.old) (W.contents writer.new)) }
-    ensures breaks { OnErr result (Breaks P.may session.old input.now session.new (W.contents writer.old) (W.contents writer.new)) }
+    ensures delivered { OnOk result (Delivered P.may session.old input.now session.new
+        (W.contents writer.old) (W.contents writer.new)) }
+    ensures breaks { OnErr result (Breaks P.may session.old input.now session.new
+        (W.contents writer.old) (W.contents writer.new)) }
     ensures held { OnOk result (W.failures writer.new ≡ W.failures writer.old) }
     ensures failed { OnErr result (W.failures writer.new ≡ raised (W.failures writer.old) 1) }
     ensures flushed { OnOk result (W.waiting writer.old ≡ false → W.waiting writer.new ≡ false) }
@@ -141,7 +158,8 @@ fn answer_all<W: Outgoing, P: Policy>(
 /// Writes the text and flushes it.
 fn send<W: Outgoing>(writer: &mut W, text: &[u8]) -> Result<(), Broken>
     ensures whole { OnOk result (Appends (W.contents writer.old) (W.contents writer.new) text.now) }
-    ensures part { OnErr result (TakesPart text.now (W.contents writer.old) (W.contents writer.new)) }
+    ensures part { OnErr result
+        (TakesPart text.now (W.contents writer.old) (W.contents writer.new)) }
     ensures held { OnOk result (W.failures writer.new ≡ W.failures writer.old) }
     ensures failed { OnErr result (W.failures writer.new ≡ raised (W.failures writer.old) 1) }
     ensures flushed { OnOk result (W.waiting writer.new ≡ false) }
@@ -167,8 +185,8 @@ fn is_too_many(answer: Result<Served, ServeFault>) -> bool
     }
 }
 
-/// As [`serve_within`], one read at a time and 1,000,000,000 reads at most, so that what a read brought is answered before
-/// the next.
+/// As [`serve_within`], one read at a time and 1,000,000,000 reads at most, so that what a read brought is answered
+/// before the next.
 ///
 /// # Errors
 ///
@@ -179,24 +197,39 @@ pub fn serve<R: Incoming, W: Outgoing, P: Policy>(
     session: &mut Session<P>,
 ) -> Result<Served, ServeFault>
     ensures answers { result ≢ Err ServeFault.Write → Conversation P.may session.old session.new
-        (R.remaining reader.old) (R.remaining reader.new) (W.contents writer.old) (W.contents writer.new) }
+        (R.remaining reader.old) (R.remaining reader.new)
+        (W.contents writer.old) (W.contents writer.new) }
     ensures end_of_input { result ≡ Ok Served.EndOfInput → IsAtEnd (R.remaining reader.new) }
-    ensures open { result ≢ Ok Served.Quit → result ≢ Err ServeFault.Write → session.new.ended ≡ false }
+    ensures open { result ≢ Ok Served.Quit → result ≢ Err ServeFault.Write →
+        session.new.ended ≡ false }
     ensures quit { result ≡ Ok Served.Quit → session.new.ended ≡ true }
-    ensures breaks { result ≡ Err ServeFault.Write → BrokenConversation P.may session.old session.new
-        (R.remaining reader.old) (R.remaining reader.new) (W.contents writer.old) (W.contents writer.new) }
-    ensures over { session.old.ended ≡ true → (result ≡ Ok Served.Quit) × (reader.new ≡ reader.old) × (writer.new ≡ writer.old) × (session.new ≡ session.old) }
-    ensures reads { (made : ℕ) × (made ≤ most_reads) × (R.reads reader.new ≡ raised (R.reads reader.old) made) }
-    ensures too_many { result ≡ Err ServeFault.TooManyReads → R.reads reader.new ≡ raised (R.reads reader.old) most_reads }
+    ensures breaks { result ≡ Err ServeFault.Write →
+        BrokenConversation P.may session.old session.new
+        (R.remaining reader.old) (R.remaining reader.new)
+        (W.contents writer.old) (W.contents writer.new) }
+    ensures over { session.old.ended ≡ true → (result ≡ Ok Served.Quit)
+        × (reader.new ≡ reader.old) × (writer.new ≡ writer.old) × (session.new ≡ session.old) }
+    ensures reads { (made : ℕ) × (made ≤ most_reads)
+        × (R.reads reader.new ≡ raised (R.reads reader.old) made) }
+    ensures too_many { result ≡ Err ServeFault.TooManyReads →
+        R.reads reader.new ≡ raised (R.reads reader.old) most_reads }
     // Each of them gave at least one byte.
-    ensures gave { result ≡ Err ServeFault.TooManyReads → GivesAtLeast (R.remaining reader.old) (R.remaining reader.new) most_reads }
+    ensures gave { result ≡ Err ServeFault.TooManyReads →
+        GivesAtLeast (R.remaining reader.old) (R.remaining reader.new) most_reads }
     // At the end of the input the last read gave nothing, and each before it at least one byte.
-    ensures gave_before { result ≡ Ok Served.EndOfInput → (made : ℕ) × (R.reads reader.new ≡ raised (R.reads reader.old) (made + 1)) × GivesAtLeast (R.remaining reader.old) (R.remaining reader.new) made }
-    ensures read_failed { result ≡ Err ServeFault.Read → R.failures reader.new ≡ raised (R.failures reader.old) 1 }
-    ensures read_held { result ≢ Err ServeFault.Read → R.failures reader.new ≡ R.failures reader.old }
-    ensures write_failed { result ≡ Err ServeFault.Write → W.failures writer.new ≡ raised (W.failures writer.old) 1 }
-    ensures write_held { result ≢ Err ServeFault.Write → W.failures writer.new ≡ W.failures writer.old }
-    ensures flushed { result ≢ Err ServeFault.Write → W.waiting writer.old ≡ false → W.waiting writer.new ≡ false }
+    ensures gave_before { result ≡ Ok Served.EndOfInput → (made : ℕ)
+        × (R.reads reader.new ≡ raised (R.reads reader.old) (made + 1))
+        × GivesAtLeast (R.remaining reader.old) (R.remaining reader.new) made }
+    ensures read_failed { result ≡ Err ServeFault.Read →
+        R.failures reader.new ≡ raised (R.failures reader.old) 1 }
+    ensures read_held { result ≢ Err ServeFault.Read →
+        R.failures reader.new ≡ R.failures reader.old }
+    ensures write_failed { result ≡ Err ServeFault.Write →
+        W.failures writer.new ≡ raised (W.failures writer.old) 1 }
+    ensures write_held { result ≢ Err ServeFault.Write →
+        W.failures writer.new ≡ W.failures writer.old }
+    ensures flushed { result ≢ Err ServeFault.Write → W.waiting writer.old ≡ false →
+        W.waiting writer.new ≡ false }
 {
     if session.ended() {
         return Ok(Served::Quit);

@@ -49,7 +49,8 @@ impl<P: Policy> Model for Session<P> {
 
     ghost Value = { Engine P };
 
-    ghost view = { λ s. record { rest = s.reader; game = s.game; policy = s.policy; ended = s.ended } };
+    ghost view = { λ s.
+        record { rest = s.reader; game = s.game; policy = s.policy; ended = s.ended } };
 
     ghost invariant = { λ s. lines s.reader ≡ [] };
 }
@@ -65,6 +66,7 @@ fn fresh_game() -> Game
 }
 
 impl<P: Policy> Session<P> {
+    ghost use Rattle.gtp_session.specs.Spoken.{IsSpoken};
     ghost use Rattle.gtp_session.specs.Engine.{Step, Replies, StopsAtLine, fresh, state_of, reply_if, replies_of};
 
     /// A session with this policy that was given nothing: size 19, komi 0, no handicap and no moves.
@@ -103,11 +105,16 @@ impl<P: Policy> Session<P> {
     pub fn feed(&mut self, input: &[u8]) -> Fed
         ensures within { result.used ≤ length input.now }
         // The bytes that are used are read and answered, by a reply or by none.
-        ensures replies { (genmove : Bool) × Replies P.may self.old (take result.used input.now) self.new (replies_of result.reply genmove) }
+        ensures replies { (genmove : Bool) × Replies P.may self.old (take result.used input.now)
+            self.new (replies_of result.reply genmove) }
         // With a reply, the last byte used is the newline that ends the line that it answers.
-        ensures line { IfSome result.reply (λ _. StopsAtLine P.may self.old (take result.used input.now)) }
+        ensures line { IfSome result.reply
+            (λ _. StopsAtLine P.may self.old (take result.used input.now)) }
+        // The reply is one reply: a status, an id or none, and a text that a reply may have.
+        ensures spoken { IfSome result.reply (λ reply. IsSpoken reply.items) }
         // Without one, all are used.
-        ensures all { result.reply ≡ None → self.old.ended ≡ false → result.used ≡ length input.now }
+        ensures all { result.reply ≡ None → self.old.ended ≡ false →
+            result.used ≡ length input.now }
         ensures over { self.old.ended ≡ true → (result.used ≡ 0) × (result.reply ≡ None) }
         ensures ended { result.ended ≡ self.new.ended }
         // No whole line is held back.
@@ -125,10 +132,14 @@ impl<P: Policy> Session<P> {
     /// As [`Session::feed`], with the reply written in place of what `text` holds. Without a reply `text` stays.
     pub fn feed_into(&mut self, input: &[u8], text: &mut ReplyText) -> Taken
         ensures within { result.used ≤ length input.now }
-        ensures replies { (genmove : Bool) × Replies P.may self.old (take result.used input.now) self.new (reply_if result.replied text.new.items genmove) }
+        ensures replies { (genmove : Bool) × Replies P.may self.old (take result.used input.now)
+            self.new (reply_if result.replied text.new.items genmove) }
         ensures kept { result.replied ≡ false → text.new ≡ text.old }
-        ensures line { IsTrue result.replied → StopsAtLine P.may self.old (take result.used input.now) }
-        ensures all { result.replied ≡ false → self.old.ended ≡ false → result.used ≡ length input.now }
+        ensures line { IsTrue result.replied →
+            StopsAtLine P.may self.old (take result.used input.now) }
+        ensures spoken { IsTrue result.replied → IsSpoken text.new.items }
+        ensures all { result.replied ≡ false → self.old.ended ≡ false →
+            result.used ≡ length input.now }
         ensures over { self.old.ended ≡ true → (result.used ≡ 0) × (result.replied ≡ false) }
         // No whole line is held back.
         ensures unread { lines self.new.rest ≡ [] }
@@ -146,6 +157,8 @@ impl<P: Policy> Session<P> {
                 replied: false,
             },
             Some(line) => {
+                // Its contract tells that the size is in its limits.
+                let _ = self.game.size();
                 self.ended = answer(&mut self.game, &mut self.policy, &line, text);
                 Taken {
                     used,

@@ -25,8 +25,8 @@ pub trait Incoming {
     // How many of them failed.
     ghost failures: { Self → ℕ };
 
-    /// Reads into the front of the buffer, and answers how many bytes. `Ok(0)` from a read into a buffer that has room is
-    /// the end of the input. Any failure of the reader is `Broken`.
+    /// Reads into the front of the buffer, and answers how many bytes. `Ok(0)` from a read into a buffer that has room
+    /// is the end of the input. Any failure of the reader is `Broken`.
     fn read(&mut self, buffer: &mut [u8]) -> Result<usize, Broken>
         ensures bound { ReadsAtMost result buffer.new }
         ensures bytes { ReadConsumes (remaining self.old) (remaining self.new) result buffer.new }
@@ -76,7 +76,8 @@ impl<T> Model for Counted<T> {
 
     ghost Value = { Tally T };
 
-    ghost view = { λ c. record { inner = c.inner; reads = c.reads; failures = c.failures; waiting = c.waiting } };
+    ghost view = { λ c.
+        record { inner = c.inner; reads = c.reads; failures = c.failures; waiting = c.waiting } };
 }
 
 impl<T> Counted<T> {

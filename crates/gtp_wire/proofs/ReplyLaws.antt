@@ -92,7 +92,7 @@ no_status_in_reply front later whole fault =
     cc
 
 -- a proper front of a reply tells nothing
-front_is_quiet : (front : List ℕ) (b : ℕ) (more : List ℕ) (other : Result Reply ReplyFault)
+pub front_is_quiet : (front : List ℕ) (b : ℕ) (more : List ℕ) (other : Result Reply ReplyFault)
     → IsWhole (front ++ b ∷ more) → Tells front other → ⊥
 front_is_quiet front b more (Ok value) whole told = no_reply_in_reply front b more told.whole whole
 front_is_quiet front b more (Err NoStatus) whole told = no_status_in_reply front (b ∷ more) whole told

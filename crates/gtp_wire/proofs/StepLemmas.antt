@@ -19,12 +19,12 @@ use Rattle.gtp_wire.proofs.WordLemmas.{cleaned, cleaned_plain, plain_byte, words
 abbrev pub view : List ℕ → Place → List ℕ
 view held place = held ++ ending place
 
-plain_kept : (held : List ℕ) → AllByRecursion (λ b. is_plain b ≡ true) held
+pub plain_kept : (held : List ℕ) → AllByRecursion (λ b. is_plain b ≡ true) held
     → AllByRecursion (λ b. is_kept b ≡ true) held
 plain_kept [] plain = tt
 plain_kept (b ∷ held) plain = ((plain_byte b plain.0).0, plain_kept held plain.1)
 
-plain_no_newline : (held : List ℕ) → AllByRecursion (λ b. is_plain b ≡ true) held → NoNewline held
+pub plain_no_newline : (held : List ℕ) → AllByRecursion (λ b. is_plain b ≡ true) held → NoNewline held
 plain_no_newline [] plain = tt
 plain_no_newline (b ∷ held) plain = ((plain_byte b plain.0).2, plain_no_newline held plain.1)
 

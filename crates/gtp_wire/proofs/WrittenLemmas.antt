@@ -149,7 +149,7 @@ spaced_shown : (text : List ℕ) → AllByRecursion IsShown text → AllByRecurs
 spaced_shown [] all = tt
 spaced_shown (b ∷ bs) all = (inr (omega arith, omega arith), all)
 
-length-spaced : (text : List ℕ) → length (spaced text) ≤ length text + 1
+pub length-spaced : (text : List ℕ) → length (spaced text) ≤ length text + 1
 length-spaced [] = omega arith
 length-spaced (b ∷ bs) = omega arith
 
@@ -159,7 +159,7 @@ pub record IsIdText (id : Option ℕ) (ds : List ℕ) : Type 0 where
   pub short : length ds ≤ 10
   pub id_is : id ≡ int_of ds
 
-id_text : (id : Option ℕ) → IfSome id (λ n. n ≤ int_max) → IsIdText id (written_id id)
+pub id_text : (id : Option ℕ) → IfSome id (λ n. n ≤ int_max) → IsIdText id (written_id id)
 id_text None fits = record { digits = tt; short = omega arith; id_is = refl }
 id_text (Some n) fits =
     let limit : n ≤ int_max = fits in

@@ -1,15 +1,21 @@
--- Laws of lines and replies: what holds of the definitions alone, whatever code reads and writes the bytes.
-use Rattle.std.specs.Prelude.{◌≡◌, ◌≢◌, ℕ, ◌<◌, ◌≤◌, Bool, true, List, [], ◌∷◌, ◌++◌, length, take, drop, All, Option, None, Result, Ok, IfSome}
+-- Laws of lines, commands and replies: what holds of the definitions alone, whatever code reads and writes the bytes.
+use Rattle.std.specs.Prelude.{◌≡◌, ◌≢◌, ℕ, ◌+◌, ◌<◌, ◌≤◌, Bool, true, List, [], ◌∷◌, ◌++◌, length, take, drop, All}
+use Rattle.std.specs.Prelude.{Option, Some, None, Result, Ok, Err, IfSome, IfNone}
 use Rattle.std.specs.List.{concat, join_with_byte, list_all}
 use Rattle.std.specs.Option.{option_to_list}
 use Rattle.go_base.specs.Int.{int_max, int_of}
+use Rattle.gtp_wire.specs.declared.commands.Command.{Command}
 use Rattle.gtp_wire.specs.declared.lines.Line.{Line}
-use Rattle.gtp_wire.specs.declared.lines.Line.TheVariants.{Command}
+use Rattle.gtp_wire.specs.declared.lines.Line.TheVariants as line
 use Rattle.gtp_wire.specs.declared.replies.Reply.{Reply}
 use Rattle.gtp_wire.specs.declared.replies.ReplyFault.{ReplyFault}
+use Rattle.gtp_wire.specs.Commands.{words_of, written_command, command_max, IsWritable, IsInLimits}
 use Rattle.gtp_wire.specs.Lines.{lines, line_max, Finds, SameFuture}
-use Rattle.gtp_wire.specs.Words.{is_word, id_words}
-use Rattle.gtp_wire.specs.Replies.{IsWhole, IsReply, IsFirst, TellsNothing, IsReplyText, written_reply}
+use Rattle.gtp_wire.specs.Words.{is_written_word, id_words}
+use Rattle.gtp_wire.specs.Replies.{IsWhole, IsReply, IsFirst, TellsNothing, IsReplyText, written_reply, ReadsFirst}
+use Rattle.gtp_wire.specs.Replies.{reply_text_max, written_reply_max}
+
+-- ---- lines (the standard, preprocessing and command structure)
 
 -- the lines of a text begin those of every longer text
 abbrev pub LinesGoOn : Type 0
@@ -18,6 +24,10 @@ LinesGoOn = (text later : List ℕ) → (more : List Line) × (lines (text ++ la
 -- only a newline ends a line: bytes without one add no line
 abbrev pub OnlyNewlinesEndLines : Type 0
 OnlyNewlinesEndLines = (text later : List ℕ) → All (λ b. b ≢ 10) later → lines (text ++ later) ≡ lines text
+
+-- What stands behind a newline is read by itself: the lines of the whole are those up to the newline, and then its own.
+abbrev pub NewlinesBeginAnew : Type 0
+NewlinesBeginAnew = (text later : List ℕ) → lines (text ++ 10 ∷ later) ≡ lines (text ++ 10 ∷ []) ++ lines later
 
 -- Every text can be read after everything that is held: its lines are found, and there is something to hold then.
 abbrev pub TextsAreRead : Type 0
@@ -57,10 +67,34 @@ AnyPiecesReadAlike = (old : List ℕ) (pieces : List (List ℕ)) (found : List L
 -- are one line, of that id and those words.
 abbrev pub WrittenLinesAreRead : Type 0
 WrittenLinesAreRead = (id : Option ℕ) (name : List ℕ) (arguments : List (List ℕ))
-    → IfSome id (λ n. n ≤ int_max) → int_of name ≡ None → list_all is_word (name ∷ arguments) ≡ true
+    → IfSome id (λ n. n ≤ int_max) → int_of name ≡ None → list_all is_written_word (name ∷ arguments) ≡ true
     → length (join_with_byte 32 (id_words id ++ name ∷ arguments)) ≤ line_max
     → lines (join_with_byte 32 (id_words id ++ name ∷ arguments) ++ 10 ∷ [])
-    ≡ Command (record { id = id; words = name ∷ arguments }) ∷ []
+    ≡ line.Command (record { id = id; words = name ∷ arguments }) ∷ []
+
+-- ---- commands (the standard, command structure)
+
+-- A command that is written is, with anything behind it, one line of its id and its words, and then the lines of what
+-- stands behind it.
+abbrev pub WrittenCommandsAreLines : Type 0
+WrittenCommandsAreLines = (id : Option ℕ) (command : Command) (later : List ℕ)
+    → IfSome id (λ n. n ≤ int_max) → IsWritable command → IsInLimits command
+    → lines (written_command id command ++ later)
+    ≡ line.Command (record { id = id; words = words_of command }) ∷ lines later
+
+-- a command that is written and cut short holds no line
+abbrev pub CommandFrontsAreOpen : Type 0
+CommandFrontsAreOpen = (id : Option ℕ) (command : Command) (front : List ℕ) (b : ℕ) (rest : List ℕ)
+    → IfSome id (λ n. n ≤ int_max) → IsWritable command → IsInLimits command
+    → written_command id command ≡ front ++ b ∷ rest → lines front ≡ []
+
+-- a command that is written has at most 64 bytes
+abbrev pub CommandsAreShort : Type 0
+CommandsAreShort = (id : Option ℕ) (command : Command)
+    → IfSome id (λ n. n ≤ int_max) → IsWritable command → IsInLimits command
+    → length (written_command id command) ≤ command_max
+
+-- ---- replies (the standard, response structure)
 
 -- a reply has one value
 abbrev pub RepliesHaveOneValue : Type 0
@@ -80,20 +114,49 @@ abbrev pub RepliesAreToldFirst : Type 0
 RepliesAreToldFirst = (raw later : List ℕ) (value : Reply)
     → IsReply raw value → IsFirst (raw ++ later) (length raw) (Ok value)
 
--- what stands behind a newline is read by itself
-abbrev pub NewlinesBeginAnew : Type 0
-NewlinesBeginAnew = (text later : List ℕ) → lines (text ++ 10 ∷ later) ≡ lines (text ++ 10 ∷ []) ++ lines later
-
--- a text that is written as a reply is one reply
+-- What is written as a reply, of an id and a text that may be written, is one reply of that status, id and text.
 abbrev pub WrittenRepliesAreReplies : Type 0
 WrittenRepliesAreReplies = (ok : Bool) (id : Option ℕ) (text : List ℕ) (value : Reply)
     → IfSome id (λ n. n ≤ int_max) → IsReplyText text → value.ok ≡ ok → value.id ≡ id → value.text.items ≡ text
     → IsReply (written_reply ok id text) value
 
--- a reply that is cut short tells nothing
+-- a reply that is cut short tells nothing: neither a reply nor a fault
 abbrev pub FrontsTellNothing : Type 0
-FrontsTellNothing = (raw : List ℕ) (value : Reply) (k : ℕ) → IsReply raw value → k < length raw → TellsNothing (take k raw)
+FrontsTellNothing = (raw : List ℕ) (value : Reply) (k : ℕ)
+    → IsReply raw value → k < length raw → TellsNothing (take k raw)
 
--- what a text tells first a longer one tells first
+-- what a text tells first every longer text that it begins tells first, at the same place
 abbrev pub ToldStaysTold : Type 0
-ToldStaysTold = (text later : List ℕ) (place : ℕ) (answer : Result Reply ReplyFault) → IsFirst text place answer → IsFirst (text ++ later) place answer
+ToldStaysTold = (text later : List ℕ) (place : ℕ) (answer : Result Reply ReplyFault)
+    → IsFirst text place answer → IsFirst (text ++ later) place answer
+
+-- What is written as a reply is told first, at its own end, whatever follows it.
+abbrev pub WrittenRepliesAreToldFirst : Type 0
+WrittenRepliesAreToldFirst = (ok : Bool) (id : Option ℕ) (text later : List ℕ) (value : Reply)
+    → IfSome id (λ n. n ≤ int_max) → IsReplyText text → value.ok ≡ ok → value.id ≡ id → value.text.items ≡ text
+    → IsFirst (written_reply ok id text ++ later) (length (written_reply ok id text)) (Ok value)
+
+-- a reply that is written, of a text of at most 2,000 bytes and an id that is an int, has at most 2,048 bytes
+abbrev pub RepliesAreShort : Type 0
+RepliesAreShort = (ok : Bool) (id : Option ℕ) (text : List ℕ)
+    → IfSome id (λ n. n ≤ int_max) → length text ≤ reply_text_max
+    → length (written_reply ok id text) ≤ written_reply_max
+
+-- Pieces are read one after the other, each behind what the one before it left, up to and with the first of them that
+-- tells something. So many bytes of them are used in all, and this is told.
+pub data AreRead : List ℕ → List (List ℕ) → ℕ → Option (Result Reply ReplyFault) → List ℕ → Type 0 where
+  all_read : {old : List ℕ} → AreRead old [] 0 None old
+  quiet : {old mid new : List ℕ} {more : ℕ} {got : Option (Result Reply ReplyFault)}
+      (piece : List ℕ) (pieces : List (List ℕ)) (used : ℕ)
+      → ReadsFirst old piece used None mid → AreRead mid pieces more got new
+      → AreRead old (piece ∷ pieces) (used + more) got new
+  told : {old new : List ℕ} (piece : List ℕ) (pieces : List (List ℕ)) (used : ℕ) (answer : Result Reply ReplyFault)
+      → ReadsFirst old piece used (Some answer) new
+      → AreRead old (piece ∷ pieces) used (Some answer) new
+
+-- In whatever pieces a text is read, the same is told first, as many bytes are used, and the same is left as if it
+-- were read whole.
+abbrev pub AnyPiecesTellAlike : Type 0
+AnyPiecesTellAlike = (old : List ℕ) (pieces : List (List ℕ)) (used : ℕ) (got : Option (Result Reply ReplyFault))
+    (new : List ℕ)
+    → TellsNothing old → AreRead old pieces used got new → ReadsFirst old (concat pieces) used got new

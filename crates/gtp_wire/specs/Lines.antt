@@ -1,4 +1,4 @@
--- The command lines of a text. (The standard, on preprocessing and command structure.)
+-- The command lines of a text. (The standard, preprocessing and command structure.)
 use Rattle.std.specs.Prelude.{◌≡◌, ℕ, List, [], ◌∷◌, ◌++◌, length, filter, map, nat_lt, Option, Some, None, if◌then◌else◌}
 use Rattle.std.specs.List.{slice_split, filter_map, join_with_byte}
 use Rattle.gtp_wire.specs.declared.lines.Line.{Line}

@@ -1,5 +1,7 @@
--- The replies in the bytes from an engine. (The standard, on preprocessing and response structure.)
-use Rattle.std.specs.Prelude.{◌≡◌, ℕ, ◌+◌, ◌<◌, ◌≤◌, Bool, true, false, ◌&&◌, ◌||◌, ◌==◌, List, [], ◌∷◌, ◌++◌, length, take, filter, map, reverse, Option, Some, None, Result, Ok, Err, is_some, nat_le, if◌then◌else◌}
+-- The replies in the bytes from an engine. (The standard, preprocessing and response structure.)
+use Rattle.std.specs.Prelude.{◌≡◌, ℕ, ◌+◌, ◌<◌, ◌≤◌, Bool, true, false, ◌&&◌, ◌||◌, ◌==◌, nat_le, if◌then◌else◌}
+use Rattle.std.specs.Prelude.{List, [], ◌∷◌, ◌++◌, length, take, filter, map, reverse}
+use Rattle.std.specs.Prelude.{Option, Some, None, is_some, IfSome, IfNone, Result, Ok, Err}
 use Rattle.std.specs.Char.{is_ascii_digit}
 use Rattle.std.specs.List.{list_all}
 use Rattle.go_base.specs.Int.{int_of, written_int}
@@ -15,6 +17,10 @@ reply_max = 8192
 -- the most bytes of the text of a reply that is written (own)
 abbrev pub reply_text_max : ℕ
 reply_text_max = 2000
+
+-- the most bytes of a reply that is written: room for the text, the status, the id, a space and two newlines (own)
+abbrev pub written_reply_max : ℕ
+written_reply_max = 2048
 
 -- What the controller does before it parses: the control characters but HT and LF are removed, and HT becomes a space.
 -- It knows no comments.
@@ -50,7 +56,8 @@ abbrev pub trimmed : List ℕ → List ℕ
 trimmed text = reverse (behind is_space (reverse (behind is_space text)))
 
 -- What a status and a body say: the run of digits at the body's front is the id where it is an int, and the rest is the
--- text; where it is none, there is no id and the whole body is the text. Single newlines stay in it.
+-- text; where it is none, there is no id and the whole body is the text. Single newlines stay in the text, and the
+-- spaces at its ends are dropped.
 abbrev pub reply_of : ℕ → List ℕ → Reply
 reply_of status body =
     let id = int_of (front_of is_ascii_digit body) in
@@ -84,7 +91,7 @@ pub record IsNoStatus (raw : List ℕ) : Type 0 where
   pub other : is_status byte ≡ false
 
 -- What the raw bytes tell, where no front of them tells anything: a reply; that they begin none; or, with byte 8,193,
--- whatever it is, that they are too many.
+-- whatever it is, that they are too many (own).
 abbrev pub Tells : List ℕ → Result Reply ReplyFault → Type 0
 Tells raw (Ok value) = IsReply raw value
 Tells raw (Err NoStatus) = IsNoStatus raw
@@ -106,6 +113,22 @@ abbrev pub rest_after : Option (Result Reply ReplyFault) → List ℕ → List �
 rest_after None text = text
 rest_after (Some (Ok value)) text = []
 rest_after (Some (Err fault)) text = text
+
+-- What reading a piece behind what is held gives. What is told is the first thing that both together tell, and the
+-- last byte used shows it; where nothing is told, they tell nothing yet, and all of the piece is used.
+pub record ReadsFirst (old input : List ℕ) (used : ℕ) (got : Option (Result Reply ReplyFault)) (new : List ℕ)
+    : Type 0 where
+  pub first : IfSome got (λ answer. IsFirst (old ++ input) (length old + used) answer)
+  pub nothing : IfNone got (TellsNothing (old ++ input))
+  pub all : IfNone got (used ≡ length input)
+  pub within : used ≤ length input
+  -- a reply is taken off, and all else is kept as it came
+  pub rest : new ≡ rest_after got (old ++ take used input)
+
+-- what was told, with the reply where it is one
+abbrev pub with_reply : Reply → Result (Unit {0}) ReplyFault → Result Reply ReplyFault
+with_reply reply (Ok done) = Ok reply
+with_reply reply (Err fault) = Err fault
 
 -- the id as it is written: nothing where there is none
 abbrev pub written_id : Option ℕ → List ℕ

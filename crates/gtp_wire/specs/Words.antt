@@ -1,13 +1,22 @@
--- The words of a text, and of a command line. (The standard, on command structure.)
-use Rattle.std.specs.Prelude.{ℕ, Bool, ◌==◌, ◌&&◌, not, List, [], ◌∷◌, length, filter, nat_lt, Option, Some, None, is_some, if◌then◌else◌}
+-- The words of a text, and of a command line. (The standard, command structure.)
+use Rattle.std.specs.Prelude.{ℕ, Bool, ◌==◌, ◌&&◌, not, List, [], ◌∷◌, length, filter, nat_lt}
+use Rattle.std.specs.Prelude.{Option, Some, None, is_some, if◌then◌else◌}
 use Rattle.std.specs.Char.{is_ascii_control}
 use Rattle.std.specs.List.{slice_split, list_all}
 use Rattle.go_base.specs.Int.{int_of, written_int}
-use Rattle.gtp_wire.specs.Bytes.{is_space}
+use Rattle.gtp_wire.specs.Bytes.{is_space, is_blank}
 
--- the maximal runs without a space: the parts between spaces, without the empty ones
+-- the maximal runs of a text without a byte that separates: the parts between such bytes, without the empty ones
+abbrev pub words_by : (ℕ → Bool) → List ℕ → List (List ℕ)
+words_by separates text = filter (λ part. nat_lt 0 (length part)) (slice_split separates text)
+
+-- the words of a command line: the maximal runs without a space
 abbrev pub words : List ℕ → List (List ℕ)
-words text = filter (λ part. nat_lt 0 (length part)) (slice_split is_space text)
+words text = words_by is_space text
+
+-- the words of a reply's text: the maximal runs without a space or a newline
+unfoldable pub reply_words : List ℕ → List (List ℕ)
+reply_words text = words_by is_blank text
 
 -- a command line: its id, where it has one, and the words after it, the command's name first
 pub record CommandWords : Type 0 where
@@ -25,9 +34,9 @@ command_of (w ∷ ws) =
 abbrev pub is_word_byte : ℕ → Bool
 is_word_byte b = not (is_ascii_control b) && (not (is_space b) && not (b == 35))
 
--- a word as it is written: one such byte or more
-abbrev pub is_word : List ℕ → Bool
-is_word text = nat_lt 0 (length text) && list_all is_word_byte text
+-- a word as it is written: one such byte or more, and no other
+abbrev pub is_written_word : List ℕ → Bool
+is_written_word text = nat_lt 0 (length text) && list_all is_word_byte text
 
 -- the id as a word, where there is one
 abbrev pub id_words : Option ℕ → List (List ℕ)

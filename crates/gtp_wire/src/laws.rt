@@ -1,5 +1,13 @@
-//! Laws of lines and replies, for the crates that use them. Each is the contract of a function that does nothing.
-ghost use Rattle.gtp_wire.specs.Laws.{LinesGoOn, OnlyNewlinesEndLines, TextsAreRead, FindsAgree, FindsJoin, AnyPiecesReadAlike, WrittenLinesAreRead, RepliesHaveOneValue, OneThingIsToldFirst, NoReplyBeginsAnother, RepliesAreToldFirst, NewlinesBeginAnew, WrittenRepliesAreReplies, FrontsTellNothing, ToldStaysTold};
+//! Laws of lines, commands and replies, for the crates that use them.
+//!
+//! Each is the contract of a function that does nothing.
+ghost use Rattle.gtp_wire.specs.Laws.{LinesGoOn, OnlyNewlinesEndLines, NewlinesBeginAnew, TextsAreRead};
+ghost use Rattle.gtp_wire.specs.Laws.{FindsAgree, FindsJoin, AnyPiecesReadAlike, WrittenLinesAreRead};
+ghost use Rattle.gtp_wire.specs.Laws.{WrittenCommandsAreLines, CommandFrontsAreOpen, CommandsAreShort};
+ghost use Rattle.gtp_wire.specs.Laws.{RepliesHaveOneValue, OneThingIsToldFirst, NoReplyBeginsAnother};
+ghost use Rattle.gtp_wire.specs.Laws.{RepliesAreToldFirst, WrittenRepliesAreReplies, FrontsTellNothing};
+ghost use Rattle.gtp_wire.specs.Laws.{ToldStaysTold, WrittenRepliesAreToldFirst, RepliesAreShort};
+ghost use Rattle.gtp_wire.specs.Laws.{AnyPiecesTellAlike};
 
 /// The lines of a text begin those of every longer text.
 pub fn lines_go_on()
@@ -9,6 +17,11 @@ pub fn lines_go_on()
 /// Only a newline ends a line: bytes without one add no line.
 pub fn only_newlines_end_lines()
     ensures { OnlyNewlinesEndLines }
+{}
+
+/// What stands behind a newline is read by itself.
+pub fn newlines_begin_anew()
+    ensures { NewlinesBeginAnew }
 {}
 
 /// Every text can be read: its lines are found, and there is something to hold then.
@@ -36,6 +49,21 @@ pub fn written_lines_are_read()
     ensures { WrittenLinesAreRead }
 {}
 
+/// A command that is written is, with anything behind it, one line of its id and words, and then the lines of the rest.
+pub fn written_commands_are_lines()
+    ensures { WrittenCommandsAreLines }
+{}
+
+/// A command that is written and cut short holds no line.
+pub fn command_fronts_are_open()
+    ensures { CommandFrontsAreOpen }
+{}
+
+/// A command that is written has at most 64 bytes.
+pub fn commands_are_short()
+    ensures { CommandsAreShort }
+{}
+
 /// A reply has one value.
 pub fn replies_have_one_value()
     ensures { RepliesHaveOneValue }
@@ -56,22 +84,32 @@ pub fn replies_are_told_first()
     ensures { RepliesAreToldFirst }
 {}
 
-/// A law.
-pub fn newlines_begin_anew()
-    ensures { NewlinesBeginAnew }
-{}
-
-/// A law.
+/// What is written as a reply is one reply, of that status, id and text.
 pub fn written_replies_are_replies()
     ensures { WrittenRepliesAreReplies }
 {}
 
-/// A law.
+/// A reply that is cut short tells nothing.
 pub fn fronts_tell_nothing()
     ensures { FrontsTellNothing }
 {}
 
-/// A law.
+/// What a text tells first every longer text tells first.
 pub fn told_stays_told()
     ensures { ToldStaysTold }
+{}
+
+/// What is written as a reply is told first, at its own end, whatever follows it.
+pub fn written_replies_are_told_first()
+    ensures { WrittenRepliesAreToldFirst }
+{}
+
+/// A reply that is written has at most 2,048 bytes.
+pub fn replies_are_short()
+    ensures { RepliesAreShort }
+{}
+
+/// In whatever pieces a text is read, the same thing is told first.
+pub fn any_pieces_tell_alike()
+    ensures { AnyPiecesTellAlike }
 {}

@@ -1,5 +1,5 @@
 //! Replies, and their writer.
-ghost use Rattle.std.specs.Prelude.{◌≡◌, ℕ, ◌+◌, ◌<◌, ◌≤◌, [], ◌++◌, length, IfSome};
+ghost use Rattle.std.specs.Prelude.{◌≡◌, ℕ, ◌+◌, ◌<◌, ◌≤◌, false, [], ◌++◌, length, None, IfSome};
 ghost use Rattle.arrayvec.specs.ArrayVec.{array_vec_len};
 ghost use Rattle.go_base.specs.Int.{int_max};
 ghost use Rattle.gtp_wire.specs.Replies.{IsReply, IsReplyText, reply_text_max, written_reply, written_id, spaced};
@@ -17,6 +17,29 @@ pub struct Reply {
     pub id: Option<u32>,
     /// The text, without the spaces at its ends; rows are separated by single newlines.
     pub text: ArrayVec<u8, 8192>,
+}
+
+impl Reply {
+    /// A failure without an id and without a text, for a reader to write in.
+    pub fn new() -> Self
+        ensures ok { result.ok ≡ false }
+        ensures id { result.id ≡ None }
+        ensures text { result.text.items ≡ [] }
+    {
+        Reply {
+            ok: false,
+            id: None,
+            text: ArrayVec::new(),
+        }
+    }
+}
+
+impl Default for Reply {
+    ghost is_default = { λ r. r ≡ record { ok = false; id = None; text = record { items = [] } } };
+
+    fn default() -> Self {
+        Reply::new()
+    }
 }
 
 /// Why bytes are no reply. For each byte they are checked in this order.
@@ -62,7 +85,8 @@ pub fn write_reply_into(out: &mut ReplyText, ok: bool, id: Option<u32>, text: &[
     ensures nothing { reply_text_max < length text.now → out.new.items ≡ [] }
     // Where id and text are those of a reply, the bytes are one reply, of this status, id and text.
     ensures reply { IfSome id (λ n. n ≤ int_max) → IsReplyText text.now →
-        (value : Reply) → value.ok ≡ ok → value.id ≡ id → value.text.items ≡ text.now → IsReply out.new.items value }
+        (value : Reply) → value.ok ≡ ok → value.id ≡ id → value.text.items ≡ text.now →
+        IsReply out.new.items value }
 {
     if text.len() > REPLY_TEXT_LIMIT {
         out.clear();

@@ -1,5 +1,6 @@
 use Rattle.std.proofs.Common.{◌+◌, [], ◌∷◌, ◌++◌, arith, ap, ◌∙◌}
-use Rattle.go_board.proofs.ShowLemmas.{letters_before, letters_before-first, letters_before-more, letters_before-all}
+use Rattle.go_base.specs.Vertex.{letter_of}
+use Rattle.go_board.proofs.ShowLemmas.{letters_before-first, letters_before-more, letters_before-all}
 use Rattle.go_board.proofs.show.push_letters.Goals as goal
 
 pub loop-column-init : goal.loop-column-init
@@ -13,9 +14,8 @@ pub loop-column-preserved : goal.loop-column-preserved
 loop-column-preserved c = record {
   few = omega arith;
   written =
-      c.push-in-loop-column-2.ensures.items
-      ∙ ap (λ t. t ++ c.letter.result ∷ []) (c.push-in-loop-column.ensures.items ∙ ap (λ t. t ++ 32 ∷ []) c.loop-column.invariant.written)
-      ∙ ap (λ b. ((c.args.text.now.items ++ letters_before c.loop-column.column) ++ 32 ∷ []) ++ b ∷ []) c.letter.ensures
+      c.push_letter.ensures.letter
+      ∙ ap (λ t. t ++ letter_of c.loop-column.column ∷ []) (c.push-in-loop-column.ensures.items ∙ ap (λ t. t ++ 32 ∷ []) c.loop-column.invariant.written)
       ∙ letters_before-more c.loop-column.column c.args.text.now.items (omega arith);
   len = omega arith;
 }
@@ -27,8 +27,7 @@ returns-clause-letters c =
 
 pub returns-2-clause-letters : goal.returns-2-clause-letters
 returns-2-clause-letters c =
-    c.push-in-loop-column-2.ensures.items
-    ∙ ap (λ t. t ++ c.letter.result ∷ []) (c.push-in-loop-column.ensures.items ∙ ap (λ t. t ++ 32 ∷ []) c.loop-column.invariant.written)
-    ∙ ap (λ b. ((c.args.text.now.items ++ letters_before c.loop-column.column) ++ 32 ∷ []) ++ b ∷ []) c.letter.ensures
+    c.push_letter.ensures.letter
+    ∙ ap (λ t. t ++ letter_of c.loop-column.column ∷ []) (c.push-in-loop-column.ensures.items ∙ ap (λ t. t ++ 32 ∷ []) c.loop-column.invariant.written)
     ∙ letters_before-more c.loop-column.column c.args.text.now.items (omega arith)
     ∙ letters_before-all c.args.size (c.loop-column.column + 1) c.args.text.now.items (omega arith)

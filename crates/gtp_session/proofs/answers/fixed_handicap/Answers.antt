@@ -20,7 +20,9 @@ returns-in-Ok c =
     rw (← c.int_argument.ensures, c.in-Some.is, good)
     (record {
       game_is = c.in-Ok.ensures.placed;
-      reply_is = c.success.ensures ∙ ap (λ (t : List ℕ). written_reply true c.args.line.now.id t) (is ∙ ap written_vertices c.in-Ok.ensures.ok);
+      reply_is =
+          c.success.ensures ∙ ap (λ (t : List ℕ). written_reply true c.args.line.now.id t)
+          (is ∙ ap written_vertices c.in-Ok.ensures.ok);
     })
 
 pub returns-in-Err-BadNumber : goal.returns-in-Err-BadNumber

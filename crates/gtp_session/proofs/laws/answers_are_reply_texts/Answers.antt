@@ -1,0 +1,5 @@
+use Rattle.gtp_session.proofs.SpokenLemmas.{answer_good}
+use Rattle.gtp_session.proofs.laws.answers_are_reply_texts.Goals as goal
+
+pub returns : goal.returns
+returns c game line choice is lawful = let good = answer_good game line choice is lawful in (good.text, good.size)

@@ -1,0 +1,5 @@
+use Rattle.gtp_session.proofs.CommandLemmas.{quit_ends}
+use Rattle.gtp_session.proofs.laws.only_quit_ends.Goals as goal
+
+pub returns : goal.returns
+returns c id command = quit_ends id command

@@ -1,0 +1,58 @@
+-- What is answered is one reply, as a controller reads it.
+use Rattle.std.specs.Prelude.{◌≡◌, ℕ, ◌≤◌, List, All, Option, IfSome}
+use Rattle.go_base.specs.Int.{int_max}
+use Rattle.go_base.specs.Size.{IsSize}
+use Rattle.go_board.specs.Game.{GameRecord}
+use Rattle.gtp_wire.specs.declared.lines.Line.{Line}
+use Rattle.gtp_wire.specs.declared.replies.Reply.{Reply}
+use Rattle.gtp_wire.specs.Lines.{lines}
+use Rattle.gtp_wire.specs.Replies.{IsReply, IsReplyText, written_reply}
+use Rattle.gtp_session.specs.Policy.{May, IsLawful}
+use Rattle.go_base.specs.declared.choices.Choice.{Choice}
+use Rattle.gtp_session.specs.Commands.{Answer, answer, asked, id_of}
+use Rattle.gtp_session.specs.Engine.{Engine, WrittenReply, Replies}
+
+-- the line's id, where it has one, is an int
+abbrev pub HasIntId : Line → Type 0
+HasIntId line = IfSome (id_of line) (λ id. id ≤ int_max)
+
+-- where the line asks the policy, the choice is lawful for the colour
+abbrev pub IsLawfulAt : GameRecord → Line → Choice → Type 0
+IsLawfulAt game line choice = IfSome (asked game line) (λ colour. IsLawful game colour choice)
+
+-- an answer as a reply, with the id that it repeats
+abbrev pub reply_of_answer : Option ℕ → Answer → Reply
+reply_of_answer id given = record { ok = given.ok; id = id; text = record { items = given.text } }
+
+-- The bytes are one reply, which was written of this status, this id and this text, and the text is one that a reply
+-- may have: what a controller reads in them is the same.
+pub record IsSpoken (bytes : List ℕ) : Type 0 where
+  pub reply : Reply
+  pub text : IsReplyText reply.text.items
+  pub written : bytes ≡ written_reply reply.ok reply.id reply.text.items
+  pub read : IsReply bytes reply
+
+-- ---- laws
+
+-- each line of a text has an int as its id, or none
+abbrev pub IdsAreInts : Type 0
+IdsAreInts = (text : List ℕ) → All HasIntId (lines text)
+
+-- Whatever the line, where the size is one of a board and the choice is lawful: the text of the answer is one that a
+-- reply may have, and the board has one of the sizes again.
+abbrev pub AnswersAreReplyTexts : Type 0
+AnswersAreReplyTexts = (game : GameRecord) (line : Line) (choice : Choice)
+    → IsSize game.size → IsLawfulAt game line choice
+    → IsReplyText (answer game line choice).text × IsSize (answer game line choice).game.size
+
+-- The bytes of an answer, with an int as its id or none, are one reply, of its status, its id and its text.
+abbrev pub AnswersAreReplies : Type 0
+AnswersAreReplies = (game : GameRecord) (line : Line) (choice : Choice)
+    → IsSize game.size → HasIntId line → IsLawfulAt game line choice
+    → IsReply (written_reply (answer game line choice).ok (id_of line) (answer game line choice).text)
+    (reply_of_answer (id_of line) (answer game line choice))
+
+-- Each of the replies of an engine is one reply, whatever it is given.
+abbrev pub EachReplyIsOne : {P : Type 0} → May P → Type 0
+EachReplyIsOne {P} may = (old new : Engine P) (text : List ℕ) (replies : List WrittenReply)
+    → IsSize old.game.size → Replies may old text new replies → All (λ reply. IsSpoken reply.text) replies

@@ -1,0 +1,24 @@
+//! What is done to single bytes. (The standard, preprocessing.)
+ghost use Rattle.std.specs.Prelude.{◌≡◌, not};
+ghost use Rattle.gtp_wire.specs.Bytes.{is_kept, space_for_tab, is_blank};
+
+/// Whether the byte is a space or a newline: what may stand before a reply, and separates the words of its text.
+pub fn is_blank(byte: u8) -> bool
+    ensures { result ≡ is_blank byte }
+{
+    byte == b' ' || byte == b'\n'
+}
+
+/// Whether a byte is removed before anything is parsed: a control character that is neither HT nor LF.
+pub(crate) fn is_removed(byte: u8) -> bool
+    ensures { is_kept byte ≡ not result }
+{
+    byte.is_ascii_control() && byte != b'\t' && byte != b'\n'
+}
+
+/// The byte as it is parsed: a space for HT.
+pub(crate) fn prepared_byte(byte: u8) -> u8
+    ensures { result ≡ space_for_tab byte }
+{
+    if byte == b'\t' { b' ' } else { byte }
+}
