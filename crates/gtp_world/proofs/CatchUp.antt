@@ -9,19 +9,19 @@ use Rattle.go_board.specs.Game.{GameRecord}
 use Rattle.gtp_wire.specs.declared.commands.Command.{Command}
 use Rattle.gtp_session.specs.Laws.{AllowsLawful}
 use Rattle.gtp_session.specs.Engine.{Engine, fresh}
-use Rattle.gtp_match.specs.declared.orders.Order.{Order}
+use Rattle.gtp_match.specs.declared.unanswered.SentCommand.{SentCommand}
 use Rattle.gtp_match.specs.declared.sides.Incarnation.{Incarnation}
 use Rattle.gtp_match.specs.declared.verdicts.Action.{Action}
 use Rattle.gtp_match.specs.declared.verdicts.Action.TheVariants.{Start, Send}
 use Rattle.gtp_match.specs.declared.controller.Controller.{Controller}
 use Rattle.gtp_match.specs.Controller.{to_move, engine_in_step, in_step}
-use Rattle.gtp_match.specs.Next.{waits, is_down, lacks, next}
-use Rattle.gtp_match.specs.Orders.{no_orders}
+use Rattle.gtp_match.specs.Next.{has_unanswered, is_down, has_script_left, next}
+use Rattle.gtp_match.specs.Unanswered.{none_unanswered}
 use Rattle.gtp_match.specs.Script.{script}
 use Rattle.gtp_match.specs.Setup.{SetupRecord, IsSetup}
-use Rattle.gtp_match.specs.Sides.{at, new_incarnation}
+use Rattle.gtp_match.specs.Sides.{side_of, new_incarnation}
 use Rattle.gtp_match.specs.Sound.{IsIdle, IsSound}
-use Rattle.gtp_match.proofs.NextLemmas.{Tests, tests_of, next_live, at_black_down, at_white_down, at_black_lacks, at_white_lacks}
+use Rattle.gtp_match.proofs.NextLemmas.{Tests, tests_of, next_live, at_black_down, at_white_down, at_black_script_left, at_white_script_left}
 use Rattle.gtp_match.proofs.SoundLemmas.{my_engine, idle_plan}
 use Rattle.gtp_world.specs.declared.events.Event.{Event}
 use Rattle.gtp_world.specs.declared.events.Event.TheVariants.{Act, ToEngine, ToController}
@@ -35,27 +35,27 @@ use Rattle.gtp_world.specs.Joined.{BareLane, bare, AreJoined, IsJoined}
 
 -- ---- what comes next
 
-no_wait : (game : GameRecord) (up : Option Incarnation) → IsIdle up → waits game up ≡ false
+no_wait : (game : GameRecord) (up : Option Incarnation) → IsIdle up → has_unanswered game up ≡ false
 no_wait game None idle = refl
-no_wait game (Some u) idle = ap (λ (os : List Order). not (no_orders os)) idle
+no_wait game (Some u) idle = ap (λ (os : List SentCommand). not (none_unanswered os)) idle
 
 starts_black : (c : Controller) → c.verdict ≡ None → IsIdle c.sides.white.up → c.sides.black.up ≡ None → next c ≡ Start Black
 starts_black c none idle down =
     next_live c none
-    ∙ sym (at_black_down (to_move c.game) (tests_of c.game c.sides.black.up c.sides.white.up) (ap (waits c.game) down) (no_wait c.game c.sides.white.up idle) (ap is_down down))
+    ∙ sym (at_black_down (to_move c.game) (tests_of c.game c.sides.black.up c.sides.white.up) (ap (has_unanswered c.game) down) (no_wait c.game c.sides.white.up idle) (ap is_down down))
 
 starts_white : (c : Controller) (black : Incarnation) → c.verdict ≡ None → c.sides.black.up ≡ Some black → black.unanswered ≡ [] → c.sides.white.up ≡ None → next c ≡ Start White
 starts_white c black none up idle down =
     next_live c none
-    ∙ sym (at_white_down (to_move c.game) (tests_of c.game c.sides.black.up c.sides.white.up) (ap (waits c.game) up ∙ no_wait c.game (Some black) idle) (ap (waits c.game) down) (ap is_down up) (ap is_down down))
+    ∙ sym (at_white_down (to_move c.game) (tests_of c.game c.sides.black.up c.sides.white.up) (ap (has_unanswered c.game) up ∙ no_wait c.game (Some black) idle) (ap (has_unanswered c.game) down) (ap is_down up) (ap is_down down))
 
-lacks_some : (game : GameRecord) (u : Incarnation) → u.unanswered ≡ [] → u.confirmed < length (script game) → lacks game (Some u) ≡ true
+lacks_some : (game : GameRecord) (u : Incarnation) → u.unanswered ≡ [] → u.confirmed < length (script game) → has_script_left game (Some u) ≡ true
 lacks_some game u idle less = below (u.confirmed + length u.unanswered) (length (script game)) (omega (arith, less, ap length idle))
   where
     below : (m n : ℕ) → m < n → nat_lt m n ≡ true
     below m n h = grind (arith, nat_tests)
 
-lacks_none : (game : GameRecord) (u : Incarnation) → length (script game) ≤ u.confirmed → lacks game (Some u) ≡ false
+lacks_none : (game : GameRecord) (u : Incarnation) → length (script game) ≤ u.confirmed → has_script_left game (Some u) ≡ false
 lacks_none game u all = above (u.confirmed + length u.unanswered) (length (script game)) (omega (arith, all))
   where
     above : (m n : ℕ) → n ≤ m → nat_lt m n ≡ false
@@ -66,22 +66,22 @@ module _ (c : Controller) (black white : Incarnation) (none : c.verdict ≡ None
   abbrev tests : Tests
   tests = tests_of c.game c.sides.black.up c.sides.white.up
 
-  black_free : waits c.game c.sides.black.up ≡ false
-  black_free = ap (waits c.game) black_up ∙ no_wait c.game (Some black) black_idle
+  black_free : has_unanswered c.game c.sides.black.up ≡ false
+  black_free = ap (has_unanswered c.game) black_up ∙ no_wait c.game (Some black) black_idle
 
-  white_free : waits c.game c.sides.white.up ≡ false
-  white_free = ap (waits c.game) white_up ∙ no_wait c.game (Some white) white_idle
+  white_free : has_unanswered c.game c.sides.white.up ≡ false
+  white_free = ap (has_unanswered c.game) white_up ∙ no_wait c.game (Some white) white_idle
 
   sends_black : black.confirmed < length (script c.game) → next c ≡ Send Black
   sends_black less =
       next_live c none
-      ∙ sym (at_black_lacks (to_move c.game) tests black_free white_free (ap is_down black_up) (ap is_down white_up) (ap (lacks c.game) black_up ∙ lacks_some c.game black black_idle less))
+      ∙ sym (at_black_script_left (to_move c.game) tests black_free white_free (ap is_down black_up) (ap is_down white_up) (ap (has_script_left c.game) black_up ∙ lacks_some c.game black black_idle less))
 
   sends_white : length (script c.game) ≤ black.confirmed → white.confirmed < length (script c.game) → next c ≡ Send White
   sends_white all less =
       next_live c none
-      ∙ sym (at_white_lacks (to_move c.game) tests black_free white_free (ap is_down black_up) (ap is_down white_up) (ap (lacks c.game) black_up ∙ lacks_none c.game black all)
-      (ap (lacks c.game) white_up ∙ lacks_some c.game white white_idle less))
+      ∙ sym (at_white_script_left (to_move c.game) tests black_free white_free (ap is_down black_up) (ap is_down white_up) (ap (has_script_left c.game) black_up ∙ lacks_none c.game black all)
+      (ap (has_script_left c.game) white_up ∙ lacks_some c.game white white_idle less))
 
 -- ---- lists
 
@@ -340,7 +340,7 @@ module _ {B W : Type 0} (mb : SidePolicies B) (mw : SidePolicies W) (law_b : All
 
   ready_in_step : {P : Type 0} (game : GameRecord) (up : Option Incarnation) (l : Lane P) → IsReady up l (length (script game)) → engine_in_step game up ≡ true
   ready_in_step game up l h =
-      ap (engine_in_step game) h.is_up ∙ ap (λ (os : List Order). no_orders os && h.incarnation.confirmed == length (script game)) h.idle ∙ same h.incarnation.confirmed (length (script game)) h.confirmed
+      ap (engine_in_step game) h.is_up ∙ ap (λ (os : List SentCommand). none_unanswered os && h.incarnation.confirmed == length (script game)) h.idle ∙ same h.incarnation.confirmed (length (script game)) h.confirmed
     where
       same : (m n : ℕ) → m ≡ n → (m == n) ≡ true
       same m n e = grind (arith, nat_tests)

@@ -16,11 +16,11 @@ use Rattle.gtp_wire.specs.declared.replies.ReplyFault.{ReplyFault}
 use Rattle.gtp_wire.specs.Replies.{IsFirst, TellsNothing}
 use Rattle.gtp_wire.proofs.ReplyLaws.{one_first}
 use Rattle.gtp_session.specs.Policy.{IsLawful}
-use Rattle.gtp_session.specs.declared.policy.Choice.{Choice}
-use Rattle.gtp_session.specs.declared.policy.Choice.TheVariants as choice
+use Rattle.go_base.specs.declared.choices.Choice.{Choice}
+use Rattle.go_base.specs.declared.choices.Choice.TheVariants as choice
 use Rattle.gtp_session.specs.Commands.{Answer, answer, answer_choice}
 use Rattle.gtp_session.specs.Engine.{fresh_game}
-use Rattle.gtp_match.specs.declared.orders.Order.{Order}
+use Rattle.gtp_match.specs.declared.unanswered.SentCommand.{SentCommand}
 use Rattle.gtp_match.specs.declared.sides.Incarnation.{Incarnation}
 use Rattle.gtp_match.specs.declared.sides.Sides.{Sides}
 use Rattle.gtp_match.specs.declared.table.Outcome.{Outcome}
@@ -30,25 +30,30 @@ use Rattle.gtp_match.specs.declared.verdicts.SideFault.TheVariants.{WrongId}
 use Rattle.gtp_match.specs.declared.verdicts.Verdict.{Verdict}
 use Rattle.gtp_match.specs.declared.verdicts.Verdict.TheVariants.{Score, Resign, Limit}
 use Rattle.gtp_match.specs.declared.controller.Controller.{Controller}
-use Rattle.gtp_match.specs.Orders.{oldest}
+use Rattle.gtp_match.specs.Unanswered.{oldest}
 use Rattle.gtp_match.specs.Script.{script}
-use Rattle.gtp_match.specs.Sides.{at, put, with_engine, heard_reply, confirmed, answered}
+use Rattle.gtp_match.specs.Sides.{side_of, with_side, with_engine, heard_reply, confirmed, answered}
 use Rattle.gtp_match.specs.Controller.{with_side_up}
-use Rattle.gtp_match.specs.ReplyTable.{outcome, outcome_of, has_id, after_outcome, fault_of, verdict_after, ends_with_passes}
+use Rattle.gtp_match.specs.ReplyTable.{outcome, outcome_of, has_id, after_outcome, fault_of, verdict_after}
 use Rattle.gtp_match.specs.Hearing.{ReadsAlike, MayKeep, HearsUp, HearsWhere, Hears, HearsAllBy, HearsAll}
+use Rattle.go_base.specs.Decide.{holds}
+use Rattle.go_board.specs.DecideGame.{finished?}
 use Rattle.gtp_match.specs.Setup.{SetupRecord}
-use Rattle.gtp_match.specs.Sound.{EndsAs, InScript, IsAsked, IsSoundEngine, IsIdle, IsSound, most_unanswered}
+use Rattle.gtp_match.specs.Sound.{VerdictFits, InScript, IsAsked, IsSoundEngine, IsIdle, IsSound}
+use Rattle.gtp_match.specs.Unanswered.{most_unanswered}
 use Rattle.gtp_match.proofs.ScriptLemmas.{script_longer}
 use Rattle.gtp_match.proofs.SoundLemmas.{my_engine, their_side, one_idle, idle_plan, nothing_told}
-use Rattle.gtp_match.proofs.ReplySound.{reply_sound, quiet_sound}
-use Rattle.gtp_world.proofs.OrderAnswers.{well_answer, genmove_answer, genmove_asks, succeeds_with}
+use Rattle.gtp_match.proofs.ReplySound.{reply_sound}
+use Rattle.gtp_match.proofs.HeardSound.{quiet_sound}
+use Rattle.gtp_session.proofs.CommandLemmas.{well_answer, genmove_answer, genmove_asks}
+use Rattle.gtp_world.proofs.OrderAnswers.{succeeds_with}
 use Rattle.gtp_world.proofs.ReplyReads.{well_heard, choice_heard, outcome_of_choice}
 use Rattle.gtp_world.proofs.Replay.{GoesWellOn, well_at, after_one_more, script_well, replayed_all, replayed_longer}
 use Rattle.gtp_world.proofs.Exchange.{owes_replies}
 use Rattle.gtp_world.proofs.Invariant.{joint_put}
 use Rattle.gtp_world.proofs.Sides.{live_any, judged_any, alike, Brings, arrives, quiet_or_first}
 use Rattle.gtp_world.specs.Exchange.{CanBeWritten, Answered, reply_with_id, reply_bytes, replayed, Owes, AllMayBeSent, all_reply_bytes}
-use Rattle.gtp_world.specs.CommandAnswers.{after_command, GoesWell}
+use Rattle.gtp_session.specs.CommandAnswers.{after_command, GoesWell}
 use Rattle.gtp_world.specs.Joined.{EngineBody, BareLane, WillReadWhereRunning, CutByCrash, IsJoinedInPlay, IsJoinedAtEnd, IsJoinedSide, IsFair, AreJoined, bare_empty}
 
 -- ---- what is kept reads alike
@@ -69,10 +74,10 @@ kept_longer kept reader begun x k r =
 
 -- ---- a side whose first reply has come whole
 
-next_live : (game : GameRecord) (n sent : ℕ) (us : List Order) (more : List Reply) (waiting : List Order) (ahead : GameRecord) (e : Option EngineBody) (te tc cut : List ℕ)
+next_live : (game : GameRecord) (n sent : ℕ) (us : List SentCommand) (more : List Reply) (waiting : List SentCommand) (ahead : GameRecord) (e : Option EngineBody) (te tc cut : List ℕ)
     → length us ≤ most_unanswered → Owes (replayed game n) us more waiting ahead → AllByRecursion CanBeWritten waiting → AllMayBeSent ahead waiting
     → tc ++ cut ≡ all_reply_bytes more → WillReadWhereRunning e te ahead waiting → CutByCrash e cut
-    → IsJoinedInPlay game (record { confirmed = n; sent = sent; unanswered = us; reader = [] }) (record { engine = e; to_engine = te; to_controller = tc })
+    → IsJoinedInPlay game (record { confirmed = n; sent = sent; unanswered = us; rest = [] }) (record { engine = e; to_engine = te; to_controller = tc })
 next_live game n sent us more waiting ahead e te tc cut few owes fit may arriving runs uncut = record {
   few = few;
   replies = more;
@@ -98,19 +103,19 @@ own_id n x y = rw (same_id n) refl
     same_id : (k : ℕ) → (k == k) ≡ true
     same_id k = grind (arith, nat_tests)
 
-pub scripted_outcome : (game : GameRecord) (s : Colour) (o : Order) (r : Reply) (g g1 : GameRecord) → Answered g o r g1 → GoesWellOn game.size g o.command
+pub scripted_outcome : (game : GameRecord) (s : Colour) (o : SentCommand) (r : Reply) (g g1 : GameRecord) → Answered g o r g1 → GoesWellOn game.size g o.command
     → outcome game s (Some o) r ≡ Confirms
 scripted_outcome game s o r g g1 a well =
-    let reply : r ≡ reply_with_id o.id (succeeds_with g o.command) = a.reply ∙ ap (reply_with_id o.id) (well_answer g o.id o.command a.choice well.well) in
+    let reply : r ≡ reply_with_id o.id (succeeds_with g o.command) = a.reply ∙ ap (reply_with_id o.id) (well_answer g (Some o.id) o.command a.choice well.well) in
     ap (outcome game s (Some o)) reply
     ∙ own_id o.id (outcome_of game s o.command (reply_with_id o.id (succeeds_with g o.command))) (Down WrongId)
     ∙ well_heard game g s o.id o.command well.well well.sized
 
-scripted_game : (o : Order) (r : Reply) (g g1 : GameRecord) → Answered g o r g1 → GoesWell g o.command → g1 ≡ after_command g o.command
-scripted_game o r g g1 a well = a.game ∙ ap (λ (x : Answer). x.game) (well_answer g o.id o.command a.choice well)
+scripted_game : (o : SentCommand) (r : Reply) (g g1 : GameRecord) → Answered g o r g1 → GoesWell g o.command → g1 ≡ after_command g o.command
+scripted_game o r g g1 a well = a.game ∙ ap (λ (x : Answer). x.game) (well_answer g (Some o.id) o.command a.choice well)
 
 -- what was chosen, and how it is heard
-record Chose (game : GameRecord) (s : Colour) (o : Order) (r : Reply) (g1 : GameRecord) : Type 0 where
+record Chose (game : GameRecord) (s : Colour) (o : SentCommand) (r : Reply) (g1 : GameRecord) : Type 0 where
   choice : Choice
   lawful : IsLawful game s choice
   heard : outcome game s (Some o) r ≡ outcome_of_choice choice
@@ -119,8 +124,8 @@ record Chose (game : GameRecord) (s : Colour) (o : Order) (r : Reply) (g1 : Game
 chose : (game : GameRecord) (s : Colour) (id : ℕ) (r : Reply) (g1 : GameRecord) → HasRoom game → game.size ≤ size_max
     → Answered game (record { id = id; command = Genmove s }) r g1 → Chose game s (record { id = id; command = Genmove s }) r g1
 chose game s id r g1 room most a =
-    let lawful : IsLawful game s a.choice = subst (λ (x : Option Colour). IfSome x (λ d. IsLawful game d a.choice)) (genmove_asks game id s room) a.lawful in
-    let given = genmove_answer game id s a.choice room in
+    let lawful : IsLawful game s a.choice = subst (λ (x : Option Colour). IfSome x (λ d. IsLawful game d a.choice)) (genmove_asks game (Some id) s room) a.lawful in
+    let given = genmove_answer game (Some id) s a.choice room in
     record {
       choice = a.choice;
       lawful = lawful;
@@ -131,7 +136,7 @@ chose game s id r g1 room most a =
       game_is = a.game ∙ ap (λ (x : Answer). x.game) given;
     }
 
--- ---- the record grows: a side with nothing unanswered lacks the new command
+-- ---- the record grows: a side with nothing unanswered has_script_left the new command
 
 theirs_moved : (c : Controller) (s : Colour) (mover : Colour) (v : Vertex) (verdict : Option Verdict) (up : Option Incarnation) (l : BareLane)
     → c.verdict ≡ None → IfSome up (IsSoundEngine c s)
@@ -158,7 +163,7 @@ theirs_moved c s mover v verdict (Some u) l none sound h idle =
     })
 
 fair_ended : (setup : SetupRecord) (game : GameRecord) (sides : Sides) (most : ℕ) → IsFair most sides (verdict_after setup game)
-fair_ended setup game sides most = go (ends_with_passes game.moves) (length game.moves == setup.max_moves)
+fair_ended setup game sides most = go (holds (finished? game)) (length game.moves == setup.max_moves)
   where
     go : (a b : Bool) → IsFair most sides (cond a (Some (Score (score game))) (cond b (Some Limit) None))
     go true b = tt
@@ -172,10 +177,10 @@ abbrev Replied : Controller → Colour → Incarnation → BareLane → BareLane
 Replied c s u l lo o = (fault_of o ≡ None) × AreJoined (after_outcome c s (heard_reply u) o) s l lo
 
 -- what is left of a side once its oldest order is answered
-record Left (game : GameRecord) (n : ℕ) (us : List Order) (e : Option EngineBody) (te tc : List ℕ) : Type 0 where
+record Left (game : GameRecord) (n : ℕ) (us : List SentCommand) (e : Option EngineBody) (te tc : List ℕ) : Type 0 where
   few : length us ≤ most_unanswered
   more : List Reply
-  waiting : List Order
+  waiting : List SentCommand
   ahead : GameRecord
   owes : Owes (replayed game n) us more waiting ahead
   fit : AllByRecursion CanBeWritten waiting
@@ -185,12 +190,12 @@ record Left (game : GameRecord) (n : ℕ) (us : List Order) (e : Option EngineBo
   runs : WillReadWhereRunning e te ahead waiting
   uncut : CutByCrash e cut
 
-left_live : (game : GameRecord) (n sent : ℕ) (us : List Order) (e : Option EngineBody) (te tc : List ℕ) → Left game n us e te tc
-    → IsJoinedInPlay game (record { confirmed = n; sent = sent; unanswered = us; reader = [] }) (record { engine = e; to_engine = te; to_controller = tc })
+left_live : (game : GameRecord) (n sent : ℕ) (us : List SentCommand) (e : Option EngineBody) (te tc : List ℕ) → Left game n us e te tc
+    → IsJoinedInPlay game (record { confirmed = n; sent = sent; unanswered = us; rest = [] }) (record { engine = e; to_engine = te; to_controller = tc })
 left_live game n sent us e te tc h = next_live game n sent us h.more h.waiting h.ahead e te tc h.cut h.few h.owes h.fit h.may h.arriving h.runs h.uncut
 
 module _ (c : Controller) (s : Colour) (u : Incarnation) (e : Option EngineBody) (te tc : List ℕ) (lo : BareLane) (sound : IsSound c) (none : c.verdict ≡ None)
-    (up : (at c.sides s).up ≡ Some u) (idle : IsIdle (at c.sides (other s)).up) (theirs : IsJoinedSide c.game None (at c.sides (other s)).up lo) where
+    (up : (side_of c.sides s).up ≡ Some u) (idle : IsIdle (side_of c.sides (other s)).up) (theirs : IsJoinedSide c.game None (side_of c.sides (other s)).up lo) where
   abbrev here : BareLane
   here = record { engine = e; to_engine = te; to_controller = tc }
 
@@ -205,8 +210,8 @@ module _ (c : Controller) (s : Colour) (u : Incarnation) (e : Option EngineBody)
       let mine : IsJoinedInPlay c.game next here = left_live c.game (u.confirmed + 1) u.sent (drop 1 u.unanswered) e te tc left in
       let done : Replied c s u here lo Confirms = (
         refl,
-        joint_put c s (with_engine next (at c.sides s)) c.game c.verdict here lo (outcome_sound r Confirms is) (rw none tt)
-            (live_any c.game c.verdict next here mine) (judged_any c.game c.verdict (at c.sides (other s)).up lo theirs),
+        joint_put c s (with_engine next (side_of c.sides s)) c.game c.verdict here lo (outcome_sound r Confirms is) (rw none tt)
+            (live_any c.game c.verdict next here mine) (judged_any c.game c.verdict (side_of c.sides (other s)).up lo theirs),
       )
       in
       subst (Replied c s u here lo) (sym is) done
@@ -218,8 +223,8 @@ module _ (c : Controller) (s : Colour) (u : Incarnation) (e : Option EngineBody)
       let mine : IsJoinedInPlay c.game next here = left_live c.game u.confirmed u.sent (drop 1 u.unanswered) e te tc left in
       let done : Replied c s u here lo Resigns = (
         refl,
-        joint_put c s (with_engine next (at c.sides s)) c.game (Some (Resign s)) here lo (outcome_sound r Resigns is) tt
-            (live_any c.game (Some (Resign s)) next here mine) (judged_any c.game (Some (Resign s)) (at c.sides (other s)).up lo theirs),
+        joint_put c s (with_engine next (side_of c.sides s)) c.game (Some (Resign s)) here lo (outcome_sound r Resigns is) tt
+            (live_any c.game (Some (Resign s)) next here mine) (judged_any c.game (Some (Resign s)) (side_of c.sides (other s)).up lo theirs),
       )
       in
       subst (Replied c s u here lo) (sym is) done
@@ -233,16 +238,16 @@ module _ (c : Controller) (s : Colour) (u : Incarnation) (e : Option EngineBody)
       let mine : IsJoinedInPlay game next here = left_live game (u.confirmed + 1) u.sent (drop 1 u.unanswered) e te tc left in
       let done : Replied c s u here lo (Moves v) = (
         refl,
-        joint_put c s (with_engine next (at c.sides s)) game verdict here lo (outcome_sound r (Moves v) is)
-            (fair_ended c.setup game (put s (with_engine next (at c.sides s)) c.sides) c.setup.max_restarts)
+        joint_put c s (with_engine next (side_of c.sides s)) game verdict here lo (outcome_sound r (Moves v) is)
+            (fair_ended c.setup game (with_side s (with_engine next (side_of c.sides s)) c.sides) c.setup.max_restarts)
             (live_any game verdict next here mine)
-            (theirs_moved c (other s) s v verdict (at c.sides (other s)).up lo none (their_side c s sound).engine theirs idle),
+            (theirs_moved c (other s) s v verdict (side_of c.sides (other s)).up lo none (their_side c s sound).engine theirs idle),
       )
       in
       subst (Replied c s u here lo) (sym is) done
 
   -- by the order that the reply answers
-  replied_keeps : (r : Reply) (more : List Reply) (waiting : List Order) (ahead : GameRecord) (cut : List ℕ)
+  replied_keeps : (r : Reply) (more : List Reply) (waiting : List SentCommand) (ahead : GameRecord) (cut : List ℕ)
       → length u.unanswered ≤ most_unanswered → Owes (replayed c.game u.confirmed) u.unanswered (r ∷ more) waiting ahead
       → AllByRecursion CanBeWritten waiting → AllMayBeSent ahead waiting → tc ++ cut ≡ all_reply_bytes more → WillReadWhereRunning e te ahead waiting → CutByCrash e cut
       → Replied c s u here lo (outcome c.game s (oldest u.unanswered) r)
@@ -251,8 +256,8 @@ module _ (c : Controller) (s : Colour) (u : Incarnation) (e : Option EngineBody)
       is_game : IsGame c.game
       is_game = sound.game
 
-      by_orders : (os : List Order) → u.unanswered ≡ os → length os ≤ most_unanswered → Owes (replayed c.game u.confirmed) os (r ∷ more) waiting ahead
-          → InScript (script c.game) u.confirmed u.unanswered ⊎ IsAsked (script c.game) s u.confirmed u.unanswered
+      by_orders : (os : List SentCommand) → u.unanswered ≡ os → length os ≤ most_unanswered → Owes (replayed c.game u.confirmed) os (r ∷ more) waiting ahead
+          → InScript (script c.game) u.confirmed u.unanswered ⊎ IsAsked c.game s u.confirmed u.unanswered
           → Replied c s u here lo (outcome c.game s (oldest u.unanswered) r)
       by_orders [] is few owes plan = absurd owes
       by_orders (o ∷ us) is few owes plan = by_plan plan
@@ -263,7 +268,7 @@ module _ (c : Controller) (s : Colour) (u : Incarnation) (e : Option EngineBody)
             more = more;
             waiting = waiting;
             ahead = ahead;
-            owes = subst (λ (os : List Order). Owes (replayed game n) os more waiting ahead) (sym (ap (drop 1) is)) (subst (λ (g : GameRecord). Owes g us more waiting ahead) same owes.2);
+            owes = subst (λ (os : List SentCommand). Owes (replayed game n) os more waiting ahead) (sym (ap (drop 1) is)) (subst (λ (g : GameRecord). Owes g us more waiting ahead) same owes.2);
             fit = fit;
             may = may;
             cut = cut;
@@ -273,9 +278,9 @@ module _ (c : Controller) (s : Colour) (u : Incarnation) (e : Option EngineBody)
           }
 
           oldest_is : outcome c.game s (oldest u.unanswered) r ≡ outcome c.game s (Some o) r
-          oldest_is = ap (λ (os : List Order). outcome c.game s (oldest os) r) is
+          oldest_is = ap (λ (os : List SentCommand). outcome c.game s (oldest os) r) is
 
-          by_plan : InScript (script c.game) u.confirmed u.unanswered ⊎ IsAsked (script c.game) s u.confirmed u.unanswered
+          by_plan : InScript (script c.game) u.confirmed u.unanswered ⊎ IsAsked c.game s u.confirmed u.unanswered
               → Replied c s u here lo (outcome c.game s (oldest u.unanswered) r)
           by_plan (inl in_script) =
               let plan : InScript (script c.game) u.confirmed (o ∷ us) = subst (InScript (script c.game) u.confirmed) is in_script in
@@ -288,19 +293,19 @@ module _ (c : Controller) (s : Colour) (u : Incarnation) (e : Option EngineBody)
               let order_is : o ≡ record { id = o.id; command = Genmove s } = of_genmove asks in
               let whole : replayed c.game u.confirmed ≡ c.game = replayed_all c.game u.confirmed is_game asks.all in
               let a : Answered c.game (record { id = o.id; command = Genmove s }) r owes.0 =
-              subst (λ (x : Order). Answered c.game x r owes.0) order_is (subst (λ (g : GameRecord). Answered g o r owes.0) whole owes.1) in
-              let ends : EndsAs c None = subst (EndsAs c) none sound.ends in
+              subst (λ (x : SentCommand). Answered c.game x r owes.0) order_is (subst (λ (g : GameRecord). Answered g o r owes.0) whole owes.1) in
+              let ends : VerdictFits c None = subst (VerdictFits c) none sound.ends in
               let picked : Chose c.game s (record { id = o.id; command = Genmove s }) r owes.0 =
               chose c.game s o.id r owes.0 (omega (arith, ends.0, sound.setup.moves.1)) is_game.size.most a in
               let heard : outcome c.game s (oldest u.unanswered) r ≡ outcome_of_choice picked.choice =
-              oldest_is ∙ ap (λ (x : Order). outcome c.game s (Some x) r) order_is ∙ picked.heard in
+              oldest_is ∙ ap (λ (x : SentCommand). outcome c.game s (Some x) r) order_is ∙ picked.heard in
               by_choice picked.choice heard picked.game_is asks.all
             where
-              of_genmove : IsAsked (script c.game) s u.confirmed u.unanswered → o ≡ record { id = o.id; command = Genmove s }
+              of_genmove : IsAsked c.game s u.confirmed u.unanswered → o ≡ record { id = o.id; command = Genmove s }
               of_genmove a =
-                  let both : o ∷ us ≡ a.order ∷ [] = sym is ∙ a.alone in
-                  let same : o ≡ a.order = cc both in
-                  ap (λ (k : Command). record { id = o.id; command = k }) (ap (λ (x : Order). x.command) same ∙ a.genmove)
+                  let both : o ∷ us ≡ a.entry ∷ [] = sym is ∙ a.alone in
+                  let same : o ≡ a.entry = cc both in
+                  ap (λ (k : Command). record { id = o.id; command = k }) (ap (λ (x : SentCommand). x.command) same ∙ a.genmove)
 
               by_choice : (ch : Choice) → outcome c.game s (oldest u.unanswered) r ≡ outcome_of_choice ch → owes.0 ≡ (answer_choice c.game s ch).game
                   → u.confirmed ≡ length (script c.game)
@@ -320,8 +325,8 @@ drop_all (x ∷ xs) = drop_all xs
 
 -- bytes that are no whole reply yet
 part_keeps : (game : GameRecord) (u : Incarnation) (e : Option EngineBody) (te x y kept : List ℕ)
-    → (h : IsJoinedInPlay game u (record { engine = e; to_engine = te; to_controller = x ++ y })) → TellsNothing (h.begun ++ x) → MayKeep kept (u.reader ++ x)
-    → IsJoinedInPlay game (record u { reader = kept }) (record { engine = e; to_engine = te; to_controller = y })
+    → (h : IsJoinedInPlay game u (record { engine = e; to_engine = te; to_controller = x ++ y })) → TellsNothing (h.begun ++ x) → MayKeep kept (u.rest ++ x)
+    → IsJoinedInPlay game (record u { rest = kept }) (record { engine = e; to_engine = te; to_controller = y })
 part_keeps game u e te x y kept h quiet keeps = record {
   few = h.few;
   replies = h.replies;
@@ -333,7 +338,7 @@ part_keeps game u e te x y kept h quiet keeps = record {
   begun = h.begun ++ x;
   cut = h.cut;
   begun_quiet = quiet;
-  kept = kept_longer kept u.reader h.begun x keeps h.kept;
+  kept = kept_longer kept u.rest h.begun x keeps h.kept;
   arriving = ap (λ (w : List ℕ). w ++ h.cut) (append_assoc h.begun x y) ∙ h.arriving;
   runs = h.runs;
   uncut = h.uncut;
@@ -355,32 +360,32 @@ heard_settled game u e te x y used is h = record {
 
 -- one call on a side that is up, before any verdict
 module _ (c : Controller) (s : Colour) (u : Incarnation) (e : Option EngineBody) (te : List ℕ) (b : ℕ) (x y : List ℕ) (lo : BareLane) (sound : IsSound c) (none : c.verdict ≡ None)
-    (up : (at c.sides s).up ≡ Some u) (mine : IsJoinedInPlay c.game u (record { engine = e; to_engine = te; to_controller = (b ∷ x) ++ y }))
-    (theirs : IsJoinedSide c.game None (at c.sides (other s)).up lo) where
+    (up : (side_of c.sides s).up ≡ Some u) (mine : IsJoinedInPlay c.game u (record { engine = e; to_engine = te; to_controller = (b ∷ x) ++ y }))
+    (theirs : IsJoinedSide c.game None (side_of c.sides (other s)).up lo) where
   -- what is left to show
   abbrev Keeps : ℕ → Option SideFault → Controller → Type 0
   Keeps used fault c2 = (fault ≡ None) × AreJoined c2 s (record { engine = e; to_engine = te; to_controller = drop used (b ∷ x) ++ y }) lo
 
   -- what the bytes heard so far tell, by what the reader's text tells
-  as_begun : (place : ℕ) (answer : Result Reply ReplyFault) → IsFirst (u.reader ++ b ∷ x) place answer → IsFirst (mine.begun ++ b ∷ x) place answer
+  as_begun : (place : ℕ) (answer : Result Reply ReplyFault) → IsFirst (u.rest ++ b ∷ x) place answer → IsFirst (mine.begun ++ b ∷ x) place answer
   as_begun place answer first =
       let F : List ℕ → Type 0 = λ t. IsFirst t place answer in
       (mine.kept.1 (b ∷ x) place answer).0 first
 
-  as_reader : (place : ℕ) (answer : Result Reply ReplyFault) → IsFirst (mine.begun ++ b ∷ x) place answer → IsFirst (u.reader ++ b ∷ x) place answer
+  as_reader : (place : ℕ) (answer : Result Reply ReplyFault) → IsFirst (mine.begun ++ b ∷ x) place answer → IsFirst (u.rest ++ b ∷ x) place answer
   as_reader place answer first = (mine.kept.1 (b ∷ x) place answer).1 first
 
   -- no reply ends within the bytes
-  quiet_keeps : (kept : List ℕ) → TellsNothing (mine.begun ++ b ∷ x) → MayKeep kept (u.reader ++ b ∷ x)
-      → Keeps (length (b ∷ x)) None (with_side_up c s (record u { reader = kept }))
+  quiet_keeps : (kept : List ℕ) → TellsNothing (mine.begun ++ b ∷ x) → MayKeep kept (u.rest ++ b ∷ x)
+      → Keeps (length (b ∷ x)) None (with_side_up c s (record u { rest = kept }))
   quiet_keeps kept quiet keeps =
-      let next : Incarnation = record u { reader = kept } in
-      let longer : MayKeep kept (mine.begun ++ b ∷ x) = kept_longer kept u.reader mine.begun (b ∷ x) keeps mine.kept in
+      let next : Incarnation = record u { rest = kept } in
+      let longer : MayKeep kept (mine.begun ++ b ∷ x) = kept_longer kept u.rest mine.begun (b ∷ x) keeps mine.kept in
       let next_sound : IsSound (with_side_up c s next) = quiet_sound c s u (mine.begun ++ b ∷ x) kept sound none up quiet longer in
       let live : IsJoinedInPlay c.game next (record { engine = e; to_engine = te; to_controller = y }) = part_keeps c.game u e te (b ∷ x) y kept mine quiet keeps in
       let done : AreJoined (with_side_up c s next) s (record { engine = e; to_engine = te; to_controller = y }) lo =
-      joint_put c s (with_engine next (at c.sides s)) c.game c.verdict (record { engine = e; to_engine = te; to_controller = y }) lo next_sound (rw none tt)
-      (live_any c.game c.verdict next (record { engine = e; to_engine = te; to_controller = y }) live) (judged_any c.game c.verdict (at c.sides (other s)).up lo theirs)
+      joint_put c s (with_engine next (side_of c.sides s)) c.game c.verdict (record { engine = e; to_engine = te; to_controller = y }) lo next_sound (rw none tt)
+      (live_any c.game c.verdict next (record { engine = e; to_engine = te; to_controller = y }) live) (judged_any c.game c.verdict (side_of c.sides (other s)).up lo theirs)
       in
       let all : y ≡ drop (length (b ∷ x)) (b ∷ x) ++ y = rw (drop_all (b ∷ x)) refl in
       (refl, subst (λ (t : List ℕ). AreJoined (with_side_up c s next) s (record { engine = e; to_engine = te; to_controller = t }) lo) all done)
@@ -390,27 +395,27 @@ module _ (c : Controller) (s : Colour) (u : Incarnation) (e : Option EngineBody)
       → Keeps used (fault_of (outcome c.game s (oldest u.unanswered) k.reply)) (after_outcome c s (heard_reply u) (outcome c.game s (oldest u.unanswered) k.reply))
   whole_keeps used k is =
       let owes : Owes (replayed c.game u.confirmed) u.unanswered (k.reply ∷ k.more) mine.waiting mine.ahead = rw (k.replies) at mine.owes in
-      let idle : IsIdle (at c.sides (other s)).up = other_idle (one_idle c s sound) owes in
+      let idle : IsIdle (side_of c.sides (other s)).up = other_idle (one_idle c s sound) owes in
       let r = replied_keeps c s u e te (drop k.used (b ∷ x) ++ y) lo sound none up idle theirs k.reply k.more mine.waiting mine.ahead mine.cut mine.few owes mine.fit mine.may k.left mine.runs mine.uncut in
       subst (λ (n : ℕ). Keeps n (fault_of (outcome c.game s (oldest u.unanswered) k.reply)) (after_outcome c s (heard_reply u) (outcome c.game s (oldest u.unanswered) k.reply))) (sym is) r
     where
-      other_idle : IsIdle (at c.sides s).up ⊎ IsIdle (at c.sides (other s)).up
-          → Owes (replayed c.game u.confirmed) u.unanswered (k.reply ∷ k.more) mine.waiting mine.ahead → IsIdle (at c.sides (other s)).up
-      other_idle (inl i) owes = let none_left : u.unanswered ≡ [] = subst IsIdle up i in absurd (subst (λ (os : List Order). Owes (replayed c.game u.confirmed) os (k.reply ∷ k.more) mine.waiting mine.ahead) none_left owes)
+      other_idle : IsIdle (side_of c.sides s).up ⊎ IsIdle (side_of c.sides (other s)).up
+          → Owes (replayed c.game u.confirmed) u.unanswered (k.reply ∷ k.more) mine.waiting mine.ahead → IsIdle (side_of c.sides (other s)).up
+      other_idle (inl i) owes = let none_left : u.unanswered ≡ [] = subst IsIdle up i in absurd (subst (λ (os : List SentCommand). Owes (replayed c.game u.confirmed) os (k.reply ∷ k.more) mine.waiting mine.ahead) none_left owes)
       other_idle (inr i) owes = i
 
   up_keeps : (used : ℕ) (fault : Option SideFault) (c2 : Controller) → HearsUp MayKeep c s u (b ∷ x) used fault c2 → Keeps used fault c2
   up_keeps used fault c2 h = by_bytes used fault c2 (arrives mine.begun b x y mine.cut mine.replies (owes_replies (replayed c.game u.confirmed) u.unanswered mine.replies mine.waiting mine.ahead mine.owes) mine.begun_quiet mine.arriving) h
     where
       by_bytes : (used : ℕ) (fault : Option SideFault) (c2 : Controller) → TellsNothing (mine.begun ++ b ∷ x) ⊎ Brings mine.begun (b ∷ x) y mine.cut mine.replies → HearsUp MayKeep c s u (b ∷ x) used fault c2 → Keeps used fault c2
-      by_bytes used fault c2 (inl quiet) (HearsUp.quiet {kept = kept} tells keeps) = quiet_keeps kept quiet keeps
-      by_bytes used fault c2 (inl quiet) (HearsUp.whole {value = value} first) = absurd (quiet_or_first _ _ _ quiet (as_begun (length u.reader + used) (Ok value) first))
-      by_bytes used fault c2 (inl quiet) (HearsUp.broken {shown = shown} first) = absurd (quiet_or_first _ _ _ quiet (as_begun (length u.reader + used) (Err shown) first))
-      by_bytes used fault c2 (inr k) (HearsUp.quiet {kept = kept} tells keeps) = absurd (quiet_or_first _ _ _ tells (as_reader (length (reply_bytes k.reply)) (Ok k.reply) k.first))
-      by_bytes used fault c2 (inr k) (HearsUp.broken {shown = shown} first) =
-          absurd (let same = one_first (mine.begun ++ b ∷ x) (length u.reader + used) (length (reply_bytes k.reply)) (Err shown) (Ok k.reply) (as_begun (length u.reader + used) (Err shown) first) k.first in let bad : Err shown ≡ Ok k.reply = same.1 in cc bad)
-      by_bytes used fault c2 (inr k) (HearsUp.whole {value = value} first) =
-          let same = one_first (mine.begun ++ b ∷ x) (length u.reader + used) (length (reply_bytes k.reply)) (Ok value) (Ok k.reply) (as_begun (length u.reader + used) (Ok value) first) k.first in
+      by_bytes used fault c2 (inl quiet) (HearsUp.nothing_yet {kept = kept} tells keeps) = quiet_keeps kept quiet keeps
+      by_bytes used fault c2 (inl quiet) (HearsUp.replied {value = value} first) = absurd (quiet_or_first _ _ _ quiet (as_begun (length u.rest + used) (Ok value) first))
+      by_bytes used fault c2 (inl quiet) (HearsUp.faulted {shown = shown} first) = absurd (quiet_or_first _ _ _ quiet (as_begun (length u.rest + used) (Err shown) first))
+      by_bytes used fault c2 (inr k) (HearsUp.nothing_yet {kept = kept} tells keeps) = absurd (quiet_or_first _ _ _ tells (as_reader (length (reply_bytes k.reply)) (Ok k.reply) k.first))
+      by_bytes used fault c2 (inr k) (HearsUp.faulted {shown = shown} first) =
+          absurd (let same = one_first (mine.begun ++ b ∷ x) (length u.rest + used) (length (reply_bytes k.reply)) (Err shown) (Ok k.reply) (as_begun (length u.rest + used) (Err shown) first) k.first in let bad : Err shown ≡ Ok k.reply = same.1 in cc bad)
+      by_bytes used fault c2 (inr k) (HearsUp.replied {value = value} first) =
+          let same = one_first (mine.begun ++ b ∷ x) (length u.rest + used) (length (reply_bytes k.reply)) (Ok value) (Ok k.reply) (as_begun (length u.rest + used) (Ok value) first) k.first in
           let value_is : value ≡ k.reply = let both : Ok value ≡ Ok k.reply = same.1 in cc both in
           let used_is : used ≡ k.used = omega (arith, same.0, k.place, mine.kept.0) in
           subst (λ (r : Reply). Keeps used (fault_of (outcome c.game s (oldest u.unanswered) r)) (after_outcome c s (heard_reply u) (outcome c.game s (oldest u.unanswered) r))) (sym value_is)
@@ -420,13 +425,13 @@ module _ (c : Controller) (s : Colour) (u : Incarnation) (e : Option EngineBody)
 pub heard_keeps : (c : Controller) (s : Colour) (e : Option EngineBody) (te : List ℕ) (b : ℕ) (x y : List ℕ) (lo : BareLane) (used : ℕ) (fault : Option SideFault) (c2 : Controller)
     → AreJoined c s (record { engine = e; to_engine = te; to_controller = (b ∷ x) ++ y }) lo → Hears c s (b ∷ x) used fault c2
     → (fault ≡ None) × AreJoined c2 s (record { engine = e; to_engine = te; to_controller = drop used (b ∷ x) ++ y }) lo
-heard_keeps c s e te b x y lo used fault c2 j h = by_state c.verdict (at c.sides s).up refl refl j.fair j.mine j.theirs h
+heard_keeps c s e te b x y lo used fault c2 j h = by_state c.verdict (side_of c.sides s).up refl refl j.fair j.mine j.theirs h
   where
     l : BareLane
     l = record { engine = e; to_engine = te; to_controller = (b ∷ x) ++ y }
 
-    by_state : (v : Option Verdict) (up : Option Incarnation) → c.verdict ≡ v → (at c.sides s).up ≡ up → IsFair c.setup.max_restarts c.sides v
-        → IsJoinedSide c.game v up (record { engine = e; to_engine = te; to_controller = (b ∷ x) ++ y }) → IsJoinedSide c.game v (at c.sides (other s)).up lo
+    by_state : (v : Option Verdict) (up : Option Incarnation) → c.verdict ≡ v → (side_of c.sides s).up ≡ up → IsFair c.setup.max_restarts c.sides v
+        → IsJoinedSide c.game v up (record { engine = e; to_engine = te; to_controller = (b ∷ x) ++ y }) → IsJoinedSide c.game v (side_of c.sides (other s)).up lo
         → HearsWhere MayKeep c s (b ∷ x) v up used fault c2
         → (fault ≡ None) × AreJoined c2 s (record { engine = e; to_engine = te; to_controller = drop used (b ∷ x) ++ y }) lo
     by_state v None v_is up_is fair mine theirs h = absurd (let bad : (b ∷ x) ++ y ≡ [] = ap (λ (k : BareLane). k.to_controller) (still_of v mine) in cc bad)

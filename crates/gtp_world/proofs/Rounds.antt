@@ -21,7 +21,7 @@ use Rattle.gtp_session.proofs.TextLemmas.{short-vertices, few_handicap_points}
 use Rattle.gtp_session.specs.Laws.{AllowsLawful}
 use Rattle.gtp_session.specs.Policy.{May}
 use Rattle.gtp_session.specs.Engine.{Engine, fresh_game}
-use Rattle.gtp_match.specs.declared.orders.Order.{Order}
+use Rattle.gtp_match.specs.declared.unanswered.SentCommand.{SentCommand}
 use Rattle.gtp_match.specs.declared.sides.Incarnation.{Incarnation}
 use Rattle.gtp_match.specs.declared.sides.SideState.{SideState}
 use Rattle.gtp_match.specs.declared.sides.Sides.{Sides}
@@ -34,15 +34,17 @@ use Rattle.gtp_match.specs.declared.controller.Controller.{Controller}
 use Rattle.gtp_match.specs.Controller.{next_command, script_or_genmove, sent, sent_to, with_side_up}
 use Rattle.gtp_match.specs.Hearing.{MayKeep, HearsUp, HearsWhere, Hears, HearsAllBy, HearsAll}
 use Rattle.gtp_match.specs.Next.{next}
-use Rattle.gtp_match.specs.Orders.{oldest}
+use Rattle.gtp_match.specs.Unanswered.{oldest}
 use Rattle.gtp_match.specs.ReplyTable.{outcome, after_outcome, fault_of, confirmed_by}
 use Rattle.gtp_match.specs.Script.{script}
 use Rattle.gtp_match.proofs.LimitLemmas.{sent_line}
-use Rattle.gtp_match.specs.Sides.{at, put, with_engine, handed as handed_command, heard_reply, confirmed}
+use Rattle.gtp_match.specs.Sides.{side_of, with_side, with_engine, handed as handed_command, heard_reply, confirmed}
 use Rattle.gtp_world.specs.Lane.{Lane, written_lane, EngineReads, ReadsWhereRunning, LaneReads}
-use Rattle.gtp_world.specs.World.{next_bytes, lane_with_next, Sends, lane_where_up, HearsFront, HearsWhereUp, SideHears}
-use Rattle.gtp_world.proofs.OrderLines.{short_command}
-use Rattle.gtp_world.proofs.OrderAnswers.{answered_is_reply, succeeds_with, well_answer, may_be_written}
+use Rattle.gtp_world.specs.World.{lane_with_next, Sends, lane_where_up, HearsFront, HearsWhereUp, SideHears}
+use Rattle.gtp_match.specs.Controller.{next_text}
+use Rattle.gtp_wire.proofs.CommandWords.{command_short}
+use Rattle.gtp_session.proofs.CommandLemmas.{well_answer, may_be_written}
+use Rattle.gtp_world.proofs.OrderAnswers.{answered_is_reply, succeeds_with}
 use Rattle.gtp_world.proofs.Replay.{GoesWellOn, script_well, well_at}
 use Rattle.gtp_world.proofs.Agreement.{reply_length}
 use Rattle.gtp_world.proofs.Sides.{quiet_or_first}
@@ -50,7 +52,7 @@ use Rattle.gtp_world.proofs.Heard.{scripted_outcome}
 use Rattle.gtp_world.proofs.Happenings.{send_keeps, fed_keeps}
 use Rattle.gtp_world.proofs.Settle.{idle_lists_empty, no_orders_left, no_replies_left}
 use Rattle.gtp_world.specs.Exchange.{CanBeWritten, sent_bytes, Answered, reply_with_id, reply_bytes, replayed, Owes, all_reply_bytes}
-use Rattle.gtp_world.specs.CommandAnswers.{GoesWell, MayBeSent, success_text}
+use Rattle.gtp_session.specs.CommandAnswers.{GoesWell, MayBeSent, success_text}
 use Rattle.gtp_world.specs.Joined.{EngineBody, body, BareLane, bare, IsJoinedInPlay, IsJoinedSide, AreJoined}
 
 -- ---- texts of script commands are short
@@ -68,27 +70,27 @@ success_short g (Genmove c) h = absurd h
 success_short g Quit h = absurd h
 
 -- the reply to a script command has at most 50 bytes
-script_reply_short : (g : GameRecord) (o : Order) (r : Reply) (g2 : GameRecord) → GoesWell g o.command → Answered g o r g2 → length (reply_bytes r) ≤ 50
+script_reply_short : (g : GameRecord) (o : SentCommand) (r : Reply) (g2 : GameRecord) → GoesWell g o.command → Answered g o r g2 → length (reply_bytes r) ≤ 50
 script_reply_short g o r g2 well a =
-    let reply : r ≡ reply_with_id o.id (succeeds_with g o.command) = a.reply ∙ ap (reply_with_id o.id) (well_answer g o.id o.command a.choice well) in
+    let reply : r ≡ reply_with_id o.id (succeeds_with g o.command) = a.reply ∙ ap (reply_with_id o.id) (well_answer g (Some o.id) o.command a.choice well) in
     subst (λ (x : Reply). length (reply_bytes x) ≤ 50) (sym reply)
     (omega (arith, reply_length true o.id (success_text g o.command) a.fits, success_short g o.command well))
 
 -- ---- one command is unanswered, all its bytes were read, and the side is heard
 
 -- the reply that the side owes
-record OneReply (game : GameRecord) (u : Incarnation) (o : Order) (begun tc : List ℕ) : Type 0 where
+record OneReply (game : GameRecord) (u : Incarnation) (o : SentCommand) (begun tc : List ℕ) : Type 0 where
   reply : Reply
   game_after : GameRecord
   answered : Answered (replayed game u.confirmed) o reply game_after
   text : begun ++ tc ≡ reply_bytes reply
 
-one_reply : (game : GameRecord) (u : Incarnation) (o : Order) (b : EngineBody) (tc : List ℕ) (h : IsJoinedInPlay game u (record { engine = Some b; to_engine = []; to_controller = tc })) → u.unanswered ≡ o ∷ []
+one_reply : (game : GameRecord) (u : Incarnation) (o : SentCommand) (b : EngineBody) (tc : List ℕ) (h : IsJoinedInPlay game u (record { engine = Some b; to_engine = []; to_controller = tc })) → u.unanswered ≡ o ∷ []
     → OneReply game u o h.begun tc
 one_reply game u o b tc h one =
     let waiting : h.waiting ≡ [] = no_orders_left h.waiting h.runs.begun h.fit h.runs.begun_open (sym (append-nil h.runs.begun) ∙ h.runs.arriving) in
-    let F : List Order → Type 0 = λ os. Owes (replayed game u.confirmed) os h.replies h.waiting h.ahead in
-    let G : List Order → Type 0 = λ ws. Owes (replayed game u.confirmed) (o ∷ []) h.replies ws h.ahead in
+    let F : List SentCommand → Type 0 = λ os. Owes (replayed game u.confirmed) os h.replies h.waiting h.ahead in
+    let G : List SentCommand → Type 0 = λ ws. Owes (replayed game u.confirmed) (o ∷ []) h.replies ws h.ahead in
     by_replies h.replies (subst G waiting (subst F one h.owes)) (sym (append-nil (h.begun ++ tc)) ∙ ap (λ (cut : List ℕ). (h.begun ++ tc) ++ cut) (sym h.uncut) ∙ h.arriving)
   where
     by_replies : (rs : List Reply) → Owes (replayed game u.confirmed) (o ∷ []) rs [] h.ahead → h.begun ++ tc ≡ all_reply_bytes rs → OneReply game u o h.begun tc
@@ -113,8 +115,8 @@ nothing_heard s c c2 bytes fault e HearsAllBy.used_up = refl
 nothing_heard s c c2 bytes fault e (HearsAllBy.faulty used some h) = absurd (omega (arith, some, ap length e))
 nothing_heard s c c2 bytes fault e (HearsAllBy.goes_on used some h more) = absurd (omega (arith, some, ap length e))
 
-module _ (c : Controller) (s : Colour) (u : Incarnation) (o : Order) (b : EngineBody) (tc : List ℕ) (lo : BareLane) (j : AreJoined c s (record { engine = Some b; to_engine = []; to_controller = tc }) lo)
-    (none : c.verdict ≡ None) (up : (at c.sides s).up ≡ Some u) (one : u.unanswered ≡ o ∷ []) (scripted : slice_get (script c.game) u.confirmed ≡ Some o.command) where
+module _ (c : Controller) (s : Colour) (u : Incarnation) (o : SentCommand) (b : EngineBody) (tc : List ℕ) (lo : BareLane) (j : AreJoined c s (record { engine = Some b; to_engine = []; to_controller = tc }) lo)
+    (none : c.verdict ≡ None) (up : (side_of c.sides s).up ≡ Some u) (one : u.unanswered ≡ o ∷ []) (scripted : slice_get (script c.game) u.confirmed ≡ Some o.command) where
   abbrev mine : IsJoinedInPlay c.game u (record { engine = Some b; to_engine = []; to_controller = tc })
   mine = rw (none, up) at j.mine
 
@@ -134,10 +136,10 @@ module _ (c : Controller) (s : Colour) (u : Incarnation) (o : Order) (b : Engine
 
   confirms : outcome c.game s (oldest u.unanswered) owed.reply ≡ Confirms
   confirms =
-      ap (λ (os : List Order). outcome c.game s (oldest os) owed.reply) one
+      ap (λ (os : List SentCommand). outcome c.game s (oldest os) owed.reply) one
       ∙ scripted_outcome c.game s o owed.reply (replayed c.game u.confirmed) owed.game_after owed.answered well
 
-  first : IsFirst (u.reader ++ tc) (length (reply_bytes owed.reply)) (Ok owed.reply)
+  first : IsFirst (u.rest ++ tc) (length (reply_bytes owed.reply)) (Ok owed.reply)
   first =
       (mine.kept.1 tc (length (reply_bytes owed.reply)) (Ok owed.reply)).1
       (subst (λ (t : List ℕ). IsFirst t (length (reply_bytes owed.reply)) (Ok owed.reply)) (append-nil (reply_bytes owed.reply) ∙ sym owed.text) (reply_is_first (reply_bytes owed.reply) [] owed.reply is_reply))
@@ -147,22 +149,22 @@ module _ (c : Controller) (s : Colour) (u : Incarnation) (o : Order) (b : Engine
   Confirmed used fault c2 = (used ≡ length tc) × (fault ≡ None) × (c2 ≡ confirmed_by c s (heard_reply u))
 
   up_confirms : (used : ℕ) (fault : Option SideFault) (c2 : Controller) → HearsUp MayKeep c s u tc used fault c2 → Confirmed used fault c2
-  up_confirms used fault c2 (HearsUp.whole {value = value} told) =
-      let same = one_first (u.reader ++ tc) (length u.reader + used) (length (reply_bytes owed.reply)) (Ok value) (Ok owed.reply) told first in
+  up_confirms used fault c2 (HearsUp.replied {value = value} told) =
+      let same = one_first (u.rest ++ tc) (length u.rest + used) (length (reply_bytes owed.reply)) (Ok value) (Ok owed.reply) told first in
       let value_is : value ≡ owed.reply = let both : Ok value ≡ Ok owed.reply = same.1 in cc both in
       let outcome_is : outcome c.game s (oldest u.unanswered) value ≡ Confirms = ap (outcome c.game s (oldest u.unanswered)) value_is ∙ confirms in (
         omega (arith, same.0, mine.kept.0, ap length owed.text, length-append mine.begun tc),
         ap fault_of outcome_is,
         ap (after_outcome c s (heard_reply u)) outcome_is,
       )
-  up_confirms used fault c2 (HearsUp.broken {shown = shown} told) =
-      absurd (let same = one_first (u.reader ++ tc) (length u.reader + used) (length (reply_bytes owed.reply)) (Err shown) (Ok owed.reply) told first in let bad : Err shown ≡ Ok owed.reply = same.1 in cc bad)
-  up_confirms used fault c2 (HearsUp.quiet quiet keeps) = absurd (quiet_or_first (u.reader ++ tc) (length (reply_bytes owed.reply)) (Ok owed.reply) quiet first)
+  up_confirms used fault c2 (HearsUp.faulted {shown = shown} told) =
+      absurd (let same = one_first (u.rest ++ tc) (length u.rest + used) (length (reply_bytes owed.reply)) (Err shown) (Ok owed.reply) told first in let bad : Err shown ≡ Ok owed.reply = same.1 in cc bad)
+  up_confirms used fault c2 (HearsUp.nothing_yet quiet keeps) = absurd (quiet_or_first (u.rest ++ tc) (length (reply_bytes owed.reply)) (Ok owed.reply) quiet first)
 
   one_confirms : (used : ℕ) (fault : Option SideFault) (c2 : Controller) → Hears c s tc used fault c2 → Confirmed used fault c2
   one_confirms used fault c2 h =
       let F : Option Verdict → Option Incarnation → Type 0 = λ v x. HearsWhere MayKeep c s tc v x used fault c2 in
-      up_confirms used fault c2 (subst (F None) up (subst (λ (v : Option Verdict). F v (at c.sides s).up) none h))
+      up_confirms used fault c2 (subst (F None) up (subst (λ (v : Option Verdict). F v (side_of c.sides s).up) none h))
 
   -- all that is heard confirms the command
   pub all_confirm : (fault : Option SideFault) (c2 : Controller) → HearsAll s c tc fault c2 → c2 ≡ confirmed_by c s (heard_reply u)
@@ -179,11 +181,11 @@ module _ (c : Controller) (s : Colour) (u : Incarnation) (o : Order) (b : Engine
 
 -- ---- the round
 
-at_put : (s : Colour) (x : SideState) (all : Sides) → at (put s x all) s ≡ x
+at_put : (s : Colour) (x : SideState) (all : Sides) → side_of (with_side s x all) s ≡ x
 at_put Black x all = refl
 at_put White x all = refl
 
-other_put : (s : Colour) (x : SideState) (all : Sides) → at (put s x all) (other s) ≡ at all (other s)
+other_put : (s : Colour) (x : SideState) (all : Sides) → side_of (with_side s x all) (other s) ≡ side_of all (other s)
 other_put Black x all = refl
 other_put White x all = refl
 
@@ -200,11 +202,11 @@ pub record IsReady {P : Type 0} (up : Option Incarnation) (l : Lane P) (count : 
 pub record RoundDone {P : Type 0} (s : Colour) (c c2 : Controller) (l2 : Lane P) (count : ℕ) : Type 0 where
   pub game : c2.game ≡ c.game
   pub verdict : c2.verdict ≡ None
-  pub ready : IsReady (at c2.sides s).up l2 (count + 1)
-  pub others : (at c2.sides (other s)).up ≡ (at c.sides (other s)).up
+  pub ready : IsReady (side_of c2.sides s).up l2 (count + 1)
+  pub others : (side_of c2.sides (other s)).up ≡ (side_of c.sides (other s)).up
 
 -- the lane of a side with nothing unanswered
-lane_is_idle : {P : Type 0} (c : Controller) (s : Colour) (l : Lane P) (lo : BareLane) (u : Incarnation) (e : Engine P) → AreJoined c s (bare l) lo → c.verdict ≡ None → (at c.sides s).up ≡ Some u
+lane_is_idle : {P : Type 0} (c : Controller) (s : Colour) (l : Lane P) (lo : BareLane) (u : Incarnation) (e : Engine P) → AreJoined c s (bare l) lo → c.verdict ≡ None → (side_of c.sides s).up ≡ Some u
     → u.unanswered ≡ [] → l.engine ≡ Some e → l ≡ record { engine = Some e; to_engine = []; to_controller = [] }
 lane_is_idle c s l lo u e j none up idle runs =
     let live : IsJoinedInPlay c.game u (bare l) = rw (none, up) at j.mine in
@@ -212,11 +214,11 @@ lane_is_idle c s l lo u e j none up idle runs =
     λ i. record { engine = runs i; to_engine = empty.0 i; to_controller = empty.1 i }
 
 module _ {P : Type 0} (may : May P) (lawful : AllowsLawful may) (s : Colour) (c : Controller) (l : Lane P) (lo : BareLane) (count : ℕ) (is : next c ≡ Send s) (j : AreJoined c s (bare l) lo)
-    (none : c.verdict ≡ None) (ready : IsReady (at c.sides s).up l count) (k : Command) (scripted : slice_get (script c.game) count ≡ Some k) where
+    (none : c.verdict ≡ None) (ready : IsReady (side_of c.sides s).up l count) (k : Command) (scripted : slice_get (script c.game) count ≡ Some k) where
   abbrev engine : Incarnation
   engine = ready.incarnation
 
-  abbrev order : Order
+  abbrev order : SentCommand
   order = record { id = engine.sent + 1; command = next_command c s engine }
 
   -- the incarnation that was sent the command
@@ -231,27 +233,27 @@ module _ {P : Type 0} (may : May P) (lawful : AllowsLawful may) (s : Colour) (c 
 
   -- the command has gone out
   abbrev sent_lane : Lane P
-  sent_lane = record { engine = Some ready.running; to_engine = next_bytes c s engine; to_controller = [] }
+  sent_lane = record { engine = Some ready.running; to_engine = next_text c s engine; to_controller = [] }
 
   -- the command is read
   abbrev fed_lane : Engine P → List ℕ → Lane P
   fed_lane after written = record { engine = Some after; to_engine = []; to_controller = written }
 
-  bytes_short : length (next_bytes c s engine) ≤ 100
-  bytes_short = omega (arith, (sent_line c s engine j.sound is ready.is_up).1)
+  bytes_short : length (next_text c s engine) ≤ 100
+  bytes_short = omega (arith, (sent_line c s engine j.sound is ready.is_up).short)
 
   -- the controller has sent it
   abbrev sender : Controller
   sender = with_side_up c s asked
 
-  asked_up : (at sender.sides s).up ≡ Some asked
-  asked_up = ap (λ (x : SideState). x.up) (at_put s (with_engine asked (at c.sides s)) c.sides)
+  asked_up : (side_of sender.sides s).up ≡ Some asked
+  asked_up = ap (λ (x : SideState). x.up) (at_put s (with_engine asked (side_of c.sides s)) c.sides)
 
   -- the reply is heard
   heard_done : (after : Engine P) (written : List ℕ) → AreJoined sender s (bare (fed_lane after written)) lo
       → (c3 : Controller) (l3 : Lane P) → SideHears s sender (fed_lane after written) 100 c3 l3 → RoundDone s c c3 l3 count
   heard_done after written j2 c3 l3 heard =
-      let one : asked.unanswered ≡ order ∷ [] = ap (λ (os : List Order). os ++ order ∷ []) ready.idle in
+      let one : asked.unanswered ≡ order ∷ [] = ap (λ (os : List SentCommand). os ++ order ∷ []) ready.idle in
       let scripted_now : slice_get (script c.game) engine.confirmed ≡ Some order.command =
       ap (slice_get (script c.game)) ready.confirmed ∙ scripted ∙ ap (λ (x : Command). Some x) (sym command_is) in
       let h : HearsFront s sender (fed_lane after written) 100 c3 l3 = subst (λ (x : Option Incarnation). HearsWhereUp s sender x (fed_lane after written) 100 c3 l3) asked_up heard in
@@ -259,8 +261,8 @@ module _ {P : Type 0} (may : May P) (lawful : AllowsLawful may) (s : Colour) (c 
       let hears : HearsAll s sender written h.fault c3 = subst (λ (t : List ℕ). HearsAll s sender t h.fault c3) (take_all written 100 fits) h.hears in
       let c3_is : c3 ≡ confirmed_by sender s (heard_reply asked) = all_confirm sender s asked order (body after) written lo j2 none asked_up one scripted_now h.fault c3 hears in
       let last : Incarnation = confirmed (heard_reply asked) in
-      let last_up : (at c3.sides s).up ≡ Some last =
-      ap (λ (d : Controller). (at d.sides s).up) c3_is ∙ ap (λ (x : SideState). x.up) (at_put s (with_engine last (at sender.sides s)) sender.sides) in
+      let last_up : (side_of c3.sides s).up ≡ Some last =
+      ap (λ (d : Controller). (side_of d.sides s).up) c3_is ∙ ap (λ (x : SideState). x.up) (at_put s (with_engine last (side_of sender.sides s)) sender.sides) in
       record {
         game = ap (λ (d : Controller). d.game) c3_is;
         verdict = ap (λ (d : Controller). d.verdict) c3_is ∙ none;
@@ -273,18 +275,18 @@ module _ {P : Type 0} (may : May P) (lawful : AllowsLawful may) (s : Colour) (c 
           runs = ap (λ (x : Lane P). x.engine) h.lane ∙ ap (λ (x : Option Incarnation). (lane_where_up x (record (fed_lane after written) { to_controller = drop 100 written })).engine) last_up;
         };
         others =
-            ap (λ (d : Controller). (at d.sides (other s)).up) c3_is
-            ∙ ap (λ (x : SideState). x.up) (other_put s (with_engine last (at sender.sides s)) sender.sides ∙ other_put s (with_engine asked (at c.sides s)) c.sides);
+            ap (λ (d : Controller). (side_of d.sides (other s)).up) c3_is
+            ∙ ap (λ (x : SideState). x.up) (other_put s (with_engine last (side_of sender.sides s)) sender.sides ∙ other_put s (with_engine asked (side_of c.sides s)) c.sides);
       }
 
   pub round_done : (c1 : Controller) (l1 : Lane P) → Sends s c l c1 l1 → (l2 : Lane P) → LaneReads may l1 100 l2 → (c3 : Controller) (l3 : Lane P) → SideHears s c1 l2 100 c3 l3 → RoundDone s c c3 l3 count
   round_done c1 l1 sends l2 fed c3 l3 heard =
       let sender_is : c1 ≡ sender = sends.controller_is ∙ ap (λ (x : Option Incarnation). sent_to c s x) ready.is_up in
       let before : l ≡ record { engine = Some ready.running; to_engine = []; to_controller = [] } = lane_is_idle c s l lo engine ready.running j none ready.is_up ready.idle ready.runs in
-      let sent_is : l1 ≡ sent_lane = sends.lane ∙ ap (λ (x : Option Incarnation). lane_with_next c s x l) ready.is_up ∙ ap (λ (x : Lane P). written_lane x (next_bytes c s engine)) before in
+      let sent_is : l1 ≡ sent_lane = sends.lane ∙ ap (λ (x : Option Incarnation). lane_with_next c s x l) ready.is_up ∙ ap (λ (x : Lane P). written_lane x (next_text c s engine)) before in
       let r : EngineReads may sent_lane 100 ready.running l2 = subst (λ (x : Lane P). LaneReads may x 100 l2) sent_is fed in
       let fed_is : l2 ≡ fed_lane r.after r.written =
-      r.lane ∙ ap (λ (t : List ℕ). record { engine = Some r.after; to_engine = t; to_controller = r.written }) (drop_all (next_bytes c s engine) 100 bytes_short) in
+      r.lane ∙ ap (λ (t : List ℕ). record { engine = Some r.after; to_engine = t; to_controller = r.written }) (drop_all (next_text c s engine) 100 bytes_short) in
       let j2 : AreJoined c1 s (bare l2) lo = fed_keeps may lawful c1 s l1 l2 lo 100 fed (send_keeps c c1 s l l1 lo is sends j) in
       let now : AreJoined sender s (bare (fed_lane r.after r.written)) lo =
       subst (λ (d : Controller). AreJoined d s (bare (fed_lane r.after r.written)) lo) sender_is (subst (λ (x : Lane P). AreJoined c1 s (bare x) lo) fed_is j2) in

@@ -10,15 +10,16 @@ use Rattle.gtp_wire.specs.declared.replies.Reply.{Reply}
 use Rattle.gtp_wire.specs.Lines.{lines, SameFuture}
 use Rattle.gtp_wire.specs.Replies.{TellsNothing}
 use Rattle.gtp_session.specs.Engine.{Engine}
-use Rattle.gtp_match.specs.declared.orders.Order.{Order}
+use Rattle.gtp_match.specs.declared.unanswered.SentCommand.{SentCommand}
 use Rattle.gtp_match.specs.declared.sides.Incarnation.{Incarnation}
 use Rattle.gtp_match.specs.declared.sides.Sides.{Sides}
 use Rattle.gtp_match.specs.declared.verdicts.Verdict.{Verdict}
 use Rattle.gtp_match.specs.declared.verdicts.Verdict.TheVariants.{Score, Resign, Limit, Forfeit, Unfit, Abandoned}
 use Rattle.gtp_match.specs.declared.controller.Controller.{Controller}
 use Rattle.gtp_match.specs.Hearing.{MayKeep}
-use Rattle.gtp_match.specs.Sides.{at}
-use Rattle.gtp_match.specs.Sound.{IsSound, most_unanswered}
+use Rattle.gtp_match.specs.Sides.{side_of}
+use Rattle.gtp_match.specs.Sound.{IsSound}
+use Rattle.gtp_match.specs.Unanswered.{most_unanswered}
 use Rattle.gtp_world.specs.Lane.{Lane}
 use Rattle.gtp_world.specs.World.{World}
 use Rattle.gtp_world.specs.Exchange.{CanBeWritten, all_sent_bytes, all_reply_bytes, Owes, AllMayBeSent, replayed}
@@ -53,7 +54,7 @@ bare_empty = record { engine = None; to_engine = []; to_controller = [] }
 
 -- A running engine is at this game, and its rest with the bytes on their way to it are these commands: the rest reads,
 -- with every text after it, as the part of a command that was read, and the bytes on their way are all that follows.
-pub record WillRead (engine : EngineBody) (coming : List ℕ) (ahead : GameRecord) (waiting : List Order) : Type 0 where
+pub record WillRead (engine : EngineBody) (coming : List ℕ) (ahead : GameRecord) (waiting : List SentCommand) : Type 0 where
   pub going : engine.ended ≡ false
   pub game : engine.game ≡ ahead
   -- the bytes read since the last whole line
@@ -63,7 +64,7 @@ pub record WillRead (engine : EngineBody) (coming : List ℕ) (ahead : GameRecor
   pub arriving : begun ++ coming ≡ all_sent_bytes waiting
 
 -- where no engine runs, nothing is on its way
-abbrev pub WillReadWhereRunning : Option EngineBody → List ℕ → GameRecord → List Order → Type 0
+abbrev pub WillReadWhereRunning : Option EngineBody → List ℕ → GameRecord → List SentCommand → Type 0
 WillReadWhereRunning None coming ahead waiting = coming ≡ []
 WillReadWhereRunning (Some engine) coming ahead waiting = WillRead engine coming ahead waiting
 
@@ -80,7 +81,7 @@ CutByCrash (Some engine) cut = cut ≡ []
 pub record IsJoinedInPlay (game : GameRecord) (side : Incarnation) (lane : BareLane) : Type 0 where
   pub few : length side.unanswered ≤ most_unanswered
   pub replies : List Reply
-  pub waiting : List Order
+  pub waiting : List SentCommand
   pub ahead : GameRecord
   pub owes : Owes (replayed game side.confirmed) side.unanswered replies waiting ahead
   pub fit : AllByRecursion CanBeWritten waiting
@@ -89,7 +90,7 @@ pub record IsJoinedInPlay (game : GameRecord) (side : Incarnation) (lane : BareL
   pub begun : List ℕ
   pub cut : List ℕ
   pub begun_quiet : TellsNothing begun
-  pub kept : MayKeep side.reader begun
+  pub kept : MayKeep side.rest begun
   pub arriving : (begun ++ lane.to_controller) ++ cut ≡ all_reply_bytes replies
   pub runs : WillReadWhereRunning lane.engine lane.to_engine ahead waiting
   pub uncut : CutByCrash lane.engine cut
@@ -99,7 +100,7 @@ pub record IsJoinedInPlay (game : GameRecord) (side : Incarnation) (lane : BareL
 pub record IsJoinedAtEnd (game : GameRecord) (side : Incarnation) (lane : BareLane) : Type 0 where
   pub few : length side.unanswered ≤ most_unanswered
   pub replies : List Reply
-  pub waiting : List Order
+  pub waiting : List SentCommand
   pub ahead : GameRecord
   pub owes : Owes (replayed game side.confirmed) side.unanswered replies waiting ahead
   pub fit : AllByRecursion CanBeWritten waiting
@@ -120,7 +121,7 @@ abbrev pub IsFair : ℕ → Sides → Option Verdict → Type 0
 IsFair most sides None = Unit {0}
 IsFair most sides (Some (Forfeit side cause)) = ⊥
 IsFair most sides (Some (Unfit side)) = ⊥
-IsFair most sides (Some (Abandoned side)) = (at sides side).starts ≡ most + 1
+IsFair most sides (Some (Abandoned side)) = (side_of sides side).starts ≡ most + 1
 IsFair most sides (Some (Score half_points)) = Unit {0}
 IsFair most sides (Some (Resign side)) = Unit {0}
 IsFair most sides (Some Limit) = Unit {0}
@@ -129,8 +130,8 @@ IsFair most sides (Some Limit) = Unit {0}
 pub record AreJoined (c : Controller) (side : Colour) (lane others : BareLane) : Type 0 where
   pub sound : IsSound c
   pub fair : IsFair c.setup.max_restarts c.sides c.verdict
-  pub mine : IsJoinedSide c.game c.verdict (at c.sides side).up lane
-  pub theirs : IsJoinedSide c.game c.verdict (at c.sides (other side)).up others
+  pub mine : IsJoinedSide c.game c.verdict (side_of c.sides side).up lane
+  pub theirs : IsJoinedSide c.game c.verdict (side_of c.sides (other side)).up others
 
 abbrev pub IsJoined : {B W : Type 0} → World B W → Type 0
 IsJoined world = AreJoined world.controller Black (bare world.black) (bare world.white)

@@ -11,7 +11,7 @@ use Rattle.gtp_match.specs.declared.controller.Controller.{Controller}
 use Rattle.gtp_match.specs.Controller.{in_step}
 use Rattle.gtp_match.specs.Script.{script}
 use Rattle.gtp_match.specs.Setup.{SetupRecord, IsSetup}
-use Rattle.gtp_match.specs.Sides.{at}
+use Rattle.gtp_match.specs.Sides.{side_of}
 use Rattle.gtp_match.specs.Sound.{IsIdle}
 use Rattle.gtp_world.specs.declared.events.Event.{Event}
 use Rattle.gtp_world.specs.declared.events.Event.TheVariants.{Act, ToEngine, ToController}
@@ -54,7 +54,7 @@ RunsWhereUp (Some u) engine = IsSome engine
 -- no verdict, nothing unanswered, and an engine runs for each side that is up
 pub record MaySettle {B W : Type 0} (world : World B W) : Type 0 where
   pub verdict : world.controller.verdict ≡ None
-  pub idle : (side : Colour) → IsIdle (at world.controller.sides side).up
+  pub idle : (side : Colour) → IsIdle (side_of world.controller.sides side).up
   pub black : RunsWhereUp world.controller.sides.black.up world.black.engine
   pub white : RunsWhereUp world.controller.sides.white.up world.white.engine
 
