@@ -1,0 +1,158 @@
+-- Bytes that are heard keep what holds of every match.
+use Rattle.std.proofs.Common.{◌≡◌, ℕ, zero, suc, ◌+◌, ◌<◌, ◌≤◌, List, [], ◌∷◌, ◌++◌, length, take, drop, Option, Some, None, Result, false, refl, sym, ◌∙◌, ap, subst, arith, inl, inr, append-nil}
+use Rattle.std.specs.Prelude.{◌⊎◌, IfSome, is_some}
+use Rattle.go_base.specs.Colour.{other}
+use Rattle.go_base.specs.declared.colours.Colour.{Colour}
+use Rattle.go_board.specs.Game.{GameRecord, IsGame}
+use Rattle.gtp_wire.specs.declared.replies.Reply.{Reply}
+use Rattle.gtp_wire.specs.declared.replies.ReplyFault.{ReplyFault}
+use Rattle.gtp_wire.specs.Replies.{TellsNothing, Tells, IsFirst}
+use Rattle.gtp_match.specs.declared.controller.Controller.{Controller}
+use Rattle.gtp_match.specs.declared.sides.Incarnation.{Incarnation}
+use Rattle.gtp_match.specs.declared.unanswered.SentCommand.{SentCommand}
+use Rattle.gtp_match.specs.declared.verdicts.SideFault.{SideFault}
+use Rattle.gtp_match.specs.declared.verdicts.Verdict.{Verdict}
+use Rattle.gtp_match.specs.Conditions.{MayReply, MayHear, MayBeAnswered}
+use Rattle.gtp_match.specs.Controller.{with_side_up}
+use Rattle.gtp_match.specs.Hearing.{MayKeep, HearsUp, HearsWhere, Hears, HearsAll, HearsAllBy}
+use Rattle.gtp_match.specs.Script.{script}
+use Rattle.gtp_match.specs.Sides.{side_of, with_side, with_engine}
+use Rattle.gtp_match.specs.Sound.{VerdictFits, InScript, IsAsked, IsUnderWay, IsSoundEngine, IsIdle, IsSound}
+use Rattle.gtp_match.specs.Unanswered.{oldest}
+use Rattle.gtp_match.proofs.OutcomeLemmas.{first_is}
+use Rattle.gtp_match.proofs.ReplySound.{reply_sound}
+use Rattle.gtp_match.proofs.ScriptLemmas.{command_fits}
+use Rattle.gtp_match.proofs.SoundLemmas.{no_blame, my_side, their_side, one_idle, changed, kept, same_side, my_engine, my_start, downed_sound}
+
+-- ---- what may be kept for a text that tells nothing tells nothing
+
+no_first : (text kept : List ℕ) → MayKeep kept text → TellsNothing text → (n : ℕ) (answer : Result Reply ReplyFault)
+    → IsFirst kept n answer → ⊥
+no_first text kept keep quiet n answer first =
+    let F : List ℕ → Type 0 = λ t. IsFirst t n answer in
+    let same : IsFirst (text ++ []) n answer = (keep.1 [] n answer).0 (subst F (sym (append-nil kept)) first) in
+    let there : IsFirst text n answer = subst F (append-nil text) same in
+    quiet n answer there.inside there.told
+
+-- a place at which a text tells something is the first or behind one
+none_below : (kept : List ℕ) → ((n : ℕ) (answer : Result Reply ReplyFault) → IsFirst kept n answer → ⊥)
+    → (m n : ℕ) (answer : Result Reply ReplyFault) → n < m → n ≤ length kept → Tells (take n kept) answer → ⊥
+none_below kept none zero n answer below inside told = omega (arith, below)
+none_below kept none (suc m) n answer below inside told =
+    none n answer (record {
+      inside = inside;
+      told = told;
+      before = λ k other less t.
+          none_below kept none m k other (omega (arith, less, below)) (omega (arith, less, inside)) t;
+    })
+
+pub quiet_kept : (text kept : List ℕ) → MayKeep kept text → TellsNothing text → TellsNothing kept
+quiet_kept text kept keep quiet n answer inside told =
+    none_below kept (no_first text kept keep quiet) (n + 1) n answer (omega arith) inside told
+
+-- ---- bytes that are heard
+
+pub quiet_sound : (c : Controller) (s : Colour) (engine : Incarnation) (text kept_text : List ℕ) → IsSound c
+    → c.verdict ≡ None → (side_of c.sides s).up ≡ Some engine → TellsNothing text → MayKeep kept_text text
+    → IsSound (with_side_up c s (record engine { rest = kept_text }))
+quiet_sound c s engine text kept_text h none up quiet is =
+    let mine = my_side c s h in
+    let e = my_engine c s engine h up in
+    let next : Incarnation = record engine { rest = kept_text } in
+    let state = with_engine next (side_of c.sides s) in
+    kept c c.game c.verdict s state (record {
+      setup = h.setup;
+      game_is = h.game_is;
+      legal = h.game;
+      turns = h.turns;
+      few_moves = h.few_moves;
+      ends = h.ends;
+      blames = no_blame (changed c c.game c.verdict s state) c.verdict none;
+      mine = record {
+        starts = mine.starts;
+        start_left = λ _ x. absurd (cc);
+        started = my_start c s engine h up;
+        engine = record {
+          sent = e.sent;
+          quiet = quiet_kept text kept_text is quiet;
+          under_way = λ none. same_way (e.under_way none);
+        };
+      };
+      theirs = same_side c (other s) c.verdict (with_side s state c.sides) (side_of c.sides (other s)) (λ x. x)
+          (their_side c s h);
+      one_asked = by_one (one_idle c s h);
+    })
+  where
+    same_way : IsUnderWay c.game s engine → IsUnderWay c.game s (record engine { rest = kept_text })
+    same_way way = record { plan = way.plan; few_unanswered = way.few_unanswered; counted = way.counted }
+
+    by_one : IsIdle (side_of c.sides s).up ⊎ IsIdle (side_of c.sides (other s)).up
+        → IsIdle (Some (record engine { rest = kept_text })) ⊎ IsIdle (side_of c.sides (other s)).up
+    by_one (inl i) = inl (subst IsIdle up i)
+    by_one (inr i) = inr i
+
+up_sound : (c : Controller) (s : Colour) (engine : Incarnation) (bytes : List ℕ) (used : ℕ) (fault : Option SideFault)
+    (c2 : Controller) → IsSound c → c.verdict ≡ None → (side_of c.sides s).up ≡ Some engine
+    → HearsUp MayKeep c s engine bytes used fault c2 → IsSound c2
+up_sound c s engine bytes used fault c2 h none up (HearsUp.replied {value = reply} first) =
+    reply_sound c s engine reply h none up
+up_sound c s engine bytes used fault c2 h none up (HearsUp.faulted first) = downed_sound c s h
+up_sound c s engine bytes used fault c2 h none up (HearsUp.nothing_yet {kept = text} quiet is) =
+    quiet_sound c s engine (engine.rest ++ bytes) text h none up quiet is
+
+pub hears_sound : (c : Controller) (s : Colour) (bytes : List ℕ) (used : ℕ) (fault : Option SideFault)
+    (c2 : Controller) → IsSound c → Hears c s bytes used fault c2 → IsSound c2
+hears_sound c s bytes used fault c2 h hears = by_verdict c.verdict refl hears
+  where
+    by_up : (up : Option Incarnation) → c.verdict ≡ None → (side_of c.sides s).up ≡ up
+        → HearsWhere MayKeep c s bytes None up used fault c2 → IsSound c2
+    by_up None none is ignored = subst IsSound (sym ignored.same) h
+    by_up (Some engine) none is x = up_sound c s engine bytes used fault c2 h none is x
+
+    by_verdict : (v : Option Verdict) → c.verdict ≡ v
+        → HearsWhere MayKeep c s bytes v (side_of c.sides s).up used fault c2 → IsSound c2
+    by_verdict (Some v) some ignored = subst IsSound (sym ignored.same) h
+    by_verdict None none x = by_up (side_of c.sides s).up none refl x
+
+pub hears_all_sound : (s : Colour) (c new : Controller) (bytes : List ℕ) (fault : Option SideFault) → IsSound c
+    → HearsAll s c bytes fault new → IsSound new
+hears_all_sound s c new bytes fault h HearsAllBy.used_up = h
+hears_all_sound s c new bytes fault h (HearsAllBy.faulty used some heard) = hears_sound c s bytes used _ new h heard
+hears_all_sound s c new bytes fault h (HearsAllBy.goes_on {mid = mid} used some heard more) =
+    hears_all_sound s mid new (drop used bytes) fault (hears_sound c s bytes used _ mid h heard) more
+
+-- ---- what a side that is heard may be asked for
+
+oldest_fits : (game : GameRecord) (s : Colour) (n : ℕ) (entries : List SentCommand) → IsGame game
+    → InScript (script game) n entries ⊎ IsAsked game s n entries
+    → IfSome (oldest entries) (λ entry. MayBeAnswered game entry.command)
+oldest_fits game s n [] g plan = tt
+oldest_fits game s n (entry ∷ entries) g (inl plan) = command_fits game n entry.command g.handicap plan.0
+oldest_fits game s n (entry ∷ entries) g (inr asked) =
+    let same : entry ≡ asked.entry = first_is (entry ∷ entries) entry entries asked.entry refl asked.alone in
+    subst (MayBeAnswered game) (sym (ap (λ (x : SentCommand). x.command) same ∙ asked.genmove)) tt
+
+confirmed_few : (game : GameRecord) (s : Colour) (engine : Incarnation) → IsUnderWay game s engine
+    → engine.confirmed ≤ engine.sent
+confirmed_few game s engine way = omega (arith, way.counted)
+
+pub may_hear : (c : Controller) (s : Colour) → IsSound c → c.verdict ≡ None → MayHear c s
+may_hear c s h none =
+    let ends : VerdictFits c None = subst (VerdictFits c) none h.ends in
+    record {
+      room = omega (arith, ends.0, h.setup.moves.1);
+      engine = by_up (side_of c.sides s).up (my_side c s h).engine;
+    }
+  where
+    by_up : (u : Option Incarnation) → IfSome u (IsSoundEngine c s) → IfSome u (MayReply c.game)
+    by_up None e = tt
+    by_up (Some engine) e =
+        let way = e.under_way none in
+        record {
+          answered = oldest_fits c.game s engine.confirmed engine.unanswered h.game way.plan;
+          confirmed = omega (arith, confirmed_few c.game s engine way, e.sent, h.setup.moves.1);
+        }
+
+pub none_of : {A : Type 0} (o : Option A) → is_some o ≡ false → o ≡ None
+none_of None e = refl
+none_of (Some x) e = absurd (cc)
