@@ -1,5 +1,5 @@
--- Decisions: a fact, or that it doesn't hold. The type of a decision says all that there is to know of it, so none is ever
--- computed.
+-- Decisions: a fact, or that it doesn't hold. The type of a decision says all that there is to know of it, so none is
+-- ever computed.
 use Rattle.std.proofs.Common.{◌≡◌, ℕ, ◌<◌, ◌≤◌, ◌%◌, Bool, true, false, arith, inl, inr}
 use Rattle.std.specs.Prelude.{◌⊎◌}
 use Rattle.go_base.specs.Handicap.{AllowsHandicap}

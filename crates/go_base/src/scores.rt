@@ -17,8 +17,8 @@ pub fn write_half_points(half_points: u32) -> ArrayVec<u8, 12>
     text
 }
 
-/// Writes a score of so many half points, positive where Black leads: `B+` or `W+` and the points by which that colour leads,
-/// or `0`.
+/// Writes a score of so many half points, positive where Black leads: `B+` or `W+` and the points by which that colour
+/// leads, or `0`.
 pub fn write_score(half_points: i32) -> ArrayVec<u8, 14>
     ensures { result.items ≡ score_text half_points }
 {

@@ -1,4 +1,5 @@
 pub mod WordLemmas
+pub mod NameLemmas
 pub mod PassLemmas
 pub mod NextLemmas
 pub mod HearLemmas
@@ -7,12 +8,15 @@ pub mod ScriptLemmas
 pub mod SoundLemmas
 pub mod TurnLemmas
 pub mod OutcomeLemmas
+pub mod ApplyLemmas
 pub mod ReplySound
 pub mod HeardSound
 pub mod HeardLemmas
 pub mod OpeningLemmas
 pub mod MoveTextLemmas
 pub mod CallsLemmas
+pub mod JoinLemmas
 pub mod BoundLemmas
 pub mod VerdictLemmas
 pub mod LimitLemmas
+pub mod Interface

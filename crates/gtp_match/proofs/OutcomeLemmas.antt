@@ -4,7 +4,7 @@ use Rattle.std.specs.Prelude.{◌⊎◌, slice_get, nat_le}
 use Rattle.std.specs.List.{AllByRecursion}
 use Rattle.go_base.specs.declared.colours.Colour.{Colour}
 use Rattle.go_base.specs.declared.moves.Move.{Move}
-use Rattle.go_board.specs.Decide.{holds}
+use Rattle.go_base.specs.Decide.{holds}
 use Rattle.go_board.specs.Game.{GameRecord, IsLegal, legal?}
 use Rattle.gtp_wire.specs.declared.commands.Command.{Command}
 use Rattle.gtp_wire.specs.declared.commands.Command.TheVariants as command
@@ -17,10 +17,10 @@ use Rattle.gtp_match.specs.declared.unanswered.SentCommand.{SentCommand}
 use Rattle.gtp_match.specs.declared.verdicts.ForfeitCause.TheVariants.{RefusedPlay, NoMove, NoVertex, IllegalMove}
 use Rattle.gtp_match.specs.declared.verdicts.SideFault.{SideFault}
 use Rattle.gtp_match.specs.declared.verdicts.SideFault.TheVariants.{WrongId, Unasked}
-use Rattle.gtp_match.specs.declared.words.Choice.{Choice}
-use Rattle.gtp_match.specs.declared.words.Choice.TheVariants as choice
+use Rattle.go_base.specs.declared.choices.Choice.{Choice}
+use Rattle.go_base.specs.declared.choices.Choice.TheVariants as choice
 use Rattle.gtp_match.specs.ReplyTable.{outcome, outcome_of, script_outcome, play_outcome, choice_outcome, has_id}
-use Rattle.gtp_match.specs.ReplyWords.{choice_of}
+use Rattle.gtp_match.specs.ReplyWords.{choice_of_text}
 use Rattle.gtp_match.specs.Script.{script, handicap_commands}
 use Rattle.gtp_match.specs.Sound.{InScript, IsAsked, IsSetupCommand, IsPlay}
 use Rattle.gtp_match.specs.Unanswered.{oldest}
@@ -137,7 +137,7 @@ module _ (game : GameRecord) (s : Colour) (engine : Incarnation) where
       subst (λ (x : Command). Fits game s engine x (outcome_of game s x reply)) (sym is.1) (play_fits is.0 reply.ok)
   answer_fits k reply (Planned.genmove asked is) =
       subst (λ (x : Command). Fits game s engine x (outcome_of game s x reply)) (sym is)
-      (genmove_fits asked (command.Genmove s) (choice_of reply.text.items) reply.ok)
+      (genmove_fits asked (command.Genmove s) (choice_of_text reply.text.items) reply.ok)
 
 -- ---- the oldest command that is unanswered, and those behind it
 

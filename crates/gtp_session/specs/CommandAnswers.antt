@@ -39,7 +39,8 @@ success_text game (Genmove colour) = []
 success_text game Quit = []
 
 -- A command of a script succeeds at this game: a size or a komi in its limits; a number of handicap stones that the
--- size allows, on an untouched board; a legal move where the record has room. (`genmove` and `quit` stand in no script.)
+-- size, which is one of a board, allows, on an untouched board; a legal move where the record has room and the size is
+-- at most 25. (`genmove` and `quit` stand in no script.)
 abbrev pub GoesWell : GameRecord → Command → Type 0
 GoesWell game (Boardsize size) = IsSize size
 GoesWell game (Komi komi) = IsKomi komi
@@ -49,7 +50,7 @@ GoesWell game (Play move) = HasRoom game × (IsLegal game move.colour move.verte
 GoesWell game (Genmove colour) = ⊥
 GoesWell game Quit = ⊥
 
--- the same, or a `genmove` where the record has room
+-- the same, or a `genmove` where the record has room and the size is at most 25
 abbrev pub MayBeSent : GameRecord → Command → Type 0
 MayBeSent game (Boardsize size) = GoesWell game (Boardsize size)
 MayBeSent game (Komi komi) = GoesWell game (Komi komi)

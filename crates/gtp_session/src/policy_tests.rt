@@ -2,6 +2,7 @@
 use crate::book::{Book, PLACES_MOST, Place};
 use crate::candidates::candidates;
 use crate::first::First;
+use crate::laws;
 use crate::policy::{Choice, Policy};
 use crate::random::Random;
 use arrayvec::ArrayVec;
@@ -329,4 +330,17 @@ fn an_empty_book_passes(rt: HostRuntime) -> Result<(), Fail> {
     assert_eq!(rt; choose_and_play(&mut book, &mut game, Colour::Black)?, PASS);
     assert_eq!(rt; choose_and_play(&mut book, &mut game, Colour::White)?, PASS);
     Ok(())
+}
+
+#[test]
+fn the_laws_hold_of_each_policy(_rt: HostRuntime) {
+    laws::texts_join::<First>();
+    laws::texts_join::<Random>();
+    laws::texts_join::<Book>();
+    laws::genmoves_are_lawful::<First>();
+    laws::genmoves_are_lawful::<Random>();
+    laws::genmoves_are_lawful::<Book>();
+    laws::each_reply_is_one::<First>();
+    laws::each_reply_is_one::<Random>();
+    laws::each_reply_is_one::<Book>();
 }

@@ -72,10 +72,10 @@ pub fn serve_within<R: Incoming, W: Outgoing, P: Policy>(
         × (R.reads reader.new ≡ raised (R.reads reader.old) made) }
     ensures too_many { result ≡ Err ServeFault.TooManyReads →
         R.reads reader.new ≡ raised (R.reads reader.old) reads }
-    // Each of them gave at least one byte.
+    // The reads gave as many bytes as there were reads, at least.
     ensures gave { result ≡ Err ServeFault.TooManyReads →
         GivesAtLeast (R.remaining reader.old) (R.remaining reader.new) reads }
-    // At the end of the input the last read gave nothing, and each before it at least one byte.
+    // At the end of the input the reads before the last gave as many bytes as they were, at least.
     ensures gave_before { result ≡ Ok Served.EndOfInput → (made : ℕ)
         × (R.reads reader.new ≡ raised (R.reads reader.old) (made + 1))
         × GivesAtLeast (R.remaining reader.old) (R.remaining reader.new) made }
@@ -213,10 +213,10 @@ pub fn serve<R: Incoming, W: Outgoing, P: Policy>(
         × (R.reads reader.new ≡ raised (R.reads reader.old) made) }
     ensures too_many { result ≡ Err ServeFault.TooManyReads →
         R.reads reader.new ≡ raised (R.reads reader.old) most_reads }
-    // Each of them gave at least one byte.
+    // The reads gave as many bytes as there were reads, at least.
     ensures gave { result ≡ Err ServeFault.TooManyReads →
         GivesAtLeast (R.remaining reader.old) (R.remaining reader.new) most_reads }
-    // At the end of the input the last read gave nothing, and each before it at least one byte.
+    // At the end of the input the reads before the last gave as many bytes as they were, at least.
     ensures gave_before { result ≡ Ok Served.EndOfInput → (made : ℕ)
         × (R.reads reader.new ≡ raised (R.reads reader.old) (made + 1))
         × GivesAtLeast (R.remaining reader.old) (R.remaining reader.new) made }

@@ -114,8 +114,8 @@ rest_after None text = text
 rest_after (Some (Ok value)) text = []
 rest_after (Some (Err fault)) text = text
 
--- What reading a piece behind what is held gives. What is told is the first thing that both together tell, and the
--- last byte used shows it; where nothing is told, they tell nothing yet, and all of the piece is used.
+-- What reading a piece behind what is held gives. What is told is the first thing that both together tell, at the last
+-- byte of what was held and what is used; where nothing is told, they tell nothing yet, and all of the piece is used.
 pub record ReadsFirst (old input : List ℕ) (used : ℕ) (got : Option (Result Reply ReplyFault)) (new : List ℕ)
     : Type 0 where
   pub first : IfSome got (λ answer. IsFirst (old ++ input) (length old + used) answer)

@@ -94,7 +94,7 @@ pub fn fronts_tell_nothing()
     ensures { FrontsTellNothing }
 {}
 
-/// What a text tells first every longer text tells first.
+/// What a text tells first, every text that it begins tells first, at the same place.
 pub fn told_stays_told()
     ensures { ToldStaysTold }
 {}

@@ -81,7 +81,8 @@ pub fn write_reply(ok: bool, id: Option<u32>, text: &[u8]) -> ReplyText
 /// Writes a reply as `write_reply` does, in place of what `out` holds. Of a text of more than 2,000 bytes it writes
 /// nothing.
 pub fn write_reply_into(out: &mut ReplyText, ok: bool, id: Option<u32>, text: &[u8])
-    ensures bytes { length text.now ≤ reply_text_max → out.new.items ≡ written_reply ok id text.now }
+    ensures bytes { length text.now ≤ reply_text_max →
+        out.new.items ≡ written_reply ok id text.now }
     ensures nothing { reply_text_max < length text.now → out.new.items ≡ [] }
     // Where id and text are those of a reply, the bytes are one reply, of this status, id and text.
     ensures reply { IfSome id (λ n. n ≤ int_max) → IsReplyText text.now →

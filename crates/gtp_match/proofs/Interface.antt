@@ -1,0 +1,25 @@
+-- The lemmas that stand for this crate in the proofs of a crate above it. All speak of definitions alone.
+--
+-- One of the sides and the other, of a sound match: what is known of the side, of the other one, and of the engine of a
+-- side that is up; and that one of the two is idle.
+pub use Rattle.gtp_match.proofs.SoundLemmas.{my_side, their_side, my_engine, one_idle}
+-- An engine without unanswered commands has confirmed no more than the script has; an empty rest tells nothing; and the
+-- controller with another game, verdict and side.
+pub use Rattle.gtp_match.proofs.SoundLemmas.{idle_plan, nothing_told, changed}
+-- Each call keeps a match sound: a new match, a start, a command, a side that goes down, and a side that is lost.
+pub use Rattle.gtp_match.proofs.SoundLemmas.{new_sound, started_sound, sent_sound, downed_sound, lost_sound}
+-- So does a whole reply, and so do bytes that are heard: a rest that tells nothing yet, one call, and all of a read.
+pub use Rattle.gtp_match.proofs.ReplySound.{reply_sound}
+pub use Rattle.gtp_match.proofs.HeardSound.{quiet_sound, hears_sound, hears_all_sound}
+-- And so does a list of calls.
+pub use Rattle.gtp_match.proofs.CallsLemmas.{calls_sound}
+-- What is heard exactly is heard: of one call, and of all of a read.
+pub use Rattle.gtp_match.proofs.HeardLemmas.{wider, all_wider}
+-- What holds where a start or a command comes next.
+pub use Rattle.gtp_match.proofs.SaysLemmas.{SaysStart, says_start, SaysSend, says_send}
+-- A script grows by one command with each move; a number that it has no command of is past its end.
+pub use Rattle.gtp_match.proofs.ScriptLemmas.{script_longer, past_length}
+-- The game before its first move has no stone of a move.
+pub use Rattle.gtp_match.proofs.OpeningLemmas.{untouched}
+-- A command that a sound match sends can be written, and is one line.
+pub use Rattle.gtp_match.proofs.LimitLemmas.{next_written, sent_line}

@@ -1,0 +1,108 @@
+use crate::test_steps::{answer, black_asked, ended, first_sent, hear, up};
+use crate::{Action, SideFault, Status, Verdict, result_line};
+use go_base::Side;
+use std::test::Fail;
+
+#[test]
+fn a_wrong_id_puts_the_side_down(rt: HostRuntime) {
+    let mut played = first_sent(&rt, 1);
+    hear(&rt, &mut played, Side::Black, b"=2 D4\n\n", 7, Some(SideFault::WrongId));
+    assert_eq!(rt; played.status(Side::Black), Status::Down);
+    assert_eq!(rt; played.next(), Action::Start(Side::Black));
+}
+
+#[test]
+fn a_missing_id_puts_the_side_down(rt: HostRuntime) {
+    let mut played = first_sent(&rt, 1);
+    hear(&rt, &mut played, Side::Black, b"= 1\n\n", 5, Some(SideFault::WrongId));
+    assert_eq!(rt; played.status(Side::Black), Status::Down);
+}
+
+#[test]
+fn a_byte_that_begins_no_reply_puts_the_side_down(rt: HostRuntime) {
+    let mut played = first_sent(&rt, 1);
+    hear(&rt, &mut played, Side::Black, b"hello", 1, Some(SideFault::NoStatus));
+    assert_eq!(rt; played.status(Side::Black), Status::Down);
+    assert_eq!(rt; played.next(), Action::Start(Side::Black));
+}
+
+#[test]
+fn a_reply_that_does_not_end_puts_the_side_down(rt: HostRuntime) {
+    let mut played = first_sent(&rt, 1);
+    hear(&rt, &mut played, Side::Black, &[b'\n'; 8193], 8193, Some(SideFault::Overlong));
+    assert_eq!(rt; played.next(), Action::Start(Side::Black));
+}
+
+#[test]
+fn a_reply_that_nothing_asked_for_puts_the_side_down(rt: HostRuntime) {
+    let mut played = first_sent(&rt, 1);
+    hear(&rt, &mut played, Side::White, b"=1\n\n", 4, Some(SideFault::Unasked));
+    assert_eq!(rt; played.status(Side::White), Status::Down);
+    assert_eq!(rt; played.next(), Action::Wait(Side::Black));
+}
+
+#[test]
+fn blank_lines_and_carriage_returns_before_and_in_a_reply(rt: HostRuntime) {
+    let mut played = first_sent(&rt, 1);
+    answer(&rt, &mut played, Side::Black, b"\n=1\r\n\r\n");
+    assert_eq!(rt; played.status(Side::Black), up(1, 0));
+    let mut played = first_sent(&rt, 1);
+    answer(&rt, &mut played, Side::Black, b"\r\n \n\r\n=1\r \r\n\r\n");
+    assert_eq!(rt; played.status(Side::Black), up(1, 0));
+}
+
+#[test]
+fn an_id_may_have_leading_zeros(rt: HostRuntime) {
+    let mut played = first_sent(&rt, 1);
+    answer(&rt, &mut played, Side::Black, b"=0000000001\n\n");
+    assert_eq!(rt; played.status(Side::Black), up(1, 0));
+}
+
+#[test]
+fn without_restarts_each_fault_gives_the_side_up(rt: HostRuntime) {
+    let black = b"game 1: abandoned black moves 0 restarts 0 0";
+    let white = b"game 1: abandoned white moves 0 restarts 0 0";
+    let mut played = first_sent(&rt, 0);
+    assert!(rt; result_line(1, &played).is_none());
+    hear(&rt, &mut played, Side::Black, b"=2 D4\n\n", 7, Some(SideFault::WrongId));
+    ended(&rt, &played, Verdict::Abandoned(Side::Black), black.as_slice());
+    let mut played = first_sent(&rt, 0);
+    hear(&rt, &mut played, Side::Black, b"hello", 1, Some(SideFault::NoStatus));
+    ended(&rt, &played, Verdict::Abandoned(Side::Black), black.as_slice());
+    let mut played = first_sent(&rt, 0);
+    hear(&rt, &mut played, Side::Black, &[b'\n'; 8193], 8193, Some(SideFault::Overlong));
+    ended(&rt, &played, Verdict::Abandoned(Side::Black), black.as_slice());
+    let mut played = first_sent(&rt, 0);
+    hear(&rt, &mut played, Side::White, b"=1\n\n", 4, Some(SideFault::Unasked));
+    ended(&rt, &played, Verdict::Abandoned(Side::White), white.as_slice());
+    let mut played = first_sent(&rt, 0);
+    played.lost(Side::White);
+    ended(&rt, &played, Verdict::Abandoned(Side::White), white.as_slice());
+}
+
+#[test]
+fn a_side_that_is_down_is_not_heard(rt: HostRuntime) {
+    let mut played = first_sent(&rt, 1);
+    played.lost(Side::Black);
+    hear(&rt, &mut played, Side::Black, b"=1\n\nhello", 9, None);
+    assert_eq!(rt; played.status(Side::Black), Status::Down);
+    assert_eq!(rt; played.next(), Action::Start(Side::Black));
+    played.lost(Side::Black);
+    assert_eq!(rt; played.next(), Action::Start(Side::Black));
+}
+
+#[test]
+fn all_bytes_of_a_read_are_heard(rt: HostRuntime) {
+    let mut played = black_asked(&rt, 1);
+    assert_eq!(rt; played.hear_all(Side::Black, b""), None);
+    assert_eq!(rt; played.hear_all(Side::Black, b"=4 A1\n"), None);
+    assert_eq!(rt;
+        played.hear_all(Side::Black, b"\n=5\n\n?"),
+        Some(SideFault::Unasked)
+    );
+    assert_eq!(rt; played.status(Side::Black), Status::Down);
+    assert_eq!(rt; played.game().moves().len(), 1);
+    let mut played = black_asked(&rt, 1);
+    assert_eq!(rt; played.hear_all(Side::Black, b"=4 resign\n\nhello"), None);
+    assert_eq!(rt; played.next(), Action::Done(Verdict::Resign(Side::Black)));
+}

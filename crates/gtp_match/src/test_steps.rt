@@ -1,0 +1,128 @@
+//! The steps that the tests of matches share.
+use crate::{Action, Heard, Match, ResultText, Setup, SideFault, Status, Verdict, result_line};
+use go_base::{Komi, Side, Size};
+use std::process::Abort;
+
+/// A setup of this size, komi and handicap.
+pub(crate) fn setup_with(
+    rt: &impl Abort,
+    size: u32,
+    half_points: i32,
+    handicap: u32,
+    max_moves: u32,
+    max_restarts: u32,
+) -> Setup {
+    let size = Size::new(size).expect(rt, "a size");
+    let komi = Komi::from_half_points(half_points).expect(rt, "a komi");
+    Setup::new(size, komi, handicap, max_moves, max_restarts).expect(rt, "a setup")
+}
+
+/// Sends a side its next command, which has to be this line.
+pub(crate) fn send(rt: &impl Abort, played: &mut Match, side: Side, line: &[u8]) {
+    assert_eq!(rt; played.next(), Action::Send(side));
+    assert_eq!(rt; played.send(side).as_slice(), line);
+    assert_eq!(rt; played.next(), Action::Wait(side));
+}
+
+/// A side answers with these bytes: all of them are used, without a fault.
+pub(crate) fn answer(rt: &impl Abort, played: &mut Match, side: Side, bytes: &[u8]) {
+    hear(rt, played, side, bytes, bytes.len(), None);
+}
+
+/// A side's bytes are heard: so many of them are used, and this fault is shown, if any.
+pub(crate) fn hear(
+    rt: &impl Abort,
+    played: &mut Match,
+    side: Side,
+    bytes: &[u8],
+    used: usize,
+    fault: Option<SideFault>,
+) {
+    assert_eq!(rt; played.heard(side, bytes), Heard { used, fault });
+}
+
+/// A match of which both sides are started.
+pub(crate) fn both_started(rt: &impl Abort, setup: Setup) -> Match {
+    let mut played = Match::new(setup);
+    assert_eq!(rt; played.next(), Action::Start(Side::Black));
+    played.started(Side::Black);
+    assert_eq!(rt; played.next(), Action::Start(Side::White));
+    played.started(Side::White);
+    played
+}
+
+/// Brings a side of size 2 and komi 0 through the three commands of its script.
+pub(crate) fn bring(rt: &impl Abort, played: &mut Match, side: Side) {
+    send(rt, played, side, b"1 boardsize 2\n");
+    answer(rt, played, side, b"=1\n\n");
+    send(rt, played, side, b"2 komi 0\n");
+    answer(rt, played, side, b"=2\n\n");
+    send(rt, played, side, b"3 clear_board\n");
+    answer(rt, played, side, b"=3\n\n");
+}
+
+/// A match of size 2, komi 0 and 10 moves with both sides in step.
+pub(crate) fn both_in_step(rt: &impl Abort, max_restarts: u32) -> Match {
+    let mut played = both_started(rt, setup_with(rt, 2, 0, 0, 10, max_restarts));
+    bring(rt, &mut played, Side::Black);
+    bring(rt, &mut played, Side::White);
+    assert!(rt; played.in_step(Side::Black));
+    assert!(rt; played.in_step(Side::White));
+    played
+}
+
+/// The same, with the first `genmove` sent to Black.
+pub(crate) fn black_asked(rt: &impl Abort, max_restarts: u32) -> Match {
+    let mut played = both_in_step(rt, max_restarts);
+    send(rt, &mut played, Side::Black, b"4 genmove b\n");
+    assert!(rt; !played.in_step(Side::Black));
+    played
+}
+
+/// The match to which Black answered the first `genmove` with these bytes.
+pub(crate) fn black_answered(rt: &impl Abort, bytes: &[u8]) -> Match {
+    let mut played = black_asked(rt, 1);
+    answer(rt, &mut played, Side::Black, bytes);
+    played
+}
+
+/// A match of size 2, of which both sides are started and Black was sent its first command.
+pub(crate) fn first_sent(rt: &impl Abort, max_restarts: u32) -> Match {
+    let mut played = both_started(rt, setup_with(rt, 2, 0, 0, 10, max_restarts));
+    send(rt, &mut played, Side::Black, b"1 boardsize 2\n");
+    played
+}
+
+/// A match of size 9 with two handicap stones, in which Black answered `fixed_handicap` with these bytes.
+pub(crate) fn handicap_answered(rt: &impl Abort, bytes: &[u8]) -> Match {
+    let mut played = both_started(rt, setup_with(rt, 9, -7, 2, 10, 0));
+    send(rt, &mut played, Side::Black, b"1 boardsize 9\n");
+    answer(rt, &mut played, Side::Black, b"=1\n\n");
+    send(rt, &mut played, Side::Black, b"2 komi -3.5\n");
+    answer(rt, &mut played, Side::Black, b"=2 thanks\n\n");
+    send(rt, &mut played, Side::Black, b"3 clear_board\n");
+    answer(rt, &mut played, Side::Black, b"=3\n\n");
+    send(rt, &mut played, Side::Black, b"4 fixed_handicap 2\n");
+    answer(rt, &mut played, Side::Black, bytes);
+    played
+}
+
+/// The line of a match that has ended, as game 1.
+pub(crate) fn line(rt: &impl Abort, played: &Match) -> ResultText {
+    result_line(1, played).expect(rt, "a match that has ended")
+}
+
+/// The match ended so, and is told by this line.
+pub(crate) fn ended(rt: &impl Abort, played: &Match, verdict: Verdict, text: &[u8]) {
+    assert_eq!(rt; played.next(), Action::Done(verdict));
+    assert_eq!(rt; line(rt, played).as_slice(), text);
+}
+
+/// A side that is up, and was not asked for a move.
+pub(crate) fn up(confirmed: u32, unanswered: u32) -> Status {
+    Status::Up {
+        confirmed,
+        unanswered,
+        asked: false,
+    }
+}
