@@ -7,7 +7,7 @@ use gtp_session::random::Random;
 use std::process::Abort;
 
 /// How many lists are drawn.
-const LISTS: u32 = 100;
+const LISTS: u32 = 2_000;
 
 /// How many events a list has.
 const EVENTS: u32 = 200;
