@@ -5,5 +5,6 @@ use Rattle.gtp_world.proofs.laws.an_act_keeps_it.Goals as goal
 
 pub returns : goal.returns
 returns g c black white old new joined happens =
-    happens_keeps (policies_by g.B.Made.Policy.may g.B.Maker.may_make black) (policies_by g.W.Made.Policy.may g.W.Maker.may_make white)
+    happens_keeps (policies_by g.B.Made.Policy.may g.B.Maker.may_make black)
+    (policies_by g.W.Made.Policy.may g.W.Maker.may_make white)
     g.met.B.Made.Policy.lawful g.met.W.Made.Policy.lawful old Act new happens joined
