@@ -12,6 +12,9 @@ const LISTS: u32 = 2_000;
 /// How many events a list has.
 const EVENTS: u32 = 200;
 
+/// How often each thing has to be seen.
+const OFTEN: u64 = 100;
+
 /// Makes policies that draw their choices, each start from the same seed.
 #[derive(Clone, Copy, Drop)]
 struct Seeded {
@@ -62,12 +65,12 @@ impl Draws {
 
     /// An event. Those that bring a match forward come more often than those that break something.
     fn event(&mut self) -> Event {
-        match self.below(60) {
+        match self.below(200) {
             0 => Event::BrokenWrite(self.count()),
             1 => Event::Crash(self.side(), self.count()),
             2 => Event::End(self.side()),
-            3..=17 => Event::Act,
-            18..=38 => Event::ToEngine(self.side(), self.count()),
+            3..=60 => Event::Act,
+            61..=130 => Event::ToEngine(self.side(), self.count()),
             _ => Event::ToController(self.side(), self.count()),
         }
     }
@@ -75,7 +78,8 @@ impl Draws {
     /// A setup of size 1 to 3, without handicap, of few moves and of 0 to 2 restarts.
     fn setup(&mut self, rt: &impl Abort) -> Setup {
         let size = Size::new(self.below(3).saturating_add(1)).expect(rt, "a size");
-        let komi = Komi::from_half_points(self.below(20) as i32).expect(rt, "a komi");
+        let half_points = [0, 1, 13, -7].get(self.below(4) as usize).copied();
+        let komi = Komi::from_half_points(half_points.unwrap_or(0)).expect(rt, "a komi");
         let moves = self.below(12).saturating_add(1);
         Setup::new(size, komi, 0, moves, self.below(3)).expect(rt, "a setup")
     }
@@ -135,23 +139,19 @@ impl Seen {
         }
     }
 
-    /// Everything was seen.
+    /// Everything was seen, and more than once.
     fn assert_all(&self, rt: &impl Abort) {
-        for count in [
-            self.both_in_step,
-            self.with_a_move,
-            self.starts,
-            self.sends,
-            self.broken_writes,
-            self.readings,
-            self.hearings,
-            self.crashes,
-            self.ends,
-            self.without_effect,
-            self.verdicts,
-        ] {
-            assert!(rt; count >= 100);
-        }
+        assert!(rt; self.both_in_step >= OFTEN);
+        assert!(rt; self.with_a_move >= OFTEN);
+        assert!(rt; self.starts >= OFTEN);
+        assert!(rt; self.sends >= OFTEN);
+        assert!(rt; self.broken_writes >= OFTEN);
+        assert!(rt; self.readings >= OFTEN);
+        assert!(rt; self.hearings >= OFTEN);
+        assert!(rt; self.crashes >= OFTEN);
+        assert!(rt; self.ends >= OFTEN);
+        assert!(rt; self.without_effect >= OFTEN);
+        assert!(rt; self.verdicts >= OFTEN);
     }
 }
 
