@@ -1,9 +1,8 @@
 -- Catching up: the starts, the rounds of Black, and the rounds of White.
-use Rattle.std.proofs.Common.{◌≡◌, ℕ, zero, suc, ◌+◌, ◌<◌, ◌≤◌, Bool, true, false, List, [], ◌∷◌, ◌++◌, length, drop, Option, Some, None, slice_get, refl, sym, ◌∙◌, ap, subst, arith}
+use Rattle.std.proofs.Common.{◌≡◌, ℕ, zero, suc, ◌+◌, ◌<◌, ◌≤◌, true, false, List, [], ◌∷◌, ◌++◌, length, drop, Option, Some, None, slice_get, refl, sym, ◌∙◌, ap, subst, arith}
 use Rattle.std.specs.Prelude.{◌&&◌, ◌==◌, not, nat_lt, is_some, IsSome}
 use Rattle.std.proofs.lemmas.Bool.Decides.{nat_tests}
 use Rattle.std.proofs.lemmas.List.{append-nil}
-use Rattle.go_base.specs.declared.colours.Colour.{Colour}
 use Rattle.go_base.specs.declared.colours.Colour.TheVariants.{Black, White}
 use Rattle.go_board.specs.Game.{GameRecord}
 use Rattle.gtp_wire.specs.declared.commands.Command.{Command}
@@ -18,20 +17,19 @@ use Rattle.gtp_match.specs.Controller.{to_move, engine_in_step, in_step}
 use Rattle.gtp_match.specs.Next.{has_unanswered, is_down, has_script_left, next}
 use Rattle.gtp_match.specs.Unanswered.{none_unanswered}
 use Rattle.gtp_match.specs.Script.{script}
-use Rattle.gtp_match.specs.Setup.{SetupRecord, IsSetup}
-use Rattle.gtp_match.specs.Sides.{side_of, new_incarnation}
-use Rattle.gtp_match.specs.Sound.{IsIdle, IsSound}
+use Rattle.gtp_match.specs.Sides.{new_incarnation}
+use Rattle.gtp_match.specs.Sound.{IsIdle}
 use Rattle.gtp_match.proofs.NextLemmas.{Tests, tests_of, next_live, at_black_down, at_white_down, at_black_script_left, at_white_script_left}
 use Rattle.gtp_match.proofs.SoundLemmas.{my_engine, idle_plan}
 use Rattle.gtp_world.specs.declared.events.Event.{Event}
 use Rattle.gtp_world.specs.declared.events.Event.TheVariants.{Act, ToEngine, ToController}
 use Rattle.gtp_world.specs.Lane.{Lane, SidePolicies}
 use Rattle.gtp_world.specs.World.{World, opening, Starts, Sends, SideHears, Acts, Happens, Runs}
-use Rattle.gtp_world.specs.Settle.{start_of, script_left, round, rounds, settle, RunsWhereUp, MaySettle, IsSettled, Settles}
+use Rattle.gtp_world.specs.Settle.{start_of, script_left, round, rounds, RunsWhereUp, MaySettle, IsSettled, Settles}
 use Rattle.gtp_world.proofs.Invariant.{flipped}
 use Rattle.gtp_world.proofs.Happenings.{opening_has, happens_keeps, runs_keep}
 use Rattle.gtp_world.proofs.Rounds.{IsReady, RoundDone, round_done}
-use Rattle.gtp_world.specs.Joined.{BareLane, bare, AreJoined, IsJoined}
+use Rattle.gtp_world.specs.Joined.{bare, AreJoined, IsJoined}
 
 -- ---- what comes next
 

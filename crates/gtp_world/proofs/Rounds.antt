@@ -1,12 +1,10 @@
 -- A round of a side: a script command goes out, is read and answered, and its answer is heard. It is confirmed.
-use Rattle.std.proofs.Common.{◌≡◌, ℕ, zero, suc, ◌+◌, ◌<◌, ◌≤◌, Bool, true, List, [], ◌∷◌, ◌++◌, length, take, drop, Option, Some, None, Ok, Err, slice_get, refl, sym, ◌∙◌, ap, subst, arith, length-append, lit≤, inl, inr}
+use Rattle.std.proofs.Common.{◌≡◌, ℕ, zero, suc, ◌+◌, ◌≤◌, true, List, [], ◌∷◌, ◌++◌, length, take, drop, Option, Some, None, Ok, Err, slice_get, refl, sym, ◌∙◌, ap, subst, arith, length-append, lit≤}
 use Rattle.std.specs.List.{AllByRecursion}
-use Rattle.std.proofs.lemmas.Fmt.{length-decimal-le}
 use Rattle.std.proofs.lemmas.List.{append-nil}
 use Rattle.std.proofs.lemmas.List.Elements.{recursion_from_All}
 use Rattle.go_base.specs.Colour.{other}
 use Rattle.go_base.specs.Handicap.{handicap_points}
-use Rattle.go_base.specs.Int.{int_max, written_int}
 use Rattle.go_base.specs.Point.{IsOn}
 use Rattle.go_base.specs.declared.colours.Colour.{Colour}
 use Rattle.go_base.specs.declared.colours.Colour.TheVariants.{Black, White}
@@ -15,7 +13,7 @@ use Rattle.go_board.specs.Game.{GameRecord}
 use Rattle.gtp_wire.specs.declared.commands.Command.{Command}
 use Rattle.gtp_wire.specs.declared.commands.Command.TheVariants.{Boardsize, Komi, ClearBoard, FixedHandicap, Play, Genmove, Quit}
 use Rattle.gtp_wire.specs.declared.replies.Reply.{Reply}
-use Rattle.gtp_wire.specs.Replies.{IsReply, IsFirst, spaced, written_reply}
+use Rattle.gtp_wire.specs.Replies.{IsReply, IsFirst}
 use Rattle.gtp_wire.proofs.ReplyLaws.{one_first, reply_is_first}
 use Rattle.gtp_session.proofs.TextLemmas.{short-vertices, few_handicap_points}
 use Rattle.gtp_session.specs.Laws.{AllowsLawful}
@@ -25,13 +23,12 @@ use Rattle.gtp_match.specs.declared.unanswered.SentCommand.{SentCommand}
 use Rattle.gtp_match.specs.declared.sides.Incarnation.{Incarnation}
 use Rattle.gtp_match.specs.declared.sides.SideState.{SideState}
 use Rattle.gtp_match.specs.declared.sides.Sides.{Sides}
-use Rattle.gtp_match.specs.declared.table.Outcome.{Outcome}
 use Rattle.gtp_match.specs.declared.table.Outcome.TheVariants.{Confirms}
 use Rattle.gtp_match.specs.declared.verdicts.Action.TheVariants.{Send}
 use Rattle.gtp_match.specs.declared.verdicts.SideFault.{SideFault}
 use Rattle.gtp_match.specs.declared.verdicts.Verdict.{Verdict}
 use Rattle.gtp_match.specs.declared.controller.Controller.{Controller}
-use Rattle.gtp_match.specs.Controller.{next_command, script_or_genmove, sent, sent_to, with_side_up}
+use Rattle.gtp_match.specs.Controller.{next_command, script_or_genmove, sent_to, with_side_up}
 use Rattle.gtp_match.specs.Hearing.{MayKeep, HearsUp, HearsWhere, Hears, HearsAllBy, HearsAll}
 use Rattle.gtp_match.specs.Next.{next}
 use Rattle.gtp_match.specs.Unanswered.{oldest}
@@ -39,11 +36,10 @@ use Rattle.gtp_match.specs.ReplyTable.{outcome, after_outcome, fault_of, confirm
 use Rattle.gtp_match.specs.Script.{script}
 use Rattle.gtp_match.proofs.LimitLemmas.{sent_line}
 use Rattle.gtp_match.specs.Sides.{side_of, with_side, with_engine, handed as handed_command, heard_reply, confirmed}
-use Rattle.gtp_world.specs.Lane.{Lane, written_lane, EngineReads, ReadsWhereRunning, LaneReads}
+use Rattle.gtp_world.specs.Lane.{Lane, written_lane, EngineReads, LaneReads}
 use Rattle.gtp_world.specs.World.{lane_with_next, Sends, lane_where_up, HearsFront, HearsWhereUp, SideHears}
 use Rattle.gtp_match.specs.Controller.{next_text}
-use Rattle.gtp_wire.proofs.CommandWords.{command_short}
-use Rattle.gtp_session.proofs.CommandLemmas.{well_answer, may_be_written}
+use Rattle.gtp_session.proofs.CommandLemmas.{well_answer}
 use Rattle.gtp_world.proofs.OrderAnswers.{answered_is_reply, succeeds_with}
 use Rattle.gtp_world.proofs.Replay.{GoesWellOn, script_well, well_at}
 use Rattle.gtp_world.proofs.Agreement.{reply_length}
@@ -51,9 +47,9 @@ use Rattle.gtp_world.proofs.Sides.{quiet_or_first}
 use Rattle.gtp_world.proofs.Heard.{scripted_outcome}
 use Rattle.gtp_world.proofs.Happenings.{send_keeps, fed_keeps}
 use Rattle.gtp_world.proofs.Settle.{idle_lists_empty, no_orders_left, no_replies_left}
-use Rattle.gtp_world.specs.Exchange.{CanBeWritten, sent_bytes, Answered, reply_with_id, reply_bytes, replayed, Owes, all_reply_bytes}
-use Rattle.gtp_session.specs.CommandAnswers.{GoesWell, MayBeSent, success_text}
-use Rattle.gtp_world.specs.Joined.{EngineBody, body, BareLane, bare, IsJoinedInPlay, IsJoinedSide, AreJoined}
+use Rattle.gtp_world.specs.Exchange.{Answered, reply_with_id, reply_bytes, replayed, Owes, all_reply_bytes}
+use Rattle.gtp_session.specs.CommandAnswers.{GoesWell, success_text}
+use Rattle.gtp_world.specs.Joined.{EngineBody, body, BareLane, bare, IsJoinedInPlay, AreJoined}
 
 -- ---- texts of script commands are short
 

@@ -1,5 +1,5 @@
 -- What passes between the controller and one engine: the commands that it was sent, and the replies that it owes.
-use Rattle.std.specs.Prelude.{◌≡◌, ℕ, ◌≤◌, List, [], ◌∷◌, ◌++◌, take, Option, Some, IfSome}
+use Rattle.std.specs.Prelude.{◌≡◌, ℕ, ◌≤◌, List, [], ◌∷◌, ◌++◌, take, Some, IfSome}
 use Rattle.go_base.specs.Int.{int_max}
 use Rattle.go_board.specs.Game.{GameRecord}
 use Rattle.gtp_wire.specs.declared.commands.Command.{Command}

@@ -7,13 +7,13 @@ use gtp_session::random::Random;
 use std::process::Abort;
 
 /// How many lists are drawn.
-const LISTS: u32 = 2_000;
+const LISTS: u32 = 8_000;
 
 /// How many events a list has.
 const EVENTS: u32 = 200;
 
 /// How often each thing has to be seen.
-const OFTEN: u64 = 100;
+const OFTEN: u64 = 400;
 
 /// Makes policies that draw their choices, each start from the same seed.
 #[derive(Clone, Copy, Drop)]
