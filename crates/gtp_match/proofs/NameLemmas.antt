@@ -148,7 +148,7 @@ each_once (p ∷ points) words distinct same all =
     let few : length (f.before ++ f.after) ≡ length points =
     omega (arith, same, ap length f.words_are, length-append f.before (f.word ∷ f.after), length-append f.before f.after) in
     let others = each_once points (f.before ++ f.after)
-        (λ i j d less inside. distinct (suc i) (suc j) d (omega (arith, less)) (omega (arith, inside))) few rest
+    (λ i j d less inside. distinct (suc i) (suc j) d (omega (arith, less)) (omega (arith, inside))) few rest
     in
     subst (NamesEachOnce (p ∷ points)) (sym f.words_are) (one_more p points f.before f.word f.after is others)
 
