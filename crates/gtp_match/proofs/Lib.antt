@@ -20,3 +20,6 @@ pub mod BoundLemmas
 pub mod VerdictLemmas
 pub mod LimitLemmas
 pub mod Interface
+pub mod ReplyReasons
+pub mod ReplyingLemmas
+pub mod CauseLemmas
