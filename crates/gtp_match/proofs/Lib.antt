@@ -23,3 +23,4 @@ pub mod Interface
 pub mod ReplyReasons
 pub mod ReplyingLemmas
 pub mod CauseLemmas
+pub mod CountLemmas
