@@ -1,18 +1,17 @@
 -- Each move was told by a reply, and each verdict has its cause.
-use Rattle.std.proofs.Common.{◌≡◌, ℕ, ◌+◌, List, [], ◌∷◌, ◌++◌, length, Option, Some, None, Ok, Err, Result, Bool, true, false, refl, sym, ◌∙◌, ap, subst, cond, eqb, inl, inr}
+use Rattle.std.proofs.Common.{◌≡◌, ℕ, List, length, Option, Some, None, Bool, true, false, refl, sym, ◌∙◌, ap, subst, cond, eqb, inl, inr}
 use Rattle.std.specs.Prelude.{◌⊎◌, ℤ, IsSome, nat_lt}
 use Rattle.go_base.specs.Decide.{holds}
 use Rattle.go_base.specs.declared.colours.Colour.{Colour}
 use Rattle.go_base.specs.declared.vertices.Vertex.{Vertex}
 use Rattle.go_board.specs.Area.{score}
 use Rattle.go_board.specs.DecideGame.{finished?}
-use Rattle.go_board.specs.Game.{GameRecord, with_move}
-use Rattle.gtp_wire.specs.declared.commands.Command.{Command}
+use Rattle.go_board.specs.Game.{with_move}
 use Rattle.gtp_wire.specs.declared.replies.Reply.{Reply}
 use Rattle.gtp_match.specs.Controller.{started, sent, sent_to, downed, lost, lost_engine, verdict_when_down}
-use Rattle.gtp_match.specs.Hearing.{side_fault, Hears}
-use Rattle.gtp_match.specs.ReplyTable.{outcome, after_outcome, fault_of, verdict_after}
-use Rattle.gtp_match.specs.Replying.{EndsReply, HearsReply, TellsMove, MakesMove, IsForfeit, IsAnsweredOnly, HasCause}
+use Rattle.gtp_match.specs.Hearing.{Hears}
+use Rattle.gtp_match.specs.ReplyTable.{outcome, after_outcome, fault_of}
+use Rattle.gtp_match.specs.Replying.{EndsReply, HearsReply, MakesMove, IsAnsweredOnly, HasCause}
 use Rattle.gtp_match.specs.Sides.{side_of, heard_reply, answered}
 use Rattle.gtp_match.specs.Unanswered.{oldest}
 use Rattle.gtp_match.specs.declared.controller.Controller.{Controller}
@@ -22,7 +21,7 @@ use Rattle.gtp_match.specs.declared.table.Outcome.TheVariants.{Down, Unfit, Forf
 use Rattle.gtp_match.specs.declared.verdicts.SideFault.{SideFault}
 use Rattle.gtp_match.specs.declared.verdicts.Verdict.{Verdict}
 use Rattle.gtp_match.specs.declared.verdicts.Verdict.TheVariants as verdict
-use Rattle.gtp_match.proofs.ReplyReasons.{Reason, IsNoFault, RepliesTo, replies_to}
+use Rattle.gtp_match.proofs.ReplyReasons.{Reason, IsNoFault, replies_to}
 use Rattle.gtp_match.proofs.ReplyingLemmas.{Heard, heard, up_there, up_in}
 
 -- what is no fault was said in reply to the oldest command

@@ -1,10 +1,10 @@
 -- Why a reply has its outcome.
-use Rattle.std.proofs.Common.{◌≡◌, ℕ, List, [], ◌∷◌, Option, Some, None, Bool, true, false, refl, sym, ◌∙◌, ap, subst, cond, Decides, eqb, arith, inl, inr, ◌&&◌}
+use Rattle.std.proofs.Common.{◌≡◌, ℕ, List, [], ◌∷◌, Option, Some, None, Bool, true, false, refl, sym, ◌∙◌, ap, subst, cond, Decides, arith, inl, inr, ◌&&◌}
 use Rattle.std.specs.Prelude.{◌⊎◌, codes, option_map}
 use Rattle.std.specs.Str.{str_to_ascii_lowercase}
 use Rattle.std.proofs.lemmas.Bool.Decides.{nat_tests}
 use Rattle.std.proofs.lemmas.Slice.Eq.{bytes_eq-Decides}
-use Rattle.go_base.specs.Vertex.{SpellsVertex, vertex_of}
+use Rattle.go_base.specs.Vertex.{vertex_of}
 use Rattle.go_base.specs.Word.{IsWord, is_word}
 use Rattle.go_base.specs.declared.colours.Colour.{Colour}
 use Rattle.go_base.specs.declared.vertices.Vertex.{Vertex}
@@ -17,14 +17,14 @@ use Rattle.gtp_wire.specs.declared.replies.Reply.{Reply}
 use Rattle.gtp_match.specs.declared.table.Outcome.{Outcome}
 use Rattle.gtp_match.specs.declared.table.Outcome.TheVariants.{Down, Unfit, Forfeits, Confirms, Resigns, Moves}
 use Rattle.gtp_match.specs.declared.unanswered.SentCommand.{SentCommand}
-use Rattle.gtp_match.specs.declared.verdicts.ForfeitCause.TheVariants.{RefusedPlay, NoMove, NoVertex, IllegalMove}
+use Rattle.gtp_match.specs.declared.verdicts.ForfeitCause.TheVariants.{NoMove, IllegalMove}
 use Rattle.gtp_match.specs.declared.verdicts.SideFault.{SideFault}
 use Rattle.gtp_match.specs.declared.verdicts.SideFault.TheVariants.{WrongId, Unasked}
 use Rattle.go_base.specs.declared.choices.Choice.TheVariants.{Resign, Play}
 use Rattle.gtp_match.specs.ReplyTable.{outcome, outcome_of, script_outcome, play_outcome, choice_outcome, is_handicap, has_id}
 use Rattle.gtp_wire.specs.Words.{reply_words}
 use Rattle.gtp_match.specs.ReplyWords.{choice_of_words}
-use Rattle.gtp_match.specs.Replying.{IsGenmove, ChoosesVertex, TellsMove, ChoosesResign, ChoosesNothing, NamesOtherPoints, IsUnfit, IsForfeit}
+use Rattle.gtp_match.specs.Replying.{IsGenmove, ChoosesVertex, TellsMove, ChoosesResign, NamesOtherPoints, IsUnfit, IsForfeit}
 use Rattle.gtp_match.specs.Sound.{IsPlay}
 
 -- what a reply to the command has said where this is its outcome

@@ -1,32 +1,26 @@
 -- What is heard of a side, and a loss, may change of a match.
-use Rattle.std.proofs.Common.{◌≡◌, ℕ, ◌+◌, ◌<◌, List, [], ◌∷◌, ◌++◌, length, drop, Option, Some, None, Ok, Err, Result, Bool, true, false, refl, sym, ◌∙◌, ap, subst, cond, arith, inl, inr}
-use Rattle.std.specs.Prelude.{◌⊎◌, IsSome, nat_lt}
+use Rattle.std.proofs.Common.{◌≡◌, ℕ, ◌+◌, ◌<◌, List, ◌++◌, length, Option, Some, None, Ok, Err, refl, sym, ◌∙◌, ap, subst, arith}
+use Rattle.std.specs.Prelude.{IsSome}
 use Rattle.go_base.specs.declared.colours.Colour.{Colour}
 use Rattle.go_base.specs.declared.colours.Colour.TheVariants.{Black, White}
-use Rattle.go_base.specs.declared.vertices.Vertex.{Vertex}
-use Rattle.go_board.specs.Game.{GameRecord, with_move}
 use Rattle.gtp_wire.specs.Replies.{IsFirst, TellsNothing}
-use Rattle.gtp_wire.specs.declared.commands.Command.{Command}
 use Rattle.gtp_wire.specs.declared.replies.Reply.{Reply}
 use Rattle.gtp_wire.specs.declared.replies.ReplyFault.{ReplyFault}
 use Rattle.gtp_wire.proofs.ReplyLaws.{one_first}
-use Rattle.gtp_match.specs.Controller.{with_side_up, started, sent, sent_to, downed, lost, lost_engine, verdict_when_down}
+use Rattle.gtp_match.specs.Controller.{with_side_up, downed, lost, lost_engine, verdict_when_down}
 use Rattle.gtp_match.specs.Hearing.{side_fault, MayKeep, HearsUp, HearsWhere, Hears}
-use Rattle.gtp_match.specs.ReplyTable.{outcome, after_outcome, fault_of, has_id}
-use Rattle.gtp_match.specs.Replying.{EndsReply, HearsReply, IsStranger, Succeeds, ConfirmsOne, TellsMove, MakesMove, IsForfeit, IsAnsweredOnly, HasCause}
-use Rattle.gtp_match.specs.Sides.{side_of, with_side, with_engine, with_engine_of, downed_side, heard_reply, answered, confirmed}
+use Rattle.gtp_match.specs.ReplyTable.{outcome, after_outcome, fault_of}
+use Rattle.gtp_match.specs.Replying.{EndsReply, IsStranger, ConfirmsOne}
+use Rattle.gtp_match.specs.Sides.{side_of, with_engine_of, heard_reply, answered, confirmed}
 use Rattle.gtp_match.specs.Unanswered.{oldest}
 use Rattle.gtp_match.specs.declared.controller.Controller.{Controller}
 use Rattle.gtp_match.specs.declared.sides.Incarnation.{Incarnation}
 use Rattle.gtp_match.specs.declared.sides.Sides.{Sides}
 use Rattle.gtp_match.specs.declared.table.Outcome.{Outcome}
 use Rattle.gtp_match.specs.declared.table.Outcome.TheVariants.{Down, Unfit, Forfeits, Confirms, Resigns, Moves}
-use Rattle.gtp_match.specs.declared.unanswered.SentCommand.{SentCommand}
 use Rattle.gtp_match.specs.declared.verdicts.SideFault.{SideFault}
-use Rattle.gtp_match.specs.declared.verdicts.SideFault.TheVariants.{WrongId, Unasked}
 use Rattle.gtp_match.specs.declared.verdicts.Verdict.{Verdict}
-use Rattle.gtp_match.specs.declared.verdicts.Verdict.TheVariants as verdict
-use Rattle.gtp_match.proofs.ReplyReasons.{Reason, IsNoFault, RepliesTo, replies_to}
+use Rattle.gtp_match.proofs.ReplyReasons.{IsNoFault, replies_to}
 
 -- ---- the ways in which bytes are heard
 
