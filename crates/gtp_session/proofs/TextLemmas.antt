@@ -374,7 +374,7 @@ neat-vertices : (size : ℕ) (points : List ℕ) → size ≤ 25 → AllByRecurs
 neat-vertices size [] most all = tt
 neat-vertices size (p ∷ points) most all = (neat-vertex size p most all.0, neat-vertices size points most all.1)
 
-short-vertices : (size : ℕ) (points : List ℕ) → size ≤ 25 → AllByRecursion (IsOn size) points
+pub short-vertices : (size : ℕ) (points : List ℕ) → size ≤ 25 → AllByRecursion (IsOn size) points
     → length (join_with_byte 32 (map (λ p. written_vertex (At p)) points)) ≤ 4 * length points
 short-vertices size [] most all = lit≤ tt
 short-vertices size (p ∷ []) most all = omega (arith, short-vertex size p most all.0)
@@ -407,7 +407,7 @@ either_few : (b : Bool) (s t : List ℕ) → length s ≤ 9 → length t ≤ 9 �
 either_few true s t hs ht = hs
 either_few false s t hs ht = ht
 
-few_handicap_points : (size stones : ℕ) → length (handicap_points size stones) ≤ 9
+pub few_handicap_points : (size stones : ℕ) → length (handicap_points size stones) ≤ 9
 unfolding handicap_points
 few_handicap_points size stones =
     either_few (eqb stones 2) _ _ (lit≤ tt) (either_few (eqb stones 3) _ _ (lit≤ tt) (either_few (eqb stones 4) _ _ (lit≤ tt)

@@ -1,0 +1,466 @@
+-- Catching up: the starts, the rounds of Black, and the rounds of White.
+use Rattle.std.proofs.Common.{◌≡◌, ℕ, zero, suc, ◌+◌, ◌<◌, ◌≤◌, Bool, true, false, List, [], ◌∷◌, ◌++◌, length, drop, Option, Some, None, slice_get, refl, sym, ◌∙◌, ap, subst, arith}
+use Rattle.std.specs.Prelude.{◌&&◌, ◌==◌, not, nat_lt, is_some, IsSome}
+use Rattle.std.proofs.lemmas.Bool.Decides.{nat_tests}
+use Rattle.std.proofs.lemmas.List.{append-nil}
+use Rattle.go_base.specs.declared.colours.Colour.{Colour}
+use Rattle.go_base.specs.declared.colours.Colour.TheVariants.{Black, White}
+use Rattle.go_board.specs.Game.{GameRecord}
+use Rattle.gtp_wire.specs.declared.commands.Command.{Command}
+use Rattle.gtp_session.specs.Laws.{AllowsLawful}
+use Rattle.gtp_session.specs.Engine.{Engine, fresh}
+use Rattle.gtp_match.specs.declared.unanswered.SentCommand.{SentCommand}
+use Rattle.gtp_match.specs.declared.sides.Incarnation.{Incarnation}
+use Rattle.gtp_match.specs.declared.verdicts.Action.{Action}
+use Rattle.gtp_match.specs.declared.verdicts.Action.TheVariants.{Start, Send}
+use Rattle.gtp_match.specs.declared.controller.Controller.{Controller}
+use Rattle.gtp_match.specs.Controller.{to_move, engine_in_step, in_step}
+use Rattle.gtp_match.specs.Next.{has_unanswered, is_down, has_script_left, next}
+use Rattle.gtp_match.specs.Unanswered.{none_unanswered}
+use Rattle.gtp_match.specs.Script.{script}
+use Rattle.gtp_match.specs.Setup.{SetupRecord, IsSetup}
+use Rattle.gtp_match.specs.Sides.{side_of, new_incarnation}
+use Rattle.gtp_match.specs.Sound.{IsIdle, IsSound}
+use Rattle.gtp_match.proofs.NextLemmas.{Tests, tests_of, next_live, at_black_down, at_white_down, at_black_script_left, at_white_script_left}
+use Rattle.gtp_match.proofs.SoundLemmas.{my_engine, idle_plan}
+use Rattle.gtp_world.specs.declared.events.Event.{Event}
+use Rattle.gtp_world.specs.declared.events.Event.TheVariants.{Act, ToEngine, ToController}
+use Rattle.gtp_world.specs.Lane.{Lane, SidePolicies}
+use Rattle.gtp_world.specs.World.{World, opening, Starts, Sends, SideHears, Acts, Happens, Runs}
+use Rattle.gtp_world.specs.Settle.{start_of, script_left, round, rounds, settle, RunsWhereUp, MaySettle, IsSettled, Settles}
+use Rattle.gtp_world.proofs.Invariant.{flipped}
+use Rattle.gtp_world.proofs.Happenings.{opening_has, happens_keeps, runs_keep}
+use Rattle.gtp_world.proofs.Rounds.{IsReady, RoundDone, round_done}
+use Rattle.gtp_world.specs.Joined.{BareLane, bare, AreJoined, IsJoined}
+
+-- ---- what comes next
+
+no_wait : (game : GameRecord) (up : Option Incarnation) → IsIdle up → has_unanswered game up ≡ false
+no_wait game None idle = refl
+no_wait game (Some u) idle = ap (λ (os : List SentCommand). not (none_unanswered os)) idle
+
+starts_black : (c : Controller) → c.verdict ≡ None → IsIdle c.sides.white.up → c.sides.black.up ≡ None
+    → next c ≡ Start Black
+starts_black c none idle down =
+    next_live c none
+    ∙ sym (at_black_down (to_move c.game) (tests_of c.game c.sides.black.up c.sides.white.up)
+    (ap (has_unanswered c.game) down) (no_wait c.game c.sides.white.up idle) (ap is_down down))
+
+starts_white : (c : Controller) (black : Incarnation) → c.verdict ≡ None → c.sides.black.up ≡ Some black
+    → black.unanswered ≡ [] → c.sides.white.up ≡ None → next c ≡ Start White
+starts_white c black none up idle down =
+    next_live c none
+    ∙ sym (at_white_down (to_move c.game) (tests_of c.game c.sides.black.up c.sides.white.up)
+    (ap (has_unanswered c.game) up ∙ no_wait c.game (Some black) idle) (ap (has_unanswered c.game) down) (ap is_down up)
+    (ap is_down down))
+
+lacks_some : (game : GameRecord) (u : Incarnation) → u.unanswered ≡ [] → u.confirmed < length (script game)
+    → has_script_left game (Some u) ≡ true
+lacks_some game u idle less =
+    below (u.confirmed + length u.unanswered) (length (script game)) (omega (arith, less, ap length idle))
+  where
+    below : (m n : ℕ) → m < n → nat_lt m n ≡ true
+    below m n h = grind (arith, nat_tests)
+
+lacks_none : (game : GameRecord) (u : Incarnation) → length (script game) ≤ u.confirmed
+    → has_script_left game (Some u) ≡ false
+lacks_none game u all = above (u.confirmed + length u.unanswered) (length (script game)) (omega (arith, all))
+  where
+    above : (m n : ℕ) → n ≤ m → nat_lt m n ≡ false
+    above m n h = grind (arith, nat_tests)
+
+module _ (c : Controller) (black white : Incarnation) (none : c.verdict ≡ None)
+    (black_up : c.sides.black.up ≡ Some black) (white_up : c.sides.white.up ≡ Some white)
+    (black_idle : black.unanswered ≡ []) (white_idle : white.unanswered ≡ []) where
+  abbrev tests : Tests
+  tests = tests_of c.game c.sides.black.up c.sides.white.up
+
+  black_free : has_unanswered c.game c.sides.black.up ≡ false
+  black_free = ap (has_unanswered c.game) black_up ∙ no_wait c.game (Some black) black_idle
+
+  white_free : has_unanswered c.game c.sides.white.up ≡ false
+  white_free = ap (has_unanswered c.game) white_up ∙ no_wait c.game (Some white) white_idle
+
+  sends_black : black.confirmed < length (script c.game) → next c ≡ Send Black
+  sends_black less =
+      next_live c none
+      ∙ sym (at_black_script_left (to_move c.game) tests black_free white_free (ap is_down black_up)
+      (ap is_down white_up) (ap (has_script_left c.game) black_up ∙ lacks_some c.game black black_idle less))
+
+  sends_white : length (script c.game) ≤ black.confirmed → white.confirmed < length (script c.game)
+      → next c ≡ Send White
+  sends_white all less =
+      next_live c none
+      ∙ sym (at_white_script_left (to_move c.game) tests black_free white_free (ap is_down black_up)
+      (ap is_down white_up) (ap (has_script_left c.game) black_up ∙ lacks_none c.game black all)
+      (ap (has_script_left c.game) white_up ∙ lacks_some c.game white white_idle less))
+
+-- ---- lists
+
+drop_head : {A : Type 0} (xs : List A) (n : ℕ) (x : A) (left : List A) → drop n xs ≡ x ∷ left
+    → (slice_get xs n ≡ Some x) × (drop (suc n) xs ≡ left) × (n < length xs)
+drop_head [] zero x left e = absurd (cc e)
+drop_head [] (suc n) x left e = absurd (cc e)
+drop_head (y ∷ xs) zero x left e = let head : y ≡ x = cc e in (ap (λ (z : _). Some z) head, cc e, omega arith)
+drop_head (y ∷ xs) (suc n) x left e = let rest = drop_head xs n x left e in (rest.0, rest.1, omega (arith, rest.2))
+
+drop_none : {A : Type 0} (xs : List A) (n : ℕ) → drop n xs ≡ [] → length xs ≤ n
+drop_none [] n e = omega arith
+drop_none (x ∷ xs) zero e = absurd (cc e)
+drop_none (x ∷ xs) (suc n) e = omega (arith, drop_none xs n e)
+
+some_of : {A : Type 0} (o : Option A) → IsSome o → (x : A) × (o ≡ Some x)
+some_of None h = absurd (cc h)
+some_of (Some x) h = (x, refl)
+
+-- a side stays as it was
+stays_ready : {P : Type 0} (up up2 : Option Incarnation) (l l2 : Lane P) (n : ℕ) → up2 ≡ up → l2 ≡ l → IsReady up l n
+    → IsReady up2 l2 n
+stays_ready {P} up up2 l l2 n e f h = record {
+  incarnation = h.incarnation;
+  is_up = e ∙ h.is_up;
+  idle = h.idle;
+  confirmed = h.confirmed;
+  running = h.running;
+  runs = ap (λ (x : Lane P). x.engine) f ∙ h.runs;
+}
+
+-- a side that was just started
+new_ready : {P : Type 0} (up : Option Incarnation) (l : Lane P) (e : Engine P) → up ≡ Some new_incarnation
+    → l.engine ≡ Some e → IsReady up l 0
+new_ready up l e is runs =
+    record { incarnation = new_incarnation; is_up = is; idle = refl; confirmed = refl; running = e; runs = runs }
+
+module _ {B W : Type 0} (mb : SidePolicies B) (mw : SidePolicies W) (law_b : AllowsLawful mb.may)
+    (law_w : AllowsLawful mw.may) where
+  -- both sides are up with running engines and nothing unanswered, and have confirmed so many commands
+  record Settling (game : GameRecord) (v : World B W) (black_count white_count : ℕ) : Type 0 where
+    inv : IsJoined v
+    none : v.controller.verdict ≡ None
+    game_is : v.controller.game ≡ game
+    black : IsReady v.controller.sides.black.up v.black black_count
+    white : IsReady v.controller.sides.white.up v.white white_count
+
+  black_within : (game : GameRecord) (v : World B W) (n m : ℕ) → Settling game v n m → n ≤ length (script game)
+  black_within game v n m h =
+      let u = h.black.incarnation in
+      let within : u.confirmed ≤ length (script v.controller.game) =
+      idle_plan v.controller.game Black u
+      ((my_engine v.controller Black u h.inv.sound h.black.is_up).under_way h.none) h.black.idle in
+      omega (arith, within, h.black.confirmed, ap (λ (g : GameRecord). length (script g)) h.game_is)
+
+  white_within : (game : GameRecord) (v : World B W) (n m : ℕ) → Settling game v n m → m ≤ length (script game)
+  white_within game v n m h =
+      let u = h.white.incarnation in
+      let within : u.confirmed ≤ length (script v.controller.game) =
+      idle_plan v.controller.game White u
+      ((my_engine v.controller White u h.inv.sound h.white.is_up).under_way h.none) h.white.idle in
+      omega (arith, within, h.white.confirmed, ap (λ (g : GameRecord). length (script g)) h.game_is)
+
+  -- what some of the events lead to, and the rest of them
+  record Reaches (game : GameRecord) (black_count white_count : ℕ) (later : List Event)
+      (last : World B W) : Type 0 where
+    world : World B W
+    settling : Settling game world black_count white_count
+    rest : Runs mb mw world later last
+
+  keeps : (v : World B W) (e : Event) (v2 : World B W) → Happens mb mw v e v2 → IsJoined v → IsJoined v2
+  keeps v e v2 h j = happens_keeps mb mw law_b law_w v e v2 h j
+
+  -- a round of Black
+  black_round : (game : GameRecord) (k : Command) (v last : World B W) (n m : ℕ) (later : List Event)
+      → Settling game v n m → slice_get (script game) n ≡ Some k → n < length (script game)
+      → Runs mb mw v (round Black ++ later) last → Reaches game (n + 1) m later last
+  black_round game k v last n m later h scripted less (Runs.then_ {mid = v1} a
+      (Runs.then_ {mid = v2} b (Runs.then_ {mid = v3} d rest))) =
+      let c = v.controller in
+      let fewer : h.black.incarnation.confirmed < length (script c.game) =
+      omega (arith, less, h.black.confirmed, ap (λ (g : GameRecord). length (script g)) h.game_is) in
+      let is : next c ≡ Send Black =
+      sends_black c h.black.incarnation h.white.incarnation h.none h.black.is_up h.white.is_up h.black.idle h.white.idle fewer in
+      let acts : Sends Black c v.black v1.controller v1.black × (v1.white ≡ v.white) =
+      subst (λ (x : Action). Acts mb mw v x v1) is a in
+      let hears : SideHears Black v1.controller v2.black 100 v3.controller v3.black =
+      subst (λ (x : Controller). SideHears Black x v2.black 100 v3.controller v3.black) b.1 d.0 in
+      let here : slice_get (script c.game) n ≡ Some k =
+      ap (λ (g : GameRecord). slice_get (script g) n) h.game_is ∙ scripted in
+      let done : RoundDone Black c v3.controller v3.black n =
+      round_done mb.may law_b Black c v.black
+      (bare v.white) n is h.inv h.none h.black k here v1.controller v1.black acts.0 v2.black b.0 v3.controller v3.black hears in
+      record {
+        world = v3;
+        settling = record {
+          inv = keeps v2 (ToController Black 100) v3 d (keeps v1 (ToEngine Black 100) v2 b (keeps v Act v1 a h.inv));
+          none = done.verdict;
+          game_is = done.game ∙ h.game_is;
+          black = done.ready;
+          white =
+              stays_ready c.sides.white.up v3.controller.sides.white.up v.white v3.white m done.others
+              (d.1 ∙ b.2 ∙ acts.1) h.white;
+        };
+        rest = rest;
+      }
+
+  -- a round of White, where Black is in step
+  white_round : (game : GameRecord) (k : Command) (v last : World B W) (n m : ℕ) (later : List Event)
+      → Settling game v n m → length (script game) ≤ n
+      → slice_get (script game) m ≡ Some k → m < length (script game) → Runs mb mw v (round White ++ later) last
+      → Reaches game n (m + 1) later last
+  white_round game k v last n m later h all scripted less
+      (Runs.then_ {mid = v1} a (Runs.then_ {mid = v2} b (Runs.then_ {mid = v3} d rest))) =
+      let c = v.controller in
+      let size = ap (λ (g : GameRecord). length (script g)) h.game_is in
+      let fewer : h.white.incarnation.confirmed < length (script c.game) =
+      omega (arith, less, h.white.confirmed, size) in
+      let enough : length (script c.game) ≤ h.black.incarnation.confirmed =
+      omega (arith, all, h.black.confirmed, size) in
+      let is : next c ≡ Send White =
+      sends_white c h.black.incarnation h.white.incarnation h.none h.black.is_up h.white.is_up h.black.idle h.white.idle enough fewer in
+      let acts : Sends White c v.white v1.controller v1.white × (v1.black ≡ v.black) =
+      subst (λ (x : Action). Acts mb mw v x v1) is a in
+      let hears : SideHears White v1.controller v2.white 100 v3.controller v3.white =
+      subst (λ (x : Controller). SideHears White x v2.white 100 v3.controller v3.white) b.1 d.0 in
+      let here : slice_get (script c.game) m ≡ Some k =
+      ap (λ (g : GameRecord). slice_get (script g) m) h.game_is ∙ scripted in
+      let joint : AreJoined c White (bare v.white) (bare v.black) =
+      flipped c Black (bare v.black) (bare v.white) h.inv in
+      let done : RoundDone White c v3.controller v3.white m =
+      round_done mw.may law_w White c v.white
+      (bare v.black) m is joint h.none h.white k here v1.controller v1.white acts.0 v2.white b.0 v3.controller v3.white hears in
+      record {
+        world = v3;
+        settling = record {
+          inv = keeps v2 (ToController White 100) v3 d (keeps v1 (ToEngine White 100) v2 b (keeps v Act v1 a h.inv));
+          none = done.verdict;
+          game_is = done.game ∙ h.game_is;
+          black =
+              stays_ready c.sides.black.up v3.controller.sides.black.up v.black v3.black n done.others
+              (d.1 ∙ b.2 ∙ acts.1) h.black;
+          white = done.ready;
+        };
+        rest = rest;
+      }
+
+  black_rounds : (game : GameRecord) (left : List Command) (v last : World B W) (n m : ℕ) (later : List Event)
+      → Settling game v n m → drop n (script game) ≡ left
+      → Runs mb mw v (rounds Black left ++ later) last → Reaches game (length (script game)) m later last
+  black_rounds game [] v last n m later h e runs =
+      let count : n ≡ length (script game) = omega (arith, black_within game v n m h, drop_none (script game) n e) in
+      record { world = v; settling = subst (λ (x : ℕ). Settling game v x m) count h; rest = runs }
+  black_rounds game (k ∷ left) v last n m later h e runs =
+      let head = drop_head (script game) n k left e in
+      let one : Reaches game (n + 1) m (rounds Black left ++ later) last =
+      black_round game k v last n m (rounds Black left ++ later) h head.0 head.2 runs in
+      let number : n + 1 ≡ suc n = omega arith in
+      black_rounds game left one.world last (n + 1) m later one.settling
+      (ap (λ (x : ℕ). drop x (script game)) number ∙ head.1) one.rest
+
+  white_rounds : (game : GameRecord) (left : List Command) (v last : World B W) (n m : ℕ) (later : List Event)
+      → Settling game v n m → length (script game) ≤ n
+      → drop m (script game) ≡ left → Runs mb mw v (rounds White left ++ later) last
+      → Reaches game n (length (script game)) later last
+  white_rounds game [] v last n m later h all e runs =
+      let count : m ≡ length (script game) = omega (arith, white_within game v n m h, drop_none (script game) m e) in
+      record { world = v; settling = subst (λ (x : ℕ). Settling game v n x) count h; rest = runs }
+  white_rounds game (k ∷ left) v last n m later h all e runs =
+      let head = drop_head (script game) m k left e in
+      let one : Reaches game n (m + 1) (rounds White left ++ later) last =
+      white_round game k v last n m (rounds White left ++ later) h all head.0 head.2 runs in
+      let number : m + 1 ≡ suc m = omega arith in
+      white_rounds game left one.world last n (m + 1) later one.settling all
+      (ap (λ (x : ℕ). drop x (script game)) number ∙ head.1) one.rest
+
+  -- ---- the starts
+
+  -- Black is up; the rest is as it was
+  record BlackBegun (old : World B W) (later : List Event) (last : World B W) : Type 0 where
+    world : World B W
+    count : ℕ
+    inv : IsJoined world
+    none : world.controller.verdict ≡ None
+    game_is : world.controller.game ≡ old.controller.game
+    black : IsReady world.controller.sides.black.up world.black count
+    left : drop count (script old.controller.game) ≡ script_left old.controller.game old.controller.sides.black.up
+    others : world.controller.sides.white.up ≡ old.controller.sides.white.up
+    white : world.white ≡ old.white
+    rest : Runs mb mw world later last
+
+  -- a side that is up, with its running engine
+  up_ready : {P : Type 0} (up : Option Incarnation) (u : Incarnation) (l : Lane P) → up ≡ Some u → IsIdle (Some u)
+      → RunsWhereUp (Some u) l.engine → IsReady up l u.confirmed
+  up_ready up u l is idle runs =
+      let running = some_of l.engine runs in
+      record { incarnation = u; is_up = is; idle = idle; confirmed = refl; running = running.0; runs = running.1 }
+
+  left_of : (game : GameRecord) (u : Incarnation) → u.unanswered ≡ []
+      → drop u.confirmed (script game) ≡ script_left game (Some u)
+  left_of game u idle =
+      let number : u.confirmed ≡ u.confirmed + length u.unanswered =
+      omega (arith, ap length idle) in ap (λ (n : ℕ). drop n (script game)) number
+
+  black_begins : (old last : World B W) (later : List Event) → IsJoined old → MaySettle old
+      → Runs mb mw old (start_of old.controller.sides.black.up ++ later) last → BlackBegun old later last
+  black_begins old last later j may runs = by_up old.controller.sides.black.up refl (may.idle Black) may.black runs
+    where
+      started_by : (v1 : World B W) → old.controller.sides.black.up ≡ None → Happens mb mw old Act v1
+          → Runs mb mw v1 later last → BlackBegun old later last
+      started_by v1 down a rest =
+          let is : next old.controller ≡ Start Black = starts_black old.controller may.verdict (may.idle White) down in
+          let begun : Starts mb Black old.controller v1.controller v1.black × (v1.white ≡ old.white) =
+          subst (λ (x : Action). Acts mb mw old x v1) is a in
+          record {
+            world = v1;
+            count = 0;
+            inv = keeps old Act v1 a j;
+            none = ap (λ (d : Controller). d.verdict) begun.0.controller_is ∙ may.verdict;
+            game_is = ap (λ (d : Controller). d.game) begun.0.controller_is;
+            black =
+                new_ready v1.controller.sides.black.up v1.black (fresh begun.0.fresh_lane.policy)
+                (ap (λ (d : Controller). d.sides.black.up) begun.0.controller_is)
+                (ap (λ (l : Lane B). l.engine) begun.0.fresh_lane.lane);
+            left = sym (ap (script_left old.controller.game) down);
+            others = ap (λ (d : Controller). d.sides.white.up) begun.0.controller_is;
+            white = begun.1;
+            rest = rest;
+          }
+
+      by_up : (up : Option Incarnation) → old.controller.sides.black.up ≡ up → IsIdle up
+          → RunsWhereUp up old.black.engine → Runs mb mw old (start_of up ++ later) last → BlackBegun old later last
+      by_up None down idle running (Runs.then_ {mid = v1} a rest) = started_by v1 down a rest
+      by_up (Some u) is idle running rest = record {
+        world = old;
+        count = u.confirmed;
+        inv = j;
+        none = may.verdict;
+        game_is = refl;
+        black = up_ready old.controller.sides.black.up u old.black is idle running;
+        left = left_of old.controller.game u idle ∙ sym (ap (script_left old.controller.game) is);
+        others = refl;
+        white = refl;
+        rest = rest;
+      }
+
+  -- both sides are up
+  record BothBegun (game : GameRecord) (black_left white_left : List Command) (later : List Event)
+      (last : World B W) : Type 0 where
+    world : World B W
+    black_count : ℕ
+    white_count : ℕ
+    settling : Settling game world black_count white_count
+    black_is : drop black_count (script game) ≡ black_left
+    white_is : drop white_count (script game) ≡ white_left
+    rest : Runs mb mw world later last
+
+  abbrev Begun : World B W → List Event → World B W → Type 0
+  Begun old later last =
+      BothBegun old.controller.game (script_left old.controller.game old.controller.sides.black.up)
+      (script_left old.controller.game old.controller.sides.white.up) later last
+
+  white_begins : (old last : World B W) (later : List Event) → MaySettle old
+      → BlackBegun old (start_of old.controller.sides.white.up ++ later) last → Begun old later last
+  white_begins old last later may h = by_up old.controller.sides.white.up refl (may.idle White) may.white h.rest
+    where
+      started_by : (v1 : World B W) → old.controller.sides.white.up ≡ None → Happens mb mw h.world Act v1
+          → Runs mb mw v1 later last → Begun old later last
+      started_by v1 down a rest =
+          let c = h.world.controller in
+          let is : next c ≡ Start White =
+          starts_white c h.black.incarnation h.none h.black.is_up h.black.idle (h.others ∙ down) in
+          let begun : Starts mw White c v1.controller v1.white × (v1.black ≡ h.world.black) =
+          subst (λ (x : Action). Acts mb mw h.world x v1) is a in
+          record {
+            world = v1;
+            black_count = h.count;
+            white_count = 0;
+            settling = record {
+              inv = keeps h.world Act v1 a h.inv;
+              none = ap (λ (d : Controller). d.verdict) begun.0.controller_is ∙ h.none;
+              game_is = ap (λ (d : Controller). d.game) begun.0.controller_is ∙ h.game_is;
+              black =
+                  stays_ready c.sides.black.up v1.controller.sides.black.up h.world.black v1.black h.count
+                  (ap (λ (d : Controller). d.sides.black.up) begun.0.controller_is) begun.1 h.black;
+              white =
+                  new_ready v1.controller.sides.white.up v1.white (fresh begun.0.fresh_lane.policy)
+                  (ap (λ (d : Controller). d.sides.white.up) begun.0.controller_is)
+                  (ap (λ (l : Lane W). l.engine) begun.0.fresh_lane.lane);
+            };
+            black_is = h.left;
+            white_is = sym (ap (script_left old.controller.game) down);
+            rest = rest;
+          }
+
+      by_up : (up : Option Incarnation) → old.controller.sides.white.up ≡ up → IsIdle up
+          → RunsWhereUp up old.white.engine → Runs mb mw h.world (start_of up ++ later) last → Begun old later last
+      by_up None down idle running (Runs.then_ {mid = v1} a rest) = started_by v1 down a rest
+      by_up (Some u) is idle running rest = record {
+        world = h.world;
+        black_count = h.count;
+        white_count = u.confirmed;
+        settling = record {
+          inv = h.inv;
+          none = h.none;
+          game_is = h.game_is;
+          black = h.black;
+          white =
+              stays_ready old.controller.sides.white.up h.world.controller.sides.white.up old.white h.world.white u.confirmed h.others h.white (up_ready old.controller.sides.white.up u old.white is idle running);
+        };
+        black_is = h.left;
+        white_is = left_of old.controller.game u idle ∙ sym (ap (script_left old.controller.game) is);
+        rest = rest;
+      }
+
+  -- ---- the end
+
+  runs_none : (v last : World B W) → Runs mb mw v [] last → last ≡ v
+  runs_none v last Runs.done = refl
+
+  ready_in_step : {P : Type 0} (game : GameRecord) (up : Option Incarnation) (l : Lane P)
+      → IsReady up l (length (script game)) → engine_in_step game up ≡ true
+  ready_in_step game up l h =
+      ap (engine_in_step game) h.is_up
+      ∙ ap (λ (os : List SentCommand). none_unanswered os && h.incarnation.confirmed == length (script game)) h.idle
+      ∙ same h.incarnation.confirmed (length (script game)) h.confirmed
+    where
+      same : (m n : ℕ) → m ≡ n → (m == n) ≡ true
+      same m n e = grind (arith, nat_tests)
+
+  settled : (old last : World B W) → Settling old.controller.game last (length (script old.controller.game))
+      (length (script old.controller.game)) → IsSettled old last
+  settled old last h = record {
+    black_runs = ap is_some h.black.runs;
+    white_runs = ap is_some h.white.runs;
+    in_step = λ s. elim s as (λ t. in_step last.controller t ≡ true) [ Black ↦ black_in_step | White ↦ white_in_step ];
+    record_stays = h.game_is;
+  }
+    where
+      black_in_step : in_step last.controller Black ≡ true
+      black_in_step =
+          ap (λ (g : GameRecord). engine_in_step g last.controller.sides.black.up) h.game_is
+          ∙ ready_in_step old.controller.game last.controller.sides.black.up last.black h.black
+
+      white_in_step : in_step last.controller White ≡ true
+      white_in_step =
+          ap (λ (g : GameRecord). engine_in_step g last.controller.sides.white.up) h.game_is
+          ∙ ready_in_step old.controller.game last.controller.sides.white.up last.white h.white
+
+  pub settles : Settles mb mw
+  settles setup events old last is reached may runs =
+      let game = old.controller.game in
+      let black_left = script_left game old.controller.sides.black.up in
+      let white_left = script_left game old.controller.sides.white.up in
+      let j : IsJoined old = runs_keep mb mw law_b law_w (opening setup) events old reached (opening_has setup is) in
+      let one =
+      black_begins old last (start_of old.controller.sides.white.up ++
+      (rounds Black black_left ++ rounds White white_left)) j may runs in
+      let two = white_begins old last (rounds Black black_left ++ rounds White white_left) may one in
+      let three : Reaches game (length (script game)) two.white_count (rounds White white_left) last =
+      black_rounds game black_left two.world last two.black_count two.white_count
+      (rounds White white_left) two.settling two.black_is two.rest in
+      let white_runs : Runs mb mw three.world (rounds White white_left ++ []) last =
+      subst (λ (es : List Event). Runs mb mw three.world es last)
+      (sym (append-nil (rounds White white_left))) three.rest in
+      let four : Reaches game (length (script game)) (length (script game)) [] last =
+      white_rounds game white_left three.world last (length (script game)) two.white_count [] three.settling
+      (omega arith) two.white_is white_runs in
+      settled old last (subst (λ (v : World B W). Settling game v (length (script game)) (length (script game)))
+      (sym (runs_none four.world last four.rest)) four.settling)

@@ -1,0 +1,5 @@
+use Rattle.gtp_world.proofs.Happenings.{opening_has}
+use Rattle.gtp_world.proofs.laws.openings_are_joined.Goals as goal
+
+pub returns : goal.returns
+returns g c setup is = opening_has setup is

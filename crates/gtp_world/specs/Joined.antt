@@ -1,0 +1,137 @@
+-- What joins the controller, the engines and the bytes between them. It holds in the opening, each event keeps it, and
+-- it says that a running engine whose side is in step is at the controller's game.
+use Rattle.std.specs.Prelude.{◌≡◌, ℕ, ◌+◌, ◌≤◌, Bool, false, List, [], ◌++◌, length, Option, None, Some}
+use Rattle.std.specs.List.{AllByRecursion}
+use Rattle.go_base.specs.Colour.{other}
+use Rattle.go_base.specs.declared.colours.Colour.{Colour}
+use Rattle.go_base.specs.declared.colours.Colour.TheVariants.{Black}
+use Rattle.go_board.specs.Game.{GameRecord}
+use Rattle.gtp_wire.specs.declared.replies.Reply.{Reply}
+use Rattle.gtp_wire.specs.Lines.{lines, SameFuture}
+use Rattle.gtp_wire.specs.Replies.{TellsNothing}
+use Rattle.gtp_session.specs.Engine.{Engine}
+use Rattle.gtp_match.specs.declared.unanswered.SentCommand.{SentCommand}
+use Rattle.gtp_match.specs.declared.sides.Incarnation.{Incarnation}
+use Rattle.gtp_match.specs.declared.sides.Sides.{Sides}
+use Rattle.gtp_match.specs.declared.verdicts.Verdict.{Verdict}
+use Rattle.gtp_match.specs.declared.verdicts.Verdict.TheVariants.{Score, Resign, Limit, Forfeit, Unfit, Abandoned}
+use Rattle.gtp_match.specs.declared.controller.Controller.{Controller}
+use Rattle.gtp_match.specs.Hearing.{MayKeep}
+use Rattle.gtp_match.specs.Sides.{side_of}
+use Rattle.gtp_match.specs.Sound.{IsSound}
+use Rattle.gtp_match.specs.Unanswered.{most_unanswered}
+use Rattle.gtp_world.specs.Lane.{Lane}
+use Rattle.gtp_world.specs.World.{World}
+use Rattle.gtp_world.specs.Exchange.{CanBeWritten, all_sent_bytes, all_reply_bytes, Owes, AllMayBeSent, replayed}
+
+-- ---- engines and lanes, without the policy
+
+pub record EngineBody : Type 0 where
+  pub rest : List ℕ
+  pub game : GameRecord
+  pub ended : Bool
+
+abbrev pub body : {P : Type 0} → Engine P → EngineBody
+body engine = record { rest = engine.rest; game = engine.game; ended = engine.ended }
+
+pub record BareLane : Type 0 where
+  pub engine : Option EngineBody
+  pub to_engine : List ℕ
+  pub to_controller : List ℕ
+
+abbrev pub body_of : {P : Type 0} → Option (Engine P) → Option EngineBody
+body_of None = None
+body_of (Some engine) = Some (body engine)
+
+abbrev pub bare : {P : Type 0} → Lane P → BareLane
+bare lane = record { engine = body_of lane.engine; to_engine = lane.to_engine; to_controller = lane.to_controller }
+
+-- no engine, and empty lists
+abbrev pub bare_empty : BareLane
+bare_empty = record { engine = None; to_engine = []; to_controller = [] }
+
+-- ---- bytes on their way to an engine
+
+-- A running engine is at this game, and its rest with the bytes on their way to it are these commands: the rest reads,
+-- with every text after it, as the part of a command that was read, and the bytes on their way are all that follows.
+pub record WillRead (engine : EngineBody) (coming : List ℕ) (ahead : GameRecord) (waiting : List SentCommand) : Type 0 where
+  pub going : engine.ended ≡ false
+  pub game : engine.game ≡ ahead
+  -- the bytes read since the last whole line
+  pub begun : List ℕ
+  pub begun_open : lines begun ≡ []
+  pub rest_reads : SameFuture engine.rest begun
+  pub arriving : begun ++ coming ≡ all_sent_bytes waiting
+
+-- where no engine runs, nothing is on its way
+abbrev pub WillReadWhereRunning : Option EngineBody → List ℕ → GameRecord → List SentCommand → Type 0
+WillReadWhereRunning None coming ahead waiting = coming ≡ []
+WillReadWhereRunning (Some engine) coming ahead waiting = WillRead engine coming ahead waiting
+
+-- ---- one side
+
+-- bytes of replies are lost only with the engine
+abbrev pub CutByCrash : Option EngineBody → List ℕ → Type 0
+CutByCrash None cut = Unit {0}
+CutByCrash (Some engine) cut = cut ≡ []
+
+-- A side that is up, before any verdict. At the game to which the confirmed commands brought it, the engine was sent
+-- the unanswered ones: some of them it has answered, the others wait. The bytes that the controller heard since the
+-- last whole reply, with the bytes on their way to it and those that were lost with the engine, are those replies.
+pub record IsJoinedInPlay (game : GameRecord) (side : Incarnation) (lane : BareLane) : Type 0 where
+  pub few : length side.unanswered ≤ most_unanswered
+  pub replies : List Reply
+  pub waiting : List SentCommand
+  pub ahead : GameRecord
+  pub owes : Owes (replayed game side.confirmed) side.unanswered replies waiting ahead
+  pub fit : AllByRecursion CanBeWritten waiting
+  pub may : AllMayBeSent ahead waiting
+  -- heard since the last whole reply, and lost with the engine
+  pub begun : List ℕ
+  pub cut : List ℕ
+  pub begun_quiet : TellsNothing begun
+  pub kept : MayKeep side.rest begun
+  pub arriving : (begun ++ lane.to_controller) ++ cut ≡ all_reply_bytes replies
+  pub runs : WillReadWhereRunning lane.engine lane.to_engine ahead waiting
+  pub uncut : CutByCrash lane.engine cut
+
+-- The same after a verdict, when what is heard is dropped: of the bytes on their way to the controller it says only
+-- that they are no more than those of the replies.
+pub record IsJoinedAtEnd (game : GameRecord) (side : Incarnation) (lane : BareLane) : Type 0 where
+  pub few : length side.unanswered ≤ most_unanswered
+  pub replies : List Reply
+  pub waiting : List SentCommand
+  pub ahead : GameRecord
+  pub owes : Owes (replayed game side.confirmed) side.unanswered replies waiting ahead
+  pub fit : AllByRecursion CanBeWritten waiting
+  pub may : AllMayBeSent ahead waiting
+  pub runs : WillReadWhereRunning lane.engine lane.to_engine ahead waiting
+  pub room : length lane.to_controller ≤ length (all_reply_bytes replies)
+
+-- a side and its lane; one that is down has an empty lane
+abbrev pub IsJoinedSide : GameRecord → Option Verdict → Option Incarnation → BareLane → Type 0
+IsJoinedSide game verdict None lane = lane ≡ bare_empty
+IsJoinedSide game None (Some side) lane = IsJoinedInPlay game side lane
+IsJoinedSide game (Some verdict) (Some side) lane = IsJoinedAtEnd game side lane
+
+-- ---- the world
+
+-- no verdict blames an engine, and a side is given up only after all its starts
+abbrev pub IsFair : ℕ → Sides → Option Verdict → Type 0
+IsFair most sides None = Unit {0}
+IsFair most sides (Some (Forfeit side cause)) = ⊥
+IsFair most sides (Some (Unfit side)) = ⊥
+IsFair most sides (Some (Abandoned side)) = (side_of sides side).starts ≡ most + 1
+IsFair most sides (Some (Score half_points)) = Unit {0}
+IsFair most sides (Some (Resign side)) = Unit {0}
+IsFair most sides (Some Limit) = Unit {0}
+
+-- a sound controller with a fair verdict, and both sides with their lanes: the lane of this side, and that of the other
+pub record AreJoined (c : Controller) (side : Colour) (lane others : BareLane) : Type 0 where
+  pub sound : IsSound c
+  pub fair : IsFair c.setup.max_restarts c.sides c.verdict
+  pub mine : IsJoinedSide c.game c.verdict (side_of c.sides side).up lane
+  pub theirs : IsJoinedSide c.game c.verdict (side_of c.sides (other side)).up others
+
+abbrev pub IsJoined : {B W : Type 0} → World B W → Type 0
+IsJoined world = AreJoined world.controller Black (bare world.black) (bare world.white)
