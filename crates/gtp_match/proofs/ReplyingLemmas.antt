@@ -244,7 +244,7 @@ strangers_put_down c new s engine reply bytes used fault hears none up ends stra
         let one = one_first (engine.rest ++ bytes) place place (Ok value) (Ok reply) (subst E same ends2) ends in
         let value_is : value ≡ reply = let oks : Ok value ≡ Ok reply = one.1 in cc in
         let o_is : outcome c.game s (oldest other.unanswered) value
-            ≡ outcome c.game s (oldest engine.unanswered) reply =
+        ≡ outcome c.game s (oldest engine.unanswered) reply =
         ap (λ (x : Incarnation). outcome c.game s (oldest x.unanswered) value) same
         ∙ ap (outcome c.game s (oldest engine.unanswered)) value_is
         in
