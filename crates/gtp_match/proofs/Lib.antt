@@ -20,3 +20,7 @@ pub mod BoundLemmas
 pub mod VerdictLemmas
 pub mod LimitLemmas
 pub mod Interface
+pub mod ReplyReasons
+pub mod ReplyingLemmas
+pub mod CauseLemmas
+pub mod CountLemmas

@@ -1,5 +1,5 @@
 -- Words that are as many as some distinct points, each of which is among them, name each point once.
-use Rattle.std.proofs.Common.{◌≡◌, ◌≢◌, ℕ, zero, suc, ◌+◌, ◌<◌, List, [], ◌∷◌, ◌++◌, length, map, Option, Some, None, Bool, true, false, refl, sym, ◌∙◌, ap, subst, arith, eqb, cond, ◌||◌, ◌&&◌, inl, inr, length-append}
+use Rattle.std.proofs.Common.{◌≡◌, ◌≢◌, ℕ, suc, ◌<◌, List, [], ◌∷◌, ◌++◌, length, map, Option, Some, None, Bool, true, false, refl, sym, ◌∙◌, ap, subst, arith, eqb, ◌||◌, ◌&&◌, length-append}
 use Rattle.std.specs.Prelude.{slice_index_or}
 use Rattle.std.specs.List.{list_all, list_any, AllPairs}
 use Rattle.std.specs.List.Sorted.{IsPermutation}
@@ -148,7 +148,7 @@ each_once (p ∷ points) words distinct same all =
     let few : length (f.before ++ f.after) ≡ length points =
     omega (arith, same, ap length f.words_are, length-append f.before (f.word ∷ f.after), length-append f.before f.after) in
     let others = each_once points (f.before ++ f.after)
-        (λ i j d less inside. distinct (suc i) (suc j) d (omega (arith, less)) (omega (arith, inside))) few rest
+    (λ i j d less inside. distinct (suc i) (suc j) d (omega (arith, less)) (omega (arith, inside))) few rest
     in
     subst (NamesEachOnce (p ∷ points)) (sym f.words_are) (one_more p points f.before f.word f.after is others)
 

@@ -63,7 +63,7 @@ handicap_of stones = by_test (nat_le 2 stones)
 of_script : (game : GameRecord) (n : ℕ) (k : Command) → slice_get (script game) n ≡ Some k → OfScript k
 of_script game n k e =
     let later = AllByRecursion-append OfScript (handicap_commands game.handicap) (map command.Play game.moves)
-        (handicap_of game.handicap) (plays_of game.moves)
+    (handicap_of game.handicap) (plays_of game.moves)
     in
     at_number OfScript (script game) n k (inl tt, (inl tt, (inl tt, later))) e
 

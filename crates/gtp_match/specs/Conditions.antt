@@ -1,5 +1,5 @@
 -- What must hold before a step. No public clause speaks of it.
-use Rattle.std.specs.Prelude.{◌<◌, length, Option, Some, IfSome, IsSome}
+use Rattle.std.specs.Prelude.{◌<◌, length, IfSome, IsSome}
 use Rattle.go_base.specs.Handicap.{AllowsHandicap}
 use Rattle.go_base.specs.Int.{int_max}
 use Rattle.go_base.specs.declared.colours.Colour.{Colour}

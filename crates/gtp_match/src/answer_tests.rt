@@ -41,8 +41,18 @@ fn a_resignation_in_any_case_ends_the_match(rt: HostRuntime) {
 fn an_answer_that_is_no_vertex_forfeits(rt: HostRuntime) {
     let text = b"game 1: W+F(no vertex) moves 0 restarts 0 0";
     forfeits(&rt, b"=4 I5\n\n", ForfeitCause::NoVertex, text.as_slice());
-    forfeits(&rt, b"=4 A1 B2\n\n", ForfeitCause::NoVertex, text.as_slice());
-    forfeits(&rt, b"=4 A1\nB2\n\n", ForfeitCause::NoVertex, text.as_slice());
+    forfeits(
+        &rt,
+        b"=4 A1 B2\n\n",
+        ForfeitCause::NoVertex,
+        text.as_slice(),
+    );
+    forfeits(
+        &rt,
+        b"=4 A1\nB2\n\n",
+        ForfeitCause::NoVertex,
+        text.as_slice(),
+    );
     forfeits(&rt, b"=4\n\n", ForfeitCause::NoVertex, text.as_slice());
     forfeits(&rt, b"=4 A01\n\n", ForfeitCause::NoVertex, text.as_slice());
 }
@@ -50,7 +60,12 @@ fn an_answer_that_is_no_vertex_forfeits(rt: HostRuntime) {
 #[test]
 fn an_illegal_move_forfeits(rt: HostRuntime) {
     let text = b"game 1: W+F(illegal move) moves 0 restarts 0 0";
-    forfeits(&rt, b"=4 C1\n\n", ForfeitCause::IllegalMove, text.as_slice());
+    forfeits(
+        &rt,
+        b"=4 C1\n\n",
+        ForfeitCause::IllegalMove,
+        text.as_slice(),
+    );
 }
 
 #[test]

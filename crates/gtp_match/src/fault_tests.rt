@@ -6,7 +6,14 @@ use std::test::Fail;
 #[test]
 fn a_wrong_id_puts_the_side_down(rt: HostRuntime) {
     let mut played = first_sent(&rt, 1);
-    hear(&rt, &mut played, Side::Black, b"=2 D4\n\n", 7, Some(SideFault::WrongId));
+    hear(
+        &rt,
+        &mut played,
+        Side::Black,
+        b"=2 D4\n\n",
+        7,
+        Some(SideFault::WrongId),
+    );
     assert_eq!(rt; played.status(Side::Black), Status::Down);
     assert_eq!(rt; played.next(), Action::Start(Side::Black));
 }
@@ -14,14 +21,28 @@ fn a_wrong_id_puts_the_side_down(rt: HostRuntime) {
 #[test]
 fn a_missing_id_puts_the_side_down(rt: HostRuntime) {
     let mut played = first_sent(&rt, 1);
-    hear(&rt, &mut played, Side::Black, b"= 1\n\n", 5, Some(SideFault::WrongId));
+    hear(
+        &rt,
+        &mut played,
+        Side::Black,
+        b"= 1\n\n",
+        5,
+        Some(SideFault::WrongId),
+    );
     assert_eq!(rt; played.status(Side::Black), Status::Down);
 }
 
 #[test]
 fn a_byte_that_begins_no_reply_puts_the_side_down(rt: HostRuntime) {
     let mut played = first_sent(&rt, 1);
-    hear(&rt, &mut played, Side::Black, b"hello", 1, Some(SideFault::NoStatus));
+    hear(
+        &rt,
+        &mut played,
+        Side::Black,
+        b"hello",
+        1,
+        Some(SideFault::NoStatus),
+    );
     assert_eq!(rt; played.status(Side::Black), Status::Down);
     assert_eq!(rt; played.next(), Action::Start(Side::Black));
 }
@@ -29,14 +50,28 @@ fn a_byte_that_begins_no_reply_puts_the_side_down(rt: HostRuntime) {
 #[test]
 fn a_reply_that_does_not_end_puts_the_side_down(rt: HostRuntime) {
     let mut played = first_sent(&rt, 1);
-    hear(&rt, &mut played, Side::Black, &[b'\n'; 8193], 8193, Some(SideFault::Overlong));
+    hear(
+        &rt,
+        &mut played,
+        Side::Black,
+        &[b'\n'; 8193],
+        8193,
+        Some(SideFault::Overlong),
+    );
     assert_eq!(rt; played.next(), Action::Start(Side::Black));
 }
 
 #[test]
 fn a_reply_that_nothing_asked_for_puts_the_side_down(rt: HostRuntime) {
     let mut played = first_sent(&rt, 1);
-    hear(&rt, &mut played, Side::White, b"=1\n\n", 4, Some(SideFault::Unasked));
+    hear(
+        &rt,
+        &mut played,
+        Side::White,
+        b"=1\n\n",
+        4,
+        Some(SideFault::Unasked),
+    );
     assert_eq!(rt; played.status(Side::White), Status::Down);
     assert_eq!(rt; played.next(), Action::Wait(Side::Black));
 }
@@ -64,20 +99,73 @@ fn without_restarts_each_fault_gives_the_side_up(rt: HostRuntime) {
     let white = b"game 1: abandoned white moves 0 restarts 0 0";
     let mut played = first_sent(&rt, 0);
     assert!(rt; result_line(1, &played).is_none());
-    hear(&rt, &mut played, Side::Black, b"=2 D4\n\n", 7, Some(SideFault::WrongId));
-    ended(&rt, &played, Verdict::Abandoned(Side::Black), black.as_slice());
+    hear(
+        &rt,
+        &mut played,
+        Side::Black,
+        b"=2 D4\n\n",
+        7,
+        Some(SideFault::WrongId),
+    );
+    ended(
+        &rt,
+        &played,
+        Verdict::Abandoned(Side::Black),
+        black.as_slice(),
+    );
     let mut played = first_sent(&rt, 0);
-    hear(&rt, &mut played, Side::Black, b"hello", 1, Some(SideFault::NoStatus));
-    ended(&rt, &played, Verdict::Abandoned(Side::Black), black.as_slice());
+    hear(
+        &rt,
+        &mut played,
+        Side::Black,
+        b"hello",
+        1,
+        Some(SideFault::NoStatus),
+    );
+    ended(
+        &rt,
+        &played,
+        Verdict::Abandoned(Side::Black),
+        black.as_slice(),
+    );
     let mut played = first_sent(&rt, 0);
-    hear(&rt, &mut played, Side::Black, &[b'\n'; 8193], 8193, Some(SideFault::Overlong));
-    ended(&rt, &played, Verdict::Abandoned(Side::Black), black.as_slice());
+    hear(
+        &rt,
+        &mut played,
+        Side::Black,
+        &[b'\n'; 8193],
+        8193,
+        Some(SideFault::Overlong),
+    );
+    ended(
+        &rt,
+        &played,
+        Verdict::Abandoned(Side::Black),
+        black.as_slice(),
+    );
     let mut played = first_sent(&rt, 0);
-    hear(&rt, &mut played, Side::White, b"=1\n\n", 4, Some(SideFault::Unasked));
-    ended(&rt, &played, Verdict::Abandoned(Side::White), white.as_slice());
+    hear(
+        &rt,
+        &mut played,
+        Side::White,
+        b"=1\n\n",
+        4,
+        Some(SideFault::Unasked),
+    );
+    ended(
+        &rt,
+        &played,
+        Verdict::Abandoned(Side::White),
+        white.as_slice(),
+    );
     let mut played = first_sent(&rt, 0);
     played.lost(Side::White);
-    ended(&rt, &played, Verdict::Abandoned(Side::White), white.as_slice());
+    ended(
+        &rt,
+        &played,
+        Verdict::Abandoned(Side::White),
+        white.as_slice(),
+    );
 }
 
 #[test]

@@ -1,5 +1,6 @@
-use crate::test_steps::{answer, black_asked, both_started, bring, ended, first_sent, hear};
-use crate::test_steps::{line, send, setup_with, up};
+use crate::test_steps::{
+    answer, black_asked, both_started, bring, ended, first_sent, hear, line, send, setup_with, up,
+};
 use crate::{Action, Match, Status, Verdict, record_line, result_line};
 use go_base::Side;
 use std::process::Abort;
@@ -63,7 +64,9 @@ fn score_comes_before_the_limit(rt: HostRuntime) {
     answer(&rt, &mut played, Side::White, b"=5 PaSs\n\n");
     assert_eq!(rt; played.next(), Action::Done(Verdict::Score(1_999_999_999)));
     assert_eq!(rt;
-        result_line(4_294_967_295, &played).expect(&rt, "an end").as_slice(),
+        result_line(4_294_967_295, &played)
+            .expect(&rt, "an end")
+            .as_slice(),
         b"game 4294967295: B+999999999.5 moves 2 restarts 0 0".as_slice()
     );
     assert!(rt; played.in_step(Side::White));
@@ -144,12 +147,22 @@ fn a_verdict_once_given_stays(rt: HostRuntime) {
     let mut played = first_sent(&rt, 0);
     played.lost(Side::Black);
     let text = b"game 1: abandoned black moves 0 restarts 0 0";
-    ended(&rt, &played, Verdict::Abandoned(Side::Black), text.as_slice());
+    ended(
+        &rt,
+        &played,
+        Verdict::Abandoned(Side::Black),
+        text.as_slice(),
+    );
     hear(&rt, &mut played, Side::White, b"hello", 5, None);
     assert_eq!(rt; played.status(Side::White), up(0, 0));
     played.lost(Side::White);
     assert_eq!(rt; played.status(Side::White), Status::Down);
-    ended(&rt, &played, Verdict::Abandoned(Side::Black), text.as_slice());
+    ended(
+        &rt,
+        &played,
+        Verdict::Abandoned(Side::Black),
+        text.as_slice(),
+    );
 }
 
 /// Sends a command as `send` does, and counts it.
@@ -182,7 +195,12 @@ fn a_match_in_which_each_genmove_of_black_is_lost_stays_below_its_bound(rt: Host
     let sent = counted(&rt, &mut played, Side::Black, b"4 genmove b\n", sent);
     played.lost(Side::Black);
     let text = b"game 1: abandoned black moves 0 restarts 1 0";
-    ended(&rt, &played, Verdict::Abandoned(Side::Black), text.as_slice());
+    ended(
+        &rt,
+        &played,
+        Verdict::Abandoned(Side::Black),
+        text.as_slice(),
+    );
     // Black's script and `genmove` twice, and White's script.
     assert_eq!(rt; sent, 2 * (3 + 1) + 3);
     // Of two sides, each started twice at most, and each engine sent at most 14.

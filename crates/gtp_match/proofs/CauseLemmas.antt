@@ -1,0 +1,194 @@
+-- Each move was told by a reply, and each verdict has its cause.
+use Rattle.std.proofs.Common.{◌≡◌, ℕ, List, length, Option, Some, None, Bool, true, false, refl, sym, ◌∙◌, ap, subst, cond, eqb, inl, inr}
+use Rattle.std.specs.Prelude.{◌⊎◌, ℤ, IsSome, nat_lt}
+use Rattle.go_base.specs.Decide.{holds}
+use Rattle.go_base.specs.declared.colours.Colour.{Colour}
+use Rattle.go_base.specs.declared.vertices.Vertex.{Vertex}
+use Rattle.go_board.specs.Area.{score}
+use Rattle.go_board.specs.DecideGame.{finished?}
+use Rattle.go_board.specs.Game.{with_move}
+use Rattle.gtp_wire.specs.declared.replies.Reply.{Reply}
+use Rattle.gtp_match.specs.Controller.{started, sent, sent_to, downed, lost, lost_engine, verdict_when_down}
+use Rattle.gtp_match.specs.Hearing.{Hears}
+use Rattle.gtp_match.specs.ReplyTable.{outcome, after_outcome, fault_of}
+use Rattle.gtp_match.specs.Replying.{EndsReply, HearsReply, MakesMove, IsAnsweredOnly, HasCause}
+use Rattle.gtp_match.specs.Sides.{side_of, heard_reply, answered}
+use Rattle.gtp_match.specs.Unanswered.{oldest}
+use Rattle.gtp_match.specs.declared.controller.Controller.{Controller}
+use Rattle.gtp_match.specs.declared.sides.Incarnation.{Incarnation}
+use Rattle.gtp_match.specs.declared.table.Outcome.{Outcome}
+use Rattle.gtp_match.specs.declared.table.Outcome.TheVariants.{Down, Unfit, Forfeits, Confirms, Resigns, Moves}
+use Rattle.gtp_match.specs.declared.verdicts.SideFault.{SideFault}
+use Rattle.gtp_match.specs.declared.verdicts.Verdict.{Verdict}
+use Rattle.gtp_match.specs.declared.verdicts.Verdict.TheVariants as verdict
+use Rattle.gtp_match.proofs.ReplyReasons.{Reason, IsNoFault, replies_to}
+use Rattle.gtp_match.proofs.ReplyingLemmas.{Heard, heard, up_there, up_in}
+
+-- what is no fault was said in reply to the oldest command
+told : (c : Controller) (s : Colour) (engine : Incarnation) (bytes : List ℕ) (used : ℕ) (reply : Reply)
+    → EndsReply engine bytes used reply → (o : Outcome) → IsNoFault o
+    → outcome c.game s (oldest engine.unanswered) reply ≡ o
+    → HearsReply engine bytes used (λ k r. Reason c.game s k r o)
+told c s engine bytes used reply ends o no_fault e =
+    let r = replies_to c.game s (oldest engine.unanswered) reply o no_fault e in
+    record {
+      reply = reply;
+      entry = r.entry;
+      ends = ends;
+      answers_oldest = r.asked_is;
+      id = r.id;
+      is = r.reason;
+    }
+
+made : (c new : Controller) (s : Colour) (engine : Incarnation) (bytes : List ℕ) (used : ℕ) (reply : Reply) (v : Vertex)
+    → (side_of c.sides s).up ≡ Some engine → EndsReply engine bytes used reply
+    → outcome c.game s (oldest engine.unanswered) reply ≡ Moves v
+    → new ≡ after_outcome c s (heard_reply engine) (Moves v) → MakesMove c new s bytes used
+made c new s engine bytes used reply v up ends e new_is =
+    let r = replies_to c.game s (oldest engine.unanswered) reply (Moves v) (λ f x. cc) e in
+    record {
+      engine = engine;
+      up = up;
+      vertex = v;
+      heard = record {
+        reply = reply;
+        entry = r.entry;
+        ends = ends;
+        answers_oldest = r.asked_is;
+        id = r.id;
+        is = r.reason.1;
+      };
+      game = ap (λ (x : Controller). x.game) new_is;
+    }
+
+pub moves_are_told : (c new : Controller) (s : Colour) (bytes : List ℕ) (used : ℕ) (fault : Option SideFault)
+    → Hears c s bytes used fault new → (new.game ≡ c.game) ⊎ MakesMove c new s bytes used
+moves_are_told c new s bytes used fault hears = by_way (heard c s bytes used fault new hears)
+  where
+    by_outcome : (engine : Incarnation) (reply : Reply) → (side_of c.sides s).up ≡ Some engine
+        → EndsReply engine bytes used reply → (o : Outcome) → outcome c.game s (oldest engine.unanswered) reply ≡ o
+        → new ≡ after_outcome c s (heard_reply engine) o → (new.game ≡ c.game) ⊎ MakesMove c new s bytes used
+    by_outcome engine reply up ends (Down f) e new_is = inl (ap (λ (x : Controller). x.game) new_is)
+    by_outcome engine reply up ends Unfit e new_is = inl (ap (λ (x : Controller). x.game) new_is)
+    by_outcome engine reply up ends (Forfeits cause) e new_is = inl (ap (λ (x : Controller). x.game) new_is)
+    by_outcome engine reply up ends Confirms e new_is = inl (ap (λ (x : Controller). x.game) new_is)
+    by_outcome engine reply up ends Resigns e new_is = inl (ap (λ (x : Controller). x.game) new_is)
+    by_outcome engine reply up ends (Moves v) e new_is = inr (made c new s engine bytes used reply v up ends e new_is)
+
+    by_way : Heard c s bytes used fault new → (new.game ≡ c.game) ⊎ MakesMove c new s bytes used
+    by_way (Heard.replied engine reply none up ends fault_is new_is) = by_outcome engine reply up ends _ refl new_is
+    by_way (Heard.faulted engine shown none up first fault_is new_is) = inl (ap (λ (x : Controller). x.game) new_is)
+    by_way (Heard.quiet engine kept none up nothing fault_is new_is) = inl (ap (λ (x : Controller). x.game) new_is)
+    by_way (Heard.down up fault_is new_is) = inl (ap (λ (x : Controller). x.game) new_is)
+    by_way (Heard.over v e fault_is new_is) = inl (ap (λ (x : Controller). x.game) new_is)
+
+pub others_leave_the_game : (c : Controller) (s : Colour)
+    → ((started c s).game ≡ c.game) × ((sent c s).game ≡ c.game) × ((lost c s).game ≡ c.game)
+others_leave_the_game c s = (refl, by_sent (side_of c.sides s).up, by_lost (side_of c.sides s).up)
+  where
+    by_sent : (up : Option Incarnation) → (sent_to c s up).game ≡ c.game
+    by_sent None = refl
+    by_sent (Some engine) = refl
+
+    by_lost : (up : Option Incarnation) → (lost_engine c s up).game ≡ c.game
+    by_lost None = refl
+    by_lost (Some engine) = refl
+
+-- ---- causes
+
+-- a side that goes down gives no verdict but that it is given up
+given_up : (c : Controller) (s : Colour) (v : Verdict) → c.verdict ≡ None → (downed c s).verdict ≡ Some v
+    → verdict.Abandoned s ≡ v
+given_up c s v none e =
+    by_starts (nat_lt c.setup.max_restarts (side_of c.sides s).starts)
+    (sym (ap (verdict_when_down c s) none) ∙ e)
+  where
+    by_starts : (b : Bool) → cond b (Some (verdict.Abandoned s)) None ≡ Some v → verdict.Abandoned s ≡ v
+    by_starts true is = cc
+    by_starts false is = absurd (cc)
+
+pub others_give_no_verdict : (c : Controller) (s : Colour)
+    → ((started c s).verdict ≡ c.verdict) × ((sent c s).verdict ≡ c.verdict)
+    × ((v : Verdict) → c.verdict ≡ None → (lost c s).verdict ≡ Some v → v ≡ verdict.Abandoned s)
+others_give_no_verdict c s =
+    (refl, by_sent (side_of c.sides s).up, λ v none e. by_lost v none (side_of c.sides s).up e)
+  where
+    by_sent : (up : Option Incarnation) → (sent_to c s up).verdict ≡ c.verdict
+    by_sent None = refl
+    by_sent (Some engine) = refl
+
+    by_lost : (v : Verdict) → c.verdict ≡ None → (up : Option Incarnation) → (lost_engine c s up).verdict ≡ Some v
+        → v ≡ verdict.Abandoned s
+    by_lost v none None e = let no : None ≡ Some v = sym none ∙ e in absurd (cc)
+    by_lost v none (Some engine) e = sym (given_up c s v none e)
+
+abbrev Caused : Controller → Controller → Colour → List ℕ → ℕ → Option SideFault → Verdict → Type 0
+Caused c new s bytes used fault v =
+    (engine : Incarnation) × ((side_of c.sides s).up ≡ Some engine) × HasCause c new s engine bytes used fault v
+
+pub causes_are_true : (c new : Controller) (s : Colour) (bytes : List ℕ) (used : ℕ) (fault : Option SideFault)
+    (v : Verdict) → Hears c s bytes used fault new → c.verdict ≡ None → new.verdict ≡ Some v
+    → Caused c new s bytes used fault v
+causes_are_true c new s bytes used fault v hears none given = by_way (heard c s bytes used fault new hears)
+  where
+    unchanged : new.verdict ≡ c.verdict → Caused c new s bytes used fault v
+    unchanged e = let no : None ≡ Some v = sym none ∙ sym e ∙ given in absurd (cc)
+
+    cause_of : (engine : Incarnation) → (side_of c.sides s).up ≡ Some engine
+        → (w : Verdict) → w ≡ v → HasCause c new s engine bytes used fault w → Caused c new s bytes used fault v
+    cause_of engine up w same cause = (engine, up, subst (HasCause c new s engine bytes used fault) same cause)
+
+    by_down : (engine : Incarnation) → (side_of c.sides s).up ≡ Some engine
+        → new ≡ downed c s → IsSome fault → Caused c new s bytes used fault v
+    by_down engine up new_is some =
+        cause_of engine up (verdict.Abandoned s)
+        (given_up c s v none (sym (ap (λ (x : Controller). x.verdict) new_is) ∙ given)) (refl, some)
+
+    by_end : (engine : Incarnation) → (side_of c.sides s).up ≡ Some engine
+        → MakesMove c new s bytes used → (passes full : Bool) (n : ℤ)
+        → cond passes (Some (verdict.Score n)) (cond full (Some verdict.Limit) None) ≡ Some v
+        → Caused c new s bytes used fault v
+    by_end engine up move true full n e = cause_of engine up (verdict.Score n) (cc) move
+    by_end engine up move false true n e = cause_of engine up verdict.Limit (cc) move
+    by_end engine up move false false n e = absurd (cc)
+
+    by_outcome : (engine : Incarnation) → (side_of c.sides s).up ≡ Some engine
+        → (reply : Reply) → EndsReply engine bytes used reply → (o : Outcome)
+        → outcome c.game s (oldest engine.unanswered) reply ≡ o → fault ≡ fault_of o
+        → new ≡ after_outcome c s (heard_reply engine) o → Caused c new s bytes used fault v
+    by_outcome engine up reply ends (Down f) e fault_is new_is =
+        by_down engine up new_is (subst (λ (x : Option SideFault). IsSome x) (sym fault_is) refl)
+    by_outcome engine up reply ends Unfit e fault_is new_is =
+        let is : Some (verdict.Unfit s) ≡ Some v = sym (ap (λ (x : Controller). x.verdict) new_is) ∙ given in
+        cause_of engine up (verdict.Unfit s) (cc) (refl, told c s engine bytes used reply ends Unfit (λ f x. cc) e)
+    by_outcome engine up reply ends (Forfeits cause) e fault_is new_is =
+        let is : Some (verdict.Forfeit s cause) ≡ Some v = sym (ap (λ (x : Controller). x.verdict) new_is) ∙ given in
+        cause_of engine up (verdict.Forfeit s cause) (cc)
+        (refl, told c s engine bytes used reply ends (Forfeits cause) (λ f x. cc) e)
+    by_outcome engine up reply ends Confirms e fault_is new_is = unchanged (ap (λ (x : Controller). x.verdict) new_is)
+    by_outcome engine up reply ends Resigns e fault_is new_is =
+        let is : Some (verdict.Resign s) ≡ Some v = sym (ap (λ (x : Controller). x.verdict) new_is) ∙ given in
+        let only : IsAnsweredOnly engine new s = record {
+          after = answered (heard_reply engine);
+          up = ap (up_in s) new_is ∙ up_there c.sides s (answered (heard_reply engine));
+          answered = refl;
+          confirmed = refl;
+        }
+        in
+        cause_of engine up (verdict.Resign s) (cc)
+        (refl, told c s engine bytes used reply ends Resigns (λ f x. cc) e, only)
+    by_outcome engine up reply ends (Moves w) e fault_is new_is =
+        let game = with_move c.game s w in
+        by_end engine up (made c new s engine bytes used reply w up ends e new_is) (holds (finished? game))
+        (eqb (length game.moves) c.setup.max_moves) (score game)
+        (sym (ap (λ (x : Controller). x.verdict) new_is) ∙ given)
+
+    by_way : Heard c s bytes used fault new → Caused c new s bytes used fault v
+    by_way (Heard.replied engine reply none2 up ends fault_is new_is) =
+        by_outcome engine up reply ends _ refl fault_is new_is
+    by_way (Heard.faulted engine shown none2 up first fault_is new_is) =
+        by_down engine up new_is (subst (λ (x : Option SideFault). IsSome x) (sym fault_is) refl)
+    by_way (Heard.quiet engine kept none2 up nothing fault_is new_is) =
+        unchanged (ap (λ (x : Controller). x.verdict) new_is)
+    by_way (Heard.down up fault_is new_is) = unchanged (ap (λ (x : Controller). x.verdict) new_is)
+    by_way (Heard.over w e fault_is new_is) = unchanged (ap (λ (x : Controller). x.verdict) new_is)

@@ -1,0 +1,274 @@
+-- What is heard of a side, and a loss, may change of a match.
+use Rattle.std.proofs.Common.{◌≡◌, ℕ, ◌+◌, ◌<◌, List, ◌++◌, length, Option, Some, None, Ok, Err, refl, sym, ◌∙◌, ap, subst, arith}
+use Rattle.std.specs.Prelude.{IsSome}
+use Rattle.go_base.specs.declared.colours.Colour.{Colour}
+use Rattle.go_base.specs.declared.colours.Colour.TheVariants.{Black, White}
+use Rattle.gtp_wire.specs.Replies.{IsFirst, TellsNothing}
+use Rattle.gtp_wire.specs.declared.replies.Reply.{Reply}
+use Rattle.gtp_wire.specs.declared.replies.ReplyFault.{ReplyFault}
+use Rattle.gtp_wire.proofs.ReplyLaws.{one_first}
+use Rattle.gtp_match.specs.Controller.{with_side_up, downed, lost, lost_engine, verdict_when_down}
+use Rattle.gtp_match.specs.Hearing.{side_fault, MayKeep, HearsUp, HearsWhere, Hears}
+use Rattle.gtp_match.specs.ReplyTable.{outcome, after_outcome, fault_of}
+use Rattle.gtp_match.specs.Replying.{EndsReply, IsStranger, ConfirmsOne}
+use Rattle.gtp_match.specs.Sides.{side_of, with_engine_of, heard_reply, answered, confirmed}
+use Rattle.gtp_match.specs.Unanswered.{oldest}
+use Rattle.gtp_match.specs.declared.controller.Controller.{Controller}
+use Rattle.gtp_match.specs.declared.sides.Incarnation.{Incarnation}
+use Rattle.gtp_match.specs.declared.sides.Sides.{Sides}
+use Rattle.gtp_match.specs.declared.table.Outcome.{Outcome}
+use Rattle.gtp_match.specs.declared.table.Outcome.TheVariants.{Down, Unfit, Forfeits, Confirms, Resigns, Moves}
+use Rattle.gtp_match.specs.declared.verdicts.SideFault.{SideFault}
+use Rattle.gtp_match.specs.declared.verdicts.Verdict.{Verdict}
+use Rattle.gtp_match.proofs.ReplyReasons.{IsNoFault, replies_to}
+
+-- ---- the ways in which bytes are heard
+
+pub data Heard (c : Controller) (s : Colour) (bytes : List ℕ) (used : ℕ) (fault : Option SideFault) (new : Controller)
+    : Type 0 where
+  replied : (engine : Incarnation) (reply : Reply) → c.verdict ≡ None → (side_of c.sides s).up ≡ Some engine
+      → EndsReply engine bytes used reply
+      → fault ≡ fault_of (outcome c.game s (oldest engine.unanswered) reply)
+      → new ≡ after_outcome c s (heard_reply engine) (outcome c.game s (oldest engine.unanswered) reply)
+      → Heard c s bytes used fault new
+  faulted : (engine : Incarnation) (shown : ReplyFault) → c.verdict ≡ None → (side_of c.sides s).up ≡ Some engine
+      → IsFirst (engine.rest ++ bytes) (length engine.rest + used) (Err shown)
+      → fault ≡ Some (side_fault shown) → new ≡ downed c s → Heard c s bytes used fault new
+  quiet : (engine : Incarnation) (kept : List ℕ) → c.verdict ≡ None → (side_of c.sides s).up ≡ Some engine
+      → TellsNothing (engine.rest ++ bytes) → fault ≡ None
+      → new ≡ with_side_up c s (record engine { rest = kept }) → Heard c s bytes used fault new
+  down : (side_of c.sides s).up ≡ None → fault ≡ None → new ≡ c → Heard c s bytes used fault new
+  over : (v : Verdict) → c.verdict ≡ Some v → fault ≡ None → new ≡ c → Heard c s bytes used fault new
+
+heard_up : (c : Controller) (s : Colour) (engine : Incarnation) (bytes : List ℕ) (used : ℕ) (fault : Option SideFault)
+    (new : Controller) → c.verdict ≡ None → (side_of c.sides s).up ≡ Some engine
+    → HearsUp MayKeep c s engine bytes used fault new → Heard c s bytes used fault new
+heard_up c s engine bytes used fault new none up (HearsUp.replied {value = reply} first) =
+    Heard.replied engine reply none up first refl refl
+heard_up c s engine bytes used fault new none up (HearsUp.faulted {shown = shown} first) =
+    Heard.faulted engine shown none up first refl refl
+heard_up c s engine bytes used fault new none up (HearsUp.nothing_yet {kept = kept} nothing is) =
+    Heard.quiet engine kept none up nothing refl refl
+
+pub heard : (c : Controller) (s : Colour) (bytes : List ℕ) (used : ℕ) (fault : Option SideFault) (new : Controller)
+    → Hears c s bytes used fault new → Heard c s bytes used fault new
+heard c s bytes used fault new hears = by_verdict c.verdict refl hears
+  where
+    by_up : (up : Option Incarnation) → (side_of c.sides s).up ≡ up → c.verdict ≡ None
+        → HearsWhere MayKeep c s bytes None up used fault new → Heard c s bytes used fault new
+    by_up None up none h = Heard.down up h.no_fault h.same
+    by_up (Some engine) up none h = heard_up c s engine bytes used fault new none up h
+
+    by_verdict : (v : Option Verdict) → c.verdict ≡ v
+        → HearsWhere MayKeep c s bytes v (side_of c.sides s).up used fault new → Heard c s bytes used fault new
+    by_verdict None e h = by_up (side_of c.sides s).up refl e h
+    by_verdict (Some v) e h = Heard.over v e h.no_fault h.same
+
+-- ---- the side's engine afterwards
+
+pub up_there : (sides : Sides) (s : Colour) (engine : Incarnation)
+    → (side_of (with_engine_of s engine sides) s).up ≡ Some engine
+up_there sides Black engine = refl
+up_there sides White engine = refl
+
+down_there : (c : Controller) (s : Colour) → (side_of (downed c s).sides s).up ≡ None
+down_there c Black = refl
+down_there c White = refl
+
+abbrev engine_after : Incarnation → Outcome → Option Incarnation
+engine_after engine (Down fault) = None
+engine_after engine Unfit = Some engine
+engine_after engine (Forfeits cause) = Some engine
+engine_after engine Confirms = Some (confirmed engine)
+engine_after engine Resigns = Some (answered engine)
+engine_after engine (Moves v) = Some (confirmed engine)
+
+up_after : (c : Controller) (s : Colour) (engine : Incarnation) (o : Outcome)
+    → (side_of (after_outcome c s engine o).sides s).up ≡ engine_after engine o
+up_after c s engine (Down fault) = down_there c s
+up_after c s engine Unfit = up_there c.sides s engine
+up_after c s engine (Forfeits cause) = up_there c.sides s engine
+up_after c s engine Confirms = up_there c.sides s (confirmed engine)
+up_after c s engine Resigns = up_there c.sides s (answered engine)
+up_after c s engine (Moves v) = up_there c.sides s (confirmed engine)
+
+abbrev pub up_in : Colour → Controller → Option Incarnation
+up_in s c = (side_of c.sides s).up
+
+-- ---- what is confirmed
+
+no_more : (x before after : Incarnation) → Some x ≡ Some after → x.confirmed ≡ before.confirmed
+    → before.confirmed < after.confirmed → ⊥
+no_more x before after e same more =
+    let is : x ≡ after = cc in
+    omega (arith, more, same, ap (λ (y : Incarnation). y.confirmed) is)
+
+pub confirmed_by_id : (c new : Controller) (s : Colour) (before after : Incarnation) (bytes : List ℕ) (used : ℕ)
+    (fault : Option SideFault) → Hears c s bytes used fault new → (side_of c.sides s).up ≡ Some before
+    → (side_of new.sides s).up ≡ Some after → before.confirmed < after.confirmed
+    → ConfirmsOne before after bytes used
+confirmed_by_id c new s before after bytes used fault hears up_before up_after_is more =
+    by_way (heard c s bytes used fault new hears)
+  where
+    unchanged : new ≡ c → ConfirmsOne before after bytes used
+    unchanged e = absurd (no_more before before after (sym up_before ∙ sym (ap (up_in s) e) ∙ up_after_is) refl more)
+
+    by_outcome : (reply : Reply) → EndsReply before bytes used reply → (o : Outcome)
+        → outcome c.game s (oldest before.unanswered) reply ≡ o
+        → engine_after (heard_reply before) o ≡ Some after → ConfirmsOne before after bytes used
+    by_outcome reply ends (Down fault) e is = absurd (let no : None ≡ Some after = is in cc)
+    by_outcome reply ends Unfit e is = absurd (no_more (heard_reply before) before after is refl more)
+    by_outcome reply ends (Forfeits cause) e is = absurd (no_more (heard_reply before) before after is refl more)
+    by_outcome reply ends Resigns e is = absurd (no_more (answered (heard_reply before)) before after is refl more)
+    by_outcome reply ends Confirms e is =
+        let r = replies_to c.game s (oldest before.unanswered) reply Confirms (λ f x. cc) e in
+        let same : confirmed (heard_reply before) ≡ after = cc in
+        record {
+          heard = record {
+            reply = reply;
+            entry = r.entry;
+            ends = ends;
+            answers_oldest = r.asked_is;
+            id = r.id;
+            is = r.reason;
+          };
+          one_more = sym (ap (λ (y : Incarnation). y.confirmed) same);
+          answered = sym (ap (λ (y : Incarnation). y.unanswered) same);
+        }
+    by_outcome reply ends (Moves v) e is =
+        let r = replies_to c.game s (oldest before.unanswered) reply (Moves v) (λ f x. cc) e in
+        let same : confirmed (heard_reply before) ≡ after = cc in
+        record {
+          heard = record {
+            reply = reply;
+            entry = r.entry;
+            ends = ends;
+            answers_oldest = r.asked_is;
+            id = r.id;
+            is = r.reason.0;
+          };
+          one_more = sym (ap (λ (y : Incarnation). y.confirmed) same);
+          answered = sym (ap (λ (y : Incarnation). y.unanswered) same);
+        }
+
+    by_way : Heard c s bytes used fault new → ConfirmsOne before after bytes used
+    by_way (Heard.replied engine reply none up ends fault_is new_is) =
+        let some : Some engine ≡ Some before = sym up ∙ up_before in
+        let same : engine ≡ before = cc in
+        let E : Incarnation → Type 0 = λ x. EndsReply x bytes used reply in
+        let o = outcome c.game s (oldest engine.unanswered) reply in
+        let o_is : outcome c.game s (oldest before.unanswered) reply ≡ o =
+        ap (λ (x : Incarnation). outcome c.game s (oldest x.unanswered) reply) (sym same) in
+        let is : engine_after (heard_reply before) o ≡ Some after =
+        ap (λ (x : Incarnation). engine_after (heard_reply x) o) (sym same)
+        ∙ sym (up_after c s (heard_reply engine) o) ∙ sym (ap (up_in s) new_is) ∙ up_after_is
+        in
+        by_outcome reply (subst E same ends) o o_is is
+    by_way (Heard.faulted engine shown none up first fault_is new_is) =
+        let no : None ≡ Some after = sym (down_there c s) ∙ sym (ap (up_in s) new_is) ∙ up_after_is in absurd (cc)
+    by_way (Heard.quiet engine kept none up nothing fault_is new_is) =
+        let some : Some engine ≡ Some before = sym up ∙ up_before in
+        let same : engine ≡ before = cc in
+        let next : Incarnation = record engine { rest = kept } in
+        absurd (no_more next before after
+        (sym (up_there c.sides s next) ∙ sym (ap (up_in s) new_is) ∙ up_after_is)
+        (ap (λ (y : Incarnation). y.confirmed) same) more)
+    by_way (Heard.down up fault_is new_is) = unchanged new_is
+    by_way (Heard.over v e fault_is new_is) = unchanged new_is
+
+-- ---- what puts a side down
+
+down_by_fault : (c : Controller) (s : Colour) (engine : Incarnation) (o : Outcome) → IsSome (fault_of o)
+    → (side_of (after_outcome c s engine o).sides s).up ≡ None
+down_by_fault c s engine (Down fault) some = down_there c s
+down_by_fault c s engine Unfit some = absurd (cc)
+down_by_fault c s engine (Forfeits cause) some = absurd (cc)
+down_by_fault c s engine Confirms some = absurd (cc)
+down_by_fault c s engine Resigns some = absurd (cc)
+down_by_fault c s engine (Moves v) some = absurd (cc)
+
+no_fault_shown : (f : Option SideFault) → f ≡ None → IsSome f → ⊥
+no_fault_shown None e some = cc
+no_fault_shown (Some f) e some = cc
+
+pub faults_put_down : (c new : Controller) (s : Colour) (bytes : List ℕ) (used : ℕ) (fault : Option SideFault)
+    → Hears c s bytes used fault new → IsSome fault → (side_of new.sides s).up ≡ None
+faults_put_down c new s bytes used fault hears some = by_way (heard c s bytes used fault new hears)
+  where
+    none_shown : fault ≡ None → (side_of new.sides s).up ≡ None
+    none_shown e = absurd (no_fault_shown fault e some)
+
+    by_way : Heard c s bytes used fault new → (side_of new.sides s).up ≡ None
+    by_way (Heard.replied engine reply none up ends fault_is new_is) =
+        ap (up_in s) new_is
+        ∙ down_by_fault c s (heard_reply engine) (outcome c.game s (oldest engine.unanswered) reply)
+        (subst (λ (f : Option SideFault). IsSome f) fault_is some)
+    by_way (Heard.faulted engine shown none up first fault_is new_is) = ap (up_in s) new_is ∙ down_there c s
+    by_way (Heard.quiet engine kept none up nothing fault_is new_is) = none_shown fault_is
+    by_way (Heard.down up fault_is new_is) = none_shown fault_is
+    by_way (Heard.over v e fault_is new_is) = none_shown fault_is
+
+answered_one : (c : Controller) (s : Colour) (engine : Incarnation) (reply : Reply) → IsStranger engine reply
+    → (o : Outcome) → IsNoFault o → outcome c.game s (oldest engine.unanswered) reply ≡ o → ⊥
+answered_one c s engine reply strange o no_fault e =
+    let r = replies_to c.game s (oldest engine.unanswered) reply o no_fault e in strange r.entry r.asked_is r.id
+
+-- a stranger's outcome is a fault
+stranger_fault : (c : Controller) (s : Colour) (engine : Incarnation) (reply : Reply) → IsStranger engine reply
+    → (o : Outcome) → outcome c.game s (oldest engine.unanswered) reply ≡ o → IsSome (fault_of o)
+stranger_fault c s engine reply strange (Down fault) e = refl
+stranger_fault c s engine reply strange Unfit e = absurd (answered_one c s engine reply strange Unfit (λ f x. cc) e)
+stranger_fault c s engine reply strange (Forfeits cause) e =
+    absurd (answered_one c s engine reply strange (Forfeits cause) (λ f x. cc) e)
+stranger_fault c s engine reply strange Confirms e =
+    absurd (answered_one c s engine reply strange Confirms (λ f x. cc) e)
+stranger_fault c s engine reply strange Resigns e =
+    absurd (answered_one c s engine reply strange Resigns (λ f x. cc) e)
+stranger_fault c s engine reply strange (Moves v) e =
+    absurd (answered_one c s engine reply strange (Moves v) (λ f x. cc) e)
+
+pub strangers_put_down : (c new : Controller) (s : Colour) (engine : Incarnation) (reply : Reply) (bytes : List ℕ)
+    (used : ℕ) (fault : Option SideFault) → Hears c s bytes used fault new → c.verdict ≡ None
+    → (side_of c.sides s).up ≡ Some engine → EndsReply engine bytes used reply → IsStranger engine reply
+    → IsSome fault × ((side_of new.sides s).up ≡ None)
+strangers_put_down c new s engine reply bytes used fault hears none up ends strange =
+    let some = by_way (heard c s bytes used fault new hears) in
+    (some, faults_put_down c new s bytes used fault hears some)
+  where
+    by_way : Heard c s bytes used fault new → IsSome fault
+    by_way (Heard.replied other value none2 up2 ends2 fault_is new_is) =
+        let some : Some other ≡ Some engine = sym up2 ∙ up in
+        let same : other ≡ engine = cc in
+        let E : Incarnation → Type 0 = λ x. EndsReply x bytes used value in
+        let place = length engine.rest + used in
+        let one = one_first (engine.rest ++ bytes) place place (Ok value) (Ok reply) (subst E same ends2) ends in
+        let value_is : value ≡ reply = let oks : Ok value ≡ Ok reply = one.1 in cc in
+        let o_is : outcome c.game s (oldest other.unanswered) value
+        ≡ outcome c.game s (oldest engine.unanswered) reply =
+        ap (λ (x : Incarnation). outcome c.game s (oldest x.unanswered) value) same
+        ∙ ap (outcome c.game s (oldest engine.unanswered)) value_is
+        in
+        subst (λ (f : Option SideFault). IsSome f) (sym (fault_is ∙ ap fault_of o_is))
+        (stranger_fault c s engine reply strange (outcome c.game s (oldest engine.unanswered) reply) refl)
+    by_way (Heard.faulted other shown none2 up2 first fault_is new_is) =
+        subst (λ (f : Option SideFault). IsSome f) (sym fault_is) refl
+    by_way (Heard.quiet other kept none2 up2 nothing fault_is new_is) =
+        let some : Some other ≡ Some engine = sym up2 ∙ up in
+        let same : other ≡ engine = cc in
+        let N : Incarnation → Type 0 = λ x. TellsNothing (x.rest ++ bytes) in
+        absurd (subst N same nothing (length engine.rest + used) (Ok reply) ends.inside ends.told)
+    by_way (Heard.down up2 fault_is new_is) = let no : None ≡ Some engine = sym up2 ∙ up in absurd (cc)
+    by_way (Heard.over v e fault_is new_is) = let no : None ≡ Some v = sym none ∙ e in absurd (cc)
+
+pub losses_put_down : (c : Controller) (s : Colour)
+    → ((side_of (lost c s).sides s).up ≡ None) × ((v : Verdict) → c.verdict ≡ Some v → (lost c s).verdict ≡ Some v)
+losses_put_down c s = (is_down (side_of c.sides s).up refl, λ v e. stays v e (side_of c.sides s).up)
+  where
+    is_down : (up : Option Incarnation) → (side_of c.sides s).up ≡ up
+        → (side_of (lost_engine c s up).sides s).up ≡ None
+    is_down None e = e
+    is_down (Some engine) e = down_there c s
+
+    stays : (v : Verdict) → c.verdict ≡ Some v → (up : Option Incarnation) → (lost_engine c s up).verdict ≡ Some v
+    stays v e None = e
+    stays v e (Some engine) = ap (verdict_when_down c s) e

@@ -1,0 +1,5 @@
+use Rattle.gtp_match.proofs.CauseLemmas.{others_give_no_verdict}
+use Rattle.gtp_match.proofs.laws.others_give_no_verdict.Goals as goal
+
+pub returns : goal.returns
+returns ctx c s = others_give_no_verdict c s

@@ -1,0 +1,5 @@
+use Rattle.gtp_match.proofs.CauseLemmas.{others_leave_the_game}
+use Rattle.gtp_match.proofs.laws.others_leave_the_game.Goals as goal
+
+pub returns : goal.returns
+returns ctx c s = others_leave_the_game c s

@@ -1,0 +1,200 @@
+-- What bytes of a side, and a loss, may change of a match, and why: told of the replies themselves, without the table.
+use Rattle.std.specs.Prelude.{◌≡◌, ℕ, ◌+◌, ◌<◌, ◌⊎◌, true, false, List, [], ◌∷◌, ◌++◌, length, drop, codes, Option, None, Some, IsSome, Ok}
+use Rattle.go_base.specs.Vertex.{SpellsVertex}
+use Rattle.go_base.specs.Word.{IsWord}
+use Rattle.go_base.specs.declared.colours.Colour.{Colour}
+use Rattle.go_base.specs.declared.vertices.Vertex.{Vertex}
+use Rattle.go_board.specs.Game.{GameRecord, IsLegal, with_move}
+use Rattle.gtp_wire.specs.Replies.{IsFirst}
+use Rattle.gtp_wire.specs.declared.commands.Command.{Command}
+use Rattle.gtp_wire.specs.declared.commands.Command.TheVariants.{FixedHandicap, Genmove}
+use Rattle.gtp_wire.specs.declared.replies.Reply.{Reply}
+use Rattle.gtp_match.specs.Controller.{started, sent, lost}
+use Rattle.gtp_match.specs.Hearing.{Hears}
+use Rattle.gtp_match.specs.ReplyTable.{is_handicap}
+use Rattle.gtp_wire.specs.Words.{reply_words}
+use Rattle.gtp_match.specs.Sides.{side_of}
+use Rattle.gtp_match.specs.Sound.{IsPlay}
+use Rattle.gtp_match.specs.Unanswered.{oldest}
+use Rattle.gtp_match.specs.declared.controller.Controller.{Controller}
+use Rattle.gtp_match.specs.declared.sides.Incarnation.{Incarnation}
+use Rattle.gtp_match.specs.declared.unanswered.SentCommand.{SentCommand}
+use Rattle.gtp_match.specs.declared.verdicts.ForfeitCause.{ForfeitCause}
+use Rattle.gtp_match.specs.declared.verdicts.ForfeitCause.TheVariants.{RefusedPlay, NoMove, NoVertex, IllegalMove}
+use Rattle.gtp_match.specs.declared.verdicts.SideFault.{SideFault}
+use Rattle.gtp_match.specs.declared.verdicts.Verdict.{Verdict}
+use Rattle.gtp_match.specs.declared.verdicts.Verdict.TheVariants.{Score, Resign, Limit, Forfeit, Unfit, Abandoned}
+
+-- ---- the reply that was heard
+
+-- the bytes that were used end this reply of the engine
+abbrev pub EndsReply : Incarnation → List ℕ → ℕ → Reply → Type 0
+EndsReply engine bytes used reply = IsFirst (engine.rest ++ bytes) (length engine.rest + used) (Ok reply)
+
+-- The bytes that were used end a reply that has the id of the engine's oldest unanswered command, and the command and
+-- the reply are so.
+pub record HearsReply (engine : Incarnation) (bytes : List ℕ) (used : ℕ) (Is : Command → Reply → Type 0) : Type 0 where
+  pub reply : Reply
+  pub entry : SentCommand
+  pub ends : EndsReply engine bytes used reply
+  pub answers_oldest : oldest engine.unanswered ≡ Some entry
+  pub id : reply.id ≡ Some entry.id
+  pub is : Is entry.command reply
+
+-- the reply has no id, or not that of the oldest unanswered command, or nothing is unanswered
+abbrev pub IsStranger : Incarnation → Reply → Type 0
+IsStranger engine reply = (entry : SentCommand) → oldest engine.unanswered ≡ Some entry → ¬ (reply.id ≡ Some entry.id)
+
+abbrev pub IsGenmove : Command → Type 0
+IsGenmove command = (colour : Colour) × (command ≡ Genmove colour)
+
+-- ---- what is confirmed
+
+abbrev pub Succeeds : Command → Reply → Type 0
+Succeeds command reply = reply.ok ≡ true
+
+-- one command more is confirmed, the oldest unanswered one: by a success that has its id
+pub record ConfirmsOne (before after : Incarnation) (bytes : List ℕ) (used : ℕ) : Type 0 where
+  pub heard : HearsReply before bytes used Succeeds
+  pub one_more : after.confirmed ≡ before.confirmed + 1
+  pub answered : after.unanswered ≡ drop 1 before.unanswered
+
+-- Where an engine has confirmed more after its bytes were heard, they ended a success with the id of its oldest
+-- unanswered command, and that one command is confirmed.
+abbrev pub ConfirmedById : Type 0
+ConfirmedById =
+    (c new : Controller) (s : Colour) (before after : Incarnation) (bytes : List ℕ) (used : ℕ)
+    (fault : Option SideFault)
+    → Hears c s bytes used fault new
+    → (side_of c.sides s).up ≡ Some before → (side_of new.sides s).up ≡ Some after
+    → before.confirmed < after.confirmed → ConfirmsOne before after bytes used
+
+-- ---- what puts a side down
+
+-- Before a verdict, a reply that nothing unanswered is owed, that has no id or another than the oldest unanswered
+-- command's, shows a fault; and its side is down.
+abbrev pub StrangersPutDown : Type 0
+StrangersPutDown =
+    (c new : Controller) (s : Colour) (engine : Incarnation) (reply : Reply) (bytes : List ℕ) (used : ℕ)
+    (fault : Option SideFault)
+    → Hears c s bytes used fault new
+    → c.verdict ≡ None → (side_of c.sides s).up ≡ Some engine
+    → EndsReply engine bytes used reply → IsStranger engine reply
+    → IsSome fault × ((side_of new.sides s).up ≡ None)
+
+-- wherever a fault is shown, the side is down
+abbrev pub FaultsPutDown : Type 0
+FaultsPutDown =
+    (c new : Controller) (s : Colour) (bytes : List ℕ) (used : ℕ) (fault : Option SideFault)
+    → Hears c s bytes used fault new → IsSome fault → (side_of new.sides s).up ≡ None
+
+-- a side that is lost is down, and a verdict that was given stays
+abbrev pub LossesPutDown : Type 0
+LossesPutDown =
+    (c : Controller) (s : Colour)
+    → ((side_of (lost c s).sides s).up ≡ None)
+    × ((v : Verdict) → c.verdict ≡ Some v → (lost c s).verdict ≡ Some v)
+
+-- ---- moves
+
+-- A `genmove` succeeded, and the reply's text is one word: it spells a vertex.
+pub record ChoosesVertex (vertex : Vertex) (command : Command) (reply : Reply) : Type 0 where
+  pub asked : IsGenmove command
+  pub succeeds : reply.ok ≡ true
+  pub word : List ℕ
+  pub one_word : reply_words reply.text.items ≡ word ∷ []
+  pub spelled : SpellsVertex vertex word
+
+-- it is the vertex of a move that was legal for the side
+abbrev pub TellsMove : GameRecord → Colour → Vertex → Command → Reply → Type 0
+TellsMove game s vertex command reply = ChoosesVertex vertex command reply × IsLegal game s vertex
+
+-- the bytes end a reply that tells a legal move of the side, and the new game is the old one with this move
+pub record MakesMove (c new : Controller) (s : Colour) (bytes : List ℕ) (used : ℕ) : Type 0 where
+  pub engine : Incarnation
+  pub up : (side_of c.sides s).up ≡ Some engine
+  pub vertex : Vertex
+  pub heard : HearsReply engine bytes used (TellsMove c.game s vertex)
+  pub game : new.game ≡ with_move c.game s vertex
+
+-- What is heard of a side leaves the game, or tells the move that is added to it.
+abbrev pub MovesAreTold : Type 0
+MovesAreTold =
+    (c new : Controller) (s : Colour) (bytes : List ℕ) (used : ℕ) (fault : Option SideFault)
+    → Hears c s bytes used fault new → (new.game ≡ c.game) ⊎ MakesMove c new s bytes used
+
+-- a start, a command that is sent and a loss leave the game
+abbrev pub OthersLeaveTheGame : Type 0
+OthersLeaveTheGame =
+    (c : Controller) (s : Colour)
+    → ((started c s).game ≡ c.game) × ((sent c s).game ≡ c.game) × ((lost c s).game ≡ c.game)
+
+-- ---- causes of verdicts
+
+-- a `genmove` succeeded, and the reply's text is one word: `resign`, whatever the case
+pub record ChoosesResign (command : Command) (reply : Reply) : Type 0 where
+  pub asked : IsGenmove command
+  pub succeeds : reply.ok ≡ true
+  pub word : List ℕ
+  pub one_word : reply_words reply.text.items ≡ word ∷ []
+  pub spelled : IsWord (codes "resign") word
+
+-- a `genmove` succeeded, and the reply's text isn't one word that spells a vertex or is `resign`
+pub record ChoosesNothing (command : Command) (reply : Reply) : Type 0 where
+  pub asked : IsGenmove command
+  pub succeeds : reply.ok ≡ true
+  pub no_resign : (word : List ℕ) → reply_words reply.text.items ≡ word ∷ [] → ¬ IsWord (codes "resign") word
+  pub no_vertex : (word : List ℕ) (vertex : Vertex) → reply_words reply.text.items ≡ word ∷ []
+      → ¬ SpellsVertex vertex word
+
+-- a success of `fixed_handicap` whose words aren't the points
+pub record NamesOtherPoints (game : GameRecord) (command : Command) (reply : Reply) : Type 0 where
+  pub stones : ℕ
+  pub handicap : command ≡ FixedHandicap stones
+  pub other_points : is_handicap game stones reply ≡ false
+
+-- neither a `play` nor a `genmove`; it failed, or named other points than the handicap's
+pub record IsUnfit (game : GameRecord) (command : Command) (reply : Reply) : Type 0 where
+  pub no_play : ¬ IsPlay command
+  pub no_genmove : ¬ IsGenmove command
+  pub why : (reply.ok ≡ false) ⊎ NamesOtherPoints game command reply
+
+-- a reply for which its side forfeits
+abbrev pub IsForfeit : GameRecord → Colour → ForfeitCause → Command → Reply → Type 0
+IsForfeit game s RefusedPlay command reply = IsPlay command × (reply.ok ≡ false)
+IsForfeit game s NoMove command reply = IsGenmove command × (reply.ok ≡ false)
+IsForfeit game s NoVertex command reply = ChoosesNothing command reply
+IsForfeit game s IllegalMove command reply =
+    (vertex : Vertex) × ChoosesVertex vertex command reply × ¬ IsLegal game s vertex
+
+-- the command that a resignation answers is answered, and isn't confirmed
+pub record IsAnsweredOnly (engine : Incarnation) (new : Controller) (s : Colour) : Type 0 where
+  pub after : Incarnation
+  pub up : (side_of new.sides s).up ≡ Some after
+  pub answered : after.unanswered ≡ drop 1 engine.unanswered
+  pub confirmed : after.confirmed ≡ engine.confirmed
+
+-- Why a verdict is given when bytes of the side are heard: it names the side, or is the end after its move.
+abbrev pub HasCause : Controller → Controller → Colour → Incarnation → List ℕ → ℕ → Option SideFault → Verdict → Type 0
+HasCause c new s engine bytes used fault (Resign side) =
+    (side ≡ s) × HearsReply engine bytes used ChoosesResign × IsAnsweredOnly engine new s
+HasCause c new s engine bytes used fault (Forfeit side cause) =
+    (side ≡ s) × HearsReply engine bytes used (IsForfeit c.game s cause)
+HasCause c new s engine bytes used fault (Unfit side) = (side ≡ s) × HearsReply engine bytes used (IsUnfit c.game)
+HasCause c new s engine bytes used fault (Abandoned side) = (side ≡ s) × IsSome fault
+HasCause c new s engine bytes used fault (Score half_points) = MakesMove c new s bytes used
+HasCause c new s engine bytes used fault Limit = MakesMove c new s bytes used
+
+-- a verdict that is new after bytes of a side were heard has its cause in them
+abbrev pub CausesAreTrue : Type 0
+CausesAreTrue =
+    (c new : Controller) (s : Colour) (bytes : List ℕ) (used : ℕ) (fault : Option SideFault) (v : Verdict)
+    → Hears c s bytes used fault new → c.verdict ≡ None → new.verdict ≡ Some v
+    → (engine : Incarnation) × ((side_of c.sides s).up ≡ Some engine) × HasCause c new s engine bytes used fault v
+
+-- a start and a command that is sent leave the verdict; a loss gives none but that its side is given up
+abbrev pub OthersGiveNoVerdict : Type 0
+OthersGiveNoVerdict =
+    (c : Controller) (s : Colour)
+    → ((started c s).verdict ≡ c.verdict) × ((sent c s).verdict ≡ c.verdict)
+    × ((v : Verdict) → c.verdict ≡ None → (lost c s).verdict ≡ Some v → v ≡ Abandoned s)
