@@ -55,6 +55,7 @@ use Rattle.gtp_world.proofs.Sides.{live_any, judged_any, alike, Brings, arrives,
 use Rattle.gtp_world.specs.Exchange.{CanBeWritten, Answered, reply_with_id, reply_bytes, replayed, Owes, AllMayBeSent, all_reply_bytes}
 use Rattle.gtp_session.specs.CommandAnswers.{after_command, GoesWell}
 use Rattle.gtp_world.specs.Joined.{EngineBody, BareLane, WillReadWhereRunning, CutByCrash, IsJoinedInPlay, IsJoinedAtEnd, IsJoinedSide, IsFair, AreJoined, bare_empty}
+use Rattle.std.proofs.Math.Seq.{drop-length}
 
 -- ---- what is kept reads alike
 
@@ -374,10 +375,6 @@ module _ (c : Controller) (s : Colour) (u : Incarnation) (e : Option EngineBody)
 
 -- ---- bytes
 
-drop_all : {A : Type 0} (xs : List A) → drop (length xs) xs ≡ []
-drop_all [] = refl
-drop_all (x ∷ xs) = drop_all xs
-
 -- bytes that are no whole reply yet
 part_keeps : (game : GameRecord) (u : Incarnation) (e : Option EngineBody) (te x y kept : List ℕ)
     → (h : IsJoinedInPlay game u (record { engine = e; to_engine = te; to_controller = x ++ y }))
@@ -413,7 +410,7 @@ heard_settled game u e te x y used is h = record {
   fit = h.fit;
   may = h.may;
   runs = h.runs;
-  room = rw (is, drop_all x) (omega (arith, h.room, length-append x y));
+  room = rw (is, drop-length x) (omega (arith, h.room, length-append x y));
 }
 
 -- one call on a side that is up, before any verdict
@@ -454,7 +451,7 @@ module _ (c : Controller) (s : Colour) (u : Incarnation) (e : Option EngineBody)
       (live_any c.game c.verdict next (record { engine = e; to_engine = te; to_controller = y }) live)
       (judged_any c.game c.verdict (side_of c.sides (other s)).up lo theirs)
       in
-      let all : y ≡ drop (length (b ∷ x)) (b ∷ x) ++ y = rw (drop_all (b ∷ x)) refl in (
+      let all : y ≡ drop (length (b ∷ x)) (b ∷ x) ++ y = rw (drop-length (b ∷ x)) refl in (
         refl,
         subst (λ (t : List ℕ). AreJoined (with_side_up c s next) s
             (record { engine = e; to_engine = te; to_controller = t }) lo) all done,

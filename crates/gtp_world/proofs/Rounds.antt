@@ -50,6 +50,7 @@ use Rattle.gtp_world.proofs.Settle.{idle_lists_empty, no_orders_left, no_replies
 use Rattle.gtp_world.specs.Exchange.{Answered, reply_with_id, reply_bytes, replayed, Owes, all_reply_bytes}
 use Rattle.gtp_session.specs.CommandAnswers.{GoesWell, success_text}
 use Rattle.gtp_world.specs.Joined.{EngineBody, body, BareLane, bare, IsJoinedInPlay, AreJoined}
+use Rattle.std.proofs.lemmas.List.{drop_all, take_all}
 
 -- ---- texts of script commands are short
 
@@ -101,18 +102,6 @@ one_reply game u o b tc h one =
     by_replies (r ∷ []) owes text =
         record { reply = r; game_after = owes.0; answered = owes.1; text = text ∙ append-nil (reply_bytes r) }
     by_replies (r ∷ q ∷ rs) owes text = absurd owes.2
-
-drop_all : {A : Type 0} (xs : List A) (n : ℕ) → length xs ≤ n → drop n xs ≡ []
-drop_all [] zero h = refl
-drop_all [] (suc n) h = refl
-drop_all (x ∷ xs) zero h = absurd (omega arith)
-drop_all (x ∷ xs) (suc n) h = drop_all xs n (omega (arith, h))
-
-take_all : {A : Type 0} (xs : List A) (n : ℕ) → length xs ≤ n → take n xs ≡ xs
-take_all [] zero h = refl
-take_all [] (suc n) h = refl
-take_all (x ∷ xs) zero h = absurd (omega arith)
-take_all (x ∷ xs) (suc n) h = ap (λ (l : List _). x ∷ l) (take_all xs n (omega (arith, h)))
 
 nothing_heard : (s : Colour) (c c2 : Controller) (bytes : List ℕ) (fault : Option SideFault) → bytes ≡ []
     → HearsAll s c bytes fault c2 → c2 ≡ c
@@ -202,7 +191,7 @@ module _ (c : Controller) (s : Colour) (u : Incarnation) (o : SentCommand) (b : 
           let done : Confirmed used None mid =
           one_confirms used None mid (subst (λ (t : List ℕ). Hears c s t used None mid) (sym is) h) in
           nothing_heard s mid c2 (drop used bytes) fault
-          (drop_all bytes used (omega (arith, done.0, ap length is))) more ∙ done.2
+          (drop_all used bytes (omega (arith, done.0, ap length is))) more ∙ done.2
 
 -- ---- the round
 
@@ -291,7 +280,7 @@ module _ {P : Type 0} (may : May P) (lawful : AllowsLawful may) (s : Colour) (c 
       let fits : length written ≤ 100 =
       reply_fits sender s asked order (body after) written lo j2 none asked_up one scripted_now in
       let hears : HearsAll s sender written h.fault c3 =
-      subst (λ (t : List ℕ). HearsAll s sender t h.fault c3) (take_all written 100 fits) h.hears in
+      subst (λ (t : List ℕ). HearsAll s sender t h.fault c3) (take_all 100 written fits) h.hears in
       let c3_is : c3 ≡ confirmed_by sender s (heard_reply asked) =
       all_confirm sender s asked order (body after) written lo j2 none asked_up one scripted_now h.fault c3 hears in
       let last : Incarnation = confirmed (heard_reply asked) in
@@ -331,7 +320,7 @@ module _ {P : Type 0} (may : May P) (lawful : AllowsLawful may) (s : Colour) (c 
       subst (λ (x : Lane P). LaneReads may x 100 l2) sent_is fed in
       let fed_is : l2 ≡ fed_lane r.after r.written =
       r.lane ∙ ap (λ (t : List ℕ). record { engine = Some r.after; to_engine = t; to_controller = r.written })
-      (drop_all (next_text c s engine) 100 bytes_short) in
+      (drop_all 100 (next_text c s engine) bytes_short) in
       let j2 : AreJoined c1 s (bare l2) lo =
       fed_keeps may lawful c1 s l1 l2 lo 100 fed (send_keeps c c1 s l l1 lo is sends j) in
       let now : AreJoined sender s (bare (fed_lane r.after r.written)) lo =
