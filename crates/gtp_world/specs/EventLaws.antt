@@ -43,6 +43,23 @@ pub record IsCrashed {B W : Type 0} (old : World B W) (side : Colour) (count : �
   -- the controller knows nothing of it
   pub controller : new.controller ≡ old.controller
 
+-- Of the bytes on their way to the side's engine the first are taken off, so many or all where there are fewer. The
+-- controller stays, and so does the other side.
+pub record IsTakenToEngine {B W : Type 0} (old : World B W) (side : Colour) (count : ℕ) (new : World B W)
+    : Type 0 where
+  pub to_engine : to_engine_of new side ≡ drop count (to_engine_of old side)
+  pub controller : new.controller ≡ old.controller
+  pub others : SameLane (other side) old new
+
+-- Of the bytes on their way to the controller the first are taken off, so many or all where there are fewer. The
+-- side's engine stays with what is on its way to it, and so does the other side.
+pub record IsTakenToController {B W : Type 0} (old : World B W) (side : Colour) (count : ℕ) (new : World B W)
+    : Type 0 where
+  pub engine : game_at new side ≡ game_at old side
+  pub to_engine : to_engine_of new side ≡ to_engine_of old side
+  pub to_controller : to_controller_of new side ≡ drop count (to_controller_of old side)
+  pub others : SameLane (other side) old new
+
 -- ---- the side at which an event happens
 
 -- the side that an action is for
@@ -96,3 +113,34 @@ module _ {B W : Type 0} (policies_black : SidePolicies B) (policies_white : Side
   abbrev pub CrashesNeedAnEngine : Type 0
   CrashesNeedAnEngine = (side : Colour) (count : ℕ) (old new : World B W) → game_at old side ≡ None
       → Happens policies_black policies_white old (Crash side count) new → new ≡ old
+
+  -- an event leaves the engine and the lists of every side that isn't its own
+  abbrev pub OthersStay : Type 0
+  OthersStay = (event : Event) (side : Colour) (old new : World B W)
+      → Happens policies_black policies_white old event new
+      → side_of_event old.controller event ≢ Some side → SameLane side old new
+
+  -- bytes that reach an engine that runs are taken off the list to it, as many as the event says
+  abbrev pub ReadingsTakeTheirCount : Type 0
+  ReadingsTakeTheirCount = (side : Colour) (count : ℕ) (old new : World B W) (game : GameRecord)
+      → game_at old side ≡ Some game
+      → Happens policies_black policies_white old (ToEngine side count) new → IsTakenToEngine old side count new
+
+  -- bytes that reach the controller are taken off the list to it, as many as the event says, where the side stays up
+  abbrev pub HearingsTakeTheirCount : Type 0
+  HearingsTakeTheirCount = (side : Colour) (count : ℕ) (old new : World B W) (engine : Incarnation)
+      → (side_of new.controller.sides side).up ≡ Some engine
+      → Happens policies_black policies_white old (ToController side count) new
+      → IsTakenToController old side count new
+
+  -- no byte that reaches the controller changes nothing
+  abbrev pub NoByteHeardIsNothing : Type 0
+  NoByteHeardIsNothing = (side : Colour) (old new : World B W)
+      → Happens policies_black policies_white old (ToController side 0) new → new ≡ old
+
+  -- bytes that reach an engine in two cuts may reach it in one, with the same outcome
+  abbrev pub CutsOfReadingsJoin : Type 0
+  CutsOfReadingsJoin = (side : Colour) (one two : ℕ) (old mid new : World B W)
+      → Happens policies_black policies_white old (ToEngine side one) mid
+      → Happens policies_black policies_white mid (ToEngine side two) new
+      → Happens policies_black policies_white old (ToEngine side (one + two)) new
