@@ -21,7 +21,6 @@ use Rattle.gtp_match.specs.Controller.{sent, lost, lost_engine}
 use Rattle.gtp_match.specs.Hearing.{HearsAllBy, HearsAll}
 use Rattle.gtp_match.specs.Next.{next}
 use Rattle.gtp_match.specs.Sides.{side_of}
-use Rattle.gtp_world.specs.declared.events.Event.{Event}
 use Rattle.gtp_world.specs.declared.events.Event.TheVariants.{Act, BrokenWrite, ToEngine, ToController, Crash, End}
 use Rattle.gtp_world.specs.Lane.{Lane, SidePolicies, ReadsWhereRunning, LaneReads, crash_left, crashed_lane}
 use Rattle.gtp_world.specs.World.{World, opening, lane_where_up, HearsWhereUp, SideHears, Acts, BreaksOff, SideIsLost, LosesWhereUp}
