@@ -1,0 +1,146 @@
+-- Laws of one event: which side it puts down, what it takes off the lists, and what it leaves.
+use Rattle.std.specs.Prelude.{◌≡◌, ◌≢◌, ℕ, ◌+◌, List, [], take, drop, Option, None, Some}
+use Rattle.go_base.specs.Colour.{other}
+use Rattle.go_base.specs.declared.colours.Colour.{Colour}
+use Rattle.go_base.specs.declared.colours.Colour.TheVariants.{Black, White}
+use Rattle.go_board.specs.Game.{GameRecord}
+use Rattle.gtp_match.specs.declared.sides.Incarnation.{Incarnation}
+use Rattle.gtp_match.specs.declared.verdicts.Action.{Action}
+use Rattle.gtp_match.specs.declared.verdicts.Action.TheVariants.{Start, Send, Wait, Done}
+use Rattle.gtp_match.specs.declared.controller.Controller.{Controller}
+use Rattle.gtp_match.specs.Next.{next}
+use Rattle.gtp_match.specs.Setup.{SetupRecord, IsSetup}
+use Rattle.gtp_match.specs.Sides.{side_of}
+use Rattle.gtp_world.specs.declared.events.Event.{Event}
+use Rattle.gtp_world.specs.declared.events.Event.TheVariants.{Act, BrokenWrite, ToEngine, ToController, Crash, End}
+use Rattle.gtp_world.specs.Lane.{SidePolicies}
+use Rattle.gtp_world.specs.World.{World, opening, Happens, Runs, to_engine_of, to_controller_of}
+use Rattle.gtp_world.specs.Worlds.{game_at}
+
+-- ---- one side of a world
+
+-- the controller counts the side as down
+abbrev pub IsDown : {B W : Type 0} → World B W → Colour → Type 0
+IsDown world side = (side_of world.controller.sides side).up ≡ None
+
+-- no engine runs at the side, and nothing is on its way to it or from it
+pub record HasNothing {B W : Type 0} (world : World B W) (side : Colour) : Type 0 where
+  pub engine : game_at world side ≡ None
+  pub to_engine : to_engine_of world side ≡ []
+  pub to_controller : to_controller_of world side ≡ []
+
+-- the side has the same engine and the same lists in both worlds
+abbrev pub SameLane : {B W : Type 0} → Colour → World B W → World B W → Type 0
+SameLane Black old new = new.black ≡ old.black
+SameLane White old new = new.white ≡ old.white
+
+-- the side's engine is gone, with what was on its way to it; of what it wrote the first bytes are left, so many or all
+-- where there are fewer
+pub record IsCrashed {B W : Type 0} (old : World B W) (side : Colour) (count : ℕ) (new : World B W) : Type 0 where
+  pub engine : game_at new side ≡ None
+  pub to_engine : to_engine_of new side ≡ []
+  pub to_controller : to_controller_of new side ≡ take count (to_controller_of old side)
+  -- the controller knows nothing of it
+  pub controller : new.controller ≡ old.controller
+
+-- Of the bytes on their way to the side's engine the first are taken off, so many or all where there are fewer. The
+-- controller stays, and so does the other side.
+pub record IsTakenToEngine {B W : Type 0} (old : World B W) (side : Colour) (count : ℕ) (new : World B W)
+    : Type 0 where
+  pub to_engine : to_engine_of new side ≡ drop count (to_engine_of old side)
+  pub controller : new.controller ≡ old.controller
+  pub others : SameLane (other side) old new
+
+-- Of the bytes on their way to the controller the first are taken off, so many or all where there are fewer. The
+-- side's engine stays with what is on its way to it, and so does the other side.
+pub record IsTakenToController {B W : Type 0} (old : World B W) (side : Colour) (count : ℕ) (new : World B W)
+    : Type 0 where
+  pub engine : game_at new side ≡ game_at old side
+  pub to_engine : to_engine_of new side ≡ to_engine_of old side
+  pub to_controller : to_controller_of new side ≡ drop count (to_controller_of old side)
+  pub others : SameLane (other side) old new
+
+-- ---- the side at which an event happens
+
+-- the side that an action is for
+abbrev pub side_of_action : Action → Option Colour
+side_of_action (Start side) = Some side
+side_of_action (Send side) = Some side
+side_of_action (Wait side) = None
+side_of_action (Done verdict) = None
+
+-- the side of an event, in a world of this controller
+abbrev pub side_of_event : Controller → Event → Option Colour
+side_of_event c Act = side_of_action (next c)
+side_of_event c (BrokenWrite count) = side_of_action (next c)
+side_of_event c (ToEngine side count) = Some side
+side_of_event c (ToController side count) = Some side
+side_of_event c (Crash side count) = Some side
+side_of_event c (End side) = Some side
+
+-- ---- the laws
+
+module _ {B W : Type 0} (policies_black : SidePolicies B) (policies_white : SidePolicies W) where
+  -- after the end of its stream a side is down
+  abbrev pub EndsPutDown : Type 0
+  EndsPutDown = (side : Colour) (old new : World B W)
+      → Happens policies_black policies_white old (End side) new → IsDown new side
+
+  -- after a broken write the side is down that was to be sent a command
+  abbrev pub BrokenWritesPutDown : Type 0
+  BrokenWritesPutDown = (side : Colour) (count : ℕ) (old new : World B W) → next old.controller ≡ Send side
+      → Happens policies_black policies_white old (BrokenWrite count) new → IsDown new side
+
+  -- a broken write leaves the same world, however many bytes went out
+  abbrev pub BrokenWritesAreAlike : Type 0
+  BrokenWritesAreAlike = (one two : ℕ) (old first second : World B W)
+      → Happens policies_black policies_white old (BrokenWrite one) first
+      → Happens policies_black policies_white old (BrokenWrite two) second → second ≡ first
+
+  -- over every list of events from the opening: a side that is down has no engine and two empty lists
+  abbrev pub DownHasNothing : Type 0
+  DownHasNothing = (setup : SetupRecord) (events : List Event) (world : World B W) (side : Colour) → IsSetup setup
+      → Runs policies_black policies_white (opening setup) events world
+      → IsDown world side → HasNothing world side
+
+  -- a crash stops an engine that runs, and cuts what it wrote
+  abbrev pub CrashesStopAndCut : Type 0
+  CrashesStopAndCut = (side : Colour) (count : ℕ) (old new : World B W) (game : GameRecord)
+      → game_at old side ≡ Some game
+      → Happens policies_black policies_white old (Crash side count) new → IsCrashed old side count new
+
+  -- where no engine runs, a crash does nothing
+  abbrev pub CrashesNeedAnEngine : Type 0
+  CrashesNeedAnEngine = (side : Colour) (count : ℕ) (old new : World B W) → game_at old side ≡ None
+      → Happens policies_black policies_white old (Crash side count) new → new ≡ old
+
+  -- an event leaves the engine and the lists of every side that isn't its own
+  abbrev pub OthersStay : Type 0
+  OthersStay = (event : Event) (side : Colour) (old new : World B W)
+      → Happens policies_black policies_white old event new
+      → side_of_event old.controller event ≢ Some side → SameLane side old new
+
+  -- bytes that reach an engine that runs are taken off the list to it, as many as the event says
+  abbrev pub ReadingsTakeTheirCount : Type 0
+  ReadingsTakeTheirCount = (side : Colour) (count : ℕ) (old new : World B W) (game : GameRecord)
+      → game_at old side ≡ Some game
+      → Happens policies_black policies_white old (ToEngine side count) new → IsTakenToEngine old side count new
+
+  -- bytes that reach the controller are taken off the list to it, as many as the event says, where the side stays up
+  abbrev pub HearingsTakeTheirCount : Type 0
+  HearingsTakeTheirCount = (side : Colour) (count : ℕ) (old new : World B W) (engine : Incarnation)
+      → (side_of new.controller.sides side).up ≡ Some engine
+      → Happens policies_black policies_white old (ToController side count) new
+      → IsTakenToController old side count new
+
+  -- no byte that reaches the controller changes nothing
+  abbrev pub NoByteHeardIsNothing : Type 0
+  NoByteHeardIsNothing = (side : Colour) (old new : World B W)
+      → Happens policies_black policies_white old (ToController side 0) new → new ≡ old
+
+  -- bytes that reach an engine in two cuts may reach it in one, with the same outcome
+  abbrev pub CutsOfReadingsJoin : Type 0
+  CutsOfReadingsJoin = (side : Colour) (one two : ℕ) (old mid new : World B W)
+      → Happens policies_black policies_white old (ToEngine side one) mid
+      → Happens policies_black policies_white mid (ToEngine side two) new
+      → Happens policies_black policies_white old (ToEngine side (one + two)) new
