@@ -1,12 +1,17 @@
 #!/bin/sh
 # Runs one benchmark, as `sh bench/run.sh board`.
 #
-# The program is bench/NAME/main.txt (rt ci takes every .rt file for one of a crate's), and bench/NAME/needs names the
+# Where bench/NAME/run is there, it is that program, with the other arguments. Else
+# the program is bench/NAME/main.txt (rt ci takes every .rt file for one of a crate's), and bench/NAME/needs names the
 # libraries that it stands on. It is proved like any other program, but in a copy of the repository's crates, so that rt ci
 # needn't run it.
 set -eu
 name=$1
 top=$(cd "$(dirname "$0")/.." && pwd)
+if [ -x "$top/bench/$name/run" ]; then
+    shift
+    exec "$top/bench/$name/run" "$@"
+fi
 copy=$(mktemp -d)
 trap 'rm -rf "$copy"' EXIT
 cp -R "$top/crates" "$top/crates.txt" "$top/HANDLES" "$copy/"
