@@ -1,14 +1,11 @@
 //! A game between two processes.
-ghost use Rattle.std.specs.Prelude.{◌≡◌, ◌⊎◌, ℕ, List, Option, IfOk, IfErr, OnOk, OnErr};
-ghost use Rattle.std.specs.Io.KnownBytes.{Appends, Keeps};
+ghost use Rattle.std.specs.Prelude.{◌≡◌, IfOk, IfErr, OnOk, OnErr};
+ghost use Rattle.std.specs.Io.KnownBytes.{Keeps};
 ghost use Rattle.gtp_match.specs.declared.verdicts.Action.TheVariants as action;
-ghost use Rattle.gtp_match.specs.declared.verdicts.SideFault.{SideFault};
-ghost use Rattle.gtp_match.specs.Controller.{started, sent, lost};
-ghost use Rattle.gtp_match.specs.Hearing.{HearsAllExactly};
 ghost use Rattle.gtp_match.specs.Next.{next};
 ghost use Rattle.gtp_match.specs.Sound.{IsSound};
 ghost use Rattle.twogtp.specs.Status.{own_fault, status_of};
-ghost use Rattle.twogtp.specs.Turns.{Turn, Plays, command_text};
+ghost use Rattle.twogtp.specs.Turns.{IsHeard, IsSent, Plays, Turn};
 
 use crate::fault::Fault;
 use crate::sides::Sides;
@@ -131,17 +128,13 @@ fn start<S: Starter>(
     }
 }
 
-/// Sends a side its command. A side that can't be written to is lost.
+/// Sends a side its command. A side that has no process is lost.
 fn send<P: Conversation>(game: &mut Match, side: Side, process: &mut Option<P>)
     requires { next game.old ≡ action.Send side }
     ensures { Turn game.old (action.Send side) game.new }
 {
     match process {
-        Some(process) => {
-            if send_to(game, side, process).is_err() {
-                game.lost(side);
-            }
-        }
+        Some(process) => send_to(game, side, process),
         None => {
             let _ = game.send(side);
             game.lost(side);
@@ -149,20 +142,20 @@ fn send<P: Conversation>(game: &mut Match, side: Side, process: &mut Option<P>)
     }
 }
 
-/// Writes a side's command to its process.
-fn send_to<P: Conversation>(game: &mut Match, side: Side, process: &mut P) -> Result<(), Broken>
+/// Writes a side's command to its process. A side that can't be written to is lost.
+fn send_to<P: Conversation>(game: &mut Match, side: Side, process: &mut P)
     requires { next game.old ≡ action.Send side }
-    ensures sent { game.new ≡ sent game.old side }
-    // The process was sent the bytes of the command that comes next, and no other.
-    ensures text { OnOk result
-        (Appends (P.taken process.old) (P.taken process.new) (command_text game.old side)) }
+    ensures sent { IsSent game.old side (P.taken process.old) (P.taken process.new) game.new }
     ensures given { Keeps (P.given process.old) (P.given process.new) }
 {
     let text = game.send(side);
-    process.write(text.as_slice())
+    match process.write(text.as_slice()) {
+        Ok(()) => {}
+        Err(Broken) => game.lost(side),
+    }
 }
 
-/// Hears what a side writes. A side whose stream has ended is lost.
+/// Hears what a side writes. A side that has no process is lost.
 fn hear<P: Conversation>(
     game: &mut Match,
     side: Side,
@@ -173,39 +166,21 @@ fn hear<P: Conversation>(
     ensures { Turn game.old (action.Wait side) game.new }
 {
     match process {
-        Some(process) => {
-            match hear_from(game, side, process, buffer) {
-                Ok(()) => {}
-                Err(Broken) => game.lost(side),
-            }
-        }
+        Some(process) => hear_from(game, side, process, buffer),
         None => game.lost(side),
     }
 }
 
-/// Reads once, and hears all that the process wrote, before anything else is done.
-///
-/// # Errors
-///
-/// `Broken` where the read failed or the stream has ended; nothing is heard then.
-fn hear_from<P: Conversation>(
-    game: &mut Match,
-    side: Side,
-    process: &mut P,
-    buffer: &mut [u8],
-) -> Result<(), Broken>
-    // All bytes that the process gave were heard.
-    ensures heard { OnOk result ((bytes : List ℕ) × (fault : Option SideFault)
-        × Appends (P.given process.old) (P.given process.new) bytes
-        × HearsAllExactly side game.old bytes fault game.new) }
-    ensures unheard { OnErr result (game.new ≡ game.old) }
+/// Reads once, and hears all that the process wrote, before anything else is done. A side whose stream has ended or
+/// can't be read is lost.
+fn hear_from<P: Conversation>(game: &mut Match, side: Side, process: &mut P, buffer: &mut [u8])
+    ensures heard { IsHeard game.old side (P.given process.old) (P.given process.new) game.new }
     ensures taken { Keeps (P.taken process.old) (P.taken process.new) }
 {
     match process.read(buffer) {
         Ok(count) if count > 0 => {
             let _ = game.hear_all(side, &buffer[..count]);
-            Ok(())
         }
-        _ => Err(Broken),
+        _ => game.lost(side),
     }
 }
