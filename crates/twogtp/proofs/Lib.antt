@@ -1,0 +1,4 @@
+mod OptionLemmas
+mod PlanLemmas
+mod TellingLemmas
+mod TurnLemmas

@@ -1,0 +1,33 @@
+-- The command line, and what the getters of its matches give.
+use Rattle.std.proofs.Common.{◌≡◌, ℕ, true, List, [], Option, Some, None, refl}
+use Rattle.std.specs.Borrow.{Bor}
+use Rattle.std.specs.Prelude.{◌<◌, ◌^◌, Ok, Err, Result, option_map, unwrap_or}
+use Rattle.std.specs.Str.Parse.{IsNumeral, ParsesUnsigned, digits_value, without_leading_plus}
+use Rattle.clap.specs.Matches.{ReadsOne}
+use Rattle.clap.specs.Words.{Text, is_simple, is_simple_and_free}
+use Rattle.clap.proofs.OnLiterals.{clap_on_literals}
+use Rattle.twogtp.specs.Options.{command_line}
+
+-- the command line uses nothing that changes how words are read
+pub is_simple-command_line : is_simple command_line ≡ true
+unfolding clap_on_literals
+is_simple-command_line = refl
+
+-- and no option has a rule on another
+pub is_simple_and_free-command_line : is_simple_and_free command_line ≡ true
+unfolding clap_on_literals
+is_simple_and_free-command_line = refl
+
+-- a text, or the empty text where there is none
+pub now-unwrap_or : (o : Option (Bor Text)) (d : Bor Text) → d.now ≡ []
+    → (unwrap_or o d).now ≡ unwrap_or (option_map (λ s. s.now) o) []
+now-unwrap_or None d e = e
+now-unwrap_or (Some s) d e = refl
+
+-- what a getter of numbers of 32 bits read of a text is what the text spells
+pub ReadsOne-spells : (E : Type 0) (G : List ℕ → Result ℕ E → Type 0) (text : Text) (read : Option ℕ) (default : ℕ)
+    → ReadsOne G text read → ((x : Result ℕ E) → G text x → ParsesUnsigned 32 10 text x)
+    → IsNumeral 10 (without_leading_plus text) → digits_value 10 (without_leading_plus text) < 2 ^ 32
+    → unwrap_or read default ≡ digits_value 10 (without_leading_plus text)
+ReadsOne-spells E G text (Some n) default reads parses = λ numeral fits. (parses (Ok n) reads).1
+ReadsOne-spells E G text None default reads parses = λ numeral fits. absurd (parses (Err reads.0) reads.1 (numeral, fits))

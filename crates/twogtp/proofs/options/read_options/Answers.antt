@@ -1,0 +1,23 @@
+use Rattle.std.proofs.Common.{◌≡◌, ◌∙◌, ap, subst, sym, List, map}
+use Rattle.clap.specs.Kinds.{HasKind}
+use Rattle.clap.specs.Words.{App, Row, fault_of, found_of, is_simple, is_simple_and_free, matches_of, rows_of}
+use Rattle.twogtp.specs.Options.{Ask, command_line}
+use Rattle.twogtp.proofs.OptionLemmas.{is_simple-command_line, is_simple_and_free-command_line}
+use Rattle.twogtp.proofs.options.read_options.Goals as goal
+
+pub returns-clause-asked : goal.returns-clause-asked
+returns-clause-asked g c =
+    let line = c.in_ok-command.ensures in
+    let words = map g.S.AsStr.text c.args.words.now in
+    let rows : rows_of (found_of c.in-Ok.matches) ≡ matches_of command_line words =
+    (c.in-Ok.ensures.matches (ap is_simple line ∙ is_simple-command_line)).0 ∙ ap (λ app. matches_of app words) line in
+    record {
+      no_fault = sym (ap (λ app. fault_of app words) line)
+          ∙ c.in-Ok.ensures.kinds (ap is_simple_and_free line ∙ is_simple_and_free-command_line);
+      asked = subst (λ (r : List Row). Ask r c.options_of.result) rows c.options_of.ensures;
+    }
+
+pub returns-in-Err-clause-fault : goal.returns-in-Err-clause-fault
+returns-in-Err-clause-fault g c =
+    subst (λ (app : App). HasKind (fault_of app (map g.S.AsStr.text c.args.words.now)) c.in-Err.error) c.in_ok-command.ensures
+    (c.in-Err.ensures.kinds (ap is_simple_and_free c.in_ok-command.ensures ∙ is_simple_and_free-command_line))

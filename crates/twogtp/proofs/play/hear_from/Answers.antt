@@ -1,0 +1,11 @@
+use Rattle.std.proofs.Common.{arith, rules}
+use Rattle.std.proofs.lemmas.Grind.{common_steps}
+use Rattle.twogtp.specs.Turns.{ended, heard}
+use Rattle.twogtp.proofs.play.hear_from.Goals as goal
+
+pub returns-in-Ok-clause-heard : goal.returns-in-Ok-clause-heard
+returns-in-Ok-clause-heard g c =
+    heard _ c.hear_all.result (grind (arith, common_steps, c.if-count-gt0.true, c.in-Ok.ensures.bound)) (search rules) c.hear_all.ensures.exact
+
+pub returns-in_default-clause-heard : goal.returns-in_default-clause-heard
+returns-in_default-clause-heard g c = rw c.lost.ensures ended

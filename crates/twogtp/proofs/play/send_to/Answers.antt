@@ -1,0 +1,14 @@
+use Rattle.std.proofs.Common.{ℕ, List, ◌∙◌, subst}
+use Rattle.std.specs.Io.KnownBytes.{Appends}
+use Rattle.twogtp.specs.Turns.{failed, taken}
+use Rattle.twogtp.proofs.TurnLemmas.{command_is}
+use Rattle.twogtp.proofs.play.send_to.Goals as goal
+
+pub returns-in-Ok-clause-sent : goal.returns-in-Ok-clause-sent
+returns-in-Ok-clause-sent g c =
+    rw c.send-text.ensures.sent (taken
+    (subst (λ (t : List ℕ). Appends (g.P.Conversation.taken c.args.process.now) (g.P.Conversation.taken c.write.new.self) t)
+    (c.as_slice.ensures.value ∙ command_is c.args.game.now c.args.side _ _ c.send-text.ensures.text) c.in-Ok.ensures.takes))
+
+pub returns-in-Err-clause-sent : goal.returns-in-Err-clause-sent
+returns-in-Err-clause-sent g c = rw c.lost.ensures (rw c.send-text.ensures.sent failed)

@@ -1,0 +1,5 @@
+pub mod Options
+pub mod Status
+pub mod Tasks
+pub mod Telling
+pub mod Turns

@@ -1,0 +1,101 @@
+-- What the program writes of its games.
+use Rattle.std.specs.Prelude.{◌≡◌, ◌≤◌, ◌⊎◌, ℕ, ◌+◌, Bool, true, false, List, [], ◌∷◌, ◌++◌, Option, None, Some}
+use Rattle.std.specs.Io.KnownBytes.{Appends}
+use Rattle.clap.specs.Words.{Text}
+use Rattle.clap.specs.declared.error.kind.ErrorKind.{ErrorKind}
+use Rattle.go_board.specs.Show.{shown}
+use Rattle.gtp_match.specs.declared.controller.Controller.{Controller}
+use Rattle.gtp_match.specs.declared.verdicts.Verdict.{Verdict}
+use Rattle.gtp_match.specs.ResultLine.{result_text, record_text}
+use Rattle.twogtp.specs.declared.fault.Fault.{Fault}
+use Rattle.twogtp.specs.declared.options.Options.{Options}
+use Rattle.twogtp.specs.declared.task.Commands.{Commands}
+use Rattle.twogtp.specs.declared.task.Task.{Task}
+use Rattle.twogtp.specs.Options.{AsksFor, HasFault}
+use Rattle.twogtp.specs.Status.{IsRequest, done, status_with}
+use Rattle.twogtp.specs.Tasks.{IsMistake, IsPlanOf}
+use Rattle.twogtp.specs.Turns.{IsPlayed}
+
+-- the record's line, where it is asked for
+abbrev pub record_part : Bool → Controller → List ℕ
+record_part false c = []
+record_part true c = record_text c.game ++ 10 ∷ []
+
+-- the board and an empty line, where they are asked for
+abbrev pub board_part : Bool → Controller → List ℕ
+board_part false c = []
+board_part true c = shown c.game ++ 10 ∷ 10 ∷ []
+
+-- the result line of a match that is over
+abbrev pub result_part : ℕ → Controller → Option Verdict → List ℕ
+result_part number c None = []
+result_part number c (Some verdict) = result_text number c verdict ++ 10 ∷ []
+
+-- what is told of a game: its result line, and then the record and the board where they are asked for
+abbrev pub told : Task → ℕ → Controller → List ℕ
+told task number c = result_part number c c.verdict ++ (record_part task.record c ++ board_part task.show c)
+
+-- The status and the text of so many games: each was played to its end, and is told in its turn.
+pub data Tells (task : Task) : ℕ → ℕ → List ℕ → Type 0 where
+  no_game : Tells task 0 done []
+  game : {number status : ℕ} {text : List ℕ} {c : Controller} {verdict : Verdict}
+      → Tells task number status text → IsPlayed task.setup c verdict
+      → Tells task (number + 1) (status_with status verdict) (text ++ told task (number + 1) c)
+
+-- a writer took the beginning of a text
+pub record TakesPart (text : List ℕ) (held holds : Option (List ℕ)) : Type 0 where
+  pub part : List ℕ
+  pub left : List ℕ
+  pub cut : text ≡ part ++ left
+  pub taken : Appends held holds part
+
+-- so many games were played, and a writer took what is told of them
+pub record HasToldSome (task : Task) (number status : ℕ) (held holds : Option (List ℕ)) : Type 0 where
+  pub text : List ℕ
+  pub tells : Tells task number status text
+  pub taken : Appends held holds text
+
+-- all games were played, and a writer took what is told of them
+abbrev pub HasTold : Task → ℕ → Option (List ℕ) → Option (List ℕ) → Type 0
+HasTold task status held holds = HasToldSome task task.games status held holds
+
+-- some games were played, and a writer took the beginning of what is told of them
+pub record HasBegunToTell (task : Task) (held holds : Option (List ℕ)) : Type 0 where
+  pub number : ℕ
+  pub status : ℕ
+  pub text : List ℕ
+  pub within : number ≤ task.games
+  pub tells : Tells task number status text
+  pub taken : TakesPart text held holds
+
+-- ---- what the words ask for was done
+
+-- the words have no mistake, and ask for this task
+pub record AsksForTask (words : List Text) (task : Task) : Type 0 where
+  pub options : Options
+  pub asked : AsksFor words options
+  pub commands : Commands
+  pub plan : IsPlanOf options commands task
+
+-- all games of the task that the words ask for were played and told, with this status
+pub record HasDone (words : List Text) (status : ℕ) (held holds : Option (List ℕ)) : Type 0 where
+  pub task : Task
+  pub asks : AsksForTask words task
+  pub told : HasTold task status held holds
+
+-- some games of the task that the words ask for were played, and what is told of them was begun
+pub record HasBegun (words : List Text) (held holds : Option (List ℕ)) : Type 0 where
+  pub task : Task
+  pub asks : AsksForTask words task
+  pub begun : HasBegunToTell task held holds
+
+-- the options that the words ask for have a mistake
+pub record AsksWrongly (words : List Text) : Type 0 where
+  pub options : Options
+  pub asked : AsksFor words options
+  pub fault : Fault
+  pub mistake : IsMistake options fault
+
+-- the words have a mistake, or what they ask for has one
+abbrev pub HasMistake : List Text → Type 0
+HasMistake words = ((kind : ErrorKind) × (¬ IsRequest kind) × HasFault words kind) ⊎ AsksWrongly words

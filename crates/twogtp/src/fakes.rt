@@ -1,0 +1,225 @@
+//! Engines in memory, in place of processes, and writers that fail.
+ghost use Rattle.std.specs.Prelude.{None};
+
+use crate::starter::{Broken, Conversation, StartFault, Starter};
+use gtp_session::book::Book;
+use gtp_session::first::First;
+use gtp_session::policy::Policy;
+use gtp_session::session::{Fed, Session};
+use std::alloc::{AllocError, Global};
+use std::cell::Cell;
+use std::io;
+use std::io::{ErrorKind, Read, Write};
+use std::rc::Rc;
+
+/// A stream of which each write and flush fails.
+#[derive(Clone, Copy, Drop)]
+pub struct Full;
+
+impl Write for Full {
+    fn write(&mut self, _buf: &[u8]) -> io::Result<usize> {
+        Err(io::Error::from(ErrorKind::BrokenPipe))
+    }
+
+    fn flush(&mut self) -> io::Result<()> {
+        Err(io::Error::from(ErrorKind::BrokenPipe))
+    }
+}
+
+/// A stream with room for so many bytes; a write into it when it is full fails.
+#[derive(Drop)]
+pub struct Narrow {
+    pub taken: Vec<u8>,
+    pub room: usize,
+}
+
+impl Write for Narrow {
+    fn write(&mut self, buf: &[u8]) -> io::Result<usize> {
+        let count = buf.len().min(self.room);
+        if count == 0 {
+            return Err(io::Error::from(ErrorKind::BrokenPipe));
+        }
+        self.taken.extend_from_slice(&buf[..count])?;
+        self.room = self.room.saturating_sub(count);
+        Ok(count)
+    }
+
+    fn flush(&mut self) -> io::Result<()> {
+        Ok(())
+    }
+}
+
+/// What an engine in memory does.
+#[derive(Drop)]
+enum Engine {
+    /// Plays the first candidate.
+    First(Session<First>),
+    /// Plays by a book.
+    Book(Session<Book>),
+    /// Takes all that it is sent, and writes one text.
+    Says,
+    /// Its pipes are broken.
+    Broken,
+}
+
+/// A conversation with an engine in memory: the engine, what it wrote, and how much of that was read.
+pub struct Talk {
+    engine: Engine,
+    written: Vec<u8>,
+    read: usize,
+    log: Log,
+}
+
+/// Feeds the text to a session, and collects its replies.
+fn answer<P: Policy>(
+    session: &mut Session<P>,
+    text: &[u8],
+    written: &mut Vec<u8>,
+) -> Result<(), AllocError> {
+    let mut rest = text;
+    for _ in 0..text.len() {
+        let Fed {
+            used,
+            reply,
+            ended: _,
+        } = session.feed(rest);
+        match reply {
+            Some(reply) => written.extend_from_slice(reply.as_slice())?,
+            None => return Ok(()),
+        }
+        rest = &rest[used..];
+    }
+    Ok(())
+}
+
+impl Conversation for Talk {
+    ghost taken = { λ _. None };
+
+    ghost given = { λ _. None };
+
+    fn read(&mut self, buffer: &mut [u8]) -> Result<usize, Broken> {
+        if let Engine::Broken = &self.engine {
+            return Err(Broken);
+        }
+        let Some(mut left) = self.written.get(self.read..) else {
+            return Err(Broken);
+        };
+        match left.read(buffer) {
+            Ok(count) => {
+                self.read = self.read.saturating_add(count);
+                Ok(count)
+            }
+            Err(_) => Err(Broken),
+        }
+    }
+
+    fn write(&mut self, text: &[u8]) -> Result<(), Broken> {
+        if text == b"quit\n".as_slice() {
+            add_one(&self.log.quits);
+        }
+        match &mut self.engine {
+            Engine::First(session) => answer(session, text, &mut self.written).map_err(|_| Broken),
+            Engine::Book(session) => answer(session, text, &mut self.written).map_err(|_| Broken),
+            Engine::Says => Ok(()),
+            Engine::Broken => Err(Broken),
+        }
+    }
+
+    fn end(self) {
+        let Talk {
+            engine,
+            written,
+            read: _,
+            log,
+        } = self;
+        add_one(&log.ended);
+        drop(engine);
+        drop(written);
+        drop(log);
+    }
+}
+
+/// What was done with the engines.
+#[derive(Clone, Drop)]
+pub struct Log {
+    /// How many were started.
+    pub started: Rc<Cell<u32>>,
+    /// How many were ended.
+    pub ended: Rc<Cell<u32>>,
+    /// How many were sent `quit`.
+    pub quits: Rc<Cell<u32>>,
+}
+
+impl Log {
+    /// Nothing was done yet.
+    pub fn new(alloc: Global) -> Result<Log, AllocError> {
+        Ok(Log {
+            started: Rc::new(alloc, Cell::new(0))?,
+            ended: Rc::new(alloc, Cell::new(0))?,
+            quits: Rc::new(alloc, Cell::new(0))?,
+        })
+    }
+}
+
+/// Counts one more.
+fn add_one(count: &Cell<u32>) {
+    count.set(count.get().saturating_add(1));
+}
+
+/// Starts engines in memory, by the name and the options that the program has, and some that misbehave.
+#[derive(Drop)]
+pub struct InMemory {
+    pub alloc: Global,
+    pub log: Log,
+    /// The number of the start, from 1, for which memory is refused; 0 where it never is.
+    pub refused: u32,
+}
+
+impl Starter for InMemory {
+    type Process = Talk;
+
+    fn start(&mut self, words: &[&str]) -> Result<Talk, StartFault> {
+        let engine = match words {
+            ["gtp_engine"] => Engine::First(Session::new(First)),
+            ["gtp_engine", "--policy", "first"] => Engine::First(Session::new(First)),
+            ["gtp_engine", "--policy", "book"] => book_engine("")?,
+            ["gtp_engine", "--policy", "book", "--book", text] => book_engine(text)?,
+            ["says", ..] | ["refuses"] => Engine::Says,
+            ["broken"] => Engine::Broken,
+            _ => return Err(StartFault::NotStarted),
+        };
+        add_one(&self.log.started);
+        if self.log.started.get() == self.refused {
+            return Err(StartFault::OutOfMemory);
+        }
+        let text = match words {
+            ["says", text] => text.as_bytes(),
+            ["refuses"] => b"?1 no\n\n",
+            _ => b"",
+        };
+        match started_talk(self.alloc, engine, text, &self.log) {
+            Ok(started) => Ok(started),
+            Err(AllocError) => Err(StartFault::OutOfMemory),
+        }
+    }
+}
+
+/// A conversation with the engine, which wrote this text at once.
+fn started_talk(alloc: Global, engine: Engine, text: &[u8], log: &Log) -> Result<Talk, AllocError> {
+    let mut written = Vec::new(alloc);
+    written.extend_from_slice(text)?;
+    Ok(Talk {
+        engine,
+        written,
+        read: 0,
+        log: log.clone()?,
+    })
+}
+
+/// An engine that plays by this book.
+fn book_engine(text: &str) -> Result<Engine, StartFault> {
+    match Book::read(text.as_bytes()) {
+        Some(book) => Ok(Engine::Book(Session::new(book))),
+        None => Err(StartFault::NotStarted),
+    }
+}

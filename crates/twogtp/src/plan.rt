@@ -1,0 +1,100 @@
+//! From the options of a run to the engines' commands and the task.
+ghost use Rattle.std.specs.Prelude.{◌≡◌, ◌⊎◌, IfOk, IfErr};
+ghost use Rattle.twogtp.specs.Tasks.{AreCommandsOf, IsCommand, IsMistake, IsPlanOf, IsTaskMistake, IsTaskOf};
+
+use crate::fault::Fault;
+use crate::options::Options;
+use crate::task::{Commands, Task};
+use go_base::{Komi, Size};
+use gtp_match::Setup;
+use std::alloc::{AllocError, Global};
+
+/// What a run is to do, and with which engines.
+#[derive(Drop)]
+pub struct Plan<'a> {
+    /// The commands that start the engines.
+    pub commands: Commands<'a>,
+    /// The games.
+    pub task: Task,
+}
+
+/// The plan of the options.
+///
+/// # Errors
+///
+/// `OutOfMemory`, or the first mistake in this order: Black's command has no word, White's has none, the text of komi is
+/// no komi, the size doesn't allow the handicap.
+pub fn plan_of<'a>(alloc: Global, options: &Options<'a>) -> Result<Plan<'a>, Fault>
+    ensures plan { IfOk result (λ plan. IsPlanOf options.now plan.commands plan.task) }
+    ensures fault { IfErr result (λ fault.
+        (fault ≡ Fault.OutOfMemory) ⊎ IsMistake options.now fault) }
+{
+    let commands = match commands_of(alloc, options) {
+        Ok(commands) => commands,
+        Err(fault) => return Err(fault),
+    };
+    match task_of(options) {
+        Ok(task) => Ok(Plan { commands, task }),
+        Err(fault) => Err(fault),
+    }
+}
+
+/// The commands of the options. Black's is looked at first.
+fn commands_of<'a>(alloc: Global, options: &Options<'a>) -> Result<Commands<'a>, Fault>
+    ensures commands { IfOk result (AreCommandsOf options.now) }
+    ensures fault { IfErr result (λ fault.
+        (fault ≡ Fault.OutOfMemory) ⊎ IsMistake options.now fault) }
+{
+    let Ok(black) = words_of(alloc, options.black) else {
+        return Err(Fault::OutOfMemory);
+    };
+    if black.is_empty() {
+        return Err(Fault::NoBlackCommand);
+    }
+    let Ok(white) = words_of(alloc, options.white) else {
+        return Err(Fault::OutOfMemory);
+    };
+    if white.is_empty() {
+        return Err(Fault::NoWhiteCommand);
+    }
+    Ok(Commands { black, white })
+}
+
+/// The task of the options. Komi is looked at first. That a size or another number is past its limits isn't met, since
+/// the command line refuses it.
+fn task_of(options: &Options<'_>) -> Result<Task, Fault>
+    ensures task { IfOk result (IsTaskOf options.now) }
+    ensures fault { IfErr result (IsTaskMistake options.now) }
+{
+    let Some(komi) = Komi::read(options.komi.as_bytes()) else {
+        return Err(Fault::BadKomi);
+    };
+    let Some(size) = Size::new(options.size) else {
+        return Err(Fault::BadHandicap);
+    };
+    match Setup::new(
+        size,
+        komi,
+        options.handicap,
+        options.max_moves,
+        options.restarts,
+    ) {
+        Ok(setup) => Ok(Task {
+            setup,
+            games: options.games,
+            record: options.record,
+            show: options.show,
+        }),
+        Err(_) => Err(Fault::BadHandicap),
+    }
+}
+
+/// The words of a command, which is split at runs of spaces.
+fn words_of<'a>(alloc: Global, command: &'a str) -> Result<Vec<&'a str>, AllocError>
+    ensures { IfOk result (λ found. IsCommand command.entry.now found.items) }
+{
+    command
+        .split(' ')
+        .filter(|word| !word.is_empty())
+        .collect(alloc)
+}

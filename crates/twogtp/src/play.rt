@@ -1,0 +1,186 @@
+//! A game between two processes.
+ghost use Rattle.std.specs.Prelude.{◌≡◌, IfOk, IfErr, OnOk, OnErr};
+ghost use Rattle.std.specs.Io.KnownBytes.{Keeps};
+ghost use Rattle.gtp_match.specs.declared.verdicts.Action.TheVariants as action;
+ghost use Rattle.gtp_match.specs.Next.{next};
+ghost use Rattle.gtp_match.specs.Sound.{IsSound};
+ghost use Rattle.twogtp.specs.Status.{own_fault, status_of};
+ghost use Rattle.twogtp.specs.Turns.{IsHeard, IsSent, Plays, Turn};
+
+use crate::fault::Fault;
+use crate::sides::Sides;
+use crate::starter::{Broken, Conversation, StartFault, Starter};
+use crate::task::Commands;
+use go_base::Side;
+use gtp_match::{Action, Match, Verdict};
+
+/// How many turns a game has at most. No match within the limits has as many.
+const MOST_TURNS: u64 = 1_000_000_000_000;
+
+/// How many bytes are read at once at most.
+const READ_ROOM: usize = 4096;
+
+/// Plays a match to its end, and answers how it ended. Each process that is started is ended, also after a fault.
+///
+/// # Errors
+///
+/// `OutOfMemory` where the start of a process was refused memory, `TooManyTurns`.
+pub fn play_game<S: Starter>(
+    game: &mut Match,
+    commands: &Commands<'_>,
+    starter: &mut S,
+) -> Result<Verdict, Fault>
+    ensures plays { Plays game.old game.new }
+    ensures over { IfOk result (λ verdict. next game.new ≡ action.Done verdict) }
+    ensures sound { IfOk result (λ verdict. IsSound game.new) }
+    ensures fault { IfErr result (λ fault. status_of fault ≡ own_fault) }
+{
+    let mut sides = Sides::none();
+    let mut buffer = [0u8; READ_ROOM];
+    let played = take_turns(game, &mut sides, &mut buffer, commands, starter);
+    if played.is_ok() {
+        sides.say_quit(game, &mut buffer);
+    }
+    sides.end();
+    played
+}
+
+/// Takes turns until the match is over.
+fn take_turns<S: Starter>(
+    game: &mut Match,
+    sides: &mut Sides<S::Process>,
+    buffer: &mut [u8],
+    commands: &Commands<'_>,
+    starter: &mut S,
+) -> Result<Verdict, Fault>
+    ensures plays { Plays game.old game.new }
+    ensures over { IfOk result (λ verdict. next game.new ≡ action.Done verdict) }
+    ensures sound { IfOk result (λ verdict. IsSound game.new) }
+    ensures fault { IfErr result (λ fault. status_of fault ≡ own_fault) }
+{
+    for _turn in 0..MOST_TURNS {
+        let action = game.next();
+        if let Action::Done(verdict) = action {
+            return Ok(verdict);
+        }
+        match take_turn(game, action, sides, buffer, commands, starter) {
+            Ok(()) => {}
+            Err(fault) => return Err(fault),
+        }
+        sides.end_what_is_down(game);
+    }
+    Err(Fault::TooManyTurns)
+}
+
+/// Does what comes next.
+fn take_turn<S: Starter>(
+    game: &mut Match,
+    action: Action,
+    sides: &mut Sides<S::Process>,
+    buffer: &mut [u8],
+    commands: &Commands<'_>,
+    starter: &mut S,
+) -> Result<(), Fault>
+    requires { next game.old ≡ action }
+    ensures turn { OnOk result (Turn game.old action game.new) }
+    ensures unchanged { OnErr result (game.new ≡ game.old) }
+    ensures fault { IfErr result (λ fault. status_of fault ≡ own_fault) }
+{
+    match action {
+        Action::Start(side) => start(game, sides, side, commands, starter),
+        Action::Send(side) => {
+            send(game, side, sides.at(side));
+            Ok(())
+        }
+        Action::Wait(side) => {
+            hear(game, side, sides.at(side), buffer);
+            Ok(())
+        }
+        Action::Done(_) => Ok(()),
+    }
+}
+
+/// Starts a side's process. One that can't be started counts as started and lost.
+fn start<S: Starter>(
+    game: &mut Match,
+    sides: &mut Sides<S::Process>,
+    side: Side,
+    commands: &Commands<'_>,
+    starter: &mut S,
+) -> Result<(), Fault>
+    requires { next game.old ≡ action.Start side }
+    ensures turn { OnOk result (Turn game.old (action.Start side) game.new) }
+    ensures unchanged { OnErr result (game.new ≡ game.old) }
+    ensures fault { IfErr result (λ fault. status_of fault ≡ own_fault) }
+{
+    match starter.start(commands.of(side)) {
+        Ok(process) => {
+            game.started(side);
+            sides.put(side, process);
+            Ok(())
+        }
+        Err(StartFault::NotStarted) => {
+            game.started(side);
+            game.lost(side);
+            Ok(())
+        }
+        Err(StartFault::OutOfMemory) => Err(Fault::OutOfMemory),
+    }
+}
+
+/// Sends a side its command. A side that has no process is lost.
+fn send<P: Conversation>(game: &mut Match, side: Side, process: &mut Option<P>)
+    requires { next game.old ≡ action.Send side }
+    ensures { Turn game.old (action.Send side) game.new }
+{
+    match process {
+        Some(process) => send_to(game, side, process),
+        None => {
+            let _ = game.send(side);
+            game.lost(side);
+        }
+    }
+}
+
+/// Writes a side's command to its process. A side that can't be written to is lost.
+fn send_to<P: Conversation>(game: &mut Match, side: Side, process: &mut P)
+    requires { next game.old ≡ action.Send side }
+    ensures sent { IsSent game.old side (P.taken process.old) (P.taken process.new) game.new }
+    ensures given { Keeps (P.given process.old) (P.given process.new) }
+{
+    let text = game.send(side);
+    match process.write(text.as_slice()) {
+        Ok(()) => {}
+        Err(Broken) => game.lost(side),
+    }
+}
+
+/// Hears what a side writes. A side that has no process is lost.
+fn hear<P: Conversation>(
+    game: &mut Match,
+    side: Side,
+    process: &mut Option<P>,
+    buffer: &mut [u8],
+)
+    requires { next game.old ≡ action.Wait side }
+    ensures { Turn game.old (action.Wait side) game.new }
+{
+    match process {
+        Some(process) => hear_from(game, side, process, buffer),
+        None => game.lost(side),
+    }
+}
+
+/// Reads once, and hears all that the process wrote, before anything else is done. A side whose stream has ended or
+/// can't be read is lost.
+fn hear_from<P: Conversation>(game: &mut Match, side: Side, process: &mut P, buffer: &mut [u8])
+    ensures heard { IsHeard game.old side (P.given process.old) (P.given process.new) game.new }
+    ensures taken { Keeps (P.taken process.old) (P.taken process.new) }
+{
+    match process.read(buffer) {
+        Ok(count) if count > 0 => {
+            let _ = game.hear_all(side, &buffer[..count]);
+        }
+        _ => game.lost(side),
+    }
+}
