@@ -14,9 +14,9 @@ play() {
     board=$(tac "$name.out" | sed -n '2,/^game /p' | head -n -2 | tac)
 }
 
-# told ENGINE..: tells an engine the last match, asks for the position and the score, and prints what it says in one line: how
-# many commands it refused, then black stones, white stones, stones that Black took and that White took, and the score. What
-# the engine doesn't know of these is `-`.
+# told ENGINE..: tells an engine the last match, asks for the position and last for what `asked` names, and prints what it says
+# in one line: how many commands it refused, then black stones, white stones, stones that Black took and that White took, and
+# the last answer. What the engine doesn't know of these is `-`.
 told() {
     local colour=b vertex question
     [ "$handicap" = 0 ] || colour=w
@@ -27,7 +27,7 @@ told() {
             echo "play $colour $vertex"
             if [ "$colour" = b ]; then colour=w; else colour=b; fi
         done
-        for question in 'list_stones black' 'list_stones white' 'captures black' 'captures white' final_score; do
+        for question in 'list_stones black' 'list_stones white' 'captures black' 'captures white' "$asked"; do
             echo "$question"
         done
     } | "$@" 2> /dev/null | awk '
@@ -73,8 +73,8 @@ credited() {
 
 # referees TITLE: the last match told to each engine that is here. Where there was a score, each has to say it too.
 referees() {
-    local scored=1 said wanted=$verdict
-    [[ $verdict =~ ^[BW]\+[0-9] ]] || scored=
+    local scored=1 asked=final_score said wanted=$verdict
+    [[ $verdict =~ ^[BW]\+[0-9] ]] || { scored='' asked=protocol_version; }
     said=$(told ./gtp_engine)
     check "$1: told to our engine, no move is refused${scored:+, and its score is ${said##* }}" \
         "${said%% *} ${scored:+${said##* }}" "0 ${scored:+$verdict}"
@@ -116,14 +116,14 @@ drawn() {
 alive() {
     local file count=0
     for file in "$@"; do
-        [ ! -d "/proc/$(cat "$file")" ] || count=$((count + 1))
+        [ ! -f "$file" ] || [ ! -d "/proc/$(cat "$file")" ] || count=$((count + 1))
     done
     echo "$count"
 }
 
 # killing TITLE SIDES BLACK WHITE ARGUMENT..: plays a match once in peace and once while the engines of SIDES (`black`, `white`
 # or both words) are killed twice each from outside, when they have been sent drawn numbers of commands. The engines of these
-# sides are commands of `marked`, with the side's own name as LOG. Sets `before` to the line in peace.
+# sides are started by `marked` or `tap`, with the side's own name as LOG. Sets `before` to the line in peace.
 killing() {
     local title=$1 sides=$2 side moves restarts='' restarted counts killers=''
     shift 2
@@ -203,12 +203,12 @@ large() {
         komi=0.5 handicap=2 fair '19x19, Random - Leela Zero, handicap 2' "$random 4" "$leela"
     fi
     if [ -x gnugo ]; then
-        fair '19x19, First - GNU Go' "$first" "$peer 1"
+        fair '19x19, First - GNU Go' "$first" "${peer/level 1/level 0} 1"
         komi=0.5 handicap=6 fair '19x19, GNU Go - Random, handicap 6, 100 moves' "$quick 1" "$random 1" --max-moves 100
     fi
     if [ -x gnugo ] && [ -x leelaz ]; then
         fair '19x19, GNU Go - Leela Zero, 100 moves' "$quick 1" "$leela" --max-moves 100
-        komi=0.5 handicap=4 fair '19x19, Leela Zero - GNU Go, handicap 4' "$leela" "$peer 1"
+        komi=0.5 handicap=4 fair '19x19, Leela Zero - GNU Go, handicap 4, 100 moves' "$leela" "$quick 1" --max-moves 100
     fi
 }
 
@@ -226,11 +226,11 @@ killings() {
     komi=0.5 handicap=3 killing "$title" white "$random 4" "./marked white $marked --seed 1 --gtp-dump-commands"
     undisturbed "$title"
     title='19x19, GNU Go - Random, 60 moves'
-    size=19 killing "$title" black "./marked black $marked --seed 1 --gtp-dump-commands" "$random 5" --max-moves 60
+    size=19 killing "$title" black "./marked black ${marked/level 1/level 0} --seed 1 --gtp-dump-commands" "$random 5" --max-moves 60
     undisturbed "$title"
     if [ -x leelaz ]; then
         victim=leelaz size=19
-        killing '19x19, Random - Leela Zero' white "$random 6" "./marked white $leela --logfile"
+        killing '19x19, Random - Leela Zero' white "$random 6" "./tap white $leela"
         referees '19x19, Random - Leela Zero, White killed'
     fi
 }
