@@ -184,7 +184,8 @@ small() {
         komi=0.5 handicap=3 fair '9x9, Random - GNU Go, handicap 3' "$random 4" "$peer 1"
         komi=0.5 handicap=5 fair '9x9, GNU Go - Random, handicap 5' "$peer 1" "$random 4"
         size=20 ends '20x20, First - GNU Go' 'game 1: unfit white moves 0 restarts 0 0' 1 "$first" "$quick 1"
-        size=12 handicap=2 ends '12x12, GNU Go - First, handicap 2' 'game 1: unfit black moves 0 restarts 0 0' 1 "$quick 1" "$first"
+        size=12 handicap=2 ends '12x12, GNU Go - First, handicap 2' \
+            'game 1: unfit black moves 0 restarts 0 0' 1 "$quick 1" "$first"
         ends '9x9, GNU Go without --mode gtp - First' 'game 1: abandoned black moves 0 restarts 2 0' 1 ./gnugo "$first"
     fi
     if [ -x leelaz ]; then
@@ -214,7 +215,7 @@ large() {
 
 # killings: matches in which the engines are killed from outside.
 killings() {
-    local marked='./gnugo --mode gtp --level 1 --chinese-rules --play-out-aftermath --capture-all-dead --never-resign' seed size=9 title
+    local size=9 seed title marked=${peer% --seed}
     victim=gnugo
     for seed in 1 2 3; do
         title="9x9, GNU Go $seed - GNU Go $((seed + 100))"
@@ -226,7 +227,8 @@ killings() {
     komi=0.5 handicap=3 killing "$title" white "$random 4" "./marked white $marked --seed 1 --gtp-dump-commands"
     undisturbed "$title"
     title='19x19, GNU Go - Random, 60 moves'
-    size=19 killing "$title" black "./marked black ${marked/level 1/level 0} --seed 1 --gtp-dump-commands" "$random 5" --max-moves 60
+    size=19 killing "$title" black "./marked black ${marked/level 1/level 0} --seed 1 --gtp-dump-commands" "$random 5" \
+        --max-moves 60
     undisturbed "$title"
     if [ -x leelaz ]; then
         victim=leelaz size=19
