@@ -1,7 +1,7 @@
 -- Laws of what a writer took and a reader gave.
 use Rattle.std.proofs.Common.{◌≡◌, ℕ, ◌+◌, ◌-◌, ◌≤◌, List, [], ◌∷◌, ◌++◌, length, take, drop, Option, sym, ap, ◌∙◌, append_assoc, arith, subst}
 use Rattle.std.proofs.Math.Seq.{take-add}
-use Rattle.std.proofs.lemmas.List.{append-nil, take-append-drop, take_all, length-drop, length-append, length-take-le}
+use Rattle.std.proofs.lemmas.List.{take-append-drop, take_all, length-drop, length-append, length-take-le}
 use Rattle.std.proofs.KnownBytes.{Appends-nil, Appends-trans, Appends-kept, Consumes-nil, Consumes-trans}
 use Rattle.std.specs.Io.KnownBytes.{Appends, Keeps, Consumes}
 use Rattle.std.specs.List.{concat}
@@ -10,7 +10,7 @@ use Rattle.std.proofs.lemmas.List.Folds.{concat-append}
 use Rattle.std.proofs.lemmas.List.{map-append}
 use Rattle.gtp_wire.specs.Lines.{lines}
 use Rattle.gtp_session.specs.Policy.{May}
-use Rattle.gtp_session.specs.Engine.{Engine, WrittenReply, Replies, StopsAtLine, output_of}
+use Rattle.gtp_session.specs.Engine.{Engine, WrittenReply, output_of}
 use Rattle.gtp_session.specs.Conversation.{TakesPart, Delivered, Breaks, Conversation, BrokenConversation, GivesAtLeast, GivesBytes}
 use Rattle.gtp_session.proofs.EngineLemmas.{Replies-nothing, Replies-then}
 
