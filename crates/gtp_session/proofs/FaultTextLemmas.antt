@@ -15,7 +15,8 @@ use Rattle.gtp_session.specs.FaultTexts.{SpellsBetween, SpellsNumbered, SpellsFa
 -- ---- colons
 
 -- a text with a colon is what stands before the first, the colon, and what stands behind it
-rejoined_by_test : (b : ℕ) (bs rest : List ℕ) → (behind_first (from_colon bs) ≡ Some rest → bs ≡ before_colon bs ++ 58 ∷ rest)
+rejoined_by_test : (b : ℕ) (bs rest : List ℕ)
+    → (behind_first (from_colon bs) ≡ Some rest → bs ≡ before_colon bs ++ 58 ∷ rest)
     → (colon : Bool) → (b == 58) ≡ colon → behind_first (cond colon (b ∷ bs) (from_colon bs)) ≡ Some rest
     → b ∷ bs ≡ cond colon [] (b ∷ before_colon bs) ++ 58 ∷ rest
 rejoined_by_test b bs rest later true t e =
@@ -53,13 +54,15 @@ from_digits (b ∷ bs) rest all = rw (digit_no_colon b all.0) (from_digits bs re
 -- ---- numbers
 
 -- where a text spells an int between the limits, it has that number, and the other way round
-pub within_of : (least most n : ℕ) (text : List ℕ) → SpellsBetween least most n text → where_between least most (int_of text) ≡ Some n
+pub within_of : (least most n : ℕ) (text : List ℕ) → SpellsBetween least most n text
+    → where_between least most (int_of text) ≡ Some n
 within_of least most n text spelled =
     let low : nat_le least n ≡ true = let l = spelled.low in grind (arith, nat_tests) in
     let high : nat_le n most ≡ true = let m = spelled.high in grind (arith, nat_tests) in
     rw (int_of_spelled n text spelled.int, low, high) refl
 
-of_within : (least most n : ℕ) (text : List ℕ) (int : Option ℕ) → int_of text ≡ int → where_between least most int ≡ Some n → SpellsBetween least most n text
+of_within : (least most n : ℕ) (text : List ℕ) (int : Option ℕ) → int_of text ≡ int
+    → where_between least most int ≡ Some n → SpellsBetween least most n text
 of_within least most n text None is e = absurd (cc)
 of_within least most n text (Some m) is e = by_tests (nat_le least m) (nat_le m most) refl refl e
   where
@@ -72,7 +75,8 @@ of_within least most n text (Some m) is e = by_tests (nat_le least m) (nat_le m 
     by_tests true false l h f = absurd (cc)
     by_tests false high l h f = absurd (cc)
 
-pub within_spelled : (least most n : ℕ) (text : List ℕ) → where_between least most (int_of text) ≡ Some n → SpellsBetween least most n text
+pub within_spelled : (least most n : ℕ) (text : List ℕ) → where_between least most (int_of text) ≡ Some n
+    → SpellsBetween least most n text
 within_spelled least most n text e = of_within least most n text (int_of text) refl e
 
 -- ---- a text that spells a fault has it

@@ -25,8 +25,8 @@ pub record SpellsCut (number kept : ℕ) (text : List ℕ) : Type 0 where
   pub genmove : SpellsBetween 1 2000 number first
   pub bytes : SpellsBetween 0 2048 kept last
 
--- The text spells the fault: `none`, `stop:N`, `cut:N:K`, `junk:N` or `flood:N`, where N is an int from 1 to 2,000 and K
--- one from 0 to 2,048.
+-- The text spells the fault: `none`, `stop:N`, `cut:N:K`, `junk:N` or `flood:N`, where N is an int from 1 to 2,000 and
+-- K one from 0 to 2,048.
 abbrev pub SpellsFault : Fault → List ℕ → Type 0
 SpellsFault Off text = text ≡ codes "none"
 SpellsFault (Stop number) text = SpellsNumbered (codes "stop:") number text
