@@ -1,7 +1,7 @@
 -- Laws of what a writer took and a reader gave.
 use Rattle.std.proofs.Common.{◌≡◌, ℕ, ◌+◌, ◌-◌, ◌≤◌, List, [], ◌∷◌, ◌++◌, length, take, drop, Option, sym, ap, ◌∙◌, append_assoc, arith, subst}
 use Rattle.std.proofs.Math.Seq.{take-add}
-use Rattle.std.proofs.lemmas.List.{append-nil, take-append-drop, take_all, length-drop, length-append, length-take-le}
+use Rattle.std.proofs.lemmas.List.{take-append-drop, take_all, length-drop, length-append, length-take-le}
 use Rattle.std.proofs.KnownBytes.{Appends-nil, Appends-trans, Appends-kept, Consumes-nil, Consumes-trans}
 use Rattle.std.specs.Io.KnownBytes.{Appends, Keeps, Consumes}
 use Rattle.std.specs.List.{concat}
@@ -10,7 +10,7 @@ use Rattle.std.proofs.lemmas.List.Folds.{concat-append}
 use Rattle.std.proofs.lemmas.List.{map-append}
 use Rattle.gtp_wire.specs.Lines.{lines}
 use Rattle.gtp_session.specs.Policy.{May}
-use Rattle.gtp_session.specs.Engine.{Engine, WrittenReply, Replies, StopsAtLine, output_of}
+use Rattle.gtp_session.specs.Engine.{Engine, WrittenReply, output_of}
 use Rattle.gtp_session.specs.Conversation.{TakesPart, Delivered, Breaks, Conversation, BrokenConversation, GivesAtLeast, GivesBytes}
 use Rattle.gtp_session.proofs.EngineLemmas.{Replies-nothing, Replies-then}
 
@@ -62,53 +62,14 @@ module _ {P : Type 0} (may : May P) where
   pub Delivered-nothing : (a : Engine P) (held : Option (List ℕ)) → lines a.rest ≡ [] → Delivered may a [] a held held
   Delivered-nothing a held e = record { replies = []; engine = Replies-nothing may a e; taken = Appends-nil held }
 
-  -- more is read, and its replies are written
-  pub Delivered-then : {a b c : Engine P} {text next : List ℕ} {held mid holds : Option (List ℕ)} (rs : List WrittenReply)
-      → Delivered may a text b held mid → Replies may b next c rs → Appends mid holds (output_of rs)
-      → Delivered may a (text ++ next) c held holds
-  Delivered-then {held = held} {mid = mid} {holds = holds} rs p q taken =
-      record {
-        replies = p.replies ++ rs;
-        engine = Replies-then may p.engine q;
-        taken = rw (output_of-append p.replies rs) (Appends-trans held mid holds _ _ p.taken taken);
-      }
-
-  -- more is read, with no reply
-  pub Delivered-quiet : {a b c : Engine P} {text next : List ℕ} {held holds : Option (List ℕ)}
-      → Delivered may a text b held holds → Replies may b next c [] → Delivered may a (text ++ next) c held holds
-  Delivered-quiet {holds = holds} p q = Delivered-then [] p q (Appends-nil holds)
-
-  -- one more reply is written
-  pub Delivered-reply : {a b c : Engine P} {text next : List ℕ} {reply : WrittenReply} {held mid holds : Option (List ℕ)}
-      → Delivered may a text b held mid → Replies may b next c (reply ∷ []) → Appends mid holds reply.text
-      → Delivered may a (text ++ next) c held holds
-  Delivered-reply {reply = reply} p q taken = Delivered-then (reply ∷ []) p q (rw (append-nil reply.text) taken)
-
   -- both were delivered
   pub Delivered-both : {a b c : Engine P} {text next : List ℕ} {held mid holds : Option (List ℕ)}
       → Delivered may a text b held mid → Delivered may b next c mid holds → Delivered may a (text ++ next) c held holds
-  Delivered-both p q = Delivered-then q.replies p q.engine q.taken
-
-  -- the writer breaks in the reply to the line that the next text ends
-  pub Breaks-reply : {a b c : Engine P} {text next : List ℕ} {reply : WrittenReply} (more : List ℕ) {held mid holds : Option (List ℕ)}
-      → Delivered may a text b held mid → Replies may b next c (reply ∷ []) → StopsAtLine may b next → TakesPart reply.text mid holds
-      → Breaks may a (text ++ (next ++ more)) c held holds
-  Breaks-reply {a} {b} {c} {text} {next} {reply} more {held} {mid} {holds} p q stops cut =
-      let split : text ++ next ≡ (text ++ stops.front) ++ 10 ∷ [] =
-      ap (λ (t : List ℕ). text ++ t) stops.ends ∙ sym (append_assoc text stops.front (10 ∷ [])) in
+  Delivered-both {held = held} {mid = mid} {holds = holds} p q =
       record {
-        front = text ++ stops.front;
-        unread = more;
-        upto = sym (append_assoc text next more) ∙ ap (λ (t : List ℕ). t ++ more) split ∙ append_assoc (text ++ stops.front) (10 ∷ []) more;
-        between = stops.between;
-        replies = p.replies;
-        before = rw (append-nil p.replies) at (Replies-then may p.engine stops.before);
-        last = reply;
-        engine = rw (← split) (Replies-then may p.engine q);
-        part = cut.part;
-        left = cut.left;
-        cut = cut.cut;
-        taken = Appends-trans held mid holds _ _ p.taken cut.taken;
+        replies = p.replies ++ q.replies;
+        engine = Replies-then may p.engine q.engine;
+        taken = rw (output_of-append p.replies q.replies) (Appends-trans held mid holds _ _ p.taken q.taken);
       }
 
   -- all was delivered of one text, and the writer breaks in the next
@@ -157,15 +118,6 @@ module _ {P : Type 0} (may : May P) where
         given = Consumes-trans g0 g1 g2 _ _ p.given q.given;
         breaks = Breaks-after p.delivered q.breaks;
       }
-
-  -- one more read was answered
-  pub Conversation-read : {a b c : Engine P} {g0 g1 g2 h0 h1 h2 : Option (List ℕ)} {next : List ℕ}
-      → Conversation may a b g0 g1 h0 h1 → Consumes g1 g2 next → Delivered may b next c h1 h2 → Conversation may a c g0 g2 h0 h2
-  Conversation-read {next = next} p given q = Conversation-both p (record { input = next; given = given; delivered = q })
-
-  pub BrokenConversation-read : {a b c : Engine P} {g0 g1 g2 h0 h1 h2 : Option (List ℕ)} {next : List ℕ}
-      → Conversation may a b g0 g1 h0 h1 → Consumes g1 g2 next → Breaks may b next c h1 h2 → BrokenConversation may a c g0 g2 h0 h2
-  BrokenConversation-read {next = next} p given q = BrokenConversation-after p (record { input = next; given = given; breaks = q })
 
 -- a reader that was not read gave nothing
 pub GivesAtLeast-nothing : (gives : Option (List ℕ)) → GivesAtLeast gives gives 0

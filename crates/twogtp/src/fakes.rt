@@ -82,6 +82,7 @@ fn answer<P: Policy>(
             used,
             reply,
             ended: _,
+            genmove: _,
         } = session.feed(rest);
         match reply {
             Some(reply) => written.extend_from_slice(reply.as_slice())?,
