@@ -1,4 +1,5 @@
 pub mod Options
+pub mod Processes
 pub mod Status
 pub mod Tasks
 pub mod Telling

@@ -1,6 +1,6 @@
 -- What the program does with a match, turn by turn.
 use Rattle.std.specs.Prelude.{◌≡◌, ◌<◌, ℕ, List, [], length, Option, None, Some}
-use Rattle.std.specs.Io.KnownBytes.{Appends}
+use Rattle.std.specs.Io.KnownBytes.{Appends, Keeps}
 use Rattle.go_base.specs.declared.colours.Colour.{Colour}
 use Rattle.gtp_match.specs.declared.controller.Controller.{Controller}
 use Rattle.gtp_match.specs.declared.sides.Incarnation.{Incarnation}
@@ -32,12 +32,12 @@ pub data IsSent (c : Controller) (side : Colour) (held holds : Option (List ℕ)
   failed : IsSent c side held holds (lost (sent c side) side)
 
 -- A side was waited for, whose process had given some bytes and has given others: what came, a byte at least, was heard,
--- all of it; or its stream ended or broke, and the side is lost.
+-- all of it; or its stream ended or broke, with nothing more, and the side is lost.
 pub data IsHeard (c : Controller) (side : Colour) (held holds : Option (List ℕ)) : Controller → Type 0 where
   heard : {new : Controller} (bytes : List ℕ) (fault : Option SideFault)
       → 0 < length bytes → Appends held holds bytes → HearsAllExactly side c bytes fault new
       → IsHeard c side held holds new
-  ended : IsHeard c side held holds (lost c side)
+  ended : Keeps held holds → IsHeard c side held holds (lost c side)
 
 -- ---- turns
 

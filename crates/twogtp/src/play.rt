@@ -1,14 +1,18 @@
 //! A game between two processes.
-ghost use Rattle.std.specs.Prelude.{◌≡◌, IfOk, IfErr, OnOk, OnErr};
+ghost use Rattle.std.specs.Prelude.{◌≡◌, ◌⊎◌, IfOk, IfErr, OnOk, OnErr};
 ghost use Rattle.std.specs.Io.KnownBytes.{Keeps};
+ghost use Rattle.go_base.specs.declared.colours.Colour.TheVariants.{Black, White};
 ghost use Rattle.gtp_match.specs.declared.verdicts.Action.TheVariants as action;
+ghost use Rattle.gtp_match.specs.declared.verdicts.Action.TheVariants.{Send, Wait};
+ghost use Rattle.gtp_match.specs.Controller.{lost, sent};
 ghost use Rattle.gtp_match.specs.Next.{next};
 ghost use Rattle.gtp_match.specs.Sound.{IsSound};
+ghost use Rattle.twogtp.specs.Processes.{WithProcess};
 ghost use Rattle.twogtp.specs.Status.{own_fault, status_of};
 ghost use Rattle.twogtp.specs.Turns.{IsHeard, IsSent, Plays, Turn};
 
 use crate::fault::Fault;
-use crate::sides::Sides;
+use crate::sides::{Sides, end};
 use crate::starter::{Broken, Conversation, StartFault, Starter};
 use crate::task::Commands;
 use go_base::Side;
@@ -39,9 +43,10 @@ pub fn play_game<S: Starter>(
     let mut buffer = [0u8; READ_ROOM];
     let played = take_turns(game, &mut sides, &mut buffer, commands, starter);
     if played.is_ok() {
-        sides.say_quit(game, &mut buffer);
+        sides.close(game, &mut buffer);
+    } else {
+        sides.end();
     }
-    sides.end();
     played
 }
 
@@ -84,16 +89,29 @@ fn take_turn<S: Starter>(
     requires { next game.old ≡ action }
     ensures turn { OnOk result (Turn game.old action game.new) }
     ensures unchanged { OnErr result (game.new ≡ game.old) }
+    // Nothing is said to one side in the other's turn, and nothing heard of it.
+    ensures black_rests { (action ≡ Send White) ⊎ (action ≡ Wait White) →
+        sides.new.black ≡ sides.old.black }
+    ensures white_rests { (action ≡ Send Black) ⊎ (action ≡ Wait Black) →
+        sides.new.white ≡ sides.old.white }
     ensures fault { IfErr result (λ fault. status_of fault ≡ own_fault) }
 {
     match action {
         Action::Start(side) => start(game, sides, side, commands, starter),
-        Action::Send(side) => {
-            send(game, side, sides.at(side));
+        Action::Send(Side::Black) => {
+            send(game, Side::Black, &mut sides.black);
             Ok(())
         }
-        Action::Wait(side) => {
-            hear(game, side, sides.at(side), buffer);
+        Action::Send(Side::White) => {
+            send(game, Side::White, &mut sides.white);
+            Ok(())
+        }
+        Action::Wait(Side::Black) => {
+            hear(game, Side::Black, &mut sides.black, buffer);
+            Ok(())
+        }
+        Action::Wait(Side::White) => {
+            hear(game, Side::White, &mut sides.white, buffer);
             Ok(())
         }
         Action::Done(_) => Ok(()),
@@ -116,7 +134,7 @@ fn start<S: Starter>(
     match starter.start(commands.of(side)) {
         Ok(process) => {
             game.started(side);
-            sides.put(side, process);
+            end(sides.replace(side, process));
             Ok(())
         }
         Err(StartFault::NotStarted) => {
@@ -131,7 +149,11 @@ fn start<S: Starter>(
 /// Sends a side its command. A side that has no process is lost.
 fn send<P: Conversation>(game: &mut Match, side: Side, process: &mut Option<P>)
     requires { next game.old ≡ action.Send side }
-    ensures { Turn game.old (action.Send side) game.new }
+    ensures turn { Turn game.old (action.Send side) game.new }
+    ensures spoken { WithProcess process.old process.new
+        (λ before after. IsSent game.old side (P.taken before) (P.taken after) game.new
+            × Keeps (P.given before) (P.given after))
+        (game.new ≡ lost (sent game.old side) side) }
 {
     match process {
         Some(process) => send_to(game, side, process),
@@ -163,7 +185,11 @@ fn hear<P: Conversation>(
     buffer: &mut [u8],
 )
     requires { next game.old ≡ action.Wait side }
-    ensures { Turn game.old (action.Wait side) game.new }
+    ensures turn { Turn game.old (action.Wait side) game.new }
+    ensures spoken { WithProcess process.old process.new
+        (λ before after. IsHeard game.old side (P.given before) (P.given after) game.new
+            × Keeps (P.taken before) (P.taken after))
+        (game.new ≡ lost game.old side) }
 {
     match process {
         Some(process) => hear_from(game, side, process, buffer),
@@ -178,9 +204,10 @@ fn hear_from<P: Conversation>(game: &mut Match, side: Side, process: &mut P, buf
     ensures taken { Keeps (P.taken process.old) (P.taken process.new) }
 {
     match process.read(buffer) {
-        Ok(count) if count > 0 => {
+        Ok(0) => game.lost(side),
+        Ok(count) => {
             let _ = game.hear_all(side, &buffer[..count]);
         }
-        _ => game.lost(side),
+        Err(Broken) => game.lost(side),
     }
 }

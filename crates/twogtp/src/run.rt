@@ -44,13 +44,15 @@ pub fn run<A: AsStr, O: Write, E: Write, S: Starter>(
         (output.new ≡ output.old) × (starter.new ≡ starter.old) × HasMistake (map A.text words.now) }
     ensures quiet { (result ≡ done) ⊎ (result ≡ some_given_up) → errors.new ≡ errors.old }
     // All games of the task that the words ask for were played and told, unless they ask for help.
-    ensures played { result ≡ done → AsksForHelp (map A.text words.now)
+    ensures played { result ≡ done →
+        (AsksForHelp (map A.text words.now) × (starter.new ≡ starter.old))
         ⊎ HasDone (map A.text words.now) done (O.contents output.old) (O.contents output.new) }
     ensures given_up { result ≡ some_given_up → HasDone (map A.text words.now) some_given_up
         (O.contents output.old) (O.contents output.new) }
     // What was written before the program had to stop is the beginning of what is told.
-    ensures stopped { result ≡ own_fault → (output.new ≡ output.old)
-        ⊎ AsksForHelp (map A.text words.now)
+    ensures stopped { result ≡ own_fault →
+        ((output.new ≡ output.old) × (starter.new ≡ starter.old))
+        ⊎ (AsksForHelp (map A.text words.now) × (starter.new ≡ starter.old))
         ⊎ HasBegun (map A.text words.now) (O.contents output.old) (O.contents output.new) }
 {
     let options = match read_options(alloc, words) {

@@ -1,16 +1,24 @@
 //! The processes of both sides.
+ghost use Rattle.std.specs.Prelude.{◌≡◌};
+ghost use Rattle.go_base.specs.declared.colours.Colour.TheVariants.{Black, White};
+ghost use Rattle.gtp_match.specs.Sides.{side_of, status_of};
+ghost use Rattle.twogtp.specs.Processes.{while_up};
+
 use crate::starter::Conversation;
 use go_base::Side;
 use gtp_match::{Match, Status};
 use gtp_wire::{Command, Reply, ReplyReader, write_command};
 
-/// How often a reply to `quit` is read for at most: of 8,193 bytes a reply reader tells something, and each read gives one.
+/// How often a reply to `quit` is read for at most: of 8,193 bytes a reply reader tells something, and each read gives
+/// one.
 const QUIT_READS: u32 = 8193;
 
-/// The process of each side that has one. It is not `Drop`: `end` ends them all.
+/// The process of each side that has one. It is not `Drop`: `close` or `end` ends them all.
 pub struct Sides<P> {
-    black: Option<P>,
-    white: Option<P>,
+    /// Black's.
+    pub black: Option<P>,
+    /// White's.
+    pub white: Option<P>,
 }
 
 impl<P: Conversation> Sides<P> {
@@ -22,40 +30,43 @@ impl<P: Conversation> Sides<P> {
         }
     }
 
-    /// The process of a side, if it has one.
-    pub fn at(&mut self, side: Side) -> &mut Option<P> {
+    /// Puts a side's process, and answers the one that it had.
+    pub fn replace(&mut self, side: Side, process: P) -> Option<P> {
         match side {
-            Side::Black => &mut self.black,
-            Side::White => &mut self.white,
+            Side::Black => self.black.replace(process),
+            Side::White => self.white.replace(process),
         }
-    }
-
-    /// Puts a side's process. One that it had is ended.
-    pub fn put(&mut self, side: Side, process: P) {
-        end(self.at(side).replace(process));
     }
 
     /// Ends the processes of the sides that are down.
-    pub fn end_what_is_down(&mut self, game: &Match) {
-        for side in [Side::Black, Side::White] {
-            if game.status(side) == Status::Down {
-                end(self.at(side).take());
-            }
-        }
+    pub fn end_what_is_down(&mut self, game: &Match)
+        ensures black { self.new.black ≡
+            while_up (status_of (side_of game.now.sides Black).up) self.old.black }
+        ensures white { self.new.white ≡
+            while_up (status_of (side_of game.now.sides White).up) self.old.white }
+    {
+        end_if_down(game, Side::Black, &mut self.black);
+        end_if_down(game, Side::White, &mut self.white);
     }
 
-    /// Says `quit` to each side that is up and has answered all, and waits for its reply.
-    pub fn say_quit(&mut self, game: &Match, buffer: &mut [u8]) {
-        for side in [Side::Black, Side::White] {
-            if let Status::Up { unanswered: 0, .. } = game.status(side) {
-                if let Some(process) = self.at(side) {
-                    quit(process, buffer);
-                }
-            }
+    /// Ends all processes after a match that is over: at once those of the sides that are down or still owe an answer;
+    /// then the others, each after it was told to `quit` and has answered.
+    pub fn close(self, game: &Match, buffer: &mut [u8]) {
+        let Sides {
+            mut black,
+            mut white,
+        } = self;
+        if !has_answered_all(game, Side::Black) {
+            end(black.take());
         }
+        if !has_answered_all(game, Side::White) {
+            end(white.take());
+        }
+        quit_and_end(black, buffer);
+        quit_and_end(white, buffer);
     }
 
-    /// Ends all processes.
+    /// Ends all processes at once.
     pub fn end(self) {
         let Sides { black, white } = self;
         end(black);
@@ -63,11 +74,36 @@ impl<P: Conversation> Sides<P> {
     }
 }
 
+/// Ends the process of a side that is down.
+fn end_if_down<P: Conversation>(game: &Match, side: Side, process: &mut Option<P>)
+    ensures { process.new ≡ while_up (status_of (side_of game.now.sides side).up) process.old }
+{
+    match game.status(side) {
+        Status::Down => end(process.take()),
+        Status::Up { .. } => {}
+    }
+}
+
+/// Whether a side is up and has no unanswered command.
+fn has_answered_all(game: &Match, side: Side) -> bool {
+    match game.status(side) {
+        Status::Up { unanswered, .. } => unanswered == 0,
+        Status::Down => false,
+    }
+}
+
 /// Ends a process, if there is one.
-fn end<P: Conversation>(process: Option<P>) {
-    match process {
-        Some(process) => process.end(),
-        None => {}
+pub fn end<P: Conversation>(process: Option<P>) {
+    if let Some(process) = process {
+        process.end();
+    }
+}
+
+/// Tells a process to `quit`, waits for its answer, and ends it.
+fn quit_and_end<P: Conversation>(process: Option<P>, buffer: &mut [u8]) {
+    if let Some(mut process) = process {
+        quit(&mut process, buffer);
+        process.end();
     }
 }
 

@@ -5,7 +5,10 @@ use Rattle.twogtp.proofs.play.hear_from.Goals as goal
 
 pub returns-in-Ok-clause-heard : goal.returns-in-Ok-clause-heard
 returns-in-Ok-clause-heard g c =
-    heard _ c.hear_all.result (grind (arith, common_steps, c.if-count-gt0.true, c.in-Ok.ensures.bound)) (search rules) c.hear_all.ensures.exact
+    heard _ c.hear_all.result (grind (arith, common_steps, c.in-Ok.count-is, c.in-Ok.ensures.bound)) (search rules) c.hear_all.ensures.exact
 
-pub returns-in_default-clause-heard : goal.returns-in_default-clause-heard
-returns-in_default-clause-heard g c = rw c.lost.ensures ended
+pub returns-in-Ok-eq0-clause-heard : goal.returns-in-Ok-eq0-clause-heard
+returns-in-Ok-eq0-clause-heard g c = rw c.lost.ensures (ended (search rules))
+
+pub returns-in-Err-clause-heard : goal.returns-in-Err-clause-heard
+returns-in-Err-clause-heard g c = rw c.lost-in-Err.ensures (ended (search rules))
