@@ -53,7 +53,7 @@ fold-push : {A B : Type 0} (f : B → A → B) (b : B) (xs : List A) (x : A) →
 fold-push f b [] x = refl
 fold-push f b (y ∷ ys) x = fold-push f (f b y) ys x
 
-board-push : (size handicap : ℕ) (moves : List Move) (m : Move) → board size handicap (moves ++ m ∷ []) ≡ after (board size handicap moves) m
+pub board-push : (size handicap : ℕ) (moves : List Move) (m : Move) → board size handicap (moves ++ m ∷ []) ≡ after (board size handicap moves) m
 unfolding board
 board-push size handicap moves m = fold-push after (start size handicap) moves m
 
@@ -67,7 +67,7 @@ first_moves-all game c v =
     ap (λ (ms : List Move). let g : GameRecord = record game { moves = ms } in g) (take_at game.moves (record { colour = c; vertex = v } ∷ []) (length game.moves) refl)
 
 -- the longer game without its last move
-without_last-with_move : (game : GameRecord) (c : Colour) (v : Vertex) → without_last (with_move game c v) ≡ game
+pub without_last-with_move : (game : GameRecord) (c : Colour) (v : Vertex) → without_last (with_move game c v) ≡ game
 without_last-with_move game c v =
     let n : length (with_move game c v).moves - 1 ≡ length game.moves = omega (arith, length_push game.moves (record { colour = c; vertex = v })) in
     ap (λ (k : ℕ). first_moves k (with_move game c v)) n ∙ first_moves-all game c v

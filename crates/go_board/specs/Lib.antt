@@ -11,5 +11,9 @@ pub mod Refusals
 pub mod DecideGame
 pub mod Places
 pub mod Flood
+pub mod Label
+pub mod Ko
+pub mod Legal
+pub mod Removed
 pub mod Kept
 pub mod Show

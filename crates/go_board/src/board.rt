@@ -11,8 +11,11 @@ use std::marker::Model;
 /// How many places a row has: its points and its edge.
 pub const ROW: usize = 26;
 
-/// How many places a board has: 27 rows of them.
-pub const PLACES: usize = 27 * ROW;
+/// How many rows a board has: those of its points and the edge below and above.
+pub const ROWS: usize = 27;
+
+/// How many places a board has.
+pub const PLACES: usize = ROWS * ROW;
 
 /// What a place holds.
 #[derive(Clone, Copy, PartialEq, Eq, Debug)]
@@ -30,6 +33,7 @@ pub enum Cell {
 
 impl Cell {
     ghost use Rattle.go_board.specs.Board.{stone, IsStone};
+    ghost use Rattle.go_board.specs.Label.{is_stone, is_empty};
 
     /// The stone of this colour.
     #[inline]
@@ -45,9 +49,18 @@ impl Cell {
     /// Whether this is a stone.
     #[inline]
     pub fn is_stone(self) -> bool
-        ensures { IsTrue result ↔ IsStone self }
+        ensures fact { IsTrue result ↔ IsStone self }
+        ensures value { result ≡ is_stone self }
     {
         matches!(self, Cell::Black | Cell::White)
+    }
+
+    /// Whether this is an empty point.
+    #[inline]
+    pub fn is_empty(self) -> bool
+        ensures { result ≡ is_empty self }
+    {
+        matches!(self, Cell::Empty)
     }
 }
 
@@ -97,6 +110,8 @@ impl Model for Board {
 }
 
 impl Board {
+    ghost use Rattle.std.specs.Prelude.{slice_set};
+    ghost use Rattle.go_board.specs.Label.{IsChainOf};
     ghost use Rattle.go_board.specs.Board.{place_count, at, stone, empty_board, with_black, HasStone};
     ghost use Rattle.go_board.specs.Frame.{HasSize, SameEdge};
     ghost use Rattle.go_base.specs.Colour.{other};
@@ -163,6 +178,16 @@ impl Board {
         self.cells[place]
     }
 
+    /// Changes what a point holds.
+    #[inline]
+    pub fn set(&mut self, place: usize, cell: Cell)
+        requires point { at self.old place ≢ Edge }
+        requires cell { cell ≢ Edge }
+        ensures { self.new ≡ slice_set self.old place cell }
+    {
+        self.cells[place] = cell;
+    }
+
     /// Whether both boards hold the same at each place.
     pub fn is_same(&self, other: &Board) -> bool
         ensures { IsTrue result ↔ (self.now ≡ other.now) }
@@ -172,7 +197,7 @@ impl Board {
 
     /// Whether a neighbour of a point holds this.
     #[inline]
-    fn has_beside(&self, place: usize, wanted: Cell) -> bool
+    pub fn has_beside(&self, place: usize, wanted: Cell) -> bool
         requires { IsOn size_max place }
         ensures { IsTrue result ↔ HasBeside self.now place wanted }
     {
@@ -193,6 +218,27 @@ impl Board {
                 found.insert(place);
             }
         }
+        let mut next = 0;
+        while next < found.len() {
+            let place = found.get(next);
+            self.spread(sought, place + 1, &mut found);
+            self.spread(sought, place - 1, &mut found);
+            self.spread(sought, place + ROW, &mut found);
+            self.spread(sought, place - ROW, &mut found);
+            next += 1;
+        }
+        found
+    }
+
+    /// The places of the chain or region of a point.
+    pub fn chain(&self, place: usize) -> Places
+        requires place { place < place_count }
+        requires point { at self.now place ≢ Edge }
+        ensures { IsChainOf self.now place result }
+    {
+        let sought = self.cells[place];
+        let mut found = Places::new();
+        found.insert(place);
         let mut next = 0;
         while next < found.len() {
             let place = found.get(next);
