@@ -12,8 +12,8 @@ pub mod DecideGame
 pub mod Places
 pub mod Flood
 pub mod Label
+pub mod Removed
 pub mod Ko
 pub mod Legal
-pub mod Removed
 pub mod Kept
 pub mod Show

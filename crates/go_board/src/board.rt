@@ -117,10 +117,9 @@ impl Board {
     ghost use Rattle.go_base.specs.Colour.{other};
     ghost use Rattle.go_base.specs.Handicap.{AllowsHandicap};
     ghost use Rattle.go_board.specs.Area.{CountsFor, area};
-    ghost use Rattle.go_board.specs.Chain.{HasBeside, IsFree};
+    ghost use Rattle.go_board.specs.Chain.{HasBeside};
     ghost use Rattle.go_board.specs.Flood.{IsSpread, AreTouching};
     ghost use Rattle.go_board.specs.Game.{start};
-    ghost use Rattle.go_board.specs.Put.{without_captured, captured_count, put, captures};
     ghost use Rattle.go_board.specs.declared.board.Cell.TheVariants.{Edge};
 
     /// The board of this size without a stone.
@@ -188,13 +187,6 @@ impl Board {
         self.cells[place] = cell;
     }
 
-    /// Whether both boards hold the same at each place.
-    pub fn is_same(&self, other: &Board) -> bool
-        ensures { IsTrue result ↔ (self.now ≡ other.now) }
-    {
-        self.cells == other.cells
-    }
-
     /// Whether a neighbour of a point holds this.
     #[inline]
     pub fn has_beside(&self, place: usize, wanted: Cell) -> bool
@@ -260,48 +252,6 @@ impl Board {
         if self.cells[place] == sought {
             found.insert(place);
         }
-    }
-
-    /// Whether the chain of the stone of this colour on a point has a liberty.
-    pub fn is_free(&self, colour: Colour, place: usize) -> bool
-        requires point { IsOn size_max place }
-        requires stone { at self.now place ≡ stone colour }
-        ensures { IsTrue result ↔ IsFree self.now place }
-    {
-        self.has_beside(place, Cell::Empty)
-            || self
-                .touching(Cell::stone(colour), Cell::Empty)
-                .contains(place)
-    }
-
-    /// Removes, all at once, the stones of this colour whose chains have no liberty. Answers how many there were.
-    fn remove_captured(&mut self, colour: Colour) -> u32
-        ensures board { self.new ≡ without_captured self.old colour }
-        ensures count { result ≡ captured_count self.old colour }
-        ensures few { result ≤ place_count }
-    {
-        let stone = Cell::stone(colour);
-        let free = self.touching(stone, Cell::Empty);
-        let mut removed = 0;
-        for (place, cell) in self.cells.iter_mut().enumerate() {
-            if *cell == stone && !free.contains(place) {
-                *cell = Cell::Empty;
-                removed += 1;
-            }
-        }
-        removed
-    }
-
-    /// Puts a stone on a point, and then removes the other colour's stones that have no liberty. Answers how many it took.
-    #[tactic(auto, unfolding(crate::specs::Put::put, crate::specs::Put::captures))]
-    pub fn put(&mut self, colour: Colour, place: usize) -> u32
-        requires { at self.old place ≢ Edge }
-        ensures board { self.new ≡ put self.old colour place }
-        ensures taken { result ≡ captures self.old colour place }
-        ensures few { result ≤ place_count }
-    {
-        self.cells[place] = Cell::stone(colour);
-        self.remove_captured(colour.other())
     }
 
     /// How many points count for a colour: those with its stones, and those of empty regions that only its stones are beside.
