@@ -11,6 +11,7 @@ pub mod Refusals
 pub mod DecideGame
 pub mod Places
 pub mod Flood
+pub mod Spread
 pub mod Label
 pub mod Removed
 pub mod Ko

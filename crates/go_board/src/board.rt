@@ -1,5 +1,5 @@
 //! A board as an array of places with edge round the points.
-ghost use Rattle.std.specs.Prelude.{◌≡◌, ◌≢◌, ℕ, ◌<◌, ◌≤◌, ◌↔◌, ◌⊎◌, if◌then◌else◌, IsTrue, All};
+ghost use Rattle.std.specs.Prelude.{◌≡◌, ◌≢◌, ℕ, ◌<◌, ◌≤◌, ◌↔◌, ◌⊎◌, if◌then◌else◌, IsTrue, All, ◌+◌};
 ghost use Rattle.go_base.specs.Point.{IsOn};
 ghost use Rattle.go_base.specs.Size.{size_max, IsSize};
 ghost use Rattle.go_board.specs.Board.{is_point};
@@ -119,6 +119,7 @@ impl Board {
     ghost use Rattle.go_board.specs.Area.{CountsFor, area};
     ghost use Rattle.go_board.specs.Chain.{HasBeside};
     ghost use Rattle.go_board.specs.Flood.{IsSpread, AreTouching};
+    ghost use Rattle.go_board.specs.Spread.{AreSpread};
     ghost use Rattle.go_board.specs.Game.{start};
     ghost use Rattle.go_board.specs.declared.board.Cell.TheVariants.{Edge};
 
@@ -213,10 +214,7 @@ impl Board {
         let mut next = 0;
         while next < found.len() {
             let place = found.get(next);
-            self.spread(sought, place + 1, &mut found);
-            self.spread(sought, place - 1, &mut found);
-            self.spread(sought, place + ROW, &mut found);
-            self.spread(sought, place - ROW, &mut found);
+            self.spread_round(sought, place, &mut found);
             next += 1;
         }
         found
@@ -234,13 +232,23 @@ impl Board {
         let mut next = 0;
         while next < found.len() {
             let place = found.get(next);
-            self.spread(sought, place + 1, &mut found);
-            self.spread(sought, place - 1, &mut found);
-            self.spread(sought, place + ROW, &mut found);
-            self.spread(sought, place - ROW, &mut found);
+            self.spread_round(sought, place, &mut found);
             next += 1;
         }
         found
+    }
+
+    /// Puts the four neighbours of a point in, those that hold what is sought.
+    #[inline]
+    fn spread_round(&self, sought: Cell, place: usize, found: &mut Places)
+        requires low { ROW < place }
+        requires high { place + ROW < place_count }
+        ensures { AreSpread self.now sought place found.old found.new }
+    {
+        self.spread(sought, place + 1, found);
+        self.spread(sought, place - 1, found);
+        self.spread(sought, place + ROW, found);
+        self.spread(sought, place - ROW, found);
     }
 
     /// Puts a place in, if it holds what is sought.

@@ -3,7 +3,7 @@ use super::new_game;
 use super::plain::{MOVES, PlainGame};
 use crate::Game;
 use arrayvec::ArrayVec;
-use go_base::{Colour, Point, Vertex};
+use go_base::{Colour, Move, Point, Vertex};
 use rand_core::{Rng, SeedableRng};
 use rand_pcg::Pcg64;
 use std::process::Abort;
@@ -11,8 +11,8 @@ use std::process::Abort;
 /// How many games are played.
 const GAMES: u32 = 200;
 
-/// The points of the largest board, and a pass.
-const VERTICES: usize = 82;
+/// The most legal moves of a colour: a play on each point of the largest board, and a pass.
+const LEGAL: usize = 82;
 
 fn at(rt: &impl Abort, column: u32, row: u32) -> Point {
     Point::new(column, row).expect(rt, "a point")
@@ -33,34 +33,37 @@ fn assert_same(rt: &impl Abort, game: &Game, plain: &PlainGame) {
     }
 }
 
-/// What a colour may play next, a pass among it. Both games must allow the same.
-fn legal_vertices(
+/// The legal moves of a colour, a pass among them. Both games must allow the same.
+fn legal_moves(
     rt: &impl Abort,
     game: &Game,
     plain: &PlainGame,
     colour: Colour,
-) -> ArrayVec<Vertex, VERTICES> {
+) -> ArrayVec<Move, LEGAL> {
     let mut legal = ArrayVec::new();
-    let _ = legal.try_push(Vertex::Pass);
+    let _ = legal.try_push(Move {
+        colour,
+        vertex: Vertex::Pass,
+    });
     let lines = game.size().get();
     for row in 1..=lines {
         for column in 1..=lines {
-            let vertex = Vertex::At(at(rt, column, row));
-            let allowed = game.legal(colour, vertex);
-            assert_eq!(rt;
-                allowed,
-                plain.legal(colour, vertex),
-                "column {column}, row {row}"
-            );
+            let made = Move {
+                colour,
+                vertex: Vertex::At(at(rt, column, row)),
+            };
+            let allowed = game.legal(made.colour, made.vertex);
+            let wanted = plain.legal(made.colour, made.vertex);
+            assert_eq!(rt; allowed, wanted, "column {column}, row {row}");
             if allowed {
-                let _ = legal.try_push(vertex);
+                let _ = legal.try_push(made);
             }
         }
     }
     legal
 }
 
-/// Makes a move of this colour in both games, drawn from what is legal.
+/// Makes a move of this colour in both games, drawn from those that are legal.
 fn step(
     rt: &impl Abort,
     words: &mut Pcg64,
@@ -68,11 +71,14 @@ fn step(
     plain: &mut PlainGame,
     colour: Colour,
 ) {
-    let legal = legal_vertices(rt, game, plain, colour);
-    let number = words.next_u64().checked_rem(legal.len() as u64).unwrap_or(0);
-    let vertex = legal.get(number as usize).copied().expect(rt, "a vertex");
-    assert_eq!(rt; game.play(colour, vertex), Ok(()));
-    assert_eq!(rt; plain.play(colour, vertex), Ok(()));
+    let legal = legal_moves(rt, game, plain, colour);
+    let number = words
+        .next_u64()
+        .checked_rem(legal.len() as u64)
+        .unwrap_or(0);
+    let made = legal.get(number as usize).copied().expect(rt, "a move");
+    assert_eq!(rt; game.play(made.colour, made.vertex), Ok(()));
+    assert_eq!(rt; plain.play(made.colour, made.vertex), Ok(()));
     assert_same(rt, game, plain);
 }
 

@@ -12,7 +12,7 @@ pub const MOVES: usize = 200;
 #[derive(Drop)]
 struct Found {
     marked: [bool; PLACES],
-    order: ArrayVec<usize, PLACES>,
+    order: ArrayVec<u16, PLACES>,
 }
 
 impl Found {
@@ -24,7 +24,9 @@ impl Found {
         if let Some(marked) = self.marked.get_mut(place) {
             if !*marked {
                 *marked = true;
-                let _ = self.order.try_push(place);
+                if let Ok(place) = u16::try_from(place) {
+                    let _ = self.order.try_push(place);
+                }
             }
         }
     }
@@ -34,6 +36,8 @@ impl Found {
 #[derive(Clone, Copy)]
 struct PlainBoard {
     cells: [Cell; PLACES],
+    /// Behind the highest row there is nothing but edge.
+    end: usize,
 }
 
 /// The four places beside a place.
@@ -51,6 +55,7 @@ impl PlainBoard {
     fn empty(lines: u32) -> PlainBoard {
         let mut board = PlainBoard {
             cells: [Cell::Edge; PLACES],
+            end: ROW.saturating_mul(lines.saturating_add(1) as usize),
         };
         for row in 1..=lines {
             for column in 1..=lines {
@@ -82,16 +87,16 @@ impl PlainBoard {
             marked: [false; PLACES],
             order: ArrayVec::new(),
         };
-        for place in 0..PLACES {
+        for place in 0..self.end {
             if self.at(place) == sought && self.has_beside(place, wanted) {
                 found.insert(place);
             }
         }
-        for number in 0..PLACES {
+        for number in 0..self.end {
             let Some(place) = found.order.get(number).copied() else {
                 break;
             };
-            for next in beside(place) {
+            for next in beside(usize::from(place)) {
                 if self.at(next) == sought {
                     found.insert(next);
                 }
@@ -105,7 +110,7 @@ impl PlainBoard {
         let stone = Cell::stone(colour);
         let free = self.touching(stone, Cell::Empty);
         let mut removed = 0_u32;
-        for place in 0..PLACES {
+        for place in 0..self.end {
             if self.at(place) == stone && !free.contains(place) {
                 self.set(place, Cell::Empty);
                 removed = removed.saturating_add(1);
@@ -122,8 +127,10 @@ impl PlainBoard {
 
     /// Whether the chain of the stone of this colour on a point has a liberty.
     fn is_free(&self, colour: Colour, place: usize) -> bool {
-        self.touching(Cell::stone(colour), Cell::Empty)
-            .contains(place)
+        self.has_beside(place, Cell::Empty)
+            || self
+                .touching(Cell::stone(colour), Cell::Empty)
+                .contains(place)
     }
 }
 
@@ -200,14 +207,15 @@ impl PlainGame {
         if self.moves.is_full() {
             return Err(PlayFault::Full);
         }
-        let (board, taken) = self.next(colour, vertex)?;
+        let made = Move { colour, vertex };
+        let (board, taken) = self.next(made.colour, made.vertex)?;
         self.before = self.board;
         self.board = board;
-        match colour {
+        match made.colour {
             Colour::Black => self.taken_by_black = self.taken_by_black.saturating_add(taken),
             Colour::White => self.taken_by_white = self.taken_by_white.saturating_add(taken),
         }
-        let _ = self.moves.try_push(Move { colour, vertex });
+        let _ = self.moves.try_push(made);
         Ok(())
     }
 
