@@ -9,9 +9,8 @@ use Rattle.go_base.specs.declared.colours.Colour.{Colour}
 use Rattle.go_base.specs.declared.vertices.Vertex.{Vertex}
 use Rattle.go_base.specs.declared.vertices.Vertex.TheVariants.{Pass, At}
 use Rattle.go_base.specs.declared.moves.Move.{Move}
-use Rattle.go_board.specs.Game.{GameRecord, HasRoom, start, board, board_of, first_moves, without_last, with_move, after, IsGame, IsLegal}
+use Rattle.go_board.specs.Game.{GameRecord, HasRoom, start, board, first_moves, without_last, with_move, after, IsGame, IsLegal}
 use Rattle.go_board.specs.Refusals.{RefusesVertex}
-use Rattle.go_board.specs.declared.board.Cell.{Cell}
 use Rattle.go_board.specs.declared.faults.PlayFault.{PlayFault}
 use Rattle.go_board.specs.declared.faults.PlayFault.TheVariants.{Full, OffBoard, Occupied, Suicide, Ko}
 

@@ -9,25 +9,25 @@ use Rattle.go_base.specs.declared.colours.Colour.{Colour}
 use Rattle.go_base.specs.declared.colours.Colour.TheVariants as colour
 use Rattle.go_base.specs.declared.moves.Move.{Move}
 use Rattle.go_base.specs.declared.vertices.Vertex.{Vertex}
-use Rattle.go_base.specs.declared.vertices.Vertex.TheVariants.{Pass, At}
+use Rattle.go_base.specs.declared.vertices.Vertex.TheVariants.{At}
 use Rattle.go_board.specs.Board.{at}
 use Rattle.go_board.specs.Chain.{IsFree}
 use Rattle.go_board.specs.declared.board.Cell.TheVariants.{Empty}
 use Rattle.go_board.proofs.NextLemmas.{empty-point}
 use Rattle.go_board.specs.Frame.{HasSize}
-use Rattle.go_board.specs.Game.{GameRecord, HasRoom, start, board_of, with_move, after_vertex, IsGame, IsLegal, Repeats}
+use Rattle.go_board.specs.Game.{GameRecord, start, board_of, with_move, after_vertex, IsGame, IsLegal, Repeats}
 use Rattle.go_board.specs.Kept.{record_of, IsKept}
 use Rattle.go_board.specs.Ko.{IsKo, IsKoAfter, TakesOnly}
 use Rattle.go_board.specs.Label.{AreChains, AreFree}
 use Rattle.go_board.specs.Put.{put}
-use Rattle.go_board.specs.Removed.{removed_of, removed_by, taken_at, IsAfterMove, IsTakenBack, IsOpen}
+use Rattle.go_board.specs.Removed.{removed_of, removed_by, taken_at, IsAfterMove, IsTakenBack}
 use Rattle.go_board.specs.Taken.{same_colour, taken, captures_of_vertex, taken_from}
 use Rattle.go_board.specs.declared.board.Cell.{Cell}
 use Rattle.go_board.specs.declared.chains.Chains.{Chains}
 use Rattle.go_board.specs.declared.game.Game.TheInside.{Inside}
 use Rattle.go_board.specs.declared.ko.Ko.{Ko}
 use Rattle.go_board.specs.declared.removed.Taken.{Taken}
-use Rattle.go_board.proofs.GameLemmas.{IsGame-with_move, IsGame-komi, with-last, IsBeforeMove, IsBeforeMove-from}
+use Rattle.go_board.proofs.GameLemmas.{IsGame-with_move, IsGame-komi, with-last, IsBeforeMove-from}
 use Rattle.go_board.proofs.KoGameLemmas.{IsKo-start}
 use Rattle.go_board.proofs.OrderLemmas.{IsOrderly-game, framed-game, board-start, removed-start, board-with_move, legal-open, removed-few}
 use Rattle.go_board.proofs.StackLemmas.{removed_of-with_move, length-taken}
@@ -200,8 +200,7 @@ IsKept-undo f c v chains ko removed now black white moves kept ends back are bla
 pub repeats-from : (game : GameRecord) (board : List Cell) (kept : Option Ko) (ko : Ko) (c : Colour) (p stone : ℕ) (b : Bool) → kept ≡ Some ko → IsKo game kept → board ≡ board_of game
     → at (board_of game) p ≡ Empty → p ≡ ko.point → stone ≡ ko.stone → IsTrue b ↔ TakesOnly board c p stone → IsTrue b ↔ Repeats game (put (board_of game) c p)
 repeats-from game board kept ko c p stone b same ko_is board_is empty here stone_is takes =
-    let is = (subst (λ (k : Option Ko). IsKo game k) same ko_is) c p empty in
-    (
+    let is = (subst (λ (k : Option Ko). IsKo game k) same ko_is) c p empty in (
       (λ yes. is.1 (here, subst (λ (cs : List Cell). TakesOnly cs c p ko.stone) board_is (subst (λ (s : ℕ). TakesOnly board c p s) stone_is (takes.0 yes)))),
       (λ r. takes.1 (subst (λ (s : ℕ). TakesOnly board c p s) (sym stone_is) (subst (λ (cs : List Cell). TakesOnly cs c p ko.stone) (sym board_is) (is.0 r).1))),
     )

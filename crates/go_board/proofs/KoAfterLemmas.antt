@@ -1,7 +1,6 @@
 -- The ko point, from the moves and the stones that they took.
-use Rattle.std.proofs.Common.{◌≡◌, ℕ, ◌<◌, List, [], ◌∷◌, ◌++◌, length, refl, sym, ◌∙◌, ap, subst, arith}
-use Rattle.std.specs.Prelude.{Option, Some, None}
-use Rattle.std.specs.List.{AllByRecursion}
+use Rattle.std.proofs.Common.{◌≡◌, ℕ, List, [], ◌∷◌, ◌++◌, length, refl, sym, ◌∙◌, ap, subst, arith}
+use Rattle.std.specs.Prelude.{Some, None}
 use Rattle.std.proofs.Math.ListN.{set}
 use Rattle.go_base.specs.Colour.{other}
 use Rattle.go_base.specs.declared.colours.Colour.{Colour}
@@ -10,11 +9,9 @@ use Rattle.go_base.specs.declared.vertices.Vertex.{Vertex}
 use Rattle.go_base.specs.declared.vertices.Vertex.TheVariants.{Pass, At}
 use Rattle.go_board.specs.Board.{stone}
 use Rattle.go_board.specs.Game.{GameRecord, board_of, with_move, IsGame, IsLegal}
-use Rattle.go_board.specs.Ko.{TakesOnly, IsKo, IsKoAfter}
+use Rattle.go_board.specs.Ko.{IsKo, IsKoAfter}
 use Rattle.go_board.specs.Put.{captures}
-use Rattle.go_board.specs.Removed.{captured_places, removed_of, removed_by, taken_at, IsNotLast, IsOnly}
-use Rattle.go_board.specs.declared.board.Cell.{Cell}
-use Rattle.go_board.specs.declared.ko.Ko.{Ko}
+use Rattle.go_board.specs.Removed.{captured_places, removed_of, taken_at, IsNotLast, IsOnly}
 use Rattle.go_board.specs.declared.removed.Taken.{Taken}
 use Rattle.go_board.proofs.GameLemmas.{with-last, IsBeforeMove, IsBeforeMove-from}
 use Rattle.go_board.proofs.KoGameLemmas.{IsKo-start, IsKo-pass, IsKo-play, IsKo-many}
@@ -66,12 +63,12 @@ ko-none before c p b none =
     let o = IsOrderly-game before b.game_is in
     let places = captured_places (set (board_of before) p (stone c)) (other c) in
     IsKo-many before c p l.empty (λ q only.
-      let one = one-place places (counted-all (set (board_of before) p (stone c)) (other c) ∙ captures-one (board_of before) c p q only) in
-      none one.0 (record {
-        before = removed_of before;
-        ends = removed_of-with_move before c (At p) ∙ ap (λ (ps : List ℕ). removed_of before ++ taken_at (length before.moves) ps) one.1;
-        alone = not_last-numbers (length before.moves) (removed_of before) o.numbers;
-      }))
+    let one = one-place places (counted-all (set (board_of before) p (stone c)) (other c) ∙ captures-one (board_of before) c p q only) in
+    none one.0 (record {
+      before = removed_of before;
+      ends = removed_of-with_move before c (At p) ∙ ap (λ (ps : List ℕ). removed_of before ++ taken_at (length before.moves) ps) one.1;
+      alone = not_last-numbers (length before.moves) (removed_of before) o.numbers;
+    }))
 
 pub ko_after-one : (moves earlier : List Move) (last : Move) (stones : List Taken) (p q : ℕ) → moves ≡ earlier ++ last ∷ [] → last.vertex ≡ At p → IsOnly stones (length earlier) q
     → IsKoAfter moves stones (Some (record { point = q; stone = p }))

@@ -1,6 +1,6 @@
 -- What holds of the board and the taken stones of each game.
-use Rattle.std.proofs.Common.{◌≡◌, ℕ, ◌+◌, ◌<◌, ◌≤◌, List, [], ◌∷◌, ◌++◌, length, refl, sym, ◌∙◌, ap, subst, arith, inl, inr, lit≤, append_assoc, length-append}
-use Rattle.std.specs.Prelude.{◌⊎◌, ◌≢◌}
+use Rattle.std.proofs.Common.{◌≡◌, ℕ, ◌+◌, ◌<◌, ◌≤◌, List, [], ◌∷◌, ◌++◌, length, refl, sym, ◌∙◌, ap, subst, arith, inl, inr}
+use Rattle.std.specs.Prelude.{◌⊎◌}
 use Rattle.std.specs.List.{AllByRecursion}
 use Rattle.std.proofs.lemmas.List.{append-nil, length_push}
 use Rattle.std.proofs.Math.ListN.{set, length-set}
@@ -11,15 +11,14 @@ use Rattle.go_base.specs.declared.colours.Colour.{Colour}
 use Rattle.go_base.specs.declared.moves.Move.{Move}
 use Rattle.go_base.specs.declared.vertices.Vertex.{Vertex}
 use Rattle.go_base.specs.declared.vertices.Vertex.TheVariants.{Pass, At}
-use Rattle.go_board.specs.Board.{at, empty_board, with_black}
-use Rattle.go_board.specs.Chain.{IsFree}
+use Rattle.go_board.specs.Board.{empty_board, with_black}
 use Rattle.go_board.specs.Frame.{HasSize, IsFramed}
 use Rattle.go_board.specs.Game.{GameRecord, start, board, board_of, with_move, after_vertex, IsGame, IsLegal}
 use Rattle.go_board.specs.Label.{AreFree}
 use Rattle.go_board.specs.Put.{put}
 use Rattle.go_board.specs.Removed.{stone_count, removed_of, removed_from, removed_by, taken_at, IsOpen}
 use Rattle.go_board.specs.declared.board.Cell.{Cell}
-use Rattle.go_board.specs.declared.board.Cell.TheVariants.{Edge, Black}
+use Rattle.go_board.specs.declared.board.Cell.TheVariants.{Black}
 use Rattle.go_board.specs.declared.removed.Taken.{Taken}
 use Rattle.go_board.proofs.CaptureLemmas.{SameEdge-set, SameEdge-put, HasSize-same_edge}
 use Rattle.go_board.proofs.EmptyLemmas.{HasSize-empty_board, length-empty_board, IsFramed-has_size}

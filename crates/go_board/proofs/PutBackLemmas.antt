@@ -1,20 +1,16 @@
 -- Putting back the stones that a play took.
-use Rattle.std.proofs.Common.{◌≡◌, ℕ, zero, suc, ◌+◌, ◌<◌, ◌≤◌, List, [], ◌∷◌, ◌++◌, length, refl, sym, ◌∙◌, ap, subst, arith, inl, inr, Bool, true, false, cond, get_or-set_same, get_or-set_other, append_assoc, length-append}
+use Rattle.std.proofs.Common.{◌≡◌, ℕ, zero, suc, ◌+◌, ◌<◌, ◌≤◌, List, [], ◌∷◌, ◌++◌, length, refl, sym, ◌∙◌, ap, subst, arith, inl, inr, Bool, true, false, cond, get_or-set_same, get_or-set_other, append_assoc}
 use Rattle.std.specs.Prelude.{◌⊎◌, ◌≢◌}
-use Rattle.std.specs.List.{range_with_len, filter, AllByRecursion}
+use Rattle.std.specs.List.{range_with_len, filter}
 use Rattle.std.proofs.lemmas.List.{length_push}
 use Rattle.std.proofs.Math.ListN.{set, length-set}
-use Rattle.go_base.specs.Colour.{other}
-use Rattle.go_base.specs.declared.colours.Colour.{Colour}
-use Rattle.go_base.specs.declared.vertices.Vertex.TheVariants.{At}
-use Rattle.go_board.specs.Board.{at, stone}
-use Rattle.go_board.specs.Put.{IsCaptured, captured?, is_captured, put, captures}
-use Rattle.go_board.specs.Removed.{captured_places, taken_at, with_stones, IsNotLast, AreLastPoints, IsPutBack, IsAfterMove}
+use Rattle.go_board.specs.Board.{at}
+use Rattle.go_board.specs.Removed.{taken_at, with_stones, IsNotLast, AreLastPoints, IsPutBack}
 use Rattle.go_board.specs.declared.board.Cell.{Cell}
-use Rattle.go_board.specs.declared.board.Cell.TheVariants.{Edge, Empty}
+use Rattle.go_board.specs.declared.board.Cell.TheVariants.{Edge}
 use Rattle.go_board.specs.declared.removed.Taken.{Taken}
 use Rattle.go_board.proofs.BoardLemmas.{same_or_other}
-use Rattle.go_board.proofs.CaptureLemmas.{holds-yes, holds-no, in_list}
+use Rattle.go_board.proofs.CaptureLemmas.{in_list}
 
 -- ---- the loop
 

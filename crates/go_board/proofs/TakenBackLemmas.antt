@@ -1,6 +1,6 @@
 -- Taking a play back leaves the board before it.
-use Rattle.std.proofs.Common.{◌≡◌, ℕ, zero, suc, ◌+◌, ◌<◌, ◌≤◌, List, [], ◌∷◌, ◌++◌, length, refl, sym, ◌∙◌, ap, subst, arith, inl, inr, Bool, true, false, cond, get_or-set_same, get_or-set_other}
-use Rattle.std.specs.Prelude.{◌⊎◌, ◌≢◌, All}
+use Rattle.std.proofs.Common.{◌≡◌, ℕ, ◌<◌, List, [], ◌∷◌, length, refl, sym, ◌∙◌, ap, subst, arith, cond, get_or-set_same, get_or-set_other}
+use Rattle.std.specs.Prelude.{◌≢◌}
 use Rattle.std.specs.List.{range_with_len, filter, AllByRecursion}
 use Rattle.std.proofs.lemmas.List.{append-nil}
 use Rattle.std.proofs.lemmas.List.Sums.{length-filter}
@@ -9,16 +9,15 @@ use Rattle.go_base.specs.Colour.{other}
 use Rattle.go_base.specs.declared.colours.Colour.{Colour}
 use Rattle.go_base.specs.declared.vertices.Vertex.TheVariants.{Pass, At}
 use Rattle.go_board.specs.Board.{at, stone}
-use Rattle.go_board.specs.Frame.{IsFramed}
 use Rattle.go_base.specs.Decide.{holds}
 use Rattle.go_board.specs.Put.{IsCaptured, captured?, is_captured, put, captures, captured_count}
-use Rattle.go_board.specs.Removed.{captured_places, taken_at, with_stones, IsNotLast, AreLastPoints, IsPutBack, IsAfterMove, IsTakenBack}
+use Rattle.go_board.specs.Removed.{captured_places, with_stones, AreLastPoints, IsPutBack, IsAfterMove, IsTakenBack}
 use Rattle.go_board.specs.declared.board.Cell.{Cell}
 use Rattle.go_board.specs.declared.board.Cell.TheVariants.{Edge, Empty}
 use Rattle.go_board.specs.declared.removed.Taken.{Taken}
-use Rattle.go_board.proofs.BoardLemmas.{same_or_other, stone-point}
+use Rattle.go_board.proofs.BoardLemmas.{stone-point}
 use Rattle.go_board.proofs.CaptureLemmas.{holds-yes, holds-no, in_list, at-put}
-use Rattle.go_board.proofs.KoLemmas.{IsAfter, after-put, taken-empty, taken-other, length-put}
+use Rattle.go_board.proofs.KoLemmas.{taken-empty, taken-other, length-put}
 use Rattle.go_board.proofs.NextLemmas.{empty-point}
 use Rattle.go_board.proofs.PopLemmas.{popped-all, popped-one}
 use Rattle.go_board.proofs.PutBackLemmas.{length-with_stones, filled-in, filled-out}

@@ -169,7 +169,9 @@ impl Game {
         let made = Move { colour, vertex };
         self.test(made.colour, made.vertex)?;
         let number = self.moves.len();
-        let taken = self.chains.make(made.colour, made.vertex, number, &mut self.removed);
+        let taken = self
+            .chains
+            .make(made.colour, made.vertex, number, &mut self.removed);
         self.taken_by_black = with_taken(self.taken_by_black, taken, colour, Colour::Black);
         self.taken_by_white = with_taken(self.taken_by_white, taken, colour, Colour::White);
         self.moves.push(made);
@@ -240,7 +242,9 @@ impl Game {
             return Err(NothingToUndo);
         };
         let number = self.moves.len();
-        let taken = self.chains.take_back(last.colour, last.vertex, number, &mut self.removed);
+        let taken = self
+            .chains
+            .take_back(last.colour, last.vertex, number, &mut self.removed);
         let colour = last.colour;
         self.taken_by_black = without_taken(self.taken_by_black, taken, colour, Colour::Black);
         self.taken_by_white = without_taken(self.taken_by_white, taken, colour, Colour::White);

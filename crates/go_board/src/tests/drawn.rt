@@ -28,7 +28,11 @@ fn assert_same(rt: &impl Abort, game: &Game, plain: &PlainGame) {
     for row in 1..=lines {
         for column in 1..=lines {
             let point = at(rt, column, row);
-            assert_eq!(rt; game.at(point), plain.at(point), "column {column}, row {row}");
+            assert_eq!(rt;
+                game.at(point),
+                plain.at(point),
+                "column {column}, row {row}"
+            );
         }
     }
 }

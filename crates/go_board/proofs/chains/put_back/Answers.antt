@@ -1,5 +1,5 @@
 use Rattle.std.proofs.Common.{arith, subst, sym, List}
-use Rattle.go_board.specs.Removed.{IsNotLast, IsPutBack}
+use Rattle.go_board.specs.Removed.{IsPutBack}
 use Rattle.go_board.specs.declared.removed.Taken.{Taken}
 use Rattle.go_board.proofs.PutBackLemmas.{IsPuttingBack-none, popped-point, IsPuttingBack-more, count-few, IsPuttingBack-done, shorter-now}
 use Rattle.go_board.proofs.chains.put_back.Goals as goal

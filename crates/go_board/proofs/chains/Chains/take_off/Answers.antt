@@ -1,8 +1,7 @@
-use Rattle.std.proofs.Common.{◌≡◌, ◌∙◌, ap, sym, subst, List}
+use Rattle.std.proofs.Common.{◌∙◌, ap, sym, subst, List}
 use Rattle.go_board.specs.Board.{stone}
 use Rattle.go_board.specs.Frame.{IsFramed}
 use Rattle.go_board.specs.Removed.{IsTakenBack}
-use Rattle.go_base.specs.Colour.{other}
 use Rattle.go_base.specs.declared.vertices.Vertex.TheVariants.{At}
 use Rattle.go_board.specs.declared.board.Cell.{Cell}
 use Rattle.go_board.proofs.BoardLemmas.{stone-point}
@@ -22,7 +21,7 @@ put_back-taken-requires-clause-points c =
 
 back : (c : After-put_back-taken)
     → IsTakenBack c.args.self.now.board c.args.removed.now (record { colour = c.args.colour; vertex = At c.args.place }) c.args.number
-        c.put_back-taken.new.board c.put_back-taken.new.removed c.put_back-taken.result
+    c.put_back-taken.new.board c.put_back-taken.new.removed c.put_back-taken.result
 back c =
     IsTakenBack-play c.args.self.now.board c.set.new.self c.put_back-taken.new.board c.args.removed.now c.put_back-taken.new.removed c.args.colour c.args.place c.args.number
     c.put_back-taken.result c.stone.result c.set.ensures (c.stone.ensures ∙ ap stone c.other.ensures) c.put_back-taken.ensures
@@ -35,6 +34,6 @@ of-requires c =
 pub returns-clause-back : goal.returns-clause-back
 returns-clause-back c =
     subst (λ (b : List Cell). IsTakenBack c.args.self.now.board c.args.removed.now (record { colour = c.args.colour; vertex = At c.args.place }) c.args.number b
-        c.put_back-taken.new.removed c.put_back-taken.result) (sym c.of.ensures.board)
+    c.put_back-taken.new.removed c.put_back-taken.result) (sym c.of.ensures.board)
     (IsTakenBack-play c.args.self.now.board c.set.new.self c.put_back-taken.new.board c.args.removed.now c.put_back-taken.new.removed c.args.colour c.args.place c.args.number
     c.put_back-taken.result c.stone.result c.set.ensures (c.stone.ensures ∙ ap stone c.other.ensures) c.put_back-taken.ensures)

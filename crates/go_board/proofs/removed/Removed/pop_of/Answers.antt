@@ -1,5 +1,4 @@
-use Rattle.std.proofs.Common.{◌≡◌, ◌∙◌, List, sym, subst, IfNone, length}
-use Rattle.go_board.specs.Removed.{IsNotLast}
+use Rattle.std.proofs.Common.{◌≡◌, ◌∙◌, List, sym, subst, length}
 use Rattle.go_board.specs.declared.removed.Taken.{Taken}
 use Rattle.go_board.proofs.PopLemmas.{IsNotLast-none, IsNotLast-other}
 use Rattle.go_board.proofs.removed.Removed.pop_of.Goals as goal
