@@ -20,3 +20,10 @@ cp "$top/bench/$name/main.txt" "$copy/crates/bench_$name/src/main.rt"
 printf '\nbench_%s: %s\n' "$name" "$(cat "$top/bench/$name/needs")" >> "$copy/crates.txt"
 cd "$copy/crates/bench_$name"
 rt run
+
+# A program without proofs that does the same and is written for speed alone, where there is one.
+if [ -f "$top/bench/$name/limit.rs" ]; then
+    echo "the limit:"
+    rustc -C opt-level=3 -o "$copy/limit" "$top/bench/$name/limit.rs"
+    "$copy/limit"
+fi

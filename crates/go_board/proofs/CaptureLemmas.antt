@@ -105,14 +105,14 @@ IsClearing-count board c n cells removed all k = k.counted ∙ ap (λ m. count_b
 -- ---- what removing stones leaves
 
 -- what isn't edge is on the list
-in_list : (board : List Cell) (p : ℕ) → at board p ≢ Edge → p < length board
+pub in_list : (board : List Cell) (p : ℕ) → at board p ≢ Edge → p < length board
 in_list board p point = elim (inside p (length board)) [ inl below ↦ below | inr past ↦ absurd (point (get_or_past board p Edge past)) ]
   where
     inside : (k n : ℕ) → (k < n) ⊎ (n ≤ k)
     inside k n = grind arith
 
 -- an edge stays an edge
-left_at-edge : (board : List Cell) (c : Colour) (p : ℕ) → at board p ≡ Edge → left_at board c p ≡ Edge
+pub left_at-edge : (board : List Cell) (c : Colour) (p : ℕ) → at board p ≡ Edge → left_at board c p ≡ Edge
 left_at-edge board c p e =
     let kept : is_captured board c p ≡ false = holds-no (captured? board c p) (λ k. stone-point c (sym k.0 ∙ e)) in
     ap (λ (b : Bool). cond b Empty (at board p)) kept ∙ e
@@ -125,7 +125,7 @@ edge-from_left_at board c p = by_case (is_captured board c p)
     by_case true e = cc
     by_case false e = e
 
-at-without_captured : (board : List Cell) (c : Colour) (p : ℕ) → at (without_captured board c) p ≡ left_at board c p
+pub at-without_captured : (board : List Cell) (c : Colour) (p : ℕ) → at (without_captured board c) p ≡ left_at board c p
 unfolding without_captured
 at-without_captured board c p = elim (inside p (length board)) [
   | inl below ↦ get_or-map-range_with_len (left_at board c) 0 (length board) p p Edge below (omega arith)

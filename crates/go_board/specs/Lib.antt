@@ -11,5 +11,10 @@ pub mod Refusals
 pub mod DecideGame
 pub mod Places
 pub mod Flood
+pub mod Spread
+pub mod Label
+pub mod Removed
+pub mod Ko
+pub mod Legal
 pub mod Kept
 pub mod Show

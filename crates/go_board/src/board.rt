@@ -1,5 +1,5 @@
 //! A board as an array of places with edge round the points.
-ghost use Rattle.std.specs.Prelude.{◌≡◌, ◌≢◌, ℕ, ◌<◌, ◌≤◌, ◌↔◌, ◌⊎◌, if◌then◌else◌, IsTrue, All};
+ghost use Rattle.std.specs.Prelude.{◌≡◌, ◌≢◌, ℕ, ◌<◌, ◌≤◌, ◌↔◌, ◌⊎◌, if◌then◌else◌, IsTrue, All, ◌+◌};
 ghost use Rattle.go_base.specs.Point.{IsOn};
 ghost use Rattle.go_base.specs.Size.{size_max, IsSize};
 ghost use Rattle.go_board.specs.Board.{is_point};
@@ -11,8 +11,11 @@ use std::marker::Model;
 /// How many places a row has: its points and its edge.
 pub const ROW: usize = 26;
 
-/// How many places a board has: 27 rows of them.
-pub const PLACES: usize = 27 * ROW;
+/// How many rows a board has: those of its points and the edge below and above.
+pub const ROWS: usize = 27;
+
+/// How many places a board has.
+pub const PLACES: usize = ROWS * ROW;
 
 /// What a place holds.
 #[derive(Clone, Copy, PartialEq, Eq, Debug)]
@@ -30,6 +33,7 @@ pub enum Cell {
 
 impl Cell {
     ghost use Rattle.go_board.specs.Board.{stone, IsStone};
+    ghost use Rattle.go_board.specs.Label.{is_stone, is_empty};
 
     /// The stone of this colour.
     #[inline]
@@ -45,9 +49,18 @@ impl Cell {
     /// Whether this is a stone.
     #[inline]
     pub fn is_stone(self) -> bool
-        ensures { IsTrue result ↔ IsStone self }
+        ensures fact { IsTrue result ↔ IsStone self }
+        ensures value { result ≡ is_stone self }
     {
         matches!(self, Cell::Black | Cell::White)
+    }
+
+    /// Whether this is an empty point.
+    #[inline]
+    pub fn is_empty(self) -> bool
+        ensures { result ≡ is_empty self }
+    {
+        matches!(self, Cell::Empty)
     }
 }
 
@@ -97,15 +110,17 @@ impl Model for Board {
 }
 
 impl Board {
+    ghost use Rattle.std.specs.Prelude.{slice_set};
+    ghost use Rattle.go_board.specs.Label.{IsChainOf};
     ghost use Rattle.go_board.specs.Board.{place_count, at, stone, empty_board, with_black, HasStone};
     ghost use Rattle.go_board.specs.Frame.{HasSize, SameEdge};
     ghost use Rattle.go_base.specs.Colour.{other};
     ghost use Rattle.go_base.specs.Handicap.{AllowsHandicap};
     ghost use Rattle.go_board.specs.Area.{CountsFor, area};
-    ghost use Rattle.go_board.specs.Chain.{HasBeside, IsFree};
+    ghost use Rattle.go_board.specs.Chain.{HasBeside};
     ghost use Rattle.go_board.specs.Flood.{IsSpread, AreTouching};
+    ghost use Rattle.go_board.specs.Spread.{AreSpread};
     ghost use Rattle.go_board.specs.Game.{start};
-    ghost use Rattle.go_board.specs.Put.{without_captured, captured_count, put, captures};
     ghost use Rattle.go_board.specs.declared.board.Cell.TheVariants.{Edge};
 
     /// The board of this size without a stone.
@@ -163,16 +178,19 @@ impl Board {
         self.cells[place]
     }
 
-    /// Whether both boards hold the same at each place.
-    pub fn is_same(&self, other: &Board) -> bool
-        ensures { IsTrue result ↔ (self.now ≡ other.now) }
+    /// Changes what a point holds.
+    #[inline]
+    pub fn set(&mut self, place: usize, cell: Cell)
+        requires point { at self.old place ≢ Edge }
+        requires cell { cell ≢ Edge }
+        ensures { self.new ≡ slice_set self.old place cell }
     {
-        self.cells == other.cells
+        self.cells[place] = cell;
     }
 
     /// Whether a neighbour of a point holds this.
     #[inline]
-    fn has_beside(&self, place: usize, wanted: Cell) -> bool
+    pub fn has_beside(&self, place: usize, wanted: Cell) -> bool
         requires { IsOn size_max place }
         ensures { IsTrue result ↔ HasBeside self.now place wanted }
     {
@@ -196,13 +214,41 @@ impl Board {
         let mut next = 0;
         while next < found.len() {
             let place = found.get(next);
-            self.spread(sought, place + 1, &mut found);
-            self.spread(sought, place - 1, &mut found);
-            self.spread(sought, place + ROW, &mut found);
-            self.spread(sought, place - ROW, &mut found);
+            self.spread_round(sought, place, &mut found);
             next += 1;
         }
         found
+    }
+
+    /// The places of the chain or region of a point.
+    pub fn chain(&self, place: usize) -> Places
+        requires place { place < place_count }
+        requires point { at self.now place ≢ Edge }
+        ensures { IsChainOf self.now place result }
+    {
+        let sought = self.cells[place];
+        let mut found = Places::new();
+        found.insert(place);
+        let mut next = 0;
+        while next < found.len() {
+            let place = found.get(next);
+            self.spread_round(sought, place, &mut found);
+            next += 1;
+        }
+        found
+    }
+
+    /// Puts the four neighbours of a point in, those that hold what is sought.
+    #[inline]
+    fn spread_round(&self, sought: Cell, place: usize, found: &mut Places)
+        requires low { ROW < place }
+        requires high { place + ROW < place_count }
+        ensures { AreSpread self.now sought place found.old found.new }
+    {
+        self.spread(sought, place + 1, found);
+        self.spread(sought, place - 1, found);
+        self.spread(sought, place + ROW, found);
+        self.spread(sought, place - ROW, found);
     }
 
     /// Puts a place in, if it holds what is sought.
@@ -214,48 +260,6 @@ impl Board {
         if self.cells[place] == sought {
             found.insert(place);
         }
-    }
-
-    /// Whether the chain of the stone of this colour on a point has a liberty.
-    pub fn is_free(&self, colour: Colour, place: usize) -> bool
-        requires point { IsOn size_max place }
-        requires stone { at self.now place ≡ stone colour }
-        ensures { IsTrue result ↔ IsFree self.now place }
-    {
-        self.has_beside(place, Cell::Empty)
-            || self
-                .touching(Cell::stone(colour), Cell::Empty)
-                .contains(place)
-    }
-
-    /// Removes, all at once, the stones of this colour whose chains have no liberty. Answers how many there were.
-    fn remove_captured(&mut self, colour: Colour) -> u32
-        ensures board { self.new ≡ without_captured self.old colour }
-        ensures count { result ≡ captured_count self.old colour }
-        ensures few { result ≤ place_count }
-    {
-        let stone = Cell::stone(colour);
-        let free = self.touching(stone, Cell::Empty);
-        let mut removed = 0;
-        for (place, cell) in self.cells.iter_mut().enumerate() {
-            if *cell == stone && !free.contains(place) {
-                *cell = Cell::Empty;
-                removed += 1;
-            }
-        }
-        removed
-    }
-
-    /// Puts a stone on a point, and then removes the other colour's stones that have no liberty. Answers how many it took.
-    #[tactic(auto, unfolding(crate::specs::Put::put, crate::specs::Put::captures))]
-    pub fn put(&mut self, colour: Colour, place: usize) -> u32
-        requires { at self.old place ≢ Edge }
-        ensures board { self.new ≡ put self.old colour place }
-        ensures taken { result ≡ captures self.old colour place }
-        ensures few { result ≤ place_count }
-    {
-        self.cells[place] = Cell::stone(colour);
-        self.remove_captured(colour.other())
     }
 
     /// How many points count for a colour: those with its stones, and those of empty regions that only its stones are beside.

@@ -1,25 +1,24 @@
 //! A game: the record of its moves, and the board that the record makes.
-ghost use Rattle.std.specs.Prelude.{◌≡◌, ℕ, ◌<◌, ◌≤◌, ◌↔◌, ◌⊎◌, ◌+◌, ◌*◌, [], ◌∷◌, ◌++◌, if◌then◌else◌, IsTrue, IsErr, IfOk, OnOk, OnErr, MatchResult, length};
+ghost use Rattle.std.specs.Prelude.{◌≡◌, ◌<◌, ◌≤◌, ◌↔◌, ◌⊎◌, ◌+◌, ◌-◌, [], ◌∷◌, ◌++◌, if◌then◌else◌, IsTrue, IsErr, IfOk, OnOk, OnErr, MatchResult};
 ghost use Rattle.go_base.specs.Decide.{holds};
 ghost use Rattle.go_base.specs.Handicap.{AllowsHandicap, handicap_points};
+ghost use Rattle.go_base.specs.Point.{IsOn};
+ghost use Rattle.go_base.specs.Size.{size_max};
 ghost use Rattle.go_board.specs.Board.{place_count};
+ghost use Rattle.go_board.specs.Removed.{most_removed};
 ghost use Rattle.go_board.specs.Taken.{same_colour};
 
 use crate::board::{Board, Cell, place_of};
+use crate::chains::Chains;
 use crate::faults::{HandicapFault, NothingToUndo, PlayFault};
+use crate::ko::{Ko, ko_after};
+use crate::removed::Removed;
 use arrayvec::ArrayVec;
 use go_base::{Colour, Komi, Move, Point, Size, Vertex, handicap};
 use std::marker::Model;
 
 /// How many moves a record has room for.
 pub const MOST_MOVES: usize = 2000;
-
-/// A board after a move, and how many stones the move took.
-#[derive(Clone, Copy)]
-struct Played {
-    board: Board,
-    taken: u32,
-}
 
 /// A game of Go: its size, komi and handicap, and the moves made so far.
 ///
@@ -30,8 +29,9 @@ pub struct Game {
     komi: Komi,
     handicap: u32,
     moves: ArrayVec<Move, MOST_MOVES>,
-    board: Board,
-    before: Board,
+    chains: Chains,
+    ko: Option<Ko>,
+    removed: Removed,
     taken_by_black: u32,
     taken_by_white: u32,
 }
@@ -49,13 +49,14 @@ impl Model for Game {
 }
 
 impl Game {
-    ghost use Rattle.go_board.specs.Board.{stone_at};
-    ghost use Rattle.go_board.specs.Game.{most_moves, HasRoom, first_moves, without_last, with_move, board_of, Repeats, IsLegal, IsGame, IsFinished};
+    ghost use Rattle.go_board.specs.Board.{at, stone_at};
+    ghost use Rattle.go_board.specs.Put.{put};
+    ghost use Rattle.go_board.specs.declared.board.Cell.TheVariants.{Empty};
+    ghost use Rattle.go_board.specs.Game.{most_moves, HasRoom, without_last, with_move, board_of, Repeats, IsLegal, IsGame, IsFinished};
     ghost use Rattle.go_board.specs.DecideGame.{finished?};
     ghost use Rattle.go_board.specs.Taken.{taken};
     ghost use Rattle.go_board.specs.Area.{score};
     ghost use Rattle.go_board.specs.Refusals.{RefusesPoint, RefusesVertex, Refuses, IsTouched, RefusesHandicap};
-    ghost use Rattle.go_board.specs.Kept.{IsNext};
     ghost use Rattle.go_base.specs.declared.vertices.Vertex.TheVariants.{At};
 
     /// A game without handicap and moves.
@@ -72,14 +73,16 @@ impl Game {
     {
         // Its contract tells that komi is in its limits.
         let _ = komi.half_points();
-        let start = Board::start(size, stones);
+        let chains = Chains::of(Board::start(size, stones));
+        let removed = Removed::new();
         Game {
             size,
             komi,
             handicap: stones,
             moves: ArrayVec::new(),
-            board: start,
-            before: start,
+            chains,
+            ko: None,
+            removed,
             taken_by_black: 0,
             taken_by_white: 0,
         }
@@ -124,7 +127,7 @@ impl Game {
             (λ _. (¬ IsTouched self.old) × AllowsHandicap self.old.size stones)
             (RefusesHandicap self.old stones) }
     {
-        if !self.moves.is_empty() || self.board.has_stone() {
+        if !self.moves.is_empty() || self.chains.board().has_stone() {
             return Err(HandicapFault::NotEmpty);
         }
         let Some(points) = handicap(self.size, stones) else {
@@ -141,7 +144,7 @@ impl Game {
         ensures legal { IsTrue result ↔ IsLegal self.now colour vertex }
         ensures game { IsGame self.now }
     {
-        self.next(colour, vertex).is_ok()
+        self.test(colour, vertex).is_ok()
     }
 
     /// Makes a move, and adds it to the record.
@@ -164,59 +167,64 @@ impl Game {
             return Err(PlayFault::Full);
         }
         let made = Move { colour, vertex };
-        let played = self.next(made.colour, made.vertex)?;
-        self.before = self.board;
-        self.board = played.board;
-        self.taken_by_black = with_taken(self.taken_by_black, played.taken, colour, Colour::Black);
-        self.taken_by_white = with_taken(self.taken_by_white, played.taken, colour, Colour::White);
+        self.test(made.colour, made.vertex)?;
+        let number = self.moves.len();
+        let taken = self
+            .chains
+            .make(made.colour, made.vertex, number, &mut self.removed);
+        self.taken_by_black = with_taken(self.taken_by_black, taken, colour, Colour::Black);
+        self.taken_by_white = with_taken(self.taken_by_white, taken, colour, Colour::White);
         self.moves.push(made);
+        self.ko = ko_after(&self.moves, &self.removed);
         Ok(())
     }
 
-    /// What a move would leave, or why it is refused.
-    fn next(&self, colour: Colour, vertex: Vertex) -> Result<Played, PlayFault>
-        ensures next { MatchResult result
-            (IsNext self.now colour vertex)
+    /// Whether a move may be made, where the record has room, or why it is refused.
+    fn test(&self, colour: Colour, vertex: Vertex) -> Result<(), PlayFault>
+        ensures legal { MatchResult result
+            (λ _. IsLegal self.now colour vertex)
             (RefusesVertex self.now colour vertex) }
         ensures game { IsGame self.now }
     {
+        // Its invariant tells that this is a game.
+        let _ = &self.size;
         match vertex {
-            Vertex::Pass => Ok(Played {
-                board: self.board,
-                taken: 0,
-            }),
-            Vertex::At(point) => self.next_at(colour, point),
+            Vertex::Pass => Ok(()),
+            Vertex::At(point) => self.test_at(colour, point),
         }
     }
 
-    /// What a play on a point would leave, or why it is refused.
-    fn next_at(&self, colour: Colour, point: Point) -> Result<Played, PlayFault>
+    /// Whether a play on a point may be made, or why it is refused.
+    fn test_at(&self, colour: Colour, point: Point) -> Result<(), PlayFault>
         ensures { MatchResult result
-            (IsNext self.now colour (At point))
+            (λ _. IsLegal self.now colour (At point))
             (RefusesPoint self.now colour point) }
     {
         let place = place_of(point);
-        match self.board.at(place) {
+        match self.chains.at(place) {
             Cell::Edge => return Err(PlayFault::OffBoard),
             Cell::Black | Cell::White => return Err(PlayFault::Occupied),
             Cell::Empty => {}
         }
-        let mut board = self.board;
-        let taken = board.put(colour, place);
-        if !board.is_free(colour, place) {
+        if !self.chains.would_be_free(colour, place) {
             return Err(PlayFault::Suicide);
         }
-        if self.repeats(&board) {
+        if self.repeats(colour, place) {
             return Err(PlayFault::Ko);
         }
-        Ok(Played { board, taken })
+        Ok(())
     }
 
-    /// Whether a board after a play would repeat an earlier one: the one before the previous move.
-    fn repeats(&self, next: &Board) -> bool
-        ensures { IsTrue result ↔ Repeats self.now next.now }
+    /// Whether a play on an empty point would repeat an earlier board: the one before the previous move.
+    fn repeats(&self, colour: Colour, place: usize) -> bool
+        requires point { IsOn size_max place }
+        requires empty { at (board_of self.now) place ≡ Empty }
+        ensures { IsTrue result ↔ Repeats self.now (put (board_of self.now) colour place) }
     {
-        !self.moves.is_empty() && next.is_same(&self.before)
+        let Some(ko) = self.ko else {
+            return false;
+        };
+        place == ko.point && self.chains.takes_only(colour, place, place_of(ko.stone))
     }
 
     /// Takes back the last move of the record with its captures. Handicap stones are never taken back.
@@ -230,23 +238,18 @@ impl Game {
         ensures nothing { IsErr result ↔ (self.old.moves ≡ []) }
         ensures unchanged { OnErr result (self.new ≡ self.old) }
     {
-        let Some(last) = self.moves.last().copied() else {
+        let Some(last) = self.moves.pop() else {
             return Err(NothingToUndo);
         };
-        *self = self.replayed(self.moves.len() - 1);
+        let number = self.moves.len();
+        let taken = self
+            .chains
+            .take_back(last.colour, last.vertex, number, &mut self.removed);
+        let colour = last.colour;
+        self.taken_by_black = without_taken(self.taken_by_black, taken, colour, Colour::Black);
+        self.taken_by_white = without_taken(self.taken_by_white, taken, colour, Colour::White);
+        self.ko = ko_after(&self.moves, &self.removed);
         Ok(last)
-    }
-
-    /// The game of the first so many moves, played again.
-    fn replayed(&self, count: usize) -> Game
-        requires { count ≤ length self.now.moves }
-        ensures { result ≡ first_moves count self.now }
-    {
-        let mut game = Game::opening(self.size, self.komi, self.handicap);
-        for made in &self.moves[..count] {
-            let _ = game.play(made.colour, made.vertex);
-        }
-        game
     }
 
     /// The size of the board.
@@ -283,7 +286,7 @@ impl Game {
     pub fn at(&self, point: Point) -> Option<Colour>
         ensures { result ≡ stone_at (board_of self.now) point }
     {
-        match self.board.at(place_of(point)) {
+        match self.chains.at(place_of(point)) {
             Cell::Black => Some(Colour::Black),
             Cell::White => Some(Colour::White),
             Cell::Empty | Cell::Edge => None,
@@ -308,8 +311,9 @@ impl Game {
     pub fn score(&self) -> i32
         ensures { result ≡ score self.now }
     {
-        let black = self.board.area(Colour::Black) as i32;
-        let white = self.board.area(Colour::White) as i32;
+        let board = self.chains.board();
+        let black = board.area(Colour::Black) as i32;
+        let white = board.area(Colour::White) as i32;
         2 * (black - white) - self.komi.half_points()
     }
 
@@ -328,9 +332,18 @@ impl Game {
 /// What a colour has taken after a move of `mover` that took so many stones.
 #[inline]
 fn with_taken(had: u32, taken: u32, mover: Colour, colour: Colour) -> u32
-    requires had { had ≤ place_count * MOST_MOVES }
+    requires had { had ≤ most_removed }
     requires taken { taken ≤ place_count }
     ensures { result ≡ had + (if same_colour mover colour then taken else 0) }
 {
     if mover == colour { had + taken } else { had }
+}
+
+/// What a colour had taken before a move of `mover` that took so many stones.
+#[inline]
+fn without_taken(has: u32, taken: u32, mover: Colour, colour: Colour) -> u32
+    requires { (if same_colour mover colour then taken else 0) ≤ has }
+    ensures { result ≡ has - (if same_colour mover colour then taken else 0) }
+{
+    if mover == colour { has - taken } else { has }
 }

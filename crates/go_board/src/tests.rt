@@ -1,4 +1,6 @@
 //! Examples worked out by hand, and games of random moves beside those of a slow game.
+mod drawn;
+mod plain;
 mod random;
 mod slow;
 

@@ -1,0 +1,10 @@
+use Rattle.std.proofs.Common.{◌∙◌, sym, ap, subst}
+use Rattle.go_base.specs.declared.vertices.Vertex.{Vertex}
+use Rattle.go_base.specs.declared.vertices.Vertex.TheVariants.{At}
+use Rattle.go_board.specs.Removed.{IsTakenBack}
+use Rattle.go_board.proofs.chains.Chains.take_back.Goals as goal
+
+pub returns-in-At-clause-back : goal.returns-in-At-clause-back
+returns-in-At-clause-back c =
+    subst (λ (v : Vertex). IsTakenBack c.args.self.now.board c.args.removed.now (record { colour = c.args.colour; vertex = v }) c.args.number c.take_off.new.self.board c.take_off.new.removed
+    c.take_off.result) (ap At c.place_of.ensures.value ∙ sym c.in-At.is) c.take_off.ensures.back

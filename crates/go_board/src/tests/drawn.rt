@@ -1,0 +1,115 @@
+//! Games of moves drawn from the legal ones, beside the game in its plainest form.
+use super::new_game;
+use super::plain::{MOVES, PlainGame};
+use crate::Game;
+use arrayvec::ArrayVec;
+use go_base::{Colour, Move, Point, Vertex};
+use rand_core::{Rng, SeedableRng};
+use rand_pcg::Pcg64;
+use std::process::Abort;
+
+/// How many games are played.
+const GAMES: u32 = 200;
+
+/// The most legal moves of a colour: a play on each point of the largest board, and a pass.
+const LEGAL: usize = 82;
+
+fn at(rt: &impl Abort, column: u32, row: u32) -> Point {
+    Point::new(column, row).expect(rt, "a point")
+}
+
+/// Compares two games by their moves and captures, and point by point.
+fn assert_same(rt: &impl Abort, game: &Game, plain: &PlainGame) {
+    assert_eq!(rt; game.moves(), plain.moves());
+    for colour in [Colour::Black, Colour::White] {
+        assert_eq!(rt; game.captured(colour), plain.captured(colour));
+    }
+    let lines = game.size().get();
+    for row in 1..=lines {
+        for column in 1..=lines {
+            let point = at(rt, column, row);
+            assert_eq!(rt;
+                game.at(point),
+                plain.at(point),
+                "column {column}, row {row}"
+            );
+        }
+    }
+}
+
+/// The legal moves of a colour, a pass among them. Both games must allow the same.
+fn legal_moves(
+    rt: &impl Abort,
+    game: &Game,
+    plain: &PlainGame,
+    colour: Colour,
+) -> ArrayVec<Move, LEGAL> {
+    let mut legal = ArrayVec::new();
+    let _ = legal.try_push(Move {
+        colour,
+        vertex: Vertex::Pass,
+    });
+    let lines = game.size().get();
+    for row in 1..=lines {
+        for column in 1..=lines {
+            let made = Move {
+                colour,
+                vertex: Vertex::At(at(rt, column, row)),
+            };
+            let allowed = game.legal(made.colour, made.vertex);
+            let wanted = plain.legal(made.colour, made.vertex);
+            assert_eq!(rt; allowed, wanted, "column {column}, row {row}");
+            if allowed {
+                let _ = legal.try_push(made);
+            }
+        }
+    }
+    legal
+}
+
+/// Makes a move of this colour in both games, drawn from those that are legal.
+fn step(
+    rt: &impl Abort,
+    words: &mut Pcg64,
+    game: &mut Game,
+    plain: &mut PlainGame,
+    colour: Colour,
+) {
+    let legal = legal_moves(rt, game, plain, colour);
+    let number = words
+        .next_u64()
+        .checked_rem(legal.len() as u64)
+        .unwrap_or(0);
+    let made = legal.get(number as usize).copied().expect(rt, "a move");
+    assert_eq!(rt; game.play(made.colour, made.vertex), Ok(()));
+    assert_eq!(rt; plain.play(made.colour, made.vertex), Ok(()));
+    assert_same(rt, game, plain);
+}
+
+/// Takes all moves back, one after the other.
+fn take_all_back(rt: &impl Abort, game: &mut Game, plain: &mut PlainGame) {
+    for _ in 0..=MOVES {
+        assert_eq!(rt; game.undo(), plain.undo());
+        assert_same(rt, game, plain);
+    }
+    assert!(rt; game.moves().is_empty());
+}
+
+#[test]
+fn drawn_games_go_as_plain_ones(rt: HostRuntime) {
+    let mut words = Pcg64::seed_from_u64(10);
+    let mut taken = 0_u32;
+    for number in 0..GAMES {
+        let lines = number % 9 + 1;
+        let mut game = new_game(&rt, lines);
+        let mut plain = PlainGame::new(lines);
+        let mut colour = Colour::Black;
+        for _ in 0..MOVES {
+            step(&rt, &mut words, &mut game, &mut plain, colour);
+            colour = colour.other();
+        }
+        taken = taken.saturating_add(game.captured(Colour::Black));
+        take_all_back(&rt, &mut game, &mut plain);
+    }
+    assert!(rt; taken > 0);
+}
