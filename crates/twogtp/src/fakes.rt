@@ -58,6 +58,8 @@ enum Engine {
     Book(Session<Book>),
     /// Takes all that it is sent, and writes one text.
     Says,
+    /// Takes all that it is sent, and can't be read.
+    Mute,
     /// Its pipes are broken.
     Broken,
 }
@@ -99,7 +101,7 @@ impl Conversation for Talk {
     ghost given = { λ _. None };
 
     fn read(&mut self, buffer: &mut [u8]) -> Result<usize, Broken> {
-        if let Engine::Broken = &self.engine {
+        if let Engine::Mute | Engine::Broken = &self.engine {
             return Err(Broken);
         }
         let Some(mut left) = self.written.get(self.read..) else {
@@ -117,11 +119,12 @@ impl Conversation for Talk {
     fn write(&mut self, text: &[u8]) -> Result<(), Broken> {
         if text == b"quit\n".as_slice() {
             add_one(&self.log.quits);
+            self.log.ended_by_quit.set(self.log.ended.get());
         }
         match &mut self.engine {
             Engine::First(session) => answer(session, text, &mut self.written).map_err(|_| Broken),
             Engine::Book(session) => answer(session, text, &mut self.written).map_err(|_| Broken),
-            Engine::Says => Ok(()),
+            Engine::Says | Engine::Mute => Ok(()),
             Engine::Broken => Err(Broken),
         }
     }
@@ -149,6 +152,8 @@ pub struct Log {
     pub ended: Rc<Cell<u32>>,
     /// How many were sent `quit`.
     pub quits: Rc<Cell<u32>>,
+    /// How many had been ended when the last `quit` was sent.
+    pub ended_by_quit: Rc<Cell<u32>>,
 }
 
 impl Log {
@@ -158,6 +163,7 @@ impl Log {
             started: Rc::new(alloc, Cell::new(0))?,
             ended: Rc::new(alloc, Cell::new(0))?,
             quits: Rc::new(alloc, Cell::new(0))?,
+            ended_by_quit: Rc::new(alloc, Cell::new(0))?,
         })
     }
 }
@@ -186,6 +192,7 @@ impl Starter for InMemory {
             ["gtp_engine", "--policy", "book"] => book_engine("")?,
             ["gtp_engine", "--policy", "book", "--book", text] => book_engine(text)?,
             ["says", ..] | ["refuses"] => Engine::Says,
+            ["mute"] => Engine::Mute,
             ["broken"] => Engine::Broken,
             _ => return Err(StartFault::NotStarted),
         };

@@ -208,6 +208,6 @@ fn hear_from<P: Conversation>(game: &mut Match, side: Side, process: &mut P, buf
         Ok(count) => {
             let _ = game.hear_all(side, &buffer[..count]);
         }
-        Err(Broken) => game.lost(side),
+        Err(_) => game.lost(side),
     }
 }
