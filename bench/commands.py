@@ -11,6 +11,7 @@ The works:
   name        `name`, again and again; beside it the machine's limit, bench/copy.c, which only copies its input with one
               write a line
   pairs       a `play` and an `undo`, on an empty 19x19
+  deep        an `undo` and the same `play`, after a game of 200 moves on 19x19
   play        plays of one colour to and fro over an empty 19x19, taken back by `clear_board` every 200
   replay      a game of 200 moves on 19x19, from `clear_board` on
   full        2,000 times `genmove`, of both colours in turn, which fills our record; then `final_score`, `showboard` and
@@ -61,6 +62,8 @@ def lines_of(work, count):
         return [], ["name"] * count
     if work == "pairs":
         return start, ["play b Q16", "undo"] * (count // 2)
+    if work == "deep":
+        return start + moves, ["undo", moves[-1]] * (count // 2)
     if work == "full":
         return start, ["genmove b", "genmove w"] * 1000 + ["final_score", "showboard", "undo"]
     if work == "play":
