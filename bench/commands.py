@@ -11,7 +11,8 @@ The works:
   name        `name`, again and again; beside it the machine's limit, bench/copy.c, which only copies its input with one
               write a line
   pairs       a `play` and an `undo`, on an empty 19x19
-  deep        an `undo` and the same `play`, after a game of 200 moves on 19x19
+  deep        an `undo` and the same `play`, after a game of 200 moves on 19x19 in which each colour has one chain; with
+              --half after the plays of a half full board, in which the stones stand scattered
   play        plays of one colour to and fro over an empty 19x19, taken back by `clear_board` every 200
   replay      a game of 200 moves on 19x19, from `clear_board` on
   full        2,000 times `genmove`, of both colours in turn, which fills our record; then `final_score`, `showboard` and
@@ -54,10 +55,10 @@ def game_moves():
     return moves
 
 
-def lines_of(work, count):
-    """The lines that come before the measurement, and those that are measured."""
+def lines_of(work, count, plays):
+    """The lines that come before the measurement, and those that are measured. The plays are those of a half full board."""
     start = ["boardsize 19", "clear_board"]
-    moves = game_moves()
+    moves = plays or game_moves()
     if work == "name":
         return [], ["name"] * count
     if work == "pairs":
@@ -255,7 +256,8 @@ def main():
         position_table(options)
         return
     here = os.path.dirname(os.path.abspath(__file__))
-    before, lines = lines_of(options.work, options.count)
+    half = options.half and options.work == "deep"
+    before, lines = lines_of(options.work, options.count, plays_of(options.engines, 19, half))
     with tempfile.TemporaryDirectory() as folder:
         rows = [(engine, engine.split(), b"\n\n") for engine in options.engines]
         if options.work == "name":

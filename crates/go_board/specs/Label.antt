@@ -46,10 +46,11 @@ has_label board labels label p = is_stone (at board p) && (label_of labels p == 
 abbrev pub share : List Cell → List ℕ → ℕ → ℕ → ℕ
 share board labels label p = if has_label board labels label p then empty_beside board p else 0
 
--- how many neighbours of a point are stones with this label
+-- 1 where the place holds a stone with this label
 abbrev pub label_at : List Cell → List ℕ → ℕ → ℕ → ℕ
 label_at board labels label p = if has_label board labels label p then 1 else 0
 
+-- how many neighbours of a point are stones with this label
 abbrev pub label_beside : List Cell → List ℕ → ℕ → ℕ → ℕ
 label_beside board labels label p =
     label_at board labels label (p + 1) + label_at board labels label (p - 1) + label_at board labels label (p + 26) + label_at board labels label (p - 26)

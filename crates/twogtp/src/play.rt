@@ -152,7 +152,7 @@ fn send<P: Conversation>(game: &mut Match, side: Side, process: &mut Option<P>)
     ensures turn { Turn game.old (action.Send side) game.new }
     ensures spoken { WithProcess process.old process.new
         (λ before after. IsSent game.old side (P.taken before) (P.taken after) game.new
-            × Keeps (P.given before) (P.given after))
+        × Keeps (P.given before) (P.given after))
         (game.new ≡ lost (sent game.old side) side) }
 {
     match process {
@@ -178,17 +178,12 @@ fn send_to<P: Conversation>(game: &mut Match, side: Side, process: &mut P)
 }
 
 /// Hears what a side writes. A side that has no process is lost.
-fn hear<P: Conversation>(
-    game: &mut Match,
-    side: Side,
-    process: &mut Option<P>,
-    buffer: &mut [u8],
-)
+fn hear<P: Conversation>(game: &mut Match, side: Side, process: &mut Option<P>, buffer: &mut [u8])
     requires { next game.old ≡ action.Wait side }
     ensures turn { Turn game.old (action.Wait side) game.new }
     ensures spoken { WithProcess process.old process.new
         (λ before after. IsHeard game.old side (P.given before) (P.given after) game.new
-            × Keeps (P.taken before) (P.taken after))
+        × Keeps (P.taken before) (P.taken after))
         (game.new ≡ lost game.old side) }
 {
     match process {

@@ -1,7 +1,7 @@
 //! Games of moves drawn from the legal ones, beside the game in its plainest form.
 use super::new_game;
 use super::plain::{MOVES, PlainGame};
-use crate::Game;
+use crate::{Game, PlayFault};
 use arrayvec::ArrayVec;
 use go_base::{Colour, Move, Point, Vertex};
 use rand_core::{Rng, SeedableRng};
@@ -37,12 +37,39 @@ fn assert_same(rt: &impl Abort, game: &Game, plain: &PlainGame) {
     }
 }
 
-/// The legal moves of a colour, a pass among them. Both games must allow the same.
+/// How often a play was refused, by its cause.
+#[derive(Clone, Copy, Drop)]
+struct Refused {
+    occupied: u32,
+    suicide: u32,
+    ko: u32,
+}
+
+/// Makes a move that isn't legal in both games. Both must refuse it by the same cause.
+fn assert_refuses(
+    rt: &impl Abort,
+    game: &mut Game,
+    plain: &mut PlainGame,
+    made: Move,
+    refused: &mut Refused,
+) {
+    let answer = game.play(made.colour, made.vertex);
+    assert_eq!(rt; answer, plain.play(made.colour, made.vertex));
+    match answer {
+        Err(PlayFault::Occupied) => refused.occupied = refused.occupied.saturating_add(1),
+        Err(PlayFault::Suicide) => refused.suicide = refused.suicide.saturating_add(1),
+        Err(PlayFault::Ko) => refused.ko = refused.ko.saturating_add(1),
+        _ => rt.abort(),
+    }
+}
+
+/// The legal moves of a colour, a pass among them. Both games must allow the same, and refuse the others alike.
 fn legal_moves(
     rt: &impl Abort,
-    game: &Game,
-    plain: &PlainGame,
+    game: &mut Game,
+    plain: &mut PlainGame,
     colour: Colour,
+    refused: &mut Refused,
 ) -> ArrayVec<Move, LEGAL> {
     let mut legal = ArrayVec::new();
     let _ = legal.try_push(Move {
@@ -61,6 +88,8 @@ fn legal_moves(
             assert_eq!(rt; allowed, wanted, "column {column}, row {row}");
             if allowed {
                 let _ = legal.try_push(made);
+            } else {
+                assert_refuses(rt, game, plain, made, refused);
             }
         }
     }
@@ -74,8 +103,10 @@ fn step(
     game: &mut Game,
     plain: &mut PlainGame,
     colour: Colour,
+    refused: &mut Refused,
 ) {
-    let legal = legal_moves(rt, game, plain, colour);
+    let _ = legal_moves(rt, game, plain, colour.other(), refused);
+    let legal = legal_moves(rt, game, plain, colour, refused);
     let number = words
         .next_u64()
         .checked_rem(legal.len() as u64)
@@ -86,11 +117,16 @@ fn step(
     assert_same(rt, game, plain);
 }
 
-/// Takes all moves back, one after the other.
-fn take_all_back(rt: &impl Abort, game: &mut Game, plain: &mut PlainGame) {
+/// Takes all moves back, one after the other. On small boards the same moves must be legal after each.
+fn take_all_back(rt: &impl Abort, game: &mut Game, plain: &mut PlainGame, refused: &mut Refused) {
+    let small = game.size().get() <= 4;
     for _ in 0..=MOVES {
         assert_eq!(rt; game.undo(), plain.undo());
         assert_same(rt, game, plain);
+        if small {
+            let _ = legal_moves(rt, game, plain, Colour::Black, refused);
+            let _ = legal_moves(rt, game, plain, Colour::White, refused);
+        }
     }
     assert!(rt; game.moves().is_empty());
 }
@@ -99,17 +135,25 @@ fn take_all_back(rt: &impl Abort, game: &mut Game, plain: &mut PlainGame) {
 fn drawn_games_go_as_plain_ones(rt: HostRuntime) {
     let mut words = Pcg64::seed_from_u64(10);
     let mut taken = 0_u32;
+    let mut refused = Refused {
+        occupied: 0,
+        suicide: 0,
+        ko: 0,
+    };
     for number in 0..GAMES {
         let lines = number % 9 + 1;
         let mut game = new_game(&rt, lines);
         let mut plain = PlainGame::new(lines);
         let mut colour = Colour::Black;
         for _ in 0..MOVES {
-            step(&rt, &mut words, &mut game, &mut plain, colour);
+            step(&rt, &mut words, &mut game, &mut plain, colour, &mut refused);
             colour = colour.other();
         }
         taken = taken.saturating_add(game.captured(Colour::Black));
-        take_all_back(&rt, &mut game, &mut plain);
+        take_all_back(&rt, &mut game, &mut plain, &mut refused);
     }
     assert!(rt; taken > 0);
+    assert!(rt; refused.occupied > 0);
+    assert!(rt; refused.suicide > 0);
+    assert!(rt; refused.ko > 0);
 }
