@@ -1,10 +1,11 @@
 -- Marks and the list of the marked places.
-use Rattle.std.proofs.Common.{◌≡◌, ℕ, zero, suc, ◌+◌, ◌<◌, Bool, true, false, cond, List, [], ◌∷◌, ◌++◌, length, get_or, replicate, Contains, sym, ◌∙◌, ap, subst, arith, inl, inr, get_or-set_other, get_or-set_same}
+use Rattle.std.proofs.Common.{◌≡◌, ℕ, zero, suc, ◌+◌, ◌<◌, ◌≤◌, Bool, true, false, cond, List, [], ◌∷◌, ◌++◌, length, get_or, replicate, Contains, refl, sym, ◌∙◌, ap, subst, arith, inl, inr, get_or-set_other, get_or-set_same}
 use Rattle.std.specs.Prelude.{count_by, ◌⊎◌, ◌≢◌}
 use Rattle.std.proofs.Math.ListN.{set, length-set}
 use Rattle.std.proofs.lemmas.List.{length_push}
 use Rattle.std.proofs.lemmas.List.Sums.{sum_by-set, count_by-le-length}
-use Rattle.std.proofs.lemmas.List.Elements.{All-push, Contains-push, Contains-push_cases, Contains-append_left}
+use Rattle.std.proofs.lemmas.Grind.{get_or_default_zero}
+use Rattle.std.proofs.lemmas.List.Elements.{All-push, All-get_or, Contains-push, Contains-push_cases, Contains-append_left}
 use Rattle.arrayvec.specs.ArrayVec.{ArrayVec}
 use Rattle.go_board.specs.Places.{AreMarked}
 use Rattle.go_board.specs.declared.places.Places.TheInside.{Inside}
@@ -81,3 +82,69 @@ AreMarked-none marks order none empty = record {
   listed = λ p e. unmarked 702 p (rw none at e);
   counted = ap (count_by (λ m. m)) none ∙ ap length (sym empty);
 }
+
+-- ---- taking all places out
+
+-- the places before `index` were unmarked, and each one that is still marked stands there or later
+pub record IsClearing (had : List ℕ) (index : ℕ) (order : List ℕ) (marks : List Bool) : Type 0 where
+  pub same : order ≡ had
+  pub long : length marks ≡ 702
+  pub later : (p : ℕ) → get_or marks p false ≡ true → (k : ℕ) × (index ≤ k) × (k < length had) × (get_or had k p ≡ p)
+
+pub IsClearing-start : (f : Inside) (had : List ℕ) → AreMarked f → length f.marked ≡ 702 → f.order.items ≡ had → IsClearing had 0 f.order.items f.marked
+IsClearing-start f had a long is = record {
+  same = is;
+  long = long;
+  later = λ p m. let listed : Contains had p = rw is at (a.listed p m) in (listed.0, omega arith, listed.1, listed.2);
+}
+
+-- what stands at the next index is a place
+pub IsClearing-below : (f : Inside) (index place : ℕ) (order : List ℕ) → AreMarked f → order ≡ f.order.items → index < length f.order.items → place ≡ get_or order index 0 → place < 702
+IsClearing-below f index place order a same h is =
+    subst (λ (p : ℕ). p < 702) (sym (is ∙ ap (λ (xs : List ℕ). get_or xs index 0) same)) (All-get_or (λ (p : ℕ). p < 702) f.order.items index 0 h a.below)
+
+past_or_here : (i k : ℕ) → i ≤ k → (i + 1 ≤ k) ⊎ (k ≡ i)
+past_or_here i k h = grind arith
+
+pub IsClearing-more : (had : List ℕ) (index place : ℕ) (order : List ℕ) (marks : List Bool) → IsClearing had index order marks → index < length had → place < 702 → place ≡ get_or order index 0
+    → IsClearing had (index + 1) order (set marks place false)
+IsClearing-more had index place order marks l h few is = record {
+  same = l.same;
+  long = length-set marks place false ∙ l.long;
+  later = λ p m. elim (same_or_other p place) [
+    | inl same ↦
+        let gone : get_or (set marks place false) p false ≡ false = subst (λ (q : ℕ). get_or (set marks place false) q false ≡ false) (sym same) (get_or-set_same marks place false false in_range) in
+        cc
+    | inr other ↦ still p other (l.later p (sym (get_or-set_other marks place p false false other) ∙ m))
+  ];
+}
+  where
+    in_range : place < length marks
+    in_range = let long = l.long in omega arith
+
+    here : place ≡ get_or had index 0
+    here = is ∙ ap (λ (xs : List ℕ). get_or xs index 0) l.same
+
+    still : (p : ℕ) → p ≢ place → (k : ℕ) × (index ≤ k) × (k < length had) × (get_or had k p ≡ p) → (k : ℕ) × (index + 1 ≤ k) × (k < length had) × (get_or had k p ≡ p)
+    still p other (k, later, below, at) = elim (past_or_here index k later) [
+      | inl past ↦ (k, past, below, at)
+      | inr now ↦ absurd (other (sym at ∙ get_or_default_zero had k p below ∙ ap (λ (i : ℕ). get_or had i 0) now ∙ sym here))
+    ]
+
+count_none : (marks : List Bool) → ((p : ℕ) → get_or marks p false ≡ true → ⊥) → count_by (λ m. m) marks ≡ 0
+count_none [] none = refl
+count_none (true ∷ marks) none = absurd (none 0 refl)
+count_none (false ∷ marks) none = count_none marks (λ p. none (suc p))
+
+-- once all are unmarked there is no mark
+pub AreMarked-cleared : (had : List ℕ) (index : ℕ) (old : List ℕ) (marks : List Bool) (order : ArrayVec ℕ) → IsClearing had index old marks → length had ≤ index → order.items ≡ []
+    → AreMarked (record { marked = marks; order = order })
+AreMarked-cleared had index old marks order l past empty = record {
+  below = rw empty (none_below_zero (λ k d. d < 702));
+  marked = λ p h. Contains-nil p (rw empty at h);
+  listed = λ p e. absurd (none p e);
+  counted = count_none marks none ∙ ap length (sym empty);
+}
+  where
+    none : (p : ℕ) → get_or marks p false ≡ true → ⊥
+    none p e = let k = l.later p e in let later = k.1 in let below = k.2 in absurd (omega arith)

@@ -220,22 +220,21 @@ impl Board {
         found
     }
 
-    /// The places of the chain or region of a point.
-    pub fn chain(&self, place: usize) -> Places
+    /// Finds the places of the chain or region of a point, in place of those that were there.
+    pub fn chain_into(&self, place: usize, found: &mut Places)
         requires place { place < place_count }
         requires point { at self.now place ≢ Edge }
-        ensures { IsChainOf self.now place result }
+        ensures { IsChainOf self.now place found.new }
     {
         let sought = self.cells[place];
-        let mut found = Places::new();
+        found.clear();
         found.insert(place);
         let mut next = 0;
         while next < found.len() {
             let place = found.get(next);
-            self.spread_round(sought, place, &mut found);
+            self.spread_round(sought, place, found);
             next += 1;
         }
-        found
     }
 
     /// Puts the four neighbours of a point in, those that hold what is sought.

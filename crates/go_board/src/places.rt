@@ -77,4 +77,14 @@ impl Places {
             self.order.push(place as u16);
         }
     }
+
+    /// Takes all places out, in as many steps as there are places.
+    pub fn clear(&mut self)
+        ensures { self.new ≡ [] }
+    {
+        for index in 0..self.order.len() {
+            self.marked[usize::from(self.order[index])] = false;
+        }
+        self.order.clear();
+    }
 }
