@@ -18,7 +18,8 @@ from .matches import Match
 KOMIS = ["6.5", "0", "0.5", "7", "-0", "+.5", "-3.50", "007.", "-12.5", "999999999.5", "40"]
 BAD_KOMIS = ["6.7", "1e1", ".", "0000000006.5"]
 SIZES = [1, 2, 2, 3, 3, 3, 4, 4, 5, 5, 6, 7, 8, 9, 9]
-MOST_MOVES = [1, 2, 3, 4, 6, 8, 12, 16, 20, 30, 40]
+MOST_MOVES = [1, 2, 3, 5, 8, 12, 12, 16, 20, 25, 30, 40]
+OFTEN_LOW = [1, 1, 1, 2, 2, 2, 3, 3, 4, 6]
 
 # What an engine may write or do in place of any reply, as tests/referee/faulty.py reads it: a template, and what comes then.
 ENDINGS = [("", "ends"), ("<reply:K>", "ends"), ("<reply>", "ends"), ("", "closes"), ("<reply>", "closes"), ("<reply:K>", "closes")]
@@ -29,7 +30,7 @@ JUNK = [
 HARMLESS = [
     "\\x1b<reply>", "\\x7f\\x00<reply>", "\\n\\n_\\t\\n<reply>", "=<id>\\x0b_<text>\\n\\x00\\n", "=<id>_<text>\\r\\n\\r\\n",
     "=000<id>_<text>\\n\\n", "=<30*0><id>_<text>\\n\\n", "=<id><text>\\n\\n", "=<id>_\\t_<text>_\\t\\n\\n", "=<id>\\n<text>\\n\\n",
-    "=\\x01<id>\\x01_<text>\\n\\n", "<reply>\\n\\n_\\t\\r\\n", "=<id>_<lower>\\n\\n", "=<id>_<text>\\n_\\n\\n",
+    "=\\x01<id>\\x7f_<text>\\n\\n", "<reply>\\n\\n_\\t\\r\\n", "=<id>_<lower>\\n\\n", "=<id>_<text>\\n_\\n\\n",
 ]
 WORDY = ["=<id>_<text>_more_words\\n\\n", "=<id>_<text>\\nmore_lines\\nof_it\\n\\n", "=<id>_<text>_#_a_comment\\n\\n"]
 STRANGE_IDS = [
@@ -49,8 +50,7 @@ MORE = [
     "<reply>=0\\n\\n", "<reply>\\n\\n=99\\n\\n",
 ]
 FRONTS = ["<reply>=", "<reply>?", "<reply>=_x\\n", "<reply>=<id+1>", "<reply>?<id+1>", "<reply>=<id+1>_", "<reply>_\\n="]
-FORGOTTEN = ["<reply>"]
-ANYWHERE = [JUNK, HARMLESS, WORDY, STRANGE_IDS, REFUSALS, LONG, MORE, FRONTS]
+EACH = [JUNK, HARMLESS, WORDY, STRANGE_IDS, REFUSALS, LONG, MORE, FRONTS]
 
 # .. in place of the reply to a genmove,
 MOVES = [
@@ -87,28 +87,41 @@ STYLES = [
 LONG_STYLES = ["<%d*\\n><reply><%d*%s>", "<%d*\\x01><reply><%d*%s>"]
 
 
-def match_of(seed):
-    """The match that a seed gives."""
-    r = random.Random(seed)
-    size = r.choice(SIZES)
-    handicap = handicap_of(r, size)
-    restarts = r.choice([0, 1, 1, 2, 2, 3])
+# All of these, each with the places at which it is sure to be met, as early as that.
+EARLY = (
+    [(["c1", "c2", "c3", "g1", "p1", "p2"], template.replace("K", "3"), then) for template, then in ENDINGS]
+    + [(["c2", "c3", "c4", "g1", "g2", "p1", "p2"], template, "on") for kind in EACH for template in kind]
+    + [(["g1", "g2", "g3"], template, "on") for template in MOVES]
+    + [(["h"], template, "on") for template in STONES]
+    + [(["q"], *quit) for quit in QUITS]
+    + [(["0"], *greeting) for greeting in GREETINGS]
+)
+
+
+def match_of(seed, number):
+    """The match of this number that a seed gives. Its number says what one of its engines does first, so that as many matches as
+    EARLY is long have each of these once; all else is drawn."""
+    r = random.Random(f"{seed} {number}")
+    places, template, then = EARLY[number % len(EARLY)]
+    early = written(1, r.choice(places), template, then)
+    size = r.choice([7, 8, 9] if places == ["h"] else SIZES)
+    handicap = handicap_of(r, size, places == ["h"])
+    restarts = r.choice([0, 1, 1, 2, 2, 3, 3])
     games = r.choice([1, 1, 1, 1, 2])
     lives = (restarts + 1) * games
     komi = r.choice(BAD_KOMIS if r.random() < 0.02 else KOMIS)
-    engines = [engine_of(r, size, handicap, lives), engine_of(r, size, handicap, lives)]
-    if not any(isinstance(engine, Drawn) for engine in engines):
-        engines[r.randrange(2)] = drawn_engine(r, handicap, lives)
+    engines = [drawn_engine(r, handicap, lives, early), engine_of(r, size, handicap, lives)]
+    r.shuffle(engines)
     record, show = r.random() < 0.8, r.random() < 0.5
     black, white = engines
     return Match(size, komi, handicap, games, r.choice(MOST_MOVES), restarts, record, show, {BLACK: black, WHITE: white})
 
 
-def handicap_of(r, size):
+def handicap_of(r, size, is_wanted):
     """A number of handicap stones: on most boards none; seldom one that the size doesn't allow."""
-    if r.random() < 0.015:
+    if not is_wanted and r.random() < 0.015:
         return r.choice([1, 5, 9])
-    if size < 7 or r.random() < 0.5:
+    if size < 7 or (not is_wanted and r.random() < 0.7):
         return 0
     return r.randint(2, 9 if size == 9 else 4)
 
@@ -118,7 +131,7 @@ def engine_of(r, size, handicap, lives):
     kind = r.random()
     if kind < 0.02:
         return Missing()
-    return drawn_engine(r, handicap, lives) if kind < 0.45 else our_engine(r, size)
+    return drawn_engine(r, handicap, lives) if kind < 0.35 else our_engine(r, size)
 
 
 def our_engine(r, size):
@@ -138,23 +151,21 @@ def book_of(r, size):
     return ",".join(places + ["resign"] * (r.random() < 0.15)) or "A1"
 
 
-def drawn_engine(r, handicap, lives):
-    """An engine that misbehaves: in most of its lives at one place."""
+def drawn_engine(r, handicap, lives, early=None):
+    """An engine that misbehaves: in most of its lives at one place, in the first one by this fault, if one is given."""
     seed, passes = r.randint(0, 999), r.choice([0, 0, 2, 3, 5, 9])
-    if r.random() < 0.05:
-        return Drawn(seed, passes, long_style(r), "-")
     style = r.choice(["<reply>"] * 20 + STYLES)
-    if r.random() < 0.12:
-        return Drawn(seed, passes, *with_fault(style, fault_of(r, "*", handicap)))
-    faults = [fault_of(r, life, handicap) for life in range(1, lives + 1) if r.random() < 0.65]
-    for fault in faults:
-        style, _ = with_fault(style, fault)
-    return Drawn(seed, passes, style, ",".join(faults) or "-")
-
-
-def with_fault(style, fault):
-    """The style beside a fault: a plain one, where the fault counts its bytes."""
-    return "<reply>" if "*" in fault or "fill" in fault else style, fault
+    if early:
+        faults = [early] + [fault_of(r, life, handicap) for life in range(2, lives + 1) if r.random() < 0.6]
+    elif r.random() < 0.1:
+        return Drawn(seed, passes, long_style(r), "-")
+    elif r.random() < 0.2:
+        faults = [fault_of(r, "*", handicap)]
+    else:
+        faults = [fault_of(r, life, handicap) for life in range(1, lives + 1) if r.random() < 0.7]
+    # Beside a fault that counts its bytes replies are written plainly.
+    is_counted = any("*" in fault[1:] or "fill" in fault for fault in faults)
+    return Drawn(seed, passes, "<reply>" if is_counted else style, ",".join(faults) or "-")
 
 
 def long_style(r):
@@ -167,27 +178,27 @@ def long_style(r):
 def fault_of(r, life, handicap):
     """A fault in this life: a place, what is written there, and what comes then."""
     kind = r.random()
-    if kind < 0.08:
+    if kind < 0.06:
         return written(life, "0", *r.choice(GREETINGS))
-    if kind < 0.12:
+    if kind < 0.09:
         return written(life, "q", *r.choice(QUITS))
-    if handicap and kind < 0.30:
+    if handicap and kind < 0.3:
         return written(life, "h", r.choice(STONES), "on")
-    if kind < 0.50:
-        return written(life, f"g{r.randint(1, 4)}", r.choice(MOVES), "on")
-    place = r.choice([f"c{r.choice([1, 2, 3, 3, 4, 4, 5, 6, 7, 9, 12])}", f"g{r.randint(1, 4)}", f"p{r.randint(1, 5)}"])
+    if kind < 0.25:
+        return written(life, f"g{r.choice(OFTEN_LOW)}", r.choice(MOVES), "on")
+    place = r.choice([f"c{r.choice([1, 2, 3, 3, 4, 4, 5, 5, 6, 7, 9, 12])}", f"g{r.choice(OFTEN_LOW)}", f"p{r.choice(OFTEN_LOW)}"])
     return written(life, place, *deed_of(r))
 
 
 def deed_of(r):
     """What an engine may do in place of any reply."""
     kind = r.random()
-    if kind < 0.25:
+    if kind < 0.4:
         template, then = r.choice(ENDINGS)
         return template.replace("K", str(r.randint(1, 7))), then
-    if kind < 0.32:
-        return r.choice(FORGOTTEN), "forgets"
-    return r.choice(r.choice(ANYWHERE)), "on"
+    if kind < 0.45:
+        return "<reply>", "forgets"
+    return r.choice(r.choice(EACH)), "on"
 
 
 def written(life, place, template, then):

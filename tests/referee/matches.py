@@ -14,7 +14,6 @@ Timing = namedtuple("Timing", "most is_quick breaks")
 TIMINGS = [
     Timing(MOST_UNANSWERED, True, True),
     Timing(MOST_UNANSWERED, False, False),
-    Timing(1, True, False),
     Timing(1, False, True),
 ]
 MOST_TURNS = 100_000

@@ -8,14 +8,11 @@ NO_STATUS = "no status"
 OVERLONG = "overlong"
 
 HT, LF = 9, 10
+# The control characters that are taken out. (The standard, preprocessing.)
+REMOVED = frozenset(byte for byte in [*range(32), 127] if byte not in (HT, LF))
 
 # A whole reply: did the command succeed, the reply's id (or None), its text.
 Reply = namedtuple("Reply", "ok id text")
-
-
-def is_removed(byte):
-    """Is this one of the control characters that are taken out? (The standard, preprocessing.)"""
-    return (byte < 32 or byte == 127) and byte not in (HT, LF)
 
 
 def first(data):
@@ -30,7 +27,7 @@ def first(data):
     for number, byte in enumerate(data, 1):
         if number > MOST_BYTES:
             return OVERLONG, number
-        if is_removed(byte):
+        if byte in REMOVED:
             continue
         byte = 32 if byte == HT else byte
         if not reply and byte in b" \n":
