@@ -1,0 +1,242 @@
+"""The referee of a match: docs/controller.md in Python, as literal as can be.
+
+It is told what happened, and says what to do next. A side is named by the colour that it plays.
+"""
+from collections import namedtuple
+
+from reference import values
+from reference.game import Game
+from reference.values import BLACK, PASS, WHITE
+
+from . import replies
+
+START, SEND, WAIT, DONE = "start", "send", "wait", "done"
+SIDES = [BLACK, WHITE]
+MOST_UNANSWERED = 8
+
+# A match's values: komi in half points, the other numbers as they are.
+Setup = namedtuple("Setup", "size komi handicap most_moves most_restarts")
+
+
+class Up:
+    """A side that is up: an engine of it was started, and hasn't gone down since."""
+
+    def __init__(self):
+        self.confirmed = 0  # script commands
+        self.unanswered = []  # pairs of an id and a command, the oldest first
+        self.sent = 0  # commands
+        self.rest = b""  # what came since the last whole reply
+
+
+class Controller:
+    """A match. `most` says how many script commands may be unanswered at a time."""
+
+    def __init__(self, setup, most=MOST_UNANSWERED):
+        self.setup = setup
+        self.most = most
+        self.game = Game()
+        self.game.begin(setup.size)
+        self.game.komi = setup.komi
+        if setup.handicap:
+            self.game.place_handicap(self.handicap_points())
+        self.sides = {BLACK: None, WHITE: None}
+        self.starts = {BLACK: 0, WHITE: 0}
+        self.verdict = None
+
+    # ---- what the tables speak of
+
+    def handicap_points(self):
+        """The points of the handicap stones."""
+        return values.handicap_points(self.setup.size, self.setup.handicap)
+
+    def script(self):
+        """What brings a new engine to the position: size, komi, an empty board, the handicap where there is one, all moves."""
+        komi = self.setup.komi
+        commands = [("boardsize", b"%d" % self.setup.size)]
+        commands.append(("komi", (b"-" if komi < 0 else b"") + values.write_half_points(abs(komi))))
+        commands.append(("clear_board",))
+        if self.setup.handicap:
+            commands.append(("fixed_handicap", b"%d" % self.setup.handicap))
+        for colour, vertex in self.game.moves:
+            commands.append(("play", letter(colour), values.write_vertex(vertex)))
+        return commands
+
+    def left(self, side):
+        """The script commands that this side, which is up, has neither confirmed nor unanswered."""
+        up = self.sides[side]
+        return self.script()[up.confirmed + len(up.unanswered) :]
+
+    def to_move(self):
+        """Black moves first, or White where there is a handicap; then the colours alternate."""
+        first = WHITE if self.setup.handicap else BLACK
+        return first if len(self.game.moves) % 2 == 0 else values.other(first)
+
+    def restarts(self, side):
+        """How often this side was started again."""
+        return max(0, self.starts[side] - 1)
+
+    # ---- what comes next
+
+    def next(self):
+        """What to do next: the first line that applies."""
+        if self.verdict is not None:
+            return DONE, None
+        for does, applies in [
+            (WAIT, self.has_to_answer),
+            (SEND, self.has_unanswered),
+            (START, self.is_down),
+            (SEND, self.left),
+        ]:
+            for side in SIDES:
+                if applies(side):
+                    return does, side
+        return SEND, self.to_move()
+
+    def has_unanswered(self, side):
+        """Has this side an unanswered command?"""
+        return not self.is_down(side) and bool(self.sides[side].unanswered)
+
+    def has_to_answer(self, side):
+        """Is this side sent nothing before it answers: has it as many unanswered commands as may be, an unanswered genmove, or
+        unanswered commands and no script command left?"""
+        if not self.has_unanswered(side):
+            return False
+        unanswered = self.sides[side].unanswered
+        asked = any(command[0] == "genmove" for _, command in unanswered)
+        return len(unanswered) >= self.most or asked or not self.left(side)
+
+    def is_down(self, side):
+        """Is this side down?"""
+        return self.sides[side] is None
+
+    # ---- what is done
+
+    def started(self, side):
+        """An engine of this side was started, or should have been."""
+        self.sides[side] = Up()
+        self.starts[side] += 1
+
+    def send(self, side):
+        """The bytes of the command that this side is sent: its next script command, or else a genmove. The k-th command that an
+        engine is sent has the id k."""
+        up = self.sides[side]
+        command = (self.left(side) or [("genmove", letter(side))])[0]
+        up.sent += 1
+        up.unanswered.append((up.sent, command))
+        return b" ".join([b"%d" % up.sent, command[0].encode(), *command[1:]]) + b"\n"
+
+    def lost(self, side):
+        """This side's engine is gone, or can't be understood any more. Where it has had all its starts, it is abandoned."""
+        if self.is_down(side):
+            return
+        self.sides[side] = None
+        if self.verdict is None and self.starts[side] == self.setup.most_restarts + 1:
+            self.verdict = f"abandoned {side}"
+
+    def heard(self, side, data):
+        """This side wrote these bytes. Those of a side that is down change nothing, and so do all bytes after a verdict."""
+        while self.verdict is None and not self.is_down(side):
+            up = self.sides[side]
+            told, used = replies.first(up.rest + data)
+            if told is None:
+                up.rest += data
+                return
+            data = (up.rest + data)[used:]
+            up.rest = b""
+            if told in (replies.NO_STATUS, replies.OVERLONG):
+                self.lost(side)
+            else:
+                self.judge(side, told)
+
+    # ---- what a reply does
+
+    def judge(self, side, reply):
+        """A whole reply of a side that is up, before a verdict."""
+        up = self.sides[side]
+        if not up.unanswered:
+            return self.lost(side)
+        number, command = up.unanswered[0]
+        if not self.answers(reply, number):
+            return self.lost(side)
+        if command[0] == "genmove":
+            return self.judge_move(side, reply)
+        return self.judge_script(side, command, reply)
+
+    def answers(self, reply, number):
+        """Has this reply the id of the oldest unanswered command?"""
+        return reply.id == number
+
+    def judge_script(self, side, command, reply):
+        """A reply to a script command: refused, unfit, or confirmed."""
+        up = self.sides[side]
+        if not reply.ok and command[0] == "play":
+            self.forfeit(side, "refused play")
+        elif not reply.ok or (command[0] == "fixed_handicap" and not self.names_handicap(reply.text)):
+            self.verdict = f"unfit {side}"
+        else:
+            up.unanswered.pop(0)
+            up.confirmed += 1
+
+    def names_handicap(self, text):
+        """Are these words vertices, which are the handicap's points, each once, in any order?"""
+        named = [values.read_vertex(word) for word in replies.words(text)]
+        return None not in named and PASS not in named and sorted(named) == sorted(self.handicap_points())
+
+    def judge_move(self, side, reply):
+        """A reply to a genmove: a move, a resignation, or none of both."""
+        if not reply.ok:
+            return self.forfeit(side, "no move")
+        words = replies.words(reply.text)
+        word = words[0] if len(words) == 1 else b""
+        if word.lower() == b"resign":
+            self.sides[side].unanswered.pop(0)
+            self.verdict = f"{winner_over(side)}+R"
+            return None
+        vertex = values.read_vertex(word)
+        if vertex is None:
+            return self.forfeit(side, "no vertex")
+        if not self.game.play(side, vertex):
+            return self.forfeit(side, "illegal move")
+        self.sides[side].unanswered.pop(0)
+        self.sides[side].confirmed += 1
+        return self.look_for_the_end()
+
+    def look_for_the_end(self):
+        """After a move: the score where the last two moves are passes, else the limit where it is reached."""
+        vertices = [vertex for _, vertex in self.game.moves]
+        if vertices[-2:] == [PASS, PASS]:
+            self.verdict = self.score()
+        elif len(vertices) == self.setup.most_moves:
+            self.verdict = "limit"
+
+    def score(self):
+        """Who leads and by how much, or 0."""
+        score = self.game.score()
+        if score == 0:
+            return "0"
+        return ("B+" if score > 0 else "W+") + values.write_half_points(abs(score)).decode()
+
+    def forfeit(self, side, cause):
+        """This side loses by what it replied. Its command still counts as unanswered."""
+        self.verdict = f"{winner_over(side)}+F({cause})"
+
+    # ---- what is told
+
+    def result_line(self, number):
+        """The line of a game that is over."""
+        restarts = f"restarts {self.restarts(BLACK)} {self.restarts(WHITE)}"
+        return f"game {number}: {self.verdict} moves {len(self.game.moves)} {restarts}"
+
+    def record_line(self):
+        """The vertices of the record."""
+        return b" ".join(values.write_vertex(vertex) for _, vertex in self.game.moves).decode()
+
+
+def letter(colour):
+    """A colour as it is written."""
+    return b"b" if colour == BLACK else b"w"
+
+
+def winner_over(side):
+    """The letter of the colour that wins where this side loses."""
+    return "W" if side == BLACK else "B"

@@ -1,0 +1,126 @@
+"""The engines of a match: the command by which `twogtp` starts one, and the same engine in memory.
+
+An engine in memory has `begins()`, what it writes before its first command, and `answers(line)`, what it writes when it is told this;
+each with what it does then: it goes `on`, it `ends`, or it `closes` its output.
+"""
+import sys
+from pathlib import Path
+
+from reference import engine as reference
+
+from .faulty import CLOSES, ENDS, Faulty
+
+FAULTY = Path(__file__).resolve().parent / "faulty.py"
+FLOOD = b"\n" * 8193
+
+__all__ = ["CLOSES", "ENDS", "Drawn", "Missing", "Ours"]
+
+
+class Missing:
+    """A program that isn't there."""
+
+    takes_notes = False
+
+    def command(self, notes):
+        """The words of its command."""
+        return ["no_such_program"]
+
+    def started(self, life):
+        """It can't be started."""
+        return None
+
+
+class Drawn:
+    """The engine that misbehaves as its plan says."""
+
+    takes_notes = True
+
+    def __init__(self, seed, passes, style, plan):
+        self.seed, self.passes, self.style, self.plan = seed, passes, style, plan
+
+    def command(self, notes):
+        """The words of its command."""
+        python = [sys.executable, "-I", "-S", "-B", str(FAULTY)]
+        return [*python, notes, str(self.seed), str(self.passes), self.style, self.plan]
+
+    def started(self, life):
+        """Its process of this number, in memory."""
+        return Faulty(self.seed, self.passes, self.style, self.plan, life)
+
+
+class Ours:
+    """Our own engine. In memory it is the reference of it. What it answered once to a list of commands is kept, since the reference
+    is slow."""
+
+    takes_notes = False
+
+    def __init__(self, policy, seed=1, book="", fault="none"):
+        self.policy, self.seed, self.book, self.fault = policy, seed, book, fault
+        self.answered = {}
+
+    def command(self, notes):
+        """The words of its command."""
+        words = ["gtp_engine", "--policy", self.policy, "--seed", str(self.seed)]
+        words += ["--book", self.book] if self.book else []
+        return words + (["--fault", self.fault] if self.fault != "none" else [])
+
+    def started(self, life):
+        """A process of it, in memory."""
+        return Remembering(self)
+
+    def fresh(self):
+        """The reference of it, under its fault."""
+        return Bent(reference.start(self.policy, self.seed, self.book.encode()), self.fault)
+
+
+class Remembering:
+    """A process of our engine, which asks the reference only for what was never asked before."""
+
+    notes = False
+
+    def __init__(self, ours):
+        self.ours = ours
+        self.told = ()
+        self.engine = None
+
+    def begins(self):
+        """It says nothing before it is told something."""
+        return b"", "on"
+
+    def answers(self, line):
+        """What it replies to this."""
+        self.told += (line,)
+        if self.told not in self.ours.answered:
+            if self.engine is None:
+                self.engine = self.ours.fresh()
+                self.behind = 0
+            for number in range(self.behind, len(self.told)):
+                self.ours.answered[self.told[: number + 1]] = self.engine.answers(self.told[number])
+            self.behind = len(self.told)
+        return self.ours.answered[self.told]
+
+
+class Bent:
+    """The reference of our engine, with the fault that --fault asks for, which docs/protocol.md describes."""
+
+    def __init__(self, engine, fault):
+        self.engine = engine
+        self.kind, *self.numbers = fault.split(":")
+        self.genmoves = 0
+
+    def answers(self, line):
+        """The reply to this, or what the fault puts in its place at the N-th genmove that succeeds."""
+        reply = self.engine.feed(line)
+        if b"genmove" in line and reply.startswith(b"="):
+            self.genmoves += 1
+            if self.kind != "none" and self.genmoves == int(self.numbers[0]):
+                return self.bent(reply)
+        return reply, ENDS if self.engine.ended else "on"
+
+    def bent(self, reply):
+        """What goes out in place of this reply, and what the engine does then."""
+        if self.kind == "stop":
+            return b"", ENDS
+        if self.kind == "cut":
+            return reply[: int(self.numbers[1])], ENDS
+        return (b"hello\n\n" if self.kind == "junk" else FLOOD), "on"

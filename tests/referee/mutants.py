@@ -1,0 +1,289 @@
+"""Wrong bodies of the reference of the controller, to see that the drawn matches notice them.
+
+Each is put in the place of one function or value, and makes one mistake that a controller could make.
+"""
+from reference import values
+from reference.values import BLACK, PASS, WHITE
+
+from . import controller, matches, replies
+from .controller import Controller
+
+# The right bodies, which some of the wrong ones call.
+right_answers = Controller.answers
+right_first = replies.first
+right_judge = Controller.judge
+right_judge_move = Controller.judge_move
+right_judge_script = Controller.judge_script
+right_lost = Controller.lost
+right_read_reply = replies.read_reply
+right_script = Controller.script
+right_started = Controller.started
+
+
+def first_start_counts(self, side):
+    return self.starts[side]
+
+
+def one_start_fewer(self, side):
+    if not self.is_down(side) and self.verdict is None and self.starts[side] >= max(1, self.setup.most_restarts):
+        self.verdict = f"abandoned {side}"
+    right_lost(self, side)
+
+
+def one_start_more(self, side):
+    self.starts[side] -= 1
+    right_lost(self, side)
+    self.starts[side] += 1
+
+
+def starts_of_both(self, side):
+    other = values.other(side)
+    extra = max(0, self.starts[other] - 1)
+    self.starts[side] += extra
+    right_lost(self, side)
+    self.starts[side] -= extra
+
+
+def the_other_is_abandoned(self, side):
+    before = self.verdict
+    right_lost(self, side)
+    if self.verdict != before:
+        self.verdict = f"abandoned {values.other(side)}"
+
+
+def what_was_confirmed_stays(self, side):
+    kept = self.last_confirmed.get(side, 0) if hasattr(self, "last_confirmed") else 0
+    right_started(self, side)
+    self.sides[side].confirmed = kept
+
+
+def confirmed_is_kept(self, side):
+    if not self.is_down(side):
+        self.last_confirmed = {**getattr(self, "last_confirmed", {}), side: self.sides[side].confirmed}
+    right_lost(self, side)
+
+
+def ids_go_on(self, side):
+    sent = getattr(self, "sent_before", {}).get(side, 0)
+    right_started(self, side)
+    self.sides[side].sent = sent
+    self.sent_before = {**getattr(self, "sent_before", {}), side: sent + 1}
+
+
+def any_id(self, reply, number):
+    return True
+
+
+def missing_id(self, reply, number):
+    return reply.id in (number, None)
+
+
+def id_of_any_unanswered(self, reply, number):
+    return reply.id in (number, number + 1)
+
+
+def unasked_is_passed_over(self, side, reply):
+    if self.sides[side].unanswered:
+        right_judge(self, side, reply)
+
+
+def failed_play_is_unfit(self, side, command, reply):
+    right_judge_script(self, side, ("komi",) if command[0] == "play" else command, reply)
+
+
+def failed_script_goes_down(self, side, command, reply):
+    if reply.ok or command[0] == "play":
+        right_judge_script(self, side, command, reply)
+    else:
+        self.lost(side)
+
+
+def failed_play_is_confirmed(self, side, command, reply):
+    right_judge_script(self, side, command, reply._replace(ok=reply.ok or command[0] == "play"))
+
+
+def handicap_in_order(self, text):
+    return [values.read_vertex(word) for word in replies.words(text)] == self.handicap_points()
+
+
+def handicap_more_than_once(self, text):
+    return {values.read_vertex(word) for word in replies.words(text)} == set(self.handicap_points())
+
+
+def handicap_unread(self, text):
+    return True
+
+
+def illegal_move_is_recorded(self, side, reply):
+    vertex = values.read_vertex(reply.text)
+    if self.answers(reply, reply.id) and vertex is not None and self.game.after(side, vertex) is None:
+        self.game.moves.append((side, vertex))
+        self.game.boards.append(self.game.board())
+        self.sides[side].unanswered.pop(0)
+        self.sides[side].confirmed += 1
+        self.look_for_the_end()
+    else:
+        right_judge_move(self, side, reply)
+
+
+def illegal_move_is_a_pass(self, side, reply):
+    vertex = values.read_vertex(reply.text)
+    illegal = vertex is not None and self.game.after(side, vertex) is None
+    right_judge_move(self, side, reply._replace(text=b"pass") if illegal else reply)
+
+
+def failed_move_is_no_vertex(self, side, reply):
+    right_judge_move(self, side, reply if reply.ok else reply._replace(ok=True, text=b""))
+
+
+def first_word_is_the_move(self, side, reply):
+    right_judge_move(self, side, reply._replace(text=b" ".join(replies.words(reply.text)[:1])))
+
+
+def resign_in_small_letters(self, side, reply):
+    resigns = reply.text.lower() == b"resign" and reply.text != b"resign"
+    right_judge_move(self, side, reply._replace(text=b"none") if resigns else reply)
+
+
+def pass_in_small_letters(self, side, reply):
+    passes = reply.text.lower() == b"pass" and reply.text != b"pass"
+    right_judge_move(self, side, reply._replace(text=b"none") if passes else reply)
+
+
+def black_moves_first(self):
+    return BLACK if len(self.game.moves) % 2 == 0 else WHITE
+
+
+def passes_are_not_told(self):
+    return [command for command in right_script(self) if command[-1] != b"pass"]
+
+
+def komi_is_not_told(self):
+    return [("komi", b"0") if command[0] == "komi" else command for command in right_script(self)]
+
+
+def passes_do_not_count(self):
+    vertices = [vertex for _, vertex in self.game.moves]
+    if vertices[-2:] == [PASS, PASS]:
+        self.verdict = self.score()
+    elif sum(vertex != PASS for vertex in vertices) == self.setup.most_moves:
+        self.verdict = "limit"
+
+
+def one_pass_ends(self):
+    vertices = [vertex for _, vertex in self.game.moves]
+    if vertices[-1] == PASS:
+        self.verdict = self.score()
+    elif len(vertices) == self.setup.most_moves:
+        self.verdict = "limit"
+
+
+def limit_before_score(self):
+    vertices = [vertex for _, vertex in self.game.moves]
+    if len(vertices) == self.setup.most_moves:
+        self.verdict = "limit"
+    elif vertices[-2:] == [PASS, PASS]:
+        self.verdict = self.score()
+
+
+def loser_is_named(side):
+    return "B" if side == BLACK else "W"
+
+
+def bytes_that_stay(data):
+    return bytes(byte for byte in data if byte not in replies.REMOVED)
+
+
+def removed_bytes_do_not_count(data):
+    told, used = right_first(data)
+    if told == replies.OVERLONG and len(bytes_that_stay(data)) <= replies.MOST_BYTES:
+        return right_first(bytes_that_stay(data))[0], len(data)
+    return told, used
+
+
+def skipped_bytes_do_not_count(data):
+    told, used = right_first(data)
+    return (right_first(data.lstrip(b"\n "))[0], len(data)) if told == replies.OVERLONG else (told, used)
+
+
+def comments_are_removed(data):
+    return right_first(data.replace(b"#", b"\n\n"))
+
+
+def junk_is_passed_over(data):
+    told, used = right_first(data)
+    return right_first(b" " * used + data[used:]) if told == replies.NO_STATUS else (told, used)
+
+
+def words_at_spaces(text):
+    return [word for word in text.split(b" ") if word]
+
+
+def spaces_before_an_id(line):
+    return right_read_reply(line[:1] + line[1:].lstrip(b" "))
+
+
+def id_is_a_word(line):
+    return right_read_reply(line) if line[1:].split()[:1] and line[1:].split()[0].isdigit() else replies.Reply(line[:1] == b"=", None, line[1:])
+
+
+def id_of_32_bits(line):
+    digits = line[1 : len(line) - len(line[1:].lstrip(b"0123456789"))]
+    read = right_read_reply(line)
+    return read._replace(id=int(digits) % 2**32) if read.id is None and digits else read
+
+
+def nobody_is_told_to_quit(referee, processes):
+    pass
+
+
+def never_status_1(verdict):
+    return 0
+
+
+# What is wrong, whose attribute it is, the attribute, and the wrong body.
+MUTANTS = [
+    ("the first start is a restart", Controller, "restarts", first_start_counts),
+    ("a side has a start fewer", Controller, "lost", one_start_fewer),
+    ("a side has a start more", Controller, "lost", one_start_more),
+    ("the sides share their restarts", Controller, "lost", starts_of_both),
+    ("the other side is abandoned", Controller, "lost", the_other_is_abandoned),
+    ("ids go on after a restart", Controller, "started", ids_go_on),
+    ("any id answers", Controller, "answers", any_id),
+    ("a reply without an id answers", Controller, "answers", missing_id),
+    ("the id of the next command answers", Controller, "answers", id_of_any_unanswered),
+    ("a reply that nobody asked for is passed over", Controller, "judge", unasked_is_passed_over),
+    ("a play that fails makes a side unfit", Controller, "judge_script", failed_play_is_unfit),
+    ("a play that fails is confirmed", Controller, "judge_script", failed_play_is_confirmed),
+    ("a setup that fails puts a side down", Controller, "judge_script", failed_script_goes_down),
+    ("handicap stones have to be named in order", Controller, "names_handicap", handicap_in_order),
+    ("handicap stones may be named twice", Controller, "names_handicap", handicap_more_than_once),
+    ("handicap stones aren't read", Controller, "names_handicap", handicap_unread),
+    ("an illegal move is recorded", Controller, "judge_move", illegal_move_is_recorded),
+    ("an illegal move is a pass", Controller, "judge_move", illegal_move_is_a_pass),
+    ("a genmove that fails is no vertex", Controller, "judge_move", failed_move_is_no_vertex),
+    ("the first word is the move", Controller, "judge_move", first_word_is_the_move),
+    ("resign is read in small letters alone", Controller, "judge_move", resign_in_small_letters),
+    ("pass is read in small letters alone", Controller, "judge_move", pass_in_small_letters),
+    ("Black moves first with a handicap too", Controller, "to_move", black_moves_first),
+    ("passes aren't told", Controller, "script", passes_are_not_told),
+    ("komi isn't told", Controller, "script", komi_is_not_told),
+    ("passes don't count as moves", Controller, "look_for_the_end", passes_do_not_count),
+    ("one pass ends the game", Controller, "look_for_the_end", one_pass_ends),
+    ("the limit comes before the score", Controller, "look_for_the_end", limit_before_score),
+    ("the loser is named", controller, "winner_over", loser_is_named),
+    ("byte 8,192 is too many", replies, "MOST_BYTES", 8191),
+    ("byte 8,193 isn't too many", replies, "MOST_BYTES", 8193),
+    ("removed bytes don't count", replies, "first", removed_bytes_do_not_count),
+    ("skipped bytes don't count", replies, "first", skipped_bytes_do_not_count),
+    ("byte 127 stays", replies, "REMOVED", replies.REMOVED - {127}),
+    ("CR stays", replies, "REMOVED", replies.REMOVED - {13}),
+    ("comments are removed", replies, "first", comments_are_removed),
+    ("junk before a reply is passed over", replies, "first", junk_is_passed_over),
+    ("words are cut at spaces alone", replies, "words", words_at_spaces),
+    ("spaces before an id are skipped", replies, "read_reply", spaces_before_an_id),
+    ("an id is a whole word", replies, "read_reply", id_is_a_word),
+    ("ids have 32 bits", replies, "read_reply", id_of_32_bits),
+    ("nobody is told to quit", matches, "say_quit", nobody_is_told_to_quit),
+    ("the status is never 1", matches, "status_of", never_status_1),
+]
