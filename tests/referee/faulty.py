@@ -65,7 +65,8 @@ class Faulty:
     def __init__(self, seed, passes, style, plan, life):
         self.seed, self.passes, self.style, self.life = seed, passes, style, life
         self.plan = read_plan(plan)
-        self.size = 19
+        self.size = 1
+        self.points = []  # of the board, in the order in which it plays there
         self.named = []  # the vertices since the board was empty
         self.count = {}  # how many commands of each name there were, and of all
         self.notes = "*" not in style  # is what comes next to be noted? What many bytes do isn't known here.
@@ -108,6 +109,7 @@ class Faulty:
         """The text of the plain reply to a command."""
         if name == b"boardsize":
             self.size = int(arguments[0])
+            self.points = drawn_order(self.size, self.seed)
         elif name == b"clear_board":
             self.named = []
         elif name == b"fixed_handicap":
@@ -128,7 +130,7 @@ class Faulty:
 
     def fresh(self):
         """The next vertex that wasn't named; none where all were."""
-        return next((point for point in drawn_order(self.size, self.seed) if point not in self.named), b"")
+        return next((point for point in self.points if point not in self.named), b"")
 
     # ---- what it writes
 
@@ -160,14 +162,14 @@ class Faulty:
             times, repeated = name.split("*")
             return literal(repeated) * int(times)
         return {
-            "text": text,
-            "lower": text.lower(),
-            "lines": b"\n".join(text.split()),
-            "reversed": b" ".join(reversed(text.split())),
-            "old": next((vertex for vertex in self.named if vertex not in (b"pass", text)), b"A1"),
-            "fresh": self.fresh() or b"pass",
-            "off": b"A%d" % (self.size + 1),
-        }[name]
+            "text": lambda: text,
+            "lower": lambda: text.lower(),
+            "lines": lambda: b"\n".join(text.split()),
+            "reversed": lambda: b" ".join(reversed(text.split())),
+            "old": lambda: next((vertex for vertex in self.named if vertex not in (b"pass", text)), b"A1"),
+            "fresh": lambda: self.fresh() or b"pass",
+            "off": lambda: b"A%d" % (self.size + 1),
+        }[name]()
 
 
 def parts(template):

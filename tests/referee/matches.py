@@ -5,11 +5,11 @@ from reference import values
 from reference.values import BLACK, WHITE
 
 from .controller import DONE, MOST_UNANSWERED, SEND, SIDES, START, Controller, Setup
-from .engines import CLOSES, ENDS
+from .faulty import CLOSES, ENDS
 
-# What happens where the papers of a match leave it to processes and pipes: how many script commands may be unanswered, whether an
+# What is left to the controller, to the processes and to the pipes: how many script commands are unanswered at a time, whether an
 # engine answers as soon as it is told something or only when it is waited for, and whether a write to an engine that has ended
-# fails. The outcome of a match has to be the same for all of them.
+# fails. What comes of a drawn match has to be the same for all of these.
 Timing = namedtuple("Timing", "most is_quick breaks")
 TIMINGS = [
     Timing(MOST_UNANSWERED, True, True),
