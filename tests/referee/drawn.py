@@ -1,7 +1,8 @@
 """Draws matches: a seed and a number give one match, with engines that misbehave at drawn places.
 
 Drawn is only what has one outcome, whenever a process happens to run. So these are left out:
-- an engine that neither replies nor ends, which makes the controller wait, and one that closes its input alone;
+- an engine that neither replies nor ends, which makes the controller wait, and one that closes its input alone while
+  commands may be on their way to it;
 - a reply to a script command that the engine wasn't sent yet, behind another reply: whether the controller has sent that command by
   then, where it sends several before the first is answered, is a question of time;
 - an engine that gives a script command a reply that ends the match, and then ends: the controller may meet its end first;
@@ -30,6 +31,7 @@ EARLY = [
     *((["c1", "c2", "c3", "c5", "g1", "p1"], template, then) for template, then in faults.ENDINGS),
     *((["c1", "c2", "c3", "c5", "g1", "p1"], template, "on") for kind in faults.ANY for template in kind),
     *((["g1", "g1", "g2"], template, "on") for template in faults.MOVES),
+    (["g1", "g1", "g2"], *faults.SHUT),
     *((["h"], template, "on") for template in faults.STONES),
     *((["q"], *quit) for quit in faults.QUITS),
     *((["0"], *greeting) for greeting in faults.GREETINGS),
@@ -123,6 +125,8 @@ def fault_of(r, life, handicap):
         return written(r, life, "0", *r.choice(faults.GREETINGS))
     if kind < 0.09:
         return written(r, life, "q", *r.choice(faults.QUITS))
+    if kind < 0.11:
+        return written(r, life, f"g{r.choice(LATE)}", *faults.SHUT)
     if handicap and kind < 0.3:
         return written(r, life, "h", r.choice(faults.STONES), "on")
     if kind < 0.25:

@@ -109,6 +109,8 @@ MOVES = [
     r"=<id>\n\n=<id>_A1\n\n",
     r"<reply>=<id+1>\n\n",
 ]
+# To a genmove too: it closes its input before it replies. Nothing else is on its way to it then.
+SHUT = ("<reply>", "shuts")
 # To a handicap.
 STONES = [
     *(r"=<id>_%s\n\n" % right for right in ["<reversed>", "<reversed>", "<lines>", "<lower>", r"_\t<text>_"]),

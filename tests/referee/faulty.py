@@ -10,7 +10,8 @@ STYLE is a template, by which all replies are written, `<reply>` for the plain o
 LIFE/PLACE/TEMPLATE/THEN. LIFE counts the processes that were started with this file NOTES, from 1; `*` is each of them. PLACE is 0
 before the first command, cN at the N-th command of this life, gN at its N-th genmove, pN at its N-th play, h at a handicap, q at
 quit. There the template is written in place of the reply, in one write. THEN is `on`; `ends`, and the process ends; `closes`, and
-its output ends; or `forgets`, and it does not do what it was told.
+its output ends; `shuts`, and its input is closed before that write, and the process goes on; or `forgets`, and it does not do what
+it was told.
 
 In a template `_` is a space, \\n \\r \\t and \\xHH are bytes, and in angle brackets stand
 
@@ -24,13 +25,15 @@ In a template `_` is a space, \\n \\r \\t and \\xHH are bytes, and in angle brac
 
 At its start it adds a line `start` to NOTES, and then each command that it is told, until a fault came.
 
-It is run as a process by `twogtp`, and as an object by the reference. It uses no module, so that it starts quickly.
+It is run as a process by `twogtp`, and as an object by the reference. It uses hardly a module, so that it starts quickly.
 """
 import os
 import sys
+import time
 
 COLUMNS = b"ABCDEFGHJKLMNOPQRSTUVWXYZ"
-ENDS, CLOSES, FORGETS = "ends", "closes", "forgets"
+ENDS, CLOSES, SHUTS, FORGETS = "ends", "closes", "shuts", "forgets"
+LONG = 100  # seconds, more than any match takes
 
 
 class Fault:
@@ -219,6 +222,8 @@ class Output:
 
     def take(self, text, then):
         """Writes this text, and does what comes then. Who doesn't read it is gone."""
+        if then == SHUTS:
+            os.close(0)
         try:
             while text and self.is_open:
                 text = text[os.write(1, text) :]
@@ -229,6 +234,9 @@ class Output:
         if then == CLOSES and self.is_open:
             os.close(1)
             self.is_open = False
+        if then == SHUTS:
+            time.sleep(LONG)
+            os._exit(0)
 
 
 if __name__ == "__main__":
