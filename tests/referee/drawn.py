@@ -1,8 +1,8 @@
 """Draws matches: a seed and a number give one match, with engines that misbehave at drawn places.
 
 Drawn is only what has one outcome, whenever a process happens to run. So these are left out:
-- an engine that neither replies nor ends, which makes the controller wait, and one that closes its input alone while
-  commands may be on their way to it;
+- an engine that neither replies nor ends, which makes the controller wait, and one that closes its input while commands may be on
+  their way to it;
 - a reply to a script command that the engine wasn't sent yet, behind another reply: whether the controller has sent that command by
   then, where it sends several before the first is answered, is a question of time;
 - an engine that gives a script command a reply that ends the match, and then ends: the controller may meet its end first;
@@ -14,7 +14,7 @@ import random
 from reference.values import BLACK, WHITE
 
 from . import faults
-from .engines import OTHERS, Drawn, Other, Ours
+from .engines import OTHERS, Other, Ours, Planned
 from .matches import Match
 
 KOMIS = ["6.5", "0", "0.5", "7", "-0", "+.5", "-3.50", "007.", "-12.5", "999999999.5", "40"]
@@ -105,7 +105,7 @@ def faulty_engine(r, plan, style=None):
     """An engine with this plan. Beside a fault that writes thousands of bytes its replies are plain ones."""
     is_long = any("fill" in fault or "*\\" in fault or "*_" in fault or "*a" in fault for fault in plan)
     style = style or ("<reply>" if is_long else r.choice(["<reply>"] * 20 + faults.STYLES))
-    return Drawn(r.randint(0, 999), r.choice([0, 0, 2, 3, 5, 9]), style, ",".join(plan) or "-")
+    return Planned(r.randint(0, 999), r.choice([0, 0, 2, 3, 5, 9]), style, ",".join(plan) or "-")
 
 
 def long_style(r):

@@ -1,7 +1,7 @@
 """The engines of a match: the command by which `twogtp` starts one, and the same engine in memory.
 
 An engine in memory has `begins()`, what it writes before its first command, and `answers(line)`, what it writes when it is told this;
-each with what it does then: it goes `on`, it `ends`, or it `closes` its output.
+each with what it does then, as faulty.py has it: it goes `on`, it `ends`, and so on.
 """
 import sys
 from pathlib import Path
@@ -49,7 +49,7 @@ class Other:
         return line, "on"
 
 
-class Drawn:
+class Planned:
     """The engine that misbehaves as its plan says."""
 
     takes_notes = True

@@ -25,7 +25,7 @@ In a template `_` is a space, \\n \\r \\t and \\xHH are bytes, and in angle brac
 
 At its start it adds a line `start` to NOTES, and then each command that it is told, until a fault came.
 
-It is run as a process by `twogtp`, and as an object by the reference. It uses hardly a module, so that it starts quickly.
+It is run as a process by `twogtp`, and as an object by the reference. It imports little, so that it starts quickly.
 """
 import os
 import sys
@@ -72,7 +72,7 @@ class Faulty:
         self.points = []  # of the board, in the order in which it plays there
         self.named = []  # the vertices since the board was empty
         self.count = {}  # how many commands of each name there were, and of all
-        self.notes = "*" not in style  # is what comes next to be noted? What many bytes do isn't known here.
+        self.notes = "*" not in style  # is what it is told next to be noted? Not where each reply may be too long.
 
     def begins(self):
         """What it writes before its first command, and what it does then."""
@@ -191,7 +191,6 @@ def literal(text):
 
 def handicap(size, number):
     """The handicap's vertices. Only here the reference's table is needed."""
-    sys.path.insert(0, os.path.dirname(os.path.dirname(os.path.abspath(__file__))))
     from reference import values
 
     return [values.write_vertex(point) for point in values.handicap_points(size, number)]
@@ -240,4 +239,5 @@ class Output:
 
 
 if __name__ == "__main__":
+    sys.path.insert(0, os.path.dirname(os.path.dirname(os.path.abspath(__file__))))
     run(*sys.argv[1:])

@@ -2,7 +2,7 @@
 worked out by hand from docs/controller.md and README.md, and most of them stand there."""
 from reference.values import BLACK, WHITE
 
-from .engines import Drawn, Other, Ours
+from .engines import Other, Ours, Planned
 from .matches import TIMINGS, Match, play
 
 FIRST = Ours("first")
@@ -38,7 +38,7 @@ def wall(fault="none"):
 
 def passing(plan="-"):
     """An engine that always passes, and misbehaves as this plan says."""
-    return Drawn(1, 1, "<reply>", plan)
+    return Planned(1, 1, "<reply>", plan)
 
 
 def match(black, white, size=9, komi="6.5", handicap=0, games=1, most_moves=1000, restarts=1, record=False, show=False):
