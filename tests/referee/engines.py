@@ -1,36 +1,55 @@
 """The engines of a match: the command by which `twogtp` starts one, and the same engine in memory.
 
 An engine in memory has `begins()`, what it writes before its first command, and `answers(line)`, what it writes when it is told this;
-each with what it does then: it goes `on`, it `ends`, or it `closes` its output.
+each with what it does then, as faulty.py has it: it goes `on`, it `ends`, and so on.
 """
 import sys
 from pathlib import Path
 
 from reference import engine as reference
 
-from .faulty import CLOSES, ENDS, Faulty
+from .faulty import ENDS, Faulty
 
 FAULTY = Path(__file__).resolve().parent / "faulty.py"
 FLOOD = b"\n" * 8193
 
-__all__ = ["CLOSES", "ENDS", "Drawn", "Missing", "Ours"]
+# Programs that are no engines: what each writes by itself, and what it does then; None where it can't be started.
+OTHERS = {
+    "no_such_program": None,
+    "/": None,
+    "true": (b"", ENDS),
+    "echo hello": (b"hello\n", ENDS),
+    "cat": (b"", "on"),
+}
 
 
-class Missing:
-    """A program that isn't there."""
+class Other:
+    """Another program, which is no engine, or isn't there."""
 
     takes_notes = False
+    notes = False
+
+    def __init__(self, name):
+        self.name = name
 
     def command(self, notes):
         """The words of its command."""
-        return ["no_such_program"]
+        return [self.name]
 
     def started(self, life):
-        """It can't be started."""
-        return None
+        """It is the same each time; none where it can't be started."""
+        return None if OTHERS[self.name] is None else self
+
+    def begins(self):
+        """What it writes, whatever it is told."""
+        return OTHERS[self.name]
+
+    def answers(self, line):
+        """One that goes on repeats what it is told."""
+        return line, "on"
 
 
-class Drawn:
+class Planned:
     """The engine that misbehaves as its plan says."""
 
     takes_notes = True

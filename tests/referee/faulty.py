@@ -10,7 +10,8 @@ STYLE is a template, by which all replies are written, `<reply>` for the plain o
 LIFE/PLACE/TEMPLATE/THEN. LIFE counts the processes that were started with this file NOTES, from 1; `*` is each of them. PLACE is 0
 before the first command, cN at the N-th command of this life, gN at its N-th genmove, pN at its N-th play, h at a handicap, q at
 quit. There the template is written in place of the reply, in one write. THEN is `on`; `ends`, and the process ends; `closes`, and
-its output ends; or `forgets`, and it does not do what it was told.
+its output ends; `shuts`, and its input is closed before that write, and the process goes on; or `forgets`, and it does not do what
+it was told.
 
 In a template `_` is a space, \\n \\r \\t and \\xHH are bytes, and in angle brackets stand
 
@@ -24,13 +25,15 @@ In a template `_` is a space, \\n \\r \\t and \\xHH are bytes, and in angle brac
 
 At its start it adds a line `start` to NOTES, and then each command that it is told, until a fault came.
 
-It is run as a process by `twogtp`, and as an object by the reference. It uses no module, so that it starts quickly.
+It is run as a process by `twogtp`, and as an object by the reference. It imports little, so that it starts quickly.
 """
 import os
 import sys
+import time
 
 COLUMNS = b"ABCDEFGHJKLMNOPQRSTUVWXYZ"
-ENDS, CLOSES, FORGETS = "ends", "closes", "forgets"
+ENDS, CLOSES, SHUTS, FORGETS = "ends", "closes", "shuts", "forgets"
+LONG = 100  # seconds, more than any match takes
 
 
 class Fault:
@@ -65,10 +68,11 @@ class Faulty:
     def __init__(self, seed, passes, style, plan, life):
         self.seed, self.passes, self.style, self.life = seed, passes, style, life
         self.plan = read_plan(plan)
-        self.size = 19
+        self.size = 1
+        self.points = []  # of the board, in the order in which it plays there
         self.named = []  # the vertices since the board was empty
         self.count = {}  # how many commands of each name there were, and of all
-        self.notes = "*" not in style  # is what comes next to be noted? What many bytes do isn't known here.
+        self.notes = "*" not in style  # is what it is told next to be noted? Not where each reply may be too long.
 
     def begins(self):
         """What it writes before its first command, and what it does then."""
@@ -108,6 +112,7 @@ class Faulty:
         """The text of the plain reply to a command."""
         if name == b"boardsize":
             self.size = int(arguments[0])
+            self.points = drawn_order(self.size, self.seed)
         elif name == b"clear_board":
             self.named = []
         elif name == b"fixed_handicap":
@@ -128,7 +133,7 @@ class Faulty:
 
     def fresh(self):
         """The next vertex that wasn't named; none where all were."""
-        return next((point for point in drawn_order(self.size, self.seed) if point not in self.named), b"")
+        return next((point for point in self.points if point not in self.named), b"")
 
     # ---- what it writes
 
@@ -160,14 +165,14 @@ class Faulty:
             times, repeated = name.split("*")
             return literal(repeated) * int(times)
         return {
-            "text": text,
-            "lower": text.lower(),
-            "lines": b"\n".join(text.split()),
-            "reversed": b" ".join(reversed(text.split())),
-            "old": next((vertex for vertex in self.named if vertex not in (b"pass", text)), b"A1"),
-            "fresh": self.fresh() or b"pass",
-            "off": b"A%d" % (self.size + 1),
-        }[name]
+            "text": lambda: text,
+            "lower": lambda: text.lower(),
+            "lines": lambda: b"\n".join(text.split()),
+            "reversed": lambda: b" ".join(reversed(text.split())),
+            "old": lambda: next((vertex for vertex in self.named if vertex not in (b"pass", text)), b"A1"),
+            "fresh": lambda: self.fresh() or b"pass",
+            "off": lambda: b"A%d" % (self.size + 1),
+        }[name]()
 
 
 def parts(template):
@@ -186,7 +191,6 @@ def literal(text):
 
 def handicap(size, number):
     """The handicap's vertices. Only here the reference's table is needed."""
-    sys.path.insert(0, os.path.dirname(os.path.dirname(os.path.abspath(__file__))))
     from reference import values
 
     return [values.write_vertex(point) for point in values.handicap_points(size, number)]
@@ -217,6 +221,8 @@ class Output:
 
     def take(self, text, then):
         """Writes this text, and does what comes then. Who doesn't read it is gone."""
+        if then == SHUTS:
+            os.close(0)
         try:
             while text and self.is_open:
                 text = text[os.write(1, text) :]
@@ -227,7 +233,11 @@ class Output:
         if then == CLOSES and self.is_open:
             os.close(1)
             self.is_open = False
+        if then == SHUTS:
+            time.sleep(LONG)
+            os._exit(0)
 
 
 if __name__ == "__main__":
+    sys.path.insert(0, os.path.dirname(os.path.dirname(os.path.abspath(__file__))))
     run(*sys.argv[1:])

@@ -5,11 +5,11 @@ from reference import values
 from reference.values import BLACK, WHITE
 
 from .controller import DONE, MOST_UNANSWERED, SEND, SIDES, START, Controller, Setup
-from .engines import CLOSES, ENDS
+from .faulty import CLOSES, ENDS, SHUTS
 
-# What happens where the papers of a match leave it to processes and pipes: how many script commands may be unanswered, whether an
+# What is left to the controller, to the processes and to the pipes: how many script commands are unanswered at a time, whether an
 # engine answers as soon as it is told something or only when it is waited for, and whether a write to an engine that has ended
-# fails. The outcome of a match has to be the same for all of them.
+# fails. What comes of a drawn match has to be the same for all of these.
 Timing = namedtuple("Timing", "most is_quick breaks")
 TIMINGS = [
     Timing(MOST_UNANSWERED, True, True),
@@ -37,7 +37,8 @@ class Process:
         self.output = b""
         self.told = []  # commands that it didn't read yet
         self.has_ended = False
-        self.has_closed = False
+        self.has_closed = False  # its output
+        self.has_shut = False  # its input
         self.does(*engine.begins())
 
     def does(self, text, then):
@@ -46,10 +47,11 @@ class Process:
             self.output += text
         self.has_ended = self.has_ended or then == ENDS
         self.has_closed = self.has_closed or then in (ENDS, CLOSES)
+        self.has_shut = self.has_shut or then == SHUTS
 
     def write(self, line):
         """It is told this. False where the write fails."""
-        if self.has_ended and self.timing.breaks:
+        if self.has_shut or (self.has_ended and self.timing.breaks):
             return False
         self.told.append(line)
         if self.timing.is_quick:

@@ -6,15 +6,16 @@ from reference import values
 from reference.values import BLACK, PASS, WHITE
 
 from . import controller, matches, replies
-from .controller import Controller
+from .controller import SEND, START, Controller
 
 # The right bodies, which some of the wrong ones call.
-right_answers = Controller.answers
 right_first = replies.first
+right_heard = Controller.heard
 right_judge = Controller.judge
 right_judge_move = Controller.judge_move
 right_judge_script = Controller.judge_script
 right_lost = Controller.lost
+right_next = Controller.next
 right_read_reply = replies.read_reply
 right_script = Controller.script
 right_started = Controller.started
@@ -51,23 +52,27 @@ def the_other_is_abandoned(self, side):
         self.verdict = f"abandoned {values.other(side)}"
 
 
-def what_was_confirmed_stays(self, side):
-    kept = self.last_confirmed.get(side, 0) if hasattr(self, "last_confirmed") else 0
-    right_started(self, side)
-    self.sides[side].confirmed = kept
-
-
-def confirmed_is_kept(self, side):
-    if not self.is_down(side):
-        self.last_confirmed = {**getattr(self, "last_confirmed", {}), side: self.sides[side].confirmed}
-    right_lost(self, side)
-
-
 def ids_go_on(self, side):
     sent = getattr(self, "sent_before", {}).get(side, 0)
     right_started(self, side)
     self.sides[side].sent = sent
     self.sent_before = {**getattr(self, "sent_before", {}), side: sent + 1}
+
+
+def white_is_started_late(self):
+    action, side = right_next(self)
+    return (SEND, BLACK) if (action, side) == (START, WHITE) and self.left(BLACK) else (action, side)
+
+
+def white_is_told_first(self):
+    action, side = right_next(self)
+    return (SEND, WHITE) if (action, side) == (SEND, BLACK) and self.left(BLACK) and self.left(WHITE) else (action, side)
+
+
+def one_reply_of_a_read(self, side, data):
+    rest = self.sides[side].rest
+    told, used = right_first(rest + data)
+    right_heard(self, side, data if told is None else data[: used - len(rest)])
 
 
 def any_id(self, reply, number):
@@ -224,7 +229,8 @@ def spaces_before_an_id(line):
 
 
 def id_is_a_word(line):
-    return right_read_reply(line) if line[1:].split()[:1] and line[1:].split()[0].isdigit() else replies.Reply(line[:1] == b"=", None, line[1:])
+    first = (line[1:].split() or [b""])[0]
+    return right_read_reply(line) if first.isdigit() else replies.Reply(line[:1] == b"=", None, line[1:])
 
 
 def id_of_32_bits(line):
@@ -249,6 +255,9 @@ MUTANTS = [
     ("the sides share their restarts", Controller, "lost", starts_of_both),
     ("the other side is abandoned", Controller, "lost", the_other_is_abandoned),
     ("ids go on after a restart", Controller, "started", ids_go_on),
+    ("White is started when Black is in the game", Controller, "next", white_is_started_late),
+    ("White is told of the game before Black", Controller, "next", white_is_told_first),
+    ("what stands behind a reply is dropped", Controller, "heard", one_reply_of_a_read),
     ("any id answers", Controller, "answers", any_id),
     ("a reply without an id answers", Controller, "answers", missing_id),
     ("the id of the next command answers", Controller, "answers", id_of_any_unanswered),

@@ -7,7 +7,7 @@ MOST_BYTES = 8192
 NO_STATUS = "no status"
 OVERLONG = "overlong"
 
-HT, LF = 9, 10
+HT, LF, SPACE = 9, 10, 32
 # The control characters that are taken out. (The standard, preprocessing.)
 REMOVED = frozenset(byte for byte in [*range(32), 127] if byte not in (HT, LF))
 
@@ -29,13 +29,13 @@ def first(data):
             return OVERLONG, number
         if byte in REMOVED:
             continue
-        byte = 32 if byte == HT else byte
-        if not reply and byte in b" \n":
-            continue
-        if not reply and byte not in b"=?":
-            return NO_STATUS, number
-        reply.append(byte)
-        if reply.endswith(b"\n\n"):
+        if not reply:
+            if byte in b" \t\n":
+                continue
+            if byte not in b"=?":
+                return NO_STATUS, number
+        reply.append(SPACE if byte == HT else byte)
+        if byte == LF and reply.endswith(b"\n\n"):
             return read_reply(bytes(reply[:-2])), number
     return None, len(data)
 

@@ -2,7 +2,7 @@
 worked out by hand from docs/controller.md and README.md, and most of them stand there."""
 from reference.values import BLACK, WHITE
 
-from .engines import Drawn, Missing, Ours
+from .engines import Other, Ours, Planned
 from .matches import TIMINGS, Match, play
 
 FIRST = Ours("first")
@@ -38,7 +38,7 @@ def wall(fault="none"):
 
 def passing(plan="-"):
     """An engine that always passes, and misbehaves as this plan says."""
-    return Drawn(1, 1, "<reply>", plan)
+    return Planned(1, 1, "<reply>", plan)
 
 
 def match(black, white, size=9, komi="6.5", handicap=0, games=1, most_moves=1000, restarts=1, record=False, show=False):
@@ -74,16 +74,21 @@ def going_down():
     yield one("B+8.5 moves 7 restarts 3 2", wall("stop:2"), wall("stop:2"), size=3, komi="0.5", restarts=3)
     yield one("abandoned black moves 6 restarts 2 0", wall("stop:2"), wall(), 1, size=3, komi="0.5", restarts=2)
     yield one("abandoned black moves 0 restarts 2 0", wall("stop:1"), wall(), 1, size=3, komi="0.5", restarts=2)
-    yield one("abandoned black moves 0 restarts 1 0", Missing(), FIRST, 1)
-    for plan in ("*/0//ends", "*/c1//ends", "*/c1//closes", "*/c1/<reply:2>/ends", "*/c2/=1\\n\\n/on", "*/c1/=\\n\\n/on"):
+    for name in ("no_such_program", "/", "true", "echo hello", "cat"):
+        yield one("abandoned black moves 0 restarts 1 0", Other(name), FIRST, 1)
+        yield one("abandoned white moves 0 restarts 0 1", FIRST, Other(name), 1)
+    for plan in ("*/0//ends", "*/c1//ends", "*/c1//closes", "*/c1/<reply:2>/ends", r"*/c2/=1\n\n/on", r"*/c1/=\n\n/on"):
         yield one("abandoned black moves 0 restarts 1 0", passing(plan), FIRST, 1)
         yield one("abandoned white moves 0 restarts 0 1", FIRST, passing(plan), 1)
-    for plan in ("*/c1/<reply><reply>/on", "*/c1/hello/on", "*/c1/<8193*\\n>/on", "*/c1/<fill:8193:_><reply>/on", "*/c1/<reply>/ends"):
+    for plan in ("*/c1/<reply><reply>/on", "*/c1/hello/on", r"*/c1/<8193*\n>/on", "*/c1/<fill:8193:_><reply>/on", "*/c1/<reply>/ends"):
         yield one("abandoned black moves 0 restarts 1 0", passing(plan), FIRST, 1)
     yield one("W+6.5 moves 2 restarts 0 0", passing("1/c1/<fill:8192:_><reply>/on"), passing())
     # The first reply is a move, the second puts the side down; where the other side passes too, the game is over before it is needed.
     yield one("abandoned black moves 3 restarts 1 0", passing("*/g1/<reply><reply>/on"), FIRST, 1)
     yield one("abandoned white moves 4 restarts 0 1", FIRST, passing("*/g1/<reply><reply>/on"), 1)
+    # The write of White's move fails. Where White passes too, the game is over before.
+    yield one("abandoned black moves 4 restarts 1 0", passing("*/g1/<reply>/shuts"), FIRST, 1)
+    yield one("W+6.5 moves 2 restarts 0 0", passing("*/g1/<reply>/shuts"), passing())
     yield one("W+6.5 moves 2 restarts 1 0", passing("*/g1/<reply><reply>/on"), passing())
     yield one("W+6.5 moves 2 restarts 0 0", passing(), passing("*/g1/<reply><reply>/on"))
 
@@ -98,18 +103,18 @@ def replies():
         ("=<id>_C1", "W+F(illegal move)"),
         ("=<id>_RESIGN", "W+R"),
     ]:
-        yield one(f"{line} moves 0 restarts 0 0", passing(f"1/g1/{told}\\n\\n/on"), FIRST, size=2)
-    for told in ("=00<id>_pass", "\\r\\n_\\n=<id>\\t_PaSs_\\r", "=<id>pass", "\\x01=<id>_pa\\x7fss"):
-        yield one("W+6.5 moves 2 restarts 0 0", passing(f"1/g1/{told}\\n\\n/on"), passing(), size=2)
-    yield one("B+F(refused play) moves 1 restarts 0 0", FIRST, passing("1/p1/?<id>_no\\n\\n/on"), size=2)
-    yield one("unfit black moves 0 restarts 0 0", passing("1/c1/?<id>_no\\n\\n/on"), FIRST, 1, size=2)
-    yield one("W+6.5 moves 2 restarts 0 0", passing("1/c1/=001_as_you_like\\n\\n/on"), passing(), size=2)
+        yield one(f"{line} moves 0 restarts 0 0", passing(rf"1/g1/{told}\n\n/on"), FIRST, size=2)
+    for told in ("=00<id>_pass", r"\r\n_\n=<id>\t_PaSs_\r", "=<id>pass", r"\x01=<id>_pa\x7fss"):
+        yield one("W+6.5 moves 2 restarts 0 0", passing(rf"1/g1/{told}\n\n/on"), passing(), size=2)
+    yield one("B+F(refused play) moves 1 restarts 0 0", FIRST, passing(r"1/p1/?<id>_no\n\n/on"), size=2)
+    yield one("unfit black moves 0 restarts 0 0", passing(r"1/c1/?<id>_no\n\n/on"), FIRST, 1, size=2)
+    yield one("W+6.5 moves 2 restarts 0 0", passing(r"1/c1/=001_as_you_like\n\n/on"), passing(), size=2)
     for told, status, line in [
         ("=<id>_C3_C3", 1, "unfit white moves 0 restarts 0 0"),
         ("=<id>", 1, "unfit white moves 0 restarts 0 0"),
-        ("=<id>_g7\\tC3", 0, "B+74.5 moves 2 restarts 0 0"),
+        (r"=<id>_g7\tC3", 0, "B+74.5 moves 2 restarts 0 0"),
     ]:
-        yield one(line, passing(), passing(f"1/h/{told}\\n\\n/on"), status, handicap=2)
+        yield one(line, passing(), passing(rf"1/h/{told}\n\n/on"), status, handicap=2)
 
 
 def mistakes():
