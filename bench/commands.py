@@ -33,13 +33,16 @@ those are taken that the first ENGINE takes. Each ENGINE has to take them too.
 import argparse
 import os
 import random
+import shutil
 import subprocess
 import sys
 import tempfile
 import threading
 import time
 
-LETTERS = "ABCDEFGHJKLMNOPQRST"
+LETTERS = "ABCDEFGHJKLMNOPQRSTUVWXYZ"
+TOP = os.path.dirname(os.path.dirname(os.path.realpath(__file__)))
+GAMES = "/usr/games"  # where Debian puts games, which is not in every PATH
 POSITION_WORKS = {"showboard": "showboard", "final_score": "final_score", "genmove": "genmove b"}
 BETWEEN = {"final_score": ["play b {free}", "final_score", "undo"], "genmove": ["undo"]}
 SECONDS = 2.0
@@ -106,6 +109,20 @@ def free_point(size, plays):
 def with_book(engine, size, plays):
     """The words of an engine's command line, with a book whose place for the position is a free point."""
     return engine.replace("{book}", "," * len(plays) + free_point(size, plays)).split()
+
+
+def found(engine):
+    """The engine with its program as it is found: in PATH, or where Debian puts games. One of our own is built anew where a
+    source of it is newer."""
+    words = engine.split()
+    if not words:
+        sys.exit("bench: an ENGINE has no command")
+    if os.path.realpath(words[0]).startswith(os.path.join(TOP, "bin", "")):
+        subprocess.run([os.path.join(TOP, "build"), "--needed"], check=True)
+    program = shutil.which(words[0]) or shutil.which(words[0], path=GAMES)
+    if program is None:
+        sys.exit(f"bench: there is no program {words[0]}; ./build makes ours, and gnugo and leela-zero are packages of Debian")
+    return " ".join([program if "/" not in words[0] else words[0], *words[1:]])
 
 
 class Program:
@@ -245,13 +262,16 @@ def position_table(options):
 def main():
     parser = argparse.ArgumentParser(description=__doc__, formatter_class=argparse.RawDescriptionHelpFormatter)
     parser.add_argument("--work", default="name")
-    parser.add_argument("--size", type=int, default=19, choices=range(5, 20))
+    parser.add_argument("--size", type=int, default=19, choices=range(5, 26))
     parser.add_argument("--half", action="store_true")
     parser.add_argument("--count", type=int, default=20_100)
     parser.add_argument("--rounds", type=int, default=5)
     parser.add_argument("--singly", action="store_true")
     parser.add_argument("engines", nargs="+")
     options = parser.parse_args()
+    options.engines = [found(engine) for engine in options.engines]
+    if options.work == "name" and shutil.which("cc") is None:
+        sys.exit("bench: there is no C compiler `cc`, which makes the limit of this work, bench/copy.c")
     if options.work in POSITION_WORKS:
         position_table(options)
         return

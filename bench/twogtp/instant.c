@@ -1,5 +1,6 @@
 /* An engine that answers at once, for bench/twogtp: its moves are a list that it makes with the size of the board, 60 plays on 9x9
- * and 200 on 19x19, none of which captures; then it passes. It checks nothing. */
+ * and 200 on 19x19, none of which captures; then it passes. It checks nothing. With an argument N it ends without an answer at its
+ * N-th genmove. */
 #include <stdio.h>
 #include <stdlib.h>
 #include <string.h>
@@ -8,6 +9,8 @@
 static int size = 19;
 static int plays = 200;
 static int made;
+static int asked;
+static int last; /* the genmove at which it ends, or 0 */
 
 /* Black fills columns from the left, row by row, White from the right. */
 static int vertex(char *text, int number) {
@@ -42,12 +45,14 @@ static int reply(const char *line) {
         id[0] = 0;
         sscanf(line, "%63s %63s", name, argument);
     }
+    if (!strcmp(name, "genmove") && ++asked == last) return 0;
     answer(text, name, argument);
     int length = sprintf(whole, "=%s%s\n\n", id, text);
     return write(1, whole, (size_t)length) == length && strcmp(name, "quit");
 }
 
-int main(void) {
+int main(int count_of_words, char **words) {
+    if (count_of_words > 1) last = atoi(words[1]);
     static char buffer[4096];
     size_t held = 0;
     for (;;) {

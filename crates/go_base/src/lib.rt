@@ -3,6 +3,7 @@
 
 mod choices;
 mod colours;
+pub mod equality;
 mod handicaps;
 mod ints;
 mod komis;

@@ -503,3 +503,18 @@ fn each_reader_of_two_bytes_is_a_slow_reading(rt: HostRuntime) {
         }
     }
 }
+
+#[test]
+fn values_that_are_equal_are_the_same(rt: HostRuntime) {
+    let komi = |half_points| Komi::from_half_points(half_points);
+    assert_eq!(rt; komi(13), Komi::read(b"6.5"));
+    assert_eq!(rt; komi(0), Komi::read(b"-0"));
+    let low = Point::new(1, 2).expect(&rt, "a point");
+    let high = Point::new(2, 1).expect(&rt, "a point");
+    assert!(rt; equality::equal_points(low, low));
+    assert!(rt; !equality::equal_points(low, high));
+    assert!(rt; equality::equal_vertices(Vertex::Pass, Vertex::Pass));
+    assert!(rt; !equality::equal_vertices(Vertex::Pass, Vertex::At(low)));
+    assert!(rt; !equality::equal_choices(Choice::Resign, Choice::Play(Vertex::Pass)));
+    assert!(rt; equality::equal_colours(Colour::Black, Colour::White.other()));
+}

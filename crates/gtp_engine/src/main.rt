@@ -8,6 +8,7 @@ pub mod run;
 mod tests;
 
 use fault::{Fault, tell};
+use gtp_session::streams::Counted;
 use run::run;
 use std::process::ExitCode;
 use std::{env, io};
@@ -18,8 +19,8 @@ fn main(rt: HostRuntime) -> ExitCode {
         Ok(words) => run(
             rt.alloc(),
             words.as_slice(),
-            &mut rt.stdin(),
-            &mut rt.stdout(),
+            &mut Counted::new(rt.stdin()),
+            &mut Counted::new(rt.stdout()),
             &mut rt.stderr(),
         ),
         Err(error) => tell(Fault::of_arguments(error.kind()), &mut rt.stderr()),

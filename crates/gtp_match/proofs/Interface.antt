@@ -6,6 +6,8 @@ pub use Rattle.gtp_match.proofs.SoundLemmas.{my_side, their_side, my_engine, one
 -- An engine without unanswered commands has confirmed no more than the script has; an empty rest tells nothing; and the
 -- controller with another game, verdict and side.
 pub use Rattle.gtp_match.proofs.SoundLemmas.{idle_plan, nothing_told, changed}
+-- What is unanswered goes on in the script: with a command of it more, and wherever no `genmove` is unanswered.
+pub use Rattle.gtp_match.proofs.SoundLemmas.{script_grows, in_script}
 -- Each call keeps a match sound: a new match, a start, a command, a side that goes down, and a side that is lost.
 pub use Rattle.gtp_match.proofs.SoundLemmas.{new_sound, started_sound, sent_sound, downed_sound, lost_sound}
 -- So does a whole reply, and so do bytes that are heard: a rest that tells nothing yet, one call, and all of a read.
@@ -16,7 +18,7 @@ pub use Rattle.gtp_match.proofs.CallsLemmas.{calls_sound}
 -- What is heard exactly is heard: of one call, and of all of a read.
 pub use Rattle.gtp_match.proofs.HeardLemmas.{wider, all_wider}
 -- What holds where a start or a command comes next.
-pub use Rattle.gtp_match.proofs.SaysLemmas.{SaysStart, says_start, SaysSend, says_send}
+pub use Rattle.gtp_match.proofs.SaysLemmas.{SaysStart, says_start, BothIdle, GoesOn, SaysSend, says_send}
 -- A script grows by one command with each move; a number that it has no command of is past its end.
 pub use Rattle.gtp_match.proofs.ScriptLemmas.{script_longer, past_length}
 -- The game before its first move has no stone of a move.

@@ -7,7 +7,7 @@ use Rattle.go_board.specs.Game.{GameRecord, HasRoom, IsLegal}
 use Rattle.gtp_wire.specs.declared.commands.Command.{Command}
 use Rattle.gtp_wire.specs.declared.commands.Command.TheVariants.{Boardsize, Komi, ClearBoard, FixedHandicap, Play, Genmove, Quit}
 use Rattle.gtp_match.specs.Sides.{side_of}
-use Rattle.gtp_match.specs.Unanswered.{unanswered_room, oldest}
+use Rattle.gtp_match.specs.Unanswered.{most_unanswered, oldest}
 use Rattle.gtp_match.specs.declared.controller.Controller.{Controller}
 use Rattle.gtp_match.specs.declared.sides.Incarnation.{Incarnation}
 use Rattle.gtp_match.specs.declared.table.Outcome.{Outcome}
@@ -15,7 +15,7 @@ use Rattle.gtp_match.specs.declared.table.Outcome.TheVariants.{Down, Unfit, Forf
 
 -- an engine may be sent a command more
 abbrev pub MayHand : Incarnation → Type 0
-MayHand engine = (engine.sent < int_max) × (length engine.unanswered < unanswered_room)
+MayHand engine = (engine.sent < int_max) × (length engine.unanswered < most_unanswered)
 
 -- a reply to the command may be judged: where it is a handicap, the game's size allows it
 abbrev pub MayBeAnswered : GameRecord → Command → Type 0

@@ -1,4 +1,6 @@
-use crate::test_steps::{answer, black_answered, ended, first_sent, handicap_answered, send};
+use crate::test_steps::{
+    answer, black_answered, ended, first_sent, handicap_answered, send_and_wait,
+};
 use crate::{Action, ForfeitCause, Match, Verdict, record_line};
 use go_base::{Colour, Point, Side};
 use std::process::Abort;
@@ -22,7 +24,7 @@ fn unfit(rt: &impl Abort, bytes: &[u8]) {
 /// White is sent its command of this id, which is Black's move at A1, and answers with these bytes.
 fn white_hears_of_a1(rt: &impl Abort, bytes: &[u8]) -> Match {
     let mut played = black_answered(rt, b"=4 A1\n\n");
-    send(rt, &mut played, Side::White, b"4 play b A1\n");
+    send_and_wait(rt, &mut played, Side::White, b"4 play b A1\n");
     answer(rt, &mut played, Side::White, bytes);
     played
 }

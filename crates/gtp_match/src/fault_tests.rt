@@ -1,6 +1,7 @@
 use crate::test_steps::{answer, black_asked, ended, first_sent, hear, up};
-use crate::{Action, SideFault, Status, Verdict, result_line};
+use crate::{Action, Match, SideFault, Status, Verdict, result_line};
 use go_base::Side;
+use std::process::Abort;
 use std::test::Fail;
 
 #[test]
@@ -62,7 +63,7 @@ fn a_reply_that_does_not_end_puts_the_side_down(rt: HostRuntime) {
 }
 
 #[test]
-fn a_reply_that_nothing_asked_for_puts_the_side_down(rt: HostRuntime) {
+fn a_reply_that_nothing_asked_for_puts_its_side_down_and_the_other_goes_on(rt: HostRuntime) {
     let mut played = first_sent(&rt, 1);
     hear(
         &rt,
@@ -73,7 +74,7 @@ fn a_reply_that_nothing_asked_for_puts_the_side_down(rt: HostRuntime) {
         Some(SideFault::Unasked),
     );
     assert_eq!(rt; played.status(Side::White), Status::Down);
-    assert_eq!(rt; played.next(), Action::Wait(Side::Black));
+    assert_eq!(rt; played.next(), Action::Send(Side::Black));
 }
 
 #[test]
@@ -93,79 +94,36 @@ fn an_id_may_have_leading_zeros(rt: HostRuntime) {
     assert_eq!(rt; played.status(Side::Black), up(1, 0));
 }
 
+/// The side, which has no restart, is given up.
+fn given_up(rt: &impl Abort, played: &Match, side: Side) {
+    let text: &[u8] = match side {
+        Side::Black => b"game 1: abandoned black moves 0 restarts 0 0",
+        Side::White => b"game 1: abandoned white moves 0 restarts 0 0",
+    };
+    ended(rt, played, Verdict::Abandoned(side), text);
+}
+
+/// So many bytes of a side show this fault, and it is given up.
+fn gives_up(rt: &impl Abort, side: Side, bytes: &[u8], used: usize, fault: SideFault) {
+    let mut played = first_sent(rt, 0);
+    assert!(rt; result_line(1, &played).is_none());
+    hear(rt, &mut played, side, bytes, used, Some(fault));
+    given_up(rt, &played, side);
+}
+
 #[test]
 fn without_restarts_each_fault_gives_the_side_up(rt: HostRuntime) {
-    let black = b"game 1: abandoned black moves 0 restarts 0 0";
-    let white = b"game 1: abandoned white moves 0 restarts 0 0";
-    let mut played = first_sent(&rt, 0);
-    assert!(rt; result_line(1, &played).is_none());
-    hear(
-        &rt,
-        &mut played,
-        Side::Black,
-        b"=2 D4\n\n",
-        7,
-        Some(SideFault::WrongId),
-    );
-    ended(
-        &rt,
-        &played,
-        Verdict::Abandoned(Side::Black),
-        black.as_slice(),
-    );
-    let mut played = first_sent(&rt, 0);
-    hear(
-        &rt,
-        &mut played,
-        Side::Black,
-        b"hello",
-        1,
-        Some(SideFault::NoStatus),
-    );
-    ended(
-        &rt,
-        &played,
-        Verdict::Abandoned(Side::Black),
-        black.as_slice(),
-    );
-    let mut played = first_sent(&rt, 0);
-    hear(
-        &rt,
-        &mut played,
-        Side::Black,
-        &[b'\n'; 8193],
-        8193,
-        Some(SideFault::Overlong),
-    );
-    ended(
-        &rt,
-        &played,
-        Verdict::Abandoned(Side::Black),
-        black.as_slice(),
-    );
-    let mut played = first_sent(&rt, 0);
-    hear(
-        &rt,
-        &mut played,
-        Side::White,
-        b"=1\n\n",
-        4,
-        Some(SideFault::Unasked),
-    );
-    ended(
-        &rt,
-        &played,
-        Verdict::Abandoned(Side::White),
-        white.as_slice(),
-    );
+    gives_up(&rt, Side::Black, b"=2 D4\n\n", 7, SideFault::WrongId);
+    gives_up(&rt, Side::Black, b"hello", 1, SideFault::NoStatus);
+    gives_up(&rt, Side::Black, &[b'\n'; 8193], 8193, SideFault::Overlong);
+    gives_up(&rt, Side::White, b"=1\n\n", 4, SideFault::Unasked);
+}
+
+#[test]
+fn without_restarts_a_loss_gives_the_side_up(rt: HostRuntime) {
     let mut played = first_sent(&rt, 0);
     played.lost(Side::White);
-    ended(
-        &rt,
-        &played,
-        Verdict::Abandoned(Side::White),
-        white.as_slice(),
-    );
+    given_up(&rt, &played, Side::White);
 }
 
 #[test]

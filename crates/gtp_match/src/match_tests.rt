@@ -1,5 +1,6 @@
 use crate::test_steps::{
-    answer, black_asked, both_started, bring, ended, first_sent, hear, line, send, setup_with, up,
+    answer, black_asked, both_started, bring, ended, first_sent, hear, line, send, send_and_wait,
+    setup_with, up,
 };
 use crate::{Action, Match, Status, Verdict, record_line, result_line};
 use go_base::Side;
@@ -41,9 +42,9 @@ fn two_passes_end_by_score(rt: HostRuntime) {
     answer(&rt, &mut played, Side::Black, b"=4 pass\n\n");
     assert!(rt; played.in_step(Side::Black));
     assert!(rt; !played.in_step(Side::White));
-    send(&rt, &mut played, Side::White, b"4 play b pass\n");
+    send_and_wait(&rt, &mut played, Side::White, b"4 play b pass\n");
     answer(&rt, &mut played, Side::White, b"=4\n\n");
-    send(&rt, &mut played, Side::White, b"5 genmove w\n");
+    send_and_wait(&rt, &mut played, Side::White, b"5 genmove w\n");
     assert!(rt; result_line(1, &played).is_none());
     answer(&rt, &mut played, Side::White, b"=5 pass\n\n");
     let text = b"game 1: 0 moves 2 restarts 0 0";
@@ -56,11 +57,11 @@ fn score_comes_before_the_limit(rt: HostRuntime) {
     let mut played = both_started(&rt, setup_with(&rt, 1, -1_999_999_999, 0, 2, 0));
     bring_small(&rt, &mut played, Side::Black);
     bring_small(&rt, &mut played, Side::White);
-    send(&rt, &mut played, Side::Black, b"4 genmove b\n");
+    send_and_wait(&rt, &mut played, Side::Black, b"4 genmove b\n");
     answer(&rt, &mut played, Side::Black, b"=4 pass\n\n");
-    send(&rt, &mut played, Side::White, b"4 play b pass\n");
+    send_and_wait(&rt, &mut played, Side::White, b"4 play b pass\n");
     answer(&rt, &mut played, Side::White, b"=4\n\n");
-    send(&rt, &mut played, Side::White, b"5 genmove w\n");
+    send_and_wait(&rt, &mut played, Side::White, b"5 genmove w\n");
     answer(&rt, &mut played, Side::White, b"=5 PaSs\n\n");
     assert_eq!(rt; played.next(), Action::Done(Verdict::Score(1_999_999_999)));
     assert_eq!(rt;
@@ -80,11 +81,11 @@ fn the_last_move_that_is_allowed_ends_by_the_limit(rt: HostRuntime) {
     let mut played = both_started(&rt, setup_with(&rt, 2, 0, 0, 2, 0));
     bring(&rt, &mut played, Side::Black);
     bring(&rt, &mut played, Side::White);
-    send(&rt, &mut played, Side::Black, b"4 genmove b\n");
+    send_and_wait(&rt, &mut played, Side::Black, b"4 genmove b\n");
     answer(&rt, &mut played, Side::Black, b"=4 pass\n\n");
-    send(&rt, &mut played, Side::White, b"4 play b pass\n");
+    send_and_wait(&rt, &mut played, Side::White, b"4 play b pass\n");
     answer(&rt, &mut played, Side::White, b"=4\n\n");
-    send(&rt, &mut played, Side::White, b"5 genmove w\n");
+    send_and_wait(&rt, &mut played, Side::White, b"5 genmove w\n");
     answer(&rt, &mut played, Side::White, b"=5 B2\n\n");
     let text = b"game 1: limit moves 2 restarts 0 0";
     ended(&rt, &played, Verdict::Limit, text.as_slice());
@@ -96,7 +97,7 @@ fn white_moves_first_where_there_is_a_handicap(rt: HostRuntime) {
     let mut played = both_started(&rt, setup_with(&rt, 9, -7, 2, 10, 0));
     bring_handicap(&rt, &mut played, Side::Black);
     bring_handicap(&rt, &mut played, Side::White);
-    send(&rt, &mut played, Side::White, b"5 genmove w\n");
+    send_and_wait(&rt, &mut played, Side::White, b"5 genmove w\n");
     answer(&rt, &mut played, Side::White, b"=5 Q16\n\n");
     let text = b"game 1: B+F(illegal move) moves 0 restarts 0 0";
     assert_eq!(rt; line(&rt, &played).as_slice(), text.as_slice());
@@ -117,7 +118,7 @@ fn a_side_that_went_down_gets_the_whole_script_again(rt: HostRuntime) {
     assert_eq!(rt; played.status(Side::Black), up(0, 0));
     bring(&rt, &mut played, Side::Black);
     assert!(rt; played.in_step(Side::Black));
-    send(&rt, &mut played, Side::Black, b"4 genmove b\n");
+    send_and_wait(&rt, &mut played, Side::Black, b"4 genmove b\n");
     hear(&rt, &mut played, Side::Black, b"=4 A1\n", 6, None);
     hear(&rt, &mut played, Side::Black, b"\n", 1, None);
     assert_eq!(rt; record_line(&played).as_slice(), b"A1".as_slice());
@@ -128,16 +129,16 @@ fn a_side_that_went_down_gets_the_whole_script_again(rt: HostRuntime) {
 fn the_script_of_a_restarted_side_has_the_moves(rt: HostRuntime) {
     let mut played = black_asked(&rt, 1);
     answer(&rt, &mut played, Side::Black, b"=4 A1\n\n");
-    send(&rt, &mut played, Side::White, b"4 play b A1\n");
+    send_and_wait(&rt, &mut played, Side::White, b"4 play b A1\n");
     played.lost(Side::White);
     assert_eq!(rt; played.next(), Action::Start(Side::White));
     played.started(Side::White);
     bring(&rt, &mut played, Side::White);
     assert!(rt; !played.in_step(Side::White));
-    send(&rt, &mut played, Side::White, b"4 play b A1\n");
+    send_and_wait(&rt, &mut played, Side::White, b"4 play b A1\n");
     answer(&rt, &mut played, Side::White, b"=4\n\n");
     assert!(rt; played.in_step(Side::White));
-    send(&rt, &mut played, Side::White, b"5 genmove w\n");
+    send_and_wait(&rt, &mut played, Side::White, b"5 genmove w\n");
     assert_eq!(rt; played.restarts(Side::White), 1);
     assert_eq!(rt; played.restarts(Side::Black), 0);
 }

@@ -21,6 +21,11 @@ pub(crate) fn setup_with(
 pub(crate) fn send(rt: &impl Abort, played: &mut Match, side: Side, line: &[u8]) {
     assert_eq!(rt; played.next(), Action::Send(side));
     assert_eq!(rt; played.send(side).as_slice(), line);
+}
+
+/// Sends a side its next command, as `send` does, which the side has to answer before anything else is done.
+pub(crate) fn send_and_wait(rt: &impl Abort, played: &mut Match, side: Side, line: &[u8]) {
+    send(rt, played, side, line);
     assert_eq!(rt; played.next(), Action::Wait(side));
 }
 
@@ -51,7 +56,7 @@ pub(crate) fn both_started(rt: &impl Abort, setup: Setup) -> Match {
     played
 }
 
-/// Brings a side of size 2 and komi 0 through the three commands of its script.
+/// Brings a side of size 2 and komi 0 through the three commands of its script, each answered before the next is sent.
 pub(crate) fn bring(rt: &impl Abort, played: &mut Match, side: Side) {
     send(rt, played, side, b"1 boardsize 2\n");
     answer(rt, played, side, b"=1\n\n");
@@ -74,7 +79,7 @@ pub(crate) fn both_in_step(rt: &impl Abort, max_restarts: u32) -> Match {
 /// The same, with the first `genmove` sent to Black.
 pub(crate) fn black_asked(rt: &impl Abort, max_restarts: u32) -> Match {
     let mut played = both_in_step(rt, max_restarts);
-    send(rt, &mut played, Side::Black, b"4 genmove b\n");
+    send_and_wait(rt, &mut played, Side::Black, b"4 genmove b\n");
     assert!(rt; !played.in_step(Side::Black));
     played
 }

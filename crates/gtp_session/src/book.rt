@@ -1,7 +1,8 @@
 //! The policy that reads its choices from a book.
 ghost use Rattle.std.specs.Prelude.{◌≡◌, length, slice_get};
-ghost use Rattle.gtp_session.specs.Book.{place_of, book_of, booked};
+ghost use Rattle.gtp_session.specs.Book.{place_of, book_of};
 ghost use Rattle.gtp_session.specs.Lawful.{lawful_place};
+ghost use Rattle.gtp_session.specs.Policies.{book_may};
 
 use crate::policy::{Choice, Policy};
 use arrayvec::ArrayVec;
@@ -87,7 +88,7 @@ impl Book {
 }
 
 impl Policy for Book {
-    ghost may = { λ old game colour choice new. (choice ≡ booked old game colour) × (new ≡ old) };
+    ghost may = { book_may };
 
     fn choose(&mut self, game: &Game, colour: Colour) -> Choice {
         match self.places.as_slice().get(game.moves().len()) {

@@ -1,7 +1,6 @@
 //! The policy that takes the first candidate.
-ghost use Rattle.std.specs.Prelude.{◌≡◌, slice_get};
-ghost use Rattle.gtp_session.specs.Candidates.{candidates, chosen};
 ghost use Rattle.gtp_session.specs.Lawful.{lawful_candidate};
+ghost use Rattle.gtp_session.specs.Policies.{first_may};
 
 use crate::candidates::{chosen, first_candidate};
 use crate::policy::{Choice, Policy};
@@ -16,8 +15,7 @@ use go_board::Game;
 pub struct First;
 
 impl Policy for First {
-    ghost may = { λ old game colour choice new.
-        choice ≡ chosen (slice_get (candidates game colour) 0) };
+    ghost may = { first_may };
 
     fn choose(&mut self, game: &Game, colour: Colour) -> Choice {
         chosen(first_candidate(game, colour))

@@ -1,8 +1,8 @@
 //! The policy that draws a candidate.
 ghost use Rattle.std.specs.Prelude.{◌≡◌};
-ghost use Rattle.gtp_session.specs.Candidates.{candidates};
-ghost use Rattle.gtp_session.specs.Random.{generator_of, MayDraw};
+ghost use Rattle.gtp_session.specs.Random.{generator_of};
 ghost use Rattle.gtp_session.specs.Lawful.{lawful_draw};
+ghost use Rattle.gtp_session.specs.Policies.{random_may};
 
 use crate::candidates::{candidates, chosen};
 use crate::policy::{Choice, Policy};
@@ -42,7 +42,7 @@ impl Random {
 }
 
 impl Policy for Random {
-    ghost may = { λ old game colour choice new. MayDraw (candidates game colour) old choice new };
+    ghost may = { random_may };
 
     fn choose(&mut self, game: &Game, colour: Colour) -> Choice {
         let all = candidates(game, colour);

@@ -1,8 +1,9 @@
 //! Readers and writers that count their calls.
-ghost use Rattle.std.specs.Prelude.{◌≡◌, ℕ, ◌<◌, List, length, Bool, false, IfOk};
+ghost use Rattle.std.specs.Prelude.{◌≡◌, ℕ, ◌<◌, List, length, Bool, false, IfOk, OnOk, OnErr};
 ghost use Rattle.std.specs.declared.option.Option.{Option};
 ghost use Rattle.std.specs.Io.{ReadsAtMost, WritesAtMost};
-ghost use Rattle.std.specs.Io.KnownBytes.{ReadConsumes, WriteAppends, Keeps};
+ghost use Rattle.std.specs.Io.KnownBytes.{Appends, ReadConsumes, WriteAppends, Keeps};
+ghost use Rattle.gtp_session.specs.Conversation.{TakesPart};
 ghost use Rattle.gtp_session.specs.Counts.{raised, failures_after, waiting_after_write, waiting_after_flush};
 
 use std::io::{Read, Write};
@@ -59,6 +60,29 @@ pub trait Outgoing {
         ensures bytes { Keeps (contents self.old) (contents self.new) }
         ensures failures { failures self.new ≡ failures_after (failures self.old) result }
         ensures waiting { waiting self.new ≡ waiting_after_flush (waiting self.old) result };
+}
+
+/// Writes the text and flushes it.
+///
+/// # Errors
+///
+/// `Broken` where a write or the flush failed; the writer then took a front of the text.
+pub fn send<W: Outgoing>(writer: &mut W, text: &[u8]) -> Result<(), Broken>
+    ensures whole { OnOk result (Appends (W.contents writer.old) (W.contents writer.new) text.now) }
+    ensures part { OnErr result
+        (TakesPart text.now (W.contents writer.old) (W.contents writer.new)) }
+    ensures held { OnOk result (W.failures writer.new ≡ W.failures writer.old) }
+    ensures failed { OnErr result (W.failures writer.new ≡ raised (W.failures writer.old) 1) }
+    ensures flushed { OnOk result (W.waiting writer.new ≡ false) }
+{
+    let mut done = 0;
+    while done < text.len() {
+        match writer.write(&text[done..]) {
+            Ok(taken) => done += taken,
+            Err(broken) => return Err(broken),
+        }
+    }
+    writer.flush()
 }
 
 /// Any reader or writer of the standard library, with its counts: its reads, its calls that failed, and whether what it

@@ -14,12 +14,12 @@ use Rattle.gtp_match.specs.declared.verdicts.Action.{Action}
 use Rattle.gtp_match.specs.declared.verdicts.Action.TheVariants.{Start, Send}
 use Rattle.gtp_match.specs.declared.controller.Controller.{Controller}
 use Rattle.gtp_match.specs.Controller.{to_move, engine_in_step, in_step}
-use Rattle.gtp_match.specs.Next.{has_unanswered, is_down, has_script_left, next}
+use Rattle.gtp_match.specs.Next.{has_unanswered, must_answer, is_down, has_script_left, next_of_idle, next}
 use Rattle.gtp_match.specs.Unanswered.{none_unanswered}
 use Rattle.gtp_match.specs.Script.{script}
 use Rattle.gtp_match.specs.Sides.{new_incarnation}
 use Rattle.gtp_match.specs.Sound.{IsIdle}
-use Rattle.gtp_match.proofs.NextLemmas.{Tests, tests_of, next_live, at_black_down, at_white_down, at_black_script_left, at_white_script_left}
+use Rattle.gtp_match.proofs.NextLemmas.{IdleTests, idle_tests_of, tests_of, next_live, at_idle, at_black_down, at_white_down, at_black_script_left, at_white_script_left}
 use Rattle.gtp_match.proofs.SoundLemmas.{my_engine, idle_plan}
 use Rattle.gtp_world.specs.declared.events.Event.{Event}
 use Rattle.gtp_world.specs.declared.events.Event.TheVariants.{Act, ToEngine, ToController}
@@ -33,23 +33,46 @@ use Rattle.gtp_world.specs.Joined.{bare, AreJoined, IsJoined}
 
 -- ---- what comes next
 
-no_wait : (game : GameRecord) (up : Option Incarnation) → IsIdle up → has_unanswered game up ≡ false
-no_wait game None idle = refl
-no_wait game (Some u) idle = ap (λ (os : List SentCommand). not (none_unanswered os)) idle
+-- nothing is unanswered of a side that is idle
+free_of : (game : GameRecord) (up : Option Incarnation) → IsIdle up → must_answer game up ≡ false
+free_of game None idle = refl
+free_of game (Some u) idle = ap (λ (os : List SentCommand). must_answer game (Some (record u { unanswered = os }))) idle
+
+none_of : (up : Option Incarnation) → IsIdle up → has_unanswered up ≡ false
+none_of None idle = refl
+none_of (Some u) idle = ap (λ (os : List SentCommand). not (none_unanswered os)) idle
+
+-- so the last lines say what comes next
+next_where_idle : (c : Controller) → c.verdict ≡ None → IsIdle c.sides.black.up → IsIdle c.sides.white.up
+    → next c ≡ next_of_idle c.game c.sides.black.up c.sides.white.up
+next_where_idle c none black white =
+    next_live c none
+    ∙ sym (at_idle (tests_of c.game c.sides.black.up c.sides.white.up)
+    (next_of_idle c.game c.sides.black.up c.sides.white.up)
+    (record {
+      black_free = free_of c.game c.sides.black.up black;
+      white_free = free_of c.game c.sides.white.up white;
+      black_idle = none_of c.sides.black.up black;
+      white_idle = none_of c.sides.white.up white;
+    }))
+
+idle_down : (up : Option Incarnation) → up ≡ None → IsIdle up
+idle_down up down = subst IsIdle (sym down) tt
+
+idle_up : (up : Option Incarnation) (u : Incarnation) → up ≡ Some u → u.unanswered ≡ [] → IsIdle up
+idle_up up u is idle = subst IsIdle (sym is) idle
 
 starts_black : (c : Controller) → c.verdict ≡ None → IsIdle c.sides.white.up → c.sides.black.up ≡ None
     → next c ≡ Start Black
 starts_black c none idle down =
-    next_live c none
-    ∙ sym (at_black_down (to_move c.game) (tests_of c.game c.sides.black.up c.sides.white.up)
-    (ap (has_unanswered c.game) down) (no_wait c.game c.sides.white.up idle) (ap is_down down))
+    next_where_idle c none (idle_down c.sides.black.up down) idle
+    ∙ sym (at_black_down (to_move c.game) (idle_tests_of c.game c.sides.black.up c.sides.white.up) (ap is_down down))
 
 starts_white : (c : Controller) (black : Incarnation) → c.verdict ≡ None → c.sides.black.up ≡ Some black
     → black.unanswered ≡ [] → c.sides.white.up ≡ None → next c ≡ Start White
 starts_white c black none up idle down =
-    next_live c none
-    ∙ sym (at_white_down (to_move c.game) (tests_of c.game c.sides.black.up c.sides.white.up)
-    (ap (has_unanswered c.game) up ∙ no_wait c.game (Some black) idle) (ap (has_unanswered c.game) down) (ap is_down up)
+    next_where_idle c none (idle_up c.sides.black.up black up idle) (idle_down c.sides.white.up down)
+    ∙ sym (at_white_down (to_move c.game) (idle_tests_of c.game c.sides.black.up c.sides.white.up) (ap is_down up)
     (ap is_down down))
 
 lacks_some : (game : GameRecord) (u : Incarnation) → u.unanswered ≡ [] → u.confirmed < length (script game)
@@ -70,26 +93,25 @@ lacks_none game u all = above (u.confirmed + length u.unanswered) (length (scrip
 module _ (c : Controller) (black white : Incarnation) (none : c.verdict ≡ None)
     (black_up : c.sides.black.up ≡ Some black) (white_up : c.sides.white.up ≡ Some white)
     (black_idle : black.unanswered ≡ []) (white_idle : white.unanswered ≡ []) where
-  abbrev tests : Tests
-  tests = tests_of c.game c.sides.black.up c.sides.white.up
+  abbrev tests : IdleTests
+  tests = idle_tests_of c.game c.sides.black.up c.sides.white.up
 
-  black_free : has_unanswered c.game c.sides.black.up ≡ false
-  black_free = ap (has_unanswered c.game) black_up ∙ no_wait c.game (Some black) black_idle
-
-  white_free : has_unanswered c.game c.sides.white.up ≡ false
-  white_free = ap (has_unanswered c.game) white_up ∙ no_wait c.game (Some white) white_idle
+  next_is : next c ≡ next_of_idle c.game c.sides.black.up c.sides.white.up
+  next_is =
+      next_where_idle c none (idle_up c.sides.black.up black black_up black_idle)
+      (idle_up c.sides.white.up white white_up white_idle)
 
   sends_black : black.confirmed < length (script c.game) → next c ≡ Send Black
   sends_black less =
-      next_live c none
-      ∙ sym (at_black_script_left (to_move c.game) tests black_free white_free (ap is_down black_up)
+      next_is
+      ∙ sym (at_black_script_left (to_move c.game) tests (ap is_down black_up)
       (ap is_down white_up) (ap (has_script_left c.game) black_up ∙ lacks_some c.game black black_idle less))
 
   sends_white : length (script c.game) ≤ black.confirmed → white.confirmed < length (script c.game)
       → next c ≡ Send White
   sends_white all less =
-      next_live c none
-      ∙ sym (at_white_script_left (to_move c.game) tests black_free white_free (ap is_down black_up)
+      next_is
+      ∙ sym (at_white_script_left (to_move c.game) tests (ap is_down black_up)
       (ap is_down white_up) (ap (has_script_left c.game) black_up ∙ lacks_none c.game black all)
       (ap (has_script_left c.game) white_up ∙ lacks_some c.game white white_idle less))
 

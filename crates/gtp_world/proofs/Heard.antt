@@ -126,7 +126,7 @@ scripted_outcome game s o r g g1 a well =
     ∙ own_id o.id (outcome_of game s o.command (reply_with_id o.id (succeeds_with g o.command))) (Down WrongId)
     ∙ well_heard game g s o.id o.command well.well well.sized
 
-scripted_game : (o : SentCommand) (r : Reply) (g g1 : GameRecord) → Answered g o r g1 → GoesWell g o.command
+pub scripted_game : (o : SentCommand) (r : Reply) (g g1 : GameRecord) → Answered g o r g1 → GoesWell g o.command
     → g1 ≡ after_command g o.command
 scripted_game o r g g1 a well = a.game ∙ ap (λ (x : Answer). x.game) (well_answer g (Some o.id) o.command a.choice well)
 

@@ -1,4 +1,5 @@
 pub mod Options
+pub mod Pipes
 pub mod Processes
 pub mod Status
 pub mod Tasks

@@ -1,5 +1,5 @@
 -- What the program does with a match, turn by turn.
-use Rattle.std.specs.Prelude.{◌≡◌, ◌<◌, ℕ, List, [], length, Option, None, Some}
+use Rattle.std.specs.Prelude.{◌≡◌, ◌<◌, ⊤, ℕ, List, [], length, Option, None, Some}
 use Rattle.std.specs.Io.KnownBytes.{Appends, Keeps}
 use Rattle.go_base.specs.declared.colours.Colour.{Colour}
 use Rattle.gtp_match.specs.declared.controller.Controller.{Controller}
@@ -26,18 +26,20 @@ abbrev pub command_text : Controller → Colour → List ℕ
 command_text c side = command_for c side (side_of c.sides side).up
 
 -- A side was to be sent its command, to a process that had taken some bytes and has taken others: it took the whole
--- command, and the command counts as sent; or that failed, and the side is lost.
-pub data IsSent (c : Controller) (side : Colour) (held holds : Option (List ℕ)) : Controller → Type 0 where
-  taken : Appends held holds (command_text c side) → IsSent c side held holds (sent c side)
-  failed : IsSent c side held holds (lost (sent c side) side)
+-- command, and the command counts as sent; or the process was cut off, and the side is lost.
+pub data IsSent (c : Controller) (side : Colour) (held holds : Option (List ℕ)) (CutOff : Type 0)
+    : Controller → Type 0 where
+  taken : Appends held holds (command_text c side) → IsSent c side held holds CutOff (sent c side)
+  failed : CutOff → IsSent c side held holds CutOff (lost (sent c side) side)
 
 -- A side was waited for, whose process had given some bytes and has given others: what came, a byte at least, was heard,
--- all of it; or its stream ended or broke, with nothing more, and the side is lost.
-pub data IsHeard (c : Controller) (side : Colour) (held holds : Option (List ℕ)) : Controller → Type 0 where
+-- all of it; or the process was cut off, with nothing more, and the side is lost.
+pub data IsHeard (c : Controller) (side : Colour) (held holds : Option (List ℕ)) (CutOff : Type 0)
+    : Controller → Type 0 where
   heard : {new : Controller} (bytes : List ℕ) (fault : Option SideFault)
       → 0 < length bytes → Appends held holds bytes → HearsAllExactly side c bytes fault new
-      → IsHeard c side held holds new
-  ended : Keeps held holds → IsHeard c side held holds (lost c side)
+      → IsHeard c side held holds CutOff new
+  ended : CutOff → Keeps held holds → IsHeard c side held holds CutOff (lost c side)
 
 -- ---- turns
 
@@ -47,9 +49,9 @@ pub data Turn (c : Controller) : Action → Controller → Type 0 where
   starts : {side : Colour} → Turn c (Start side) (started c side)
   fails_to_start : {side : Colour} → Turn c (Start side) (lost (started c side) side)
   sends : {side : Colour} {held holds : Option (List ℕ)} {new : Controller}
-      → IsSent c side held holds new → Turn c (Send side) new
+      → IsSent c side held holds ⊤ new → Turn c (Send side) new
   hears : {side : Colour} {held holds : Option (List ℕ)} {new : Controller}
-      → IsHeard c side held holds new → Turn c (Wait side) new
+      → IsHeard c side held holds ⊤ new → Turn c (Wait side) new
   rests : {verdict : Verdict} → Turn c (Done verdict) c
 
 -- each turn did what the controller said

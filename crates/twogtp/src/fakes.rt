@@ -1,7 +1,7 @@
 //! Engines in memory, in place of processes, and writers that fail.
-ghost use Rattle.std.specs.Prelude.{None};
+ghost use Rattle.std.specs.Prelude.{⊤, None};
 
-use crate::starter::{Broken, Conversation, StartFault, Starter};
+use crate::starter::{Conversation, PipeFault, StartFault, Starter};
 use gtp_session::book::Book;
 use gtp_session::first::First;
 use gtp_session::policy::Policy;
@@ -62,14 +62,35 @@ enum Engine {
     Mute,
     /// Its pipes are broken.
     Broken,
+    /// Plays the first candidate; each call of its pipes is interrupted so often before it goes through, and a read or
+    /// a write takes one byte.
+    Interrupted(Session<First>, u32),
 }
 
-/// A conversation with an engine in memory: the engine, what it wrote, and how much of that was read.
+/// A conversation with an engine in memory: the engine, what it wrote, how much of that was read, and how often the call
+/// that is tried was interrupted.
 pub struct Talk {
     engine: Engine,
     written: Vec<u8>,
     read: usize,
+    interruptions: u32,
     log: Log,
+}
+
+impl Talk {
+    /// Interrupts a call, if it wasn't so often enough.
+    fn interrupt(&mut self) -> Result<(), PipeFault> {
+        let Engine::Interrupted(_, often) = &self.engine else {
+            return Ok(());
+        };
+        if self.interruptions < *often {
+            self.interruptions = self.interruptions.saturating_add(1);
+            add_one(&self.log.interrupted);
+            return Err(PipeFault::Interrupted);
+        }
+        self.interruptions = 0;
+        Ok(())
+    }
 }
 
 /// Feeds the text to a session, and collects its replies.
@@ -100,33 +121,51 @@ impl Conversation for Talk {
 
     ghost given = { λ _. None };
 
-    fn read(&mut self, buffer: &mut [u8]) -> Result<usize, Broken> {
+    ghost fails = { λ _ _ _. ⊤ };
+
+    fn read(&mut self, buffer: &mut [u8]) -> Result<usize, PipeFault> {
         if let Engine::Mute | Engine::Broken = &self.engine {
-            return Err(Broken);
+            return Err(PipeFault::Broken);
         }
+        self.interrupt()?;
         let Some(mut left) = self.written.get(self.read..) else {
-            return Err(Broken);
+            return Err(PipeFault::Broken);
         };
         match left.read(buffer) {
             Ok(count) => {
                 self.read = self.read.saturating_add(count);
                 Ok(count)
             }
-            Err(_) => Err(Broken),
+            Err(_) => Err(PipeFault::Broken),
         }
     }
 
-    fn write(&mut self, text: &[u8]) -> Result<(), Broken> {
+    fn write(&mut self, text: &[u8]) -> Result<usize, PipeFault> {
+        self.interrupt()?;
+        let text = match &self.engine {
+            Engine::Interrupted(..) => &text[..text.len().min(1)],
+            _ => text,
+        };
         if text == b"quit\n".as_slice() {
             add_one(&self.log.quits);
             self.log.ended_by_quit.set(self.log.ended.get());
         }
-        match &mut self.engine {
-            Engine::First(session) => answer(session, text, &mut self.written).map_err(|_| Broken),
-            Engine::Book(session) => answer(session, text, &mut self.written).map_err(|_| Broken),
+        let taken = match &mut self.engine {
+            Engine::First(session) | Engine::Interrupted(session, _) => {
+                answer(session, text, &mut self.written)
+            }
+            Engine::Book(session) => answer(session, text, &mut self.written),
             Engine::Says | Engine::Mute => Ok(()),
-            Engine::Broken => Err(Broken),
+            Engine::Broken => return Err(PipeFault::Broken),
+        };
+        match taken {
+            Ok(()) => Ok(text.len()),
+            Err(AllocError) => Err(PipeFault::Broken),
         }
+    }
+
+    fn flush(&mut self) -> Result<(), PipeFault> {
+        self.interrupt()
     }
 
     fn end(self) {
@@ -134,6 +173,7 @@ impl Conversation for Talk {
             engine,
             written,
             read: _,
+            interruptions: _,
             log,
         } = self;
         add_one(&log.ended);
@@ -154,6 +194,8 @@ pub struct Log {
     pub quits: Rc<Cell<u32>>,
     /// How many had been ended when the last `quit` was sent.
     pub ended_by_quit: Rc<Cell<u32>>,
+    /// How many calls of pipes were interrupted.
+    pub interrupted: Rc<Cell<u32>>,
 }
 
 impl Log {
@@ -164,6 +206,7 @@ impl Log {
             ended: Rc::new(alloc, Cell::new(0))?,
             quits: Rc::new(alloc, Cell::new(0))?,
             ended_by_quit: Rc::new(alloc, Cell::new(0))?,
+            interrupted: Rc::new(alloc, Cell::new(0))?,
         })
     }
 }
@@ -194,6 +237,8 @@ impl Starter for InMemory {
             ["says", ..] | ["refuses"] => Engine::Says,
             ["mute"] => Engine::Mute,
             ["broken"] => Engine::Broken,
+            ["interrupted", "once"] => Engine::Interrupted(Session::new(First), 1),
+            ["interrupted", "often"] => Engine::Interrupted(Session::new(First), 1000),
             _ => return Err(StartFault::NotStarted),
         };
         add_one(&self.log.started);
@@ -220,6 +265,7 @@ fn started_talk(alloc: Global, engine: Engine, text: &[u8], log: &Log) -> Result
         engine,
         written,
         read: 0,
+        interruptions: 0,
         log: log.clone()?,
     })
 }

@@ -7,22 +7,21 @@ ghost use Rattle.gtp_match.specs.declared.verdicts.Action.TheVariants.{Send, Wai
 ghost use Rattle.gtp_match.specs.Controller.{lost, sent};
 ghost use Rattle.gtp_match.specs.Next.{next};
 ghost use Rattle.gtp_match.specs.Sound.{IsSound};
+ghost use Rattle.twogtp.specs.Pipes.{IsCutOff};
 ghost use Rattle.twogtp.specs.Processes.{WithProcess};
 ghost use Rattle.twogtp.specs.Status.{own_fault, status_of};
 ghost use Rattle.twogtp.specs.Turns.{IsHeard, IsSent, Plays, Turn};
 
 use crate::fault::Fault;
+use crate::pipes::{CutOff, READ_ROOM, read_once, write_whole};
 use crate::sides::{Sides, end};
-use crate::starter::{Broken, Conversation, StartFault, Starter};
+use crate::starter::{Conversation, StartFault, Starter};
 use crate::task::Commands;
 use go_base::Side;
 use gtp_match::{Action, Match, Verdict};
 
 /// How many turns a game has at most. No match within the limits has as many.
 const MOST_TURNS: u64 = 1_000_000_000_000;
-
-/// How many bytes are read at once at most.
-const READ_ROOM: usize = 4096;
 
 /// Plays a match to its end, and answers how it ended. Each process that is started is ended, also after a fault.
 ///
@@ -54,7 +53,7 @@ pub fn play_game<S: Starter>(
 fn take_turns<S: Starter>(
     game: &mut Match,
     sides: &mut Sides<S::Process>,
-    buffer: &mut [u8],
+    buffer: &mut [u8; READ_ROOM],
     commands: &Commands<'_>,
     starter: &mut S,
 ) -> Result<Verdict, Fault>
@@ -82,7 +81,7 @@ fn take_turn<S: Starter>(
     game: &mut Match,
     action: Action,
     sides: &mut Sides<S::Process>,
-    buffer: &mut [u8],
+    buffer: &mut [u8; READ_ROOM],
     commands: &Commands<'_>,
     starter: &mut S,
 ) -> Result<(), Fault>
@@ -151,7 +150,8 @@ fn send<P: Conversation>(game: &mut Match, side: Side, process: &mut Option<P>)
     requires { next game.old ≡ action.Send side }
     ensures turn { Turn game.old (action.Send side) game.new }
     ensures spoken { WithProcess process.old process.new
-        (λ before after. IsSent game.old side (P.taken before) (P.taken after) game.new
+        (λ before after. IsSent game.old side (P.taken before) (P.taken after)
+        (IsCutOff P.fails after) game.new
         × Keeps (P.given before) (P.given after))
         (game.new ≡ lost (sent game.old side) side) }
 {
@@ -164,25 +164,32 @@ fn send<P: Conversation>(game: &mut Match, side: Side, process: &mut Option<P>)
     }
 }
 
-/// Writes a side's command to its process. A side that can't be written to is lost.
+/// Writes a side's command to its process. A side that is cut off is lost.
 fn send_to<P: Conversation>(game: &mut Match, side: Side, process: &mut P)
     requires { next game.old ≡ action.Send side }
-    ensures sent { IsSent game.old side (P.taken process.old) (P.taken process.new) game.new }
+    ensures sent { IsSent game.old side (P.taken process.old) (P.taken process.new)
+        (IsCutOff P.fails process.new) game.new }
     ensures given { Keeps (P.given process.old) (P.given process.new) }
 {
     let text = game.send(side);
-    match process.write(text.as_slice()) {
+    match write_whole(process, text.as_slice()) {
         Ok(()) => {}
-        Err(Broken) => game.lost(side),
+        Err(CutOff) => game.lost(side),
     }
 }
 
 /// Hears what a side writes. A side that has no process is lost.
-fn hear<P: Conversation>(game: &mut Match, side: Side, process: &mut Option<P>, buffer: &mut [u8])
+fn hear<P: Conversation>(
+    game: &mut Match,
+    side: Side,
+    process: &mut Option<P>,
+    buffer: &mut [u8; READ_ROOM],
+)
     requires { next game.old ≡ action.Wait side }
     ensures turn { Turn game.old (action.Wait side) game.new }
     ensures spoken { WithProcess process.old process.new
-        (λ before after. IsHeard game.old side (P.given before) (P.given after) game.new
+        (λ before after. IsHeard game.old side (P.given before) (P.given after)
+        (IsCutOff P.fails after) game.new
         × Keeps (P.taken before) (P.taken after))
         (game.new ≡ lost game.old side) }
 {
@@ -193,12 +200,18 @@ fn hear<P: Conversation>(game: &mut Match, side: Side, process: &mut Option<P>, 
 }
 
 /// Reads once, and hears all that the process wrote, before anything else is done. A side whose stream has ended or
-/// can't be read is lost.
-fn hear_from<P: Conversation>(game: &mut Match, side: Side, process: &mut P, buffer: &mut [u8])
-    ensures heard { IsHeard game.old side (P.given process.old) (P.given process.new) game.new }
+/// that is cut off is lost.
+fn hear_from<P: Conversation>(
+    game: &mut Match,
+    side: Side,
+    process: &mut P,
+    buffer: &mut [u8; READ_ROOM],
+)
+    ensures heard { IsHeard game.old side (P.given process.old) (P.given process.new)
+        (IsCutOff P.fails process.new) game.new }
     ensures taken { Keeps (P.taken process.old) (P.taken process.new) }
 {
-    match process.read(buffer) {
+    match read_once(process, buffer) {
         Ok(0) => game.lost(side),
         Ok(count) => {
             let _ = game.hear_all(side, &buffer[..count]);

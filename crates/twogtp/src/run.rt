@@ -122,6 +122,9 @@ fn answer_error<W: Write, E: Write>(error: &Error, output: &mut W, errors: &mut 
     // Only a request for help or for the version, of which there is none, is no fault.
     ensures shown { result ≡ done → IsRequest (kind_of error.now) }
     ensures memory { kind_of error.now ≡ ErrorKind.OutOfMemory → result ≡ own_fault }
+    // A mistake in the words is no fault of the program's own.
+    ensures own { result ≡ own_fault →
+        (kind_of error.now ≡ ErrorKind.OutOfMemory) ⊎ IsRequest (kind_of error.now) }
 {
     if error.kind() == ErrorKind::OutOfMemory {
         return tell(Fault::OutOfMemory, errors);

@@ -4,6 +4,7 @@ ghost use Rattle.go_base.specs.declared.colours.Colour.TheVariants.{Black, White
 ghost use Rattle.gtp_match.specs.Sides.{side_of, status_of};
 ghost use Rattle.twogtp.specs.Processes.{while_up};
 
+use crate::pipes::{READ_ROOM, read_once, write_whole};
 use crate::starter::Conversation;
 use go_base::Side;
 use gtp_match::{Match, Status};
@@ -51,7 +52,7 @@ impl<P: Conversation> Sides<P> {
 
     /// Ends all processes after a match that is over: at once those of the sides that are down or still owe an answer;
     /// then the others, each after it was told to `quit` and has answered.
-    pub fn close(self, game: &Match, buffer: &mut [u8]) {
+    pub fn close(self, game: &Match, buffer: &mut [u8; READ_ROOM]) {
         let Sides {
             mut black,
             mut white,
@@ -100,7 +101,7 @@ pub fn end<P: Conversation>(process: Option<P>) {
 }
 
 /// Tells a process to `quit`, waits for its answer, and ends it.
-fn quit_and_end<P: Conversation>(process: Option<P>, buffer: &mut [u8]) {
+fn quit_and_end<P: Conversation>(process: Option<P>, buffer: &mut [u8; READ_ROOM]) {
     if let Some(mut process) = process {
         quit(&mut process, buffer);
         process.end();
@@ -108,15 +109,15 @@ fn quit_and_end<P: Conversation>(process: Option<P>, buffer: &mut [u8]) {
 }
 
 /// Says `quit`, and waits for a reply, a fault of the reply, or the end of the stream.
-fn quit<P: Conversation>(process: &mut P, buffer: &mut [u8]) {
+fn quit<P: Conversation>(process: &mut P, buffer: &mut [u8; READ_ROOM]) {
     let text = write_command(None, &Command::Quit);
-    if process.write(text.as_slice()).is_err() {
+    if write_whole(process, text.as_slice()).is_err() {
         return;
     }
     let mut reader = ReplyReader::new();
     let mut reply = Reply::new();
     for _read in 0..QUIT_READS {
-        match process.read(buffer) {
+        match read_once(process, buffer) {
             Ok(count) if count > 0 => {
                 if reader.feed_into(&buffer[..count], &mut reply).got.is_some() {
                     return;

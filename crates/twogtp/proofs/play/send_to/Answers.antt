@@ -7,8 +7,8 @@ use Rattle.twogtp.proofs.play.send_to.Goals as goal
 pub returns-in-Ok-clause-sent : goal.returns-in-Ok-clause-sent
 returns-in-Ok-clause-sent g c =
     rw c.send-text.ensures.sent (taken
-    (subst (λ (t : List ℕ). Appends (g.P.Conversation.taken c.args.process.now) (g.P.Conversation.taken c.write.new.self) t)
+    (subst (λ (t : List ℕ). Appends (g.P.Conversation.taken c.args.process.now) (g.P.Conversation.taken c.write_whole.new.process) t)
     (c.as_slice.ensures.value ∙ command_is c.args.game.now c.args.side _ _ c.send-text.ensures.text) c.in-Ok.ensures.takes))
 
 pub returns-in-Err-clause-sent : goal.returns-in-Err-clause-sent
-returns-in-Err-clause-sent g c = rw c.lost.ensures (rw c.send-text.ensures.sent failed)
+returns-in-Err-clause-sent g c = rw c.lost.ensures (rw c.send-text.ensures.sent (failed c.in-Err.ensures.failed))

@@ -1,0 +1,175 @@
+//! Commands that are sent before earlier ones are answered.
+use crate::test_steps::{
+    answer, both_in_step, both_started, first_sent, hear, send, send_and_wait, setup_with, up,
+};
+use crate::{Action, Match, SideFault, Status};
+use go_base::{Point, Side, Vertex};
+use gtp_wire::{ReplyText, write_reply_into};
+use std::process::Abort;
+
+#[test]
+fn a_script_is_sent_before_its_first_answer(rt: HostRuntime) {
+    let mut played = both_started(&rt, setup_with(&rt, 2, 0, 0, 10, 1));
+    send(&rt, &mut played, Side::Black, b"1 boardsize 2\n");
+    send(&rt, &mut played, Side::Black, b"2 komi 0\n");
+    send_and_wait(&rt, &mut played, Side::Black, b"3 clear_board\n");
+    assert_eq!(rt; played.status(Side::Black), up(0, 3));
+    hear(&rt, &mut played, Side::Black, b"=1\n\n=2", 4, None);
+    assert_eq!(rt; played.status(Side::Black), up(1, 2));
+    assert_eq!(rt; played.next(), Action::Wait(Side::Black));
+    assert_eq!(rt; played.hear_all(Side::Black, b"=2\n\n=3\n\n"), None);
+    assert!(rt; played.in_step(Side::Black));
+    assert_eq!(rt; played.next(), Action::Send(Side::White));
+}
+
+#[test]
+fn a_side_that_goes_on_is_sent_more_before_the_other_starts_again(rt: HostRuntime) {
+    let mut played = first_sent(&rt, 1);
+    played.lost(Side::White);
+    send(&rt, &mut played, Side::Black, b"2 komi 0\n");
+    send_and_wait(&rt, &mut played, Side::Black, b"3 clear_board\n");
+    assert_eq!(rt; played.hear_all(Side::Black, b"=1\n\n=2\n\n=3\n\n"), None);
+    assert_eq!(rt; played.next(), Action::Start(Side::White));
+}
+
+#[test]
+fn the_oldest_command_is_answered_first(rt: HostRuntime) {
+    let mut played = first_sent(&rt, 1);
+    send(&rt, &mut played, Side::Black, b"2 komi 0\n");
+    hear(
+        &rt,
+        &mut played,
+        Side::Black,
+        b"=2\n\n",
+        4,
+        Some(SideFault::WrongId),
+    );
+    assert_eq!(rt; played.status(Side::Black), Status::Down);
+    let mut played = first_sent(&rt, 1);
+    send(&rt, &mut played, Side::Black, b"2 komi 0\n");
+    assert_eq!(rt;
+        played.hear_all(Side::Black, b"=1\n\n=1\n\n"),
+        Some(SideFault::WrongId)
+    );
+}
+
+/// A success of this id and text.
+fn success(id: u32, text: &[u8]) -> ReplyText {
+    let mut reply = ReplyText::new();
+    write_reply_into(&mut reply, true, Some(id), text);
+    reply
+}
+
+/// A side is sent a command, which it has to answer, and answers it by this id and text.
+fn send_and_answer(rt: &impl Abort, played: &mut Match, side: Side, id: u32, text: &[u8]) {
+    assert_eq!(rt; played.next(), Action::Send(side));
+    played.send(side);
+    assert_eq!(rt; played.next(), Action::Wait(side));
+    answer(rt, played, side, success(id, text).as_slice());
+}
+
+/// A side makes this move by its command of this id, and the other side is told of it.
+fn make_move(rt: &impl Abort, played: &mut Match, side: Side, id: u32, vertex: Vertex) {
+    send_and_answer(rt, played, side, id, vertex.write().as_slice());
+    send_and_answer(rt, played, side.other(), id, b"");
+}
+
+/// Black and White make so many moves each: Black fills the lines from the first on, and White passes.
+fn fill(rt: &impl Abort, played: &mut Match, moves: u32) {
+    let lines = played.setup().size().get();
+    for number in 0..moves {
+        let column = number.checked_rem(lines).expect(rt, "a column");
+        let row = number.checked_div(lines).expect(rt, "a row");
+        let point = Point::new(column.saturating_add(1), row.saturating_add(1)).expect(
+            rt, "a point",
+        );
+        let id = number.saturating_mul(2).saturating_add(4);
+        make_move(rt, played, Side::Black, id, Vertex::At(point));
+        make_move(rt, played, Side::White, id.saturating_add(1), Vertex::Pass);
+    }
+}
+
+/// A side goes down, and is started again.
+fn start_again(rt: &impl Abort, played: &mut Match, side: Side) {
+    played.lost(side);
+    assert_eq!(rt; played.next(), Action::Start(side));
+    played.started(side);
+    assert_eq!(rt; played.status(side), up(0, 0));
+}
+
+#[test]
+fn a_side_started_again_is_sent_eight_commands_before_it_has_to_answer(rt: HostRuntime) {
+    let mut played = both_in_step(&rt, 1);
+    fill(&rt, &mut played, 3);
+    assert_eq!(rt; played.game().moves().len(), 6);
+    start_again(&rt, &mut played, Side::Black);
+    send(&rt, &mut played, Side::Black, b"1 boardsize 2\n");
+    send(&rt, &mut played, Side::Black, b"2 komi 0\n");
+    send(&rt, &mut played, Side::Black, b"3 clear_board\n");
+    send(&rt, &mut played, Side::Black, b"4 play b A1\n");
+    send(&rt, &mut played, Side::Black, b"5 play w pass\n");
+    send(&rt, &mut played, Side::Black, b"6 play b B1\n");
+    send(&rt, &mut played, Side::Black, b"7 play w pass\n");
+    send_and_wait(&rt, &mut played, Side::Black, b"8 play b A2\n");
+    assert_eq!(rt; played.status(Side::Black), up(0, 8));
+    answer(&rt, &mut played, Side::Black, b"=1\n\n");
+    send_and_wait(&rt, &mut played, Side::Black, b"9 play w pass\n");
+    assert_eq!(rt; played.status(Side::Black), up(1, 8));
+    let rest = b"=2\n\n=3\n\n=4\n\n=5\n\n=6\n\n=7\n\n=8\n\n=9\n\n";
+    assert_eq!(rt; played.hear_all(Side::Black, rest.as_slice()), None);
+    assert!(rt; played.in_step(Side::Black));
+    send_and_wait(&rt, &mut played, Side::Black, b"10 genmove b\n");
+}
+
+/// Sends a side commands while `next` says so, at most so many, and hears the answer to each. Of a side that has
+/// answered so many before, it tells how many those are then.
+fn round_trip(rt: &impl Abort, played: &mut Match, side: Side, most: u32, answered: u32) -> u32 {
+    let mut sent = answered;
+    for _ in 0..most {
+        if played.next() != Action::Send(side) {
+            break;
+        }
+        played.send(side);
+        sent = sent.saturating_add(1);
+    }
+    for number in answered..sent {
+        let id = number.saturating_add(1);
+        answer(rt, played, side, success(id, b"").as_slice());
+    }
+    sent
+}
+
+/// By how many round trips Black catches up that is started again in a game of 200 moves, where at most so many
+/// commands are sent before their answers are heard.
+fn trips_after_200_moves(rt: &impl Abort, most: u32) -> u32 {
+    let mut played = both_started(rt, setup_with(rt, 19, 0, 0, 300, 1));
+    for side in [Side::Black, Side::White] {
+        assert_eq!(rt; round_trip(rt, &mut played, side, 8, 0), 3);
+    }
+    fill(rt, &mut played, 100);
+    assert_eq!(rt; played.game().moves().len(), 200);
+    start_again(rt, &mut played, Side::Black);
+    let (mut trips, mut answered): (u32, u32) = (0, 0);
+    for _ in 0..300 {
+        if played.in_step(Side::Black) {
+            break;
+        }
+        answered = round_trip(rt, &mut played, Side::Black, most, answered);
+        trips = trips.saturating_add(1);
+    }
+    assert_eq!(rt; answered, 203);
+    assert_eq!(rt; played.restarts(Side::Black), 1);
+    trips
+}
+
+#[test]
+fn a_game_of_200_moves_is_replayed_in_26_round_trips(rt: HostRuntime) {
+    // The script has size, komi, the empty board and the moves: 203 commands. They are sent eight at a time, 25 times,
+    // and then the last three.
+    assert_eq!(rt; trips_after_200_moves(&rt, 300), 26);
+}
+
+#[test]
+fn one_answer_at_a_time_makes_a_round_trip_of_each_command(rt: HostRuntime) {
+    assert_eq!(rt; trips_after_200_moves(&rt, 1), 203);
+}

@@ -1,0 +1,97 @@
+//! Calls of a process's pipes, which are tried again where they are interrupted.
+ghost use Rattle.std.specs.Prelude.{◌≡◌, ◌≤◌, ◌<◌, length, IfOk, OnOk, OnErr};
+ghost use Rattle.std.specs.Io.KnownBytes.{Appends, WriteAppends, Keeps};
+ghost use Rattle.twogtp.specs.Pipes.{IsCutOff};
+
+use crate::starter::{Conversation, PipeFault};
+
+/// How many bytes are read at once at most.
+pub const READ_ROOM: usize = 4096;
+
+/// How often one call is made at most, where each is interrupted.
+const MOST_TRIES: u32 = 1_000_000_000;
+
+/// A process is cut off: its stream has ended, a pipe is broken, or a call was interrupted too often.
+#[derive(Clone, Copy, Debug, PartialEq, Eq, Drop)]
+pub struct CutOff;
+
+/// Waits for bytes, and puts them into the front of the buffer. `Ok(0)` is the end of the stream, where the buffer has
+/// room.
+///
+/// # Errors
+///
+/// Where the read fails otherwise than by an interruption, or is interrupted 1,000,000,000 times in a row.
+pub fn read_once<P: Conversation>(process: &mut P, buffer: &mut [u8]) -> Result<usize, CutOff>
+    ensures bound { IfOk result (λ n. n ≤ length buffer.new) }
+    ensures len { length buffer.new ≡ length buffer.old }
+    ensures gives { WriteAppends (P.given process.old) (P.given process.new) result buffer.new }
+    ensures taken { Keeps (P.taken process.old) (P.taken process.new) }
+    ensures ended { IfOk result (λ n. n ≡ 0 → 0 < length buffer.new →
+        IsCutOff P.fails process.new) }
+    ensures failed { OnErr result (IsCutOff P.fails process.new) }
+{
+    for _try in 0..MOST_TRIES {
+        match process.read(buffer) {
+            Ok(count) => return Ok(count),
+            Err(PipeFault::Interrupted) => {}
+            Err(PipeFault::Broken) => return Err(CutOff),
+        }
+    }
+    Err(CutOff)
+}
+
+/// Sends the whole text, and lets it go out.
+///
+/// # Errors
+///
+/// Where a write takes nothing, or a write or the flush fails otherwise than by an interruption, or is interrupted
+/// 1,000,000,000 times in a row.
+pub fn write_whole<P: Conversation>(process: &mut P, text: &[u8]) -> Result<(), CutOff>
+    ensures takes { OnOk result (Appends (P.taken process.old) (P.taken process.new) text.now) }
+    ensures given { Keeps (P.given process.old) (P.given process.new) }
+    ensures failed { OnErr result (IsCutOff P.fails process.new) }
+{
+    let mut done = 0;
+    while done < text.len() {
+        match write_once(process, &text[done..]) {
+            Ok(0) => return Err(CutOff),
+            Ok(count) => done += count,
+            Err(CutOff) => return Err(CutOff),
+        }
+    }
+    flush(process)
+}
+
+/// Sends bytes from the front of the text, and answers how many.
+fn write_once<P: Conversation>(process: &mut P, text: &[u8]) -> Result<usize, CutOff>
+    ensures bound { IfOk result (λ n. n ≤ length text.now) }
+    ensures takes { WriteAppends (P.taken process.old) (P.taken process.new) result text.now }
+    ensures given { Keeps (P.given process.old) (P.given process.new) }
+    ensures none { IfOk result (λ n. n ≡ 0 → 0 < length text.now → IsCutOff P.fails process.new) }
+    ensures failed { OnErr result (IsCutOff P.fails process.new) }
+{
+    for _try in 0..MOST_TRIES {
+        match process.write(text) {
+            Ok(count) => return Ok(count),
+            Err(PipeFault::Interrupted) => {}
+            Err(PipeFault::Broken) => return Err(CutOff),
+        }
+    }
+    Err(CutOff)
+}
+
+/// Lets go out what was sent.
+fn flush<P: Conversation>(process: &mut P) -> Result<(), CutOff>
+    ensures taken { Keeps (P.taken process.old) (P.taken process.new) }
+    ensures given { Keeps (P.given process.old) (P.given process.new) }
+    ensures failed { OnErr result (IsCutOff P.fails process.new) }
+{
+    for _try in 0..MOST_TRIES {
+        match process.flush() {
+            Ok(()) => return Ok(()),
+            Err(PipeFault::Interrupted) => {}
+            Err(PipeFault::Broken) => return Err(CutOff),
+        }
+    }
+    Err(CutOff)
+}
