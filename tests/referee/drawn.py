@@ -24,7 +24,7 @@ MOST_MOVES = [1, 2, 3, 5, 8, 12, 12, 16, 20, 25, 30, 40]
 RESTARTS = [0, 1, 1, 2, 2, 3, 3]
 # How late in the life of an engine something happens: at the how manieth genmove or play, and at the how manieth command.
 LATE = [1, 1, 1, 2, 2, 2, 3, 3, 4, 6]
-LATER = [1, 2, 3, 3, 4, 4, 5, 5, 6, 7, 9, 12]
+LATER = [1, 2, 3, 3, 4, 4, 5, 6, 7, 8, 9, 10, 13, 18]
 
 # All that engines do, each with the places at which nearly every match comes by.
 EARLY = [

@@ -88,6 +88,7 @@ def going_down():
     yield one("abandoned white moves 4 restarts 0 1", FIRST, passing("*/g1/<reply><reply>/on"), 1)
     # The write of White's move fails. Where White passes too, the game is over before.
     yield one("abandoned black moves 4 restarts 1 0", passing("*/g1/<reply>/shuts"), FIRST, 1)
+    yield one("abandoned white moves 5 restarts 0 1", FIRST, passing("*/g1/<reply>/shuts"), 1)
     yield one("W+6.5 moves 2 restarts 0 0", passing("*/g1/<reply>/shuts"), passing())
     yield one("W+6.5 moves 2 restarts 1 0", passing("*/g1/<reply><reply>/on"), passing())
     yield one("W+6.5 moves 2 restarts 0 0", passing(), passing("*/g1/<reply><reply>/on"))
