@@ -1,7 +1,7 @@
-/* Round trips: starts an engine so many times, sends it the 203 commands that bring it to a record of 200 moves on 19x19, each
- * when the reply to the one before has come, and ends it.
+/* Round trips: starts an engine so many times, sends it `boardsize`, `komi`, `clear_board` and so many plays on 19x19, each when
+ * the reply to the one before has come, and ends it. With -3 plays it sends nothing.
  *
- * usage: trips COUNT ENGINE [ARGUMENT ..] */
+ * usage: trips COUNT PLAYS ENGINE [ARGUMENT ..] */
 #include <signal.h>
 #include <stdio.h>
 #include <stdlib.h>
@@ -35,7 +35,7 @@ static void play(int to, int from, int number) {
     say(to, from, text);
 }
 
-static void replay(char **engine) {
+static void replay(int plays, char **engine) {
     int in[2], out[2];
     if (pipe(in) || pipe(out)) exit(3);
     pid_t process = fork();
@@ -49,10 +49,12 @@ static void replay(char **engine) {
     }
     close(in[0]);
     close(out[1]);
-    say(in[1], out[0], "1 boardsize 19\n");
-    say(in[1], out[0], "2 komi 6.5\n");
-    say(in[1], out[0], "3 clear_board\n");
-    for (int number = 0; number < 200; number++) play(in[1], out[0], number);
+    if (plays >= 0) {
+        say(in[1], out[0], "1 boardsize 19\n");
+        say(in[1], out[0], "2 komi 6.5\n");
+        say(in[1], out[0], "3 clear_board\n");
+    }
+    for (int number = 0; number < plays; number++) play(in[1], out[0], number);
     close(in[1]);
     close(out[0]);
     kill(process, SIGKILL);
@@ -60,7 +62,7 @@ static void replay(char **engine) {
 }
 
 int main(int count, char **words) {
-    if (count < 3) return 2;
-    for (int time = atoi(words[1]); time > 0; time--) replay(words + 2);
+    if (count < 4) return 2;
+    for (int time = atoi(words[1]); time > 0; time--) replay(atoi(words[2]), words + 3);
     return 0;
 }
