@@ -1,5 +1,5 @@
 -- What a side is sent next may be sent behind the commands that it hasn't answered.
-use Rattle.std.proofs.Common.{◌≡◌, ℕ, suc, ◌+◌, ◌≤◌, false, List, [], ◌∷◌, ◌++◌, length, Option, Some, None, refl, ap, sym, ◌∙◌, subst, arith, inl, inr}
+use Rattle.std.proofs.Common.{◌≡◌, ℕ, suc, ◌+◌, ◌≤◌, List, [], ◌∷◌, ◌++◌, length, Option, Some, None, refl, ap, sym, ◌∙◌, subst, arith, inl, inr}
 use Rattle.std.specs.Prelude.{slice_get, ◌⊎◌}
 use Rattle.go_base.specs.declared.colours.Colour.{Colour}
 use Rattle.go_board.specs.Game.{GameRecord, IsGame, HasRoom}
@@ -14,7 +14,6 @@ use Rattle.gtp_match.specs.declared.sides.Incarnation.{Incarnation}
 use Rattle.gtp_match.specs.declared.controller.Controller.{Controller}
 use Rattle.gtp_match.specs.Controller.{next_command, script_or_genmove}
 use Rattle.gtp_match.specs.Script.{script}
-use Rattle.gtp_match.specs.Sides.{side_of}
 use Rattle.gtp_match.specs.Sound.{VerdictFits, InScript, IsSound}
 use Rattle.gtp_match.proofs.ScriptLemmas.{past_length}
 use Rattle.gtp_match.proofs.SaysLemmas.{BothIdle, GoesOn, SaysSend}
@@ -97,7 +96,8 @@ script_follows : (game : GameRecord) (u : Incarnation) (o : SentCommand) → IsG
 script_follows game u o is plan e = record {
   there = replayed game (u.confirmed + length u.unanswered);
   may = well_may_be_sent (replayed game (u.confirmed + length u.unanswered)) o.command
-      (well_at game.size fresh_game (script game) (u.confirmed + length u.unanswered) o.command (script_well game is) e).well;
+      (well_at game.size fresh_game (script game) (u.confirmed + length u.unanswered) o.command (script_well game is)
+      e).well;
   behind = λ rs waiting ahead owes.
       let w = waits_from game is u.confirmed u.unanswered rs waiting ahead plan owes in
       let longer = script_grows (script game) w.m waiting o w.plan (ap (slice_get (script game)) w.number ∙ e) in

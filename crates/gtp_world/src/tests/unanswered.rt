@@ -1,0 +1,128 @@
+//! Commands that are on their way before earlier ones are answered.
+use super::{SIDES, Told, assert_same_world};
+use crate::Event;
+use go_base::Side;
+use gtp_match::{Action, Status};
+use std::process::Abort;
+
+/// A side that is up, and was not asked for a move.
+fn up(confirmed: u32, unanswered: u32) -> Status {
+    Status::Up {
+        confirmed,
+        unanswered,
+        asked: false,
+    }
+}
+
+/// Both sides started, and so many commands sent to Black.
+fn black_sent(rt: &impl Abort, count: u32) -> Told {
+    let mut told = Told::new(rt);
+    told.step(rt, Event::Act);
+    told.step(rt, Event::Act);
+    for _ in 0..count {
+        assert_eq!(rt; told.world.controller().next(), Action::Send(Side::Black));
+        told.step(rt, Event::Act);
+    }
+    told
+}
+
+#[test]
+fn a_whole_script_is_on_its_way_before_its_first_answer(rt: HostRuntime) {
+    let mut told = black_sent(&rt, 3);
+    assert_eq!(rt;
+        told.world.to_engine(Side::Black),
+        b"1 boardsize 2\n2 komi 0\n3 clear_board\n".as_slice()
+    );
+    assert_eq!(rt; told.world.to_engine(Side::Black).len(), 37);
+    assert_eq!(rt; told.world.controller().next(), Action::Wait(Side::Black));
+    told.step(&rt, Event::ToEngine(Side::Black, 100));
+    assert_eq!(rt; told.world.to_engine(Side::Black), b"".as_slice());
+    assert_eq!(rt;
+        told.world.to_controller(Side::Black),
+        b"=1\n\n=2\n\n=3\n\n".as_slice()
+    );
+    assert_eq!(rt; told.world.to_controller(Side::Black).len(), 12);
+    told.step(&rt, Event::ToController(Side::Black, 6));
+    assert_eq!(rt; told.status(Side::Black), up(1, 2));
+    assert!(rt; !told.in_step(Side::Black));
+    told.step(&rt, Event::ToController(Side::Black, 100));
+    assert!(rt; told.in_step(Side::Black));
+    told.assert_one_run(&rt);
+}
+
+#[test]
+fn an_act_changes_nothing_while_answers_are_due(rt: HostRuntime) {
+    let mut told = black_sent(&rt, 3);
+    told.step(&rt, Event::Act);
+    assert_same_world(&rt, &told.world, &black_sent(&rt, 3).world);
+}
+
+/// The side to move makes a move, and the other side is told of it.
+fn one_move(rt: &impl Abort, told: &mut Told, side: Side) {
+    told.rounds(rt, side, 1);
+    told.rounds(rt, side.other(), 1);
+}
+
+/// A record of six moves, with Black's engine lost and started again.
+fn started_after_six_moves(rt: &impl Abort) -> Told {
+    let mut told = Told::new(rt);
+    told.step(rt, Event::Act);
+    told.step(rt, Event::Act);
+    for side in SIDES {
+        told.rounds(rt, side, 3);
+    }
+    for _ in 0..3 {
+        one_move(rt, &mut told, Side::Black);
+        one_move(rt, &mut told, Side::White);
+    }
+    assert_eq!(rt; told.record_len(), 6);
+    told.step(rt, Event::End(Side::Black));
+    told.step(rt, Event::Act);
+    assert_eq!(rt; told.status(Side::Black), up(0, 0));
+    told
+}
+
+#[test]
+fn a_side_started_again_has_eight_commands_on_their_way(rt: HostRuntime) {
+    let mut told = started_after_six_moves(&rt);
+    for count in 0..8 {
+        assert_eq!(rt; told.status(Side::Black), up(0, count));
+        assert_eq!(rt; told.world.controller().next(), Action::Send(Side::Black));
+        told.step(&rt, Event::Act);
+    }
+    assert_eq!(rt; told.status(Side::Black), up(0, 8));
+    assert_eq!(rt; told.world.controller().next(), Action::Wait(Side::Black));
+    told.step(&rt, Event::ToEngine(Side::Black, 512));
+    assert_eq!(rt; told.world.to_controller(Side::Black).len(), 8 * 4);
+    told.step(&rt, Event::ToController(Side::Black, 4));
+    assert_eq!(rt; told.status(Side::Black), up(1, 7));
+    assert_eq!(rt; told.world.controller().next(), Action::Send(Side::Black));
+    told.step(&rt, Event::Act);
+    assert_eq!(rt; told.status(Side::Black), up(1, 8));
+    assert_eq!(rt; told.world.controller().next(), Action::Wait(Side::Black));
+    told.step(&rt, Event::ToEngine(Side::Black, 512));
+    told.step(&rt, Event::ToController(Side::Black, 512));
+    assert!(rt; told.in_step(Side::Black));
+    told.assert_one_run(&rt);
+}
+
+/// The world in which two commands are on their way to Black, and the write of the third broke after so many bytes.
+fn third_broken_after(rt: &impl Abort, sent: usize) -> Told {
+    let mut told = black_sent(rt, 2);
+    told.step(rt, Event::BrokenWrite(sent));
+    told
+}
+
+#[test]
+fn a_write_that_broke_behind_others_takes_them_along(rt: HostRuntime) {
+    let none_sent = third_broken_after(&rt, 0);
+    assert_eq!(rt; none_sent.status(Side::Black), Status::Down);
+    assert_eq!(rt; none_sent.world.to_engine(Side::Black), b"".as_slice());
+    assert_eq!(rt;
+        none_sent.world.controller().next(),
+        Action::Start(Side::Black)
+    );
+    for sent in 1..=64 {
+        assert_same_world(&rt, &none_sent.world, &third_broken_after(&rt, sent).world);
+    }
+}
