@@ -1,5 +1,5 @@
 -- Laws of lines and their answers: what holds of the definitions alone.
-use Rattle.std.specs.Prelude.{◌≡◌, ◌⊎◌, ℕ, true, [], Some, None, codes}
+use Rattle.std.specs.Prelude.{◌≡◌, ◌⊎◌, ℕ, true, false, [], Some, None, codes}
 use Rattle.go_base.specs.Handicap.{AllowsHandicap, handicap_points}
 use Rattle.go_base.specs.Vertex.{written_vertex}
 use Rattle.go_base.specs.declared.colours.Colour.{Colour}
@@ -23,6 +23,11 @@ AllowsLawful {P} may =
 abbrev pub ChoicesDoNotCount : Type 0
 ChoicesDoNotCount = (game : GameRecord) (line : Line) (a b : Choice)
     → asked game line ≡ None → answer game line a ≡ answer game line b
+
+-- whatever the line, an answer that is a failure leaves the game as it was
+abbrev pub FailuresKeepTheGame : Type 0
+FailuresKeepTheGame = (game : GameRecord) (line : Line) (choice : Choice)
+    → (answer game line choice).ok ≡ false → (answer game line choice).game ≡ game
 
 -- a legal move is made where the record has room
 abbrev pub LegalMovesAreMade : Type 0

@@ -141,3 +141,39 @@ impl Write for Strict {
         Ok(())
     }
 }
+
+/// Takes no byte of any text, and doesn't fail.
+#[derive(Clone, Copy, Drop)]
+pub struct Stuck;
+
+impl Write for Stuck {
+    fn write(&mut self, _buf: &[u8]) -> io::Result<usize> {
+        Ok(0)
+    }
+
+    fn flush(&mut self) -> io::Result<()> {
+        Ok(())
+    }
+}
+
+/// Takes all, and fails each flush after so many.
+#[derive(Drop)]
+pub struct Unflushed<'a> {
+    pub taken: &'a mut Vec<u8>,
+    pub flushes: usize,
+}
+
+impl Write for Unflushed<'_> {
+    fn write(&mut self, buf: &[u8]) -> io::Result<usize> {
+        self.taken.extend_from_slice(buf)?;
+        Ok(buf.len())
+    }
+
+    fn flush(&mut self) -> io::Result<()> {
+        if self.flushes == 0 {
+            return Err(io::Error::from(ErrorKind::BrokenPipe));
+        }
+        self.flushes -= 1;
+        Ok(())
+    }
+}
