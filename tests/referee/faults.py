@@ -12,7 +12,7 @@ JUNK = [
     r"\xff<reply>",
     r"\xef\xbb\xbf<reply>",
     r"A1\n\n",
-    r"<id>\n\n",
+    r"<id>_ok\n\n",
     r"<id>_=\n\n",
     r"\x1b[1m<reply>",
     r"-<reply>",

@@ -4,6 +4,7 @@ from collections import namedtuple
 from reference import values
 from reference.values import BLACK, WHITE
 
+from . import replies
 from .controller import DONE, MOST_UNANSWERED, SEND, SIDES, START, Controller, Setup
 from .faulty import CLOSES, ENDS, SHUTS
 
@@ -69,6 +70,10 @@ class Process:
         if self.engine.notes:
             self.notes.append(line)
         self.does(*self.engine.answers(line))
+
+    def is_silent(self):
+        """Does it go on, and has it written nothing that a controller would take for a reply, or for none?"""
+        return not self.has_closed and not self.has_shut and replies.first(self.output)[0] is None
 
     def read(self):
         """What it wrote; nothing at the end of its output."""
@@ -162,6 +167,8 @@ def say_quit(referee, processes):
         if not referee.is_down(side) and not referee.has_unanswered(side):
             processes[side].write(b"quit\n")
             processes[side].reads_all()
+            if processes[side].is_silent():
+                raise Undetermined("the engine is silent when it is told to quit")
 
 
 def told(match, number, played):
