@@ -1,20 +1,20 @@
 -- Labels when a stone is taken off its place: its chain may fall apart.
-use Rattle.std.proofs.Common.{◌≡◌, ℕ, ◌+◌, ◌-◌, ◌<◌, ◌≤◌, List, length, refl, sym, ◌∙◌, ap, subst, arith, inl, inr, Bool, true, false, cond, get_or-set_other, get_or-set_same}
+use Rattle.std.proofs.Common.{◌≡◌, ℕ, ◌+◌, ◌-◌, ◌<◌, ◌≤◌, List, length, refl, sym, ◌∙◌, ap, subst, arith, inl, inr, Bool, true, cond, get_or-set_other, get_or-set_same}
 use Rattle.std.specs.Prelude.{◌⊎◌, ◌≢◌, ◌==◌, ◌&&◌, map}
 use Rattle.std.proofs.lemmas.Bool.Decides.{nat_tests}
-use Rattle.std.proofs.lemmas.List.{get_or-map, length-map}
+use Rattle.std.proofs.lemmas.List.{get_or-map}
 use Rattle.std.proofs.Math.ListN.{set}
 use Rattle.go_base.specs.Point.{Neighbours}
 use Rattle.go_board.specs.Board.{at, IsStone}
 use Rattle.go_board.specs.Frame.{IsFramed}
 use Rattle.go_board.specs.Chain.{Joined, itself, by_way_of}
-use Rattle.go_board.specs.Label.{label_of, label_at, label_beside, is_stone, renamed, joined, AreLabels, IsChainNamed, IsNamed, IsCut}
+use Rattle.go_board.specs.Label.{label_of, label_at, label_beside, renamed, joined, AreLabels, IsNamed, IsCut}
 use Rattle.go_board.specs.declared.board.Cell.{Cell}
 use Rattle.go_board.specs.declared.board.Cell.TheVariants.{Edge, Empty}
 use Rattle.go_board.proofs.BoardLemmas.{same_or_other}
 use Rattle.go_board.proofs.CaptureLemmas.{in_list}
-use Rattle.go_board.proofs.FloodLemmas.{IsOn-inside, Neighbours-sym}
-use Rattle.go_board.proofs.ChainLemmas.{Joined-then, Joined-same, Joined-point, Joined-back, Joined-kept, IsStone-point, IsStone-filled, IsStone-joined, AreLabels-steps, along-path}
+use Rattle.go_board.proofs.FloodLemmas.{IsOn-inside}
+use Rattle.go_board.proofs.ChainLemmas.{Joined-then, Joined-same, Joined-back, Joined-kept, IsStone-point, IsStone-filled, IsStone-joined, AreLabels-steps, along-path}
 use Rattle.go_board.proofs.AnewLemmas.{IsPart, IsPart-named, named-has, AreLabels-part}
 use Rattle.go_board.proofs.JoinLemmas.{joined-a}
 use Rattle.go_board.proofs.LibertyLemmas.{stone-test}

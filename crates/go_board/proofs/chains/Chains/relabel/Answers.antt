@@ -1,4 +1,4 @@
-use Rattle.std.proofs.Common.{◌∙◌, ap, subst, sym, arith, List, ℕ, length}
+use Rattle.std.proofs.Common.{subst, sym, arith, List, ℕ}
 use Rattle.go_board.specs.Label.{AreCounts}
 use Rattle.go_board.proofs.FloodLemmas.{IsOn-inside}
 use Rattle.go_board.proofs.LiftLemmas.{IsBelow-taken}

@@ -1,5 +1,5 @@
-use Rattle.std.proofs.Common.{◌≡◌, ◌<◌, ◌∙◌, List, ℕ, length, refl, subst, sym, arith}
-use Rattle.std.specs.Prelude.{Contains, slice_index}
+use Rattle.std.proofs.Common.{◌<◌, ◌∙◌, List, ℕ, length, refl, subst, sym, arith}
+use Rattle.std.specs.Prelude.{Contains}
 use Rattle.std.proofs.lemmas.List.Elements.{Contains-get_or}
 use Rattle.go_board.specs.Board.{at, IsStone}
 use Rattle.go_board.specs.declared.board.Cell.{Cell}
