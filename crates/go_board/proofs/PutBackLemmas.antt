@@ -1,16 +1,15 @@
 -- Putting back the stones that a play took.
-use Rattle.std.proofs.Common.{◌≡◌, ℕ, zero, suc, ◌+◌, ◌<◌, ◌≤◌, List, [], ◌∷◌, ◌++◌, length, refl, sym, ◌∙◌, ap, subst, arith, inl, inr, Bool, true, false, cond, get_or-set_same, get_or-set_other, append_assoc}
+use Rattle.std.proofs.Common.{◌≡◌, ℕ, zero, suc, ◌+◌, ◌<◌, ◌≤◌, List, [], ◌∷◌, ◌++◌, length, refl, sym, ◌∙◌, ap, arith, inl, inr, Bool, true, false, cond, get_or-set_same, get_or-set_other, append_assoc}
 use Rattle.std.specs.Prelude.{◌⊎◌, ◌≢◌}
-use Rattle.std.specs.List.{range_with_len, filter}
+use Rattle.std.specs.List.{range_with_len, filter, AllByRecursion}
 use Rattle.std.proofs.lemmas.List.{length_push}
 use Rattle.std.proofs.Math.ListN.{set, length-set}
 use Rattle.go_board.specs.Board.{at}
 use Rattle.go_board.specs.Removed.{taken_at, with_stones, IsNotLast, AreLastPoints, IsPutBack}
 use Rattle.go_board.specs.declared.board.Cell.{Cell}
-use Rattle.go_board.specs.declared.board.Cell.TheVariants.{Edge}
+use Rattle.go_board.specs.declared.board.Cell.TheVariants.{Edge, Empty}
 use Rattle.go_board.specs.declared.removed.Taken.{Taken}
 use Rattle.go_board.proofs.BoardLemmas.{same_or_other}
-use Rattle.go_board.proofs.CaptureLemmas.{in_list}
 
 -- ---- the loop
 
@@ -32,27 +31,25 @@ pub length-with_stones : (board : List Cell) (this : Cell) (ps : List ℕ) → l
 length-with_stones board this [] = refl
 length-with_stones board this (p ∷ ps) = length-set (with_stones board this ps) p this ∙ length-with_stones board this ps
 
--- a point stays one
-with_stones-point : (board : List Cell) (this : Cell) (ps : List ℕ) (q : ℕ) → this ≢ Edge → at board q ≢ Edge → at (with_stones board this ps) q ≢ Edge
-with_stones-point board this [] q filled point = point
-with_stones-point board this (p ∷ ps) q filled point = elim (same_or_other q p) [
-  | inl same ↦ λ e. filled (sym (get_or-set_same (with_stones board this ps) p this Edge
-      (in_list (with_stones board this ps) p (subst (λ (r : ℕ). at (with_stones board this ps) r ≢ Edge) same (with_stones-point board this ps q filled point))))
-      ∙ ap (at (set (with_stones board this ps) p this)) (sym same) ∙ e)
-  | inr another ↦ λ e. with_stones-point board this ps q filled point (sym (get_or-set_other (with_stones board this ps) p q this Edge another) ∙ e)
-]
+-- a place before those that were set is as it was
+with_stones-before : (board : List Cell) (this : Cell) (ps : List ℕ) (q : ℕ) → AllByRecursion (λ (p : ℕ). q < p) ps → at (with_stones board this ps) q ≡ at board q
+with_stones-before board this [] q all = refl
+with_stones-before board this (p ∷ ps) q all = get_or-set_other (with_stones board this ps) p q this Edge (apart q p all.0) ∙ with_stones-before board this ps q all.1
+  where
+    apart : (q p : ℕ) → q < p → q ≢ p
+    apart q p less same = omega (arith, less, same)
 
 stack-popped : (number p : ℕ) (old now new : List Taken) (places : List ℕ) → old ≡ now ++ taken_at number places → now ≡ new ++ record { place = p; number = number } ∷ []
     → old ≡ new ++ taken_at number (p ∷ places)
 stack-popped number p old now new places stack popped =
     stack ∙ ap (λ (ts : List Taken). ts ++ taken_at number places) popped ∙ append_assoc new (record { place = p; number = number } ∷ []) (taken_at number places)
 
--- the stone that is taken off the stack stood on a point
-pub popped-point : (board : List Cell) (this : Cell) (number p count : ℕ) (old now new : List Taken) (cells : List Cell) → this ≢ Edge → AreLastPoints board old number
-    → IsPuttingBack board this number old now cells count → now ≡ new ++ record { place = p; number = number } ∷ [] → at cells p ≢ Edge
-popped-point board this number p count old now new cells filled points b popped =
-    subst (λ (cs : List Cell). at cs p ≢ Edge) (sym b.board_is)
-    (with_stones-point board this b.places p filled (points new p b.places (stack-popped number p old now new b.places b.stack popped)))
+-- the stone that is taken off the stack stood on a point that is empty
+pub popped-empty : (board : List Cell) (this : Cell) (number p count : ℕ) (old now new : List Taken) (cells : List Cell) → AreLastPoints board old number
+    → IsPuttingBack board this number old now cells count → now ≡ new ++ record { place = p; number = number } ∷ [] → at cells p ≡ Empty
+popped-empty board this number p count old now new cells points b popped =
+    let known = points new p b.places (stack-popped number p old now new b.places b.stack popped) in
+    ap (λ (cs : List Cell). at cs p) b.board_is ∙ with_stones-before board this b.places p known.1 ∙ known.0
 
 pub IsPuttingBack-more : (board : List Cell) (this : Cell) (number p count : ℕ) (old now new : List Taken) (cells cells' : List Cell)
     → IsPuttingBack board this number old now cells count → now ≡ new ++ record { place = p; number = number } ∷ [] → length now ≤ 2009 → cells' ≡ set cells p this

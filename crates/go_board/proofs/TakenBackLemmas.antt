@@ -19,7 +19,7 @@ use Rattle.go_board.proofs.BoardLemmas.{stone-point}
 use Rattle.go_board.proofs.CaptureLemmas.{holds-yes, holds-no, in_list, at-put}
 use Rattle.go_board.proofs.KoLemmas.{taken-empty, taken-other, length-put}
 use Rattle.go_board.proofs.NextLemmas.{empty-point}
-use Rattle.go_board.proofs.PopLemmas.{popped-all, popped-one}
+use Rattle.go_board.proofs.PopLemmas.{popped-all, popped-one, popped-rising, rising-picked}
 use Rattle.go_board.proofs.PutBackLemmas.{length-with_stones, filled-in, filled-out}
 use Rattle.go_board.proofs.UndoLemmas.{undo-board}
 
@@ -33,10 +33,9 @@ all-captured board c (p ∷ ps) = by_test (captured? board c p) (all-captured bo
     by_test (yes h) rest = (h, rest)
     by_test (no k) rest = rest
 
--- the new stone's point holds an edge neither before nor after it is taken off
-pub new-point : (board : List Cell) (stones : List Taken) (c : Colour) (p number : ℕ) → IsAfterMove board stones (record { colour = c; vertex = At p }) number → at board p ≢ Edge
-new-point board stones c p number h e =
-    stone-point c (sym (at-put h.before c p (empty-point h.before p h.empty)) ∙ ap (λ (b : List Cell). at b p) (sym h.board_is) ∙ e)
+-- the new stone stands
+pub new-stone : (board : List Cell) (stones : List Taken) (c : Colour) (p number : ℕ) → IsAfterMove board stones (record { colour = c; vertex = At p }) number → at board p ≡ stone c
+new-stone board stones c p number h = ap (λ (b : List Cell). at b p) h.board_is ∙ at-put h.before c p (empty-point h.before p h.empty)
 
 pub last-points : (board cells : List Cell) (stones : List Taken) (c : Colour) (p number : ℕ) → IsAfterMove board stones (record { colour = c; vertex = At p }) number
     → cells ≡ set board p Empty → AreLastPoints cells stones number
@@ -47,8 +46,11 @@ last-points board cells stones c p number h is earlier q later e =
     (all-captured (set h.before p (stone c)) (other c) (range_with_len 0 (length (set h.before p (stone c))))) in
     let another : q ≢ p = taken-other h.before c p q h.empty captured in
     let empty : at cells q ≡ Empty =
-    ap (λ (b : List Cell). at b q) is ∙ get_or-set_other board p q Empty Edge another ∙ ap (λ (b : List Cell). at b q) h.board_is ∙ taken-empty h.before c p q captured in
-    empty-point cells q empty
+    ap (λ (b : List Cell). at b q) is ∙ get_or-set_other board p q Empty Edge another ∙ ap (λ (b : List Cell). at b q) h.board_is ∙ taken-empty h.before c p q captured in (
+      empty,
+      popped-rising number h.earlier earlier places later q h.numbers (sym h.stones_are ∙ e)
+          (rising-picked (is_captured (set h.before p (stone c)) (other c)) 0 (length (set h.before p (stone c)))),
+    )
 
 -- what was put back is what the play took
 record IsBackAgain (board new : List Cell) (stones left : List Taken) (c : Colour) (p number count : ℕ) (h : IsAfterMove board stones (record { colour = c; vertex = At p }) number) : Type 0 where

@@ -1,0 +1,11 @@
+use Rattle.std.proofs.Common.{◌≡◌}
+use Rattle.go_board.specs.Label.{AreCounts}
+use Rattle.go_board.proofs.AnewLemmas.{IsGiving}
+use Rattle.go_board.proofs.chains.Chains.relabel_all.Given as goal
+
+abbrev pub invariant-loop-index : goal.invariant-loop-index
+invariant-loop-index l = record {
+  same : l.self.board ≡ l.fn.self.board;
+  giving : IsGiving l.fn.self.labels l.chain l.label l.index l.self.labels;
+  counts : AreCounts l.self.board l.self.labels l.self.counts;
+}

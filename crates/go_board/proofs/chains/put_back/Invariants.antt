@@ -1,9 +1,0 @@
-use Rattle.std.proofs.Common.{length}
-use Rattle.go_board.proofs.PutBackLemmas.{IsPuttingBack}
-use Rattle.go_board.proofs.chains.put_back.Given as goal
-
-abbrev pub invariant-loop-place : goal.invariant-loop-place
-invariant-loop-place l = IsPuttingBack l.fn.board l.fn.stone l.fn.number l.fn.removed l.removed l.board l.count
-
-abbrev pub decreases-loop-place : goal.decreases-loop-place
-decreases-loop-place l = length l.removed
