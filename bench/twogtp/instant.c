@@ -1,6 +1,6 @@
 /* An engine that answers at once, for bench/twogtp: its moves are a list that it makes with the size of the board, 60 plays on 9x9
- * and 200 on 19x19, none of which captures; then it passes. It checks nothing. With an argument N it ends without an answer at its
- * N-th genmove. */
+ * and 200 on 19x19, none of which captures; then it passes. It checks nothing. With an argument N it ends without an answer when
+ * it is asked for a move after N moves or more. */
 #include <stdio.h>
 #include <stdlib.h>
 #include <string.h>
@@ -9,8 +9,7 @@
 static int size = 19;
 static int plays = 200;
 static int made;
-static int asked;
-static int last; /* the genmove at which it ends, or 0 */
+static int last = -1; /* after so many moves it ends when it is asked for one */
 
 /* Black fills columns from the left, row by row, White from the right. */
 static int vertex(char *text, int number) {
@@ -45,7 +44,7 @@ static int reply(const char *line) {
         id[0] = 0;
         sscanf(line, "%63s %63s", name, argument);
     }
-    if (!strcmp(name, "genmove") && ++asked == last) return 0;
+    if (last >= 0 && made >= last && !strcmp(name, "genmove")) return 0;
     answer(text, name, argument);
     int length = sprintf(whole, "=%s%s\n\n", id, text);
     return write(1, whole, (size_t)length) == length && strcmp(name, "quit");
