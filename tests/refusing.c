@@ -1,6 +1,6 @@
-/* Loaded before the C library (LD_PRELOAD) into `twogtp`: refuses the request for memory whose number REFUSED says, counted
-   from 1, and leaves a file COUNTED with the number of requests that came. Other programs that are started with it are left
-   alone: the variables are taken out of the environment as soon as they are read. */
+/* Loaded before the C library (LD_PRELOAD) into `twogtp` or `gtp_engine`: refuses the request for memory whose number
+   REFUSED says, counted from 1, and leaves a file COUNTED with the number of requests that came. Other programs that are
+   started with it are left alone: the variables are taken out of the environment as soon as they are read. */
 #define _GNU_SOURCE
 #include <dlfcn.h>
 #include <errno.h>
