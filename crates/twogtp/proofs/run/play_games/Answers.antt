@@ -1,4 +1,4 @@
-use Rattle.std.proofs.Common.{◌≡◌, ℕ, List, [], ◌∙◌, subst, rules}
+use Rattle.std.proofs.Common.{ℕ, List, [], ◌∙◌, subst, rules}
 use Rattle.std.proofs.KnownBytes.{Appends-nil}
 use Rattle.std.specs.Io.KnownBytes.{Appends}
 use Rattle.gtp_match.specs.declared.controller.Controller.{Controller}

@@ -1,4 +1,4 @@
-use Rattle.std.proofs.Common.{inl, inr, arith, refl, subst, ℕ, map}
+use Rattle.std.proofs.Common.{inl, inr, arith, refl, subst, ℕ}
 use Rattle.clap.specs.Words.{kind_of}
 use Rattle.twogtp.specs.Telling.{HasTold}
 use Rattle.twogtp.proofs.run.run.Goals as goal
