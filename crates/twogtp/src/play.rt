@@ -96,6 +96,7 @@ fn take_turn<S: Starter>(
         (S.asked starter.old) (S.asked starter.new) game.new) }
     ensures refused { OnErr result (IsRefused commands.now game.old
         (S.asked starter.old) (S.asked starter.new)) }
+    ensures unchanged { OnErr result (game.new ≡ game.old) }
     // Nothing is said to one side in the other's turn, and nothing heard of it.
     ensures black_rests { (action ≡ Send White) ⊎ (action ≡ Wait White) →
         sides.new.black ≡ sides.old.black }
@@ -138,6 +139,7 @@ fn start<S: Starter>(
         (S.asked starter.old) (S.asked starter.new) game.new) }
     ensures refused { OnErr result (IsRefused commands.now game.old
         (S.asked starter.old) (S.asked starter.new)) }
+    ensures unchanged { OnErr result (game.new ≡ game.old) }
     ensures fault { IfErr result (λ fault. fault ≡ Fault.OutOfMemory) }
 {
     match starter.start(commands.of(side)) {
