@@ -69,8 +69,8 @@ HasTold commands task status held holds had has = HasToldSome commands task task
 -- After so many games nothing more was asked for, or the next one was begun, and stopped before its end.
 pub data GoesOn (commands : Commands) (task : Task) (number : ℕ) (had : Lines) : Lines → Type 0 where
   no_game_more : GoesOn commands task number had had
-  begins : {has : Lines} {fault : Fault}
-      → number + 1 ≤ task.games → HasStopped commands (new task.setup) had has fault
+  begins : {has : Lines} {last : Controller} {fault : Fault}
+      → number + 1 ≤ task.games → HasStopped commands (new task.setup) had has last fault
       → GoesOn commands task number had has
 
 -- Some games were played, a writer took the beginning of what is told of them, and nothing else was asked for than

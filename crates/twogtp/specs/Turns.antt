@@ -98,13 +98,14 @@ pub record IsRefused (commands : Commands) (c : Controller) (had has : Lines) : 
   pub next : next c ≡ Start side
   pub asked : Asks had has (line_for commands side ∷ [])
 
--- A game stopped before its end: turns were taken, and then memory was refused for a start; or there were too many.
-pub data HasStopped (commands : Commands) (first : Controller) (had has : Lines) : Fault → Type 0 where
+-- A game stopped before its end, where its turns had led: turns were taken, and then memory was refused for a start; or
+-- there were too many.
+pub data HasStopped (commands : Commands) (first : Controller) (had has : Lines) : Controller → Fault → Type 0 where
   out_of_memory : {mid : Lines} {last : Controller}
       → HasPlayed commands first had mid last → IsRefused commands last mid has
-      → HasStopped commands first had has OutOfMemory
+      → HasStopped commands first had has last OutOfMemory
   too_many_turns : {last : Controller}
-      → HasTaken commands first most_turns had has last → HasStopped commands first had has TooManyTurns
+      → HasTaken commands first most_turns had has last → HasStopped commands first had has last TooManyTurns
 
 -- a match of this setup that was played to its end, and what was asked for in it
 pub record IsPlayed (commands : Commands) (setup : SetupRecord) (lines : List (List Text)) (c : Controller)

@@ -38,7 +38,7 @@ pub fn play_game<S: Starter>(
     ensures over { IfOk result (λ verdict. next game.new ≡ action.Done verdict) }
     ensures sound { IfOk result (λ verdict. IsSound game.new) }
     ensures stopped { IfErr result (HasStopped commands.now game.old
-        (S.asked starter.old) (S.asked starter.new)) }
+        (S.asked starter.old) (S.asked starter.new) game.new) }
     ensures fault { IfErr result (λ fault. status_of fault ≡ own_fault) }
 {
     let mut sides = Sides::none();
@@ -65,7 +65,7 @@ fn take_turns<S: Starter>(
     ensures over { IfOk result (λ verdict. next game.new ≡ action.Done verdict) }
     ensures sound { IfOk result (λ verdict. IsSound game.new) }
     ensures stopped { IfErr result (HasStopped commands.now game.old
-        (S.asked starter.old) (S.asked starter.new)) }
+        (S.asked starter.old) (S.asked starter.new) game.new) }
     ensures fault { IfErr result (λ fault. status_of fault ≡ own_fault) }
 {
     for _turn in 0..MOST_TURNS {

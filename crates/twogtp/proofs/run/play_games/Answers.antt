@@ -13,8 +13,8 @@ loop-index-init g c = record { lines = []; text = []; tells = no_game; taken = A
 
 pub returns-in-Err-clause-begun : goal.returns-in-Err-clause-begun
 returns-in-Err-clause-begun g c =
-    begun_with c.args.commands.now c.args.task.now c.loop-index.index c.loop-index.status _ _ _ _ _ _ c.loop-index.invariant (search rules)
-    (subst (λ (m : Controller). HasStopped c.args.commands.now m (g.S.Starter.asked c.loop-index.starter) (g.S.Starter.asked c.play_game.new.starter) c.in-Err.fault) c.new-game.ensures c.in-Err.ensures.stopped)
+    begun_with c.args.commands.now c.args.task.now c.loop-index.index c.loop-index.status _ _ _ _ _ c.play_game.new.game _ c.loop-index.invariant (search rules)
+    (subst (λ (m : Controller). HasStopped c.args.commands.now m (g.S.Starter.asked c.loop-index.starter) (g.S.Starter.asked c.play_game.new.starter) c.play_game.new.game c.in-Err.fault) c.new-game.ensures c.in-Err.ensures.stopped)
 
 pub returns-in-Err-write_text-clause-begun : goal.returns-in-Err-write_text-clause-begun
 returns-in-Err-write_text-clause-begun g c =
