@@ -1,5 +1,5 @@
 -- The processes of the sides, and what is done with the one of a side.
-use Rattle.std.specs.Prelude.{◌≡◌, Option, Some, None}
+use Rattle.std.specs.Prelude.{Option, Some, None}
 use Rattle.gtp_match.specs.declared.sides.Status.{Status}
 use Rattle.gtp_match.specs.declared.sides.Status.TheVariants.{Down, Up}
 

@@ -1,6 +1,7 @@
 -- What the program does with a match, turn by turn.
-use Rattle.std.specs.Prelude.{◌≡◌, ◌<◌, ⊤, ℕ, List, [], length, Option, None, Some}
+use Rattle.std.specs.Prelude.{◌≡◌, ◌<◌, ◌+◌, ⊤, ℕ, List, [], ◌∷◌, ◌++◌, length, Option, None, Some}
 use Rattle.std.specs.Io.KnownBytes.{Appends, Keeps}
+use Rattle.clap.specs.Words.{Text}
 use Rattle.go_base.specs.declared.colours.Colour.{Colour}
 use Rattle.gtp_match.specs.declared.controller.Controller.{Controller}
 use Rattle.gtp_match.specs.declared.sides.Incarnation.{Incarnation}
@@ -14,6 +15,10 @@ use Rattle.gtp_match.specs.Next.{next}
 use Rattle.gtp_match.specs.Setup.{SetupRecord}
 use Rattle.gtp_match.specs.Sides.{side_of}
 use Rattle.gtp_match.specs.Sound.{IsSound}
+use Rattle.twogtp.specs.declared.fault.Fault.{Fault}
+use Rattle.twogtp.specs.declared.fault.Fault.TheVariants.{OutOfMemory, TooManyTurns}
+use Rattle.twogtp.specs.declared.task.Commands.{Commands}
+use Rattle.twogtp.specs.Starts.{Asks, Lines, line_for}
 
 -- ---- what a process takes and gives
 
@@ -43,25 +48,70 @@ pub data IsHeard (c : Controller) (side : Colour) (held holds : Option (List ℕ
 
 -- ---- turns
 
--- One turn does what comes next: a side is started, or counts as started and lost; it is sent its command; it is waited
--- for. Once the match is over nothing is done.
-pub data Turn (c : Controller) : Action → Controller → Type 0 where
-  starts : {side : Colour} → Turn c (Start side) (started c side)
-  fails_to_start : {side : Colour} → Turn c (Start side) (lost (started c side) side)
+-- how many turns a match has at most; none within the limits has as many
+abbrev pub most_turns : ℕ
+most_turns = 1000000000000
+
+-- One turn does what comes next: the program of a side is asked for, and the side is started, or counts as started and
+-- lost; or it is sent its command; or it is waited for. Once the match is over nothing is done. Only a start asks for a
+-- program, by that side's command line.
+pub data Turn (commands : Commands) (c : Controller) : Action → List (List Text) → Controller → Type 0 where
+  starts : {side : Colour} → Turn commands c (Start side) (line_for commands side ∷ []) (started c side)
+  fails_to_start : {side : Colour}
+      → Turn commands c (Start side) (line_for commands side ∷ []) (lost (started c side) side)
   sends : {side : Colour} {held holds : Option (List ℕ)} {new : Controller}
-      → IsSent c side held holds ⊤ new → Turn c (Send side) new
+      → IsSent c side held holds ⊤ new → Turn commands c (Send side) [] new
   hears : {side : Colour} {held holds : Option (List ℕ)} {new : Controller}
-      → IsHeard c side held holds ⊤ new → Turn c (Wait side) new
-  rests : {verdict : Verdict} → Turn c (Done verdict) c
+      → IsHeard c side held holds ⊤ new → Turn commands c (Wait side) [] new
+  rests : {verdict : Verdict} → Turn commands c (Done verdict) [] c
 
--- each turn did what the controller said
-pub data Plays (first : Controller) : Controller → Type 0 where
-  not_yet : Plays first first
-  turns : {mid last : Controller} → Plays first mid → Turn mid (next mid) last → Plays first last
+-- So many turns, each of which did what the controller said, asked for these programs.
+pub data Plays (commands : Commands) (first : Controller) : ℕ → List (List Text) → Controller → Type 0 where
+  not_yet : Plays commands first 0 [] first
+  turns : {number : ℕ} {lines more : List (List Text)} {mid last : Controller}
+      → Plays commands first number lines mid → Turn commands mid (next mid) more last
+      → Plays commands first (number + 1) (lines ++ more) last
 
--- a match of this setup that was played to its end
-pub record IsPlayed (setup : SetupRecord) (c : Controller) (verdict : Verdict) : Type 0 where
-  pub plays : Plays (new setup) c
+-- ---- turns, and what was asked for in them
+
+-- a turn was taken, and what it asks for was asked for
+pub record HasTurned (commands : Commands) (c : Controller) (action : Action) (had has : Lines) (new : Controller)
+    : Type 0 where
+  pub lines : List (List Text)
+  pub turn : Turn commands c action lines new
+  pub asked : Asks had has lines
+
+-- so many turns were taken, and what they ask for was asked for
+pub record HasTaken (commands : Commands) (first : Controller) (number : ℕ) (had has : Lines) (last : Controller)
+    : Type 0 where
+  pub lines : List (List Text)
+  pub plays : Plays commands first number lines last
+  pub asked : Asks had has lines
+
+-- turns were taken, and what they ask for was asked for
+abbrev pub HasPlayed : Commands → Controller → Lines → Lines → Controller → Type 0
+HasPlayed commands first had has last = (number : ℕ) × HasTaken commands first number had has last
+
+-- a side is to be started, and its program was asked for
+pub record IsRefused (commands : Commands) (c : Controller) (had has : Lines) : Type 0 where
+  pub side : Colour
+  pub next : next c ≡ Start side
+  pub asked : Asks had has (line_for commands side ∷ [])
+
+-- A game stopped before its end, where its turns had led: turns were taken, and then memory was refused for a start; or
+-- there were too many.
+pub data HasStopped (commands : Commands) (first : Controller) (had has : Lines) : Controller → Fault → Type 0 where
+  out_of_memory : {mid : Lines} {last : Controller}
+      → HasPlayed commands first had mid last → IsRefused commands last mid has
+      → HasStopped commands first had has last OutOfMemory
+  too_many_turns : {last : Controller}
+      → HasTaken commands first most_turns had has last → HasStopped commands first had has last TooManyTurns
+
+-- a match of this setup that was played to its end, and what was asked for in it
+pub record IsPlayed (commands : Commands) (setup : SetupRecord) (lines : List (List Text)) (c : Controller)
+    (verdict : Verdict) : Type 0 where
+  pub number : ℕ
+  pub plays : Plays commands (new setup) number lines c
   pub over : next c ≡ Done verdict
   -- what holds of each match: its record is a game of the setup, and its verdict is right
   pub sound : IsSound c

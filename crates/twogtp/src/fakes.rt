@@ -228,6 +228,8 @@ pub struct InMemory {
 impl Starter for InMemory {
     type Process = Talk;
 
+    ghost asked = { λ _. None };
+
     fn start(&mut self, words: &[&str]) -> Result<Talk, StartFault> {
         let engine = match words {
             ["gtp_engine"] => Engine::First(Session::new(First)),

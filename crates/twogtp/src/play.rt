@@ -1,5 +1,5 @@
 //! A game between two processes.
-ghost use Rattle.std.specs.Prelude.{◌≡◌, ◌⊎◌, IfOk, IfErr, OnOk, OnErr};
+ghost use Rattle.std.specs.Prelude.{◌≡◌, ◌⊎◌, ⊤, None, IfOk, IfErr, OnOk, OnErr};
 ghost use Rattle.std.specs.Io.KnownBytes.{Keeps};
 ghost use Rattle.go_base.specs.declared.colours.Colour.TheVariants.{Black, White};
 ghost use Rattle.gtp_match.specs.declared.verdicts.Action.TheVariants as action;
@@ -10,7 +10,7 @@ ghost use Rattle.gtp_match.specs.Sound.{IsSound};
 ghost use Rattle.twogtp.specs.Pipes.{IsCutOff};
 ghost use Rattle.twogtp.specs.Processes.{WithProcess};
 ghost use Rattle.twogtp.specs.Status.{own_fault, status_of};
-ghost use Rattle.twogtp.specs.Turns.{IsHeard, IsSent, Plays, Turn};
+ghost use Rattle.twogtp.specs.Turns.{HasPlayed, HasStopped, HasTurned, IsHeard, IsRefused, IsSent};
 
 use crate::fault::Fault;
 use crate::pipes::{CutOff, READ_ROOM, read_once, write_whole};
@@ -33,9 +33,12 @@ pub fn play_game<S: Starter>(
     commands: &Commands<'_>,
     starter: &mut S,
 ) -> Result<Verdict, Fault>
-    ensures plays { Plays game.old game.new }
+    ensures plays { OnOk result (HasPlayed commands.now game.old
+        (S.asked starter.old) (S.asked starter.new) game.new) }
     ensures over { IfOk result (λ verdict. next game.new ≡ action.Done verdict) }
     ensures sound { IfOk result (λ verdict. IsSound game.new) }
+    ensures stopped { IfErr result (HasStopped commands.now game.old
+        (S.asked starter.old) (S.asked starter.new) game.new) }
     ensures fault { IfErr result (λ fault. status_of fault ≡ own_fault) }
 {
     let mut sides = Sides::none();
@@ -57,9 +60,12 @@ fn take_turns<S: Starter>(
     commands: &Commands<'_>,
     starter: &mut S,
 ) -> Result<Verdict, Fault>
-    ensures plays { Plays game.old game.new }
+    ensures plays { OnOk result (HasPlayed commands.now game.old
+        (S.asked starter.old) (S.asked starter.new) game.new) }
     ensures over { IfOk result (λ verdict. next game.new ≡ action.Done verdict) }
     ensures sound { IfOk result (λ verdict. IsSound game.new) }
+    ensures stopped { IfErr result (HasStopped commands.now game.old
+        (S.asked starter.old) (S.asked starter.new) game.new) }
     ensures fault { IfErr result (λ fault. status_of fault ≡ own_fault) }
 {
     for _turn in 0..MOST_TURNS {
@@ -86,14 +92,17 @@ fn take_turn<S: Starter>(
     starter: &mut S,
 ) -> Result<(), Fault>
     requires { next game.old ≡ action }
-    ensures turn { OnOk result (Turn game.old action game.new) }
+    ensures turn { OnOk result (HasTurned commands.now game.old action
+        (S.asked starter.old) (S.asked starter.new) game.new) }
+    ensures refused { OnErr result (IsRefused commands.now game.old
+        (S.asked starter.old) (S.asked starter.new)) }
     ensures unchanged { OnErr result (game.new ≡ game.old) }
     // Nothing is said to one side in the other's turn, and nothing heard of it.
     ensures black_rests { (action ≡ Send White) ⊎ (action ≡ Wait White) →
         sides.new.black ≡ sides.old.black }
     ensures white_rests { (action ≡ Send Black) ⊎ (action ≡ Wait Black) →
         sides.new.white ≡ sides.old.white }
-    ensures fault { IfErr result (λ fault. status_of fault ≡ own_fault) }
+    ensures fault { IfErr result (λ fault. fault ≡ Fault.OutOfMemory) }
 {
     match action {
         Action::Start(side) => start(game, sides, side, commands, starter),
@@ -126,9 +135,12 @@ fn start<S: Starter>(
     starter: &mut S,
 ) -> Result<(), Fault>
     requires { next game.old ≡ action.Start side }
-    ensures turn { OnOk result (Turn game.old (action.Start side) game.new) }
+    ensures turn { OnOk result (HasTurned commands.now game.old (action.Start side)
+        (S.asked starter.old) (S.asked starter.new) game.new) }
+    ensures refused { OnErr result (IsRefused commands.now game.old
+        (S.asked starter.old) (S.asked starter.new)) }
     ensures unchanged { OnErr result (game.new ≡ game.old) }
-    ensures fault { IfErr result (λ fault. status_of fault ≡ own_fault) }
+    ensures fault { IfErr result (λ fault. fault ≡ Fault.OutOfMemory) }
 {
     match starter.start(commands.of(side)) {
         Ok(process) => {
@@ -148,7 +160,7 @@ fn start<S: Starter>(
 /// Sends a side its command. A side that has no process is lost.
 fn send<P: Conversation>(game: &mut Match, side: Side, process: &mut Option<P>)
     requires { next game.old ≡ action.Send side }
-    ensures turn { Turn game.old (action.Send side) game.new }
+    ensures turn { IsSent game.old side None None ⊤ game.new }
     ensures spoken { WithProcess process.old process.new
         (λ before after. IsSent game.old side (P.taken before) (P.taken after)
         (IsCutOff P.fails after) game.new
@@ -186,7 +198,7 @@ fn hear<P: Conversation>(
     buffer: &mut [u8; READ_ROOM],
 )
     requires { next game.old ≡ action.Wait side }
-    ensures turn { Turn game.old (action.Wait side) game.new }
+    ensures turn { IsHeard game.old side None None ⊤ game.new }
     ensures spoken { WithProcess process.old process.new
         (λ before after. IsHeard game.old side (P.given before) (P.given after)
         (IsCutOff P.fails after) game.new

@@ -46,14 +46,16 @@ pub fn run<A: AsStr, O: Write, E: Write, S: Starter>(
     // All games of the task that the words ask for were played and told, unless they ask for help.
     ensures played { result ≡ done →
         (AsksForHelp (map A.text words.now) × (starter.new ≡ starter.old))
-        ⊎ HasDone (map A.text words.now) done (O.contents output.old) (O.contents output.new) }
+        ⊎ HasDone (map A.text words.now) done (O.contents output.old) (O.contents output.new)
+        (S.asked starter.old) (S.asked starter.new) }
     ensures given_up { result ≡ some_given_up → HasDone (map A.text words.now) some_given_up
-        (O.contents output.old) (O.contents output.new) }
+        (O.contents output.old) (O.contents output.new) (S.asked starter.old) (S.asked starter.new) }
     // What was written before the program had to stop is the beginning of what is told.
     ensures stopped { result ≡ own_fault →
         ((output.new ≡ output.old) × (starter.new ≡ starter.old))
         ⊎ (AsksForHelp (map A.text words.now) × (starter.new ≡ starter.old))
-        ⊎ HasBegun (map A.text words.now) (O.contents output.old) (O.contents output.new) }
+        ⊎ HasBegun (map A.text words.now) (O.contents output.old) (O.contents output.new)
+        (S.asked starter.old) (S.asked starter.new) }
 {
     let options = match read_options(alloc, words) {
         Ok(options) => options,
@@ -77,10 +79,12 @@ fn play_games<O: Write, S: Starter>(
     starter: &mut S,
 ) -> Result<u8, Fault>
     ensures told { IfOk result (λ status.
-        HasTold task.now status (O.contents output.old) (O.contents output.new)) }
+        HasTold commands.now task.now status (O.contents output.old) (O.contents output.new)
+        (S.asked starter.old) (S.asked starter.new)) }
     ensures range { IfOk result (λ status. (status ≡ done) ⊎ (status ≡ some_given_up)) }
     ensures begun { OnErr result
-        (HasBegunToTell task.now (O.contents output.old) (O.contents output.new)) }
+        (HasBegunToTell commands.now task.now (O.contents output.old) (O.contents output.new)
+        (S.asked starter.old) (S.asked starter.new)) }
     ensures fault { IfErr result (λ fault. status_of fault ≡ own_fault) }
 {
     let mut status = 0;

@@ -1,30 +1,34 @@
-use Rattle.std.proofs.Common.{◌≡◌, ℕ, List, [], ◌∙◌, subst, rules}
+use Rattle.std.proofs.Common.{ℕ, List, [], ◌∙◌, subst, rules}
 use Rattle.std.proofs.KnownBytes.{Appends-nil}
 use Rattle.std.specs.Io.KnownBytes.{Appends}
 use Rattle.gtp_match.specs.declared.controller.Controller.{Controller}
 use Rattle.twogtp.specs.Telling.{TakesPart, no_game}
-use Rattle.twogtp.specs.Turns.{Plays}
+use Rattle.twogtp.specs.Turns.{HasPlayed, HasStopped}
 use Rattle.twogtp.proofs.TellingLemmas.{told_then, begun_then, begun_with, status_range}
+use Rattle.twogtp.proofs.TurnLemmas.{Asks-nil}
 use Rattle.twogtp.proofs.run.play_games.Goals as goal
 
 pub loop-index-init : goal.loop-index-init
-loop-index-init g c = record { text = []; tells = no_game; taken = Appends-nil _ }
+loop-index-init g c = record { lines = []; text = []; tells = no_game; taken = Appends-nil _; asked = Asks-nil _ }
 
 pub returns-in-Err-clause-begun : goal.returns-in-Err-clause-begun
 returns-in-Err-clause-begun g c =
-    begun_with c.args.task.now c.loop-index.index c.loop-index.status _ _ c.loop-index.invariant (search rules)
+    begun_with c.args.commands.now c.args.task.now c.loop-index.index c.loop-index.status _ _ _ _ _ c.play_game.new.game _ c.loop-index.invariant (search rules)
+    (subst (λ (m : Controller). HasStopped c.args.commands.now m (g.S.Starter.asked c.loop-index.starter) (g.S.Starter.asked c.play_game.new.starter) c.play_game.new.game c.in-Err.fault) c.new-game.ensures c.in-Err.ensures.stopped)
 
 pub returns-in-Err-write_text-clause-begun : goal.returns-in-Err-write_text-clause-begun
 returns-in-Err-write_text-clause-begun g c =
-    begun_then c.args.task.now c.loop-index.index c.loop-index.status _ _ _ c.play_game.new.game c.in-Ok.verdict c.loop-index.invariant (search rules)
-    (record { plays = subst (λ (m : Controller). Plays m c.play_game.new.game) c.new-game.ensures c.play_game.ensures.plays; over = c.in-Ok.ensures.over; sound = c.in-Ok.ensures.sound })
+    begun_then c.args.commands.now c.args.task.now c.loop-index.index c.loop-index.status _ _ _ _ _ _ c.play_game.new.game c.in-Ok.verdict c.loop-index.invariant (search rules)
+    (subst (λ (m : Controller). HasPlayed c.args.commands.now m (g.S.Starter.asked c.loop-index.starter) (g.S.Starter.asked c.play_game.new.starter) c.play_game.new.game) c.new-game.ensures c.in-Ok.ensures.plays)
+    c.in-Ok.ensures.over c.in-Ok.ensures.sound
     (subst (λ (t : List ℕ). TakesPart t (g.O.Write.contents c.loop-index.output) (g.O.Write.contents c.write_text.new.output)) (c.as_slice.ensures.value ∙ c.game_text-text.ensures) c.in-Err-write_text.ensures.part)
 
 pub loop-index-preserved : goal.loop-index-preserved
 loop-index-preserved g c =
-    rw c.with_verdict-status.ensures (told_then c.args.task.now c.loop-index.index c.loop-index.status _ _ _ c.play_game.new.game c.in-Ok.verdict c.loop-index.invariant
-    (record { plays = subst (λ (m : Controller). Plays m c.play_game.new.game) c.new-game.ensures c.play_game.ensures.plays; over = c.in-Ok.ensures.over; sound = c.in-Ok.ensures.sound })
+    rw c.with_verdict-status.ensures (told_then c.args.commands.now c.args.task.now c.loop-index.index c.loop-index.status _ _ _ _ _ _ c.play_game.new.game c.in-Ok.verdict c.loop-index.invariant
+    (subst (λ (m : Controller). HasPlayed c.args.commands.now m (g.S.Starter.asked c.loop-index.starter) (g.S.Starter.asked c.play_game.new.starter) c.play_game.new.game) c.new-game.ensures c.in-Ok.ensures.plays)
+    c.in-Ok.ensures.over c.in-Ok.ensures.sound
     (subst (λ (t : List ℕ). Appends (g.O.Write.contents c.loop-index.output) (g.O.Write.contents c.write_text.new.output) t) (c.as_slice.ensures.value ∙ c.game_text-text.ensures) c.in-Ok-write_text.ensures.whole))
 
 pub returns-clause-range : goal.returns-clause-range
-returns-clause-range g c = status_range c.args.task.now c.loop-index.index c.loop-index.status _ c.loop-index.invariant.tells
+returns-clause-range g c = status_range c.args.commands.now c.args.task.now c.loop-index.index c.loop-index.status _ _ c.loop-index.invariant.tells

@@ -1,4 +1,4 @@
-use Rattle.std.proofs.Common.{inl, inr, arith, refl, subst, ℕ, map}
+use Rattle.std.proofs.Common.{inl, inr, arith, refl, subst, ℕ}
 use Rattle.clap.specs.Words.{kind_of}
 use Rattle.twogtp.specs.Telling.{HasTold}
 use Rattle.twogtp.proofs.run.run.Goals as goal
@@ -32,8 +32,9 @@ returns-in-Ok-play_games-clause-played g c = λ zero. inr (record {
     commands = c.in-Ok-plan_of.plan.commands;
     plan = c.in-Ok-plan_of.ensures.plan;
   };
-  told = subst (λ (status : ℕ). HasTold c.in-Ok-plan_of.plan.task status
-      (g.O.Write.contents c.args.output.now) (g.O.Write.contents c.play_games.new.output)) zero c.in-Ok-play_games.ensures.told;
+  told = subst (λ (status : ℕ). HasTold c.in-Ok-plan_of.plan.commands c.in-Ok-plan_of.plan.task status
+      (g.O.Write.contents c.args.output.now) (g.O.Write.contents c.play_games.new.output)
+      (g.S.Starter.asked c.args.starter.now) (g.S.Starter.asked c.play_games.new.starter)) zero c.in-Ok-play_games.ensures.told;
 })
 
 pub returns-in-Ok-play_games-clause-given_up : goal.returns-in-Ok-play_games-clause-given_up
@@ -45,8 +46,9 @@ returns-in-Ok-play_games-clause-given_up g c = λ one. record {
     commands = c.in-Ok-plan_of.plan.commands;
     plan = c.in-Ok-plan_of.ensures.plan;
   };
-  told = subst (λ (status : ℕ). HasTold c.in-Ok-plan_of.plan.task status
-      (g.O.Write.contents c.args.output.now) (g.O.Write.contents c.play_games.new.output)) one c.in-Ok-play_games.ensures.told;
+  told = subst (λ (status : ℕ). HasTold c.in-Ok-plan_of.plan.commands c.in-Ok-plan_of.plan.task status
+      (g.O.Write.contents c.args.output.now) (g.O.Write.contents c.play_games.new.output)
+      (g.S.Starter.asked c.args.starter.now) (g.S.Starter.asked c.play_games.new.starter)) one c.in-Ok-play_games.ensures.told;
 }
 
 pub returns-clause-stopped : goal.returns-clause-stopped
