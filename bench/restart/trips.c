@@ -1,7 +1,8 @@
-/* Round trips: starts an engine so many times, sends it `boardsize`, `komi`, `clear_board` and so many plays on 19x19, each when
- * the reply to the one before has come, and ends it. With -3 plays it sends nothing.
+/* Round trips: starts an engine so many times, sends it `boardsize`, `komi`, `clear_board` and so many plays on 19x19, and ends it.
+ * At most AHEAD commands are unanswered at a time; all that may be sent go out in one write. With AHEAD 1 each is sent when the
+ * reply to the one before has come. With -3 plays nothing is sent.
  *
- * usage: trips COUNT PLAYS ENGINE [ARGUMENT ..] */
+ * usage: trips COUNT PLAYS AHEAD ENGINE [ARGUMENT ..] */
 #include <signal.h>
 #include <stdio.h>
 #include <stdlib.h>
@@ -9,33 +10,40 @@
 #include <sys/wait.h>
 #include <unistd.h>
 
-/* Waits for the empty line behind a reply. */
-static void await(int from) {
-    char bytes[256];
-    size_t newlines = 0;
-    while (newlines < 2) {
-        ssize_t count = read(from, bytes, sizeof bytes);
-        if (count <= 0) exit(3);
-        for (ssize_t at = 0; at < count; at++) newlines += bytes[at] == '\n';
+/* Writes command number `number`, from 1, to `text`. The plays are those of the engine's own list. */
+static int command(char *text, int number) {
+    if (number == 1) return sprintf(text, "1 boardsize 19\n");
+    if (number == 2) return sprintf(text, "2 komi 6.5\n");
+    if (number == 3) return sprintf(text, "3 clear_board\n");
+    int play = number - 4;
+    int column = play / 2 % 9;
+    int row = 1 + play / 2 / 9;
+    if (play % 2) column = 18 - column;
+    return sprintf(text, "%d play %c %c%d\n", number, "bw"[play % 2], "ABCDEFGHJKLMNOPQRST"[column], row);
+}
+
+/* Reads once, and answers how many newlines came. A reply ends with two. */
+static int heard(int from) {
+    char bytes[4096];
+    ssize_t count = read(from, bytes, sizeof bytes);
+    if (count <= 0) exit(3);
+    int newlines = 0;
+    for (ssize_t at = 0; at < count; at++) newlines += bytes[at] == '\n';
+    return newlines;
+}
+
+static void talk(int to, int from, int commands, int ahead) {
+    int sent = 0, newlines = 0;
+    while (newlines < 2 * commands) {
+        char texts[1024];
+        int size = 0;
+        while (sent < commands && sent - newlines / 2 < ahead) size += command(texts + size, ++sent);
+        if (size && write(to, texts, (size_t)size) != size) exit(3);
+        newlines += heard(from);
     }
 }
 
-static void say(int to, int from, const char *text) {
-    if (write(to, text, strlen(text)) != (ssize_t)strlen(text)) exit(3);
-    await(from);
-}
-
-/* The same plays as the engine's own list. */
-static void play(int to, int from, int number) {
-    char text[64];
-    int column = number / 2 % 9;
-    int row = 1 + number / 2 / 9;
-    if (number % 2) column = 18 - column;
-    sprintf(text, "%d play %c %c%d\n", number + 4, "bw"[number % 2], "ABCDEFGHJKLMNOPQRST"[column], row);
-    say(to, from, text);
-}
-
-static void replay(int plays, char **engine) {
+static void replay(int commands, int ahead, char **engine) {
     int in[2], out[2];
     if (pipe(in) || pipe(out)) exit(3);
     pid_t process = fork();
@@ -49,12 +57,7 @@ static void replay(int plays, char **engine) {
     }
     close(in[0]);
     close(out[1]);
-    if (plays >= 0) {
-        say(in[1], out[0], "1 boardsize 19\n");
-        say(in[1], out[0], "2 komi 6.5\n");
-        say(in[1], out[0], "3 clear_board\n");
-    }
-    for (int number = 0; number < plays; number++) play(in[1], out[0], number);
+    talk(in[1], out[0], commands, ahead);
     close(in[1]);
     close(out[0]);
     kill(process, SIGKILL);
@@ -62,7 +65,7 @@ static void replay(int plays, char **engine) {
 }
 
 int main(int count, char **words) {
-    if (count < 4) return 2;
-    for (int time = atoi(words[1]); time > 0; time--) replay(atoi(words[2]), words + 3);
+    if (count < 5 || atoi(words[3]) < 1 || atoi(words[3]) > 16) return 2;
+    for (int time = atoi(words[1]); time > 0; time--) replay(atoi(words[2]) + 3, atoi(words[3]), words + 4);
     return 0;
 }
