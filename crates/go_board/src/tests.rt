@@ -157,6 +157,36 @@ fn three_stones_taken_for_one_are_no_ko(rt: HostRuntime) {
 }
 
 #[test]
+fn a_chain_falls_apart_where_the_stone_that_joined_it_is_taken_back(
+    rt: HostRuntime,
+) -> Result<(), Fail> {
+    let mut game = new_game(&rt, 3);
+    play_all(
+        &rt,
+        &mut game,
+        &[
+            (Colour::Black, "A1"),
+            (Colour::Black, "A3"),
+            (Colour::Black, "A2"),
+        ],
+    );
+    assert_board(&rt, &game, &["X..", "X..", "X.."]);
+    game.undo()?;
+    play_all(
+        &rt,
+        &mut game,
+        &[(Colour::White, "B1"), (Colour::White, "A2")],
+    );
+    // A1 had no liberty left. A3, no longer of its chain, has one on B3.
+    assert_board(&rt, &game, &["X..", "O..", ".O."]);
+    assert_captured(&rt, &game, 0, 1);
+    play_all(&rt, &mut game, &[(Colour::White, "B3")]);
+    assert_board(&rt, &game, &[".O.", "O..", ".O."]);
+    assert_captured(&rt, &game, 0, 2);
+    Ok(())
+}
+
+#[test]
 fn the_last_column_of_the_largest_board_is_an_edge(rt: HostRuntime) {
     let mut game = new_game(&rt, 25);
     play_all(
