@@ -12,11 +12,11 @@ use Rattle.go_base.specs.declared.moves.Move.{Move}
 use Rattle.go_base.specs.declared.vertices.Vertex.{Vertex}
 use Rattle.go_base.specs.declared.vertices.Vertex.TheVariants.{Pass, At}
 use Rattle.go_board.specs.Board.{empty_board, with_black}
-use Rattle.go_board.specs.Frame.{HasSize, IsFramed}
+use Rattle.go_board.specs.private.Frame.{HasSize, IsFramed}
 use Rattle.go_board.specs.Game.{GameRecord, start, board, board_of, with_move, after_vertex, IsGame, IsLegal}
-use Rattle.go_board.specs.Label.{AreFree}
+use Rattle.go_board.specs.private.Label.{AreFree}
 use Rattle.go_board.specs.Put.{put}
-use Rattle.go_board.specs.Removed.{stone_count, removed_of, removed_from, removed_by, taken_at, IsOpen}
+use Rattle.go_board.specs.private.Removed.{stone_count, removed_of, removed_from, removed_by, taken_at, IsOpen}
 use Rattle.go_board.specs.declared.board.Cell.{Cell}
 use Rattle.go_board.specs.declared.board.Cell.TheVariants.{Black}
 use Rattle.go_board.specs.declared.removed.Taken.{Taken}

@@ -14,7 +14,7 @@ use Rattle.go_base.specs.declared.moves.Move.{Move}
 use Rattle.go_board.specs.Board.{stone}
 use Rattle.go_board.specs.Game.{GameRecord, start, board, board_of, with_move, after}
 use Rattle.go_board.specs.Put.{is_captured, captured_count, captures}
-use Rattle.go_board.specs.Removed.{taken_at, removed_by, removed_from, removed_of}
+use Rattle.go_board.specs.private.Removed.{taken_at, removed_by, removed_from, removed_of}
 use Rattle.go_board.specs.Taken.{captures_of_vertex, same_colour, taken_from, taken}
 use Rattle.go_board.specs.declared.board.Cell.{Cell}
 use Rattle.go_board.specs.declared.removed.Taken.{Taken}
