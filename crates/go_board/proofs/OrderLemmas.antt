@@ -41,7 +41,7 @@ pub record IsOrderly (game : GameRecord) : Type 0 where
 
 -- ---- the start
 
-length-with_black : (b : List Cell) (ps : List ℕ) → length (with_black b ps) ≡ length b
+pub length-with_black : (b : List Cell) (ps : List ℕ) → length (with_black b ps) ≡ length b
 length-with_black b [] = refl
 length-with_black b (p ∷ ps) = length-with_black (set b p Black) ps ∙ length-set b p Black
 

@@ -30,7 +30,7 @@ taken_from-push b c (x ∷ xs) m =
     let rest = taken_from-push (after b x) c xs m in
     omega (arith, rest)
 
-taken-push : (game : GameRecord) (c : Colour) (v : Vertex) (d : Colour)
+pub taken-push : (game : GameRecord) (c : Colour) (v : Vertex) (d : Colour)
     → taken (with_move game c v) d ≡ taken game d + (if same_colour c d then captures_of_vertex (board_of game) d v else 0)
 unfolding taken taken_by board
 taken-push game c v d = taken_from-push (start game.size game.handicap) d game.moves (record { colour = c; vertex = v })

@@ -7,5 +7,6 @@ pub mod Counting
 pub mod Area
 pub mod Refusals
 pub mod Show
+pub mod Laws
 pub mod decisions
 pub mod private
