@@ -4,10 +4,11 @@ use Rattle.std.specs.Prelude.{◌⊎◌, ◌≢◌, slice_index}
 use Rattle.std.proofs.lemmas.List.Elements.{Contains-get_or}
 use Rattle.std.proofs.Math.ListN.{set, length-set}
 use Rattle.go_board.specs.Board.{at, IsStone}
-use Rattle.go_board.specs.Frame.{IsFramed}
+use Rattle.go_board.specs.private.Frame.{IsFramed}
 use Rattle.go_board.specs.Chain.{Joined, itself, by_way_of}
-use Rattle.go_board.specs.DecideChains.{joined?}
-use Rattle.go_board.specs.Label.{label_of, AreLabels, AreGiven, AreOthersKept, IsChainOf, IsChainNamed}
+use Rattle.go_board.specs.decisions.Chain.{joined?}
+use Rattle.go_board.specs.private.Label.{label_of, AreLabels, IsChainOf}
+use Rattle.go_board.specs.private.Steps.{AreGiven, AreOthersKept, IsChainNamed}
 use Rattle.go_board.specs.declared.board.Cell.{Cell}
 use Rattle.go_board.proofs.BoardLemmas.{same_or_other}
 use Rattle.go_board.proofs.CaptureLemmas.{in_list}

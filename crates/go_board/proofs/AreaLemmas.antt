@@ -4,7 +4,9 @@ use Rattle.std.specs.Prelude.{ℤ, pos, ◌*ℤ◌, ◌-ℤ◌, count_by}
 use Rattle.std.specs.List.{range_with_len}
 use Rattle.go_base.specs.declared.colours.Colour.{Colour}
 use Rattle.go_base.specs.declared.colours.Colour.TheVariants.{Black, White}
-use Rattle.go_board.specs.Area.{CountsFor, counts_for?, is_counted, area, score}
+use Rattle.go_board.specs.Counting.{CountsFor}
+use Rattle.go_board.specs.decisions.Counting.{counts_for?}
+use Rattle.go_board.specs.Area.{is_counted, area, score}
 use Rattle.go_board.specs.Game.{GameRecord, board_of}
 use Rattle.go_board.specs.declared.board.Cell.{Cell}
 use Rattle.go_board.proofs.CaptureLemmas.{holds-yes, holds-no, count_by-more}

@@ -8,7 +8,7 @@ use Rattle.go_base.specs.Size.{size_max}
 use Rattle.go_base.specs.declared.colours.Colour.{Colour}
 use Rattle.go_base.specs.declared.colours.Colour.TheVariants as colour
 use Rattle.go_board.specs.Board.{at, stone}
-use Rattle.go_board.specs.Frame.{IsFramed}
+use Rattle.go_board.specs.private.Frame.{IsFramed}
 use Rattle.go_board.specs.Chain.{itself, HasBeside, IsFree}
 use Rattle.go_board.specs.declared.board.Cell.{Cell}
 use Rattle.go_board.specs.declared.board.Cell.TheVariants.{Edge, Empty}

@@ -8,10 +8,12 @@ use Rattle.std.proofs.lemmas.List.FromFn.{fill_by_all, sum_by-map-range_with_len
 use Rattle.go_base.specs.Colour.{other}
 use Rattle.go_base.specs.declared.colours.Colour.{Colour}
 use Rattle.go_board.specs.Board.{at, stone}
-use Rattle.go_board.specs.Frame.{IsFramed, HasSize, SameEdge}
+use Rattle.go_board.specs.private.Frame.{IsFramed, HasSize, SameEdge}
 use Rattle.go_base.specs.Decide.{holds}
-use Rattle.go_board.specs.Flood.{AreTouching}
-use Rattle.go_board.specs.Put.{IsCaptured, captured?, is_captured, left_at, without_captured, captured_count, put}
+use Rattle.go_board.specs.private.Flood.{AreTouching}
+use Rattle.go_board.specs.Chain.{IsCaptured}
+use Rattle.go_board.specs.decisions.Chain.{captured?}
+use Rattle.go_board.specs.Put.{is_captured, left_at, without_captured, captured_count, put}
 use Rattle.go_board.specs.declared.board.Cell.{Cell}
 use Rattle.go_board.specs.declared.board.Cell.TheVariants.{Edge, Empty}
 use Rattle.go_board.proofs.BoardLemmas.{stone-point, stone-differs, same_or_other}

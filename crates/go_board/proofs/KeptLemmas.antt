@@ -14,13 +14,13 @@ use Rattle.go_board.specs.Board.{at}
 use Rattle.go_board.specs.Chain.{IsFree}
 use Rattle.go_board.specs.declared.board.Cell.TheVariants.{Empty}
 use Rattle.go_board.proofs.NextLemmas.{empty-point}
-use Rattle.go_board.specs.Frame.{HasSize}
+use Rattle.go_board.specs.private.Frame.{HasSize}
 use Rattle.go_board.specs.Game.{GameRecord, start, board_of, with_move, after_vertex, IsGame, IsLegal, Repeats}
-use Rattle.go_board.specs.Kept.{record_of, IsKept}
-use Rattle.go_board.specs.Ko.{IsKo, IsKoAfter, TakesOnly}
-use Rattle.go_board.specs.Label.{AreChains, AreFree}
+use Rattle.go_board.specs.private.Kept.{record_of, IsKept}
+use Rattle.go_board.specs.private.Ko.{IsKo, IsKoAfter, TakesOnly}
+use Rattle.go_board.specs.private.Label.{AreChains, AreFree}
 use Rattle.go_board.specs.Put.{put}
-use Rattle.go_board.specs.Removed.{removed_of, removed_by, taken_at, IsAfterMove, IsTakenBack}
+use Rattle.go_board.specs.private.Removed.{removed_of, removed_by, taken_at, IsAfterMove, IsTakenBack}
 use Rattle.go_board.specs.Taken.{same_colour, taken, captures_of_vertex, taken_from}
 use Rattle.go_board.specs.declared.board.Cell.{Cell}
 use Rattle.go_board.specs.declared.chains.Chains.{Chains}

@@ -9,9 +9,9 @@ use Rattle.go_base.specs.declared.vertices.Vertex.{Vertex}
 use Rattle.go_base.specs.declared.vertices.Vertex.TheVariants.{Pass, At}
 use Rattle.go_board.specs.Board.{stone}
 use Rattle.go_board.specs.Game.{GameRecord, board_of, with_move, IsGame, IsLegal}
-use Rattle.go_board.specs.Ko.{IsKo, IsKoAfter}
+use Rattle.go_board.specs.private.Ko.{IsKo, IsKoAfter}
 use Rattle.go_board.specs.Put.{captures}
-use Rattle.go_board.specs.Removed.{captured_places, removed_of, taken_at, IsNotLast, IsOnly}
+use Rattle.go_board.specs.private.Removed.{captured_places, removed_of, taken_at, IsNotLast, IsOnly}
 use Rattle.go_board.specs.declared.removed.Taken.{Taken}
 use Rattle.go_board.proofs.GameLemmas.{with-last, IsBeforeMove, IsBeforeMove-from}
 use Rattle.go_board.proofs.KoGameLemmas.{IsKo-start, IsKo-pass, IsKo-play, IsKo-many}

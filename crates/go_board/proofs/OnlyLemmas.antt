@@ -9,9 +9,11 @@ use Rattle.go_base.specs.Colour.{other}
 use Rattle.go_base.specs.declared.colours.Colour.{Colour}
 use Rattle.go_board.specs.Board.{stone}
 use Rattle.go_base.specs.Decide.{holds}
-use Rattle.go_board.specs.Ko.{TakesOnly}
-use Rattle.go_board.specs.Put.{IsCaptured, captured?, is_captured, captured_count, captures}
-use Rattle.go_board.specs.Removed.{captured_places}
+use Rattle.go_board.specs.private.Ko.{TakesOnly}
+use Rattle.go_board.specs.Chain.{IsCaptured}
+use Rattle.go_board.specs.decisions.Chain.{captured?}
+use Rattle.go_board.specs.Put.{is_captured, captured_count, captures}
+use Rattle.go_board.specs.private.Removed.{captured_places}
 use Rattle.go_board.specs.declared.board.Cell.{Cell}
 use Rattle.go_board.proofs.BoardLemmas.{stone-point}
 use Rattle.go_board.proofs.CaptureLemmas.{holds-yes, holds-no, in_list}

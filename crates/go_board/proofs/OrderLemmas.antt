@@ -12,11 +12,11 @@ use Rattle.go_base.specs.declared.moves.Move.{Move}
 use Rattle.go_base.specs.declared.vertices.Vertex.{Vertex}
 use Rattle.go_base.specs.declared.vertices.Vertex.TheVariants.{Pass, At}
 use Rattle.go_board.specs.Board.{empty_board, with_black}
-use Rattle.go_board.specs.Frame.{HasSize, IsFramed}
+use Rattle.go_board.specs.private.Frame.{HasSize, IsFramed}
 use Rattle.go_board.specs.Game.{GameRecord, start, board, board_of, with_move, after_vertex, IsGame, IsLegal}
-use Rattle.go_board.specs.Label.{AreFree}
+use Rattle.go_board.specs.private.Label.{AreFree}
 use Rattle.go_board.specs.Put.{put}
-use Rattle.go_board.specs.Removed.{stone_count, removed_of, removed_from, removed_by, taken_at, IsOpen}
+use Rattle.go_board.specs.private.Removed.{stone_count, removed_of, removed_from, removed_by, taken_at, IsOpen}
 use Rattle.go_board.specs.declared.board.Cell.{Cell}
 use Rattle.go_board.specs.declared.board.Cell.TheVariants.{Black}
 use Rattle.go_board.specs.declared.removed.Taken.{Taken}
@@ -41,7 +41,7 @@ pub record IsOrderly (game : GameRecord) : Type 0 where
 
 -- ---- the start
 
-length-with_black : (b : List Cell) (ps : List ℕ) → length (with_black b ps) ≡ length b
+pub length-with_black : (b : List Cell) (ps : List ℕ) → length (with_black b ps) ≡ length b
 length-with_black b [] = refl
 length-with_black b (p ∷ ps) = length-with_black (set b p Black) ps ∙ length-set b p Black
 

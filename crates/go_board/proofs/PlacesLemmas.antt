@@ -7,7 +7,7 @@ use Rattle.std.proofs.lemmas.List.Sums.{sum_by-set, count_by-le-length}
 use Rattle.std.proofs.lemmas.Grind.{get_or_default_zero}
 use Rattle.std.proofs.lemmas.List.Elements.{All-push, All-get_or, Contains-push, Contains-push_cases, Contains-append_left}
 use Rattle.arrayvec.specs.ArrayVec.{ArrayVec}
-use Rattle.go_board.specs.Places.{AreMarked}
+use Rattle.go_board.specs.private.Places.{AreMarked}
 use Rattle.go_board.specs.declared.places.Places.TheInside.{Inside}
 
 count_by-set : (marks : List Bool) (i : ℕ) → i < length marks → get_or marks i false ≡ false → count_by (λ m. m) (set marks i true) ≡ count_by (λ m. m) marks + 1

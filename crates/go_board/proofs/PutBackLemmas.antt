@@ -5,7 +5,7 @@ use Rattle.std.specs.List.{range_with_len, filter, AllByRecursion}
 use Rattle.std.proofs.lemmas.List.{length_push}
 use Rattle.std.proofs.Math.ListN.{set, length-set}
 use Rattle.go_board.specs.Board.{at}
-use Rattle.go_board.specs.Removed.{taken_at, with_stones, IsNotLast, AreLastPoints, IsPutBack}
+use Rattle.go_board.specs.private.Removed.{taken_at, with_stones, IsNotLast, AreLastPoints, IsPutBack}
 use Rattle.go_board.specs.declared.board.Cell.{Cell}
 use Rattle.go_board.specs.declared.board.Cell.TheVariants.{Edge, Empty}
 use Rattle.go_board.specs.declared.removed.Taken.{Taken}

@@ -4,7 +4,7 @@ use Rattle.std.specs.Prelude.{◌≢◌, ◌==◌, ◌&&◌}
 use Rattle.std.proofs.lemmas.Bool.Decides.{nat_tests}
 use Rattle.std.proofs.Math.ListN.{set, length-set}
 use Rattle.go_board.specs.Board.{at, IsStone}
-use Rattle.go_board.specs.Label.{label_of, is_stone, empty_beside, share, count_of, AreCounts, count_at}
+use Rattle.go_board.specs.private.Label.{label_of, is_stone, empty_beside, share, count_of, AreCounts, count_at}
 use Rattle.go_board.specs.declared.board.Cell.{Cell}
 use Rattle.go_board.proofs.BoardLemmas.{same_or_other}
 use Rattle.go_board.proofs.SumLemmas.{total-changed, total-at_least}

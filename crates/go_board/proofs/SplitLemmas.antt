@@ -6,9 +6,10 @@ use Rattle.std.proofs.lemmas.List.{get_or-map}
 use Rattle.std.proofs.Math.ListN.{set}
 use Rattle.go_base.specs.Point.{Neighbours}
 use Rattle.go_board.specs.Board.{at, IsStone}
-use Rattle.go_board.specs.Frame.{IsFramed}
+use Rattle.go_board.specs.private.Frame.{IsFramed}
 use Rattle.go_board.specs.Chain.{Joined, itself, by_way_of}
-use Rattle.go_board.specs.Label.{label_of, label_at, label_beside, renamed, joined, AreLabels, IsNamed, IsCut}
+use Rattle.go_board.specs.private.Label.{label_of, label_at, label_beside, AreLabels}
+use Rattle.go_board.specs.private.Steps.{renamed, joined, IsNamed, IsCut}
 use Rattle.go_board.specs.declared.board.Cell.{Cell}
 use Rattle.go_board.specs.declared.board.Cell.TheVariants.{Edge, Empty}
 use Rattle.go_board.proofs.BoardLemmas.{same_or_other}

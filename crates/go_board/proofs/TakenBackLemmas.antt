@@ -10,8 +10,10 @@ use Rattle.go_base.specs.declared.colours.Colour.{Colour}
 use Rattle.go_base.specs.declared.vertices.Vertex.TheVariants.{Pass, At}
 use Rattle.go_board.specs.Board.{at, stone}
 use Rattle.go_base.specs.Decide.{holds}
-use Rattle.go_board.specs.Put.{IsCaptured, captured?, is_captured, put, captures, captured_count}
-use Rattle.go_board.specs.Removed.{captured_places, with_stones, AreLastPoints, IsPutBack, IsAfterMove, IsTakenBack}
+use Rattle.go_board.specs.Chain.{IsCaptured}
+use Rattle.go_board.specs.decisions.Chain.{captured?}
+use Rattle.go_board.specs.Put.{is_captured, put, captures, captured_count}
+use Rattle.go_board.specs.private.Removed.{captured_places, with_stones, AreLastPoints, IsPutBack, IsAfterMove, IsTakenBack}
 use Rattle.go_board.specs.declared.board.Cell.{Cell}
 use Rattle.go_board.specs.declared.board.Cell.TheVariants.{Edge, Empty}
 use Rattle.go_board.specs.declared.removed.Taken.{Taken}

@@ -14,7 +14,7 @@ use Rattle.go_base.specs.declared.moves.Move.{Move}
 use Rattle.go_board.specs.Board.{stone}
 use Rattle.go_board.specs.Game.{GameRecord, start, board, board_of, with_move, after}
 use Rattle.go_board.specs.Put.{is_captured, captured_count, captures}
-use Rattle.go_board.specs.Removed.{taken_at, removed_by, removed_from, removed_of}
+use Rattle.go_board.specs.private.Removed.{taken_at, removed_by, removed_from, removed_of}
 use Rattle.go_board.specs.Taken.{captures_of_vertex, same_colour, taken_from, taken}
 use Rattle.go_board.specs.declared.board.Cell.{Cell}
 use Rattle.go_board.specs.declared.removed.Taken.{Taken}
@@ -30,7 +30,7 @@ taken_from-push b c (x ∷ xs) m =
     let rest = taken_from-push (after b x) c xs m in
     omega (arith, rest)
 
-taken-push : (game : GameRecord) (c : Colour) (v : Vertex) (d : Colour)
+pub taken-push : (game : GameRecord) (c : Colour) (v : Vertex) (d : Colour)
     → taken (with_move game c v) d ≡ taken game d + (if same_colour c d then captures_of_vertex (board_of game) d v else 0)
 unfolding taken taken_by board
 taken-push game c v d = taken_from-push (start game.size game.handicap) d game.moves (record { colour = c; vertex = v })

@@ -1,7 +1,8 @@
 -- Chains, regions and liberties. (Own rules of play, in Go's words.)
 use Rattle.std.specs.Prelude.{◌≡◌, ◌≢◌, ℕ, List}
 use Rattle.go_base.specs.Point.{Neighbours}
-use Rattle.go_board.specs.Board.{at}
+use Rattle.go_base.specs.declared.colours.Colour.{Colour}
+use Rattle.go_board.specs.Board.{at, stone}
 use Rattle.go_board.specs.declared.board.Cell.{Cell}
 use Rattle.go_board.specs.declared.board.Cell.TheVariants.{Edge, Empty}
 
@@ -26,3 +27,7 @@ pub record Touches (board : List Cell) (p : ℕ) (this : Cell) : Type 0 where
 -- the chain of the stone on p has a liberty: an empty point beside one of its stones
 abbrev pub IsFree : List Cell → ℕ → Type 0
 IsFree board p = Touches board p Empty
+
+-- p holds a stone of this colour, and its chain has no liberty
+abbrev pub IsCaptured : List Cell → Colour → ℕ → Type 0
+IsCaptured board c p = (at board p ≡ stone c) × ¬ IsFree board p

@@ -13,9 +13,6 @@ use Rattle.go_board.specs.declared.board.Cell.{Cell}
 use Rattle.go_board.specs.declared.board.Cell.TheVariants.{Empty}
 use Rattle.go_board.specs.Board.{at, empty_board, with_black}
 use Rattle.go_board.specs.Chain.{IsFree}
-use Rattle.go_base.specs.Decide.{both?, not?, by?, below?}
-use Rattle.go_board.specs.Decide.{on?, cell?, boards?}
-use Rattle.go_board.specs.DecideChains.{touches?}
 use Rattle.go_board.specs.Put.{put}
 
 -- komi in half points, handicap 0 where there is none
@@ -91,21 +88,6 @@ pub record IsGame (game : GameRecord) : Type 0 where
   pub handicap : (game.handicap ≡ 0) ⊎ AllowsHandicap game.size game.handicap
   pub few : length game.moves ≤ most_moves
   pub legal : (k : ℕ) (move : Move) → slice_get game.moves k ≡ Some move → IsLegal (first_moves k game) move.colour move.vertex
-
--- ---- decisions, for definitions that go by what is legal
-
-pub repeats? : (game : GameRecord) (next : List Cell) → Dec (Repeats game next)
-repeats? game next =
-    by? (λ h. record { moved = h.0; same = h.1 }) (λ r. (r.moved, r.same))
-    (both? (below? 0 (length game.moves)) (boards? next (board_of (without_last game))))
-
-pub legal? : (game : GameRecord) (c : Colour) (v : Vertex) → Dec (IsLegal game c v)
-legal? game c Pass = yes tt
-legal? game c (At p) =
-    by? (λ h. record { on_board = h.0; empty = (h.1).0; free = ((h.1).1).0; no_ko = ((h.1).1).1 }) (λ l. (l.on_board, (l.empty, (l.free, l.no_ko))))
-    (both? (on? game.size p)
-    (both? (cell? (at (board_of game) p) Empty)
-    (both? (touches? (put (board_of game) c p) p Empty) (not? (repeats? game (put (board_of game) c p))))))
 
 -- ---- the end
 

@@ -1,23 +1,15 @@
 -- A play: the stone is put down, and then the other colour's stones without a liberty are removed, all at once. (Own rules of play.)
-use Rattle.std.specs.Prelude.{◌≡◌, ℕ, if◌then◌else◌, Bool, List, map, length, slice_set, count_by}
+use Rattle.std.specs.Prelude.{ℕ, if◌then◌else◌, Bool, List, map, length, slice_set, count_by}
 use Rattle.std.specs.List.{range_with_len}
 use Rattle.go_base.specs.Colour.{other}
 use Rattle.go_base.specs.declared.colours.Colour.{Colour}
 use Rattle.go_board.specs.declared.board.Cell.{Cell}
 use Rattle.go_board.specs.declared.board.Cell.TheVariants.{Empty}
 use Rattle.go_board.specs.Board.{at, stone}
-use Rattle.go_board.specs.Chain.{IsFree}
-use Rattle.go_base.specs.Decide.{holds, both?, not?}
-use Rattle.go_board.specs.Decide.{cell?}
-use Rattle.go_board.specs.DecideChains.{touches?}
+use Rattle.go_base.specs.Decide.{holds}
+use Rattle.go_board.specs.decisions.Chain.{captured?}
 
--- p holds a stone of this colour, and its chain has no liberty
-abbrev pub IsCaptured : List Cell → Colour → ℕ → Type 0
-IsCaptured board c p = (at board p ≡ stone c) × ¬ IsFree board p
-
-abbrev pub captured? : (board : List Cell) (c : Colour) (p : ℕ) → Dec (IsCaptured board c p)
-captured? board c p = both? (cell? (at board p) (stone c)) (not? (touches? board p Empty))
-
+-- whether p holds a stone of this colour, whose chain has no liberty
 abbrev pub is_captured : List Cell → Colour → ℕ → Bool
 is_captured board c p = holds (captured? board c p)
 

@@ -33,7 +33,7 @@ pub enum Cell {
 
 impl Cell {
     ghost use Rattle.go_board.specs.Board.{stone, IsStone};
-    ghost use Rattle.go_board.specs.Label.{is_stone, is_empty};
+    ghost use Rattle.go_board.specs.private.Label.{is_stone, is_empty};
 
     /// The stone of this colour.
     #[inline]
@@ -100,7 +100,7 @@ impl Model for Board {
 
     ghost Value = { List Cell };
 
-    ghost use Rattle.go_board.specs.Frame.{IsFramed};
+    ghost use Rattle.go_board.specs.private.Frame.{IsFramed};
 
     ghost view = { λ b. b.cells };
 
@@ -111,15 +111,16 @@ impl Model for Board {
 
 impl Board {
     ghost use Rattle.std.specs.Prelude.{slice_set};
-    ghost use Rattle.go_board.specs.Label.{IsChainOf};
+    ghost use Rattle.go_board.specs.private.Label.{IsChainOf};
     ghost use Rattle.go_board.specs.Board.{place_count, at, stone, empty_board, with_black, HasStone};
-    ghost use Rattle.go_board.specs.Frame.{HasSize, SameEdge};
+    ghost use Rattle.go_board.specs.private.Frame.{HasSize, SameEdge};
     ghost use Rattle.go_base.specs.Colour.{other};
     ghost use Rattle.go_base.specs.Handicap.{AllowsHandicap};
-    ghost use Rattle.go_board.specs.Area.{CountsFor, area};
+    ghost use Rattle.go_board.specs.Counting.{CountsFor};
+    ghost use Rattle.go_board.specs.Area.{area};
     ghost use Rattle.go_board.specs.Chain.{HasBeside};
-    ghost use Rattle.go_board.specs.Flood.{IsSpread, AreTouching};
-    ghost use Rattle.go_board.specs.Spread.{AreSpread};
+    ghost use Rattle.go_board.specs.private.Flood.{IsSpread, AreTouching};
+    ghost use Rattle.go_board.specs.private.Spread.{AreSpread};
     ghost use Rattle.go_board.specs.Game.{start};
     ghost use Rattle.go_board.specs.declared.board.Cell.TheVariants.{Edge};
 

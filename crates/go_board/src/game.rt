@@ -5,7 +5,7 @@ ghost use Rattle.go_base.specs.Handicap.{AllowsHandicap, handicap_points};
 ghost use Rattle.go_base.specs.Point.{IsOn};
 ghost use Rattle.go_base.specs.Size.{size_max};
 ghost use Rattle.go_board.specs.Board.{place_count};
-ghost use Rattle.go_board.specs.Removed.{most_removed};
+ghost use Rattle.go_board.specs.private.Removed.{most_removed};
 ghost use Rattle.go_board.specs.Taken.{same_colour};
 
 use crate::board::{Board, Cell, place_of};
@@ -41,7 +41,7 @@ impl Model for Game {
 
     ghost Value = { GameRecord };
 
-    ghost use Rattle.go_board.specs.Kept.{record_of, IsKept};
+    ghost use Rattle.go_board.specs.private.Kept.{record_of, IsKept};
 
     ghost view = { record_of };
 
@@ -53,7 +53,7 @@ impl Game {
     ghost use Rattle.go_board.specs.Put.{put};
     ghost use Rattle.go_board.specs.declared.board.Cell.TheVariants.{Empty};
     ghost use Rattle.go_board.specs.Game.{most_moves, HasRoom, without_last, with_move, board_of, Repeats, IsLegal, IsGame, IsFinished};
-    ghost use Rattle.go_board.specs.DecideGame.{finished?};
+    ghost use Rattle.go_board.specs.decisions.Game.{finished?};
     ghost use Rattle.go_board.specs.Taken.{taken};
     ghost use Rattle.go_board.specs.Area.{score};
     ghost use Rattle.go_board.specs.Refusals.{RefusesPoint, RefusesVertex, Refuses, IsTouched, RefusesHandicap};

@@ -18,7 +18,7 @@ impl Model for Places {
 
     ghost Value = { List ℕ };
 
-    ghost use Rattle.go_board.specs.Places.{places_of, AreMarked};
+    ghost use Rattle.go_board.specs.private.Places.{places_of, AreMarked};
 
     ghost view = { places_of };
 

@@ -5,7 +5,7 @@ use Rattle.go_base.specs.Decide.{holds}
 use Rattle.go_base.specs.declared.colours.Colour.{Colour}
 use Rattle.go_base.specs.declared.vertices.Vertex.{Vertex}
 use Rattle.go_board.specs.Area.{score}
-use Rattle.go_board.specs.DecideGame.{finished?}
+use Rattle.go_board.specs.decisions.Game.{finished?}
 use Rattle.go_board.specs.Game.{with_move}
 use Rattle.gtp_wire.specs.declared.replies.Reply.{Reply}
 use Rattle.gtp_match.specs.Controller.{started, sent, sent_to, downed, lost, lost_engine, verdict_when_down}

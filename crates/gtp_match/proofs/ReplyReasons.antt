@@ -10,7 +10,8 @@ use Rattle.go_base.specs.declared.colours.Colour.{Colour}
 use Rattle.go_base.specs.declared.vertices.Vertex.{Vertex}
 use Rattle.go_base.proofs.VertexLemmas.{vertex_of_spelled, spells_vertex_of}
 use Rattle.go_base.specs.Decide.{holds}
-use Rattle.go_board.specs.Game.{GameRecord, IsLegal, legal?}
+use Rattle.go_board.specs.Game.{GameRecord, IsLegal}
+use Rattle.go_board.specs.decisions.Game.{legal?}
 use Rattle.gtp_wire.specs.declared.commands.Command.{Command}
 use Rattle.gtp_wire.specs.declared.commands.Command.TheVariants as command
 use Rattle.gtp_wire.specs.declared.replies.Reply.{Reply}

@@ -5,7 +5,8 @@ use Rattle.go_base.specs.Colour.{colour_of}
 use Rattle.go_base.specs.Vertex.{written_vertex}
 use Rattle.go_base.specs.declared.colours.Colour.{Colour}
 use Rattle.go_base.specs.declared.vertices.Vertex.{Vertex}
-use Rattle.go_board.specs.Game.{GameRecord, IsLegal, HasRoom, most_moves, with_move, legal?}
+use Rattle.go_board.specs.Game.{GameRecord, IsLegal, HasRoom, most_moves, with_move}
+use Rattle.go_board.specs.decisions.Game.{legal?}
 use Rattle.gtp_wire.specs.Replies.{written_reply}
 use Rattle.gtp_wire.specs.declared.lines.Line.{Line}
 use Rattle.gtp_wire.specs.declared.lines.Line.TheVariants as line

@@ -12,8 +12,8 @@ use Rattle.go_base.specs.declared.choices.Choice.{Choice}
 use Rattle.go_base.specs.declared.choices.Choice.TheVariants as choice
 use Rattle.go_base.specs.declared.colours.Colour.{Colour}
 use Rattle.go_base.specs.declared.vertices.Vertex.{Vertex}
-use Rattle.go_board.specs.DecideGame.{touched?}
-use Rattle.go_board.specs.Game.{GameRecord, IsLegal, most_moves, with_move, without_last, legal?}
+use Rattle.go_board.specs.decisions.Game.{touched?, legal?}
+use Rattle.go_board.specs.Game.{GameRecord, IsLegal, most_moves, with_move, without_last}
 use Rattle.go_board.specs.Refusals.{IsTouched}
 use Rattle.gtp_wire.specs.declared.lines.Line.{Line}
 use Rattle.gtp_wire.specs.declared.lines.Line.TheVariants as line

@@ -7,11 +7,11 @@ use Rattle.go_base.specs.declared.colours.Colour.{Colour}
 use Rattle.go_base.specs.declared.vertices.Vertex.{Vertex}
 use Rattle.go_board.specs.declared.faults.PlayFault.{PlayFault}
 use Rattle.go_board.specs.declared.faults.PlayFault.TheVariants.{Full, OffBoard, Occupied, Suicide, Ko}
-use Rattle.go_board.specs.Game.{GameRecord, IsLegal, HasRoom, most_moves, with_move, legal?}
+use Rattle.go_board.specs.Game.{GameRecord, IsLegal, HasRoom, most_moves, with_move}
+use Rattle.go_board.specs.decisions.Game.{legal?, touched?}
 use Rattle.go_board.specs.Refusals.{Refuses, RefusesVertex, IsTouched}
 use Rattle.go_board.proofs.GameLemmas.{legal-or_refused}
 use Rattle.go_base.specs.Decide.{allows?}
-use Rattle.go_board.specs.DecideGame.{touched?}
 use Rattle.gtp_session.specs.Commands.{succeeds, fails, answer_move, answer_handicap, refusal_text, written_vertices}
 
 full_test : (n : ℕ) → most_moves ≤ n → nat_le most_moves n ≡ true

@@ -4,7 +4,8 @@ use Rattle.std.specs.List.{slice_split}
 use Rattle.go_base.specs.Choice.{choice_of}
 use Rattle.go_base.specs.declared.colours.Colour.{Colour}
 use Rattle.go_base.specs.declared.vertices.Vertex.TheVariants.{Pass}
-use Rattle.go_board.specs.Game.{GameRecord, legal?}
+use Rattle.go_board.specs.Game.{GameRecord}
+use Rattle.go_board.specs.decisions.Game.{legal?}
 use Rattle.go_base.specs.declared.choices.Choice.{Choice}
 use Rattle.go_base.specs.declared.choices.Choice.TheVariants as choice
 use Rattle.gtp_session.specs.declared.book.Place.{Place}

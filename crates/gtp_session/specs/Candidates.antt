@@ -9,8 +9,9 @@ use Rattle.go_base.specs.declared.colours.Colour.TheVariants.{Black, White}
 use Rattle.go_base.specs.declared.vertices.Vertex.TheVariants.{Pass, At}
 use Rattle.go_board.specs.Board.{stone_at}
 use Rattle.go_base.specs.Decide.{holds, both?, either?, by?, number?}
-use Rattle.go_board.specs.Decide.{on?}
-use Rattle.go_board.specs.Game.{GameRecord, board_of, IsLegal, legal?}
+use Rattle.go_board.specs.decisions.Board.{on?}
+use Rattle.go_board.specs.Game.{GameRecord, board_of, IsLegal}
+use Rattle.go_board.specs.decisions.Game.{legal?}
 use Rattle.go_base.specs.declared.choices.Choice.{Choice}
 use Rattle.go_base.specs.declared.choices.Choice.TheVariants.{Play}
 

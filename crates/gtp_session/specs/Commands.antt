@@ -14,9 +14,9 @@ use Rattle.go_base.specs.declared.vertices.Vertex.{Vertex}
 use Rattle.go_base.specs.declared.vertices.Vertex.TheVariants.{At}
 use Rattle.go_board.specs.declared.faults.PlayFault.{PlayFault}
 use Rattle.go_board.specs.declared.faults.PlayFault.TheVariants.{Full, OffBoard, Occupied, Suicide, Ko}
-use Rattle.go_board.specs.Game.{GameRecord, most_moves, with_move, without_last, legal?}
+use Rattle.go_board.specs.Game.{GameRecord, most_moves, with_move, without_last}
+use Rattle.go_board.specs.decisions.Game.{legal?, touched?}
 use Rattle.go_base.specs.Decide.{allows?}
-use Rattle.go_board.specs.DecideGame.{touched?}
 use Rattle.go_board.specs.Show.{shown}
 use Rattle.go_board.specs.Area.{score}
 use Rattle.gtp_wire.specs.Replies.{written_reply}

@@ -4,7 +4,8 @@ use Rattle.std.specs.Prelude.{slice_get}
 use Rattle.go_base.specs.declared.colours.Colour.{Colour}
 use Rattle.go_base.specs.declared.vertices.Vertex.{Vertex}
 use Rattle.go_base.specs.declared.vertices.Vertex.TheVariants.{Pass}
-use Rattle.go_board.specs.Game.{GameRecord, IsLegal, legal?}
+use Rattle.go_board.specs.Game.{GameRecord, IsLegal}
+use Rattle.go_board.specs.decisions.Game.{legal?}
 use Rattle.rand_pcg.specs.Lcg.{Lcg}
 use Rattle.rand_pcg.specs.Pcg.{pcg64}
 use Rattle.go_base.specs.declared.choices.Choice.{Choice}

@@ -37,7 +37,7 @@ use Rattle.gtp_match.specs.Controller.{with_side_up}
 use Rattle.gtp_match.specs.ReplyTable.{outcome, outcome_of, has_id, after_outcome, fault_of, verdict_after}
 use Rattle.gtp_match.specs.Hearing.{ReadsAlike, MayKeep, HearsUp, HearsWhere, Hears, HearsAllBy, HearsAll}
 use Rattle.go_base.specs.Decide.{holds}
-use Rattle.go_board.specs.DecideGame.{finished?}
+use Rattle.go_board.specs.decisions.Game.{finished?}
 use Rattle.gtp_match.specs.Setup.{SetupRecord}
 use Rattle.gtp_match.specs.Sound.{VerdictFits, InScript, IsAsked, IsSoundEngine, IsIdle, IsSound}
 use Rattle.gtp_match.specs.Unanswered.{most_unanswered}

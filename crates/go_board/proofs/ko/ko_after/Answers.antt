@@ -1,6 +1,6 @@
 use Rattle.std.proofs.Common.{sym, subst}
 use Rattle.std.specs.Prelude.{Option}
-use Rattle.go_board.specs.Ko.{IsKoAfter}
+use Rattle.go_board.specs.private.Ko.{IsKoAfter}
 use Rattle.go_board.specs.declared.ko.Ko.{Ko}
 use Rattle.go_board.proofs.KoAfterLemmas.{ko_after-pass, ko_after-none, ko_after-one}
 use Rattle.go_board.proofs.ko.ko_after.Goals as goal

@@ -1,6 +1,6 @@
 use Rattle.std.proofs.Common.{◌<◌, arith, length, rules}
 use Rattle.std.specs.Prelude.{slice_index}
-use Rattle.go_board.specs.Spread.{AreSpread}
+use Rattle.go_board.specs.private.Spread.{AreSpread}
 use Rattle.go_board.proofs.FloodLemmas.{IsSeeded, IsSown-more, IsFlooded-more, IsFlooded-done}
 use Rattle.go_board.proofs.board.Board.touching.Goals as goal
 use Rattle.go_board.proofs.board.Board.touching.Goals.{then-eq+then-has_beside, else-eq, else-eq-via-then-eq+else-has_beside, else-eq-via-else-eq}

@@ -1,6 +1,6 @@
 use Rattle.std.proofs.Common.{◌≡◌, arith, subst, sym, List}
 use Rattle.go_board.specs.Board.{at, stone}
-use Rattle.go_board.specs.Removed.{IsPutBack}
+use Rattle.go_board.specs.private.Removed.{IsPutBack}
 use Rattle.go_board.specs.declared.board.Cell.TheVariants.{Empty}
 use Rattle.go_board.specs.declared.removed.Taken.{Taken}
 use Rattle.go_board.proofs.NextLemmas.{empty-point}

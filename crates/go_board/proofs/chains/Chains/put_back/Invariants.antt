@@ -1,6 +1,6 @@
 use Rattle.std.proofs.Common.{length}
 use Rattle.go_board.specs.Board.{stone}
-use Rattle.go_board.specs.Label.{AreChains}
+use Rattle.go_board.specs.private.Label.{AreChains}
 use Rattle.go_board.proofs.PutBackLemmas.{IsPuttingBack}
 use Rattle.go_board.proofs.chains.Chains.put_back.Given as goal
 

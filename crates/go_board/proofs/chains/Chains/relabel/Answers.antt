@@ -1,5 +1,5 @@
 use Rattle.std.proofs.Common.{subst, sym, arith, List, ℕ}
-use Rattle.go_board.specs.Label.{AreCounts}
+use Rattle.go_board.specs.private.Label.{AreCounts}
 use Rattle.go_board.proofs.FloodLemmas.{IsOn-inside}
 use Rattle.go_board.proofs.LiftLemmas.{IsBelow-taken}
 use Rattle.go_board.proofs.RelabelLemmas.{AreCounts-relabelled}

@@ -1,5 +1,5 @@
 use Rattle.std.proofs.Common.{◌≡◌}
-use Rattle.go_board.specs.Label.{AreCounts}
+use Rattle.go_board.specs.private.Label.{AreCounts}
 use Rattle.go_board.proofs.AnewLemmas.{IsGiving}
 use Rattle.go_board.proofs.chains.Chains.relabel_all.Given as goal
 

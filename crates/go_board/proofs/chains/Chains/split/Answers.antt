@@ -1,5 +1,6 @@
 use Rattle.std.proofs.Common.{◌≡◌, ◌+◌, ◌-◌, ◌∙◌, subst, sym, List}
-use Rattle.go_board.specs.Label.{AreLabels, IsNamed}
+use Rattle.go_board.specs.private.Label.{AreLabels}
+use Rattle.go_board.specs.private.Steps.{IsNamed}
 use Rattle.go_board.specs.declared.board.Cell.{Cell}
 use Rattle.go_board.proofs.SplitLemmas.{AreLabels-split}
 use Rattle.go_board.proofs.chains.Chains.split.Goals as goal

@@ -1,7 +1,7 @@
 use Rattle.std.proofs.Common.{◌∙◌, sym, ap, subst}
 use Rattle.go_base.specs.declared.vertices.Vertex.{Vertex}
 use Rattle.go_base.specs.declared.vertices.Vertex.TheVariants.{At}
-use Rattle.go_board.specs.Removed.{IsTakenBack}
+use Rattle.go_board.specs.private.Removed.{IsTakenBack}
 use Rattle.go_board.proofs.chains.Chains.take_back.Goals as goal
 
 pub returns-in-At-clause-back : goal.returns-in-At-clause-back

@@ -1,8 +1,9 @@
 use Rattle.std.proofs.Common.{subst, sym, List, ℕ}
 use Rattle.std.specs.Prelude.{slice_set}
 use Rattle.go_board.specs.Board.{at}
-use Rattle.go_board.specs.Frame.{IsFramed}
-use Rattle.go_board.specs.Label.{AreLabels, IsCut}
+use Rattle.go_board.specs.private.Frame.{IsFramed}
+use Rattle.go_board.specs.private.Label.{AreLabels}
+use Rattle.go_board.specs.private.Steps.{IsCut}
 use Rattle.go_board.specs.declared.board.Cell.{Cell}
 use Rattle.go_board.specs.declared.board.Cell.TheVariants.{Empty}
 use Rattle.go_board.proofs.BoardLemmas.{IsFramed-set}

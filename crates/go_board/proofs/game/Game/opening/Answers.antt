@@ -1,5 +1,5 @@
 use Rattle.std.proofs.Common.{◌∙◌, sym, subst}
-use Rattle.go_board.specs.Frame.{IsFramed}
+use Rattle.go_board.specs.private.Frame.{IsFramed}
 use Rattle.go_board.proofs.KeptLemmas.{IsKept-start}
 use Rattle.go_board.proofs.OrderLemmas.{framed-start}
 use Rattle.go_board.proofs.game.Game.opening.Goals as goal

@@ -1,6 +1,6 @@
 use Rattle.std.proofs.Common.{◌≡◌, subst}
 use Rattle.go_board.specs.Game.{GameRecord, board_of}
-use Rattle.go_board.specs.Ko.{IsKo}
+use Rattle.go_board.specs.private.Ko.{IsKo}
 use Rattle.go_board.proofs.KeptLemmas.{repeats-from}
 use Rattle.go_board.proofs.game.Game.repeats.Goals as goal
 

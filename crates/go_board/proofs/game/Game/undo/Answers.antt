@@ -1,8 +1,8 @@
 use Rattle.std.proofs.Common.{ℕ, List, sym, subst}
 use Rattle.go_base.specs.declared.colours.Colour.TheVariants.{Black, White}
 use Rattle.go_base.specs.declared.moves.Move.{Move}
-use Rattle.go_board.specs.Ko.{IsKoAfter}
-use Rattle.go_board.specs.Removed.{IsAfterMove, IsTakenBack}
+use Rattle.go_board.specs.private.Ko.{IsKoAfter}
+use Rattle.go_board.specs.private.Removed.{IsAfterMove, IsTakenBack}
 use Rattle.go_board.proofs.KeptLemmas.{after-last, enough-taken, IsKept-undo}
 use Rattle.go_board.proofs.game.Game.undo.Goals as goal
 

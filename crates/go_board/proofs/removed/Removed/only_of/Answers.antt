@@ -1,5 +1,5 @@
 use Rattle.std.proofs.Common.{◌≡◌, ◌∙◌, sym}
-use Rattle.go_board.specs.Removed.{IsNotLast}
+use Rattle.go_board.specs.private.Removed.{IsNotLast}
 use Rattle.go_board.proofs.PopLemmas.{IsNotLast-none, IsNotLast-other, IsOnly-last, not_only-two}
 use Rattle.go_board.proofs.removed.Removed.only_of.Goals as goal
 use Rattle.go_board.proofs.removed.Removed.only_of.Goals.{in-Some+else-from-number-2, in_default}

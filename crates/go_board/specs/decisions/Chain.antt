@@ -4,12 +4,13 @@ use Rattle.std.proofs.Common.{◌≡◌, ℕ, zero, suc, ◌+◌, ◌<◌, ◌�
 use Rattle.std.specs.Prelude.{◌⊎◌, ◌≢◌}
 use Rattle.std.proofs.lemmas.List.{get_or_past}
 use Rattle.go_base.specs.Point.{Neighbours}
-use Rattle.go_board.specs.Board.{at}
-use Rattle.go_board.specs.Chain.{Joined, itself, by_way_of, HasBeside, Touches}
+use Rattle.go_base.specs.declared.colours.Colour.{Colour}
+use Rattle.go_board.specs.Board.{at, stone}
+use Rattle.go_board.specs.Chain.{Joined, itself, by_way_of, HasBeside, Touches, IsCaptured}
 use Rattle.go_base.specs.Decide.{both?, either?, not?, by?, number?}
-use Rattle.go_board.specs.Decide.{cell?}
+use Rattle.go_board.specs.decisions.Board.{cell?}
 use Rattle.go_board.specs.declared.board.Cell.{Cell}
-use Rattle.go_board.specs.declared.board.Cell.TheVariants.{Edge}
+use Rattle.go_board.specs.declared.board.Cell.TheVariants.{Edge, Empty}
 
 -- some number below n
 some_below? : (n : ℕ) (P : ℕ → Type 0) → ((k : ℕ) → Dec (P k)) → Dec ((k : ℕ) × (k < n) × P k)
@@ -156,3 +157,7 @@ touches? board p this =
     Joined-point : {board : List Cell} {p q : ℕ} → Joined board p q → at board p ≢ Edge
     Joined-point (itself point) = point
     Joined-point (by_way_of r point next same rest) = point
+
+-- whether p holds a stone of this colour, whose chain has no liberty
+abbrev pub captured? : (board : List Cell) (c : Colour) (p : ℕ) → Dec (IsCaptured board c p)
+captured? board c p = both? (cell? (at board p) (stone c)) (not? (touches? board p Empty))

@@ -1,6 +1,6 @@
 -- What a round of a flood does: the four neighbours of a point are put in, one after the other, where they hold what is sought.
 use Rattle.std.specs.Prelude.{ℕ, ◌+◌, ◌-◌, List}
-use Rattle.go_board.specs.Flood.{IsSpread}
+use Rattle.go_board.specs.private.Flood.{IsSpread}
 use Rattle.go_board.specs.declared.board.Cell.{Cell}
 
 pub record AreSpread (board : List Cell) (sought : Cell) (place : ℕ) (old new : List ℕ) : Type 0 where

@@ -1,7 +1,7 @@
--- Decisions of a game: whether a stone is on its board, whether it was touched, whether it is finished.
+-- Decisions of a game: whether a move is legal, whether a stone is on its board, whether it was touched, whether it is finished.
 use Rattle.std.proofs.Common.{◌≡◌, ℕ, zero, suc, List, [], ◌∷◌, ◌++◌, length, refl, ap, ◌∙◌, inl, inr}
 use Rattle.std.specs.Prelude.{◌⊎◌}
-use Rattle.go_base.specs.Decide.{both?, either?, by?, below?}
+use Rattle.go_base.specs.Decide.{both?, either?, not?, by?, below?}
 use Rattle.go_base.specs.declared.colours.Colour.{Colour}
 use Rattle.go_base.specs.declared.colours.Colour.TheVariants as colour
 use Rattle.go_base.specs.declared.moves.Move.{Move}
@@ -10,8 +10,28 @@ use Rattle.go_base.specs.declared.vertices.Vertex.TheVariants.{Pass, At}
 use Rattle.go_board.specs.declared.board.Cell.{Cell}
 use Rattle.go_board.specs.declared.board.Cell.TheVariants.{Edge, Empty, Black, White}
 use Rattle.go_board.specs.Board.{at, IsStone, HasStone}
-use Rattle.go_board.specs.Game.{GameRecord, board_of, IsFinished}
+use Rattle.go_board.specs.Put.{put}
+use Rattle.go_board.specs.decisions.Board.{on?, cell?, boards?}
+use Rattle.go_board.specs.decisions.Chain.{touches?}
+use Rattle.go_board.specs.Game.{GameRecord, without_last, board_of, Repeats, IsLegal, IsFinished}
 use Rattle.go_board.specs.Refusals.{IsTouched}
+
+-- ---- legal
+
+-- whether the board would be the one before the previous move
+pub repeats? : (game : GameRecord) (next : List Cell) → Dec (Repeats game next)
+repeats? game next =
+    by? (λ h. record { moved = h.0; same = h.1 }) (λ r. (r.moved, r.same))
+    (both? (below? 0 (length game.moves)) (boards? next (board_of (without_last game))))
+
+-- whether a move may be made
+pub legal? : (game : GameRecord) (c : Colour) (v : Vertex) → Dec (IsLegal game c v)
+legal? game c Pass = yes tt
+legal? game c (At p) =
+    by? (λ h. record { on_board = h.0; empty = (h.1).0; free = ((h.1).1).0; no_ko = ((h.1).1).1 }) (λ l. (l.on_board, (l.empty, (l.free, l.no_ko))))
+    (both? (on? game.size p)
+    (both? (cell? (at (board_of game) p) Empty)
+    (both? (touches? (put (board_of game) c p) p Empty) (not? (repeats? game (put (board_of game) c p))))))
 
 -- ---- touched
 

@@ -2,11 +2,11 @@
 use Rattle.std.specs.Prelude.{◌≡◌}
 use Rattle.go_base.specs.declared.colours.Colour.TheVariants.{Black, White}
 use Rattle.go_board.specs.declared.game.Game.TheInside.{Inside}
-use Rattle.go_board.specs.Frame.{HasSize}
+use Rattle.go_board.specs.private.Frame.{HasSize}
 use Rattle.go_board.specs.Game.{GameRecord, IsGame, board_of}
-use Rattle.go_board.specs.Ko.{IsKo}
-use Rattle.go_board.specs.Label.{AreChains, AreFree}
-use Rattle.go_board.specs.Removed.{removed_of}
+use Rattle.go_board.specs.private.Ko.{IsKo}
+use Rattle.go_board.specs.private.Label.{AreChains, AreFree}
+use Rattle.go_board.specs.private.Removed.{removed_of}
 use Rattle.go_board.specs.Taken.{taken}
 
 abbrev pub record_of : Inside → GameRecord

@@ -1,0 +1,110 @@
+-- Laws of the game, as relations: which board a move leaves, what it takes, and what counts for whom. (Own rules of play.)
+use Rattle.std.specs.Prelude.{◌≡◌, ◌≢◌, ℕ, ℤ, pos, ◌+◌, ◌*ℤ◌, ◌-ℤ◌, ◌⊎◌, ◌↔◌, List, [], Contains, length, slice_set}
+use Rattle.std.specs.List.{AllPairs}
+use Rattle.go_base.specs.Colour.{other}
+use Rattle.go_base.specs.Handicap.{handicap_points}
+use Rattle.go_base.specs.Point.{IsOn}
+use Rattle.go_base.specs.declared.colours.Colour.{Colour}
+use Rattle.go_base.specs.declared.colours.Colour.TheVariants as colour
+use Rattle.go_base.specs.declared.vertices.Vertex.{Vertex}
+use Rattle.go_base.specs.declared.vertices.Vertex.TheVariants.{Pass, At}
+use Rattle.go_board.specs.declared.board.Cell.{Cell}
+use Rattle.go_board.specs.declared.board.Cell.TheVariants.{Edge, Empty, Black}
+use Rattle.go_board.specs.Board.{place_count, at, stone}
+use Rattle.go_board.specs.Chain.{Touches, IsCaptured}
+use Rattle.go_board.specs.Counting.{CountsFor}
+use Rattle.go_board.specs.Game.{GameRecord, IsGame, IsLegal, board_of, with_move}
+use Rattle.go_board.specs.Taken.{taken}
+use Rattle.go_board.specs.Area.{score}
+
+-- It is so of just that many numbers: of those of a list that has each of them once.
+pub record IsOfSoMany (P : ℕ → Type 0) (many : ℕ) : Type 0 where
+  pub list : List ℕ
+  pub each : (q : ℕ) → Contains list q ↔ P q
+  pub once : AllPairs (λ a b. a ≢ b) list
+  pub long : many ≡ length list
+
+-- ---- boards
+
+-- A board before the first move: Black's stones on the handicap's points, the other points empty, and edge round them.
+pub record IsFirstBoard (game : GameRecord) (board : List Cell) : Type 0 where
+  pub long : length board ≡ place_count
+  pub handicap : (q : ℕ) → Contains (handicap_points game.size game.handicap) q → at board q ≡ Black
+  pub others : (q : ℕ) → IsOn game.size q → ¬ Contains (handicap_points game.size game.handicap) q → at board q ≡ Empty
+  pub round : (q : ℕ) → ¬ IsOn game.size q → at board q ≡ Edge
+
+-- A play of this colour on p takes the stone on q: it is one of the other colour, and with the new stone on the board its
+-- chain has no liberty.
+abbrev pub TakesStone : List Cell → Colour → ℕ → ℕ → Type 0
+TakesStone board c p q = IsCaptured (slice_set board p (stone c)) (other c) q
+
+-- What a play of this colour on p leaves: its stone on p, nothing where it took a stone, and all else as it was.
+pub record IsLeftByPlay (old : List Cell) (c : Colour) (p : ℕ) (new : List Cell) : Type 0 where
+  pub long : length new ≡ length old
+  pub played : at new p ≡ stone c
+  pub taken : (q : ℕ) → TakesStone old c p q → at new q ≡ Empty
+  pub others : (q : ℕ) → q ≢ p → ¬ TakesStone old c p q → at new q ≡ at old q
+
+-- what a move leaves; a pass changes nothing
+abbrev pub IsLeftBy : List Cell → Colour → Vertex → List Cell → Type 0
+IsLeftBy old c Pass new = new ≡ old
+IsLeftBy old c (At p) new = IsLeftByPlay old c p new
+
+-- a game without moves has just this board
+abbrev pub FirstBoardsAreJustThese : Type 0
+FirstBoardsAreJustThese = (game : GameRecord) (board : List Cell) → IsGame game → game.moves ≡ []
+    → (board ≡ board_of game) ↔ IsFirstBoard game board
+
+-- a legal move leaves just this board
+abbrev pub BoardsLeftAreJustThese : Type 0
+BoardsLeftAreJustThese = (game : GameRecord) (c : Colour) (v : Vertex) (board : List Cell) → IsLegal game c v
+    → (board ≡ board_of (with_move game c v)) ↔ IsLeftBy (board_of game) c v board
+
+-- ---- taken stones
+
+-- a move takes the stone on q; a pass takes none
+abbrev pub MoveTakes : List Cell → Colour → Vertex → ℕ → Type 0
+MoveTakes board c Pass q = ⊥
+MoveTakes board c (At p) q = TakesStone board c p q
+
+-- before the first move neither colour has taken a stone
+abbrev pub NoneIsTakenFirst : Type 0
+NoneIsTakenFirst = (game : GameRecord) (c : Colour) → game.moves ≡ [] → taken game c ≡ 0
+
+-- A move adds the stones that it takes to those that its colour has taken, and none to those of the other.
+pub record AddsTaken (game : GameRecord) (c : Colour) (v : Vertex) : Type 0 where
+  pub many : ℕ
+  pub are : IsOfSoMany (MoveTakes (board_of game) c v) many
+  pub own : taken (with_move game c v) c ≡ taken game c + many
+  pub others : taken (with_move game c v) (other c) ≡ taken game (other c)
+
+abbrev pub MovesAddWhatTheyTake : Type 0
+MovesAddWhatTheyTake = (game : GameRecord) (c : Colour) (v : Vertex) → AddsTaken game c v
+
+-- ---- area and score
+
+-- A point belongs to a colour that has a stone on it. An empty one belongs to a colour where its region has a stone beside
+-- it and all stones beside it are of that colour.
+abbrev pub BelongsTo : List Cell → Colour → ℕ → Type 0
+BelongsTo board c p =
+    (at board p ≡ stone c)
+    ⊎ ((at board p ≡ Empty) × Touches board p (stone c) × ((d : Colour) → Touches board p (stone d) → d ≡ c))
+
+-- a point counts for a colour just where it belongs to it
+abbrev pub WhatBelongsCounts : Type 0
+WhatBelongsCounts = (board : List Cell) (c : Colour) (p : ℕ) → CountsFor board c p ↔ BelongsTo board c p
+
+-- no point belongs to two colours
+abbrev pub PointsBelongToOne : Type 0
+PointsBelongToOne = (board : List Cell) (c d : Colour) (p : ℕ) → BelongsTo board c p → BelongsTo board d p → c ≡ d
+
+-- The score is twice the difference of the numbers of points that belong to the colours, less komi.
+pub record IsScore (game : GameRecord) (result : ℤ) : Type 0 where
+  pub black : ℕ
+  pub white : ℕ
+  pub black_is : IsOfSoMany (BelongsTo (board_of game) colour.Black) black
+  pub white_is : IsOfSoMany (BelongsTo (board_of game) colour.White) white
+  pub result_is : result ≡ (pos 2 *ℤ (pos black -ℤ pos white)) -ℤ game.komi
+
+abbrev pub ScoresAreThese : Type 0
+ScoresAreThese = (game : GameRecord) → IsGame game → IsScore game (score game)

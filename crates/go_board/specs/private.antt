@@ -1,0 +1,11 @@
+-- Definitions that the contracts of private functions use: how a game keeps its board, its chains and what was taken.
+pub mod Frame
+pub mod Places
+pub mod Flood
+pub mod Spread
+pub mod Label
+pub mod Steps
+pub mod Removed
+pub mod Ko
+pub mod Legal
+pub mod Kept

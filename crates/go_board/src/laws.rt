@@ -1,0 +1,37 @@
+//! Laws of the game: which board a move leaves, what it takes, and what counts for whom.
+//!
+//! Each function does nothing: that it is proved is the law in its contract.
+ghost use Rattle.go_board.specs.Laws.{FirstBoardsAreJustThese, BoardsLeftAreJustThese};
+ghost use Rattle.go_board.specs.Laws.{NoneIsTakenFirst, MovesAddWhatTheyTake};
+ghost use Rattle.go_board.specs.Laws.{WhatBelongsCounts, PointsBelongToOne, ScoresAreThese};
+
+/// A game without moves has just one board: Black's stones on the handicap's points, the other points empty, and edge
+/// round them.
+pub fn first_boards()
+    ensures { FirstBoardsAreJustThese }
+{}
+
+/// A legal move leaves just one board. After a play its stone is on the point, the stones that it took are gone, and all
+/// else is as it was; a pass changes nothing.
+pub fn boards_left()
+    ensures { BoardsLeftAreJustThese }
+{}
+
+/// A move adds to what its colour has taken as many stones as it takes: those of the other colour whose chains have no
+/// liberty once the new stone stands. Before the first move none is taken.
+pub fn taken_stones()
+    ensures first { NoneIsTakenFirst }
+    ensures more { MovesAddWhatTheyTake }
+{}
+
+/// A point counts for the colour of its stone, and an empty one where there is a stone beside its region and all stones
+/// beside it are of one colour, for that colour. None counts for both.
+pub fn counted_points()
+    ensures counts { WhatBelongsCounts }
+    ensures one { PointsBelongToOne }
+{}
+
+/// The score is twice the number of Black's points less White's, less komi.
+pub fn scores()
+    ensures { ScoresAreThese }
+{}
