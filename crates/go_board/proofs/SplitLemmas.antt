@@ -9,7 +9,7 @@ use Rattle.go_board.specs.Board.{at, IsStone}
 use Rattle.go_board.specs.private.Frame.{IsFramed}
 use Rattle.go_board.specs.Chain.{Joined, itself, by_way_of}
 use Rattle.go_board.specs.private.Label.{label_of, label_at, label_beside, AreLabels}
-use Rattle.go_board.specs.private.Steps.{renamed, joined, IsNamed, IsCut}
+use Rattle.go_board.specs.private.Steps.{renamed, relabelled, IsNamed, IsCut}
 use Rattle.go_board.specs.declared.board.Cell.{Cell}
 use Rattle.go_board.specs.declared.board.Cell.TheVariants.{Edge, Empty}
 use Rattle.go_board.proofs.BoardLemmas.{same_or_other}
@@ -17,7 +17,7 @@ use Rattle.go_board.proofs.CaptureLemmas.{in_list}
 use Rattle.go_board.proofs.FloodLemmas.{IsOn-inside}
 use Rattle.go_board.proofs.ChainLemmas.{Joined-then, Joined-same, Joined-back, Joined-kept, IsStone-point, IsStone-filled, IsStone-joined, AreLabels-steps, along-path}
 use Rattle.go_board.proofs.AnewLemmas.{IsPart, IsPart-named, named-has, AreLabels-part}
-use Rattle.go_board.proofs.JoinLemmas.{joined-a}
+use Rattle.go_board.proofs.JoinLemmas.{relabelled-a}
 use Rattle.go_board.proofs.LibertyLemmas.{stone-test}
 use Rattle.go_board.proofs.MergeLemmas.{renamed-other}
 
@@ -54,7 +54,7 @@ with_or_without board p off (by_way_of {p = q} {q = r} s point next same rest) =
   ]
 ]
 
--- a stone that is joined to p is joined to a neighbour of p without it
+-- a stone that is relabelled to p is relabelled to a neighbour of p without it
 pub side-of : (board : List Cell) (p q : ℕ) → q ≢ p → Joined board q p → IsByWayOf board p p q
 side-of board p q off path = elim (with_or_without board p off (Joined-back path)) [ inl without ↦ absurd (without.0 refl) | inr way ↦ way ]
 
@@ -195,13 +195,13 @@ IsCut-lifted board labels p label s a is = record {
       (way.side, way.neighbours, Joined-back way.rest);
 }
 
--- part of the chain may be without labels, and is joined to neighbours of the place
+-- part of the chain may be without labels, and is relabelled to neighbours of the place
 pub record IsSplitting (board : List Cell) (labels : List ℕ) (place : ℕ) : Type 0 where
   pub part : IsPart board labels
   pub cut : (p : ℕ) → IsStone (at board p) → label_of labels p ≡ 0 → (q : ℕ) × Neighbours place q × Joined board p q
 
 -- the chain's label was taken off
-pub IsSplitting-start : (board : List Cell) (labels new : List ℕ) (place label : ℕ) → IsFramed board → IsCut board labels place label → new ≡ map (joined 0 label label label) labels
+pub IsSplitting-start : (board : List Cell) (labels new : List ℕ) (place label : ℕ) → IsFramed board → IsCut board labels place label → new ≡ map (relabelled 0 label label label) labels
     → IsSplitting board new place
 IsSplitting-start board labels new place label framed c made = record {
   part = record {
@@ -209,7 +209,7 @@ IsSplitting-start board labels new place label framed c made = record {
       | inl e ↦ absurd (some (off q s e))
       | inr o ↦ subst (λ (k : ℕ). Joined board q k) (sym (kept q s o)) (c.own q s o)
     ];
-    closed = λ q r s path. at_stone q s ∙ ap (joined 0 label label label) (along-path board labels c.alike path s) ∙ sym (at_stone r (IsStone-joined board q r path s));
+    closed = λ q r s path. at_stone q s ∙ ap (relabelled 0 label label label) (along-path board labels c.alike path s) ∙ sym (at_stone r (IsStone-joined board q r path s));
   };
   cut = λ q s none. elim (same_or_other (label_of labels q) label) [
     | inl e ↦ c.cut q s e
@@ -217,13 +217,13 @@ IsSplitting-start board labels new place label framed c made = record {
   ];
 }
   where
-    at_stone : (q : ℕ) → IsStone (at board q) → label_of new q ≡ joined 0 label label label (label_of labels q)
+    at_stone : (q : ℕ) → IsStone (at board q) → label_of new q ≡ relabelled 0 label label label (label_of labels q)
     at_stone q s =
         let below = in_list board q (IsStone-point (at board q) s) in
-        ap (λ (ls : List ℕ). label_of ls q) made ∙ get_or-map (joined 0 label label label) labels q 0 0 (omega (arith, below, framed.length_is, c.length_is))
+        ap (λ (ls : List ℕ). label_of ls q) made ∙ get_or-map (relabelled 0 label label label) labels q 0 0 (omega (arith, below, framed.length_is, c.length_is))
 
     off : (q : ℕ) → IsStone (at board q) → label_of labels q ≡ label → label_of new q ≡ 0
-    off q s e = at_stone q s ∙ joined-a 0 label label label (label_of labels q) e
+    off q s e = at_stone q s ∙ relabelled-a 0 label label label (label_of labels q) e
 
     kept : (q : ℕ) → IsStone (at board q) → label_of labels q ≢ label → label_of new q ≡ label_of labels q
     kept q s o =
@@ -262,7 +262,7 @@ IsFurther-named board old new place n framed (inr same) l = record {
 
 -- once the chains of all four neighbours are named, all stones have labels
 pub AreLabels-split : (board : List Cell) (labels l1 l2 l3 l4 l5 : List ℕ) (place label : ℕ) → IsFramed board → IsCut board labels place label
-    → l1 ≡ map (joined 0 label label label) labels → IsNamed board l1 l2 (place + 1) → IsNamed board l2 l3 (place - 1) → IsNamed board l3 l4 (place + 26) → IsNamed board l4 l5 (place - 26)
+    → l1 ≡ map (relabelled 0 label label label) labels → IsNamed board l1 l2 (place + 1) → IsNamed board l2 l3 (place - 1) → IsNamed board l3 l4 (place + 26) → IsNamed board l4 l5 (place - 26)
     → length l5 ≡ 702 → AreLabels board l5
 AreLabels-split board labels l1 l2 l3 l4 l5 place label framed c made n2 n3 n4 n5 long =
     let f1 = IsSplitting-start board labels l1 place label framed c made in

@@ -119,8 +119,7 @@ impl Board {
     ghost use Rattle.go_board.specs.Counting.{CountsFor};
     ghost use Rattle.go_board.specs.Area.{area};
     ghost use Rattle.go_board.specs.Chain.{HasBeside};
-    ghost use Rattle.go_board.specs.private.Flood.{IsSpread, AreTouching};
-    ghost use Rattle.go_board.specs.private.Spread.{AreSpread};
+    ghost use Rattle.go_board.specs.private.Flood.{IsSpread, AreSpread, AreTouching};
     ghost use Rattle.go_board.specs.Game.{start};
     ghost use Rattle.go_board.specs.declared.board.Cell.TheVariants.{Edge};
 

@@ -11,8 +11,8 @@ abbrev pub renamed : ℕ → ℕ → ℕ → ℕ
 renamed to from label = if label == from then to else label
 
 -- what it becomes where three labels do
-abbrev pub joined : ℕ → ℕ → ℕ → ℕ → ℕ → ℕ
-joined to a b c label = renamed to c (renamed to b (renamed to a label))
+abbrev pub relabelled : ℕ → ℕ → ℕ → ℕ → ℕ → ℕ
+relabelled to a b c label = renamed to c (renamed to b (renamed to a label))
 
 -- a place's stone no more counts for its label: its label counts one less
 pub record IsLowered (board : List Cell) (labels old new : List ℕ) (p : ℕ) : Type 0 where
@@ -38,9 +38,12 @@ pub record IsMoved (old new : List ℕ) (to from : ℕ) : Type 0 where
   pub one : to ≡ from → new ≡ old
   pub two : to ≢ from → new ≡ slice_set (slice_set old to (count_at old to + count_at old from)) from 0
 
--- no place of a row has this label
-abbrev pub IsNotInRow : List ℕ → ℕ → ℕ → Type 0
-IsNotInRow labels row label = (p : ℕ) → 26 * row ≤ p → p < 26 * row + 26 → label_of labels p ≢ label
+-- a place of a row has this label
+pub record HasInRow (labels : List ℕ) (row label : ℕ) : Type 0 where
+  pub place : ℕ
+  pub from : 26 * row ≤ place
+  pub to : place < 26 * row + 26
+  pub has : label_of labels place ≡ label
 
 -- each of the places has this label
 abbrev pub AreGiven : List ℕ → List ℕ → ℕ → Type 0

@@ -1,6 +1,6 @@
 use Rattle.std.proofs.Common.{◌<◌, arith, length, rules}
 use Rattle.std.specs.Prelude.{slice_index}
-use Rattle.go_board.specs.private.Spread.{AreSpread}
+use Rattle.go_board.specs.private.Flood.{AreSpread}
 use Rattle.go_board.proofs.FloodLemmas.{IsSeeded, IsSown-more, IsFlooded-more, IsFlooded-done}
 use Rattle.go_board.proofs.board.Board.touching.Goals as goal
 use Rattle.go_board.proofs.board.Board.touching.Goals.{then-eq+then-has_beside, else-eq, else-eq-via-then-eq+else-has_beside, else-eq-via-else-eq}
@@ -18,8 +18,8 @@ loop-next-preserved c =
     let in_range : c.loop-next.next < length c.loop-next.found = omega arith in
     let s : AreSpread c.args.self.now c.args.sought (slice_index c.loop-next.found c.loop-next.next) c.loop-next.found c.spread_round.new.found =
     rw (← c.get-place.ensures.value) c.spread_round.ensures in
-    IsFlooded-more c.args.self.now c.args.sought c.args.wanted c.loop-next.next c.loop-next.found s.first s.second s.third c.spread_round.new.found
-    (rw c.self.view_is at c.self.invariant) c.requires in_range c.loop-next.invariant s.right s.left s.above s.under
+    IsFlooded-more c.args.self.now c.args.sought c.args.wanted c.loop-next.next c.loop-next.found c.spread_round.new.found
+    (rw c.self.view_is at c.self.invariant) c.requires in_range c.loop-next.invariant s
 
 pub returns : goal.returns
 returns c = IsFlooded-done c.args.self.now c.args.sought c.args.wanted c.loop-next.next c.loop-next.found c.loop-next.invariant (omega arith)
