@@ -1,4 +1,5 @@
--- What a step of a flood does: a list of places grows by one that holds what is sought, or by such neighbours of a place.
+-- What a step of a flood does: a list of places grows by one that holds what is sought, or by such neighbours of a
+-- place.
 use Rattle.std.specs.Prelude.{◌≡◌, ℕ, List, [], ◌∷◌, ◌++◌, All, Contains, ◌⊎◌, ◌↔◌}
 use Rattle.go_base.specs.Point.{Neighbours}
 use Rattle.go_board.specs.Board.{at}
