@@ -1,5 +1,6 @@
 -- The two ways to say which choice a text spells.
-use Rattle.std.proofs.Common.{◌≡◌, ℕ, ◌≤◌, List, length, Option, Some, None, Bool, true, false, refl, sym, subst, ◌∙◌, ap, cond, Decides, arith}
+use Rattle.std.proofs.Common.{◌≡◌, ℕ, ◌≤◌, List, length, Option, Some, None, Bool, true, false, refl, sym, subst, ◌∙◌}
+use Rattle.std.proofs.Common.{ap, cond, Decides, arith}
 use Rattle.std.specs.Prelude.{codes, option_map}
 use Rattle.std.specs.Str.{str_to_ascii_lowercase, bytes_eq}
 use Rattle.std.proofs.lemmas.Bool.{false_from_ne_true}
@@ -24,7 +25,9 @@ vertex_no_resign vertex text spelled =
     let short = short_vertex vertex text spelled in
     let lower = length-lowercase text in
     let word = str_to_ascii_lowercase text in
-    false_from_ne_true _ (λ e. let six : length word ≡ 6 = ap length ((bytes_eq-Decides word (codes "resign")).0 e) in omega arith)
+    false_from_ne_true _ (λ e.
+    let six : length word ≡ 6 = ap length ((bytes_eq-Decides word (codes "resign")).0 e) in
+    omega arith)
 
 -- where a text spells a choice, that is the choice of it
 pub choice_of_spelled : (choice : Choice) (text : List ℕ) → SpellsChoice choice text → choice_of text ≡ Some choice

@@ -1,5 +1,6 @@
 -- The two ways to say which colour a text spells.
-use Rattle.std.proofs.Common.{◌≡◌, ℕ, List, Option, Some, None, Bool, true, false, refl, sym, subst, ◌∙◌, ap, cond, ◌||◌, Decides, inl, inr}
+use Rattle.std.proofs.Common.{◌≡◌, ℕ, List, Option, Some, None, Bool, true, false, refl, sym, subst, ◌∙◌, ap, cond}
+use Rattle.std.proofs.Common.{◌||◌, Decides, inl, inr}
 use Rattle.std.specs.Prelude.{codes}
 use Rattle.std.specs.Str.{str_to_ascii_lowercase, bytes_eq}
 use Rattle.std.proofs.lemmas.Bool.Decides.{Decides-or}
@@ -21,10 +22,16 @@ colour_of_spelled Black text (inr name) = ap colour_in name
 colour_of_spelled White text (inl letter) = ap colour_in letter
 colour_of_spelled White text (inr name) = ap colour_in name
 
-spelled_by_tests : (text : List ℕ) (black white : Bool) → Decides black (SpellsColour Black text) → Decides white (SpellsColour White text)
-    → (colour : Colour) → cond black (Some Black) (cond white (Some White) None) ≡ Some colour → SpellsColour colour text
-spelled_by_tests text true white is_black is_white colour e = let same : Black ≡ colour = cc in subst (λ (c : Colour). SpellsColour c text) same (is_black.0 refl)
-spelled_by_tests text false true is_black is_white colour e = let same : White ≡ colour = cc in subst (λ (c : Colour). SpellsColour c text) same (is_white.0 refl)
+spelled_by_tests : (text : List ℕ) (black white : Bool) → Decides black (SpellsColour Black text)
+    → Decides white (SpellsColour White text)
+    → (colour : Colour) → cond black (Some Black) (cond white (Some White) None) ≡ Some colour
+    → SpellsColour colour text
+spelled_by_tests text true white is_black is_white colour e =
+    let same : Black ≡ colour = cc in
+    subst (λ (c : Colour). SpellsColour c text) same (is_black.0 refl)
+spelled_by_tests text false true is_black is_white colour e =
+    let same : White ≡ colour = cc in
+    subst (λ (c : Colour). SpellsColour c text) same (is_white.0 refl)
 spelled_by_tests text false false is_black is_white colour e = absurd (cc)
 
 -- the colour of a text is spelled by it

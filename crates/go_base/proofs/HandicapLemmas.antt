@@ -1,5 +1,6 @@
 -- The points of handicap stones, once for every size.
-use Rattle.std.proofs.Common.{◌≡◌, ◌≢◌, ℕ, ◌-◌, ◌%◌, ◌<◌, ◌≤◌, inl, inr, List, [], ◌∷◌, ◌++◌, take, length, min, refl, sym, subst, arith, rules}
+use Rattle.std.proofs.Common.{◌≡◌, ◌≢◌, ℕ, ◌-◌, ◌%◌, ◌<◌, ◌≤◌, inl, inr, List, [], ◌∷◌, ◌++◌, take, length, min, refl}
+use Rattle.std.proofs.Common.{sym, subst, arith, rules}
 use Rattle.std.specs.List.{AllByRecursion, All, AllPairs}
 use Rattle.std.proofs.lemmas.List.{get_or-take, length-take}
 use Rattle.std.proofs.lemmas.List.Elements.{All-from_recursion, All-take, All-push}
@@ -23,7 +24,8 @@ with_centre_cases P five seven nine n least most odd =
     ]
 
 -- what holds of 2, 3, 4, 6 and 8 holds of the numbers without one
-pub without_centre_cases : (P : ℕ → Type 0) → P 2 → P 3 → P 4 → P 6 → P 8 → (n : ℕ) → 2 ≤ n → n ≤ 9 → (5 ≤ n → n % 2 ≡ 1 → ⊥) → P n
+pub without_centre_cases : (P : ℕ → Type 0) → P 2 → P 3 → P 4 → P 6 → P 8 → (n : ℕ) → 2 ≤ n → n ≤ 9
+    → (5 ≤ n → n % 2 ≡ 1 → ⊥) → P n
 without_centre_cases P two three four six eight n least most other =
     elim (cases_eq n 2) [
       | inl e ↦ subst P (sym e) two
@@ -43,14 +45,19 @@ abbrev pub centre_of : ℕ → ℕ
 centre_of size = point (middle_line size) (middle_line size)
 
 -- an odd number from 5 on has its last stone in the centre, and the others first
-pub points_with_centre : (size n : ℕ) → 5 ≤ n → n ≤ 9 → n % 2 ≡ 1 → take (n - 1) (handicap_points size 8) ++ centre_of size ∷ [] ≡ handicap_points size n
+pub points_with_centre : (size n : ℕ) → 5 ≤ n → n ≤ 9 → n % 2 ≡ 1
+    → take (n - 1) (handicap_points size 8) ++ centre_of size ∷ [] ≡ handicap_points size n
 unfolding handicap_points
-points_with_centre size = with_centre_cases (λ n. take (n - 1) (handicap_points size 8) ++ centre_of size ∷ [] ≡ handicap_points size n) refl refl refl
+points_with_centre size =
+    with_centre_cases (λ n. take (n - 1) (handicap_points size 8) ++ centre_of size ∷ [] ≡ handicap_points size n) refl
+    refl refl
 
 -- the other numbers have the first so many points
-pub points_without_centre : (size n : ℕ) → 2 ≤ n → n ≤ 9 → (5 ≤ n → n % 2 ≡ 1 → ⊥) → take n (handicap_points size 8) ≡ handicap_points size n
+pub points_without_centre : (size n : ℕ) → 2 ≤ n → n ≤ 9 → (5 ≤ n → n % 2 ≡ 1 → ⊥)
+    → take n (handicap_points size 8) ≡ handicap_points size n
 unfolding handicap_points
-points_without_centre size = without_centre_cases (λ n. take n (handicap_points size 8) ≡ handicap_points size n) refl refl refl refl refl
+points_without_centre size =
+    without_centre_cases (λ n. take n (handicap_points size 8) ≡ handicap_points size n) refl refl refl refl refl
 
 -- what a size allows is 2 to 9 stones, and sizes from 7 up
 pub record IsHandicap (size stones : ℕ) : Type 0 where
@@ -60,8 +67,10 @@ pub record IsHandicap (size stones : ℕ) : Type 0 where
 
 pub handicap_bounds : (size stones : ℕ) → AllowsHandicap size stones → IsHandicap size stones
 handicap_bounds size stones (inl a) = record { large = omega (arith, a.1); least = a.2; most = a.3 }
-handicap_bounds size stones (inr (inl a)) = record { large = omega (arith, a.0); least = a.1; most = omega (arith, a.2) }
-handicap_bounds size stones (inr (inr a)) = record { large = omega (arith, a.1); least = a.2; most = omega (arith, a.3) }
+handicap_bounds size stones (inr (inl a)) =
+    record { large = omega (arith, a.0); least = a.1; most = omega (arith, a.2) }
+handicap_bounds size stones (inr (inr a)) =
+    record { large = omega (arith, a.1); least = a.2; most = omega (arith, a.3) }
 
 -- the three lines of a size, in order
 pub record AreLines (size l m h : ℕ) : Type 0 where
@@ -71,9 +80,16 @@ pub record AreLines (size l m h : ℕ) : Type 0 where
   pub right : h ≤ size
   pub size_is : IsSize size
 
-pub lines_of_size : (size : ℕ) → IsSize size → 7 ≤ size → AreLines size (low_line size) (middle_line size) (high_line size)
+pub lines_of_size : (size : ℕ) → IsSize size → 7 ≤ size
+    → AreLines size (low_line size) (middle_line size) (high_line size)
 lines_of_size size is_size large =
-    record { left = grind (arith, nat_tests); below = grind (arith, nat_tests); above = grind (arith, nat_tests); right = grind (arith, nat_tests); size_is = is_size }
+    record {
+      left = grind (arith, nat_tests);
+      below = grind (arith, nat_tests);
+      above = grind (arith, nat_tests);
+      right = grind (arith, nat_tests);
+      size_is = is_size;
+    }
 
 -- no two are equal, by recursion
 abbrev AreApart : List ℕ → Type 0
@@ -82,7 +98,8 @@ AreApart (p ∷ ps) = AllByRecursion (λ q. p ≢ q) ps × AreApart ps
 
 AllPairs-from_apart : (ps : List ℕ) → AreApart ps → AllPairs (λ p q. p ≢ q) ps
 AllPairs-from_apart [] apart = λ i j d below inside. absurd (omega arith)
-AllPairs-from_apart (p ∷ ps) apart = AllPairs-cons (λ p q. p ≢ q) p ps (All-from_recursion (λ q. p ≢ q) ps apart.0) (AllPairs-from_apart ps apart.1)
+AllPairs-from_apart (p ∷ ps) apart =
+    AllPairs-cons (λ p q. p ≢ q) p ps (All-from_recursion (λ q. p ≢ q) ps apart.0) (AllPairs-from_apart ps apart.1)
 
 -- what holds of a list of points and of its fronts holds of the first so many
 AllPairs-take : (R : ℕ → ℕ → Type 0) (n : ℕ) (ps : List ℕ) → AllPairs R ps → AllPairs R (take n ps)
@@ -104,7 +121,13 @@ record IsTable (size : ℕ) (outer : List ℕ) (centre : ℕ) : Type 0 where
   pub centre_apart : AllByRecursion (λ p. p ≢ centre) outer
 
 IsTable-lines : (size l m h : ℕ) → AreLines size l m h → IsTable size (outer_of l m h) (point m m)
-IsTable-lines size l m h a = record { outer_on = search (rules, arith); centre_on = omega arith; outer_apart = search (rules, arith); centre_apart = search (rules, arith) }
+IsTable-lines size l m h a =
+    record {
+      outer_on = search (rules, arith);
+      centre_on = omega arith;
+      outer_apart = search (rules, arith);
+      centre_apart = search (rules, arith);
+    }
 
 -- the points of an allowed number of stones are on the board, and no two are equal
 pub record IsSound (size : ℕ) (points : List ℕ) : Type 0 where
@@ -118,10 +141,12 @@ front_sound size n outer centre t =
       distinct = AllPairs-take (λ p q. p ≢ q) n outer (AllPairs-from_apart outer t.outer_apart);
     }
 
-centre_sound : (size n : ℕ) (outer : List ℕ) (centre : ℕ) → IsTable size outer centre → IsSound size (take n outer ++ centre ∷ [])
+centre_sound : (size n : ℕ) (outer : List ℕ) (centre : ℕ) → IsTable size outer centre
+    → IsSound size (take n outer ++ centre ∷ [])
 centre_sound size n outer centre t =
     let front = front_sound size n outer centre t in
-    let apart : All (λ p. p ≢ centre) (take n outer) = All-take (λ p. p ≢ centre) n outer (All-from_recursion (λ p. p ≢ centre) outer t.centre_apart) in
+    let apart : All (λ p. p ≢ centre) (take n outer) =
+    All-take (λ p. p ≢ centre) n outer (All-from_recursion (λ p. p ≢ centre) outer t.centre_apart) in
     record {
       on_board = All-push (IsOn size) (take n outer) centre front.on_board t.centre_on;
       distinct = all_pairs_push (λ p q. p ≢ q) (take n outer) centre front.distinct (λ k d inside. apart k d inside);
@@ -129,7 +154,8 @@ centre_sound size n outer centre t =
 
 table_of_size : (size : ℕ) → IsSize size → 7 ≤ size → IsTable size (handicap_points size 8) (centre_of size)
 unfolding handicap_points
-table_of_size size is_size large = IsTable-lines size (low_line size) (middle_line size) (high_line size) (lines_of_size size is_size large)
+table_of_size size is_size large =
+    IsTable-lines size (low_line size) (middle_line size) (high_line size) (lines_of_size size is_size large)
 
 pub handicap_sound : (size n : ℕ) → IsSize size → AllowsHandicap size n → IsSound size (handicap_points size n)
 handicap_sound size n is_size allowed =

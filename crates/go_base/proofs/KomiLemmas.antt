@@ -1,5 +1,7 @@
 -- The two ways to say which komi a text spells.
-use Rattle.std.proofs.Common.{◌≡◌, ℕ, zero, suc, ◌+◌, ◌*◌, ◌/◌, ◌%◌, ◌≤◌, ◌<◌, List, [], ◌∷◌, ◌++◌, length, drop, replicate, Option, Some, None, Bool, true, false, ℤ, pos, negsuc, neg_ℤ, refl, sym, subst, ◌∙◌, ap, cond, ◌==◌, arith, ◌&&◌, inl, inr}
+use Rattle.std.proofs.Common.{◌≡◌, ℕ, zero, suc, ◌+◌, ◌*◌, ◌/◌, ◌%◌, ◌≤◌, ◌<◌, List, [], ◌∷◌, ◌++◌, length, drop}
+use Rattle.std.proofs.Common.{replicate, Option, Some, None, Bool, true, false, ℤ, pos, negsuc, neg_ℤ, refl, sym, subst}
+use Rattle.std.proofs.Common.{◌∙◌, ap, cond, ◌==◌, arith, ◌&&◌, inl, inr}
 use Rattle.std.specs.Prelude.{codes, nat_le, nat_lt, unwrap_or}
 use Rattle.std.specs.Char.{is_ascii_digit, digit_value}
 use Rattle.std.specs.Str.Parse.{AllDigits, digits_value}
@@ -11,45 +13,62 @@ use Rattle.std.proofs.lemmas.Int.{ints}
 use Rattle.std.proofs.lemmas.Str.Parse.{digit_from_value, digits_value_short}
 use Rattle.go_base.specs.Int.{SpellsInt, int_of, written_int}
 use Rattle.go_base.specs.HalfPoints.{written_points, written_half_points}
-use Rattle.go_base.specs.Komi.{most_half_points, IsKomi, Sign, no_sign, plus, minus, sign_text, signed, Fraction, no_point, zeros, half, fraction_text, fraction_digits, fraction_value, SpellsKomi, sign_of, without_sign, front_digits, behind_digits, decimals_of, are_zeros, half_of, half_points_where, half_points_of_parts, unsigned_half_points_of, signed_where, komi_of}
+use Rattle.go_base.specs.Komi.{most_half_points, IsKomi, Sign, no_sign, plus, minus, sign_text, signed, Fraction}
+use Rattle.go_base.specs.Komi.{no_point, zeros, half, fraction_text, fraction_digits, fraction_value, SpellsKomi}
+use Rattle.go_base.specs.Komi.{sign_of, without_sign, front_digits, behind_digits, decimals_of, are_zeros, half_of}
+use Rattle.go_base.specs.Komi.{half_points_where, half_points_of_parts, unsigned_half_points_of, signed_where, komi_of}
 use Rattle.go_base.proofs.IntLemmas.{digit_texts, int_of_spelled, digit_bounds, digit_value-digit}
 
 -- ---- digits
 
 -- what `AllDigits` says of a byte, as the test
 digit_test : (b : ℕ) → digit_value b < 10 → is_ascii_digit b ≡ true
-digit_test b small = let range = digit_from_value b small in let low : 48 ≤ b = range.0 in let high : b ≤ 57 = range.1 in grind (arith, nat_tests)
+digit_test b small = let range = digit_from_value b small in let low : 48 ≤ b = range.0 in
+    let high : b ≤ 57 = range.1 in
+    grind (arith, nat_tests)
 
 digit_value_small : (b : ℕ) → is_ascii_digit b ≡ true → digit_value b < 10
-digit_value_small b e = let range = digit_bounds b e in let value = digit_value-digit b range.0 range.1 in omega (arith, range.1)
+digit_value_small b e = let range = digit_bounds b e in
+    let value = digit_value-digit b range.0 range.1 in
+    omega (arith, range.1)
 
 pub front_digits_are : (text : List ℕ) → AllDigits 10 (front_digits text)
 front_digits_are [] = tt
-front_digits_are (b ∷ bs) = elim (cases_Bool (is_ascii_digit b)) [ inl e ↦ rw e (digit_value_small b e, front_digits_are bs) | inr e ↦ rw e tt ]
+front_digits_are (b ∷ bs) =
+    elim (cases_Bool (is_ascii_digit b)) [ inl e ↦ rw e (digit_value_small b e, front_digits_are bs) | inr e ↦ rw e tt ]
 
 -- digits are all in front of what begins with none
-front_digits-append : (whole rest : List ℕ) → AllDigits 10 whole → front_digits rest ≡ [] → front_digits (whole ++ rest) ≡ whole
+front_digits-append : (whole rest : List ℕ) → AllDigits 10 whole → front_digits rest ≡ []
+    → front_digits (whole ++ rest) ≡ whole
 front_digits-append [] rest digits none = none
-front_digits-append (b ∷ whole) rest digits none = rw (digit_test b digits.0) (ap (λ t. b ∷ t) (front_digits-append whole rest digits.1 none))
+front_digits-append (b ∷ whole) rest digits none =
+    rw (digit_test b digits.0) (ap (λ t. b ∷ t) (front_digits-append whole rest digits.1 none))
 
-behind_digits-append : (whole rest : List ℕ) → AllDigits 10 whole → behind_digits rest ≡ rest → behind_digits (whole ++ rest) ≡ rest
+behind_digits-append : (whole rest : List ℕ) → AllDigits 10 whole → behind_digits rest ≡ rest
+    → behind_digits (whole ++ rest) ≡ rest
 behind_digits-append [] rest digits none = none
-behind_digits-append (b ∷ whole) rest digits none = rw (digit_test b digits.0) (behind_digits-append whole rest digits.1 none)
+behind_digits-append (b ∷ whole) rest digits none =
+    rw (digit_test b digits.0) (behind_digits-append whole rest digits.1 none)
 
 -- a text is its digits in front and what is behind them
 digits_split : (text : List ℕ) → text ≡ front_digits text ++ behind_digits text
 digits_split [] = refl
-digits_split (b ∷ bs) = elim (cases_Bool (is_ascii_digit b)) [ inl e ↦ rw e (ap (λ t. b ∷ t) (digits_split bs)) | inr e ↦ rw e refl ]
+digits_split (b ∷ bs) =
+    elim (cases_Bool (is_ascii_digit b)) [ inl e ↦ rw e (ap (λ t. b ∷ t) (digits_split bs)) | inr e ↦ rw e refl ]
 
 pub digits_value_few : (whole : List ℕ) → AllDigits 10 whole → length whole ≤ 9 → digits_value 10 whole ≤ 999999999
-digits_value_few whole digits few = let small = digits_value_short digit_texts whole 9 (digit_texts.from whole digits) few in omega (arith, small)
+digits_value_few whole digits few =
+    let small = digits_value_short digit_texts whole 9 (digit_texts.from whole digits) few in
+    omega (arith, small)
 
 -- the value of at most nine digits, which may be none
-pub value_of_digits : (whole : List ℕ) → AllDigits 10 whole → length whole ≤ 9 → unwrap_or (int_of whole) 0 ≡ digits_value 10 whole
+pub value_of_digits : (whole : List ℕ) → AllDigits 10 whole → length whole ≤ 9
+    → unwrap_or (int_of whole) 0 ≡ digits_value 10 whole
 value_of_digits [] digits few = refl
 value_of_digits (b ∷ whole) digits few =
     let value = digits_value_few (b ∷ whole) digits few in
-    let spelled : SpellsInt (digits_value 10 (b ∷ whole)) (b ∷ whole) = record { numeral = (omega arith, digits); value = refl; limit = omega (arith, value) } in
+    let spelled : SpellsInt (digits_value 10 (b ∷ whole)) (b ∷ whole) =
+    record { numeral = (omega arith, digits); value = refl; limit = omega (arith, value) } in
     ap (λ o. unwrap_or o 0) (int_of_spelled (digits_value 10 (b ∷ whole)) (b ∷ whole) spelled)
 
 -- ---- a fraction
@@ -109,8 +128,10 @@ replicate-zeros (b ∷ digits) all =
     let others : digits ≡ replicate (length digits) 48 = replicate-zeros digits parts.1 in
     cc
 
-fraction_by_digit : (d : ℕ) (digits : List ℕ) (halves : ℕ) (all no_half is_half : Bool) → are_zeros digits ≡ all → (d == 48) ≡ no_half → (d == 53) ≡ is_half
-    → cond all (cond no_half (Some 0) (cond is_half (Some 1) None)) None ≡ Some halves → IsFraction (46 ∷ d ∷ digits) (d ∷ digits) halves
+fraction_by_digit : (d : ℕ) (digits : List ℕ) (halves : ℕ) (all no_half is_half : Bool) → are_zeros digits ≡ all
+    → (d == 48) ≡ no_half → (d == 53) ≡ is_half
+    → cond all (cond no_half (Some 0) (cond is_half (Some 1) None)) None ≡ Some halves
+    → IsFraction (46 ∷ d ∷ digits) (d ∷ digits) halves
 fraction_by_digit d digits halves false no_half is_half e0 e1 e2 value = absurd (cc)
 fraction_by_digit d digits halves true true is_half e0 e1 e2 value =
     let same : d ≡ 48 = grind (arith, nat_tests) in
@@ -122,11 +143,13 @@ fraction_by_digit d digits halves true false true e0 e1 e2 value =
     record { fraction = half (length digits); text_is = cc; value_is = cc; count_is = omega arith }
 fraction_by_digit d digits halves true false false e0 e1 e2 value = absurd (cc)
 
-fraction_behind_point : (digits : List ℕ) (halves : ℕ) → half_of digits ≡ Some halves → IsFraction (46 ∷ digits) digits halves
+fraction_behind_point : (digits : List ℕ) (halves : ℕ) → half_of digits ≡ Some halves
+    → IsFraction (46 ∷ digits) digits halves
 fraction_behind_point [] halves value = record { fraction = zeros 0; text_is = refl; value_is = cc; count_is = refl }
 fraction_behind_point (d ∷ digits) halves value = fraction_by_digit d digits halves _ _ _ refl refl refl value
 
-fraction_of_rest : (rest decimals : List ℕ) (halves : ℕ) → decimals_of rest ≡ Some decimals → half_of decimals ≡ Some halves → IsFraction rest decimals halves
+fraction_of_rest : (rest decimals : List ℕ) (halves : ℕ) → decimals_of rest ≡ Some decimals
+    → half_of decimals ≡ Some halves → IsFraction rest decimals halves
 fraction_of_rest [] decimals halves behind value =
     let none : decimals ≡ [] = cc in
     let zero_value : half_of [] ≡ Some halves = subst (λ (d : List ℕ). half_of d ≡ Some halves) none value in
@@ -138,7 +161,8 @@ fraction_of_rest (b ∷ digits) decimals halves behind value =
           let given : Some digits ≡ Some decimals = rw e at behind in
           let same : digits ≡ decimals = cc in
           subst (λ (d : List ℕ). IsFraction (b ∷ digits) d halves) same
-          (subst (λ (c : ℕ). IsFraction (c ∷ digits) digits halves) point (fraction_behind_point digits halves (subst (λ (d : List ℕ). half_of d ≡ Some halves) (sym same) value)))
+          (subst (λ (c : ℕ). IsFraction (c ∷ digits) digits halves) point
+          (fraction_behind_point digits halves (subst (λ (d : List ℕ). half_of d ≡ Some halves) (sym same) value)))
       | inr e ↦ let given : None ≡ Some decimals = rw e at behind in absurd (cc)
     ]
 
@@ -154,7 +178,8 @@ record SpellsUnsigned (n : ℕ) (text : List ℕ) : Type 0 where
   pub some_digit : 0 < length whole + fraction_digits fraction
   pub value : n ≡ 2 * digits_value 10 whole + fraction_value fraction
 
-half_points_here : (whole decimals : List ℕ) (points halves : ℕ) → 0 < length whole + length decimals → length whole ≤ 9 → length decimals ≤ 9
+half_points_here : (whole decimals : List ℕ) (points halves : ℕ) → 0 < length whole + length decimals → length whole ≤ 9
+    → length decimals ≤ 9
     → points ≡ digits_value 10 whole → half_points_where whole decimals (Some halves) ≡ Some (2 * points + halves)
 half_points_here whole decimals points halves some few_before few_behind same = grind (arith, nat_tests)
 
@@ -163,28 +188,39 @@ unsigned_of_spelled n text s =
     let f = s.fraction in
     let count = length_of_fraction f in
     ap unsigned_half_points_of s.shape
-    ∙ ap (λ w. half_points_of_parts w (decimals_of (behind_digits (s.whole ++ fraction_text f)))) (front_digits-append s.whole (fraction_text f) s.digits (front_of_fraction f))
-    ∙ ap (λ r. half_points_of_parts s.whole (decimals_of r)) (behind_digits-append s.whole (fraction_text f) s.digits (behind_of_fraction f))
+    ∙ ap (λ w. half_points_of_parts w (decimals_of (behind_digits (s.whole ++ fraction_text f))))
+    (front_digits-append s.whole (fraction_text f) s.digits (front_of_fraction f))
+    ∙ ap (λ r. half_points_of_parts s.whole (decimals_of r))
+    (behind_digits-append s.whole (fraction_text f) s.digits (behind_of_fraction f))
     ∙ ap (half_points_of_parts s.whole) (decimals_of_fraction f)
     ∙ ap (half_points_where s.whole (fraction_decimals f)) (half_of_fraction f)
-    ∙ half_points_here s.whole (fraction_decimals f) (digits_value 10 s.whole) (fraction_value f) (omega (arith, count, s.some_digit)) s.few_before (omega (arith, count, s.few_behind)) refl
+    ∙ half_points_here s.whole (fraction_decimals f) (digits_value 10 s.whole) (fraction_value f)
+    (omega (arith, count, s.some_digit)) s.few_before (omega (arith, count, s.few_behind)) refl
     ∙ ap Some (sym s.value)
 
 -- the number that the code makes of the parts of a text
-pub unsigned_read : (text decimals : List ℕ) (points halves : ℕ) → Some decimals ≡ decimals_of (behind_digits text) → Some halves ≡ half_of decimals
-    → 0 < length (front_digits text) + length decimals → length (front_digits text) ≤ 9 → length decimals ≤ 9 → points ≡ unwrap_or (int_of (front_digits text)) 0
+pub unsigned_read : (text decimals : List ℕ) (points halves : ℕ) → Some decimals ≡ decimals_of (behind_digits text)
+    → Some halves ≡ half_of decimals
+    → 0 < length (front_digits text) + length decimals → length (front_digits text) ≤ 9 → length decimals ≤ 9
+    → points ≡ unwrap_or (int_of (front_digits text)) 0
     → Some (2 * points + halves) ≡ unsigned_half_points_of text
 unsigned_read text decimals points halves decimals_is halves_is some few_before few_behind points_is =
     let whole = front_digits text in
     sym
     (ap (half_points_of_parts whole) (sym decimals_is)
     ∙ ap (half_points_where whole decimals) (sym halves_is)
-    ∙ half_points_here whole decimals points halves some few_before few_behind (points_is ∙ value_of_digits whole (front_digits_are text) few_before))
+    ∙ half_points_here whole decimals points halves some few_before few_behind
+    (points_is ∙ value_of_digits whole (front_digits_are text) few_before))
 
-pub unsigned_read_limit : (text : List ℕ) (points halves : ℕ) → halves ≤ 1 → length (front_digits text) ≤ 9 → points ≡ unwrap_or (int_of (front_digits text)) 0 → 2 * points + halves ≤ most_half_points
+pub unsigned_read_limit : (text : List ℕ) (points halves : ℕ) → halves ≤ 1 → length (front_digits text) ≤ 9
+    → points ≡ unwrap_or (int_of (front_digits text)) 0 → 2 * points + halves ≤ most_half_points
 unsigned_read_limit text points halves few_halves few_before points_is =
     let whole = front_digits text in
-    omega (arith, points_is ∙ value_of_digits whole (front_digits_are text) few_before, digits_value_few whole (front_digits_are text) few_before)
+    omega (
+      arith,
+      points_is ∙ value_of_digits whole (front_digits_are text) few_before,
+      digits_value_few whole (front_digits_are text) few_before,
+    )
 
 record HasParts (whole : List ℕ) (behind : Option (List ℕ)) (n : ℕ) : Type 0 where
   pub decimals : List ℕ
@@ -200,11 +236,15 @@ value_where : (b : Bool) (x y : ℕ) → cond b (Some x) None ≡ Some y → (b 
 value_where true x y e = (refl, cc)
 value_where false x y e = absurd (cc)
 
-parts_where : (whole decimals : List ℕ) (half : Option ℕ) (n : ℕ) → half_of decimals ≡ half → half_points_where whole decimals half ≡ Some n → HasParts whole (Some decimals) n
+parts_where : (whole decimals : List ℕ) (half : Option ℕ) (n : ℕ) → half_of decimals ≡ half
+    → half_points_where whole decimals half ≡ Some n → HasParts whole (Some decimals) n
 parts_where whole decimals None n half_is e = absurd (cc)
 parts_where whole decimals (Some halves) n half_is e =
-    let h = value_where (nat_lt 0 (length whole + length decimals) && (nat_le (length whole) 9 && nat_le (length decimals) 9)) (2 * digits_value 10 whole + halves) n e in
-    let test : (nat_lt 0 (length whole + length decimals) && (nat_le (length whole) 9 && nat_le (length decimals) 9)) ≡ true = h.0 in
+    let h =
+    value_where (nat_lt 0 (length whole + length decimals) &&
+    (nat_le (length whole) 9 && nat_le (length decimals) 9)) (2 * digits_value 10 whole + halves) n e in
+    let test : (nat_lt 0 (length whole + length decimals) && (nat_le (length whole) 9 && nat_le (length decimals) 9))
+    ≡ true = h.0 in
     record {
       decimals = decimals;
       halves = halves;
@@ -216,7 +256,8 @@ parts_where whole decimals (Some halves) n half_is e =
       value = h.1;
     }
 
-parts_of : (whole : List ℕ) (behind : Option (List ℕ)) (n : ℕ) → half_points_of_parts whole behind ≡ Some n → HasParts whole behind n
+parts_of : (whole : List ℕ) (behind : Option (List ℕ)) (n : ℕ) → half_points_of_parts whole behind ≡ Some n
+    → HasParts whole behind n
 parts_of whole None n e = absurd (cc)
 parts_of whole (Some decimals) n e = parts_where whole decimals (half_of decimals) n refl e
 
@@ -238,13 +279,17 @@ spells_unsigned_of n text e =
 
 -- ---- the sign
 
-sign_before_digits : (whole : List ℕ) (fraction : Fraction) → AllDigits 10 whole → sign_of (whole ++ fraction_text fraction) ≡ no_sign
+sign_before_digits : (whole : List ℕ) (fraction : Fraction) → AllDigits 10 whole
+    → sign_of (whole ++ fraction_text fraction) ≡ no_sign
 sign_before_digits [] no_point digits = refl
 sign_before_digits [] (zeros n) digits = refl
 sign_before_digits [] (half n) digits = refl
-sign_before_digits (b ∷ whole) fraction digits = let range = digit_from_value b digits.0 in let low : 48 ≤ b = range.0 in grind (arith, nat_tests)
+sign_before_digits (b ∷ whole) fraction digits = let range = digit_from_value b digits.0 in
+    let low : 48 ≤ b = range.0 in
+    grind (arith, nat_tests)
 
-sign_parts : (sign : Sign) (n : ℕ) (text : List ℕ) → SpellsUnsigned n text → (sign_of (sign_text sign ++ text) ≡ sign) × (without_sign (sign_text sign ++ text) ≡ text)
+sign_parts : (sign : Sign) (n : ℕ) (text : List ℕ) → SpellsUnsigned n text
+    → (sign_of (sign_text sign ++ text) ≡ sign) × (without_sign (sign_text sign ++ text) ≡ text)
 sign_parts no_sign n text s =
     let none : sign_of text ≡ no_sign = ap sign_of s.shape ∙ sign_before_digits s.whole s.fraction s.digits in
     (none, ap (λ g. drop (length (sign_text g)) text) none)
@@ -252,7 +297,9 @@ sign_parts plus n text s = (refl, refl)
 sign_parts minus n text s = (refl, refl)
 
 sign_split_by : (b : ℕ) (bs : List ℕ) (is_plus is_minus : Bool) → (b == 43) ≡ is_plus → (b == 45) ≡ is_minus
-    → let sign = cond is_plus plus (cond is_minus minus no_sign) in b ∷ bs ≡ sign_text sign ++ drop (length (sign_text sign)) (b ∷ bs)
+    → let sign =
+    cond is_plus plus (cond is_minus minus no_sign) in b ∷ bs
+    ≡ sign_text sign ++ drop (length (sign_text sign)) (b ∷ bs)
 sign_split_by b bs true is_minus e0 e1 = let same : b ≡ 43 = grind (arith, nat_tests) in ap (λ c. c ∷ bs) same
 sign_split_by b bs false true e0 e1 = let same : b ≡ 45 = grind (arith, nat_tests) in ap (λ c. c ∷ bs) same
 sign_split_by b bs false false e0 e1 = refl
@@ -270,7 +317,16 @@ komi_of_spelled half_points text s =
     let unsigned = s.whole ++ fraction_text s.fraction in
     let n = 2 * digits_value 10 s.whole + fraction_value s.fraction in
     let spelled : SpellsUnsigned n unsigned =
-    record { whole = s.whole; fraction = s.fraction; shape = refl; digits = s.digits; few_before = s.few_before; few_behind = s.few_behind; some_digit = s.some_digit; value = refl } in
+    record {
+      whole = s.whole;
+      fraction = s.fraction;
+      shape = refl;
+      digits = s.digits;
+      few_before = s.few_before;
+      few_behind = s.few_behind;
+      some_digit = s.some_digit;
+      value = refl;
+    } in
     let parts = sign_parts s.sign n unsigned spelled in
     ap komi_of s.shape
     ∙ ap (λ g. signed_where g (unsigned_half_points_of (without_sign (sign_text s.sign ++ unsigned)))) parts.0
@@ -283,7 +339,8 @@ record HasSigned (sign : Sign) (unsigned : Option ℕ) (half_points : ℤ) : Typ
   pub unsigned_is : unsigned ≡ Some n
   pub value : half_points ≡ signed sign n
 
-signed_parts : (sign : Sign) (unsigned : Option ℕ) (half_points : ℤ) → signed_where sign unsigned ≡ Some half_points → HasSigned sign unsigned half_points
+signed_parts : (sign : Sign) (unsigned : Option ℕ) (half_points : ℤ) → signed_where sign unsigned ≡ Some half_points
+    → HasSigned sign unsigned half_points
 signed_parts sign None half_points e = absurd (cc)
 signed_parts sign (Some n) half_points e = record { n = n; unsigned_is = refl; value = cc }
 
@@ -305,9 +362,11 @@ spells_komi_of half_points text e =
     }
 
 -- a text that spells no number behind its sign spells no komi
-pub no_komi : (text : List ℕ) → None ≡ unsigned_half_points_of (without_sign text) → (half_points : ℤ) → SpellsKomi half_points text → ⊥
+pub no_komi : (text : List ℕ) → None ≡ unsigned_half_points_of (without_sign text) → (half_points : ℤ)
+    → SpellsKomi half_points text → ⊥
 no_komi text none half_points spelled =
-    let e : None ≡ Some half_points = ap (signed_where (sign_of text)) none ∙ komi_of_spelled half_points text spelled in
+    let e : None ≡ Some half_points =
+    ap (signed_where (sign_of text)) none ∙ komi_of_spelled half_points text spelled in
     cc
 
 -- the written form of a komi without its sign is short
@@ -361,7 +420,8 @@ spells_written_points n most =
       value = omega (arith, numeral.1, halves_value n, fraction_value-for is_half);
     }
 
-komi_of_unsigned : (sign : Sign) (n : ℕ) (text : List ℕ) → SpellsUnsigned n text → SpellsKomi (signed sign n) (sign_text sign ++ text)
+komi_of_unsigned : (sign : Sign) (n : ℕ) (text : List ℕ) → SpellsUnsigned n text
+    → SpellsKomi (signed sign n) (sign_text sign ++ text)
 komi_of_unsigned sign n text u =
     record {
       sign = sign;
@@ -376,9 +436,12 @@ komi_of_unsigned sign n text u =
     }
 
 -- what is written of a komi spells it
-pub spells_written_komi : (half_points : ℤ) → IsKomi half_points → SpellsKomi half_points (written_half_points half_points)
-spells_written_komi (pos n) is_komi = komi_of_unsigned no_sign n (written_points n) (spells_written_points n (omega (arith, ints, is_komi.most)))
+pub spells_written_komi : (half_points : ℤ) → IsKomi half_points
+    → SpellsKomi half_points (written_half_points half_points)
+spells_written_komi (pos n) is_komi =
+    komi_of_unsigned no_sign n (written_points n) (spells_written_points n (omega (arith, ints, is_komi.most)))
 spells_written_komi (negsuc n) is_komi =
     let same : neg_ℤ (pos (n + 1)) ≡ negsuc n = omega (arith, ints) in
     subst (λ (z : ℤ). SpellsKomi z (codes "-" ++ written_points (n + 1))) same
-    (komi_of_unsigned minus (n + 1) (written_points (n + 1)) (spells_written_points (n + 1) (omega (arith, ints, is_komi.least))))
+    (komi_of_unsigned minus (n + 1) (written_points (n + 1))
+    (spells_written_points (n + 1) (omega (arith, ints, is_komi.least))))

@@ -1,4 +1,5 @@
--- The points of fixed handicap stones. The standard describes such points and leaves their order open; the table, its order
+-- The points of fixed handicap stones. The standard describes such points and leaves their order open; the table, its
+-- order
 -- and the sizes that it serves are own. (The standard's topic: fixed handicap placement.)
 use Rattle.std.specs.Prelude.{◌≡◌, ◌==◌, ℕ, ◌+◌, ◌-◌, ◌/◌, ◌%◌, ◌≤◌, ◌⊎◌, nat_lt, if◌then◌else◌, List, [], ◌∷◌, ◌++◌}
 use Rattle.go_base.specs.Point.{point}
@@ -27,10 +28,14 @@ handicap_points size stones =
     let six = four ++ point l m ∷ point h m ∷ [] in
     let eight = six ++ point m l ∷ point m h ∷ [] in
     let middle = point m m ∷ [] in
-    if stones == 2 then two else (if stones == 3 then three else (if stones == 4 then four else (if stones == 5 then four ++ middle
-    else (if stones == 6 then six else (if stones == 7 then six ++ middle else (if stones == 8 then eight else (if stones == 9 then eight ++ middle else [])))))))
+    if stones == 2 then two else (if stones == 3 then three
+    else (if stones == 4 then four else (if stones == 5 then four ++ middle
+    else (if stones == 6 then six
+    else (if stones == 7 then six
+    ++ middle else (if stones == 8 then eight else (if stones == 9 then eight ++ middle else [])))))))
 
--- The numbers of stones that a size allows: 2 to 9 on odd sizes from 9 up; 2 to 4 on size 7 and on even sizes from 8 up.
+-- The numbers of stones that a size allows: 2 to 9 on odd sizes from 9 up; 2 to 4 on size 7 and on even sizes from 8
+-- up.
 abbrev pub AllowsHandicap : ℕ → ℕ → Type 0
 AllowsHandicap size stones =
     ((size % 2 ≡ 1) × (9 ≤ size) × (2 ≤ stones) × (stones ≤ 9))

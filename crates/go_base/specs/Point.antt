@@ -1,7 +1,9 @@
 -- Points of a board. (The standard's entity: vertex.)
 --
--- A point is seen as its place on a mailbox board, as Go programs keep one: the rows stand one behind the other from the
--- bottom up, 26 places to a row. Place 0 of a row is no point, and 25 columns fill the others, so a step of one from the
+-- A point is seen as its place on a mailbox board, as Go programs keep one: the rows stand one behind the other from
+-- the
+-- bottom up, 26 places to a row. Place 0 of a row is no point, and 25 columns fill the others, so a step of one from
+-- the
 -- end of a row falls on no point of the next row.
 use Rattle.std.specs.Prelude.{◌≡◌, ℕ, ◌+◌, ◌*◌, ◌/◌, ◌%◌, ◌≤◌, ◌⊎◌, ◌↔◌}
 use Rattle.go_base.specs.Size.{most_size}
@@ -34,7 +36,8 @@ pub record IsOn (size p : ℕ) : Type 0 where
 abbrev pub Neighbours : ℕ → ℕ → Type 0
 Neighbours p q = (q ≡ p + 1) ⊎ (p ≡ q + 1) ⊎ (q ≡ p + 26) ⊎ (p ≡ q + 26)
 
--- two points share a row and stand in columns next to each other, or share a column and stand in rows next to each other
+-- two points share a row and stand in columns next to each other, or share a column and stand in rows next to each
+-- other
 pub data AreBeside (p q : ℕ) : Type 0 where
   in_row : row_of p ≡ row_of q → (column_of q ≡ column_of p + 1) ⊎ (column_of p ≡ column_of q + 1) → AreBeside p q
   in_column : column_of p ≡ column_of q → (row_of q ≡ row_of p + 1) ⊎ (row_of p ≡ row_of q + 1) → AreBeside p q

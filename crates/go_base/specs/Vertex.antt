@@ -1,5 +1,7 @@
--- Vertices, and the texts that spell them. (The standard's simple entities: vertex. That a row has no leading zeros is own.)
-use Rattle.std.specs.Prelude.{◌≡◌, ℕ, ◌+◌, ◌-◌, ◌↔◌, Bool, false, ◌&&◌, ◌==◌, nat_le, List, [], ◌∷◌, Option, Some, None, option_map, codes, if◌then◌else◌}
+-- Vertices, and the texts that spell them. (The standard's simple entities: vertex. That a row has no leading zeros is
+-- own.)
+use Rattle.std.specs.Prelude.{◌≡◌, ℕ, ◌+◌, ◌-◌, ◌↔◌, Bool, false, ◌&&◌, ◌==◌, nat_le, List, [], ◌∷◌, Option, Some, None}
+use Rattle.std.specs.Prelude.{option_map, codes, if◌then◌else◌}
 use Rattle.std.specs.Char.{to_ascii_uppercase}
 use Rattle.go_base.specs.Bytes.{digit_0}
 use Rattle.go_base.specs.Int.{int_of, written_int}

@@ -18,7 +18,8 @@ pub type Side = Colour;
 impl Colour {
     ghost use Rattle.go_base.specs.Colour.{other, SpellsColour, colour_of, written_colour};
 
-    /// Reads a colour: the word `b` or `black`, `w` or `white`, where each letter may be small or capital. `None` for every
+    /// Reads a colour: the word `b` or `black`, `w` or `white`, where each letter may be small or capital. `None` for
+    /// every
     /// other text.
     pub fn read(text: &[u8]) -> Option<Colour>
         ensures read { IfSome result (λ colour. SpellsColour colour text.now) }

@@ -7,7 +7,8 @@ use arrayvec::ArrayVec;
 /// The greatest int of the protocol.
 const MOST_INT: u32 = 2_147_483_647;
 
-/// Reads an int: one digit or more and nothing else, with leading zeros or without, of a value up to 2,147,483,647. `None`
+/// Reads an int: one digit or more and nothing else, with leading zeros or without, of a value up to 2,147,483,647.
+/// `None`
 /// for every other text, so for one with a sign, and for a greater value.
 pub fn read_int(text: &[u8]) -> Option<u32>
     ensures read { IfSome result (λ n. SpellsInt n text.now) }

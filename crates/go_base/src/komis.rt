@@ -1,5 +1,6 @@
 //! Komi.
-ghost use Rattle.std.specs.Prelude.{◌≡◌, ◌↔◌, ◌+◌, ◌<◌, ◌≤◌, ℤ, pos, neg_ℤ, IsTrue, IsSome, IfSome, IfNone, if◌then◌else◌};
+ghost use Rattle.std.specs.Prelude.{◌≡◌, ◌↔◌, ◌+◌, ◌<◌, ◌≤◌, ℤ, pos, neg_ℤ, IsTrue, IsSome, IfSome, IfNone};
+ghost use Rattle.std.specs.Prelude.{if◌then◌else◌};
 ghost use Rattle.std.specs.Option.{option_copied};
 ghost use Rattle.go_base.specs.HalfPoints.{written_half_points};
 ghost use Rattle.go_base.specs.Komi.{IsKomi, SpellsKomi, komi_of, most_half_points};
@@ -17,7 +18,8 @@ const MOST_HALF_POINTS: i32 = 1_999_999_999;
 /// The most digits of a komi on either side of the point.
 const MOST_DIGITS: usize = 9;
 
-/// What White gets for playing second: a number of half points, from -1,999,999,999 to 1,999,999,999. The score is less by
+/// What White gets for playing second: a number of half points, from -1,999,999,999 to 1,999,999,999. The score is less
+/// by
 /// komi, so a komi below zero is in Black's favour.
 #[derive(Clone, Copy, Debug, PartialEq, Eq)]
 pub struct Komi {
@@ -38,8 +40,10 @@ impl Model for Komi {
 }
 
 impl Komi {
-    /// Reads a komi in points: a `+` or `-` or neither, at most nine digits, and then nothing, or a point and at most nine
-    /// digits, which are zeros, or a 5 followed by zeros. There is at least one digit in all. `None` for every other text.
+    /// Reads a komi in points: a `+` or `-` or neither, at most nine digits, and then nothing, or a point and at most
+    /// nine
+    /// digits, which are zeros, or a 5 followed by zeros. There is at least one digit in all. `None` for every other
+    /// text.
     pub fn read(text: &[u8]) -> Option<Komi>
         ensures read { IfSome result (λ komi. SpellsKomi komi text.now) }
         ensures unread { IfNone result ((half_points : ℤ) → SpellsKomi half_points text.now → ⊥) }
@@ -71,7 +75,8 @@ impl Komi {
         self.half_points
     }
 
-    /// The written spelling in points: `-` where it is negative, the whole part without leading zeros, and `.5` where there
+    /// The written spelling in points: `-` where it is negative, the whole part without leading zeros, and `.5` where
+    /// there
     /// is a half.
     pub fn write(self) -> ArrayVec<u8, 12>
         ensures { result.items ≡ written_half_points self }
@@ -126,7 +131,8 @@ fn read_unsigned(text: &[u8]) -> Option<u32>
     Some(2 * points + half)
 }
 
-/// Whether so many digits may stand before the point and behind it: at least one in all, and at most nine on either side.
+/// Whether so many digits may stand before the point and behind it: at least one in all, and at most nine on either
+/// side.
 fn may_stand(before: usize, behind: usize) -> bool
     ensures { IsTrue result ↔ ((0 < before + behind) × (before ≤ 9) × (behind ≤ 9)) }
 {

@@ -42,7 +42,8 @@ pub fn komi_laws()
     ensures one { SpellsOneKomi }
 {}
 
-/// Two points of the largest board are neighbours on the mailbox board exactly where they share a column or a row and stand
+/// Two points of the largest board are neighbours on the mailbox board exactly where they share a column or a row and
+/// stand
 /// next to each other.
 pub fn neighbours_law()
     ensures { NeighboursAreBeside }

@@ -1,5 +1,6 @@
 -- Labels made anew, chain by chain.
-use Rattle.std.proofs.Common.{◌≡◌, ℕ, zero, suc, ◌+◌, ◌<◌, ◌≤◌, List, length, Contains, replicate, refl, sym, ◌∙◌, ap, subst, arith, inl, inr, get_or-set_other, get_or-set_same}
+use Rattle.std.proofs.Common.{◌≡◌, ℕ, zero, suc, ◌+◌, ◌<◌, ◌≤◌, List, length, Contains, replicate, refl, sym, ◌∙◌, ap}
+use Rattle.std.proofs.Common.{subst, arith, inl, inr, get_or-set_other, get_or-set_same}
 use Rattle.std.specs.Prelude.{◌⊎◌, ◌≢◌, slice_index}
 use Rattle.std.proofs.lemmas.List.Elements.{Contains-get_or}
 use Rattle.std.proofs.Math.ListN.{set, length-set}
@@ -37,7 +38,8 @@ zero-label zero p = refl
 zero-label (suc n) zero = refl
 zero-label (suc n) (suc p) = zero-label n p
 
-pub IsLabelling-none : (board : List Cell) (labels : List ℕ) → labels ≡ replicate 702 0 → length labels ≡ 702 → IsLabelling board 0 labels
+pub IsLabelling-none : (board : List Cell) (labels : List ℕ) → labels ≡ replicate 702 0 → length labels ≡ 702
+    → IsLabelling board 0 labels
 IsLabelling-none board labels none long =
     let all : (p : ℕ) → label_of labels p ≡ 0 = λ p. ap (λ (ls : List ℕ). label_of ls p) none ∙ zero-label 702 p in
     record {
@@ -50,41 +52,53 @@ earlier_or_last : (k n : ℕ) → k < n + 1 → (k < n) ⊎ (k ≡ n)
 earlier_or_last k n h = grind arith
 
 -- a chain gets a place of its own as its label
-pub IsPart-named : (board : List Cell) (n : ℕ) (old new : List ℕ) → IsFramed board → IsStone (at board n) → IsChainNamed board old new n → IsPart board old → IsPart board new
+pub IsPart-named : (board : List Cell) (n : ℕ) (old new : List ℕ) → IsFramed board → IsStone (at board n)
+    → IsChainNamed board old new n → IsPart board old → IsPart board new
 IsPart-named board n old new framed stone named l = record {
-  own = λ p s some. by_test p (λ path. subst (λ (k : ℕ). Joined board p k) (sym (named.given p path)) (Joined-back path))
-      (λ away. subst (λ (k : ℕ). Joined board p k) (sym (named.others p away)) (l.own p s (λ e. some (named.others p away ∙ e)))) (joined? board n p);
+  own =
+      λ p s some. by_test p (λ path. subst (λ (k : ℕ). Joined board p k) (sym (named.given p path)) (Joined-back path))
+      (λ away. subst (λ (k : ℕ). Joined board p k) (sym (named.others p away))
+      (l.own p s (λ e. some (named.others p away ∙ e)))) (joined? board n p);
   closed = λ p q s path. by_two p q path (l.closed p q s path) (joined? board n p);
 }
   where
-    by_test : (p : ℕ) → (Joined board n p → Joined board p (label_of new p)) → (¬ Joined board n p → Joined board p (label_of new p)) → Dec (Joined board n p) → Joined board p (label_of new p)
+    by_test : (p : ℕ) → (Joined board n p → Joined board p (label_of new p))
+        → (¬ Joined board n p → Joined board p (label_of new p)) → Dec (Joined board n p)
+        → Joined board p (label_of new p)
     by_test p a b (yes h) = a h
     by_test p a b (no k) = b k
 
-    by_two : (p q : ℕ) → Joined board p q → label_of old p ≡ label_of old q → Dec (Joined board n p) → label_of new p ≡ label_of new q
+    by_two : (p q : ℕ) → Joined board p q → label_of old p ≡ label_of old q → Dec (Joined board n p)
+        → label_of new p ≡ label_of new q
     by_two p q path same (yes h) = named.given p h ∙ sym (named.given q (Joined-then h path))
-    by_two p q path same (no k) = named.others p k ∙ same ∙ sym (named.others q (λ h. k (Joined-then h (Joined-back path))))
+    by_two p q path same (no k) =
+        named.others p k ∙ same ∙ sym (named.others q (λ h. k (Joined-then h (Joined-back path))))
 
 -- a stone with a label keeps one, and those of the chain get one
-pub named-has : (board : List Cell) (n p : ℕ) (old new : List ℕ) → IsFramed board → IsStone (at board n) → IsChainNamed board old new n → (label_of old p ≢ 0) ⊎ Joined board n p
+pub named-has : (board : List Cell) (n p : ℕ) (old new : List ℕ) → IsFramed board → IsStone (at board n)
+    → IsChainNamed board old new n → (label_of old p ≢ 0) ⊎ Joined board n p
     → label_of new p ≢ 0
 named-has board n p old new framed stone named had = by_test (joined? board n p)
   where
     not_zero : n ≢ 0
-    not_zero e = let low = (IsOn-inside n (framed.inside n (IsStone-point (at board n) stone))).low in absurd (omega (arith, low, e))
+    not_zero e =
+        let low = (IsOn-inside n (framed.inside n (IsStone-point (at board n) stone))).low in
+        absurd (omega (arith, low, e))
 
     by_test : Dec (Joined board n p) → label_of new p ≢ 0
     by_test (yes path) e = not_zero (sym (named.given p path) ∙ e)
     by_test (no away) e = elim had [ inl some ↦ some (sym (named.others p away) ∙ e) | inr path ↦ away path ]
 
 -- the places of a chain were given a label
-pub IsChainNamed-given : (board : List Cell) (n : ℕ) (chain old new : List ℕ) → IsChainOf board n chain → AreGiven new chain n → AreOthersKept old new chain → IsChainNamed board old new n
+pub IsChainNamed-given : (board : List Cell) (n : ℕ) (chain old new : List ℕ) → IsChainOf board n chain
+    → AreGiven new chain n → AreOthersKept old new chain → IsChainNamed board old new n
 IsChainNamed-given board n chain old new is_chain given others = record {
   given = λ p path. given p ((is_chain p).1 path);
   others = λ p away. others p (λ h. away ((is_chain p).0 h));
 }
 
-pub IsLabelling-chain : (board : List Cell) (n : ℕ) (chain old new : List ℕ) → IsFramed board → IsStone (at board n) → IsChainOf board n chain → AreGiven new chain n → AreOthersKept old new chain
+pub IsLabelling-chain : (board : List Cell) (n : ℕ) (chain old new : List ℕ) → IsFramed board → IsStone (at board n)
+    → IsChainOf board n chain → AreGiven new chain n → AreOthersKept old new chain
     → length new ≡ 702 → IsLabelling board n old → IsLabelling board (n + 1) new
 IsLabelling-chain board n chain old new framed stone is_chain given others long l =
     let named = IsChainNamed-given board n chain old new is_chain given others in
@@ -93,50 +107,69 @@ IsLabelling-chain board n chain old new framed stone is_chain given others long 
       part = IsPart-named board n old new framed stone named l.part;
       done = λ p below s. elim (earlier_or_last p n below) [
         | inl earlier ↦ named-has board n p old new framed stone named (inl (l.done p earlier s))
-        | inr last ↦ named-has board n p old new framed stone named (inr (subst (λ (k : ℕ). Joined board n k) (sym last) (itself (IsStone-point (at board n) stone))))
+        | inr last ↦ named-has board n p old new framed stone named
+            (inr (subst (λ (k : ℕ). Joined board n k) (sym last) (itself (IsStone-point (at board n) stone))))
       ];
     }
 
 -- a place without a stone, or with a label, is passed over
-pub IsLabelling-past : (board : List Cell) (n : ℕ) (labels : List ℕ) → (IsStone (at board n) → label_of labels n ≢ 0) → IsLabelling board n labels → IsLabelling board (n + 1) labels
+pub IsLabelling-past : (board : List Cell) (n : ℕ) (labels : List ℕ) → (IsStone (at board n) → label_of labels n ≢ 0)
+    → IsLabelling board n labels → IsLabelling board (n + 1) labels
 IsLabelling-past board n labels has l = record {
   length_is = l.length_is;
   part = l.part;
   done = λ p below s. elim (earlier_or_last p n below) [
     | inl earlier ↦ l.done p earlier s
-    | inr last ↦ subst (λ (k : ℕ). label_of labels k ≢ 0) (sym last) (has (subst (λ (k : ℕ). IsStone (at board k)) last s))
+    | inr last ↦ subst (λ (k : ℕ). label_of labels k ≢ 0) (sym last)
+        (has (subst (λ (k : ℕ). IsStone (at board k)) last s))
   ];
 }
 
 -- where no stone is without a label, these are the labels
-pub AreLabels-part : (board : List Cell) (labels : List ℕ) → length labels ≡ 702 → IsPart board labels → ((p : ℕ) → IsStone (at board p) → label_of labels p ≢ 0) → AreLabels board labels
+pub AreLabels-part : (board : List Cell) (labels : List ℕ) → length labels ≡ 702 → IsPart board labels
+    → ((p : ℕ) → IsStone (at board p) → label_of labels p ≢ 0) → AreLabels board labels
 AreLabels-part board labels long l labelled = AreLabels-steps board labels long (record {
   own = λ p s. l.own p s (labelled p s);
-  alike = λ p q s next same. l.closed p q s (by_way_of q (IsStone-point (at board p) s) next same (itself (λ e. IsStone-point (at board p) s (sym same ∙ e))));
+  alike =
+      λ p q s next same. l.closed p q s
+      (by_way_of q (IsStone-point (at board p) s) next same
+      (itself (λ e. IsStone-point (at board p) s (sym same ∙ e))));
 })
 
-pub IsLabelling-done : (board : List Cell) (n : ℕ) (labels : List ℕ) → IsFramed board → 702 ≤ n → IsLabelling board n labels → AreLabels board labels
+pub IsLabelling-done : (board : List Cell) (n : ℕ) (labels : List ℕ) → IsFramed board → 702 ≤ n
+    → IsLabelling board n labels → AreLabels board labels
 IsLabelling-done board n labels framed all l = AreLabels-part board labels l.length_is l.part
-    (λ p s. let below = in_list board p (IsStone-point (at board p) s) in let long = framed.length_is in l.done p (omega (arith, below, long, all)) s)
+    (λ p s. let below = in_list board p (IsStone-point (at board p) s) in
+    let long = framed.length_is in
+    l.done p (omega (arith, below, long, all)) s)
 
-pub given-all : (old places new : List ℕ) (label n : ℕ) → length places ≤ n → IsGiving old places label n new → AreGiven new places label
+pub given-all : (old places new : List ℕ) (label n : ℕ) → length places ≤ n → IsGiving old places label n new
+    → AreGiven new places label
 given-all old places new label n all g p h =
     let below = h.1 in
     subst (λ (k : ℕ). label_of new k ≡ label) (index_of places p h) (g.given h.0 (omega (arith, below, all)))
 
 pub IsGiving-none : (old places : List ℕ) (label : ℕ) → length old ≡ 702 → IsGiving old places label 0 old
-IsGiving-none old places label long = record { length_is = long; given = λ k none. absurd (omega arith); others = λ p _. refl }
+IsGiving-none old places label long =
+    record { length_is = long; given = λ k none. absurd (omega arith); others = λ p _. refl }
 
-pub IsGiving-more : (old places labels new : List ℕ) (label n p : ℕ) → n < length places → p ≡ slice_index places n → p < 702 → new ≡ set labels p label
+pub IsGiving-more : (old places labels new : List ℕ) (label n p : ℕ) → n < length places → p ≡ slice_index places n
+    → p < 702 → new ≡ set labels p label
     → IsGiving old places label n labels → IsGiving old places label (n + 1) new
-IsGiving-more old places labels new label n p in_range p_is below made g = subst (λ (ls : List ℕ). IsGiving old places label (n + 1) ls) (sym made) (record {
-  length_is = length-set labels p label ∙ g.length_is;
-  given = λ k under. elim (same_or_other (slice_index places k) p) [
-    | inl same ↦ ap (label_of (set labels p label)) same ∙ get_or-set_same labels p label 0 (let long = g.length_is in omega (arith, below, long))
-    | inr another ↦ get_or-set_other labels p (slice_index places k) label 0 another ∙ elim (earlier_or_last k n under) [
-      | inl earlier ↦ g.given k earlier
-      | inr last ↦ absurd (another (ap (slice_index places) last ∙ sym p_is))
-    ]
-  ];
-  others = λ q out. get_or-set_other labels p q label 0 (λ e. out (subst (λ (r : ℕ). Contains places r) (sym (e ∙ p_is)) (Contains-get_or places n 0 in_range))) ∙ g.others q out;
-})
+IsGiving-more old places labels new label n p in_range p_is below made g =
+    subst (λ (ls : List ℕ). IsGiving old places label (n + 1) ls) (sym made) (record {
+      length_is = length-set labels p label ∙ g.length_is;
+      given = λ k under. elim (same_or_other (slice_index places k) p) [
+        | inl same ↦ ap (label_of (set labels p label)) same
+            ∙ get_or-set_same labels p label 0 (let long = g.length_is in omega (arith, below, long))
+        | inr another ↦ get_or-set_other labels p (slice_index places k) label 0 another
+            ∙ elim (earlier_or_last k n under) [
+              | inl earlier ↦ g.given k earlier
+              | inr last ↦ absurd (another (ap (slice_index places) last ∙ sym p_is))
+            ]
+      ];
+      others =
+          λ q out. get_or-set_other labels p q label 0
+          (λ e. out (subst (λ (r : ℕ). Contains places r) (sym (e ∙ p_is)) (Contains-get_or places n 0 in_range)))
+          ∙ g.others q out;
+    })

@@ -12,24 +12,30 @@ use Rattle.go_board.specs.declared.board.Cell.{Cell}
 use Rattle.go_board.proofs.CaptureLemmas.{holds-yes, holds-no, count_by-more}
 
 -- the count so far, and a point that counts
-pub counted-one : (board : List Cell) (c : Colour) (n before : ℕ) → CountsFor board c n → before ≡ count_by (is_counted board c) (range_with_len 0 n)
+pub counted-one : (board : List Cell) (c : Colour) (n before : ℕ) → CountsFor board c n
+    → before ≡ count_by (is_counted board c) (range_with_len 0 n)
     → before + 1 ≡ count_by (is_counted board c) (range_with_len 0 (n + 1))
 counted-one board c n before counts so_far =
-    ap (λ m. m + 1) so_far ∙ ap (λ (b : Bool). count_by (is_counted board c) (range_with_len 0 n) + cond b 1 0) (sym (holds-yes (counts_for? board c n) counts))
+    ap (λ m. m + 1) so_far ∙ ap (λ (b : Bool). count_by (is_counted board c) (range_with_len 0 n) + cond b 1 0)
+    (sym (holds-yes (counts_for? board c n) counts))
     ∙ sym (count_by-more (is_counted board c) n)
 
 -- the count so far, and a point that doesn't count
-pub counted-none : (board : List Cell) (c : Colour) (n before : ℕ) → ¬ CountsFor board c n → before ≡ count_by (is_counted board c) (range_with_len 0 n)
+pub counted-none : (board : List Cell) (c : Colour) (n before : ℕ) → ¬ CountsFor board c n
+    → before ≡ count_by (is_counted board c) (range_with_len 0 n)
     → before ≡ count_by (is_counted board c) (range_with_len 0 (n + 1))
 counted-none board c n before out so_far =
-    so_far ∙ omega arith ∙ ap (λ (b : Bool). count_by (is_counted board c) (range_with_len 0 n) + cond b 1 0) (sym (holds-no (counts_for? board c n) out))
+    so_far ∙ omega arith ∙ ap (λ (b : Bool). count_by (is_counted board c) (range_with_len 0 n) + cond b 1 0)
+    (sym (holds-no (counts_for? board c n) out))
     ∙ sym (count_by-more (is_counted board c) n)
 
-pub area-from_count : (board : List Cell) (c : Colour) (n count : ℕ) → n ≡ 702 → count ≡ count_by (is_counted board c) (range_with_len 0 n) → count ≡ area board c
+pub area-from_count : (board : List Cell) (c : Colour) (n count : ℕ) → n ≡ 702
+    → count ≡ count_by (is_counted board c) (range_with_len 0 n) → count ≡ area board c
 unfolding area
 area-from_count board c n count e h = h ∙ ap (λ k. count_by (is_counted board c) (range_with_len 0 k)) e
 
-pub score-from_areas : (game : GameRecord) (cells : List Cell) (black white : ℕ) (komi : ℤ) → cells ≡ board_of game → black ≡ area cells Black → white ≡ area cells White → komi ≡ game.komi
+pub score-from_areas : (game : GameRecord) (cells : List Cell) (black white : ℕ) (komi : ℤ) → cells ≡ board_of game
+    → black ≡ area cells Black → white ≡ area cells White → komi ≡ game.komi
     → ((pos 2 *ℤ (pos black -ℤ pos white)) -ℤ komi) ≡ score game
 unfolding score
 score-from_areas game cells black white komi is b w k =

@@ -1,10 +1,12 @@
 -- Removing the stones without a liberty, place by place.
-use Rattle.std.proofs.Common.{◌≡◌, ℕ, ◌+◌, ◌<◌, ◌≤◌, List, length, refl, sym, ◌∙◌, ap, subst, arith, inl, inr, Bool, true, false, cond, get_or-set_other, get_or-set_same, Contains}
+use Rattle.std.proofs.Common.{◌≡◌, ℕ, ◌+◌, ◌<◌, ◌≤◌, List, length, refl, sym, ◌∙◌, ap, subst, arith, inl, inr, Bool}
+use Rattle.std.proofs.Common.{true, false, cond, get_or-set_other, get_or-set_same, Contains}
 use Rattle.std.specs.Prelude.{◌⊎◌, ◌≢◌, count_by, map}
 use Rattle.std.specs.List.{range_with_len}
 use Rattle.std.proofs.Math.ListN.{set, length-set}
 use Rattle.std.proofs.lemmas.List.{map-id, get_or_past}
-use Rattle.std.proofs.lemmas.List.FromFn.{fill_by_all, sum_by-map-range_with_len_more, get_or-map-range_with_len, length-map-range_with_len}
+use Rattle.std.proofs.lemmas.List.FromFn.{fill_by_all, sum_by-map-range_with_len_more, get_or-map-range_with_len}
+use Rattle.std.proofs.lemmas.List.FromFn.{length-map-range_with_len}
 use Rattle.go_base.specs.Colour.{other}
 use Rattle.go_base.specs.declared.colours.Colour.{Colour}
 use Rattle.go_board.specs.Board.{at, stone}
@@ -28,7 +30,8 @@ holds-no (yes a) h = absurd (h a)
 holds-no (no k) h = refl
 
 -- the count among the numbers below n, and one number more
-pub count_by-more : (p : ℕ → Bool) (n : ℕ) → count_by p (range_with_len 0 (n + 1)) ≡ count_by p (range_with_len 0 n) + cond (p n) 1 0
+pub count_by-more : (p : ℕ → Bool) (n : ℕ)
+    → count_by p (range_with_len 0 (n + 1)) ≡ count_by p (range_with_len 0 n) + cond (p n) 1 0
 count_by-more p n =
     simp map-id at (sum_by-map-range_with_len_more (λ (x : ℕ). cond (p x) 1 0) (λ (x : ℕ). x) 0 n n (omega arith))
 
@@ -53,8 +56,10 @@ earlier_or_last : (k n : ℕ) → k < n + 1 → (k < n) ⊎ (k ≡ n)
 earlier_or_last k n h = grind arith
 
 -- the place n held a stone that isn't among the free ones, and it was removed
-pub IsClearing-removed : (board : List Cell) (c : Colour) (s : Cell) (free : List ℕ) (n : ℕ) (old new : List Cell) (before removed : ℕ) → s ≡ stone c → AreTouching board s Empty free
-    → n < length board → IsClearing board c n old before → at old n ≡ s → ¬ Contains free n → new ≡ set old n Empty → removed ≡ before + 1 → IsClearing board c (n + 1) new removed
+pub IsClearing-removed : (board : List Cell) (c : Colour) (s : Cell) (free : List ℕ) (n : ℕ) (old new : List Cell)
+    (before removed : ℕ) → s ≡ stone c → AreTouching board s Empty free
+    → n < length board → IsClearing board c n old before → at old n ≡ s → ¬ Contains free n → new ≡ set old n Empty
+    → removed ≡ before + 1 → IsClearing board c (n + 1) new removed
 IsClearing-removed board c s free n old new before removed is among in_range k held out fewer one_more =
     let here : at board n ≡ s = sym (k.rest n (omega arith)) ∙ held in
     let captured : IsCaptured board c n = (here ∙ is, λ liberty. out ((among n).1 (here, liberty))) in
@@ -69,13 +74,18 @@ IsClearing-removed board c s free n old new before removed is among in_range k h
             (get_or-set_same old n Empty Edge (omega arith) ∙ ap (λ (b : Bool). cond b Empty (at board n)) (sym taken))
       ];
       rest = λ j past. get_or-set_other old n j Empty Edge (omega arith) ∙ k.rest j (omega arith);
-      counted = ap (λ m. m + 1) k.counted ∙ sym (count_by-more (is_captured board c) n ∙ ap (λ (b : Bool). count_by (is_captured board c) (range_with_len 0 n) + cond b 1 0) taken);
+      counted =
+          ap (λ m. m + 1) k.counted
+          ∙ sym (count_by-more (is_captured board c) n
+          ∙ ap (λ (b : Bool). count_by (is_captured board c) (range_with_len 0 n) + cond b 1 0) taken);
       few = omega arith;
     })
 
 -- the place n held no such stone, or a free one
-pub IsClearing-kept : (board : List Cell) (c : Colour) (s : Cell) (free : List ℕ) (n : ℕ) (old new : List Cell) (before removed : ℕ) → s ≡ stone c → AreTouching board s Empty free
-    → IsClearing board c n old before → (at old n ≡ s → Contains free n) → new ≡ old → removed ≡ before → IsClearing board c (n + 1) new removed
+pub IsClearing-kept : (board : List Cell) (c : Colour) (s : Cell) (free : List ℕ) (n : ℕ) (old new : List Cell)
+    (before removed : ℕ) → s ≡ stone c → AreTouching board s Empty free
+    → IsClearing board c n old before → (at old n ≡ s → Contains free n) → new ≡ old → removed ≡ before
+    → IsClearing board c (n + 1) new removed
 IsClearing-kept board c s free n old new before removed is among k member same none =
     let here : at old n ≡ at board n = k.rest n (omega arith) in
     let free_one : ¬ IsCaptured board c n = λ h. h.1 ((among n).0 (member (here ∙ h.0 ∙ sym is))).1 in
@@ -85,7 +95,8 @@ IsClearing-kept board c s free n old new before removed is among k member same n
       length_is = k.length_is;
       done = λ j below. elim (earlier_or_last j n below) [
         | inl earlier ↦ k.done j earlier
-        | inr last ↦ subst (λ i. at old i ≡ left_at board c i) (sym last) (here ∙ ap (λ (b : Bool). cond b Empty (at board n)) (sym left))
+        | inr last ↦ subst (λ i. at old i ≡ left_at board c i) (sym last)
+            (here ∙ ap (λ (b : Bool). cond b Empty (at board n)) (sym left))
       ];
       rest = λ j past. k.rest j (omega arith);
       counted = k.counted ∙ sym (count_by-more (is_captured board c) n
@@ -93,22 +104,26 @@ IsClearing-kept board c s free n old new before removed is among k member same n
       few = omega arith;
     })
 
-pub IsClearing-done : (board : List Cell) (c : Colour) (n : ℕ) (cells : List Cell) (removed : ℕ) → n ≡ length board → IsClearing board c n cells removed
+pub IsClearing-done : (board : List Cell) (c : Colour) (n : ℕ) (cells : List Cell) (removed : ℕ) → n ≡ length board
+    → IsClearing board c n cells removed
     → cells ≡ without_captured board c
 unfolding without_captured
 IsClearing-done board c n cells removed all k =
     fill_by_all (left_at board c) cells (length board) Edge k.length_is (λ j h. k.done j (omega arith))
 
-pub IsClearing-count : (board : List Cell) (c : Colour) (n : ℕ) (cells : List Cell) (removed : ℕ) → n ≡ length board → IsClearing board c n cells removed
+pub IsClearing-count : (board : List Cell) (c : Colour) (n : ℕ) (cells : List Cell) (removed : ℕ) → n ≡ length board
+    → IsClearing board c n cells removed
     → removed ≡ captured_count board c
 unfolding captured_count
-IsClearing-count board c n cells removed all k = k.counted ∙ ap (λ m. count_by (is_captured board c) (range_with_len 0 m)) all
+IsClearing-count board c n cells removed all k =
+    k.counted ∙ ap (λ m. count_by (is_captured board c) (range_with_len 0 m)) all
 
 -- ---- what removing stones leaves
 
 -- what isn't edge is on the list
 pub in_list : (board : List Cell) (p : ℕ) → at board p ≢ Edge → p < length board
-in_list board p point = elim (inside p (length board)) [ inl below ↦ below | inr past ↦ absurd (point (get_or_past board p Edge past)) ]
+in_list board p point =
+    elim (inside p (length board)) [ inl below ↦ below | inr past ↦ absurd (point (get_or_past board p Edge past)) ]
   where
     inside : (k n : ℕ) → (k < n) ⊎ (n ≤ k)
     inside k n = grind arith
@@ -152,14 +167,16 @@ SameEdge-without_captured board c = record {
   back = λ p e. edge-from_left_at board c p (sym (at-without_captured board c p) ∙ e);
 }
 
-pub SameEdge-set : (board : List Cell) (p : ℕ) (x : Cell) → at board p ≢ Edge → x ≢ Edge → SameEdge board (set board p x)
+pub SameEdge-set : (board : List Cell) (p : ℕ) (x : Cell) → at board p ≢ Edge → x ≢ Edge
+    → SameEdge board (set board p x)
 SameEdge-set board p x point filled = record {
   kept = λ q e. elim (same_or_other q p) [
     | inl same ↦ absurd (point (ap (λ r. at board r) (sym same) ∙ e))
     | inr another ↦ get_or-set_other board p q x Edge another ∙ e
   ];
   back = λ q e. elim (same_or_other q p) [
-    | inl same ↦ absurd (filled (sym (get_or-set_same board p x Edge (in_list board p point)) ∙ ap (λ r. at (set board p x) r) (sym same) ∙ e))
+    | inl same ↦ absurd (filled
+        (sym (get_or-set_same board p x Edge (in_list board p point)) ∙ ap (λ r. at (set board p x) r) (sym same) ∙ e))
     | inr another ↦ sym (get_or-set_other board p q x Edge another) ∙ e
   ];
 }
@@ -188,6 +205,9 @@ HasSize-same_edge size old new same has p = (
 pub at-put : (board : List Cell) (c : Colour) (p : ℕ) → at board p ≢ Edge → at (put board c p) p ≡ stone c
 unfolding put
 at-put board c p point =
-    let here : at (set board p (stone c)) p ≡ stone c = get_or-set_same board p (stone c) Edge (in_list board p point) in
-    let kept : is_captured (set board p (stone c)) (other c) p ≡ false = holds-no (captured? (set board p (stone c)) (other c) p) (λ k. stone-differs c (sym here ∙ k.0)) in
-    at-without_captured (set board p (stone c)) (other c) p ∙ ap (λ (b : Bool). cond b Empty (at (set board p (stone c)) p)) kept ∙ here
+    let here : at (set board p (stone c)) p ≡ stone c =
+    get_or-set_same board p (stone c) Edge (in_list board p point) in
+    let kept : is_captured (set board p (stone c)) (other c) p ≡ false =
+    holds-no (captured? (set board p (stone c)) (other c) p) (λ k. stone-differs c (sym here ∙ k.0)) in
+    at-without_captured (set board p (stone c)) (other c) p
+    ∙ ap (λ (b : Bool). cond b Empty (at (set board p (stone c)) p)) kept ∙ here

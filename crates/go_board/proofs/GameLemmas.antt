@@ -1,5 +1,6 @@
 -- What one more move does to the record and the board.
-use Rattle.std.proofs.Common.{◌≡◌, ℕ, zero, suc, ◌+◌, ◌-◌, ◌<◌, ◌≤◌, List, [], ◌∷◌, ◌++◌, length, refl, sym, ◌∙◌, ap, subst, arith, inl, inr, Bool}
+use Rattle.std.proofs.Common.{◌≡◌, ℕ, zero, suc, ◌+◌, ◌-◌, ◌<◌, ◌≤◌, List, [], ◌∷◌, ◌++◌, length, refl, sym, ◌∙◌, ap}
+use Rattle.std.proofs.Common.{subst, arith, inl, inr, Bool}
 use Rattle.std.specs.Prelude.{ℤ, ◌⊎◌, Result, Ok, Err, Some, slice_get, MatchResult, IsTrue, is_ok, ◌↔◌}
 use Rattle.std.specs.List.{fold}
 use Rattle.std.proofs.lemmas.Bool.{false≢true}
@@ -9,7 +10,8 @@ use Rattle.go_base.specs.declared.colours.Colour.{Colour}
 use Rattle.go_base.specs.declared.vertices.Vertex.{Vertex}
 use Rattle.go_base.specs.declared.vertices.Vertex.TheVariants.{Pass, At}
 use Rattle.go_base.specs.declared.moves.Move.{Move}
-use Rattle.go_board.specs.Game.{GameRecord, HasRoom, start, board, first_moves, without_last, with_move, after, IsGame, IsLegal}
+use Rattle.go_board.specs.Game.{GameRecord, HasRoom, start, board, first_moves, without_last, with_move, after, IsGame}
+use Rattle.go_board.specs.Game.{IsLegal}
 use Rattle.go_board.specs.Refusals.{RefusesVertex}
 use Rattle.go_board.specs.declared.faults.PlayFault.{PlayFault}
 use Rattle.go_board.specs.declared.faults.PlayFault.TheVariants.{Full, OffBoard, Occupied, Suicide, Ko}
@@ -20,26 +22,33 @@ fold-push : {A B : Type 0} (f : B → A → B) (b : B) (xs : List A) (x : A) →
 fold-push f b [] x = refl
 fold-push f b (y ∷ ys) x = fold-push f (f b y) ys x
 
-pub board-push : (size handicap : ℕ) (moves : List Move) (m : Move) → board size handicap (moves ++ m ∷ []) ≡ after (board size handicap moves) m
+pub board-push : (size handicap : ℕ) (moves : List Move) (m : Move)
+    → board size handicap (moves ++ m ∷ []) ≡ after (board size handicap moves) m
 unfolding board
 board-push size handicap moves m = fold-push after (start size handicap) moves m
 
 -- the games of a game's first moves are those of the longer one
-first_moves-with_move : (game : GameRecord) (c : Colour) (v : Vertex) (k : ℕ) → k ≤ length game.moves → first_moves k (with_move game c v) ≡ first_moves k game
+first_moves-with_move : (game : GameRecord) (c : Colour) (v : Vertex) (k : ℕ) → k ≤ length game.moves
+    → first_moves k (with_move game c v) ≡ first_moves k game
 first_moves-with_move game c v k h =
-    ap (λ (ms : List Move). let g : GameRecord = record game { moves = ms } in g) (take-append-le k game.moves (record { colour = c; vertex = v } ∷ []) h)
+    ap (λ (ms : List Move). let g : GameRecord = record game { moves = ms } in g)
+    (take-append-le k game.moves (record { colour = c; vertex = v } ∷ []) h)
 
-first_moves-all : (game : GameRecord) (c : Colour) (v : Vertex) → first_moves (length game.moves) (with_move game c v) ≡ game
+first_moves-all : (game : GameRecord) (c : Colour) (v : Vertex)
+    → first_moves (length game.moves) (with_move game c v) ≡ game
 first_moves-all game c v =
-    ap (λ (ms : List Move). let g : GameRecord = record game { moves = ms } in g) (take_at game.moves (record { colour = c; vertex = v } ∷ []) (length game.moves) refl)
+    ap (λ (ms : List Move). let g : GameRecord = record game { moves = ms } in g)
+    (take_at game.moves (record { colour = c; vertex = v } ∷ []) (length game.moves) refl)
 
 -- the longer game without its last move
 pub without_last-with_move : (game : GameRecord) (c : Colour) (v : Vertex) → without_last (with_move game c v) ≡ game
 without_last-with_move game c v =
-    let n : length (with_move game c v).moves - 1 ≡ length game.moves = omega (arith, length_push game.moves (record { colour = c; vertex = v })) in
+    let n : length (with_move game c v).moves - 1 ≡ length game.moves =
+    omega (arith, length_push game.moves (record { colour = c; vertex = v })) in
     ap (λ (k : ℕ). first_moves k (with_move game c v)) n ∙ first_moves-all game c v
 
-slice_get-push : (ms : List Move) (m x : Move) (k : ℕ) → slice_get (ms ++ m ∷ []) k ≡ Some x → ((k < length ms) × (slice_get ms k ≡ Some x)) ⊎ ((k ≡ length ms) × (x ≡ m))
+slice_get-push : (ms : List Move) (m x : Move) (k : ℕ) → slice_get (ms ++ m ∷ []) k ≡ Some x
+    → ((k < length ms) × (slice_get ms k ≡ Some x)) ⊎ ((k ≡ length ms) × (x ≡ m))
 slice_get-push [] m x zero e = inr (omega arith, cc)
 slice_get-push [] m x (suc k) e = cc
 slice_get-push (y ∷ ms) m x zero e = inl (omega arith, e)
@@ -48,7 +57,8 @@ slice_get-push (y ∷ ms) m x (suc k) e = elim (slice_get-push ms m x k e) [
   | inr new ↦ let h = new.0 in inr (omega arith, new.1)
 ]
 
-pub IsGame-with_move : (game : GameRecord) (c : Colour) (v : Vertex) → IsGame game → HasRoom game → IsLegal game c v → IsGame (with_move game c v)
+pub IsGame-with_move : (game : GameRecord) (c : Colour) (v : Vertex) → IsGame game → HasRoom game → IsLegal game c v
+    → IsGame (with_move game c v)
 IsGame-with_move game c v g room legal =
     let m : Move = record { colour = c; vertex = v } in
     record {
@@ -59,7 +69,8 @@ IsGame-with_move game c v g room legal =
       legal = λ k x e. elim (slice_get-push game.moves m x k e) [
         | inl old ↦
             let h = old.0 in
-            subst (λ (before : GameRecord). IsLegal before x.colour x.vertex) (sym (first_moves-with_move game c v k (omega arith))) (g.legal k x old.1)
+            subst (λ (before : GameRecord). IsLegal before x.colour x.vertex)
+            (sym (first_moves-with_move game c v k (omega arith))) (g.legal k x old.1)
         | inr new ↦
             subst (λ (n : ℕ). IsLegal (first_moves n (with_move game c v)) x.colour x.vertex) (sym new.0)
             (subst (λ (before : GameRecord). IsLegal before x.colour x.vertex) (sym (first_moves-all game c v))
@@ -69,9 +80,16 @@ IsGame-with_move game c v g room legal =
 
 -- ---- a game with another komi
 
-IsLegal-komi : (game : GameRecord) (komi : ℤ) (c : Colour) (v : Vertex) → IsLegal game c v → IsLegal (record game { komi = komi }) c v
+IsLegal-komi : (game : GameRecord) (komi : ℤ) (c : Colour) (v : Vertex) → IsLegal game c v
+    → IsLegal (record game { komi = komi }) c v
 IsLegal-komi game komi c Pass l = l
-IsLegal-komi game komi c (At p) l = record { on_board = l.on_board; empty = l.empty; free = l.free; no_ko = λ r. l.no_ko (record { moved = r.moved; same = r.same }) }
+IsLegal-komi game komi c (At p) l =
+    record {
+      on_board = l.on_board;
+      empty = l.empty;
+      free = l.free;
+      no_ko = λ r. l.no_ko (record { moved = r.moved; same = r.same });
+    }
 
 pub IsGame-komi : (game : GameRecord) (komi : ℤ) → IsKomi komi → IsGame game → IsGame (record game { komi = komi })
 IsGame-komi game komi is g = record {
@@ -104,7 +122,8 @@ pub record IsBeforeMove (game : GameRecord) (c : Colour) (v : Vertex) : Type 0 w
   pub room : HasRoom game
   pub legal : IsLegal game c v
 
-pub IsBeforeMove-from : (game : GameRecord) (c : Colour) (v : Vertex) → IsGame (with_move game c v) → IsBeforeMove game c v
+pub IsBeforeMove-from : (game : GameRecord) (c : Colour) (v : Vertex) → IsGame (with_move game c v)
+    → IsBeforeMove game c v
 IsBeforeMove-from game c v g =
     let m : Move = record { colour = c; vertex = v } in
     let long : length (with_move game c v).moves ≡ length game.moves + 1 = length_push game.moves m in
@@ -117,15 +136,19 @@ IsBeforeMove-from game c v g =
         few = omega (arith, long, few);
         legal = λ k x e.
             let below = slice_get-below game.moves k x e in
-            subst (λ (before : GameRecord). IsLegal before x.colour x.vertex) (first_moves-with_move game c v k (omega (arith, below)))
+            subst (λ (before : GameRecord). IsLegal before x.colour x.vertex)
+            (first_moves-with_move game c v k (omega (arith, below)))
             (g.legal k x (slice_get-longer game.moves m x k e));
       };
       room = omega (arith, long, few);
-      legal = subst (λ (before : GameRecord). IsLegal before c v) (first_moves-all game c v) (g.legal (length game.moves) m (slice_get-end game.moves m));
+      legal =
+          subst (λ (before : GameRecord). IsLegal before c v) (first_moves-all game c v)
+          (g.legal (length game.moves) m (slice_get-end game.moves m));
     }
 
 -- a game whose moves end with this one is the game before it with that move
-pub with-last : (game : GameRecord) (ms : List Move) (m : Move) → game.moves ≡ ms ++ m ∷ [] → with_move (record game { moves = ms }) m.colour m.vertex ≡ game
+pub with-last : (game : GameRecord) (ms : List Move) (m : Move) → game.moves ≡ ms ++ m ∷ []
+    → with_move (record game { moves = ms }) m.colour m.vertex ≡ game
 with-last game ms m e = ap (λ (xs : List Move). let g : GameRecord = record game { moves = xs } in g) (sym e)
 
 record EndsWith (ms : List Move) : Type 0 where
@@ -144,7 +167,8 @@ no-moves [] e = refl
 no-moves (m ∷ ms) e = absurd (omega (arith, e))
 
 -- from the game before the last move to the whole game
-last-step : (P : GameRecord → Type 0) → ((game : GameRecord) (c : Colour) (v : Vertex) → IsBeforeMove game c v → P game → P (with_move game c v))
+last-step : (P : GameRecord → Type 0)
+    → ((game : GameRecord) (c : Colour) (v : Vertex) → IsBeforeMove game c v → P game → P (with_move game c v))
     → (n : ℕ) (game : GameRecord) (ms : List Move) → game.moves ≡ ms → length ms ≡ suc n → IsGame game
     → ((before : GameRecord) → length before.moves ≡ n → IsGame before → P before) → P game
 last-step P more n game [] e long g earlier = absurd (omega (arith, long))
@@ -154,23 +178,27 @@ last-step P more n game (m ∷ ms) e long g earlier =
     let before : GameRecord = record game { moves = ends.before } in
     let b = IsBeforeMove-from before ends.last.colour ends.last.vertex (subst IsGame (sym is) g) in
     let shorter : length (m ∷ ms) ≡ length ends.before + 1 = ap length ends.is ∙ length_push ends.before ends.last in
-    subst P is (more before ends.last.colour ends.last.vertex b (earlier before (omega (arith, long, shorter)) b.game_is))
+    subst P is (more before ends.last.colour ends.last.vertex b
+    (earlier before (omega (arith, long, shorter)) b.game_is))
 
 by_length : (P : GameRecord → Type 0) → ((game : GameRecord) → IsGame game → game.moves ≡ [] → P game)
     → ((game : GameRecord) (c : Colour) (v : Vertex) → IsBeforeMove game c v → P game → P (with_move game c v))
     → (n : ℕ) (game : GameRecord) → length game.moves ≡ n → IsGame game → P game
 by_length P none more zero game long g = none game g (no-moves game.moves long)
-by_length P none more (suc n) game long g = last-step P more n game game.moves refl long g (λ before l b. by_length P none more n before l b)
+by_length P none more (suc n) game long g =
+    last-step P more n game game.moves refl long g (λ before l b. by_length P none more n before l b)
 
 -- What holds of a game without moves, and of a game with one move more than one of which it holds, holds of all.
 pub by_moves : (P : GameRecord → Type 0) → ((game : GameRecord) → IsGame game → game.moves ≡ [] → P game)
-    → ((game : GameRecord) (c : Colour) (v : Vertex) → IsBeforeMove game c v → P game → P (with_move game c v)) → (game : GameRecord) → IsGame game → P game
+    → ((game : GameRecord) (c : Colour) (v : Vertex) → IsBeforeMove game c v → P game → P (with_move game c v))
+    → (game : GameRecord) → IsGame game → P game
 by_moves P none more game g = by_length P none more (length game.moves) game refl g
 
 -- ---- what is refused isn't legal
 
 -- a legal move isn't refused
-pub legal-or_refused : (game : GameRecord) (c : Colour) (v : Vertex) (fault : PlayFault) → IsLegal game c v → RefusesVertex game c v fault → ⊥
+pub legal-or_refused : (game : GameRecord) (c : Colour) (v : Vertex) (fault : PlayFault) → IsLegal game c v
+    → RefusesVertex game c v fault → ⊥
 legal-or_refused game c Pass fault l r = r
 legal-or_refused game c (At p) Full l r = r
 legal-or_refused game c (At p) OffBoard l r = r l.on_board
@@ -179,7 +207,9 @@ legal-or_refused game c (At p) Suicide l r = (r.1).1 l.free
 legal-or_refused game c (At p) Ko l r = l.no_ko ((r.1).1).1
 
 -- a test whether a move is allowed, answered by why it is refused
-pub legal-from_test : (game : GameRecord) (c : Colour) (v : Vertex) (r : Result (Unit {0}) PlayFault) (allowed : Bool) → allowed ≡ is_ok r
+pub legal-from_test : (game : GameRecord) (c : Colour) (v : Vertex) (r : Result (Unit {0}) PlayFault) (allowed : Bool)
+    → allowed ≡ is_ok r
     → MatchResult r (λ _. IsLegal game c v) (RefusesVertex game c v) → IsTrue allowed ↔ IsLegal game c v
 legal-from_test game c v (Ok u) allowed is test = ((λ _. test), (λ _. is))
-legal-from_test game c v (Err fault) allowed is test = ((λ e. absurd (false≢true (sym is ∙ e))), (λ l. absurd (legal-or_refused game c v fault l test)))
+legal-from_test game c v (Err fault) allowed is test =
+    ((λ e. absurd (false≢true (sym is ∙ e))), (λ l. absurd (legal-or_refused game c v fault l test)))

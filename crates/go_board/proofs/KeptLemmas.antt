@@ -1,5 +1,6 @@
 -- What the fields of a game keep when it begins, by a move, and by a move taken back.
-use Rattle.std.proofs.Common.{◌≡◌, ℕ, ◌+◌, ◌-◌, ◌<◌, ◌≤◌, List, [], ◌∷◌, ◌++◌, length, refl, sym, ◌∙◌, ap, subst, arith, length-append}
+use Rattle.std.proofs.Common.{◌≡◌, ℕ, ◌+◌, ◌-◌, ◌<◌, ◌≤◌, List, [], ◌∷◌, ◌++◌, length, refl, sym, ◌∙◌, ap, subst, arith}
+use Rattle.std.proofs.Common.{length-append}
 use Rattle.std.specs.Prelude.{ℤ, ◌⊎◌, ◌↔◌, Bool, IsTrue, Option, Some, None, if◌then◌else◌, slice_get}
 use Rattle.arrayvec.specs.ArrayVec.{ArrayVec}
 use Rattle.go_base.specs.Handicap.{AllowsHandicap}
@@ -29,13 +30,16 @@ use Rattle.go_board.specs.declared.ko.Ko.{Ko}
 use Rattle.go_board.specs.declared.removed.Taken.{Taken}
 use Rattle.go_board.proofs.GameLemmas.{IsGame-with_move, IsGame-komi, with-last, IsBeforeMove-from}
 use Rattle.go_board.proofs.KoGameLemmas.{IsKo-start}
-use Rattle.go_board.proofs.OrderLemmas.{IsOrderly-game, framed-game, board-start, removed-start, board-with_move, legal-open, removed-few}
+use Rattle.go_board.proofs.OrderLemmas.{IsOrderly-game, framed-game, board-start, removed-start, board-with_move}
+use Rattle.go_board.proofs.OrderLemmas.{legal-open, removed-few}
 use Rattle.go_board.proofs.StackLemmas.{removed_of-with_move, length-taken}
 use Rattle.go_board.proofs.TakenLemmas.{taken-with_move, taken-without_move, taken-enough, taken-few, captures-places}
 
 -- size and freedom of the board follow from the game
-kept-from : (f : Inside) → IsGame (record_of f) → f.chains.board ≡ board_of (record_of f) → AreChains f.chains.board f.chains.labels f.chains.counts → IsKo (record_of f) f.ko
-    → f.removed ≡ removed_of (record_of f) → f.taken_by_black ≡ taken (record_of f) colour.Black → f.taken_by_white ≡ taken (record_of f) colour.White → IsKept f
+kept-from : (f : Inside) → IsGame (record_of f) → f.chains.board ≡ board_of (record_of f)
+    → AreChains f.chains.board f.chains.labels f.chains.counts → IsKo (record_of f) f.ko
+    → f.removed ≡ removed_of (record_of f) → f.taken_by_black ≡ taken (record_of f) colour.Black
+    → f.taken_by_white ≡ taken (record_of f) colour.White → IsKept f
 kept-from f g board_is chains ko removed black white =
     let o = IsOrderly-game (record_of f) g in
     record {
@@ -59,9 +63,21 @@ none-taken : (game : GameRecord) (d : Colour) → game.moves ≡ [] → 0 ≡ ta
 unfolding taken
 none-taken game d none = sym (ap (λ (ms : List Move). taken_from (start game.size game.handicap) d ms) none)
 
-pub IsKept-start : (size : ℕ) (komi : ℤ) (handicap : ℕ) (chains : Chains) (removed : List Taken) (moves : ArrayVec Move) → IsSize size → IsKomi komi
-    → (handicap ≡ 0) ⊎ AllowsHandicap size handicap → chains.board ≡ start size handicap → AreChains chains.board chains.labels chains.counts → removed ≡ [] → moves.items ≡ []
-    → IsKept (record { size = size; komi = komi; handicap = handicap; moves = moves; chains = chains; ko = None; removed = removed; taken_by_black = 0; taken_by_white = 0 })
+pub IsKept-start : (size : ℕ) (komi : ℤ) (handicap : ℕ) (chains : Chains) (removed : List Taken) (moves : ArrayVec Move)
+    → IsSize size → IsKomi komi
+    → (handicap ≡ 0) ⊎ AllowsHandicap size handicap → chains.board ≡ start size handicap
+    → AreChains chains.board chains.labels chains.counts → removed ≡ [] → moves.items ≡ []
+    → IsKept (record {
+      size = size;
+      komi = komi;
+      handicap = handicap;
+      moves = moves;
+      chains = chains;
+      ko = None;
+      removed = removed;
+      taken_by_black = 0;
+      taken_by_white = 0;
+    })
 IsKept-start size komi handicap chains removed moves is_size is_komi allowed board_is are gone none =
     let game : GameRecord = record { size = size; komi = komi; handicap = handicap; moves = moves.items } in
     let g : IsGame game = record {
@@ -71,8 +87,19 @@ IsKept-start size komi handicap chains removed moves is_size is_komi allowed boa
       few = let long = ap length none in omega (arith, long);
       legal = λ k move e. slice_get-nil _ k move (ap (λ (ms : List Move). slice_get ms k) (sym none) ∙ e);
     } in
-    kept-from (record { size = size; komi = komi; handicap = handicap; moves = moves; chains = chains; ko = None; removed = removed; taken_by_black = 0; taken_by_white = 0 })
-    g (board_is ∙ sym (board-start game none)) are (IsKo-start game none) (gone ∙ sym (removed-start game none)) (none-taken game colour.Black none) (none-taken game colour.White none)
+    kept-from (record {
+      size = size;
+      komi = komi;
+      handicap = handicap;
+      moves = moves;
+      chains = chains;
+      ko = None;
+      removed = removed;
+      taken_by_black = 0;
+      taken_by_white = 0;
+    })
+    g (board_is ∙ sym (board-start game none)) are (IsKo-start game none) (gone ∙ sym (removed-start game none))
+    (none-taken game colour.Black none) (none-taken game colour.White none)
 
 -- ---- another komi
 
@@ -96,7 +123,8 @@ IsKept-komi f komi is kept = record {
 -- ---- a move
 
 -- there is room on the stack for what a move takes
-pub room-for_move : (f : Inside) (c : Colour) (v : Vertex) → IsKept f → length f.moves.items < 2000 → IsLegal (record_of f) c v
+pub room-for_move : (f : Inside) (c : Colour) (v : Vertex) → IsKept f → length f.moves.items < 2000
+    → IsLegal (record_of f) c v
     → length f.removed + captures_of_vertex f.chains.board c v ≤ 2009
 room-for_move f c v kept room legal =
     let game = record_of f in
@@ -104,43 +132,77 @@ room-for_move f c v kept room legal =
     let few = removed-few (with_move game c v) h in
     let more = grown game c v in
     subst (λ (b : List Cell). length f.removed + captures_of_vertex b c v ≤ 2009) (sym kept.board_is)
-    (subst (λ (ts : List Taken). length ts + captures_of_vertex (board_of game) c v ≤ 2009) (sym kept.removed_is) (omega (arith, few, more)))
+    (subst (λ (ts : List Taken). length ts + captures_of_vertex (board_of game) c v ≤ 2009) (sym kept.removed_is)
+    (omega (arith, few, more)))
   where
-    grown : (game : GameRecord) (c : Colour) (v : Vertex) → length (removed_of (with_move game c v)) ≡ length (removed_of game) + captures_of_vertex (board_of game) c v
+    grown : (game : GameRecord) (c : Colour) (v : Vertex)
+        → length (removed_of (with_move game c v)) ≡ length (removed_of game) + captures_of_vertex (board_of game) c v
     grown game c v =
         let places = removed_by (board_of game) c v in
-        let long = ap length (removed_of-with_move game c v) ∙ length-append (removed_of game) (taken_at (length game.moves) places) in
+        let long =
+        ap length (removed_of-with_move game c v)
+        ∙ length-append (removed_of game) (taken_at (length game.moves) places) in
         let same = length-taken (length game.moves) places in
         let is = captures-places (board_of game) c v in
         omega (arith, long, same, is)
 
 pub taken-most : (f : Inside) (d : Colour) (t : ℕ) → IsKept f → t ≡ taken (record_of f) d → t ≤ 2009
-taken-most f d t kept is = let few = taken-few (record_of f) d in let most = removed-few (record_of f) kept.game in omega (arith, few, most, is)
+taken-most f d t kept is = let few = taken-few (record_of f) d in
+    let most = removed-few (record_of f) kept.game in
+    omega (arith, few, most, is)
 
-pub IsKept-play : (f : Inside) (c : Colour) (v : Vertex) (chains : Chains) (ko : Option Ko) (removed : List Taken) (now black white : ℕ) (moves : ArrayVec Move) → IsKept f → length f.moves.items < 2000
-    → IsLegal (record_of f) c v → moves.items ≡ f.moves.items ++ record { colour = c; vertex = v } ∷ [] → chains.board ≡ after_vertex f.chains.board c v
-    → AreChains chains.board chains.labels chains.counts → removed ≡ f.removed ++ taken_at (length f.moves.items) (removed_by f.chains.board c v)
-    → now ≡ captures_of_vertex f.chains.board c v → black ≡ f.taken_by_black + (if same_colour c colour.Black then now else 0)
+pub IsKept-play : (f : Inside) (c : Colour) (v : Vertex) (chains : Chains) (ko : Option Ko) (removed : List Taken)
+    (now black white : ℕ) (moves : ArrayVec Move) → IsKept f → length f.moves.items < 2000
+    → IsLegal (record_of f) c v → moves.items ≡ f.moves.items ++ record { colour = c; vertex = v } ∷ []
+    → chains.board ≡ after_vertex f.chains.board c v
+    → AreChains chains.board chains.labels chains.counts
+    → removed ≡ f.removed ++ taken_at (length f.moves.items) (removed_by f.chains.board c v)
+    → now ≡ captures_of_vertex f.chains.board c v
+    → black ≡ f.taken_by_black + (if same_colour c colour.Black then now else 0)
     → white ≡ f.taken_by_white + (if same_colour c colour.White then now else 0) → IsKoAfter moves.items removed ko
-    → IsKept (record f { moves = moves; chains = chains; ko = ko; removed = removed; taken_by_black = black; taken_by_white = white })
-IsKept-play f c v chains ko removed now black white moves kept room legal items board_is are removed_is now_is black_is white_is ko_is =
+    → IsKept (record f {
+      moves = moves;
+      chains = chains;
+      ko = ko;
+      removed = removed;
+      taken_by_black = black;
+      taken_by_white = white;
+    })
+IsKept-play f c v chains ko removed now black white moves kept room legal items board_is are removed_is now_is black_is
+    white_is ko_is =
     let game = record_of f in
     let next : GameRecord = record game { moves = moves.items } in
-    let same : with_move game c v ≡ next = ap (λ (ms : List Move). let g : GameRecord = record game { moves = ms } in g) (sym items) in
+    let same : with_move game c v ≡ next =
+    ap (λ (ms : List Move). let g : GameRecord = record game { moves = ms } in g) (sym items) in
     let g : IsGame next = subst IsGame same (IsGame-with_move game c v kept.game room legal) in
-    let board : chains.board ≡ board_of next = board_is ∙ ap (λ (b : List Cell). after_vertex b c v) kept.board_is ∙ sym (board-with_move game c v) ∙ ap board_of same in
+    let board : chains.board ≡ board_of next =
+    board_is ∙ ap (λ (b : List Cell). after_vertex b c v) kept.board_is ∙ sym (board-with_move game c v)
+    ∙ ap board_of same in
     let stones : removed ≡ removed_of next =
-    removed_is ∙ ap (λ (ts : List Taken). ts ++ taken_at (length f.moves.items) (removed_by f.chains.board c v)) kept.removed_is
-    ∙ ap (λ (b : List Cell). removed_of game ++ taken_at (length f.moves.items) (removed_by b c v)) kept.board_is ∙ sym (removed_of-with_move game c v) ∙ ap removed_of same in
-    let took : now ≡ captures_of_vertex (board_of game) c v = now_is ∙ ap (λ (b : List Cell). captures_of_vertex b c v) kept.board_is in
-    kept-from (record f { moves = moves; chains = chains; ko = ko; removed = removed; taken_by_black = black; taken_by_white = white })
+    removed_is ∙ ap (λ (ts : List Taken). ts ++ taken_at (length f.moves.items) (removed_by f.chains.board c v))
+    kept.removed_is
+    ∙ ap (λ (b : List Cell). removed_of game ++ taken_at (length f.moves.items) (removed_by b c v)) kept.board_is
+    ∙ sym (removed_of-with_move game c v) ∙ ap removed_of same in
+    let took : now ≡ captures_of_vertex (board_of game) c v =
+    now_is ∙ ap (λ (b : List Cell). captures_of_vertex b c v) kept.board_is in
+    kept-from (record f {
+      moves = moves;
+      chains = chains;
+      ko = ko;
+      removed = removed;
+      taken_by_black = black;
+      taken_by_white = white;
+    })
     g board are (ko_is next g refl stones) stones
-    (taken-with_move game c v colour.Black f.taken_by_black now black kept.black_is took black_is ∙ ap (λ (h : GameRecord). taken h colour.Black) same)
-    (taken-with_move game c v colour.White f.taken_by_white now white kept.white_is took white_is ∙ ap (λ (h : GameRecord). taken h colour.White) same)
+    (taken-with_move game c v colour.Black f.taken_by_black now black kept.black_is took black_is
+    ∙ ap (λ (h : GameRecord). taken h colour.Black) same)
+    (taken-with_move game c v colour.White f.taken_by_white now white kept.white_is took white_is
+    ∙ ap (λ (h : GameRecord). taken h colour.White) same)
 
 -- ---- a move taken back
 
-pub after-last : (f : Inside) (ms : List Move) (c : Colour) (v : Vertex) → IsKept f → f.moves.items ≡ ms ++ record { colour = c; vertex = v } ∷ []
+pub after-last : (f : Inside) (ms : List Move) (c : Colour) (v : Vertex) → IsKept f
+    → f.moves.items ≡ ms ++ record { colour = c; vertex = v } ∷ []
     → IsAfterMove f.chains.board f.removed (record { colour = c; vertex = v }) (length ms)
 after-last f ms c v kept ends =
     let game = record_of f in
@@ -159,54 +221,87 @@ after-last f ms c v kept ends =
     }
 
 -- what the move took is known
-took-back : (f : Inside) (ms : List Move) (c : Colour) (v : Vertex) (chains : Chains) (removed : List Taken) (now : ℕ) (kept : IsKept f)
+took-back : (f : Inside) (ms : List Move) (c : Colour) (v : Vertex) (chains : Chains) (removed : List Taken) (now : ℕ)
+    (kept : IsKept f)
     → f.moves.items ≡ ms ++ record { colour = c; vertex = v } ∷ []
     → IsTakenBack f.chains.board f.removed (record { colour = c; vertex = v }) (length ms) chains.board removed now
     → (chains.board ≡ board_of (record { size = f.size; komi = f.komi; handicap = f.handicap; moves = ms }))
     × (removed ≡ removed_of (record { size = f.size; komi = f.komi; handicap = f.handicap; moves = ms }))
-    × (now ≡ captures_of_vertex (board_of (record { size = f.size; komi = f.komi; handicap = f.handicap; moves = ms })) c v)
+    × (now ≡ captures_of_vertex
+    (board_of (record { size = f.size; komi = f.komi; handicap = f.handicap; moves = ms })) c v)
 unfolding after-last
 took-back f ms c v chains removed now kept ends back = back (after-last f ms c v kept ends)
 
-pub enough-taken : (f : Inside) (ms : List Move) (c : Colour) (v : Vertex) (chains : Chains) (removed : List Taken) (now t : ℕ) (d : Colour) → IsKept f
+pub enough-taken : (f : Inside) (ms : List Move) (c : Colour) (v : Vertex) (chains : Chains) (removed : List Taken)
+    (now t : ℕ) (d : Colour) → IsKept f
     → f.moves.items ≡ ms ++ record { colour = c; vertex = v } ∷ []
-    → IsTakenBack f.chains.board f.removed (record { colour = c; vertex = v }) (length ms) chains.board removed now → t ≡ taken (record_of f) d
+    → IsTakenBack f.chains.board f.removed (record { colour = c; vertex = v }) (length ms) chains.board removed now
+    → t ≡ taken (record_of f) d
     → (if same_colour c d then now else 0) ≤ t
 enough-taken f ms c v chains removed now t d kept ends back is =
     let shorter : GameRecord = record { size = f.size; komi = f.komi; handicap = f.handicap; moves = ms } in
-    let same : with_move shorter c v ≡ record_of f = with-last (record_of f) ms (record { colour = c; vertex = v }) ends in
+    let same : with_move shorter c v ≡ record_of f =
+    with-last (record_of f) ms (record { colour = c; vertex = v }) ends in
     let were = took-back f ms c v chains removed now kept ends back in
     taken-enough shorter c v d t now (is ∙ ap (λ (h : GameRecord). taken h d) (sym same)) were.2
 
-pub IsKept-undo : (f : Inside) (c : Colour) (v : Vertex) (chains : Chains) (ko : Option Ko) (removed : List Taken) (now black white : ℕ) (moves : ArrayVec Move) → IsKept f
+pub IsKept-undo : (f : Inside) (c : Colour) (v : Vertex) (chains : Chains) (ko : Option Ko) (removed : List Taken)
+    (now black white : ℕ) (moves : ArrayVec Move) → IsKept f
     → f.moves.items ≡ moves.items ++ record { colour = c; vertex = v } ∷ []
-    → IsTakenBack f.chains.board f.removed (record { colour = c; vertex = v }) (length moves.items) chains.board removed now
-    → AreChains chains.board chains.labels chains.counts → black ≡ f.taken_by_black - (if same_colour c colour.Black then now else 0)
+    → IsTakenBack f.chains.board f.removed (record { colour = c; vertex = v })
+    (length moves.items) chains.board removed now
+    → AreChains chains.board chains.labels chains.counts
+    → black ≡ f.taken_by_black - (if same_colour c colour.Black then now else 0)
     → white ≡ f.taken_by_white - (if same_colour c colour.White then now else 0) → IsKoAfter moves.items removed ko
-    → IsKept (record f { moves = moves; chains = chains; ko = ko; removed = removed; taken_by_black = black; taken_by_white = white })
+    → IsKept (record f {
+      moves = moves;
+      chains = chains;
+      ko = ko;
+      removed = removed;
+      taken_by_black = black;
+      taken_by_white = white;
+    })
 IsKept-undo f c v chains ko removed now black white moves kept ends back are black_is white_is ko_is =
     let shorter : GameRecord = record { size = f.size; komi = f.komi; handicap = f.handicap; moves = moves.items } in
-    let same : with_move shorter c v ≡ record_of f = with-last (record_of f) moves.items (record { colour = c; vertex = v }) ends in
+    let same : with_move shorter c v ≡ record_of f =
+    with-last (record_of f) moves.items (record { colour = c; vertex = v }) ends in
     let b = IsBeforeMove-from shorter c v (subst IsGame (sym same) kept.game) in
     let were = took-back f moves.items c v chains removed now kept ends back in
-    kept-from (record f { moves = moves; chains = chains; ko = ko; removed = removed; taken_by_black = black; taken_by_white = white })
+    kept-from (record f {
+      moves = moves;
+      chains = chains;
+      ko = ko;
+      removed = removed;
+      taken_by_black = black;
+      taken_by_white = white;
+    })
     b.game_is were.0 are (ko_is shorter b.game_is refl were.1) were.1
-    (taken-without_move shorter c v colour.Black f.taken_by_black now black (kept.black_is ∙ ap (λ (h : GameRecord). taken h colour.Black) (sym same)) were.2 black_is)
-    (taken-without_move shorter c v colour.White f.taken_by_white now white (kept.white_is ∙ ap (λ (h : GameRecord). taken h colour.White) (sym same)) were.2 white_is)
+    (taken-without_move shorter c v colour.Black f.taken_by_black now black
+    (kept.black_is ∙ ap (λ (h : GameRecord). taken h colour.Black) (sym same)) were.2 black_is)
+    (taken-without_move shorter c v colour.White f.taken_by_white now white
+    (kept.white_is ∙ ap (λ (h : GameRecord). taken h colour.White) (sym same)) were.2 white_is)
 
 -- ---- the ko
 
 -- at the ko point a play repeats the board where it takes only the stone that captured there
-pub repeats-from : (game : GameRecord) (board : List Cell) (kept : Option Ko) (ko : Ko) (c : Colour) (p stone : ℕ) (b : Bool) → kept ≡ Some ko → IsKo game kept → board ≡ board_of game
-    → at (board_of game) p ≡ Empty → p ≡ ko.point → stone ≡ ko.stone → IsTrue b ↔ TakesOnly board c p stone → IsTrue b ↔ Repeats game (put (board_of game) c p)
+pub repeats-from : (game : GameRecord) (board : List Cell) (kept : Option Ko) (ko : Ko) (c : Colour) (p stone : ℕ)
+    (b : Bool) → kept ≡ Some ko → IsKo game kept → board ≡ board_of game
+    → at (board_of game) p ≡ Empty → p ≡ ko.point → stone ≡ ko.stone → IsTrue b ↔ TakesOnly board c p stone
+    → IsTrue b ↔ Repeats game (put (board_of game) c p)
 repeats-from game board kept ko c p stone b same ko_is board_is empty here stone_is takes =
     let is = (subst (λ (k : Option Ko). IsKo game k) same ko_is) c p empty in (
-      (λ yes. is.1 (here, subst (λ (cs : List Cell). TakesOnly cs c p ko.stone) board_is (subst (λ (s : ℕ). TakesOnly board c p s) stone_is (takes.0 yes)))),
-      (λ r. takes.1 (subst (λ (s : ℕ). TakesOnly board c p s) (sym stone_is) (subst (λ (cs : List Cell). TakesOnly cs c p ko.stone) (sym board_is) (is.0 r).1))),
+      (λ yes. is.1 (
+        here,
+        subst (λ (cs : List Cell). TakesOnly cs c p ko.stone) board_is
+            (subst (λ (s : ℕ). TakesOnly board c p s) stone_is (takes.0 yes)),
+      )),
+      (λ r. takes.1 (subst (λ (s : ℕ). TakesOnly board c p s) (sym stone_is)
+          (subst (λ (cs : List Cell). TakesOnly cs c p ko.stone) (sym board_is) (is.0 r).1))),
     )
 
 -- a play that is allowed by each test is legal
-pub legal-tested : (game : GameRecord) (board : List Cell) (c : Colour) (p place : ℕ) → place ≡ p → board ≡ board_of game → HasSize game.size board → at board place ≡ Empty
+pub legal-tested : (game : GameRecord) (board : List Cell) (c : Colour) (p place : ℕ) → place ≡ p
+    → board ≡ board_of game → HasSize game.size board → at board place ≡ Empty
     → IsFree (put board c place) place → ¬ Repeats game (put (board_of game) c place) → IsLegal game c (At p)
 legal-tested game board c p place same board_is has empty free no_ko =
     subst (λ (q : ℕ). IsLegal game c (At q)) same (record {

@@ -28,34 +28,43 @@ ko_after-start moves stones none game g is gone = IsKo-start game (sym is ∙ em
     empty [] e = refl
     empty (m ∷ ms) e = absurd (omega (arith, e))
 
-pub ko_after-pass : (moves earlier : List Move) (last : Move) (stones : List Taken) → moves ≡ earlier ++ last ∷ [] → last.vertex ≡ Pass → IsKoAfter moves stones None
+pub ko_after-pass : (moves earlier : List Move) (last : Move) (stones : List Taken) → moves ≡ earlier ++ last ∷ []
+    → last.vertex ≡ Pass → IsKoAfter moves stones None
 ko_after-pass moves earlier last stones ends pass game g is gone =
     let before : GameRecord = record game { moves = earlier } in
-    let same : with_move before last.colour Pass ≡ game = ap (λ (v : Vertex). with_move before last.colour v) (sym pass) ∙ with-last game earlier last (sym is ∙ ends) in
+    let same : with_move before last.colour Pass ≡ game =
+    ap (λ (v : Vertex). with_move before last.colour v) (sym pass) ∙ with-last game earlier last (sym is ∙ ends) in
     subst (λ (h : GameRecord). IsKo h None) same (IsKo-pass before last.colour)
 
 -- the stones at the end that the last move took
 places-are : (before : GameRecord) (c : Colour) (p : ℕ) (left : List Taken) (gone : List ℕ) → IsGame before
-    → removed_of (with_move before c (At p)) ≡ left ++ taken_at (length before.moves) gone → IsNotLast left (length before.moves)
+    → removed_of (with_move before c (At p)) ≡ left ++ taken_at (length before.moves) gone
+    → IsNotLast left (length before.moves)
     → gone ≡ captured_places (set (board_of before) p (stone c)) (other c)
 places-are before c p left gone g e last =
     let o = IsOrderly-game before g in
-    let both = popped-all (length before.moves) (removed_of before) left (captured_places (set (board_of before) p (stone c)) (other c)) gone o.numbers
+    let both =
+    popped-all (length before.moves) (removed_of before) left
+    (captured_places (set (board_of before) p (stone c)) (other c)) gone o.numbers
     (sym (removed_of-with_move before c (At p)) ∙ e) last in
     both.1
 
-ko-one : (before : GameRecord) (c : Colour) (p q : ℕ) → IsBeforeMove before c (At p) → IsOnly (removed_of (with_move before c (At p))) (length before.moves) q
+ko-one : (before : GameRecord) (c : Colour) (p q : ℕ) → IsBeforeMove before c (At p)
+    → IsOnly (removed_of (with_move before c (At p))) (length before.moves) q
     → IsKo (with_move before c (At p)) (Some (record { point = q; stone = p }))
 ko-one before c p q b only =
     let l : IsLegal before c (At p) = b.legal in
-    IsKo-play before c p q l.empty (TakesOnly-places (board_of before) c p q (sym (places-are before c p only.before (q ∷ []) b.game_is only.ends only.alone)))
+    IsKo-play before c p q l.empty
+    (TakesOnly-places (board_of before) c p q
+    (sym (places-are before c p only.before (q ∷ []) b.game_is only.ends only.alone)))
 
 one-place : (ps : List ℕ) → length ps ≡ 1 → (q : ℕ) × (ps ≡ q ∷ [])
 one-place [] e = absurd (omega (arith, e))
 one-place (q ∷ []) e = (q, refl)
 one-place (q ∷ r ∷ ps) e = absurd (omega (arith, e))
 
-ko-none : (before : GameRecord) (c : Colour) (p : ℕ) → IsBeforeMove before c (At p) → ((q : ℕ) → ¬ IsOnly (removed_of (with_move before c (At p))) (length before.moves) q)
+ko-none : (before : GameRecord) (c : Colour) (p : ℕ) → IsBeforeMove before c (At p)
+    → ((q : ℕ) → ¬ IsOnly (removed_of (with_move before c (At p))) (length before.moves) q)
     → IsKo (with_move before c (At p)) None
 unfolding captures
 ko-none before c p b none =
@@ -63,27 +72,35 @@ ko-none before c p b none =
     let o = IsOrderly-game before b.game_is in
     let places = captured_places (set (board_of before) p (stone c)) (other c) in
     IsKo-many before c p l.empty (λ q only.
-    let one = one-place places (counted-all (set (board_of before) p (stone c)) (other c) ∙ captures-one (board_of before) c p q only) in
+    let one =
+    one-place places (counted-all (set (board_of before) p (stone c)) (other c)
+    ∙ captures-one (board_of before) c p q only) in
     none one.0 (record {
       before = removed_of before;
-      ends = removed_of-with_move before c (At p) ∙ ap (λ (ps : List ℕ). removed_of before ++ taken_at (length before.moves) ps) one.1;
+      ends =
+          removed_of-with_move before c (At p)
+          ∙ ap (λ (ps : List ℕ). removed_of before ++ taken_at (length before.moves) ps) one.1;
       alone = not_last-numbers (length before.moves) (removed_of before) o.numbers;
     }))
 
-pub ko_after-one : (moves earlier : List Move) (last : Move) (stones : List Taken) (p q : ℕ) → moves ≡ earlier ++ last ∷ [] → last.vertex ≡ At p → IsOnly stones (length earlier) q
+pub ko_after-one : (moves earlier : List Move) (last : Move) (stones : List Taken) (p q : ℕ)
+    → moves ≡ earlier ++ last ∷ [] → last.vertex ≡ At p → IsOnly stones (length earlier) q
     → IsKoAfter moves stones (Some (record { point = q; stone = p }))
 ko_after-one moves earlier last stones p q ends play only game g is gone =
     let before : GameRecord = record game { moves = earlier } in
-    let same : with_move before last.colour (At p) ≡ game = ap (λ (v : Vertex). with_move before last.colour v) (sym play) ∙ with-last game earlier last (sym is ∙ ends) in
+    let same : with_move before last.colour (At p) ≡ game =
+    ap (λ (v : Vertex). with_move before last.colour v) (sym play) ∙ with-last game earlier last (sym is ∙ ends) in
     subst (λ (h : GameRecord). IsKo h (Some (record { point = q; stone = p }))) same
     (ko-one before last.colour p q (IsBeforeMove-from before last.colour (At p) (subst IsGame (sym same) g))
     (subst (λ (ts : List Taken). IsOnly ts (length earlier) q) (gone ∙ ap removed_of (sym same)) only))
 
-pub ko_after-none : (moves earlier : List Move) (last : Move) (stones : List Taken) (p : ℕ) → moves ≡ earlier ++ last ∷ [] → last.vertex ≡ At p
+pub ko_after-none : (moves earlier : List Move) (last : Move) (stones : List Taken) (p : ℕ)
+    → moves ≡ earlier ++ last ∷ [] → last.vertex ≡ At p
     → ((q : ℕ) → ¬ IsOnly stones (length earlier) q) → IsKoAfter moves stones None
 ko_after-none moves earlier last stones p ends play none game g is gone =
     let before : GameRecord = record game { moves = earlier } in
-    let same : with_move before last.colour (At p) ≡ game = ap (λ (v : Vertex). with_move before last.colour v) (sym play) ∙ with-last game earlier last (sym is ∙ ends) in
+    let same : with_move before last.colour (At p) ≡ game =
+    ap (λ (v : Vertex). with_move before last.colour v) (sym play) ∙ with-last game earlier last (sym is ∙ ends) in
     subst (λ (h : GameRecord). IsKo h None) same
     (ko-none before last.colour p (IsBeforeMove-from before last.colour (At p) (subst IsGame (sym same) g))
     (subst (λ (ts : List Taken). (q : ℕ) → ¬ IsOnly ts (length earlier) q) (gone ∙ ap removed_of (sym same)) none))

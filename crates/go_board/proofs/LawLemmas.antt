@@ -1,5 +1,6 @@
 -- The laws of the game: which board a move leaves, what it takes, and what counts for whom.
-use Rattle.std.proofs.Common.{◌≡◌, ℕ, zero, suc, ◌<◌, List, [], ◌∷◌, length, refl, sym, ◌∙◌, ap, subst, arith, inl, inr, Bool, cond, get_or-set_other, get_or-set_same, Contains}
+use Rattle.std.proofs.Common.{◌≡◌, ℕ, zero, suc, ◌<◌, List, [], ◌∷◌, length, refl, sym, ◌∙◌, ap, subst, arith, inl, inr}
+use Rattle.std.proofs.Common.{Bool, cond, get_or-set_other, get_or-set_same, Contains}
 use Rattle.std.specs.Prelude.{◌⊎◌, ◌≢◌}
 use Rattle.std.specs.List.{AllByRecursion}
 use Rattle.std.proofs.Math.ListN.{set, length-set}
@@ -23,7 +24,8 @@ use Rattle.go_board.specs.Game.{GameRecord, IsGame, IsLegal, start, board_of, wi
 use Rattle.go_board.specs.Put.{is_captured, left_at, without_captured, captured_count, put, captures}
 use Rattle.go_board.specs.Taken.{captures_of_vertex, taken_from, taken}
 use Rattle.go_board.specs.Area.{is_counted, area, score}
-use Rattle.go_board.specs.Laws.{IsOfSoMany, TakesStone, IsLeftByPlay, IsLeftBy, IsFirstBoard, BelongsTo, MoveTakes, AddsTaken, IsScore}
+use Rattle.go_board.specs.Laws.{IsOfSoMany, TakesStone, IsLeftByPlay, IsLeftBy, IsFirstBoard, BelongsTo, MoveTakes}
+use Rattle.go_board.specs.Laws.{AddsTaken, IsScore}
 use Rattle.go_board.specs.decisions.Board.{on?}
 use Rattle.go_board.specs.decisions.Chain.{captured?}
 use Rattle.go_board.specs.decisions.Counting.{counts_for?}
@@ -42,10 +44,12 @@ put-leaves : (board : List Cell) (c : Colour) (p : ℕ) → at board p ≡ Empty
 unfolding put without_captured
 put-leaves board c p empty =
     let with_stone : List Cell = set board p (stone c) in
-    let there : (q : ℕ) → at (put board c p) q ≡ left_at with_stone (other c) q = at-without_captured with_stone (other c) in
+    let there : (q : ℕ) → at (put board c p) q ≡ left_at with_stone (other c) q =
+    at-without_captured with_stone (other c) in
     let cell : ℕ → Bool → Cell = λ q b. cond b Empty (at with_stone q) in
     record {
-      long = length-map-range_with_len (left_at with_stone (other c)) 0 (length with_stone) ∙ length-set board p (stone c);
+      long =
+          length-map-range_with_len (left_at with_stone (other c)) 0 (length with_stone) ∙ length-set board p (stone c);
       played = at-put board c p (λ e. let bad = sym empty ∙ e in cc);
       taken = λ q h. there q ∙ ap (cell q) (holds-yes (captured? with_stone (other c) q) h);
       others = λ q away out. there q ∙ ap (cell q) (holds-no (captured? with_stone (other c) q) out)
@@ -68,7 +72,8 @@ pub left-there : (game : GameRecord) (c : Colour) (v : Vertex) (board : List Cel
     → board ≡ board_of (with_move game c v) → IsLeftBy (board_of game) c v board
 left-there game c Pass board l e = e ∙ board-with_move game c Pass
 left-there game c (At p) board l e =
-    subst (IsLeftByPlay (board_of game) c p) (sym (e ∙ board-with_move game c (At p))) (put-leaves (board_of game) c p l.empty)
+    subst (IsLeftByPlay (board_of game) c p) (sym (e ∙ board-with_move game c (At p)))
+    (put-leaves (board_of game) c p l.empty)
 
 pub left-back : (game : GameRecord) (c : Colour) (v : Vertex) (board : List Cell) → IsLegal game c v
     → IsLeftBy (board_of game) c v board → board ≡ board_of (with_move game c v)
@@ -96,7 +101,8 @@ contains? (x ∷ xs) q = step (number? x q) (contains? xs q)
     step (no away) (no out) = no (λ h. elim (Contains-cases x xs q h) [ inl same ↦ away same | inr later ↦ out later ])
 
 -- a black stone stays one
-black-stays : (board : List Cell) (points : List ℕ) (q : ℕ) → at board q ≡ Black → at (with_black board points) q ≡ Black
+black-stays : (board : List Cell) (points : List ℕ) (q : ℕ) → at board q ≡ Black
+    → at (with_black board points) q ≡ Black
 black-stays board [] q is = is
 black-stays board (p ∷ ps) q is = black-stays (set board p Black) ps q (elim (same_or_other q p) [
   | inl same ↦
@@ -111,20 +117,25 @@ black-there : (board : List Cell) (points : List ℕ) (q : ℕ) → ((p : ℕ) �
 black-there board [] q inside h = let below = h.1 in absurd (omega arith)
 black-there board (p ∷ ps) q inside h = elim (Contains-cases p ps q h) [
   | inl same ↦ black-stays (set board p Black) ps q
-      (ap (at (set board p Black)) (sym same) ∙ get_or-set_same board p Black Edge (inside p (Contains-here p ps p refl)))
+      (ap (at (set board p Black)) (sym same)
+      ∙ get_or-set_same board p Black Edge (inside p (Contains-here p ps p refl)))
   | inr later ↦ black-there (set board p Black) ps q
-      (λ r k. let below = inside r (Contains-append_right (p ∷ []) ps r k) in let long = length-set board p Black in omega (arith, below, long))
+      (λ r k. let below = inside r (Contains-append_right (p ∷ []) ps r k) in
+      let long = length-set board p Black in
+      omega (arith, below, long))
       later
 ]
 
 -- and all else stays
-others-stay : (board : List Cell) (points : List ℕ) (q : ℕ) → ¬ Contains points q → at (with_black board points) q ≡ at board q
+others-stay : (board : List Cell) (points : List ℕ) (q : ℕ) → ¬ Contains points q
+    → at (with_black board points) q ≡ at board q
 others-stay board [] q out = refl
 others-stay board (p ∷ ps) q out =
     others-stay (set board p Black) ps q (λ h. out (Contains-append_right (p ∷ []) ps q h))
     ∙ get_or-set_other board p q Black Edge (λ same. out (Contains-here p ps q (sym same)))
 
-all-on : (size : ℕ) (points : List ℕ) (q : ℕ) → AllByRecursion (λ p. IsOn size p) points → Contains points q → IsOn size q
+all-on : (size : ℕ) (points : List ℕ) (q : ℕ) → AllByRecursion (λ p. IsOn size p) points → Contains points q
+    → IsOn size q
 all-on size [] q all h = let below = h.1 in absurd (omega arith)
 all-on size (p ∷ ps) q all h = elim (Contains-cases p ps q h) [
   | inl same ↦ subst (IsOn size) same all.0
@@ -135,10 +146,12 @@ none-there : (size q : ℕ) → Contains (handicap_points size 0) q → IsOn siz
 unfolding handicap_points
 none-there size q h = let below = h.1 in absurd (omega arith)
 
-points-inside : (game : GameRecord) → IsGame game → (q : ℕ) → Contains (handicap_points game.size game.handicap) q → IsOn game.size q
+points-inside : (game : GameRecord) → IsGame game → (q : ℕ) → Contains (handicap_points game.size game.handicap) q
+    → IsOn game.size q
 points-inside game g q h = elim g.handicap [
   | inl none ↦ none-there game.size q (subst (λ (n : ℕ). Contains (handicap_points game.size n) q) none h)
-  | inr allowed ↦ all-on game.size (handicap_points game.size game.handicap) q (points-on game.size game.handicap g.size allowed) h
+  | inr allowed ↦ all-on game.size (handicap_points game.size game.handicap) q
+      (points-on game.size game.handicap g.size allowed) h
 ]
 
 is_edge : (this : Cell) → ¬ (this ≢ Edge) → this ≡ Edge
@@ -155,7 +168,8 @@ start-first game g =
     let most = g.size.most in
     let has = HasSize-empty_board game.size most in
     let on : (q : ℕ) → IsOn game.size q → q < length bare = λ q o. in_list bare q ((has q).1 o) in
-    let edge-there : (q : ℕ) → ¬ IsOn game.size q → at bare q ≡ Edge = λ q off. is_edge (at bare q) (λ held. off ((has q).0 held)) in
+    let edge-there : (q : ℕ) → ¬ IsOn game.size q → at bare q ≡ Edge =
+    λ q off. is_edge (at bare q) (λ held. off ((has q).0 held)) in
     record {
       long = length-with_black bare points ∙ length-empty_board game.size;
       handicap = λ q h. black-there bare points q (λ p k. on p (points-inside game g p k)) h;
@@ -167,7 +181,8 @@ same-first : (game : GameRecord) (new more : List Cell) → IsFirstBoard game ne
 same-first game new more a b = ext_get_or Edge new more (a.long ∙ sym b.long)
     (λ q _. by_case q (on? game.size q) (contains? (handicap_points game.size game.handicap) q))
   where
-    by_case : (q : ℕ) → Dec (IsOn game.size q) → Dec (Contains (handicap_points game.size game.handicap) q) → at new q ≡ at more q
+    by_case : (q : ℕ) → Dec (IsOn game.size q) → Dec (Contains (handicap_points game.size game.handicap) q)
+        → at new q ≡ at more q
     by_case q d (yes h) = a.handicap q h ∙ sym (b.handicap q h)
     by_case q (yes on) (no out) = a.others q on out ∙ sym (b.others q on out)
     by_case q (no off) (no out) = a.round q off ∙ sym (b.round q off)
@@ -189,7 +204,8 @@ many-captured board c = many-passing (IsCaptured board c) (is_captured board c) 
     (λ q below h. holds-true (captured? board c q) h)
     (λ q h. (in_list board q (λ e. stone-point c (sym h.0 ∙ e)), holds-yes (captured? board c q) h))
 
-many-taken : (board : List Cell) (c : Colour) (v : Vertex) → IsOfSoMany (MoveTakes board c v) (captures_of_vertex board c v)
+many-taken : (board : List Cell) (c : Colour) (v : Vertex)
+    → IsOfSoMany (MoveTakes board c v) (captures_of_vertex board c v)
 unfolding captures
 many-taken board c Pass = record {
   list = [];
@@ -219,7 +235,8 @@ none-first game c none = ap (taken_from (start game.size game.handicap) c) none
 
 -- ---- what counts for whom
 
-only_one : (board : List Cell) (p : ℕ) (c d : Colour) → ¬ Touches board p (stone (other c)) → Touches board p (stone d) → d ≡ c
+only_one : (board : List Cell) (p : ℕ) (c d : Colour) → ¬ Touches board p (stone (other c)) → Touches board p (stone d)
+    → d ≡ c
 only_one board p colour.Black colour.Black out touch = refl
 only_one board p colour.White colour.White out touch = refl
 only_one board p colour.Black colour.White out touch = absurd (out touch)
@@ -254,11 +271,15 @@ belongs-inside : (board : List Cell) (c : Colour) (p : ℕ) → BelongsTo board 
 belongs-inside board c p (inl here) = in_list board p (λ e. stone-point c (sym here ∙ e))
 belongs-inside board c p (inr h) = in_list board p (λ e. let bad = sym h.0 ∙ e in cc)
 
-many-belong : (board : List Cell) (c : Colour) → length board ≡ place_count → IsOfSoMany (BelongsTo board c) (area board c)
+many-belong : (board : List Cell) (c : Colour) → length board ≡ place_count
+    → IsOfSoMany (BelongsTo board c) (area board c)
 unfolding area
 many-belong board c long = many-passing (BelongsTo board c) (is_counted board c) place_count
     (λ q below h. counts-belongs board c q (holds-true (counts_for? board c q) h))
-    (λ q h. (subst (λ (n : ℕ). q < n) long (belongs-inside board c q h), holds-yes (counts_for? board c q) (belongs-counts board c q h)))
+    (λ q h. (
+      subst (λ (n : ℕ). q < n) long (belongs-inside board c q h),
+      holds-yes (counts_for? board c q) (belongs-counts board c q h),
+    ))
 
 pub score-is : (game : GameRecord) → IsGame game → IsScore game (score game)
 unfolding score

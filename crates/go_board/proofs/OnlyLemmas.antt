@@ -1,5 +1,6 @@
 -- A play that takes one stone, by the count and by the list of what it takes.
-use Rattle.std.proofs.Common.{◌≡◌, ℕ, ◌<◌, List, [], ◌∷◌, length, refl, sym, ◌∙◌, ap, subst, arith, inl, inr, Bool, true, cond, All}
+use Rattle.std.proofs.Common.{◌≡◌, ℕ, ◌<◌, List, [], ◌∷◌, length, refl, sym, ◌∙◌, ap, subst, arith, inl, inr, Bool}
+use Rattle.std.proofs.Common.{true, cond, All}
 use Rattle.std.specs.Prelude.{◌⊎◌, count_by}
 use Rattle.std.specs.List.{range_with_len}
 use Rattle.std.proofs.lemmas.List.Elements.{filter_passes}
@@ -26,7 +27,8 @@ held-by (yes a) e = a
 held-by (no k) e = cc
 
 -- two places that count are one, where one is counted
-same-one : (p : ℕ → Bool) (n q r : ℕ) → q < n → r < n → p q ≡ true → p r ≡ true → count_by p (range_with_len 0 n) ≡ 1 → r ≡ q
+same-one : (p : ℕ → Bool) (n q r : ℕ) → q < n → r < n → p q ≡ true → p r ≡ true → count_by p (range_with_len 0 n) ≡ 1
+    → r ≡ q
 same-one p n q r bq br hq hr one = elim (order q r) [
   | inl is ↦ sym is
   | inr (inl less) ↦
@@ -43,9 +45,11 @@ same-one p n q r bq br hq hr one = elim (order q r) [
     order q r = grind arith
 
 -- the one place of the list is the one stone that the play takes
-pub TakesOnly-places : (board : List Cell) (c : Colour) (p q : ℕ) → captured_places (set board p (stone c)) (other c) ≡ q ∷ [] → TakesOnly board c p q
+pub TakesOnly-places : (board : List Cell) (c : Colour) (p q : ℕ)
+    → captured_places (set board p (stone c)) (other c) ≡ q ∷ [] → TakesOnly board c p q
 TakesOnly-places board c p q places r = (
-  (λ h. same-one test n q r (in_board q captured) (in_board r h) (holds-yes (captured? cells (other c) q) captured) (holds-yes (captured? cells (other c) r) h) one),
+  (λ h. same-one test n q r (in_board q captured) (in_board r h) (holds-yes (captured? cells (other c) q) captured)
+      (holds-yes (captured? cells (other c) r) h) one),
   (λ e. subst (IsCaptured cells (other c)) (sym e) captured),
 )
   where
@@ -63,13 +67,17 @@ TakesOnly-places board c p q places r = (
 
     passes : is_captured (set board p (stone c)) (other c) q ≡ true
     passes = (subst (λ (ps : List ℕ). All (λ (k : ℕ). is_captured (set board p (stone c)) (other c) k ≡ true) ps) places
-        (filter_passes (is_captured (set board p (stone c)) (other c)) (range_with_len 0 (length (set board p (stone c)))))) 0 0 (omega arith)
+        (filter_passes (is_captured (set board p (stone c)) (other c))
+        (range_with_len 0 (length (set board p (stone c)))))) 0 0 (omega arith)
 
     captured : IsCaptured (set board p (stone c)) (other c) q
     captured = held-by (captured? (set board p (stone c)) (other c) q) passes
 
-    one : count_by (is_captured (set board p (stone c)) (other c)) (range_with_len 0 (length (set board p (stone c)))) ≡ 1
-    one = sym (length-filter (is_captured (set board p (stone c)) (other c)) (range_with_len 0 (length (set board p (stone c))))) ∙ ap length places
+    one : count_by (is_captured (set board p (stone c)) (other c)) (range_with_len 0 (length (set board p (stone c))))
+        ≡ 1
+    one =
+        sym (length-filter (is_captured (set board p (stone c)) (other c))
+        (range_with_len 0 (length (set board p (stone c))))) ∙ ap length places
 
 -- a play that takes just one stone takes one by the count
 pub captures-one : (board : List Cell) (c : Colour) (p q : ℕ) → TakesOnly board c p q → captures board c p ≡ 1

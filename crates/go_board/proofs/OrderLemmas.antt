@@ -1,5 +1,6 @@
 -- What holds of the board and the taken stones of each game.
-use Rattle.std.proofs.Common.{◌≡◌, ℕ, ◌+◌, ◌<◌, ◌≤◌, List, [], ◌∷◌, ◌++◌, length, refl, sym, ◌∙◌, ap, subst, arith, inl, inr}
+use Rattle.std.proofs.Common.{◌≡◌, ℕ, ◌+◌, ◌<◌, ◌≤◌, List, [], ◌∷◌, ◌++◌, length, refl, sym, ◌∙◌, ap, subst, arith, inl}
+use Rattle.std.proofs.Common.{inr}
 use Rattle.std.specs.Prelude.{◌⊎◌}
 use Rattle.std.specs.List.{AllByRecursion}
 use Rattle.std.proofs.lemmas.List.{append-nil, length_push}
@@ -31,7 +32,8 @@ use Rattle.go_board.proofs.StackLemmas.{removed_of-with_move, few-after_play}
 use Rattle.go_board.proofs.StartCountLemmas.{stones-start}
 use Rattle.go_board.proofs.StartLemmas.{start-none}
 
--- The board has the game's size, each stone is free, there are at most as many stones as were placed, and each was taken by a move of the record.
+-- The board has the game's size, each stone is free, there are at most as many stones as were placed, and each was
+-- taken by a move of the record.
 pub record IsOrderly (game : GameRecord) : Type 0 where
   pub long : length (board_of game) ≡ 702
   pub has_size : HasSize game.size (board_of game)
@@ -45,25 +47,30 @@ pub length-with_black : (b : List Cell) (ps : List ℕ) → length (with_black b
 length-with_black b [] = refl
 length-with_black b (p ∷ ps) = length-with_black (set b p Black) ps ∙ length-set b p Black
 
-HasSize-with_black : (size : ℕ) (b : List Cell) (ps : List ℕ) → AllByRecursion (λ p. IsOn size p) ps → HasSize size b → HasSize size (with_black b ps)
+HasSize-with_black : (size : ℕ) (b : List Cell) (ps : List ℕ) → AllByRecursion (λ p. IsOn size p) ps → HasSize size b
+    → HasSize size (with_black b ps)
 HasSize-with_black size b [] all has = has
 HasSize-with_black size b (p ∷ ps) all has =
-    HasSize-with_black size (set b p Black) ps all.1 (HasSize-same_edge size b (set b p Black) (SameEdge-set b p Black ((has p).1 all.0) (λ e. cc)) has)
+    HasSize-with_black size (set b p Black) ps all.1
+    (HasSize-same_edge size b (set b p Black) (SameEdge-set b p Black ((has p).1 all.0) (λ e. cc)) has)
 
-HasSize-start : (size stones : ℕ) → IsSize size → (stones ≡ 0) ⊎ AllowsHandicap size stones → HasSize size (start size stones)
+HasSize-start : (size stones : ℕ) → IsSize size → (stones ≡ 0) ⊎ AllowsHandicap size stones
+    → HasSize size (start size stones)
 unfolding start
 HasSize-start size stones is (inl none) =
     let most = is.most in
     subst (HasSize size) (sym (ap (start size) none ∙ start-none size)) (HasSize-empty_board size most)
 HasSize-start size stones is (inr allowed) =
     let most = is.most in
-    HasSize-with_black size (empty_board size) (handicap_points size stones) (points-on size stones is allowed) (HasSize-empty_board size most)
+    HasSize-with_black size (empty_board size) (handicap_points size stones) (points-on size stones is allowed)
+    (HasSize-empty_board size most)
 
 length-start : (size stones : ℕ) → length (start size stones) ≡ 702
 unfolding start
 length-start size stones = length-with_black (empty_board size) (handicap_points size stones) ∙ length-empty_board size
 
-pub framed-start : (size stones : ℕ) → IsSize size → (stones ≡ 0) ⊎ AllowsHandicap size stones → IsFramed (start size stones)
+pub framed-start : (size stones : ℕ) → IsSize size → (stones ≡ 0) ⊎ AllowsHandicap size stones
+    → IsFramed (start size stones)
 framed-start size stones is allowed =
     let most = is.most in
     IsFramed-has_size size (start size stones) most (length-start size stones) (HasSize-start size stones is allowed)
@@ -84,20 +91,25 @@ IsOrderly-start game g none =
       long = ap length is ∙ length-start game.size game.handicap;
       has_size = subst (HasSize game.size) (sym is) (HasSize-start game.size game.handicap g.size g.handicap);
       free = subst AreFree (sym is) (AreFree-start game.size game.handicap g.size g.handicap);
-      few = let most = stones-start game.size game.handicap g.handicap in omega (arith, most, ap stone_count is, ap length gone, ap length none);
+      few =
+          let most = stones-start game.size game.handicap g.handicap in
+          omega
+          (arith, most, ap stone_count is, ap length gone, ap length none);
       numbers = subst (AllByRecursion (λ (t : Taken). t.number < length game.moves)) (sym gone) tt;
     }
 
 -- ---- one move more
 
-pub board-with_move : (game : GameRecord) (c : Colour) (v : Vertex) → board_of (with_move game c v) ≡ after_vertex (board_of game) c v
+pub board-with_move : (game : GameRecord) (c : Colour) (v : Vertex)
+    → board_of (with_move game c v) ≡ after_vertex (board_of game) c v
 board-with_move game c v = board-push game.size game.handicap game.moves (record { colour = c; vertex = v })
 
 pub legal-open : (game : GameRecord) (c : Colour) (v : Vertex) → IsLegal game c v → IsOpen (board_of game) v
 legal-open game c Pass l = tt
 legal-open game c (At p) l = l.empty
 
-all-more : (n m : ℕ) (ts : List Taken) → n ≤ m → AllByRecursion (λ (t : Taken). t.number < n) ts → AllByRecursion (λ (t : Taken). t.number < m) ts
+all-more : (n m : ℕ) (ts : List Taken) → n ≤ m → AllByRecursion (λ (t : Taken). t.number < n) ts
+    → AllByRecursion (λ (t : Taken). t.number < m) ts
 all-more n m [] h all = tt
 all-more n m (t ∷ ts) h all = let less = all.0 in (omega (arith, h, less), all-more n m ts h all.1)
 
@@ -105,26 +117,32 @@ all-taken : (n : ℕ) (ps : List ℕ) → AllByRecursion (λ (t : Taken). t.numb
 all-taken n [] = tt
 all-taken n (p ∷ ps) = (omega arith, all-taken n ps)
 
-all-both : (n : ℕ) (ts us : List Taken) → AllByRecursion (λ (t : Taken). t.number < n) ts → AllByRecursion (λ (t : Taken). t.number < n) us
+all-both : (n : ℕ) (ts us : List Taken) → AllByRecursion (λ (t : Taken). t.number < n) ts
+    → AllByRecursion (λ (t : Taken). t.number < n) us
     → AllByRecursion (λ (t : Taken). t.number < n) (ts ++ us)
 all-both n [] us a b = b
 all-both n (t ∷ ts) us a b = (a.0, all-both n ts us a.1 b)
 
-numbers-more : (game : GameRecord) (c : Colour) (v : Vertex) → AllByRecursion (λ (t : Taken). t.number < length game.moves) (removed_of game)
+numbers-more : (game : GameRecord) (c : Colour) (v : Vertex)
+    → AllByRecursion (λ (t : Taken). t.number < length game.moves) (removed_of game)
     → AllByRecursion (λ (t : Taken). t.number < length (with_move game c v).moves) (removed_of (with_move game c v))
 numbers-more game c v all =
     let n = length game.moves in
     let long : length (with_move game c v).moves ≡ n + 1 = length_push game.moves (record { colour = c; vertex = v }) in
     subst (λ (m : ℕ). AllByRecursion (λ (t : Taken). t.number < m) (removed_of (with_move game c v))) (sym long)
     (subst (AllByRecursion (λ (t : Taken). t.number < n + 1)) (sym (removed_of-with_move game c v))
-    (all-both (n + 1) (removed_of game) (taken_at n (removed_by (board_of game) c v)) (all-more n (n + 1) (removed_of game) (omega arith) all)
+    (all-both (n + 1) (removed_of game) (taken_at n (removed_by (board_of game) c v))
+    (all-more n (n + 1) (removed_of game) (omega arith) all)
     (all-taken n (removed_by (board_of game) c v))))
 
-IsOrderly-more : (game : GameRecord) (c : Colour) (v : Vertex) → IsBeforeMove game c v → IsOrderly game → IsOrderly (with_move game c v)
+IsOrderly-more : (game : GameRecord) (c : Colour) (v : Vertex) → IsBeforeMove game c v → IsOrderly game
+    → IsOrderly (with_move game c v)
 IsOrderly-more game c Pass b o =
     let is = board-with_move game c Pass in
-    let same : removed_of (with_move game c Pass) ≡ removed_of game = removed_of-with_move game c Pass ∙ append-nil (removed_of game) in
-    let long : length (with_move game c Pass).moves ≡ length game.moves + 1 = length_push game.moves (record { colour = c; vertex = Pass }) in
+    let same : removed_of (with_move game c Pass) ≡ removed_of game =
+    removed_of-with_move game c Pass ∙ append-nil (removed_of game) in
+    let long : length (with_move game c Pass).moves ≡ length game.moves + 1 =
+    length_push game.moves (record { colour = c; vertex = Pass }) in
     record {
       long = ap length is ∙ o.long;
       has_size = subst (HasSize game.size) (sym is) o.has_size;
@@ -136,13 +154,17 @@ IsOrderly-more game c (At p) b o =
     let l : IsLegal game c (At p) = b.legal in
     let empty = l.empty in
     let is = board-with_move game c (At p) in
-    let long : length (with_move game c (At p)).moves ≡ length game.moves + 1 = length_push game.moves (record { colour = c; vertex = At p }) in
+    let long : length (with_move game c (At p)).moves ≡ length game.moves + 1 =
+    length_push game.moves (record { colour = c; vertex = At p }) in
     record {
       long = ap length is ∙ length-put (board_of game) c p ∙ o.long;
       has_size = subst (HasSize game.size) (sym is)
-          (HasSize-same_edge game.size (board_of game) (put (board_of game) c p) (SameEdge-put (board_of game) c p (empty-point (board_of game) p empty)) o.has_size);
+          (HasSize-same_edge game.size (board_of game) (put (board_of game) c p)
+          (SameEdge-put (board_of game) c p (empty-point (board_of game) p empty)) o.has_size);
       free = subst AreFree (sym is) (AreFree-put (board_of game) c p empty o.free l.free);
-      few = let few = few-after_play (board_of game) c p (length game.moves) (length game.moves) (removed_of game) (removed_of (with_move game c (At p))) o.long empty o.few
+      few =
+          let few = few-after_play (board_of game) c p (length game.moves) (length game.moves) (removed_of game)
+          (removed_of (with_move game c (At p))) o.long empty o.few
           (removed_of-with_move game c (At p)) in omega (arith, few, ap stone_count is, long);
       numbers = numbers-more game c (At p) o.numbers;
     }
@@ -152,7 +174,9 @@ pub IsOrderly-game : (game : GameRecord) → IsGame game → IsOrderly game
 IsOrderly-game = by_moves IsOrderly IsOrderly-start IsOrderly-more
 
 pub framed-game : (game : GameRecord) → IsGame game → IsFramed (board_of game)
-framed-game game g = let o = IsOrderly-game game g in let most = g.size.most in IsFramed-has_size game.size (board_of game) most o.long o.has_size
+framed-game game g = let o = IsOrderly-game game g in
+    let most = g.size.most in
+    IsFramed-has_size game.size (board_of game) most o.long o.has_size
 
 -- at most as many stones were taken as there is room for
 pub removed-few : (game : GameRecord) → IsGame game → length (removed_of game) ≤ 2009

@@ -1,5 +1,6 @@
 -- What one more move takes.
-use Rattle.std.proofs.Common.{◌≡◌, ℕ, ◌+◌, ◌-◌, ◌≤◌, List, [], ◌∷◌, ◌++◌, length, refl, sym, ◌∙◌, ap, arith, length-append}
+use Rattle.std.proofs.Common.{◌≡◌, ℕ, ◌+◌, ◌-◌, ◌≤◌, List, [], ◌∷◌, ◌++◌, length, refl, sym, ◌∙◌, ap, arith}
+use Rattle.std.proofs.Common.{length-append}
 use Rattle.std.specs.Prelude.{if◌then◌else◌}
 use Rattle.std.specs.List.{fold, range_with_len}
 use Rattle.std.proofs.lemmas.List.{length-map}
@@ -22,7 +23,8 @@ use Rattle.go_board.specs.declared.removed.Taken.{Taken}
 taken_by : List Cell → Colour → Move → ℕ
 taken_by b c m = if same_colour m.colour c then captures_of_vertex b c m.vertex else 0
 
-taken_from-push : (b : List Cell) (c : Colour) (moves : List Move) (m : Move) → taken_from b c (moves ++ m ∷ []) ≡ taken_from b c moves + taken_by (fold after b moves) c m
+taken_from-push : (b : List Cell) (c : Colour) (moves : List Move) (m : Move)
+    → taken_from b c (moves ++ m ∷ []) ≡ taken_from b c moves + taken_by (fold after b moves) c m
 unfolding taken_by
 taken_from-push b c [] m = omega arith
 taken_from-push b c (x ∷ xs) m =
@@ -31,28 +33,42 @@ taken_from-push b c (x ∷ xs) m =
     omega (arith, rest)
 
 pub taken-push : (game : GameRecord) (c : Colour) (v : Vertex) (d : Colour)
-    → taken (with_move game c v) d ≡ taken game d + (if same_colour c d then captures_of_vertex (board_of game) d v else 0)
+    → taken (with_move game c v) d
+    ≡ taken game d + (if same_colour c d then captures_of_vertex (board_of game) d v else 0)
 unfolding taken taken_by board
 taken-push game c v d = taken_from-push (start game.size game.handicap) d game.moves (record { colour = c; vertex = v })
 
 -- what a colour has taken after a move that took so many
-pub taken-with_move : (game : GameRecord) (c : Colour) (v : Vertex) (d : Colour) (had now t : ℕ) → had ≡ taken game d → now ≡ captures_of_vertex (board_of game) c v
+pub taken-with_move : (game : GameRecord) (c : Colour) (v : Vertex) (d : Colour) (had now t : ℕ) → had ≡ taken game d
+    → now ≡ captures_of_vertex (board_of game) c v
     → t ≡ had + (if same_colour c d then now else 0) → t ≡ taken (with_move game c v) d
-taken-with_move game Black v Black had now t h k e = e ∙ ap (λ n. n + now) h ∙ ap (λ n. taken game Black + n) k ∙ sym (taken-push game Black v Black)
-taken-with_move game White v White had now t h k e = e ∙ ap (λ n. n + now) h ∙ ap (λ n. taken game White + n) k ∙ sym (taken-push game White v White)
+taken-with_move game Black v Black had now t h k e =
+    e ∙ ap (λ n. n + now) h ∙ ap (λ n. taken game Black + n) k ∙ sym (taken-push game Black v Black)
+taken-with_move game White v White had now t h k e =
+    e ∙ ap (λ n. n + now) h ∙ ap (λ n. taken game White + n) k ∙ sym (taken-push game White v White)
 taken-with_move game Black v White had now t h k e = e ∙ ap (λ n. n + 0) h ∙ sym (taken-push game Black v White)
 taken-with_move game White v Black had now t h k e = e ∙ ap (λ n. n + 0) h ∙ sym (taken-push game White v Black)
 
 -- what a colour had taken before a move that took so many
-pub taken-without_move : (game : GameRecord) (c : Colour) (v : Vertex) (d : Colour) (had now t : ℕ) → had ≡ taken (with_move game c v) d → now ≡ captures_of_vertex (board_of game) c v
+pub taken-without_move : (game : GameRecord) (c : Colour) (v : Vertex) (d : Colour) (had now t : ℕ)
+    → had ≡ taken (with_move game c v) d → now ≡ captures_of_vertex (board_of game) c v
     → t ≡ had - (if same_colour c d then now else 0) → t ≡ taken game d
-taken-without_move game Black v Black had now t h k e = let sum = taken-push game Black v Black in omega (arith, h, k, e, sum)
-taken-without_move game White v White had now t h k e = let sum = taken-push game White v White in omega (arith, h, k, e, sum)
-taken-without_move game Black v White had now t h k e = let sum = taken-push game Black v White in omega (arith, h, k, e, sum)
-taken-without_move game White v Black had now t h k e = let sum = taken-push game White v Black in omega (arith, h, k, e, sum)
+taken-without_move game Black v Black had now t h k e =
+    let sum = taken-push game Black v Black in
+    omega (arith, h, k, e, sum)
+taken-without_move game White v White had now t h k e =
+    let sum = taken-push game White v White in
+    omega (arith, h, k, e, sum)
+taken-without_move game Black v White had now t h k e =
+    let sum = taken-push game Black v White in
+    omega (arith, h, k, e, sum)
+taken-without_move game White v Black had now t h k e =
+    let sum = taken-push game White v Black in
+    omega (arith, h, k, e, sum)
 
 -- which is at least as many
-pub taken-enough : (game : GameRecord) (c : Colour) (v : Vertex) (d : Colour) (had now : ℕ) → had ≡ taken (with_move game c v) d → now ≡ captures_of_vertex (board_of game) c v
+pub taken-enough : (game : GameRecord) (c : Colour) (v : Vertex) (d : Colour) (had now : ℕ)
+    → had ≡ taken (with_move game c v) d → now ≡ captures_of_vertex (board_of game) c v
     → (if same_colour c d then now else 0) ≤ had
 taken-enough game Black v Black had now h k = let sum = taken-push game Black v Black in omega (arith, h, k, sum)
 taken-enough game White v White had now h k = let sum = taken-push game White v White in omega (arith, h, k, sum)
@@ -63,15 +79,18 @@ taken-enough game White v Black had now h k = omega arith
 pub captures-places : (b : List Cell) (c : Colour) (v : Vertex) → captures_of_vertex b c v ≡ length (removed_by b c v)
 unfolding captures captured_count
 captures-places b c Pass = refl
-captures-places b c (At p) = sym (length-filter (is_captured (set b p (stone c)) (other c)) (range_with_len 0 (length (set b p (stone c)))))
+captures-places b c (At p) =
+    sym (length-filter (is_captured (set b p (stone c)) (other c)) (range_with_len 0 (length (set b p (stone c)))))
 
-captures-few : (b : List Cell) (c d : Colour) (v : Vertex) → (if same_colour c d then captures_of_vertex b d v else 0) ≤ length (removed_by b c v)
+captures-few : (b : List Cell) (c d : Colour) (v : Vertex)
+    → (if same_colour c d then captures_of_vertex b d v else 0) ≤ length (removed_by b c v)
 captures-few b Black Black v = let is = captures-places b Black v in omega (arith, is)
 captures-few b White White v = let is = captures-places b White v in omega (arith, is)
 captures-few b Black White v = omega arith
 captures-few b White Black v = omega arith
 
-taken_from-few : (b : List Cell) (d : Colour) (n : ℕ) (moves : List Move) → taken_from b d moves ≤ length (removed_from b n moves)
+taken_from-few : (b : List Cell) (d : Colour) (n : ℕ) (moves : List Move)
+    → taken_from b d moves ≤ length (removed_from b n moves)
 taken_from-few b d n [] = omega arith
 taken_from-few b d n (m ∷ ms) =
     let places = removed_by b m.colour m.vertex in

@@ -64,12 +64,14 @@ board_of game = board game.size game.handicap game.moves
 
 -- ---- what is legal
 
--- the board would be the one before the previous move: simple ko, for which a pass is a move too; without a move there is no ko
+-- the board would be the one before the previous move: simple ko, for which a pass is a move too; without a move there
+-- is no ko
 pub record Repeats (game : GameRecord) (next : List Cell) : Type 0 where
   pub moved : 0 < length game.moves
   pub same : next ≡ board_of (without_last game)
 
--- the point is on the board and empty, the new stone's chain has a liberty once the other colour's stones are removed, and the play is no ko
+-- the point is on the board and empty, the new stone's chain has a liberty once the other colour's stones are removed,
+-- and the play is no ko
 pub record IsLegalPlay (game : GameRecord) (c : Colour) (p : ℕ) : Type 0 where
   pub on_board : IsOn game.size p
   pub empty : at (board_of game) p ≡ Empty
@@ -87,7 +89,8 @@ pub record IsGame (game : GameRecord) : Type 0 where
   pub komi : IsKomi game.komi
   pub handicap : (game.handicap ≡ 0) ⊎ AllowsHandicap game.size game.handicap
   pub few : length game.moves ≤ most_moves
-  pub legal : (k : ℕ) (move : Move) → slice_get game.moves k ≡ Some move → IsLegal (first_moves k game) move.colour move.vertex
+  pub legal : (k : ℕ) (move : Move) → slice_get game.moves k ≡ Some move
+      → IsLegal (first_moves k game) move.colour move.vertex
 
 -- ---- the end
 
@@ -96,4 +99,5 @@ pub record IsFinished (game : GameRecord) : Type 0 where
   pub before : List Move
   pub first : Colour
   pub second : Colour
-  pub ends : game.moves ≡ before ++ record { colour = first; vertex = Pass } ∷ record { colour = second; vertex = Pass } ∷ []
+  pub ends : game.moves ≡ before ++ record { colour = first; vertex = Pass } ∷ record { colour = second; vertex = Pass }
+      ∷ []

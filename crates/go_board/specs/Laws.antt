@@ -1,4 +1,5 @@
--- Laws of the game, as relations: which board a move leaves, what it takes, and what counts for whom. (Own rules of play.)
+-- Laws of the game, as relations: which board a move leaves, what it takes, and what counts for whom. (Own rules of
+-- play.)
 use Rattle.std.specs.Prelude.{◌≡◌, ◌≢◌, ℕ, ℤ, pos, ◌+◌, ◌*ℤ◌, ◌-ℤ◌, ◌⊎◌, ◌↔◌, List, [], Contains, length, slice_set}
 use Rattle.std.specs.List.{AllPairs}
 use Rattle.go_base.specs.Colour.{other}
@@ -33,7 +34,8 @@ pub record IsFirstBoard (game : GameRecord) (board : List Cell) : Type 0 where
   pub others : (q : ℕ) → IsOn game.size q → ¬ Contains (handicap_points game.size game.handicap) q → at board q ≡ Empty
   pub round : (q : ℕ) → ¬ IsOn game.size q → at board q ≡ Edge
 
--- A play of this colour on p takes the stone on q: it is one of the other colour, and with the new stone on the board its
+-- A play of this colour on p takes the stone on q: it is one of the other colour, and with the new stone on the board
+-- its
 -- chain has no liberty.
 abbrev pub TakesStone : List Cell → Colour → ℕ → ℕ → Type 0
 TakesStone board c p q = IsCaptured (slice_set board p (stone c)) (other c) q
@@ -83,7 +85,8 @@ MovesAddWhatTheyTake = (game : GameRecord) (c : Colour) (v : Vertex) → AddsTak
 
 -- ---- area and score
 
--- A point belongs to a colour that has a stone on it. An empty one belongs to a colour where its region has a stone beside
+-- A point belongs to a colour that has a stone on it. An empty one belongs to a colour where its region has a stone
+-- beside
 -- it and all stones beside it are of that colour.
 abbrev pub BelongsTo : List Cell → Colour → ℕ → Type 0
 BelongsTo board c p =

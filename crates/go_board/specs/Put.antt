@@ -1,4 +1,5 @@
--- A play: the stone is put down, and then the other colour's stones without a liberty are removed, all at once. (Own rules of play.)
+-- A play: the stone is put down, and then the other colour's stones without a liberty are removed, all at once. (Own
+-- rules of play.)
 use Rattle.std.specs.Prelude.{ℕ, if◌then◌else◌, Bool, List, map, length, slice_set, count_by}
 use Rattle.std.specs.List.{range_with_len}
 use Rattle.go_base.specs.Colour.{other}

@@ -20,9 +20,11 @@ abbrev pub RefusesPoint : GameRecord → Colour → ℕ → PlayFault → Type 0
 RefusesPoint game c p Full = ⊥
 RefusesPoint game c p OffBoard = ¬ IsOn game.size p
 RefusesPoint game c p Occupied = IsOn game.size p × (at (board_of game) p ≢ Empty)
-RefusesPoint game c p Suicide = IsOn game.size p × ((at (board_of game) p ≡ Empty) × ¬ IsFree (put (board_of game) c p) p)
+RefusesPoint game c p Suicide =
+    IsOn game.size p × ((at (board_of game) p ≡ Empty) × ¬ IsFree (put (board_of game) c p) p)
 RefusesPoint game c p Ko =
-    IsOn game.size p × ((at (board_of game) p ≡ Empty) × (IsFree (put (board_of game) c p) p × Repeats game (put (board_of game) c p)))
+    IsOn game.size p × ((at (board_of game) p ≡ Empty)
+    × (IsFree (put (board_of game) c p) p × Repeats game (put (board_of game) c p)))
 
 -- a pass is never refused, where the record has room
 abbrev pub RefusesVertex : GameRecord → Colour → Vertex → PlayFault → Type 0

@@ -19,7 +19,8 @@ shown_point None = codes ". "
 
 -- the points of a row, from column A on
 unfoldable pub shown_points : GameRecord → ℕ → List ℕ
-shown_points game row = flat_map (λ column. shown_point (stone_at (board_of game) (point column row))) (range_with_len 1 game.size)
+shown_points game row =
+    flat_map (λ column. shown_point (stone_at (board_of game) (point column row))) (range_with_len 1 game.size)
 
 -- a row: its points, and then its number
 abbrev pub shown_row : GameRecord → ℕ → List ℕ
@@ -31,7 +32,8 @@ shown_letters size = join_with_byte space (map (λ column. letter_of column ∷ 
 
 -- how many stones Black's moves have taken, and how many White's
 abbrev pub shown_captures : GameRecord → List ℕ
-shown_captures game = codes "captures B " ++ (written_int (taken game Black) ++ (codes " W " ++ written_int (taken game White)))
+shown_captures game =
+    codes "captures B " ++ (written_int (taken game Black) ++ (codes " W " ++ written_int (taken game White)))
 
 -- the numbers of the rows, from the highest down to 1
 abbrev pub rows_down : ℕ → List ℕ

@@ -24,7 +24,8 @@ same_colour White Black = false
 abbrev pub taken_from : List Cell → Colour → List Move → ℕ
 taken_from board c [] = 0
 taken_from board c (move ∷ moves) =
-    (if same_colour move.colour c then captures_of_vertex board c move.vertex else 0) + taken_from (after board move) c moves
+    (if same_colour move.colour c then captures_of_vertex board c move.vertex else 0)
+    + taken_from (after board move) c moves
 
 -- how many stones this colour's moves in the record have taken
 unfoldable pub taken : GameRecord → Colour → ℕ

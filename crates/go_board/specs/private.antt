@@ -2,7 +2,6 @@
 pub mod Frame
 pub mod Places
 pub mod Flood
-pub mod Spread
 pub mod Label
 pub mod Steps
 pub mod Removed

@@ -119,8 +119,7 @@ impl Board {
     ghost use Rattle.go_board.specs.Counting.{CountsFor};
     ghost use Rattle.go_board.specs.Area.{area};
     ghost use Rattle.go_board.specs.Chain.{HasBeside};
-    ghost use Rattle.go_board.specs.private.Flood.{IsSpread, AreTouching};
-    ghost use Rattle.go_board.specs.private.Spread.{AreSpread};
+    ghost use Rattle.go_board.specs.private.Flood.{IsSpread, AreSpread, AreTouching};
     ghost use Rattle.go_board.specs.Game.{start};
     ghost use Rattle.go_board.specs.declared.board.Cell.TheVariants.{Edge};
 
@@ -262,7 +261,8 @@ impl Board {
         }
     }
 
-    /// How many points count for a colour: those with its stones, and those of empty regions that only its stones are beside.
+    /// How many points count for a colour: those with its stones, and those of empty regions that only its stones are
+    /// beside.
     pub fn area(&self, colour: Colour) -> u32
         ensures area { result ≡ area self.now colour }
         ensures few { result ≤ place_count }
@@ -278,7 +278,8 @@ impl Board {
         area
     }
 
-    /// Whether a point counts for a colour, where `mine` and `theirs` are the empty points of the regions beside its stones and beside the other's.
+    /// Whether a point counts for a colour, where `mine` and `theirs` are the empty points of the regions beside its
+    /// stones and beside the other's.
     #[inline]
     fn counts_for(&self, colour: Colour, mine: &Places, theirs: &Places, place: usize) -> bool
         requires few { place < place_count }

@@ -1,5 +1,6 @@
 //! A game: the record of its moves, and the board that the record makes.
-ghost use Rattle.std.specs.Prelude.{◌≡◌, ◌<◌, ◌≤◌, ◌↔◌, ◌⊎◌, ◌+◌, ◌-◌, [], ◌∷◌, ◌++◌, if◌then◌else◌, IsTrue, IsErr, IfOk, OnOk, OnErr, MatchResult};
+ghost use Rattle.std.specs.Prelude.{◌≡◌, ◌<◌, ◌≤◌, ◌↔◌, ◌⊎◌, ◌+◌, ◌-◌, [], ◌∷◌, ◌++◌, if◌then◌else◌, IsTrue, IsErr};
+ghost use Rattle.std.specs.Prelude.{IfOk, OnOk, OnErr, MatchResult};
 ghost use Rattle.go_base.specs.Decide.{holds};
 ghost use Rattle.go_base.specs.Handicap.{AllowsHandicap, handicap_points};
 ghost use Rattle.go_base.specs.Point.{IsOn};
@@ -52,7 +53,8 @@ impl Game {
     ghost use Rattle.go_board.specs.Board.{at, stone_at};
     ghost use Rattle.go_board.specs.Put.{put};
     ghost use Rattle.go_board.specs.declared.board.Cell.TheVariants.{Empty};
-    ghost use Rattle.go_board.specs.Game.{most_moves, HasRoom, without_last, with_move, board_of, Repeats, IsLegal, IsGame, IsFinished};
+    ghost use Rattle.go_board.specs.Game.{most_moves, HasRoom, without_last, with_move, board_of, Repeats, IsLegal};
+    ghost use Rattle.go_board.specs.Game.{IsGame, IsFinished};
     ghost use Rattle.go_board.specs.decisions.Game.{finished?};
     ghost use Rattle.go_board.specs.Taken.{taken};
     ghost use Rattle.go_board.specs.Area.{score};
@@ -115,7 +117,8 @@ impl Game {
     ///
     /// # Errors
     ///
-    /// In this order, and the game stays as it was: `NotEmpty` where a stone is on the board or a move is in the record;
+    /// In this order, and the game stays as it was: `NotEmpty` where a stone is on the board or a move is in the
+    /// record;
     /// `BadNumber` where the size doesn't allow that number.
     pub fn place_handicap(&mut self, stones: u32) -> Result<ArrayVec<Point, 9>, HandicapFault>
         ensures ok { IfOk result (λ points. points.items ≡ handicap_points self.old.size stones) }
@@ -137,8 +140,10 @@ impl Game {
         Ok(points)
     }
 
-    /// Whether a colour may make a move next: a pass always; a point of the board that is empty, where the new stone's chain
-    /// then has a liberty and the board isn't the one before the previous move. The number of moves in the record doesn't
+    /// Whether a colour may make a move next: a pass always; a point of the board that is empty, where the new stone's
+    /// chain
+    /// then has a liberty and the board isn't the one before the previous move. The number of moves in the record
+    /// doesn't
     /// count.
     pub fn legal(&self, colour: Colour, vertex: Vertex) -> bool
         ensures legal { IsTrue result ↔ IsLegal self.now colour vertex }
@@ -303,9 +308,11 @@ impl Game {
         }
     }
 
-    /// The score in half points, positive where Black leads: twice the difference of Black's area and White's, less komi.
+    /// The score in half points, positive where Black leads: twice the difference of Black's area and White's, less
+    /// komi.
     ///
-    /// A point counts for the colour of its stone, and an empty one where the stones beside its region are of one colour
+    /// A point counts for the colour of its stone, and an empty one where the stones beside its region are of one
+    /// colour
     /// alone, for that colour.
     #[tactic(auto, unfolding(crate::specs::Area::score))]
     pub fn score(&self) -> i32

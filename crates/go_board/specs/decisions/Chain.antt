@@ -1,4 +1,5 @@
--- Whether a chain or region touches something. A path that may pass any place below n goes through n - 1 at most once, so it is
+-- Whether a chain or region touches something. A path that may pass any place below n goes through n - 1 at most once,
+-- so it is
 -- looked for with n - 1 places, and then through the last.
 use Rattle.std.proofs.Common.{◌≡◌, ℕ, zero, suc, ◌+◌, ◌<◌, ◌≤◌, List, length, refl, sym, ◌∙◌, subst, arith, inl, inr}
 use Rattle.std.specs.Prelude.{◌⊎◌, ◌≢◌}
@@ -44,7 +45,8 @@ via? board zero p q =
     by? (λ h. record { on_board = h.0; one = h.1 }) (λ r. (r.on_board, r.one))
     (both? (not? (cell? (at board p) Edge))
     (either? (number? p q)
-    (both? (either? (number? q (p + 1)) (either? (number? p (q + 1)) (either? (number? q (p + 26)) (number? p (q + 26)))))
+    (both? (either? (number? q (p + 1))
+    (either? (number? p (q + 1)) (either? (number? q (p + 26)) (number? p (q + 26)))))
     (cell? (at board q) (at board p)))))
 via? board (suc n) p q = either? (via? board n p q) (both? (via? board n p n) (via? board n n q))
 
@@ -99,7 +101,8 @@ Via-through board (suc n) p m q h a b = elim (earlier m n h) [
     earlier m n h = grind arith
 
     cases : ((s t u : ℕ) → t < n → Via board n s t → Via board n t u → Via board n s u)
-        → m < n → Via board n p m ⊎ (Via board n p n × Via board n n m) → Via board n m q ⊎ (Via board n m n × Via board n n q)
+        → m < n → Via board n p m ⊎ (Via board n p n × Via board n n m)
+        → Via board n m q ⊎ (Via board n m n × Via board n n q)
         → Via board n p q ⊎ (Via board n p n × Via board n n q)
     cases go l (inl x) (inl y) = inl (go p m q l x y)
     cases go l (inl x) (inr y) = inr (go p m n l x y.0, y.1)
@@ -107,7 +110,8 @@ Via-through board (suc n) p m q h a b = elim (earlier m n h) [
     cases go l (inr x) (inr y) = inr (x.0, y.1)
 
 on_list : (board : List Cell) (p : ℕ) → at board p ≢ Edge → p < length board
-on_list board p point = elim (inside (length board) p) [ inl h ↦ h | inr past ↦ absurd (point (get_or_past board p Edge past)) ]
+on_list board p point =
+    elim (inside (length board) p) [ inl h ↦ h | inr past ↦ absurd (point (get_or_past board p Edge past)) ]
   where
     inside : (n p : ℕ) → (p < n) ⊎ (n ≤ p)
     inside n p = grind arith
@@ -130,29 +134,48 @@ beside? board q this =
     (some_below? q (λ r. ((q ≡ r + 1) ⊎ (q ≡ r + 26)) × (at board r ≡ this))
     (λ r. both? (either? (number? q (r + 1)) (number? q (r + 26))) (cell? (at board r) this)))))
   where
-    there : (at board (q + 1) ≡ this) ⊎ (at board (q + 26) ≡ this) ⊎ ((r : ℕ) × (r < q) × (((q ≡ r + 1) ⊎ (q ≡ r + 26)) × (at board r ≡ this))) → HasBeside board q this
+    there : (at board (q + 1) ≡ this) ⊎ (at board (q + 26) ≡ this)
+        ⊎ ((r : ℕ) × (r < q) × (((q ≡ r + 1) ⊎ (q ≡ r + 26)) × (at board r ≡ this))) → HasBeside board q this
     there (inl e) = record { place = q + 1; neighbours = inl refl; holds = e }
     there (inr (inl e)) = record { place = q + 26; neighbours = inr (inr (inl refl)); holds = e }
-    there (inr (inr h)) = record { place = h.0; neighbours = elim (h.2).0 [ inl a ↦ inr (inl a) | inr b ↦ inr (inr (inr b)) ]; holds = (h.2).1 }
+    there (inr (inr h)) =
+        record {
+          place = h.0;
+          neighbours = elim (h.2).0 [ inl a ↦ inr (inl a) | inr b ↦ inr (inr (inr b)) ];
+          holds = (h.2).1;
+        }
 
-    by_place : (r : ℕ) → Neighbours q r → at board r ≡ this → (at board (q + 1) ≡ this) ⊎ (at board (q + 26) ≡ this) ⊎ ((r : ℕ) × (r < q) × (((q ≡ r + 1) ⊎ (q ≡ r + 26)) × (at board r ≡ this)))
+    by_place : (r : ℕ) → Neighbours q r → at board r ≡ this
+        → (at board (q + 1) ≡ this) ⊎ (at board (q + 26) ≡ this)
+        ⊎ ((r : ℕ) × (r < q) × (((q ≡ r + 1) ⊎ (q ≡ r + 26)) × (at board r ≡ this)))
     by_place r (inl e) h = inl (subst (λ s. at board s ≡ this) e h)
     by_place r (inr (inl e)) h = inr (inr (r, omega arith, (inl e, h)))
     by_place r (inr (inr (inl e))) h = inr (inl (subst (λ s. at board s ≡ this) e h))
     by_place r (inr (inr (inr e))) h = inr (inr (r, omega arith, (inr e, h)))
 
-    back : HasBeside board q this → (at board (q + 1) ≡ this) ⊎ (at board (q + 26) ≡ this) ⊎ ((r : ℕ) × (r < q) × (((q ≡ r + 1) ⊎ (q ≡ r + 26)) × (at board r ≡ this)))
+    back : HasBeside board q this
+        → (at board (q + 1) ≡ this) ⊎ (at board (q + 26) ≡ this)
+        ⊎ ((r : ℕ) × (r < q) × (((q ≡ r + 1) ⊎ (q ≡ r + 26)) × (at board r ≡ this)))
     back h = by_place h.place h.neighbours h.holds
 
 -- whether a path leads to a point beside this
 pub touches? : (board : List Cell) (p : ℕ) (this : Cell) → Dec (Touches board p this)
 touches? board p this =
     by? (λ h. record { point = h.0; joined = h.2; beside = h.3 })
-    (λ t. (t.point, on_list board t.point (λ e. Joined-point t.joined (sym (Joined-end t.joined) ∙ e)), t.joined, t.beside))
-    (below_both (length board) (λ q. Joined board p q) (λ q. HasBeside board q this) (joined? board p) (λ q. beside? board q this))
+    (λ t. (
+      t.point,
+      on_list board t.point (λ e. Joined-point t.joined (sym (Joined-end t.joined) ∙ e)),
+      t.joined,
+      t.beside,
+    ))
+    (below_both (length board) (λ q. Joined board p q) (λ q. HasBeside board q this) (joined? board p)
+    (λ q. beside? board q this))
   where
-    below_both : (n : ℕ) (P Q : ℕ → Type 0) → ((k : ℕ) → Dec (P k)) → ((k : ℕ) → Dec (Q k)) → Dec ((k : ℕ) × (k < n) × P k × Q k)
-    below_both n P Q a b = by? (λ h. (h.0, h.1, (h.2).0, (h.2).1)) (λ h. (h.0, h.1, (h.2, h.3))) (some_below? n (λ k. P k × Q k) (λ k. both? (a k) (b k)))
+    below_both : (n : ℕ) (P Q : ℕ → Type 0) → ((k : ℕ) → Dec (P k)) → ((k : ℕ) → Dec (Q k))
+        → Dec ((k : ℕ) × (k < n) × P k × Q k)
+    below_both n P Q a b =
+        by? (λ h. (h.0, h.1, (h.2).0, (h.2).1)) (λ h. (h.0, h.1, (h.2, h.3)))
+        (some_below? n (λ k. P k × Q k) (λ k. both? (a k) (b k)))
 
     Joined-point : {board : List Cell} {p q : ℕ} → Joined board p q → at board p ≢ Edge
     Joined-point (itself point) = point

@@ -1,4 +1,5 @@
--- Decisions of a game: whether a move is legal, whether a stone is on its board, whether it was touched, whether it is finished.
+-- Decisions of a game: whether a move is legal, whether a stone is on its board, whether it was touched, whether it is
+-- finished.
 use Rattle.std.proofs.Common.{◌≡◌, ℕ, zero, suc, List, [], ◌∷◌, ◌++◌, length, refl, ap, ◌∙◌, inl, inr}
 use Rattle.std.specs.Prelude.{◌⊎◌}
 use Rattle.go_base.specs.Decide.{both?, either?, not?, by?, below?}
@@ -28,7 +29,8 @@ repeats? game next =
 pub legal? : (game : GameRecord) (c : Colour) (v : Vertex) → Dec (IsLegal game c v)
 legal? game c Pass = yes tt
 legal? game c (At p) =
-    by? (λ h. record { on_board = h.0; empty = (h.1).0; free = ((h.1).1).0; no_ko = ((h.1).1).1 }) (λ l. (l.on_board, (l.empty, (l.free, l.no_ko))))
+    by? (λ h. record { on_board = h.0; empty = (h.1).0; free = ((h.1).1).0; no_ko = ((h.1).1).1 })
+    (λ l. (l.on_board, (l.empty, (l.free, l.no_ko))))
     (both? (on? game.size p)
     (both? (cell? (at (board_of game) p) Empty)
     (both? (touches? (put (board_of game) c p) p Empty) (not? (repeats? game (put (board_of game) c p))))))

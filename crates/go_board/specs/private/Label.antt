@@ -1,5 +1,6 @@
 -- Labels of chains, and counts of their liberties. (Own: how the board keeps its chains.)
-use Rattle.std.specs.Prelude.{◌≡◌, ◌≢◌, ℕ, All, ◌+◌, ◌-◌, ◌<◌, ◌↔◌, ◌==◌, ◌&&◌, if◌then◌else◌, Bool, true, false, Contains, List, length, slice_index_or}
+use Rattle.std.specs.Prelude.{◌≡◌, ◌≢◌, ℕ, All, ◌+◌, ◌-◌, ◌<◌, ◌↔◌, ◌==◌, ◌&&◌, if◌then◌else◌, Bool, true, false}
+use Rattle.std.specs.Prelude.{Contains, List, length, slice_index_or}
 use Rattle.std.specs.List.{sum_by, range_with_len}
 use Rattle.go_base.specs.Point.{Neighbours}
 use Rattle.go_board.specs.declared.board.Cell.{Cell}
@@ -12,11 +13,13 @@ use Rattle.go_board.specs.Chain.{Joined, IsFree}
 abbrev pub label_of : List ℕ → ℕ → ℕ
 label_of labels p = slice_index_or labels p 0
 
--- Each stone's label is the point of a stone of its chain, and two stones have the same label just where a path joins them.
+-- Each stone's label is the point of a stone of its chain, and two stones have the same label just where a path joins
+-- them.
 pub record AreLabels (board : List Cell) (labels : List ℕ) : Type 0 where
   pub length_is : length labels ≡ place_count
   pub own : (p : ℕ) → IsStone (at board p) → Joined board p (label_of labels p)
-  pub same : (p q : ℕ) → IsStone (at board p) → IsStone (at board q) → (label_of labels p ≡ label_of labels q) ↔ Joined board p q
+  pub same : (p q : ℕ) → IsStone (at board p) → IsStone (at board q)
+      → (label_of labels p ≡ label_of labels q) ↔ Joined board p q
 
 abbrev pub is_empty : Cell → Bool
 is_empty Empty = true
@@ -36,7 +39,8 @@ empty_at board p = if is_empty (at board p) then 1 else 0
 
 -- how many neighbours of a point are empty
 abbrev pub empty_beside : List Cell → ℕ → ℕ
-empty_beside board p = empty_at board (p + 1) + empty_at board (p - 1) + empty_at board (p + 26) + empty_at board (p - 26)
+empty_beside board p =
+    empty_at board (p + 1) + empty_at board (p - 1) + empty_at board (p + 26) + empty_at board (p - 26)
 
 -- the place holds a stone with this label
 abbrev pub has_label : List Cell → List ℕ → ℕ → ℕ → Bool
@@ -53,7 +57,8 @@ label_at board labels label p = if has_label board labels label p then 1 else 0
 -- how many neighbours of a point are stones with this label
 abbrev pub label_beside : List Cell → List ℕ → ℕ → ℕ → ℕ
 label_beside board labels label p =
-    label_at board labels label (p + 1) + label_at board labels label (p - 1) + label_at board labels label (p + 26) + label_at board labels label (p - 26)
+    label_at board labels label (p + 1) + label_at board labels label (p - 1) + label_at board labels label (p + 26)
+    + label_at board labels label (p - 26)
 
 -- a label's count: its stones' empty neighbours, added up
 unfoldable pub count_of : List Cell → List ℕ → ℕ → ℕ

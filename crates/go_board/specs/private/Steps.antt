@@ -1,5 +1,6 @@
 -- Steps of the upkeep of labels and counts.
-use Rattle.std.specs.Prelude.{◌⊎◌, ◌≡◌, ◌≢◌, ℕ, ◌+◌, ◌*◌, ◌-◌, ◌<◌, ◌≤◌, ◌==◌, if◌then◌else◌, Contains, List, length, slice_set}
+use Rattle.std.specs.Prelude.{◌⊎◌, ◌≡◌, ◌≢◌, ℕ, ◌+◌, ◌*◌, ◌-◌, ◌<◌, ◌≤◌, ◌==◌, if◌then◌else◌, Contains, List, length}
+use Rattle.std.specs.Prelude.{slice_set}
 use Rattle.go_base.specs.Point.{Neighbours}
 use Rattle.go_board.specs.declared.board.Cell.{Cell}
 use Rattle.go_board.specs.Board.{place_count, at, IsStone}
@@ -11,8 +12,8 @@ abbrev pub renamed : ℕ → ℕ → ℕ → ℕ
 renamed to from label = if label == from then to else label
 
 -- what it becomes where three labels do
-abbrev pub joined : ℕ → ℕ → ℕ → ℕ → ℕ → ℕ
-joined to a b c label = renamed to c (renamed to b (renamed to a label))
+abbrev pub relabelled : ℕ → ℕ → ℕ → ℕ → ℕ → ℕ
+relabelled to a b c label = renamed to c (renamed to b (renamed to a label))
 
 -- a place's stone no more counts for its label: its label counts one less
 pub record IsLowered (board : List Cell) (labels old new : List ℕ) (p : ℕ) : Type 0 where
@@ -38,9 +39,12 @@ pub record IsMoved (old new : List ℕ) (to from : ℕ) : Type 0 where
   pub one : to ≡ from → new ≡ old
   pub two : to ≢ from → new ≡ slice_set (slice_set old to (count_at old to + count_at old from)) from 0
 
--- no place of a row has this label
-abbrev pub IsNotInRow : List ℕ → ℕ → ℕ → Type 0
-IsNotInRow labels row label = (p : ℕ) → 26 * row ≤ p → p < 26 * row + 26 → label_of labels p ≢ label
+-- a place of a row has this label
+pub record HasInRow (labels : List ℕ) (row label : ℕ) : Type 0 where
+  pub place : ℕ
+  pub from : 26 * row ≤ place
+  pub to : place < 26 * row + 26
+  pub has : label_of labels place ≡ label
 
 -- each of the places has this label
 abbrev pub AreGiven : List ℕ → List ℕ → ℕ → Type 0
@@ -50,23 +54,29 @@ AreGiven labels places label = (p : ℕ) → Contains places p → label_of labe
 abbrev pub AreOthersKept : List ℕ → List ℕ → List ℕ → Type 0
 AreOthersKept old new places = (p : ℕ) → ¬ Contains places p → label_of new p ≡ label_of old p
 
--- The chain of the stone on a place, if one is there and has label 0, has the place as its label now. All other labels are kept.
+-- The chain of the stone on a place, if one is there and has label 0, has the place as its label now. All other labels
+-- are kept.
 pub record IsChainNamed (board : List Cell) (old new : List ℕ) (place : ℕ) : Type 0 where
   pub given : (p : ℕ) → Joined board place p → label_of new p ≡ place
   pub others : (p : ℕ) → ¬ Joined board place p → label_of new p ≡ label_of old p
 
 abbrev pub IsNamed : List Cell → List ℕ → List ℕ → ℕ → Type 0
-IsNamed board old new place = (IsStone (at board place) × IsChainNamed board old new place) ⊎ ((IsStone (at board place) → label_of old place ≢ 0) × (new ≡ old))
+IsNamed board old new place =
+    (IsStone (at board place) × IsChainNamed board old new place)
+    ⊎ ((IsStone (at board place) → label_of old place ≢ 0) × (new ≡ old))
 
--- A stone that has so many neighbours of its chain is on this place: none is left of the chain, or the stone was at its end,
+-- A stone that has so many neighbours of its chain is on this place: none is left of the chain, or the stone was at its
+-- end,
 -- where no path between two others needs it, and the chain's label is another place.
 abbrev pub StaysWhole : ℕ → ℕ → ℕ → Type 0
 StaysWhole beside label place = (beside ≡ 0) ⊎ ((beside ≡ 1) × (label ≢ place))
 
--- A stone was taken off a place. The stones that have its label are those that a path joins to one of its neighbours; the
+-- A stone was taken off a place. The stones that have its label are those that a path joins to one of its neighbours;
+-- the
 -- other labels are those of their chains.
 pub record IsCut (board : List Cell) (labels : List ℕ) (place label : ℕ) : Type 0 where
   pub length_is : length labels ≡ place_count
-  pub alike : (p q : ℕ) → IsStone (at board p) → Neighbours p q → at board q ≡ at board p → label_of labels p ≡ label_of labels q
+  pub alike : (p q : ℕ) → IsStone (at board p) → Neighbours p q → at board q ≡ at board p
+      → label_of labels p ≡ label_of labels q
   pub own : (p : ℕ) → IsStone (at board p) → label_of labels p ≢ label → Joined board p (label_of labels p)
   pub cut : (p : ℕ) → IsStone (at board p) → label_of labels p ≡ label → (q : ℕ) × Neighbours place q × Joined board p q

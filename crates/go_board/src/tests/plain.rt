@@ -1,4 +1,5 @@
-//! The game in its plainest form, to compare with: liberties by flood fill over the whole board, the ko test by comparing
+//! The game in its plainest form, to compare with: liberties by flood fill over the whole board, the ko test by
+//! comparing
 //! two boards, `undo` by playing the shorter record again.
 use crate::board::{Cell, PLACES, ROW, place_of};
 use crate::{NothingToUndo, PlayFault};
@@ -119,7 +120,8 @@ impl PlainBoard {
         removed
     }
 
-    /// Puts a stone on a point, and then removes the other colour's stones that have no liberty. Answers how many it took.
+    /// Puts a stone on a point, and then removes the other colour's stones that have no liberty. Answers how many it
+    /// took.
     fn put(&mut self, colour: Colour, place: usize) -> u32 {
         self.set(place, Cell::stone(colour));
         self.remove_captured(colour.other())

@@ -1,4 +1,5 @@
-//! A plain slow game to compare with: stones by column and row, chains and regions found by going over the board again and
+//! A plain slow game to compare with: stones by column and row, chains and regions found by going over the board again
+//! and
 //! again, and each position kept.
 use crate::PlayFault;
 use arrayvec::ArrayVec;
@@ -98,7 +99,8 @@ impl Position {
         }
     }
 
-    /// Marks each spot that holds this stone, or none, and is beside a marked one. Answers whether there was one to mark.
+    /// Marks each spot that holds this stone, or none, and is beside a marked one. Answers whether there was one to
+    /// mark.
     fn grow(&self, marks: &mut Marks, stone: Option<Colour>) -> bool {
         let mut grew = false;
         for number in 0..SPOTS {

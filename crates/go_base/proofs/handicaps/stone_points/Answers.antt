@@ -16,4 +16,5 @@ pub returns-else-has_centre : goal.returns-else-has_centre
 returns-else-has_centre c =
     let allowed = handicap_bounds c.args.size c.args.stones c.requires in
     c.first_points.ensures
-    ∙ points_without_centre c.args.size c.args.stones allowed.least allowed.most (λ least odd. absurd (let e = c.if-has_centre.ensures.1 (least, odd) in cc))
+    ∙ points_without_centre c.args.size c.args.stones allowed.least allowed.most
+    (λ least odd. absurd (let e = c.if-has_centre.ensures.1 (least, odd) in cc))

@@ -8,7 +8,11 @@ push-requires t c = (
   lit< tt,
   elim c.if-number-lt10.branch [
     | then-number-lt10 w ↦ omega (arith, ap length (ap (λ v. v.items) w.text-is ∙ w.new-text.ensures))
-    | else-number-lt10 w ↦ omega (arith, ap length (ap (λ v. v.items) w.text-is ∙ w.write_int-text.ensures), written_int_room c.args.number (omega arith))
+    | else-number-lt10 w ↦ omega (
+      arith,
+      ap length (ap (λ v. v.items) w.text-is ∙ w.write_int-text.ensures),
+      written_int_room c.args.number (omega arith),
+    )
   ],
 )
 
@@ -17,6 +21,8 @@ returns t c =
     let last = λ (front : List ℕ). front ++ (48 + c.args.number % 10) ∷ [] in
     c.push.ensures.items
     ∙ elim c.if-number-lt10.branch [
-      | then-number-lt10 w ↦ ap last (ap (λ v. v.items) w.text-is ∙ w.new-text.ensures) ∙ written_one_digit c.args.number (omega (arith, w.if-number-lt10))
-      | else-number-lt10 w ↦ ap last (ap (λ v. v.items) w.text-is ∙ w.write_int-text.ensures) ∙ written_more_digits c.args.number (omega (arith, w.if-number-lt10)) (omega arith)
+      | then-number-lt10 w ↦ ap last (ap (λ v. v.items) w.text-is ∙ w.new-text.ensures)
+          ∙ written_one_digit c.args.number (omega (arith, w.if-number-lt10))
+      | else-number-lt10 w ↦ ap last (ap (λ v. v.items) w.text-is ∙ w.write_int-text.ensures)
+          ∙ written_more_digits c.args.number (omega (arith, w.if-number-lt10)) (omega arith)
     ]

@@ -15,11 +15,13 @@ returns-clause-value c =
     (omega (arith, front, stands.0))
     (omega (arith, front, stands.1))
     stands.2
-    (c.unwrap_or-points.ensures ∙ ap (λ o. unwrap_or o 0) (c.read_int.ensures.value ∙ ap int_of c.split_digits.ensures.front))
+    (c.unwrap_or-points.ensures
+    ∙ ap (λ o. unwrap_or o 0) (c.read_int.ensures.value ∙ ap int_of c.split_digits.ensures.front))
 
 pub returns-clause-limit : goal.returns-clause-limit
 returns-clause-limit c =
     let stands = c.may_stand.ensures.0 c.if-not-may_stand.false in
     unsigned_read_limit c.args.text.now c.unwrap_or-points.result c.in_ok-half.half c.in_ok-half.ensures.limit
     (omega (arith, ap length c.split_digits.ensures.front, stands.1))
-    (c.unwrap_or-points.ensures ∙ ap (λ o. unwrap_or o 0) (c.read_int.ensures.value ∙ ap int_of c.split_digits.ensures.front))
+    (c.unwrap_or-points.ensures
+    ∙ ap (λ o. unwrap_or o 0) (c.read_int.ensures.value ∙ ap int_of c.split_digits.ensures.front))

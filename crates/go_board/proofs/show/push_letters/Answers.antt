@@ -15,7 +15,8 @@ loop-column-preserved c = record {
   few = omega arith;
   written =
       c.push_letter.ensures.letter
-      ∙ ap (λ t. t ++ letter_of c.loop-column.column ∷ []) (c.push-in-loop-column.ensures.items ∙ ap (λ t. t ++ 32 ∷ []) c.loop-column.invariant.written)
+      ∙ ap (λ t. t ++ letter_of c.loop-column.column ∷ [])
+      (c.push-in-loop-column.ensures.items ∙ ap (λ t. t ++ 32 ∷ []) c.loop-column.invariant.written)
       ∙ letters_before-more c.loop-column.column c.args.text.now.items (omega arith);
   len = omega arith;
 }
@@ -28,6 +29,7 @@ returns-clause-letters c =
 pub returns-2-clause-letters : goal.returns-2-clause-letters
 returns-2-clause-letters c =
     c.push_letter.ensures.letter
-    ∙ ap (λ t. t ++ letter_of c.loop-column.column ∷ []) (c.push-in-loop-column.ensures.items ∙ ap (λ t. t ++ 32 ∷ []) c.loop-column.invariant.written)
+    ∙ ap (λ t. t ++ letter_of c.loop-column.column ∷ [])
+    (c.push-in-loop-column.ensures.items ∙ ap (λ t. t ++ 32 ∷ []) c.loop-column.invariant.written)
     ∙ letters_before-more c.loop-column.column c.args.text.now.items (omega arith)
     ∙ letters_before-all c.args.size (c.loop-column.column + 1) c.args.text.now.items (omega arith)

@@ -10,14 +10,19 @@ loop-place-preserved c =
     elim c.if-counts_for.branch [
       | then-counts_for w ↦ record {
         few = omega arith;
-        counted = w.area-is ∙ counted-one c.args.self.now c.args.colour c.loop-place.place c.loop-place.area (is.0 w.if-counts_for.true) c.loop-place.invariant.counted;
+        counted =
+            w.area-is ∙ counted-one c.args.self.now c.args.colour c.loop-place.place c.loop-place.area
+            (is.0 w.if-counts_for.true) c.loop-place.invariant.counted;
       }
       | else-counts_for w ↦ record {
         few = omega arith;
         counted = w.area-is
-            ∙ counted-none c.args.self.now c.args.colour c.loop-place.place c.loop-place.area (λ h. let yes_one = is.1 h in let no_one = w.if-counts_for.false in cc) c.loop-place.invariant.counted;
+            ∙ counted-none c.args.self.now c.args.colour c.loop-place.place c.loop-place.area
+            (λ h. let yes_one = is.1 h in let no_one = w.if-counts_for.false in cc) c.loop-place.invariant.counted;
       }
     ]
 
 pub returns-clause-area : goal.returns-clause-area
-returns-clause-area c = area-from_count c.args.self.now c.args.colour c.loop-place.place c.loop-place.area (omega arith) c.loop-place.invariant.counted
+returns-clause-area c =
+    area-from_count c.args.self.now c.args.colour c.loop-place.place c.loop-place.area
+    (omega arith) c.loop-place.invariant.counted

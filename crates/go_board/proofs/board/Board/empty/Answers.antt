@@ -7,14 +7,18 @@ use Rattle.go_board.proofs.board.Board.empty.Goals.{After-loop-place}
 
 pub returns-clause-board : goal.returns-clause-board
 returns-clause-board c =
-    empty_board-from_places c.get-lines.result c.loop-place.cell-items c.loop-place.place c.loop-place.invariant.length_is c.loop-place-test.false c.loop-place.invariant.done
+    empty_board-from_places c.get-lines.result c.loop-place.cell-items c.loop-place.place
+    c.loop-place.invariant.length_is c.loop-place-test.false c.loop-place.invariant.done
     ∙ ap empty_board c.get-lines.ensures.value
 
 few : (c : After-loop-place) → c.args.size ≤ 25
 few c = c.get-lines.ensures.limits.most
 
 pub returns-clause-size : goal.returns-clause-size
-returns-clause-size c = subst (HasSize c.args.size) (sym (returns-clause-board c)) (HasSize-empty_board c.args.size (few c))
+returns-clause-size c =
+    subst (HasSize c.args.size) (sym (returns-clause-board c)) (HasSize-empty_board c.args.size (few c))
 
 pub invariant_of-result : goal.invariant_of-result
-invariant_of-result c = IsFramed-has_size c.args.size c.loop-place.cell-items (few c) c.loop-place.invariant.length_is (returns-clause-size c)
+invariant_of-result c =
+    IsFramed-has_size c.args.size c.loop-place.cell-items (few c) c.loop-place.invariant.length_is
+    (returns-clause-size c)

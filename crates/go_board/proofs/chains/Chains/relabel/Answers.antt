@@ -9,7 +9,8 @@ pub add-requires-clause-room : goal.add-requires-clause-room
 add-requires-clause-room c =
     let now = c.args.self.now in
     let below =
-    IsBelow-taken now.board now.labels now.counts c.take.new.self c.at.result c.empty_beside-share.result c.requires.counts c.take.ensures c.at.ensures.below c.args.label c.requires.label in
+    IsBelow-taken now.board now.labels now.counts c.take.new.self c.at.result c.empty_beside-share.result
+    c.requires.counts c.take.ensures c.at.ensures.below c.args.label c.requires.label in
     let few = c.empty_beside-share.ensures.few in
     omega (arith, below, few)
 
@@ -18,5 +19,7 @@ returns-clause-counts c =
     let now = c.args.self.now in
     let high = (IsOn-inside c.args.place c.requires.point).high in
     subst (λ (ls : List ℕ). AreCounts now.board ls c.add.new.self) (sym c.set.ensures.value)
-    (AreCounts-relabelled now.board now.labels now.counts c.take.new.self c.add.new.self c.args.place c.at.result c.args.label c.empty_beside-share.result (omega (arith, high)) c.requires.stone
-    c.set.ensures.long c.requires.counts c.at.ensures.value c.at.ensures.below c.requires.label c.empty_beside-share.ensures.value c.take.ensures c.add.ensures)
+    (AreCounts-relabelled now.board now.labels now.counts c.take.new.self c.add.new.self c.args.place c.at.result
+    c.args.label c.empty_beside-share.result (omega (arith, high)) c.requires.stone
+    c.set.ensures.long c.requires.counts c.at.ensures.value c.at.ensures.below c.requires.label
+    c.empty_beside-share.ensures.value c.take.ensures c.add.ensures)

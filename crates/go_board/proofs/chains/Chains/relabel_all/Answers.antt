@@ -20,13 +20,17 @@ stone_there c =
     let test = c.loop-index-test.true in
     let end = c.len-index-end.ensures.value in
     let in_range : c.loop-index.index < length c.args.chain.now = omega (arith, test, end) in
-    c.requires.stones c.get.result (subst (λ (p : ℕ). Contains c.args.chain.now p) (sym c.get.ensures.value) (Contains-get_or c.args.chain.now c.loop-index.index 0 in_range))
+    c.requires.stones c.get.result
+    (subst (λ (p : ℕ). Contains c.args.chain.now p) (sym c.get.ensures.value)
+    (Contains-get_or c.args.chain.now c.loop-index.index 0 in_range))
 
 pub relabel-requires-clause-stone : goal.relabel-requires-clause-stone
-relabel-requires-clause-stone c = subst (λ (b : List Cell). IsStone (at b c.get.result)) (sym c.loop-index.invariant.same) (stone_there c)
+relabel-requires-clause-stone c =
+    subst (λ (b : List Cell). IsStone (at b c.get.result)) (sym c.loop-index.invariant.same) (stone_there c)
 
 pub relabel-requires-clause-point : goal.relabel-requires-clause-point
-relabel-requires-clause-point c = c.requires.framed.inside c.get.result (IsStone-point (at c.args.self.now.board c.get.result) (stone_there c))
+relabel-requires-clause-point c =
+    c.requires.framed.inside c.get.result (IsStone-point (at c.args.self.now.board c.get.result) (stone_there c))
 
 pub loop-index-preserved : goal.loop-index-preserved
 loop-index-preserved c =
@@ -35,7 +39,9 @@ loop-index-preserved c =
     let in_range : c.loop-index.index < length c.args.chain.now = omega (arith, test, end) in
     record {
       same = c.relabel.ensures.board ∙ c.loop-index.invariant.same;
-      giving = IsGiving-more c.args.self.now.labels c.args.chain.now c.loop-index.self.labels c.relabel.new.self.labels c.args.label c.loop-index.index c.get.result in_range
+      giving =
+          IsGiving-more c.args.self.now.labels c.args.chain.now c.loop-index.self.labels c.relabel.new.self.labels
+          c.args.label c.loop-index.index c.get.result in_range
           c.get.ensures.value c.get.ensures.below c.relabel.ensures.labels c.loop-index.invariant.giving;
       counts = c.relabel.ensures.counts;
     }
@@ -44,4 +50,5 @@ pub returns-clause-given : goal.returns-clause-given
 returns-clause-given c =
     let past = c.loop-index-test.false in
     let end = c.len-index-end.ensures.value in
-    given-all c.args.self.now.labels c.args.chain.now c.loop-index.self.labels c.args.label c.loop-index.index (omega (arith, past, end)) c.loop-index.invariant.giving
+    given-all c.args.self.now.labels c.args.chain.now c.loop-index.self.labels c.args.label c.loop-index.index
+    (omega (arith, past, end)) c.loop-index.invariant.giving

@@ -6,5 +6,6 @@ use Rattle.go_board.proofs.chains.Chains.take_back.Goals as goal
 
 pub returns-in-At-clause-back : goal.returns-in-At-clause-back
 returns-in-At-clause-back c =
-    subst (λ (v : Vertex). IsTakenBack c.args.self.now.board c.args.removed.now (record { colour = c.args.colour; vertex = v }) c.args.number c.take_off.new.self.board c.take_off.new.removed
+    subst (λ (v : Vertex). IsTakenBack c.args.self.now.board c.args.removed.now
+    (record { colour = c.args.colour; vertex = v }) c.args.number c.take_off.new.self.board c.take_off.new.removed
     c.take_off.result) (ap At c.place_of.ensures.value ∙ sym c.in-At.is) c.take_off.ensures.back

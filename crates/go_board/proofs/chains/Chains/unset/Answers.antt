@@ -17,10 +17,13 @@ returns-then-stays_whole-clause-chains c =
     let p = c.args.place in
     let cells : List Cell = slice_set now.board p Empty in
     record {
-      framed = subst IsFramed (sym c.lift.ensures.board) (IsFramed-set now.board p Empty (IsStone-point (at now.board p) c.requires.stone) c.requires.chains.framed);
+      framed =
+          subst IsFramed (sym c.lift.ensures.board)
+          (IsFramed-set now.board p Empty (IsStone-point (at now.board p) c.requires.stone) c.requires.chains.framed);
       labels = subst (λ (b : List Cell). AreLabels b c.lift.new.self.labels) (sym c.lift.ensures.board)
           (subst (λ (ls : List ℕ). AreLabels cells ls) (sym c.lift.ensures.labels)
-          (AreLabels-whole now.board now.labels p c.at-label.result c.label_beside-beside.result c.requires.stone c.requires.chains.labels c.at-label.ensures.value c.label_beside-beside.ensures
+          (AreLabels-whole now.board now.labels p c.at-label.result c.label_beside-beside.result c.requires.stone
+          c.requires.chains.labels c.at-label.ensures.value c.label_beside-beside.ensures
           (c.stays_whole.ensures.0 c.if-stays_whole.true)));
       counts = c.lift.ensures.counts;
     }
@@ -32,4 +35,5 @@ split-requires-clause-cut c =
     let cells : List Cell = slice_set now.board p Empty in
     subst (λ (b : List Cell). IsCut b c.lift.new.self.labels p c.at-label.result) (sym c.lift.ensures.board)
     (subst (λ (ls : List ℕ). IsCut cells ls p c.at-label.result) (sym c.lift.ensures.labels)
-    (IsCut-lifted now.board now.labels p c.at-label.result c.requires.stone c.requires.chains.labels c.at-label.ensures.value))
+    (IsCut-lifted now.board now.labels p c.at-label.result c.requires.stone c.requires.chains.labels
+    c.at-label.ensures.value))

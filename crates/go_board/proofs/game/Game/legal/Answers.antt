@@ -2,4 +2,6 @@ use Rattle.go_board.proofs.GameLemmas.{legal-from_test}
 use Rattle.go_board.proofs.game.Game.legal.Goals as goal
 
 pub returns-clause-legal : goal.returns-clause-legal
-returns-clause-legal c = legal-from_test c.args.self.now c.args.colour c.args.vertex c.test.result c.is_ok.result c.is_ok.ensures.value c.test.ensures.legal
+returns-clause-legal c =
+    legal-from_test c.args.self.now c.args.colour c.args.vertex c.test.result c.is_ok.result c.is_ok.ensures.value
+    c.test.ensures.legal

@@ -10,7 +10,10 @@ returns c =
     let white_few = c.area-white.ensures.few in
     let least = c.half_points.ensures.limits.least in
     let most = c.half_points.ensures.limits.most in
-    let areas = score-from_areas c.args.self.now c.board-board.result.now c.area-black.result c.area-white.result c.self.inside.komi
-    (subst (λ (g : GameRecord). c.board-board.result.now ≡ board_of g) c.self.view_is (c.board-board.ensures ∙ c.self.invariant.board_is))
+    let areas =
+    score-from_areas c.args.self.now c.board-board.result.now c.area-black.result c.area-white.result
+    c.self.inside.komi
+    (subst (λ (g : GameRecord). c.board-board.result.now ≡ board_of g) c.self.view_is
+    (c.board-board.ensures ∙ c.self.invariant.board_is))
     c.area-black.ensures.area c.area-white.ensures.area (ap (λ (g : GameRecord). g.komi) c.self.view_is) in
     omega (arith, ints, areas, c.half_points.ensures.value)

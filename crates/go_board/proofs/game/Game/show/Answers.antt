@@ -13,7 +13,8 @@ pub loop-row-preserved : goal.loop-row-preserved
 loop-row-preserved c = record {
   written =
       c.push.ensures.items
-      ∙ ap (λ t. t ++ 10 ∷ []) (c.push_row.ensures.row ∙ ap (λ t. t ++ shown_row c.args.self.now c.loop-row.row) c.loop-row.invariant.written)
+      ∙ ap (λ t. t ++ 10 ∷ [])
+      (c.push_row.ensures.row ∙ ap (λ t. t ++ shown_row c.args.self.now c.loop-row.row) c.loop-row.invariant.written)
       ∙ rows_above-more c.args.self.now c.loop-row.row (omega arith) (omega arith);
   few = omega arith;
 }
@@ -24,7 +25,8 @@ returns c =
     let rest = λ (rows : List ℕ) (size : ℕ). ((rows ++ shown_letters size) ++ 10 ∷ []) ++ shown_captures game in
     let size : c.get-size.result ≡ game.size = c.get-size.ensures.value ∙ c.size.ensures.size in
     c.push_captures.ensures
-    ∙ ap (λ t. t ++ shown_captures game) (c.push-2.ensures.items ∙ ap (λ t. t ++ 10 ∷ []) c.push_letters.ensures.letters)
+    ∙ ap (λ t. t ++ shown_captures game)
+    (c.push-2.ensures.items ∙ ap (λ t. t ++ 10 ∷ []) c.push_letters.ensures.letters)
     ∙ ap (λ t. rest t c.get-size.result) c.loop-row.invariant.written
     ∙ ap (rest (rows_above game c.loop-row.row)) size
     ∙ shown-from_front game c.loop-row.row (omega arith)
