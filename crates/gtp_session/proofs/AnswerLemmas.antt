@@ -1,5 +1,5 @@
 -- What is answered to a line that asks a policy, and to one that asks none.
-use Rattle.std.proofs.Common.{◌≡◌, ℕ, List, [], length, Bool, true, false, cond, Option, Some, None, refl, inl, inr, ap, ◌∙◌}
+use Rattle.std.proofs.Common.{◌≡◌, ℕ, List, [], length, Bool, true, false, cond, Option, Some, None, refl, sym, subst, inl, inr, ap, ◌∙◌}
 use Rattle.std.specs.Prelude.{◌⊎◌, codes, nat_le}
 use Rattle.go_base.specs.Colour.{colour_of}
 use Rattle.go_base.specs.Vertex.{written_vertex}
@@ -15,10 +15,11 @@ use Rattle.go_base.specs.declared.choices.Choice.{Choice}
 use Rattle.go_base.specs.declared.choices.Choice.TheVariants as choice
 use Rattle.gtp_session.specs.declared.commands.CommandName.{CommandName}
 use Rattle.gtp_session.specs.declared.commands.CommandName.TheVariants.{ProtocolVersion, Name, Version, KnownCommand, ListCommands, Quit, Boardsize, ClearBoard, Komi, Play, Genmove, FixedHandicap, Undo, FinalScore, Showboard}
-use Rattle.gtp_session.specs.Commands.{Answer, answer, asked, id_of, argument, command_of, succeeds, fails, answer_move, answer_choice, answer_genmove, answer_to_named, asked_by_named, asked_by_genmove}
+use Rattle.gtp_session.specs.Commands.{Answer, answer, asked, id_of, argument, command_of, succeeds, fails, answer_move, answer_choice, answer_genmove, answer_to, answer_to_named, asked_by_command, asked_by_named, asked_by_genmove}
 use Rattle.gtp_session.specs.Engine.{State, WrittenReply, Step}
 use Rattle.gtp_session.specs.Laws.{AllowsLawful}
 use Rattle.gtp_session.proofs.MoveLemmas.{room_test}
+use Rattle.gtp_session.proofs.NameLemmas.{asks_genmove}
 
 by_room_same : {A : Type 0} (x p q : A) (colour : Colour) (t : Bool) → cond t None (Some colour) ≡ None → cond t x p ≡ cond t x q
 by_room_same x p q colour true e = refl
@@ -71,21 +72,9 @@ named_asked : (game : GameRecord) (named : Option CommandName) (words : List (Li
     → asked_by_named game named words ≡ Some colour
     → answer_to_named game named words choice ≡ answer_choice game colour choice
 named_asked game None words choice colour e = cc
-named_asked game (Some Genmove) words choice colour e = genmove_asked game (argument colour_of words 1) choice colour e
-named_asked game (Some ProtocolVersion) words choice colour e = cc
-named_asked game (Some Name) words choice colour e = cc
-named_asked game (Some Version) words choice colour e = cc
-named_asked game (Some KnownCommand) words choice colour e = cc
-named_asked game (Some ListCommands) words choice colour e = cc
-named_asked game (Some Quit) words choice colour e = cc
-named_asked game (Some Boardsize) words choice colour e = cc
-named_asked game (Some ClearBoard) words choice colour e = cc
-named_asked game (Some Komi) words choice colour e = cc
-named_asked game (Some Play) words choice colour e = cc
-named_asked game (Some FixedHandicap) words choice colour e = cc
-named_asked game (Some Undo) words choice colour e = cc
-named_asked game (Some FinalScore) words choice colour e = cc
-named_asked game (Some Showboard) words choice colour e = cc
+named_asked game (Some command) words choice colour e =
+    subst (λ (c : CommandName). asked_by_command game c words ≡ Some colour → answer_to game c words choice ≡ answer_choice game colour choice)
+    (sym (asks_genmove game command words colour e)) (genmove_asked game (argument colour_of words 1) choice colour) e
 
 answer-asked : (game : GameRecord) (l : Line) (choice : Choice) (colour : Colour) → asked game l ≡ Some colour
     → answer game l choice ≡ answer_choice game colour choice

@@ -12,8 +12,7 @@ use Rattle.go_base.specs.Vertex.{vertex_of}
 use Rattle.go_base.specs.declared.colours.Colour.{Colour}
 use Rattle.go_base.specs.declared.vertices.Vertex.{Vertex}
 use Rattle.go_base.proofs.IntLemmas.{spells_int_of}
-use Rattle.go_board.specs.Game.{GameRecord, IsLegal, most_moves, with_move, without_last}
-use Rattle.go_board.specs.decisions.Game.{legal?, touched?}
+use Rattle.go_board.specs.Game.{GameRecord, IsLegal, most_moves, with_move, without_last, legal?}
 use Rattle.go_board.specs.Refusals.{IsTouched}
 use Rattle.go_board.specs.Area.{score}
 use Rattle.gtp_wire.specs.declared.lines.Line.{Line}
@@ -21,15 +20,17 @@ use Rattle.gtp_wire.specs.declared.lines.Line.TheVariants as line
 use Rattle.gtp_wire.specs.Bytes.{is_kept, is_newline, space_for_tab, before_hash}
 use Rattle.gtp_wire.specs.Words.{words}
 use Rattle.gtp_wire.specs.Lines.{lines, most_line_bytes, line_of, line_of_words, but_last}
-use Rattle.gtp_wire.specs.Replies.{IsReply, IsReplyText, written_reply}
+use Rattle.gtp_wire.specs.Replies.{IsReply, IsReplyText, most_text_bytes, written_reply}
 use Rattle.gtp_wire.proofs.WrittenLemmas.{written_is_read}
 use Rattle.go_base.specs.Decide.{allows?}
+use Rattle.go_board.specs.decisions.Game.{touched?}
 use Rattle.gtp_session.specs.Policy.{May, IsLawful}
 use Rattle.go_base.specs.declared.choices.Choice.{Choice}
 use Rattle.go_base.specs.declared.choices.Choice.TheVariants as choice
 use Rattle.gtp_session.specs.declared.commands.CommandName.{CommandName}
 use Rattle.gtp_session.specs.declared.commands.CommandName.TheVariants.{ProtocolVersion, Name, Version, KnownCommand, ListCommands, Quit, Boardsize, ClearBoard, Komi, Play, Genmove, FixedHandicap, Undo, FinalScore, Showboard}
 use Rattle.gtp_session.specs.Commands.{Answer, answer, answer_to_named, answer_known, answer_boardsize, answer_komi, answer_play, answer_handicap, answer_undo, answer_genmove, answer_choice, argument, asked, asked_by_genmove, asked_by_named, command_of, command_named, succeeds, fails, syntax_error, written_vertices, id_of}
+use Rattle.gtp_session.specs.Outcome.{Executes}
 use Rattle.gtp_session.specs.Engine.{Engine, State, WrittenReply, Step, Answers, Replies}
 use Rattle.gtp_session.specs.Engine.Answers.{none, over, more}
 use Rattle.gtp_session.specs.Laws.{AllowsLawful}
@@ -142,6 +143,14 @@ genmove_good : (game : GameRecord) (c : Option Colour) (ch : Choice) → IsSize 
 genmove_good game None ch is lawful = syntax_good game is
 genmove_good game (Some c) ch is lawful = room_good game c ch (nat_le most_moves (length game.moves)) is lawful
 
+-- what was executed is answered as some lawful choice is
+lawful_choice : {P : Type 0} (may : May P) → AllowsLawful may → (old new : P) (game : GameRecord) (asked_for : Option Colour)
+    (given : Choice → Answer) (told : Answer) → Executes may game old asked_for given new told
+    → (ch : Choice) × (IfSome asked_for (λ c. IsLawful game c ch) × (told ≡ given ch))
+lawful_choice may allows old new game None given told executes = (choice.Resign, (tt, executes.1 choice.Resign))
+lawful_choice may allows old new game (Some c) given told executes =
+    (executes.0, (allows old game c executes.0 new (executes.1).0, (executes.1).1))
+
 -- each command's answer
 named_good : (game : GameRecord) (named : Option CommandName) (words : List (List ℕ)) (ch : Choice) → IsSize game.size
     → IfSome (asked_by_named game named words) (λ c. IsLawful game c ch) → IsGood (answer_to_named game named words ch)
@@ -171,6 +180,16 @@ named_good game (Some Showboard) words ch is lawful = record { text = shown_fits
 pub answer_good : (game : GameRecord) (l : Line) (ch : Choice) → IsSize game.size → IsLawfulAt game l ch → IsGood (answer game l ch)
 answer_good game line.TooLong ch is lawful = syntax_good game is
 answer_good game (line.Command cl) ch is lawful = named_good game (command_of cl.words) cl.words ch is lawful
+
+-- what was executed is answered by a text that fits a reply
+pub executed_fits : {P : Type 0} (may : May P) → AllowsLawful may → (old new : P) (game : GameRecord) (named : Option CommandName)
+    (words : List (List ℕ)) (told : Answer) → IsSize game.size
+    → Executes may game old (asked_by_named game named words) (answer_to_named game named words) new told
+    → length told.text ≤ most_text_bytes
+executed_fits may allows old new game named words told is executes =
+    let chosen = lawful_choice may allows old new game (asked_by_named game named words) _ told executes in
+    subst (λ (a : Answer). length a.text ≤ most_text_bytes) (sym (chosen.1).1)
+    (named_good game named words chosen.0 is (chosen.1).0).text.fits
 
 -- ---- the ids of lines
 

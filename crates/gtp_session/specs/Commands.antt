@@ -1,5 +1,5 @@
 -- The engine's commands, and what each of them does to the game and answers.
-use Rattle.std.specs.Prelude.{◌≡◌, ℕ, ℤ, Bool, true, false, ◌&&◌, nat_le, List, [], ◌∷◌, length, map, find, slice_get, Option, Some, None, is_some, option_and_then, if◌then◌else◌, MatchOption, codes}
+use Rattle.std.specs.Prelude.{ℕ, ℤ, Bool, true, false, ◌&&◌, nat_le, List, [], ◌∷◌, length, map, find, slice_get, Option, Some, None, is_some, option_and_then, if◌then◌else◌, codes}
 use Rattle.std.specs.List.{join_with_byte}
 use Rattle.std.specs.Str.{bytes_eq}
 use Rattle.go_base.specs.Bytes.{newline, space}
@@ -20,10 +20,8 @@ use Rattle.go_board.specs.decisions.Game.{legal?, touched?}
 use Rattle.go_base.specs.Decide.{allows?}
 use Rattle.go_board.specs.Show.{shown}
 use Rattle.go_board.specs.Area.{score}
-use Rattle.gtp_wire.specs.Replies.{written_reply}
 use Rattle.gtp_wire.specs.declared.lines.Line.{Line}
 use Rattle.gtp_wire.specs.declared.lines.Line.TheVariants as line
-use Rattle.gtp_session.specs.Policy.{May}
 use Rattle.go_base.specs.declared.choices.Choice.{Choice}
 use Rattle.go_base.specs.declared.choices.Choice.TheVariants as choice
 use Rattle.gtp_session.specs.declared.commands.CommandName.{CommandName}
@@ -206,56 +204,25 @@ abbrev pub id_of : Line → Option ℕ
 id_of line.TooLong = None
 id_of (line.Command command_line) = command_line.id
 
-abbrev pub is_quit : Option CommandName → Bool
-is_quit (Some Quit) = true
-is_quit (Some ProtocolVersion) = false
-is_quit (Some Name) = false
-is_quit (Some Version) = false
-is_quit (Some KnownCommand) = false
-is_quit (Some ListCommands) = false
-is_quit (Some Boardsize) = false
-is_quit (Some ClearBoard) = false
-is_quit (Some Komi) = false
-is_quit (Some Play) = false
-is_quit (Some Genmove) = false
-is_quit (Some FixedHandicap) = false
-is_quit (Some Undo) = false
-is_quit (Some FinalScore) = false
-is_quit (Some Showboard) = false
-is_quit None = false
+-- whether there is a command, and it has this name
+abbrev pub has_name : List ℕ → Option CommandName → Bool
+has_name name None = false
+has_name name (Some command) = bytes_eq (spelled command) name
 
 -- whether the session ends with the line: it is a `quit`
 abbrev pub ends : Line → Bool
 ends line.TooLong = false
-ends (line.Command command_line) = is_quit (command_of command_line.words)
-
-abbrev pub is_genmove : Option CommandName → Bool
-is_genmove (Some Genmove) = true
-is_genmove (Some ProtocolVersion) = false
-is_genmove (Some Name) = false
-is_genmove (Some Version) = false
-is_genmove (Some KnownCommand) = false
-is_genmove (Some ListCommands) = false
-is_genmove (Some Quit) = false
-is_genmove (Some Boardsize) = false
-is_genmove (Some ClearBoard) = false
-is_genmove (Some Komi) = false
-is_genmove (Some Play) = false
-is_genmove (Some FixedHandicap) = false
-is_genmove (Some Undo) = false
-is_genmove (Some FinalScore) = false
-is_genmove (Some Showboard) = false
-is_genmove None = false
+ends (line.Command command_line) = has_name (codes "quit") (command_of command_line.words)
 
 -- whether the line is a `genmove`
 abbrev pub is_genmove_line : Line → Bool
 is_genmove_line line.TooLong = false
-is_genmove_line (line.Command command_line) = is_genmove (command_of command_line.words)
+is_genmove_line (line.Command command_line) = has_name (codes "genmove") (command_of command_line.words)
 
--- the colour for which a command asks the policy, where it does
+-- the colour for which a command asks the policy, where it does: it is `genmove`
 abbrev pub asked_by_command : GameRecord → CommandName → List (List ℕ) → Option Colour
 asked_by_command game command words =
-    if is_genmove (Some command) then asked_by_genmove game (argument colour_of words 1) else None
+    if has_name (codes "genmove") (Some command) then asked_by_genmove game (argument colour_of words 1) else None
 
 abbrev pub asked_by_named : GameRecord → Option CommandName → List (List ℕ) → Option Colour
 asked_by_named game (Some command) words = asked_by_command game command words
@@ -269,16 +236,3 @@ asked_by_words game words = asked_by_named game (command_of words) words
 abbrev pub asked : GameRecord → Line → Option Colour
 asked game line.TooLong = None
 asked game (line.Command command_line) = asked_by_words game command_line.words
-
--- The answer was given: this is the game after it, and these are the bytes of the reply.
-pub record Leaves (given : Answer) (id : Option ℕ) (game : GameRecord) (reply : List ℕ) : Type 0 where
-  pub game_is : game ≡ given.game
-  pub reply_is : reply ≡ written_reply given.ok id given.text
-
--- The policy was asked for this colour, or not at all, and the answer to what it chose was given.
-abbrev pub Executes : {P : Type 0}
-    → May P → GameRecord → P → Option Colour → (Choice → Answer) → Option ℕ → GameRecord → P → List ℕ → Type 0
-Executes may game policy asked given id game_now policy_now reply =
-    MatchOption asked
-    ((policy_now ≡ policy) × ((choice : Choice) → Leaves (given choice) id game_now reply))
-    (λ colour. (choice : Choice) × (may policy game colour choice policy_now × Leaves (given choice) id game_now reply))

@@ -1,6 +1,9 @@
 //! The commands that the engine knows.
-ghost use Rattle.std.specs.Prelude.{◌≡◌};
-ghost use Rattle.gtp_session.specs.Commands.{spelled, command_named};
+ghost use Rattle.std.specs.Prelude.{◌≡◌, ◌+◌, ◌≤◌, ◌∷◌, ◌++◌, length};
+ghost use Rattle.arrayvec.specs.ArrayVec.{array_vec_len};
+ghost use Rattle.gtp_session.specs.Commands.{spelled, command_named, all_names};
+
+use arrayvec::ArrayVec;
 
 /// A command that the engine knows.
 #[derive(Clone, Copy, Debug, PartialEq, Eq)]
@@ -56,6 +59,37 @@ static COMMANDS: [CommandName; 15] = [
     CommandName::Showboard,
 ];
 
+/// The most bytes of a command's name.
+const NAME_MOST: usize = 16;
+
+/// The room for the names of all commands, each with a newline.
+const NAMES_ROOM: usize = 255;
+
+/// The names of the commands, a line each.
+pub(crate) fn all_names() -> ArrayVec<u8, NAMES_ROOM>
+    ensures { result.items ≡ all_names }
+{
+    let mut text = ArrayVec::new();
+    let [first, more @ ..] = COMMANDS.as_slice() else {
+        unreachable!()
+    };
+    let _ = text.try_extend_from_slice(first.name());
+    for command in more {
+        push_row(&mut text, *command);
+    }
+    text
+}
+
+/// Appends a newline and the command's name.
+fn push_row(text: &mut ArrayVec<u8, NAMES_ROOM>, command: CommandName)
+    requires { array_vec_len text.old + NAME_MOST + 1 ≤ NAMES_ROOM }
+    ensures bytes { text.new.items ≡ text.old.items ++ 10 ∷ spelled command }
+    ensures len { array_vec_len text.new ≤ array_vec_len text.old + NAME_MOST + 1 }
+{
+    text.push(b'\n');
+    let _ = text.try_extend_from_slice(command.name());
+}
+
 impl CommandName {
     /// The command of this name, where there is one. Case matters.
     pub fn read(word: &[u8]) -> Option<CommandName>
@@ -69,7 +103,8 @@ impl CommandName {
 
     /// The command's name.
     pub fn name(self) -> &'static [u8]
-        ensures { result.now ≡ spelled self }
+        ensures name { result.now ≡ spelled self }
+        ensures few { length result.now ≤ 16 }
     {
         match self {
             CommandName::ProtocolVersion => b"protocol_version",

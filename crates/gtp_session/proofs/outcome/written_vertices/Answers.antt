@@ -1,8 +1,8 @@
 use Rattle.std.proofs.Common.{rules, ◌++◌, ◌∙◌, ap, List, ℕ}
 use Rattle.go_base.specs.Vertex.{written_vertex}
 use Rattle.go_base.specs.declared.vertices.Vertex.TheVariants.{At}
-use Rattle.gtp_session.proofs.PointLemmas.{AreWritten-push}
-use Rattle.gtp_session.proofs.answers.written_vertices.Goals as goal
+use Rattle.gtp_session.proofs.JoinLemmas.{AreWritten-push}
+use Rattle.gtp_session.proofs.outcome.written_vertices.Goals as goal
 
 pub loop-point-preserved : goal.loop-point-preserved
 loop-point-preserved c =

@@ -1,5 +1,5 @@
-use Rattle.gtp_session.proofs.PointLemmas.{AreWritten}
-use Rattle.gtp_session.proofs.answers.written_vertices.Given as goal
+use Rattle.gtp_session.proofs.JoinLemmas.{AreWritten}
+use Rattle.gtp_session.proofs.outcome.written_vertices.Given as goal
 
 -- the first point and those so far are written
 abbrev pub invariant-loop-point : goal.invariant-loop-point

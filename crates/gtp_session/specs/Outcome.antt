@@ -1,0 +1,46 @@
+-- What the code's outcome of a command answers, and what the functions of the table say of it.
+use Rattle.std.specs.Prelude.{◌≡◌, ℕ, List, [], Option, Result, Ok, Err, MatchOption}
+use Rattle.std.specs.Result.{is_ok}
+use Rattle.std.specs.Borrow.{Bor}
+use Rattle.go_base.specs.Vertex.{written_vertex}
+use Rattle.go_base.specs.HalfPoints.{score_text}
+use Rattle.go_board.specs.Game.{GameRecord}
+use Rattle.go_board.specs.Show.{shown}
+use Rattle.gtp_wire.specs.Replies.{written_reply}
+use Rattle.go_base.specs.declared.colours.Colour.{Colour}
+use Rattle.go_base.specs.declared.choices.Choice.{Choice}
+use Rattle.gtp_session.specs.Policy.{May}
+use Rattle.gtp_session.specs.Commands.{Answer, all_names, written_vertices}
+use Rattle.gtp_session.specs.declared.outcome.Text.{Text}
+use Rattle.gtp_session.specs.declared.outcome.Text.TheVariants as text
+
+-- the text of a success that leaves this game
+abbrev pub text_of : GameRecord → Text → List ℕ
+text_of game text.Empty = []
+text_of game (text.Fixed bytes) = bytes.now
+text_of game text.Names = all_names
+text_of game (text.Vertex vertex) = written_vertex vertex
+text_of game (text.Vertices points) = written_vertices points.items
+text_of game (text.Score half_points) = score_text half_points
+text_of game text.Board = shown game
+
+-- the text of a success or a failure
+abbrev pub said : GameRecord → Result Text (Bor (List ℕ)) → List ℕ
+said game (Ok text) = text_of game text
+said game (Err bytes) = bytes.now
+
+-- the answer that an outcome is, where its command leaves this game
+abbrev pub told : GameRecord → Result Text (Bor (List ℕ)) → Answer
+told game outcome = record { game = game; ok = is_ok outcome; text = said game outcome }
+
+-- The answer was given: this is the game after it, and these are the bytes of the reply.
+pub record Leaves (given : Answer) (id : Option ℕ) (game : GameRecord) (reply : List ℕ) : Type 0 where
+  pub game_is : game ≡ given.game
+  pub reply_is : reply ≡ written_reply given.ok id given.text
+
+-- The policy was asked for this colour, or not at all, and what it chose is answered by this.
+abbrev pub Executes : {P : Type 0} → May P → GameRecord → P → Option Colour → (Choice → Answer) → P → Answer → Type 0
+Executes may game policy asked given policy_now told =
+    MatchOption asked
+    ((policy_now ≡ policy) × ((choice : Choice) → told ≡ given choice))
+    (λ colour. (choice : Choice) × (may policy game colour choice policy_now × (told ≡ given choice)))

@@ -1,0 +1,94 @@
+//! What a command answers, and how it is written.
+ghost use Rattle.std.specs.Prelude.{◌≡◌, ◌+◌, ◌≤◌, ◌++◌, length, true};
+ghost use Rattle.arrayvec.specs.ArrayVec.{array_vec_len};
+ghost use Rattle.go_base.specs.Vertex.{written_vertex};
+ghost use Rattle.go_base.specs.declared.vertices.Vertex.TheVariants.{At};
+ghost use Rattle.gtp_wire.specs.Replies.{most_text_bytes, written_reply};
+ghost use Rattle.gtp_session.specs.Commands.{written_vertices};
+ghost use Rattle.gtp_session.specs.Outcome.{text_of, told};
+
+use crate::commands::all_names;
+use arrayvec::ArrayVec;
+use go_base::{Point, Vertex, write_score};
+use go_board::Game;
+use gtp_wire::{ReplyText, write_reply_into};
+
+/// What a command answers: the text of its success, or that of its failure.
+pub(crate) type Outcome = Result<Text, &'static [u8]>;
+
+/// The text of a success.
+#[derive(Drop)]
+pub(crate) enum Text {
+    /// No byte.
+    Empty,
+    /// These bytes.
+    Fixed(&'static [u8]),
+    /// The names of the commands, a line each.
+    Names,
+    /// A vertex.
+    Vertex(Vertex),
+    /// The vertices of points, separated by single spaces.
+    Vertices(ArrayVec<Point, 9>),
+    /// A score in half points.
+    Score(i32),
+    /// The board.
+    Board,
+}
+
+/// The room for nine vertices and the spaces between them.
+const VERTICES_ROOM: usize = 44;
+
+/// Puts the reply of a command that left this game in place of what `reply` holds.
+pub(crate) fn write_outcome(outcome: &Outcome, game: &Game, id: Option<u32>, reply: &mut ReplyText)
+    requires { length (told game.now outcome.now).text ≤ most_text_bytes }
+    ensures { let answer = told game.now outcome.now in
+        reply.new.items ≡ written_reply answer.ok id answer.text }
+{
+    match outcome {
+        Ok(text) => write_success(text, game, id, reply),
+        Err(text) => write_reply_into(reply, false, id, text),
+    }
+}
+
+/// The same for a success.
+fn write_success(text: &Text, game: &Game, id: Option<u32>, reply: &mut ReplyText)
+    requires { length (text_of game.now text.now) ≤ most_text_bytes }
+    ensures { reply.new.items ≡ written_reply true id (text_of game.now text.now) }
+{
+    match text {
+        Text::Empty => write_reply_into(reply, true, id, b""),
+        Text::Fixed(bytes) => write_reply_into(reply, true, id, bytes),
+        Text::Names => write_reply_into(reply, true, id, &all_names()),
+        Text::Vertex(vertex) => write_reply_into(reply, true, id, &vertex.write()),
+        Text::Vertices(points) => write_reply_into(reply, true, id, &written_vertices(points)),
+        Text::Score(half_points) => write_reply_into(reply, true, id, &write_score(*half_points)),
+        Text::Board => write_reply_into(reply, true, id, &game.show()),
+    }
+}
+
+/// The vertices of points, separated by single spaces.
+fn written_vertices(points: &[Point]) -> ArrayVec<u8, VERTICES_ROOM>
+    requires { length points.now ≤ 9 }
+    ensures { result.items ≡ written_vertices points.now }
+{
+    let mut text = ArrayVec::new();
+    let [first, more @ ..] = points else {
+        return text;
+    };
+    push_vertex(&mut text, *first);
+    for point in more {
+        text.push(b' ');
+        push_vertex(&mut text, *point);
+    }
+    text
+}
+
+/// Appends the point's vertex.
+fn push_vertex(text: &mut ArrayVec<u8, VERTICES_ROOM>, point: Point)
+    requires { array_vec_len text.old + 4 ≤ VERTICES_ROOM }
+    ensures bytes { text.new.items ≡ text.old.items ++ written_vertex (At point) }
+    ensures len { array_vec_len text.new ≤ array_vec_len text.old + 4 }
+{
+    let vertex = Vertex::At(point).write();
+    let _ = text.try_extend_from_slice(&vertex);
+}
