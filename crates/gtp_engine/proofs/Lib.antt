@@ -1,2 +1,1 @@
 pub mod OptionLemmas
-pub mod ServingLemmas
