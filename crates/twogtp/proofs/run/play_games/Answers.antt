@@ -9,7 +9,7 @@ use Rattle.twogtp.proofs.TurnLemmas.{Asks-nil}
 use Rattle.twogtp.proofs.run.play_games.Goals as goal
 
 pub loop-index-init : goal.loop-index-init
-loop-index-init g c = record { lines = []; text = []; tells = no_game; taken = Appends-nil _; asked = Asks-nil _ }
+loop-index-init g c = record { attempts = []; text = []; tells = no_game; taken = Appends-nil _; asked = Asks-nil _ }
 
 pub returns-in-Err-clause-begun : goal.returns-in-Err-clause-begun
 returns-in-Err-clause-begun g c =
