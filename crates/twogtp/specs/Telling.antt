@@ -13,6 +13,7 @@ use Rattle.twogtp.specs.declared.options.Options.{Options}
 use Rattle.twogtp.specs.declared.task.Commands.{Commands}
 use Rattle.twogtp.specs.declared.task.Task.{Task}
 use Rattle.twogtp.specs.Options.{AsksFor, HasFault}
+use Rattle.twogtp.specs.Pipes.{TakesPart}
 use Rattle.twogtp.specs.Starts.{Asks, Attempt, Attempts}
 use Rattle.twogtp.specs.Status.{IsRequest, done, status_with}
 use Rattle.twogtp.specs.Tasks.{IsMistake, IsPlanOf}
@@ -45,13 +46,6 @@ pub data Tells (commands : Commands) (task : Task) : ℕ → ℕ → List Attemp
       → Tells commands task number status attempts text → IsPlayed commands task.setup more c verdict
       → Tells commands task (number + 1) (status_with status verdict) (attempts ++ more)
       (text ++ told task (number + 1) c)
-
--- a writer took the beginning of a text
-pub record TakesPart (text : List ℕ) (held holds : Option (List ℕ)) : Type 0 where
-  pub part : List ℕ
-  pub left : List ℕ
-  pub cut : text ≡ part ++ left
-  pub taken : Appends held holds part
 
 -- So many games were played, a writer took what is told of them, and what they ask for was asked for.
 pub record HasToldSome (commands : Commands) (task : Task) (number status : ℕ) (held holds : Option (List ℕ))

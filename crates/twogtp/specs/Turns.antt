@@ -19,6 +19,7 @@ use Rattle.twogtp.specs.declared.fault.Fault.{Fault}
 use Rattle.twogtp.specs.declared.fault.Fault.TheVariants.{OutOfMemory, TooManyTurns}
 use Rattle.twogtp.specs.declared.starter.StartFault.TheVariants as start_fault
 use Rattle.twogtp.specs.declared.task.Commands.{Commands}
+use Rattle.twogtp.specs.Pipes.{TakesPart}
 use Rattle.twogtp.specs.Starts.{Asks, Attempt, Attempts, attempt_for}
 
 -- ---- what a process takes and gives
@@ -32,20 +33,22 @@ abbrev pub command_text : Controller → Colour → List ℕ
 command_text c side = command_for c side (side_of c.sides side).up
 
 -- A side was to be sent its command, to a process that had taken some bytes and has taken others: it took the whole
--- command, and the command counts as sent; or the process was cut off, and the side is lost.
-pub data IsSent (c : Controller) (side : Colour) (held holds : Option (List ℕ)) (CutOff : Type 0)
+-- command, which went out, and the command counts as sent; or it took the beginning of it and was cut off, and the side
+-- is lost.
+pub data IsSent (c : Controller) (side : Colour) (held holds : Option (List ℕ)) (WentOut CutOff : Type 0)
     : Controller → Type 0 where
-  taken : Appends held holds (command_text c side) → IsSent c side held holds CutOff (sent c side)
-  failed : CutOff → IsSent c side held holds CutOff (lost (sent c side) side)
+  taken : Appends held holds (command_text c side) → WentOut → IsSent c side held holds WentOut CutOff (sent c side)
+  failed : TakesPart (command_text c side) held holds → CutOff
+      → IsSent c side held holds WentOut CutOff (lost (sent c side) side)
 
 -- A side was waited for, whose process had given some bytes and has given others: what came, a byte at least, was heard,
--- all of it; or the process was cut off, with nothing more, and the side is lost.
-pub data IsHeard (c : Controller) (side : Colour) (held holds : Option (List ℕ)) (CutOff : Type 0)
+-- all of it, and no call broke; or the process was cut off, with nothing more, and the side is lost.
+pub data IsHeard (c : Controller) (side : Colour) (held holds : Option (List ℕ)) (Unbroken CutOff : Type 0)
     : Controller → Type 0 where
   heard : {new : Controller} (bytes : List ℕ) (fault : Option SideFault)
-      → 0 < length bytes → Appends held holds bytes → HearsAllExactly side c bytes fault new
-      → IsHeard c side held holds CutOff new
-  ended : CutOff → Keeps held holds → IsHeard c side held holds CutOff (lost c side)
+      → 0 < length bytes → Appends held holds bytes → HearsAllExactly side c bytes fault new → Unbroken
+      → IsHeard c side held holds Unbroken CutOff new
+  ended : CutOff → Keeps held holds → IsHeard c side held holds Unbroken CutOff (lost c side)
 
 -- ---- turns
 
@@ -61,9 +64,9 @@ pub data Turn (commands : Commands) (c : Controller) : Action → List Attempt �
   fails_to_start : {side : Colour} → Turn commands c (Start side)
       (attempt_for commands side (Some start_fault.NotStarted) ∷ []) (lost (started c side) side)
   sends : {side : Colour} {held holds : Option (List ℕ)} {new : Controller}
-      → IsSent c side held holds ⊤ new → Turn commands c (Send side) [] new
+      → IsSent c side held holds ⊤ ⊤ new → Turn commands c (Send side) [] new
   hears : {side : Colour} {held holds : Option (List ℕ)} {new : Controller}
-      → IsHeard c side held holds ⊤ new → Turn commands c (Wait side) [] new
+      → IsHeard c side held holds ⊤ ⊤ new → Turn commands c (Wait side) [] new
   rests : {verdict : Verdict} → Turn commands c (Done verdict) [] c
 
 -- So many turns, each of which did what the controller said, asked for these programs.

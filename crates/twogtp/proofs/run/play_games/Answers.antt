@@ -2,7 +2,8 @@ use Rattle.std.proofs.Common.{ℕ, List, [], ◌∙◌, subst, rules}
 use Rattle.std.proofs.KnownBytes.{Appends-nil}
 use Rattle.std.specs.Io.KnownBytes.{Appends}
 use Rattle.gtp_match.specs.declared.controller.Controller.{Controller}
-use Rattle.twogtp.specs.Telling.{TakesPart, no_game}
+use Rattle.twogtp.specs.Pipes.{TakesPart}
+use Rattle.twogtp.specs.Telling.{no_game}
 use Rattle.twogtp.specs.Turns.{HasPlayed, HasStopped}
 use Rattle.twogtp.proofs.TellingLemmas.{told_then, begun_then, begun_with, status_range}
 use Rattle.twogtp.proofs.TurnLemmas.{Asks-nil}
