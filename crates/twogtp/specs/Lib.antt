@@ -1,6 +1,7 @@
 pub mod Options
 pub mod Pipes
 pub mod Processes
+pub mod Speaking
 pub mod Starts
 pub mod Status
 pub mod Tasks

@@ -1,7 +1,15 @@
 -- Calls of a process's pipes: which are tried again, and when a process counts as cut off.
-use Rattle.std.specs.Prelude.{ℕ, ◌+◌}
+use Rattle.std.specs.Prelude.{◌≡◌, ℕ, ◌+◌, List, ◌++◌, Option}
+use Rattle.std.specs.Io.KnownBytes.{Appends}
 use Rattle.twogtp.specs.declared.starter.PipeFault.{PipeFault}
 use Rattle.twogtp.specs.declared.starter.PipeFault.TheVariants.{Interrupted, Broken}
+
+-- a writer or a process took the beginning of a text
+pub record TakesPart (text : List ℕ) (held holds : Option (List ℕ)) : Type 0 where
+  pub part : List ℕ
+  pub left : List ℕ
+  pub cut : text ≡ part ++ left
+  pub taken : Appends held holds part
 
 -- how often one call is made at most, where each is interrupted
 abbrev pub most_tries : ℕ
@@ -11,14 +19,28 @@ most_tries = 1000000000
 abbrev pub Fails : Type 0 → Type 1
 Fails P = P → PipeFault → P → Type 0
 
+-- calls that go through, by the process before and after
+abbrev pub Succeeds : Type 0 → Type 1
+Succeeds P = P → P → Type 0
+
 -- So many calls in a row were interrupted, and led from the one to the other.
 pub data AreInterrupted {P : Type 0} (fails : Fails P) (before : P) : ℕ → P → Type 0 where
   no_call : AreInterrupted fails before 0 before
   one_more : {n : ℕ} {mid after : P} → AreInterrupted fails before n mid → fails mid Interrupted after
       → AreInterrupted fails before (n + 1) after
 
--- A process is cut off: the last call broke (or told the end of its stream), or the last ones were all interrupted, as
--- many as are tried.
-pub data IsCutOff {P : Type 0} (fails : Fails P) (process : P) : Type 0 where
-  broke : {before : P} → fails before Broken process → IsCutOff fails process
-  interrupted : {before : P} → AreInterrupted fails before most_tries process → IsCutOff fails process
+-- Calls in a row led from the one to the other, none of which broke: each went through, or was interrupted.
+pub data IsUnbroken {P : Type 0} (fails : Fails P) (succeeds : Succeeds P) (before : P) : P → Type 0 where
+  untouched : IsUnbroken fails succeeds before before
+  tried : {mid after : P} → IsUnbroken fails succeeds before mid → fails mid Interrupted after
+      → IsUnbroken fails succeeds before after
+  went : {mid after : P} → IsUnbroken fails succeeds before mid → succeeds mid after
+      → IsUnbroken fails succeeds before after
+
+-- A process was cut off by calls that led from the one to the other: the last call, and none before it, broke (or told
+-- the end of its stream); or none broke, and the last ones were all interrupted, as many as are tried.
+pub data IsCutOff {P : Type 0} (fails : Fails P) (succeeds : Succeeds P) (before after : P) : Type 0 where
+  broke : {mid : P} → IsUnbroken fails succeeds before mid → fails mid Broken after
+      → IsCutOff fails succeeds before after
+  interrupted : {mid : P} → IsUnbroken fails succeeds before mid → AreInterrupted fails mid most_tries after
+      → IsCutOff fails succeeds before after

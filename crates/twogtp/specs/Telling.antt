@@ -14,7 +14,8 @@ use Rattle.twogtp.specs.declared.options.Options.{Options}
 use Rattle.twogtp.specs.declared.task.Commands.{Commands}
 use Rattle.twogtp.specs.declared.task.Task.{Task}
 use Rattle.twogtp.specs.Options.{AsksFor, HasFault}
-use Rattle.twogtp.specs.Starts.{Asks, Lines}
+use Rattle.twogtp.specs.Pipes.{TakesPart}
+use Rattle.twogtp.specs.Starts.{Asks, Attempt, Attempts}
 use Rattle.twogtp.specs.Status.{IsRequest, done, status_with}
 use Rattle.twogtp.specs.Tasks.{IsMistake, IsPlanOf}
 use Rattle.twogtp.specs.Turns.{HasStopped, IsPlayed}
@@ -40,53 +41,46 @@ told task number c = result_part number c c.verdict ++ (record_part task.record 
 
 -- The status of so many games, the programs that were asked for in them, and their text: each was played to its end,
 -- and is told in its turn.
-pub data Tells (commands : Commands) (task : Task) : ℕ → ℕ → List (List Text) → List ℕ → Type 0 where
+pub data Tells (commands : Commands) (task : Task) : ℕ → ℕ → List Attempt → List ℕ → Type 0 where
   no_game : Tells commands task 0 done [] []
-  game : {number status : ℕ} {lines more : List (List Text)} {text : List ℕ} {c : Controller} {verdict : Verdict}
-      → Tells commands task number status lines text → IsPlayed commands task.setup more c verdict
-      → Tells commands task (number + 1) (status_with status verdict) (lines ++ more)
+  game : {number status : ℕ} {attempts more : List Attempt} {text : List ℕ} {c : Controller} {verdict : Verdict}
+      → Tells commands task number status attempts text → IsPlayed commands task.setup more c verdict
+      → Tells commands task (number + 1) (status_with status verdict) (attempts ++ more)
       (text ++ told task (number + 1) c)
-
--- a writer took the beginning of a text
-pub record TakesPart (text : List ℕ) (held holds : Option (List ℕ)) : Type 0 where
-  pub part : List ℕ
-  pub left : List ℕ
-  pub cut : text ≡ part ++ left
-  pub taken : Appends held holds part
 
 -- So many games were played, a writer took what is told of them, and what they ask for was asked for.
 pub record HasToldSome (commands : Commands) (task : Task) (number status : ℕ) (held holds : Option (List ℕ))
-    (had has : Lines) : Type 0 where
-  pub lines : List (List Text)
+    (had has : Attempts) : Type 0 where
+  pub attempts : List Attempt
   pub text : List ℕ
-  pub tells : Tells commands task number status lines text
+  pub tells : Tells commands task number status attempts text
   pub taken : Appends held holds text
-  pub asked : Asks had has lines
+  pub asked : Asks had has attempts
 
 -- all games were played, a writer took what is told of them, and nothing else was asked for than they ask for
-abbrev pub HasTold : Commands → Task → ℕ → Option (List ℕ) → Option (List ℕ) → Lines → Lines → Type 0
+abbrev pub HasTold : Commands → Task → ℕ → Option (List ℕ) → Option (List ℕ) → Attempts → Attempts → Type 0
 HasTold commands task status held holds had has = HasToldSome commands task task.games status held holds had has
 
 -- After so many games nothing more was asked for, or the next one was begun, and stopped before its end.
-pub data GoesOn (commands : Commands) (task : Task) (number : ℕ) (had : Lines) : Lines → Type 0 where
+pub data GoesOn (commands : Commands) (task : Task) (number : ℕ) (had : Attempts) : Attempts → Type 0 where
   no_game_more : GoesOn commands task number had had
-  begins : {has : Lines} {last : Controller} {fault : Fault}
+  begins : {has : Attempts} {last : Controller} {fault : Fault}
       → number + 1 ≤ task.games → HasStopped commands (new task.setup) had has last fault
       → GoesOn commands task number had has
 
 -- Some games were played, a writer took the beginning of what is told of them, and nothing else was asked for than
 -- they ask for, and the beginning of the next one.
-pub record HasBegunToTell (commands : Commands) (task : Task) (held holds : Option (List ℕ)) (had has : Lines)
+pub record HasBegunToTell (commands : Commands) (task : Task) (held holds : Option (List ℕ)) (had has : Attempts)
     : Type 0 where
   pub number : ℕ
   pub status : ℕ
-  pub lines : List (List Text)
+  pub attempts : List Attempt
   pub text : List ℕ
   pub within : number ≤ task.games
-  pub tells : Tells commands task number status lines text
+  pub tells : Tells commands task number status attempts text
   pub taken : TakesPart text held holds
-  pub mid : Lines
-  pub asked : Asks had mid lines
+  pub mid : Attempts
+  pub asked : Asks had mid attempts
   pub goes_on : GoesOn commands task number mid has
 
 -- ---- what the words ask for was done
@@ -99,13 +93,13 @@ pub record AsksForTask (words : List Text) (task : Task) : Type 0 where
   pub plan : IsPlanOf options commands task
 
 -- all games of the task that the words ask for were played and told, with this status
-pub record HasDone (words : List Text) (status : ℕ) (held holds : Option (List ℕ)) (had has : Lines) : Type 0 where
+pub record HasDone (words : List Text) (status : ℕ) (held holds : Option (List ℕ)) (had has : Attempts) : Type 0 where
   pub task : Task
   pub asks : AsksForTask words task
   pub told : HasTold asks.commands task status held holds had has
 
 -- some games of the task that the words ask for were played, and what is told of them was begun
-pub record HasBegun (words : List Text) (held holds : Option (List ℕ)) (had has : Lines) : Type 0 where
+pub record HasBegun (words : List Text) (held holds : Option (List ℕ)) (had has : Attempts) : Type 0 where
   pub task : Task
   pub asks : AsksForTask words task
   pub begun : HasBegunToTell asks.commands task held holds had has

@@ -123,6 +123,10 @@ impl Conversation for Talk {
 
     ghost fails = { λ _ _ _. ⊤ };
 
+    ghost succeeds = { λ _ _. ⊤ };
+
+    ghost flushed = { λ _. ⊤ };
+
     fn read(&mut self, buffer: &mut [u8]) -> Result<usize, PipeFault> {
         if let Engine::Mute | Engine::Broken = &self.engine {
             return Err(PipeFault::Broken);

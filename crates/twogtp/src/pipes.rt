@@ -1,7 +1,7 @@
 //! Calls of a process's pipes, which are tried again where they are interrupted.
 ghost use Rattle.std.specs.Prelude.{◌≡◌, ◌≤◌, ◌<◌, length, IfOk, OnOk, OnErr};
 ghost use Rattle.std.specs.Io.KnownBytes.{Appends, WriteAppends, Keeps};
-ghost use Rattle.twogtp.specs.Pipes.{IsCutOff};
+ghost use Rattle.twogtp.specs.Pipes.{IsCutOff, IsUnbroken, TakesPart};
 
 use crate::starter::{Conversation, PipeFault};
 
@@ -26,9 +26,11 @@ pub fn read_once<P: Conversation>(process: &mut P, buffer: &mut [u8]) -> Result<
     ensures len { length buffer.new ≡ length buffer.old }
     ensures gives { WriteAppends (P.given process.old) (P.given process.new) result buffer.new }
     ensures taken { Keeps (P.taken process.old) (P.taken process.new) }
+    ensures unbroken { IfOk result (λ n. 0 < n →
+        IsUnbroken P.fails P.succeeds process.old process.new) }
     ensures ended { IfOk result (λ n. n ≡ 0 → 0 < length buffer.new →
-        IsCutOff P.fails process.new) }
-    ensures failed { OnErr result (IsCutOff P.fails process.new) }
+        IsCutOff P.fails P.succeeds process.old process.new) }
+    ensures failed { OnErr result (IsCutOff P.fails P.succeeds process.old process.new) }
 {
     for _try in 0..MOST_TRIES {
         match process.read(buffer) {
@@ -48,8 +50,12 @@ pub fn read_once<P: Conversation>(process: &mut P, buffer: &mut [u8]) -> Result<
 /// 1,000,000,000 times in a row.
 pub fn write_whole<P: Conversation>(process: &mut P, text: &[u8]) -> Result<(), CutOff>
     ensures takes { OnOk result (Appends (P.taken process.old) (P.taken process.new) text.now) }
+    ensures part { OnErr result
+        (TakesPart text.now (P.taken process.old) (P.taken process.new)) }
+    ensures unbroken { OnOk result (IsUnbroken P.fails P.succeeds process.old process.new) }
+    ensures flushed { OnOk result (P.flushed process.new) }
     ensures given { Keeps (P.given process.old) (P.given process.new) }
-    ensures failed { OnErr result (IsCutOff P.fails process.new) }
+    ensures failed { OnErr result (IsCutOff P.fails P.succeeds process.old process.new) }
 {
     let mut done = 0;
     while done < text.len() {
@@ -67,8 +73,11 @@ fn write_once<P: Conversation>(process: &mut P, text: &[u8]) -> Result<usize, Cu
     ensures bound { IfOk result (λ n. n ≤ length text.now) }
     ensures takes { WriteAppends (P.taken process.old) (P.taken process.new) result text.now }
     ensures given { Keeps (P.given process.old) (P.given process.new) }
-    ensures none { IfOk result (λ n. n ≡ 0 → 0 < length text.now → IsCutOff P.fails process.new) }
-    ensures failed { OnErr result (IsCutOff P.fails process.new) }
+    ensures unbroken { IfOk result (λ n. 0 < n →
+        IsUnbroken P.fails P.succeeds process.old process.new) }
+    ensures none { IfOk result (λ n. n ≡ 0 → 0 < length text.now →
+        IsCutOff P.fails P.succeeds process.old process.new) }
+    ensures failed { OnErr result (IsCutOff P.fails P.succeeds process.old process.new) }
 {
     for _try in 0..MOST_TRIES {
         match process.write(text) {
@@ -82,9 +91,11 @@ fn write_once<P: Conversation>(process: &mut P, text: &[u8]) -> Result<usize, Cu
 
 /// Lets go out what was sent.
 fn flush<P: Conversation>(process: &mut P) -> Result<(), CutOff>
+    ensures unbroken { OnOk result (IsUnbroken P.fails P.succeeds process.old process.new) }
+    ensures flushed { OnOk result (P.flushed process.new) }
     ensures taken { Keeps (P.taken process.old) (P.taken process.new) }
     ensures given { Keeps (P.given process.old) (P.given process.new) }
-    ensures failed { OnErr result (IsCutOff P.fails process.new) }
+    ensures failed { OnErr result (IsCutOff P.fails P.succeeds process.old process.new) }
 {
     for _try in 0..MOST_TRIES {
         match process.flush() {

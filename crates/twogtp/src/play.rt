@@ -7,8 +7,9 @@ ghost use Rattle.gtp_match.specs.declared.verdicts.Action.TheVariants.{Send, Wai
 ghost use Rattle.gtp_match.specs.Controller.{lost, sent};
 ghost use Rattle.gtp_match.specs.Next.{next};
 ghost use Rattle.gtp_match.specs.Sound.{IsSound};
-ghost use Rattle.twogtp.specs.Pipes.{IsCutOff};
+ghost use Rattle.twogtp.specs.Pipes.{IsCutOff, IsUnbroken};
 ghost use Rattle.twogtp.specs.Processes.{WithProcess};
+ghost use Rattle.twogtp.specs.Speaking.{HearsFrom, SendsTo, Speaks};
 ghost use Rattle.twogtp.specs.Status.{own_fault, status_of};
 ghost use Rattle.twogtp.specs.Turns.{HasPlayed, HasStopped, HasTurned, IsHeard, IsRefused, IsSent};
 
@@ -97,6 +98,9 @@ fn take_turn<S: Starter>(
     ensures refused { OnErr result (IsRefused commands.now game.old
         (S.asked starter.old) (S.asked starter.new)) }
     ensures unchanged { OnErr result (game.new ≡ game.old) }
+    // What is said in a turn is said with the process of the side whose turn it is.
+    ensures spoken { OnOk result (Speaks S.Process.taken S.Process.given S.Process.fails
+        S.Process.succeeds S.Process.flushed game.old action game.new sides.old sides.new) }
     // Nothing is said to one side in the other's turn, and nothing heard of it.
     ensures black_rests { (action ≡ Send White) ⊎ (action ≡ Wait White) →
         sides.new.black ≡ sides.old.black }
@@ -160,11 +164,9 @@ fn start<S: Starter>(
 /// Sends a side its command. A side that has no process is lost.
 fn send<P: Conversation>(game: &mut Match, side: Side, process: &mut Option<P>)
     requires { next game.old ≡ action.Send side }
-    ensures turn { IsSent game.old side None None ⊤ game.new }
+    ensures turn { IsSent game.old side None None ⊤ ⊤ game.new }
     ensures spoken { WithProcess process.old process.new
-        (λ before after. IsSent game.old side (P.taken before) (P.taken after)
-        (IsCutOff P.fails after) game.new
-        × Keeps (P.given before) (P.given after))
+        (SendsTo P.taken P.given P.fails P.succeeds P.flushed game.old side game.new)
         (game.new ≡ lost (sent game.old side) side) }
 {
     match process {
@@ -180,7 +182,8 @@ fn send<P: Conversation>(game: &mut Match, side: Side, process: &mut Option<P>)
 fn send_to<P: Conversation>(game: &mut Match, side: Side, process: &mut P)
     requires { next game.old ≡ action.Send side }
     ensures sent { IsSent game.old side (P.taken process.old) (P.taken process.new)
-        (IsCutOff P.fails process.new) game.new }
+        (IsUnbroken P.fails P.succeeds process.old process.new × P.flushed process.new)
+        (IsCutOff P.fails P.succeeds process.old process.new) game.new }
     ensures given { Keeps (P.given process.old) (P.given process.new) }
 {
     let text = game.send(side);
@@ -198,11 +201,9 @@ fn hear<P: Conversation>(
     buffer: &mut [u8; READ_ROOM],
 )
     requires { next game.old ≡ action.Wait side }
-    ensures turn { IsHeard game.old side None None ⊤ game.new }
+    ensures turn { IsHeard game.old side None None ⊤ ⊤ game.new }
     ensures spoken { WithProcess process.old process.new
-        (λ before after. IsHeard game.old side (P.given before) (P.given after)
-        (IsCutOff P.fails after) game.new
-        × Keeps (P.taken before) (P.taken after))
+        (HearsFrom P.taken P.given P.fails P.succeeds P.flushed game.old side game.new)
         (game.new ≡ lost game.old side) }
 {
     match process {
@@ -220,7 +221,8 @@ fn hear_from<P: Conversation>(
     buffer: &mut [u8; READ_ROOM],
 )
     ensures heard { IsHeard game.old side (P.given process.old) (P.given process.new)
-        (IsCutOff P.fails process.new) game.new }
+        (IsUnbroken P.fails P.succeeds process.old process.new)
+        (IsCutOff P.fails P.succeeds process.old process.new) game.new }
     ensures taken { Keeps (P.taken process.old) (P.taken process.new) }
 {
     match read_once(process, buffer) {

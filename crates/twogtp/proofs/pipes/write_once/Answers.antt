@@ -1,7 +1,8 @@
 use Rattle.std.proofs.Common.{ℕ, arith, subst}
 use Rattle.std.proofs.KnownBytes.{Keeps-refl, Keeps-trans}
 use Rattle.twogtp.specs.declared.starter.PipeFault.{PipeFault}
-use Rattle.twogtp.specs.Pipes.{AreInterrupted, broke, interrupted, no_call, one_more}
+use Rattle.twogtp.specs.Pipes.{AreInterrupted, broke, interrupted, no_call, one_more, untouched, went}
+use Rattle.twogtp.proofs.PipeLemmas.{unbroken-tries}
 use Rattle.twogtp.proofs.pipes.write_once.Goals as goal
 
 pub loop-try-init : goal.loop-try-init
@@ -17,12 +18,15 @@ loop-try-preserved g c =
     }
 
 pub returns-in-Ok-clause-none : goal.returns-in-Ok-clause-none
-returns-in-Ok-clause-none g c = λ zero room. broke (c.in-Ok.ensures.none zero room)
+returns-in-Ok-clause-none g c = λ zero room. broke (unbroken-tries c.loop-try.invariant.interrupted) (c.in-Ok.ensures.none zero room)
 
 pub returns-in-Err-Broken-clause-failed : goal.returns-in-Err-Broken-clause-failed
-returns-in-Err-Broken-clause-failed g c = broke (subst (λ (fault : PipeFault). g.P.Conversation.fails c.loop-try.process fault c.write.new.self) c.in-Err-Broken.field-0-is c.in-Err-Broken.ensures.failed)
+returns-in-Err-Broken-clause-failed g c = broke (unbroken-tries c.loop-try.invariant.interrupted) (subst (λ (fault : PipeFault). g.P.Conversation.fails c.loop-try.process fault c.write.new.self) c.in-Err-Broken.field-0-is c.in-Err-Broken.ensures.failed)
 
 pub returns-clause-failed : goal.returns-clause-failed
 returns-clause-failed g c =
-    interrupted (subst (λ (n : ℕ). AreInterrupted g.P.Conversation.fails c.args.process.now n c.loop-try.process)
+    interrupted untouched (subst (λ (n : ℕ). AreInterrupted g.P.Conversation.fails c.args.process.now n c.loop-try.process)
     (omega (arith, c.loop-try.auto._try-end, c.loop-try-test.false)) c.loop-try.invariant.interrupted)
+
+pub returns-in-Ok-clause-unbroken : goal.returns-in-Ok-clause-unbroken
+returns-in-Ok-clause-unbroken g c = λ some. went (unbroken-tries c.loop-try.invariant.interrupted) (c.in-Ok.ensures.succeeded some)

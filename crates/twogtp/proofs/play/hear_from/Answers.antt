@@ -5,7 +5,7 @@ use Rattle.twogtp.proofs.play.hear_from.Goals as goal
 
 pub returns-in-Ok-clause-heard : goal.returns-in-Ok-clause-heard
 returns-in-Ok-clause-heard g c =
-    heard _ c.hear_all.result (grind (arith, common_steps, c.in-Ok.count-is, c.in-Ok.ensures.bound)) (search rules) c.hear_all.ensures.exact
+    heard _ c.hear_all.result (grind (arith, common_steps, c.in-Ok.count-is, c.in-Ok.ensures.bound)) (search rules) c.hear_all.ensures.exact (c.in-Ok.ensures.unbroken (grind (arith, c.in-Ok.count-is)))
 
 pub returns-in-Ok-eq0-clause-heard : goal.returns-in-Ok-eq0-clause-heard
 returns-in-Ok-eq0-clause-heard g c = rw c.lost.ensures (ended (c.in-Ok-eq0.ensures.ended (search rules) (search rules)) (search rules))

@@ -1,5 +1,6 @@
 use Rattle.std.proofs.Common.{ℕ, List, ◌∙◌, subst}
 use Rattle.std.specs.Io.KnownBytes.{Appends}
+use Rattle.twogtp.specs.Pipes.{TakesPart}
 use Rattle.twogtp.specs.Turns.{failed, taken}
 use Rattle.twogtp.proofs.TurnLemmas.{command_is}
 use Rattle.twogtp.proofs.play.send_to.Goals as goal
@@ -8,7 +9,11 @@ pub returns-in-Ok-clause-sent : goal.returns-in-Ok-clause-sent
 returns-in-Ok-clause-sent g c =
     rw c.send-text.ensures.sent (taken
     (subst (λ (t : List ℕ). Appends (g.P.Conversation.taken c.args.process.now) (g.P.Conversation.taken c.write_whole.new.process) t)
-    (c.as_slice.ensures.value ∙ command_is c.args.game.now c.args.side _ _ c.send-text.ensures.text) c.in-Ok.ensures.takes))
+    (c.as_slice.ensures.value ∙ command_is c.args.game.now c.args.side _ _ c.send-text.ensures.text) c.in-Ok.ensures.takes)
+    (c.in-Ok.ensures.unbroken, c.in-Ok.ensures.flushed))
 
 pub returns-in-Err-clause-sent : goal.returns-in-Err-clause-sent
-returns-in-Err-clause-sent g c = rw c.lost.ensures (rw c.send-text.ensures.sent (failed c.in-Err.ensures.failed))
+returns-in-Err-clause-sent g c = rw c.lost.ensures (rw c.send-text.ensures.sent (failed
+    (subst (λ (t : List ℕ). TakesPart t (g.P.Conversation.taken c.args.process.now) (g.P.Conversation.taken c.write_whole.new.process))
+    (c.as_slice.ensures.value ∙ command_is c.args.game.now c.args.side _ _ c.send-text.ensures.text) c.in-Err.ensures.part)
+    c.in-Err.ensures.failed))

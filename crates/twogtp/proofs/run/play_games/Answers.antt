@@ -2,14 +2,15 @@ use Rattle.std.proofs.Common.{ℕ, List, [], ◌∙◌, subst, rules}
 use Rattle.std.proofs.KnownBytes.{Appends-nil}
 use Rattle.std.specs.Io.KnownBytes.{Appends}
 use Rattle.gtp_match.specs.declared.controller.Controller.{Controller}
-use Rattle.twogtp.specs.Telling.{TakesPart, no_game}
+use Rattle.twogtp.specs.Pipes.{TakesPart}
+use Rattle.twogtp.specs.Telling.{no_game}
 use Rattle.twogtp.specs.Turns.{HasPlayed, HasStopped}
 use Rattle.twogtp.proofs.TellingLemmas.{told_then, begun_then, begun_with, status_range}
 use Rattle.twogtp.proofs.TurnLemmas.{Asks-nil}
 use Rattle.twogtp.proofs.run.play_games.Goals as goal
 
 pub loop-index-init : goal.loop-index-init
-loop-index-init g c = record { lines = []; text = []; tells = no_game; taken = Appends-nil _; asked = Asks-nil _ }
+loop-index-init g c = record { attempts = []; text = []; tells = no_game; taken = Appends-nil _; asked = Asks-nil _ }
 
 pub returns-in-Err-clause-begun : goal.returns-in-Err-clause-begun
 returns-in-Err-clause-begun g c =

@@ -1,0 +1,47 @@
+-- What is said with the processes of the sides in a turn.
+use Rattle.std.specs.Prelude.{◌≡◌, ⊤, ℕ, List, Option}
+use Rattle.std.specs.Io.KnownBytes.{Keeps}
+use Rattle.go_base.specs.declared.colours.Colour.{Colour}
+use Rattle.go_base.specs.declared.colours.Colour.TheVariants.{Black, White}
+use Rattle.gtp_match.specs.declared.controller.Controller.{Controller}
+use Rattle.gtp_match.specs.declared.verdicts.Action.{Action}
+use Rattle.gtp_match.specs.declared.verdicts.Action.TheVariants.{Start, Send, Wait, Done}
+use Rattle.gtp_match.specs.Controller.{sent, lost}
+use Rattle.twogtp.specs.declared.sides.Sides.{Sides}
+use Rattle.twogtp.specs.Pipes.{Fails, IsCutOff, IsUnbroken, Succeeds}
+use Rattle.twogtp.specs.Processes.{WithProcess}
+use Rattle.twogtp.specs.Turns.{IsHeard, IsSent}
+
+-- the process of a side
+abbrev pub process_of : {P : Type 0} → Sides P → Colour → Option P
+process_of sides Black = sides.black
+process_of sides White = sides.white
+
+-- bytes that a process shows to the proofs, where they are known
+abbrev pub Shows : Type 0 → Type 0
+Shows P = P → Option (List ℕ)
+
+-- processes that show which bytes they have taken and given, which calls failed, which went through, and where nothing
+-- waits to go out
+module _ {P : Type 0} (taken given : Shows P) (fails : Fails P) (succeeds : Succeeds P) (flushed : P → Type 0) where
+  -- A side was to be sent its command: its process took all of it, no call broke, and nothing waits to go out; or it took
+  -- a part, and was cut off. Nothing is taken from it.
+  abbrev pub SendsTo : Controller → Colour → Controller → P → P → Type 0
+  SendsTo c side new before after =
+      IsSent c side (taken before) (taken after) (IsUnbroken fails succeeds before after × flushed after)
+      (IsCutOff fails succeeds before after) new × Keeps (given before) (given after)
+
+  -- A side was waited for: what its process gave is heard, and no call broke; or it was cut off. Nothing is sent to it.
+  abbrev pub HearsFrom : Controller → Colour → Controller → P → P → Type 0
+  HearsFrom c side new before after =
+      IsHeard c side (given before) (given after) (IsUnbroken fails succeeds before after)
+      (IsCutOff fails succeeds before after) new × Keeps (taken before) (taken after)
+
+  -- What comes next was said with the process of the side whose turn it is. A side without a process is lost.
+  abbrev pub Speaks : Controller → Action → Controller → Sides P → Sides P → Type 0
+  Speaks c (Start side) new before after = ⊤
+  Speaks c (Send side) new before after = WithProcess (process_of before side) (process_of after side)
+      (SendsTo c side new) (new ≡ lost (sent c side) side)
+  Speaks c (Wait side) new before after = WithProcess (process_of before side) (process_of after side)
+      (HearsFrom c side new) (new ≡ lost c side)
+  Speaks c (Done verdict) new before after = ⊤
