@@ -1,7 +1,7 @@
 -- The laws of the game: which board a move leaves, what it takes, and what counts for whom.
 use Rattle.std.proofs.Common.{◌≡◌, ℕ, zero, suc, ◌<◌, List, [], ◌∷◌, length, refl, sym, ◌∙◌, ap, subst, arith, inl, inr}
 use Rattle.std.proofs.Common.{Bool, cond, get_or-set_other, get_or-set_same, Contains}
-use Rattle.std.specs.Prelude.{◌⊎◌, ◌≢◌}
+use Rattle.std.specs.Prelude.{◌⊎◌, ◌≢◌, Some}
 use Rattle.std.specs.List.{AllByRecursion}
 use Rattle.std.proofs.Math.ListN.{set, length-set}
 use Rattle.std.proofs.lemmas.List.{ext_get_or}
@@ -17,7 +17,7 @@ use Rattle.go_base.specs.declared.vertices.Vertex.{Vertex}
 use Rattle.go_base.specs.declared.vertices.Vertex.TheVariants.{Pass, At}
 use Rattle.go_board.specs.declared.board.Cell.{Cell}
 use Rattle.go_board.specs.declared.board.Cell.TheVariants.{Edge, Empty, Black, White}
-use Rattle.go_board.specs.Board.{at, stone, empty_board, with_black, place_count}
+use Rattle.go_board.specs.Board.{at, stone, stone_of, stone_at, empty_board, with_black, place_count}
 use Rattle.go_board.specs.Chain.{Touches, IsCaptured}
 use Rattle.go_board.specs.Counting.{CountsFor}
 use Rattle.go_board.specs.Game.{GameRecord, IsGame, IsLegal, start, board_of, with_move}
@@ -176,6 +176,17 @@ start-first game g =
       others = λ q o out. others-stay bare points q out ∙ empty-on game.size q most o;
       round = λ q off. others-stay bare points q (λ h. off (points-inside game g q h)) ∙ edge-there q off;
     }
+
+held-inside : (this : Cell) (c : Colour) → stone_of this ≡ Some c → this ≢ Edge
+held-inside Edge c e = λ k. cc
+held-inside Empty c e = λ k. cc
+held-inside Black c e = λ k. cc
+held-inside White c e = λ k. cc
+
+pub stones-on : (game : GameRecord) (p : ℕ) (c : Colour) → IsGame game → stone_at (board_of game) p ≡ Some c
+    → IsOn game.size p
+stones-on game p c g holds =
+    ((IsOrderly-game game g).has_size p).0 (held-inside (at (board_of game) p) c holds)
 
 same-first : (game : GameRecord) (new more : List Cell) → IsFirstBoard game new → IsFirstBoard game more → new ≡ more
 same-first game new more a b = ext_get_or Edge new more (a.long ∙ sym b.long)

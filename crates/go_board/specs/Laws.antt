@@ -1,6 +1,6 @@
 -- Laws of the game, as relations: which board a move leaves, what it takes, and what counts for whom. (Own rules of
 -- play.)
-use Rattle.std.specs.Prelude.{◌≡◌, ◌≢◌, ℕ, ℤ, pos, ◌+◌, ◌*ℤ◌, ◌-ℤ◌, ◌⊎◌, ◌↔◌, List, [], Contains, length, slice_set}
+use Rattle.std.specs.Prelude.{◌≡◌, ◌≢◌, ℕ, ℤ, pos, ◌+◌, ◌*ℤ◌, ◌-ℤ◌, ◌⊎◌, ◌↔◌, List, [], Contains, length, slice_set, Some}
 use Rattle.std.specs.List.{AllPairs}
 use Rattle.go_base.specs.Colour.{other}
 use Rattle.go_base.specs.Handicap.{handicap_points}
@@ -11,7 +11,7 @@ use Rattle.go_base.specs.declared.vertices.Vertex.{Vertex}
 use Rattle.go_base.specs.declared.vertices.Vertex.TheVariants.{Pass, At}
 use Rattle.go_board.specs.declared.board.Cell.{Cell}
 use Rattle.go_board.specs.declared.board.Cell.TheVariants.{Edge, Empty, Black}
-use Rattle.go_board.specs.Board.{place_count, at, stone}
+use Rattle.go_board.specs.Board.{place_count, at, stone, stone_at}
 use Rattle.go_board.specs.Chain.{Touches, IsCaptured}
 use Rattle.go_board.specs.Counting.{CountsFor}
 use Rattle.go_board.specs.Game.{GameRecord, IsGame, IsLegal, board_of, with_move}
@@ -61,6 +61,11 @@ FirstBoardsAreJustThese = (game : GameRecord) (board : List Cell) → IsGame gam
 abbrev pub BoardsLeftAreJustThese : Type 0
 BoardsLeftAreJustThese = (game : GameRecord) (c : Colour) (v : Vertex) (board : List Cell) → IsLegal game c v
     → (board ≡ board_of (with_move game c v)) ↔ IsLeftBy (board_of game) c v board
+
+-- a stone stands on a point of the board's size, and nowhere else
+abbrev pub StonesAreOnTheBoard : Type 0
+StonesAreOnTheBoard = (game : GameRecord) (p : ℕ) (c : Colour) → IsGame game → stone_at (board_of game) p ≡ Some c
+    → IsOn game.size p
 
 -- ---- taken stones
 

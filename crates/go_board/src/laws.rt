@@ -1,7 +1,7 @@
 //! Laws of the game: which board a move leaves, what it takes, and what counts for whom.
 //!
 //! Each function does nothing: that it is proved is the law in its contract.
-ghost use Rattle.go_board.specs.Laws.{FirstBoardsAreJustThese, BoardsLeftAreJustThese};
+ghost use Rattle.go_board.specs.Laws.{FirstBoardsAreJustThese, BoardsLeftAreJustThese, StonesAreOnTheBoard};
 ghost use Rattle.go_board.specs.Laws.{NoneIsTakenFirst, MovesAddWhatTheyTake};
 ghost use Rattle.go_board.specs.Laws.{WhatBelongsCounts, PointsBelongToOne, ScoresAreThese};
 
@@ -16,6 +16,12 @@ pub fn first_boards()
 /// else is as it was; a pass changes nothing.
 pub fn boards_left()
     ensures { BoardsLeftAreJustThese }
+{}
+
+/// Stones stand on the points of the game's size and nowhere else: for any other point `Game::at` answers that there is
+/// none.
+pub fn stones_on_the_board()
+    ensures { StonesAreOnTheBoard }
 {}
 
 /// A move adds to what its colour has taken as many stones as it takes: those of the other colour whose chains have no
