@@ -90,7 +90,7 @@ impl Game {
         }
     }
 
-    /// Sets the size, and takes off all stones, the handicap and the record. Komi stays.
+    /// Sets the size, and removes all stones, the handicap and the record. Komi stays.
     pub fn set_size(&mut self, size: Size)
         ensures { self.new ≡ record self.old { size = size; handicap = 0; moves = [] } }
     {
@@ -106,7 +106,7 @@ impl Game {
         self.komi = komi;
     }
 
-    /// Takes off all stones, the handicap and the record. Size and komi stay.
+    /// Removes all stones, the handicap and the record. Size and komi stay.
     pub fn clear(&mut self)
         ensures { self.new ≡ record self.old { handicap = 0; moves = [] } }
     {
@@ -232,7 +232,7 @@ impl Game {
         place == ko.point && self.chains.takes_only(colour, place, place_of(ko.stone))
     }
 
-    /// Takes back the last move of the record with its captures. Handicap stones are never taken back.
+    /// Undoes the last move of the record with its captures. Handicap stones always stay.
     ///
     /// # Errors
     ///
@@ -249,7 +249,7 @@ impl Game {
         let number = self.moves.len();
         let taken = self
             .chains
-            .take_back(last.colour, last.vertex, number, &mut self.removed);
+            .unmake(last.colour, last.vertex, number, &mut self.removed);
         let colour = last.colour;
         self.taken_by_black = without_taken(self.taken_by_black, taken, colour, Colour::Black);
         self.taken_by_white = without_taken(self.taken_by_white, taken, colour, Colour::White);

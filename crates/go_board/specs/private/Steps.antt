@@ -71,7 +71,7 @@ IsNamed board old new place =
 abbrev pub StaysWhole : ℕ → ℕ → ℕ → Type 0
 StaysWhole beside label place = (beside ≡ 0) ⊎ ((beside ≡ 1) × (label ≢ place))
 
--- A stone was taken off a place. The stones that have its label are those that a path joins to one of its neighbours;
+-- A stone was lifted from a place. The stones that have its label are those that a path joins to one of its neighbours;
 -- the
 -- other labels are those of their chains.
 pub record IsCut (board : List Cell) (labels : List ℕ) (place label : ℕ) : Type 0 where
