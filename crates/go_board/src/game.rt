@@ -141,10 +141,8 @@ impl Game {
     }
 
     /// Whether a colour may make a move next: a pass always; a point of the board that is empty, where the new stone's
-    /// chain
-    /// then has a liberty and the board isn't the one before the previous move. The number of moves in the record
-    /// doesn't
-    /// count.
+    /// chain then has a liberty and the board isn't the one before the previous move. The number of moves in the record
+    /// doesn't count.
     pub fn legal(&self, colour: Colour, vertex: Vertex) -> bool
         ensures legal { IsTrue result ↔ IsLegal self.now colour vertex }
         ensures game { IsGame self.now }
@@ -312,8 +310,7 @@ impl Game {
     /// komi.
     ///
     /// A point counts for the colour of its stone, and an empty one where the stones beside its region are of one
-    /// colour
-    /// alone, for that colour.
+    /// colour alone, for that colour.
     #[tactic(auto, unfolding(crate::specs::Area::score))]
     pub fn score(&self) -> i32
         ensures { result ≡ score self.now }
