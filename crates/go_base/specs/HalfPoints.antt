@@ -1,6 +1,5 @@
 -- The written form of half points, for a komi and for a score, which goes past the limits of a komi. (Own; the
--- standard's
--- topics komi and final_score have such numbers as floats.)
+-- standard's topics komi and final_score have such numbers as floats.)
 use Rattle.std.specs.Prelude.{ℕ, zero, suc, ◌+◌, ◌/◌, ◌%◌, ◌==◌, ℤ, pos, negsuc, List, [], ◌++◌, codes, if◌then◌else◌}
 use Rattle.go_base.specs.Int.{written_int}
 

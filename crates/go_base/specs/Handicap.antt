@@ -1,6 +1,5 @@
 -- The points of fixed handicap stones. The standard describes such points and leaves their order open; the table, its
--- order
--- and the sizes that it serves are own. (The standard's topic: fixed handicap placement.)
+-- order and the sizes that it serves are own. (The standard's topic: fixed handicap placement.)
 use Rattle.std.specs.Prelude.{◌≡◌, ◌==◌, ℕ, ◌+◌, ◌-◌, ◌/◌, ◌%◌, ◌≤◌, ◌⊎◌, nat_lt, if◌then◌else◌, List, [], ◌∷◌, ◌++◌}
 use Rattle.go_base.specs.Point.{point}
 
@@ -28,11 +27,15 @@ handicap_points size stones =
     let six = four ++ point l m ∷ point h m ∷ [] in
     let eight = six ++ point m l ∷ point m h ∷ [] in
     let middle = point m m ∷ [] in
-    if stones == 2 then two else (if stones == 3 then three
-    else (if stones == 4 then four else (if stones == 5 then four ++ middle
+    if stones == 2 then two
+    else (if stones == 3 then three
+    else (if stones == 4 then four
+    else (if stones == 5 then four ++ middle
     else (if stones == 6 then six
-    else (if stones == 7 then six
-    ++ middle else (if stones == 8 then eight else (if stones == 9 then eight ++ middle else [])))))))
+    else (if stones == 7 then six ++ middle
+    else (if stones == 8 then eight
+    else (if stones == 9 then eight ++ middle
+    else [])))))))
 
 -- The numbers of stones that a size allows: 2 to 9 on odd sizes from 9 up; 2 to 4 on size 7 and on even sizes from 8
 -- up.

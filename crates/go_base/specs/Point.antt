@@ -1,10 +1,8 @@
 -- Points of a board. (The standard's entity: vertex.)
 --
 -- A point is seen as its place on a mailbox board, as Go programs keep one: the rows stand one behind the other from
--- the
--- bottom up, 26 places to a row. Place 0 of a row is no point, and 25 columns fill the others, so a step of one from
--- the
--- end of a row falls on no point of the next row.
+-- the bottom up, 26 places to a row. Place 0 of a row is no point, and 25 columns fill the others, so a step of one
+-- from the end of a row falls on no point of the next row.
 use Rattle.std.specs.Prelude.{◌≡◌, ℕ, ◌+◌, ◌*◌, ◌/◌, ◌%◌, ◌≤◌, ◌⊎◌, ◌↔◌}
 use Rattle.go_base.specs.Size.{most_size}
 

@@ -1,6 +1,5 @@
 -- Sizes of a board. The standard leaves it to the engine which sizes it accepts; that they are 1 to 25 is own: a vertex
--- has
--- 25 letters for its column. (The standard's topics: boardsize; the entity vertex.)
+-- has 25 letters for its column. (The standard's topics: boardsize; the entity vertex.)
 use Rattle.std.specs.Prelude.{ℕ, ◌≤◌}
 
 -- the greatest size of a board

@@ -19,8 +19,7 @@ impl Colour {
     ghost use Rattle.go_base.specs.Colour.{other, SpellsColour, colour_of, written_colour};
 
     /// Reads a colour: the word `b` or `black`, `w` or `white`, where each letter may be small or capital. `None` for
-    /// every
-    /// other text.
+    /// every other text.
     pub fn read(text: &[u8]) -> Option<Colour>
         ensures read { IfSome result (λ colour. SpellsColour colour text.now) }
         ensures unread { IfNone result ((colour : Colour) → SpellsColour colour text.now → ⊥) }

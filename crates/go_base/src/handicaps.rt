@@ -10,12 +10,11 @@ use arrayvec::ArrayVec;
 
 /// The points of that many handicap stones, in the order in which they are put, or `None` where the size doesn't allow
 /// that number: 2 to 9 stones are allowed on odd sizes from 9 up, 2 to 4 on size 7 and on even sizes from 8 up, and
-/// none
-/// on sizes below 7.
+/// none on sizes below 7.
 ///
 /// The stones stand on the third line from the edges on sizes below 13, on the fourth from 13 up, and on the lines in
-/// the
-/// middle: first in the corners, then on the sides by pairs. From 5 on, an odd number has its last stone in the centre.
+/// the middle: first in the corners, then on the sides by pairs. From 5 on, an odd number has its last stone in the
+/// centre.
 pub fn handicap(size: Size, stones: u32) -> Option<ArrayVec<Point, 9>>
     ensures allowed { IsSome result ↔ AllowsHandicap size stones }
     ensures points { IfSome result (λ points. points.items ≡ handicap_points size stones) }

@@ -19,8 +19,7 @@ const MOST_HALF_POINTS: i32 = 1_999_999_999;
 const MOST_DIGITS: usize = 9;
 
 /// What White gets for playing second: a number of half points, from -1,999,999,999 to 1,999,999,999. The score is less
-/// by
-/// komi, so a komi below zero is in Black's favour.
+/// by komi, so a komi below zero is in Black's favour.
 #[derive(Clone, Copy, Debug, PartialEq, Eq)]
 pub struct Komi {
     half_points: i32,
@@ -41,9 +40,8 @@ impl Model for Komi {
 
 impl Komi {
     /// Reads a komi in points: a `+` or `-` or neither, at most nine digits, and then nothing, or a point and at most
-    /// nine
-    /// digits, which are zeros, or a 5 followed by zeros. There is at least one digit in all. `None` for every other
-    /// text.
+    /// nine digits, which are zeros, or a 5 followed by zeros. There is at least one digit in all. `None` for every
+    /// other text.
     pub fn read(text: &[u8]) -> Option<Komi>
         ensures read { IfSome result (λ komi. SpellsKomi komi text.now) }
         ensures unread { IfNone result ((half_points : ℤ) → SpellsKomi half_points text.now → ⊥) }
@@ -76,8 +74,7 @@ impl Komi {
     }
 
     /// The written spelling in points: `-` where it is negative, the whole part without leading zeros, and `.5` where
-    /// there
-    /// is a half.
+    /// there is a half.
     pub fn write(self) -> ArrayVec<u8, 12>
         ensures { result.items ≡ written_half_points self }
     {

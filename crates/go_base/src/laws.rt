@@ -43,8 +43,7 @@ pub fn komi_laws()
 {}
 
 /// Two points of the largest board are neighbours on the mailbox board exactly where they share a column or a row and
-/// stand
-/// next to each other.
+/// stand next to each other.
 pub fn neighbours_law()
     ensures { NeighboursAreBeside }
 {}

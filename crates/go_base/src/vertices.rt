@@ -22,8 +22,7 @@ impl Vertex {
 
     /// Reads a vertex: the letter of a column, `A` to `H` or `J` to `Z`, and a row, 1 to 25 without leading zeros; or
     /// `pass`. The letters may be small or capital. `None` for every other text. A point that is read may be off a
-    /// board that
-    /// is smaller than the largest.
+    /// board that is smaller than the largest.
     pub fn read(text: &[u8]) -> Option<Vertex>
         ensures read { IfSome result (λ vertex. SpellsVertex vertex text.now) }
         ensures unread { IfNone result ((vertex : Vertex) → SpellsVertex vertex text.now → ⊥) }

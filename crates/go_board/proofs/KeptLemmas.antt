@@ -1,4 +1,4 @@
--- What the fields of a game keep when it begins, by a move, and by a move taken back.
+-- What the fields of a game keep when it begins, by a move, and by an undo.
 use Rattle.std.proofs.Common.{◌≡◌, ℕ, ◌+◌, ◌-◌, ◌<◌, ◌≤◌, List, [], ◌∷◌, ◌++◌, length, refl, sym, ◌∙◌, ap, subst, arith}
 use Rattle.std.proofs.Common.{length-append}
 use Rattle.std.specs.Prelude.{ℤ, ◌⊎◌, ◌↔◌, Bool, IsTrue, Option, Some, None, if◌then◌else◌, slice_get}
@@ -21,7 +21,7 @@ use Rattle.go_board.specs.private.Kept.{record_of, IsKept}
 use Rattle.go_board.specs.private.Ko.{IsKo, IsKoAfter, TakesOnly}
 use Rattle.go_board.specs.private.Label.{AreChains, AreFree}
 use Rattle.go_board.specs.Put.{put}
-use Rattle.go_board.specs.private.Removed.{removed_of, removed_by, taken_at, IsAfterMove, IsTakenBack}
+use Rattle.go_board.specs.private.Removed.{removed_of, removed_by, taken_at, IsAfterMove, IsUnmade}
 use Rattle.go_board.specs.Taken.{same_colour, taken, captures_of_vertex, taken_from}
 use Rattle.go_board.specs.declared.board.Cell.{Cell}
 use Rattle.go_board.specs.declared.chains.Chains.{Chains}
@@ -199,7 +199,7 @@ IsKept-play f c v chains ko removed now black white moves kept room legal items 
     (taken-with_move game c v colour.White f.taken_by_white now white kept.white_is took white_is
     ∙ ap (λ (h : GameRecord). taken h colour.White) same)
 
--- ---- a move taken back
+-- ---- an undo
 
 pub after-last : (f : Inside) (ms : List Move) (c : Colour) (v : Vertex) → IsKept f
     → f.moves.items ≡ ms ++ record { colour = c; vertex = v } ∷ []
@@ -221,34 +221,34 @@ after-last f ms c v kept ends =
     }
 
 -- what the move took is known
-took-back : (f : Inside) (ms : List Move) (c : Colour) (v : Vertex) (chains : Chains) (removed : List Taken) (now : ℕ)
+were-before : (f : Inside) (ms : List Move) (c : Colour) (v : Vertex) (chains : Chains) (removed : List Taken) (now : ℕ)
     (kept : IsKept f)
     → f.moves.items ≡ ms ++ record { colour = c; vertex = v } ∷ []
-    → IsTakenBack f.chains.board f.removed (record { colour = c; vertex = v }) (length ms) chains.board removed now
+    → IsUnmade f.chains.board f.removed (record { colour = c; vertex = v }) (length ms) chains.board removed now
     → (chains.board ≡ board_of (record { size = f.size; komi = f.komi; handicap = f.handicap; moves = ms }))
     × (removed ≡ removed_of (record { size = f.size; komi = f.komi; handicap = f.handicap; moves = ms }))
     × (now ≡ captures_of_vertex
     (board_of (record { size = f.size; komi = f.komi; handicap = f.handicap; moves = ms })) c v)
 unfolding after-last
-took-back f ms c v chains removed now kept ends back = back (after-last f ms c v kept ends)
+were-before f ms c v chains removed now kept ends back = back (after-last f ms c v kept ends)
 
 pub enough-taken : (f : Inside) (ms : List Move) (c : Colour) (v : Vertex) (chains : Chains) (removed : List Taken)
     (now t : ℕ) (d : Colour) → IsKept f
     → f.moves.items ≡ ms ++ record { colour = c; vertex = v } ∷ []
-    → IsTakenBack f.chains.board f.removed (record { colour = c; vertex = v }) (length ms) chains.board removed now
+    → IsUnmade f.chains.board f.removed (record { colour = c; vertex = v }) (length ms) chains.board removed now
     → t ≡ taken (record_of f) d
     → (if same_colour c d then now else 0) ≤ t
 enough-taken f ms c v chains removed now t d kept ends back is =
     let shorter : GameRecord = record { size = f.size; komi = f.komi; handicap = f.handicap; moves = ms } in
     let same : with_move shorter c v ≡ record_of f =
     with-last (record_of f) ms (record { colour = c; vertex = v }) ends in
-    let were = took-back f ms c v chains removed now kept ends back in
+    let were = were-before f ms c v chains removed now kept ends back in
     taken-enough shorter c v d t now (is ∙ ap (λ (h : GameRecord). taken h d) (sym same)) were.2
 
 pub IsKept-undo : (f : Inside) (c : Colour) (v : Vertex) (chains : Chains) (ko : Option Ko) (removed : List Taken)
     (now black white : ℕ) (moves : ArrayVec Move) → IsKept f
     → f.moves.items ≡ moves.items ++ record { colour = c; vertex = v } ∷ []
-    → IsTakenBack f.chains.board f.removed (record { colour = c; vertex = v })
+    → IsUnmade f.chains.board f.removed (record { colour = c; vertex = v })
     (length moves.items) chains.board removed now
     → AreChains chains.board chains.labels chains.counts
     → black ≡ f.taken_by_black - (if same_colour c colour.Black then now else 0)
@@ -266,7 +266,7 @@ IsKept-undo f c v chains ko removed now black white moves kept ends back are bla
     let same : with_move shorter c v ≡ record_of f =
     with-last (record_of f) moves.items (record { colour = c; vertex = v }) ends in
     let b = IsBeforeMove-from shorter c v (subst IsGame (sym same) kept.game) in
-    let were = took-back f moves.items c v chains removed now kept ends back in
+    let were = were-before f moves.items c v chains removed now kept ends back in
     kept-from (record f {
       moves = moves;
       chains = chains;

@@ -19,7 +19,7 @@ use Rattle.go_board.proofs.OnlyLemmas.{TakesOnly-places, captures-one}
 use Rattle.go_board.proofs.OrderLemmas.{IsOrderly-game}
 use Rattle.go_board.proofs.PopLemmas.{popped-all, not_last-numbers}
 use Rattle.go_board.proofs.StackLemmas.{removed_of-with_move}
-use Rattle.go_board.proofs.TakenBackLemmas.{counted-all}
+use Rattle.go_board.proofs.UnmadeLemmas.{counted-all}
 
 pub ko_after-start : (moves : List Move) (stones : List Taken) → length moves ≡ 0 → IsKoAfter moves stones None
 ko_after-start moves stones none game g is gone = IsKo-start game (sym is ∙ empty moves none)

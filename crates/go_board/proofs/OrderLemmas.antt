@@ -32,7 +32,7 @@ use Rattle.go_board.proofs.StackLemmas.{removed_of-with_move, few-after_play}
 use Rattle.go_board.proofs.StartCountLemmas.{stones-start}
 use Rattle.go_board.proofs.StartLemmas.{start-none}
 
--- The board has the game's size, each stone is free, there are at most as many stones as were placed, and each was
+-- The board has the game's size, each stone is free, there are at most as many stones as were put down, and each was
 -- taken by a move of the record.
 pub record IsOrderly (game : GameRecord) : Type 0 where
   pub long : length (board_of game) ≡ 702

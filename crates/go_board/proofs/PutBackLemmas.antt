@@ -55,7 +55,7 @@ stack-popped number p old now new places stack popped =
     stack ∙ ap (λ (ts : List Taken). ts ++ taken_at number places) popped
     ∙ append_assoc new (record { place = p; number = number } ∷ []) (taken_at number places)
 
--- the stone that is taken off the stack stood on a point that is empty
+-- the stone that is popped off the stack stood on a point that is empty
 pub popped-empty : (board : List Cell) (this : Cell) (number p count : ℕ) (old now new : List Taken) (cells : List Cell)
     → AreLastPoints board old number
     → IsPuttingBack board this number old now cells count → now ≡ new ++ record { place = p; number = number } ∷ []

@@ -1,4 +1,4 @@
--- Labels when a stone is taken off its place: its chain may fall apart.
+-- Labels when a stone is lifted from its place: its chain may fall apart.
 use Rattle.std.proofs.Common.{◌≡◌, ℕ, ◌+◌, ◌-◌, ◌<◌, ◌≤◌, List, length, refl, sym, ◌∙◌, ap, subst, arith, inl, inr}
 use Rattle.std.proofs.Common.{Bool, true, cond, get_or-set_other, get_or-set_same}
 use Rattle.std.specs.Prelude.{◌⊎◌, ◌≢◌, ◌==◌, ◌&&◌, map}
@@ -245,7 +245,7 @@ pub record IsSplitting (board : List Cell) (labels : List ℕ) (place : ℕ) : T
   pub part : IsPart board labels
   pub cut : (p : ℕ) → IsStone (at board p) → label_of labels p ≡ 0 → (q : ℕ) × Neighbours place q × Joined board p q
 
--- the chain's label was taken off
+-- the chain's label was cleared
 pub IsSplitting-start : (board : List Cell) (labels new : List ℕ) (place label : ℕ) → IsFramed board
     → IsCut board labels place label → new ≡ map (relabelled 0 label label label) labels
     → IsSplitting board new place

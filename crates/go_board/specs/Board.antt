@@ -1,10 +1,8 @@
 -- Boards. (Own: the standard leaves to the engine how it keeps one.)
 --
 -- A board is the list of what its places hold. The places are numbered as points are, row by row from the bottom with
--- 26
--- places to a row: the point of a column and a row is the place 26 * row + column. A place that is no point of the
--- board's
--- size holds edge, so each neighbour of a point is a place of the list too.
+-- 26 places to a row: the point of a column and a row is the place 26 * row + column. A place that is no point of the
+-- board's size holds edge, so each neighbour of a point is a place of the list too.
 use Rattle.std.specs.Prelude.{◌≡◌, ℕ, ◌&&◌, nat_le, if◌then◌else◌, Bool, List, map, slice_index_or, slice_set, Option}
 use Rattle.std.specs.Prelude.{Some, None}
 use Rattle.std.specs.List.{range_with_len, fold}

@@ -8,8 +8,7 @@ use Rattle.go_board.specs.Board.{at, stone}
 use Rattle.go_board.specs.Chain.{Touches}
 
 -- A point counts for a colour that has a stone on it, and an empty point where the stones beside its region are of that
--- colour alone
--- and there is at least one.
+-- colour alone and there is at least one.
 abbrev pub CountsFor : List Cell → Colour → ℕ → Type 0
 CountsFor board c p =
     (at board p ≡ stone c) ⊎ ((at board p ≡ Empty) × (Touches board p (stone c) × ¬ Touches board p (stone (other c))))

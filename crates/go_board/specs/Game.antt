@@ -99,5 +99,5 @@ pub record IsFinished (game : GameRecord) : Type 0 where
   pub before : List Move
   pub first : Colour
   pub second : Colour
-  pub ends : game.moves ≡ before ++ record { colour = first; vertex = Pass } ∷ record { colour = second; vertex = Pass }
-      ∷ []
+  pub ends : game.moves
+      ≡ before ++ record { colour = first; vertex = Pass } ∷ record { colour = second; vertex = Pass } ∷ []

@@ -35,8 +35,7 @@ pub record IsFirstBoard (game : GameRecord) (board : List Cell) : Type 0 where
   pub round : (q : ℕ) → ¬ IsOn game.size q → at board q ≡ Edge
 
 -- A play of this colour on p takes the stone on q: it is one of the other colour, and with the new stone on the board
--- its
--- chain has no liberty.
+-- its chain has no liberty.
 abbrev pub TakesStone : List Cell → Colour → ℕ → ℕ → Type 0
 TakesStone board c p q = IsCaptured (slice_set board p (stone c)) (other c) q
 
@@ -91,8 +90,7 @@ MovesAddWhatTheyTake = (game : GameRecord) (c : Colour) (v : Vertex) → AddsTak
 -- ---- area and score
 
 -- A point belongs to a colour that has a stone on it. An empty one belongs to a colour where its region has a stone
--- beside
--- it and all stones beside it are of that colour.
+-- beside it and all stones beside it are of that colour.
 abbrev pub BelongsTo : List Cell → Colour → ℕ → Type 0
 BelongsTo board c p =
     (at board p ≡ stone c)

@@ -220,7 +220,7 @@ impl Board {
         found
     }
 
-    /// Finds the places of the chain or region of a point, in place of those that were there.
+    /// Finds the places of the chain or region of a point, instead of those that were there.
     pub fn chain_into(&self, place: usize, found: &mut Places)
         requires place { place < place_count }
         requires point { at self.now place ≢ Edge }

@@ -32,7 +32,7 @@ pub enum PlayFault {
     Ko,
 }
 
-/// The record has no move that could be taken back.
+/// The record has no move that could be undone.
 #[derive(Clone, Copy, PartialEq, Eq, Debug, Drop, Error)]
 #[error("there is no move to take back")]
 pub struct NothingToUndo;

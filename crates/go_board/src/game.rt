@@ -90,7 +90,7 @@ impl Game {
         }
     }
 
-    /// Sets the size, and takes off all stones, the handicap and the record. Komi stays.
+    /// Sets the size, and removes all stones, the handicap and the record. Komi stays.
     pub fn set_size(&mut self, size: Size)
         ensures { self.new ≡ record self.old { size = size; handicap = 0; moves = [] } }
     {
@@ -106,7 +106,7 @@ impl Game {
         self.komi = komi;
     }
 
-    /// Takes off all stones, the handicap and the record. Size and komi stay.
+    /// Removes all stones, the handicap and the record. Size and komi stay.
     pub fn clear(&mut self)
         ensures { self.new ≡ record self.old { handicap = 0; moves = [] } }
     {
@@ -141,10 +141,8 @@ impl Game {
     }
 
     /// Whether a colour may make a move next: a pass always; a point of the board that is empty, where the new stone's
-    /// chain
-    /// then has a liberty and the board isn't the one before the previous move. The number of moves in the record
-    /// doesn't
-    /// count.
+    /// chain then has a liberty and the board isn't the one before the previous move. The number of moves in the record
+    /// doesn't count.
     pub fn legal(&self, colour: Colour, vertex: Vertex) -> bool
         ensures legal { IsTrue result ↔ IsLegal self.now colour vertex }
         ensures game { IsGame self.now }
@@ -232,7 +230,7 @@ impl Game {
         place == ko.point && self.chains.takes_only(colour, place, place_of(ko.stone))
     }
 
-    /// Takes back the last move of the record with its captures. Handicap stones are never taken back.
+    /// Undoes the last move of the record with its captures. Handicap stones always stay.
     ///
     /// # Errors
     ///
@@ -249,7 +247,7 @@ impl Game {
         let number = self.moves.len();
         let taken = self
             .chains
-            .take_back(last.colour, last.vertex, number, &mut self.removed);
+            .unmake(last.colour, last.vertex, number, &mut self.removed);
         let colour = last.colour;
         self.taken_by_black = without_taken(self.taken_by_black, taken, colour, Colour::Black);
         self.taken_by_white = without_taken(self.taken_by_white, taken, colour, Colour::White);
@@ -312,8 +310,7 @@ impl Game {
     /// komi.
     ///
     /// A point counts for the colour of its stone, and an empty one where the stones beside its region are of one
-    /// colour
-    /// alone, for that colour.
+    /// colour alone, for that colour.
     #[tactic(auto, unfolding(crate::specs::Area::score))]
     pub fn score(&self) -> i32
         ensures { result ≡ score self.now }

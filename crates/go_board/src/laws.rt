@@ -12,8 +12,7 @@ pub fn first_boards()
 {}
 
 /// A legal move leaves just one board. After a play its stone is on the point, the stones that it took are gone, and
-/// all
-/// else is as it was; a pass changes nothing.
+/// all else is as it was; a pass changes nothing.
 pub fn boards_left()
     ensures { BoardsLeftAreJustThese }
 {}

@@ -78,7 +78,7 @@ impl Places {
         }
     }
 
-    /// Takes all places out, in as many steps as there are places.
+    /// Leaves no place, in as many steps as there are places.
     pub fn clear(&mut self)
         ensures { self.new ≡ [] }
     {

@@ -34,12 +34,10 @@ impl Game {
     ghost use Rattle.go_board.specs.Show.{shown_points, shown_row, shown_captures, shown};
 
     /// The board as text: one line for each row, from the highest down to row 1, then the letters of the columns, then
-    /// how
-    /// many stones each colour has taken, as `captures B 0 W 2`. No newline follows the last line.
+    /// how many stones each colour has taken, as `captures B 0 W 2`. No newline follows the last line.
     ///
     /// A row has `X` for a black stone, `O` for a white one and `.` for an empty point, from column A on and each
-    /// followed
-    /// by a space, and then its number.
+    /// followed by a space, and then its number.
     pub fn show(&self) -> ArrayVec<u8, 2000>
         ensures { result.items ≡ shown self.now }
     {

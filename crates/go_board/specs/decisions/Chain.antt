@@ -1,6 +1,5 @@
 -- Whether a chain or region touches something. A path that may pass any place below n goes through n - 1 at most once,
--- so it is
--- looked for with n - 1 places, and then through the last.
+-- so it is looked for with n - 1 places, and then through the last.
 use Rattle.std.proofs.Common.{◌≡◌, ℕ, zero, suc, ◌+◌, ◌<◌, ◌≤◌, List, length, refl, sym, ◌∙◌, subst, arith, inl, inr}
 use Rattle.std.specs.Prelude.{◌⊎◌, ◌≢◌}
 use Rattle.std.proofs.lemmas.List.{get_or_past}

@@ -13,7 +13,7 @@ use Rattle.go_board.specs.Chain.{Joined, IsFree}
 abbrev pub label_of : List ℕ → ℕ → ℕ
 label_of labels p = slice_index_or labels p 0
 
--- Each stone's label is the point of a stone of its chain, and two stones have the same label just where a path joins
+-- Each stone's label is the place of a stone of its chain, and two stones have the same label just where a path joins
 -- them.
 pub record AreLabels (board : List Cell) (labels : List ℕ) : Type 0 where
   pub length_is : length labels ≡ place_count

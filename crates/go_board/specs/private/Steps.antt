@@ -66,14 +66,12 @@ IsNamed board old new place =
     ⊎ ((IsStone (at board place) → label_of old place ≢ 0) × (new ≡ old))
 
 -- A stone that has so many neighbours of its chain is on this place: none is left of the chain, or the stone was at its
--- end,
--- where no path between two others needs it, and the chain's label is another place.
+-- end, where no path between two others needs it, and the chain's label is another place.
 abbrev pub StaysWhole : ℕ → ℕ → ℕ → Type 0
 StaysWhole beside label place = (beside ≡ 0) ⊎ ((beside ≡ 1) × (label ≢ place))
 
--- A stone was taken off a place. The stones that have its label are those that a path joins to one of its neighbours;
--- the
--- other labels are those of their chains.
+-- A stone was lifted from a place. The stones that have its label are those that a path joins to one of its neighbours;
+-- the other labels are those of their chains.
 pub record IsCut (board : List Cell) (labels : List ℕ) (place label : ℕ) : Type 0 where
   pub length_is : length labels ≡ place_count
   pub alike : (p q : ℕ) → IsStone (at board p) → Neighbours p q → at board q ≡ at board p

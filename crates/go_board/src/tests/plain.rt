@@ -1,6 +1,5 @@
 //! The game in its plainest form, to compare with: liberties by flood fill over the whole board, the ko test by
-//! comparing
-//! two boards, `undo` by playing the shorter record again.
+//! comparing two boards, `undo` by playing the shorter record again.
 use crate::board::{Cell, PLACES, ROW, place_of};
 use crate::{NothingToUndo, PlayFault};
 use arrayvec::ArrayVec;

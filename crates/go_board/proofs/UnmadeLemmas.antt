@@ -15,7 +15,7 @@ use Rattle.go_board.specs.Chain.{IsCaptured}
 use Rattle.go_board.specs.decisions.Chain.{captured?}
 use Rattle.go_board.specs.Put.{is_captured, put, captures, captured_count}
 use Rattle.go_board.specs.private.Removed.{captured_places, with_stones, AreLastPoints, IsPutBack, IsAfterMove}
-use Rattle.go_board.specs.private.Removed.{IsTakenBack}
+use Rattle.go_board.specs.private.Removed.{IsUnmade}
 use Rattle.go_board.specs.declared.board.Cell.{Cell}
 use Rattle.go_board.specs.declared.board.Cell.TheVariants.{Edge, Empty}
 use Rattle.go_board.specs.declared.removed.Taken.{Taken}
@@ -137,12 +137,12 @@ pub counted-all : (board : List Cell) (c : Colour) → length (captured_places b
 unfolding captured_count
 counted-all board c = length-filter (is_captured board c) (range_with_len 0 (length board))
 
-pub IsTakenBack-play : (board cells new : List Cell) (stones left : List Taken) (c : Colour) (p number count : ℕ)
+pub IsUnmade-play : (board cells new : List Cell) (stones left : List Taken) (c : Colour) (p number count : ℕ)
     (this : Cell)
     → cells ≡ set board p Empty → this ≡ stone (other c) → IsPutBack cells this number stones left new count
-    → IsTakenBack board stones (record { colour = c; vertex = At p }) number new left count
+    → IsUnmade board stones (record { colour = c; vertex = At p }) number new left count
 unfolding captures
-IsTakenBack-play board cells new stones left c p number count this is this_is b h =
+IsUnmade-play board cells new stones left c p number count this is this_is b h =
     let put_back : IsPutBack (set board p Empty) (stone (other c)) number stones left new count =
     subst (λ (x : Cell). IsPutBack (set board p Empty) x number stones left new count) this_is
     (subst (λ (b : List Cell). IsPutBack b this number stones left new count) is b) in
@@ -154,6 +154,6 @@ IsTakenBack-play board cells new stones left c p number count this is this_is b 
     )
 
 -- a pass changed nothing
-pub IsTakenBack-pass : (board : List Cell) (stones : List Taken) (c : Colour) (number : ℕ)
-    → IsTakenBack board stones (record { colour = c; vertex = Pass }) number board stones 0
-IsTakenBack-pass board stones c number h = (h.board_is, h.stones_are ∙ append-nil h.earlier, refl)
+pub IsUnmade-pass : (board : List Cell) (stones : List Taken) (c : Colour) (number : ℕ)
+    → IsUnmade board stones (record { colour = c; vertex = Pass }) number board stones 0
+IsUnmade-pass board stones c number h = (h.board_is, h.stones_are ∙ append-nil h.earlier, refl)

@@ -1,8 +1,8 @@
 use Rattle.std.proofs.Common.{ap}
 use Rattle.go_board.specs.Board.{at, stone}
 use Rattle.go_board.proofs.ChainLemmas.{IsStone-point}
-use Rattle.go_board.proofs.TakenBackLemmas.{new-stone, last-points, IsTakenBack-play}
-use Rattle.go_board.proofs.chains.Chains.take_off.Goals as goal
+use Rattle.go_board.proofs.UnmadeLemmas.{new-stone, last-points, IsUnmade-play}
+use Rattle.go_board.proofs.chains.Chains.unput.Goals as goal
 
 pub unset-requires-clause-stone : goal.unset-requires-clause-stone
 unset-requires-clause-stone c = (
@@ -26,6 +26,6 @@ put_back-requires-clause-points c =
 
 pub returns-clause-back : goal.returns-clause-back
 returns-clause-back c =
-    IsTakenBack-play c.args.self.now.board c.unset.new.self.board c.put_back.new.self.board c.args.removed.now
+    IsUnmade-play c.args.self.now.board c.unset.new.self.board c.put_back.new.self.board c.args.removed.now
     c.put_back.new.removed c.args.colour c.args.place c.args.number
     c.put_back.result (stone c.other.result) c.unset.ensures.board (ap stone c.other.ensures) c.put_back.ensures.back
