@@ -3,7 +3,7 @@ ghost use Rattle.std.specs.Prelude.{◌≡◌, ◌+◌, ◌≤◌, ◌++◌, len
 ghost use Rattle.arrayvec.specs.ArrayVec.{array_vec_len};
 ghost use Rattle.go_base.specs.Vertex.{written_vertex};
 ghost use Rattle.go_base.specs.declared.vertices.Vertex.TheVariants.{At};
-ghost use Rattle.gtp_wire.specs.Replies.{reply_text_max, written_reply};
+ghost use Rattle.gtp_wire.specs.Replies.{most_text_bytes, written_reply};
 ghost use Rattle.gtp_session.specs.Commands.{written_vertices};
 ghost use Rattle.gtp_session.specs.private.Outcome.{text_of, told};
 
@@ -40,7 +40,7 @@ const VERTICES_ROOM: usize = 44;
 
 /// Puts the reply of a command that left this game in place of what `reply` holds.
 pub(crate) fn write_outcome(outcome: &Outcome, game: &Game, id: Option<u32>, reply: &mut ReplyText)
-    requires { length (told game.now outcome.now).text ≤ reply_text_max }
+    requires { length (told game.now outcome.now).text ≤ most_text_bytes }
     ensures { let answer = told game.now outcome.now in
         reply.new.items ≡ written_reply answer.ok id answer.text }
 {
@@ -52,7 +52,7 @@ pub(crate) fn write_outcome(outcome: &Outcome, game: &Game, id: Option<u32>, rep
 
 /// The same for a success.
 fn write_success(text: &Text, game: &Game, id: Option<u32>, reply: &mut ReplyText)
-    requires { length (text_of game.now text.now) ≤ reply_text_max }
+    requires { length (text_of game.now text.now) ≤ most_text_bytes }
     ensures { reply.new.items ≡ written_reply true id (text_of game.now text.now) }
 {
     match text {
