@@ -9,7 +9,9 @@ use Rattle.go_base.specs.Point.{point}
 use Rattle.go_base.specs.declared.colours.Colour.{Colour}
 use Rattle.go_base.specs.Decide.{holds}
 use Rattle.go_board.specs.Game.{GameRecord}
-use Rattle.gtp_session.specs.Candidates.{row_points, points_of, candidates, IsCandidate, candidate?}
+use Rattle.gtp_session.specs.Candidate.{IsCandidate}
+use Rattle.gtp_session.specs.Candidates.{row_points, points_of, candidates}
+use Rattle.gtp_session.specs.private.DecideCandidates.{candidate?}
 
 -- ---- a row
 

@@ -1,7 +1,7 @@
 //! The policy that reads its choices from a book.
 ghost use Rattle.std.specs.Prelude.{◌≡◌, length, slice_get};
 ghost use Rattle.gtp_session.specs.Book.{place_of, book_of};
-ghost use Rattle.gtp_session.specs.Lawful.{lawful_place};
+ghost use Rattle.gtp_session.specs.private.Lawful.{lawful_place};
 ghost use Rattle.gtp_session.specs.Policies.{book_may};
 
 use crate::policy::{Choice, Policy};

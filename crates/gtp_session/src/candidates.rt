@@ -4,7 +4,8 @@ ghost use Rattle.arrayvec.specs.ArrayVec.{array_vec_len};
 ghost use Rattle.go_base.specs.Point.{point, IsCrossing};
 ghost use Rattle.go_base.specs.Size.{most_size};
 ghost use Rattle.go_base.specs.Colour.{other};
-ghost use Rattle.gtp_session.specs.Candidates.{IsOpen, HasOpenNeighbour, IsCandidate, row_points, points_of, candidates, chosen};
+ghost use Rattle.gtp_session.specs.Candidate.{IsOpen, HasOpenNeighbour, IsCandidate};
+ghost use Rattle.gtp_session.specs.Candidates.{row_points, points_of, candidates, chosen};
 
 use crate::policy::Choice;
 use arrayvec::ArrayVec;

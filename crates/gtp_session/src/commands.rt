@@ -40,8 +40,11 @@ pub enum CommandName {
     Showboard,
 }
 
+/// How many commands there are.
+const COMMAND_COUNT: usize = 15;
+
 /// The commands, in the order in which `list_commands` names them.
-static COMMANDS: [CommandName; 15] = [
+static COMMANDS: [CommandName; COMMAND_COUNT] = [
     CommandName::ProtocolVersion,
     CommandName::Name,
     CommandName::Version,
@@ -63,7 +66,7 @@ static COMMANDS: [CommandName; 15] = [
 const NAME_MOST: usize = 16;
 
 /// The room for the names of all commands, each with a newline.
-const NAMES_ROOM: usize = 255;
+const NAMES_ROOM: usize = COMMAND_COUNT * (NAME_MOST + 1);
 
 /// The names of the commands, a line each.
 pub(crate) fn all_names() -> ArrayVec<u8, NAMES_ROOM>

@@ -1,5 +1,5 @@
 //! The policy that takes the first candidate.
-ghost use Rattle.gtp_session.specs.Lawful.{lawful_candidate};
+ghost use Rattle.gtp_session.specs.private.Lawful.{lawful_candidate};
 ghost use Rattle.gtp_session.specs.Policies.{first_may};
 
 use crate::candidates::{chosen, first_candidate};

@@ -5,7 +5,7 @@ ghost use Rattle.go_base.specs.Vertex.{written_vertex};
 ghost use Rattle.go_base.specs.declared.vertices.Vertex.TheVariants.{At};
 ghost use Rattle.gtp_wire.specs.Replies.{most_text_bytes, written_reply};
 ghost use Rattle.gtp_session.specs.Commands.{written_vertices};
-ghost use Rattle.gtp_session.specs.Outcome.{text_of, told};
+ghost use Rattle.gtp_session.specs.private.Outcome.{text_of, told};
 
 use crate::commands::all_names;
 use arrayvec::ArrayVec;

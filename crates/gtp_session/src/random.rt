@@ -1,7 +1,7 @@
 //! The policy that draws a candidate.
 ghost use Rattle.std.specs.Prelude.{◌≡◌};
 ghost use Rattle.gtp_session.specs.Random.{generator_of};
-ghost use Rattle.gtp_session.specs.Lawful.{lawful_draw};
+ghost use Rattle.gtp_session.specs.private.Lawful.{lawful_draw};
 ghost use Rattle.gtp_session.specs.Policies.{random_may};
 
 use crate::candidates::{candidates, chosen};

@@ -2,7 +2,7 @@ use Rattle.std.proofs.Common.{rules, ◌≡◌, ◌∙◌, ℕ, Option, Some, re
 use Rattle.gtp_wire.specs.Replies.{written_reply}
 use Rattle.gtp_session.specs.declared.commands.CommandName.TheVariants.{Genmove}
 use Rattle.gtp_session.specs.Commands.{syntax_error}
-use Rattle.gtp_session.specs.Outcome.{told}
+use Rattle.gtp_session.specs.private.Outcome.{told}
 use Rattle.gtp_session.proofs.EngineLemmas.{executed_genmove}
 use Rattle.gtp_session.proofs.SpokenLemmas.{executed_fits}
 use Rattle.gtp_session.proofs.answers.answer.Goals as goal

@@ -1,6 +1,7 @@
 -- What each policy may choose is lawful, in every game.
-use Rattle.std.proofs.Common.{◌≡◌, ℕ, ◌%◌, List, [], ◌∷◌, length, Option, Some, None, refl, subst, sym}
+use Rattle.std.proofs.Common.{◌≡◌, ℕ, ◌%◌, List, [], ◌∷◌, zero, suc, length, Bool, true, false, cond, Option, Some, None, refl, subst, sym}
 use Rattle.std.specs.Prelude.{slice_get}
+use Rattle.std.specs.List.{filter}
 use Rattle.go_base.specs.declared.colours.Colour.{Colour}
 use Rattle.go_base.specs.declared.vertices.Vertex.{Vertex}
 use Rattle.go_base.specs.declared.vertices.Vertex.TheVariants.{Pass}
@@ -13,9 +14,35 @@ use Rattle.go_base.specs.declared.choices.Choice.TheVariants as choice
 use Rattle.gtp_session.specs.declared.book.Place.{Place}
 use Rattle.gtp_session.specs.declared.book.Place.TheVariants.{Empty, Resign, Play}
 use Rattle.gtp_session.specs.Policy.{IsLawful}
-use Rattle.gtp_session.specs.Candidates.{candidates, chosen, candidates-are}
+use Rattle.go_base.specs.Decide.{holds}
+use Rattle.gtp_session.specs.Candidate.{IsCandidate}
+use Rattle.gtp_session.specs.Candidates.{points_of, candidates, chosen}
+use Rattle.gtp_session.specs.private.DecideCandidates.{candidate?}
 use Rattle.gtp_session.specs.Random.{MayDraw}
 use Rattle.gtp_session.specs.Book.{choice_at}
+
+fact : {A : Type 0} (d : Dec A) → holds d ≡ true → A
+fact (yes a) e = a
+fact (no k) e = cc
+
+-- what stands in a filtered list passes the test
+passes : {X : Type 0} (test : X → Bool) (xs : List X) (k : ℕ) (x : X)
+    → slice_get (filter test xs) k ≡ Some x → test x ≡ true
+passes test [] k x e = cc
+passes test (y ∷ ys) k x e = step (test y) refl k e (λ j f. passes test ys j x f)
+  where
+    step : (b : Bool) → test y ≡ b → (k : ℕ) → slice_get (cond b (y ∷ filter test ys) (filter test ys)) k ≡ Some x
+        → ((j : ℕ) → slice_get (filter test ys) j ≡ Some x → test x ≡ true) → test x ≡ true
+    step true t zero e rest = let same : y ≡ x = cc in subst (λ z. test z ≡ true) same t
+    step true t (suc k) e rest = rest k e
+    step false t k e rest = rest k e
+
+-- the candidates are candidates, and so they are legal
+candidates-are : (game : GameRecord) (colour : Colour) (k p : ℕ)
+    → slice_get (candidates game colour) k ≡ Some p → IsCandidate game colour p
+unfolding candidates
+candidates-are game colour k p e =
+    fact (candidate? game colour p) (passes (λ p. holds (candidate? game colour p)) (points_of game.size) k p e)
 
 -- a candidate of any number, or a pass
 chosen-lawful : (game : GameRecord) (colour : Colour) (k : ℕ) (point : Option ℕ)
