@@ -54,9 +54,13 @@ with_rest app = with_rule (with_rule (with_rule app
     (flag_rule (codes "record")))
     (flag_rule (codes "show"))
 
+-- the program, which has a version
+abbrev pub program : App
+program = record (new_app (codes "twogtp")) { top = record (new_app (codes "twogtp")).top { has_version = true } }
+
 -- all options, in the order of the help
 abbrev pub command_line : App
-command_line = with_rest (with_moves (with_games (with_game (with_engines (new_app (codes "twogtp"))))))
+command_line = with_rest (with_moves (with_games (with_game (with_engines program))))
 
 -- ---- what the words ask for
 
@@ -94,10 +98,10 @@ pub record AsksFor (words : List Text) (options : Options) : Type 0 where
   pub no_fault : fault_of command_line words ≡ []
   pub asked : Ask (matches_of command_line words) options
 
--- the words have a mistake of this kind, or ask for help
+-- the words have a mistake of this kind, or ask for the help or the version
 abbrev pub HasFault : List Text → ErrorKind → Type 0
 HasFault words kind = IsAmong kind (fault_of command_line words)
 
--- the words ask for the help
-abbrev pub AsksForHelp : List Text → Type 0
-AsksForHelp words = (kind : ErrorKind) × IsRequest kind × HasFault words kind
+-- the words ask for the help or the version
+abbrev pub AsksForText : List Text → Type 0
+AsksForText words = (kind : ErrorKind) × IsRequest kind × HasFault words kind

@@ -7,15 +7,22 @@ use Rattle.gtp_match.specs.declared.controller.Controller.{Controller}
 use Rattle.gtp_match.specs.declared.verdicts.Action.{Action}
 use Rattle.gtp_match.specs.declared.verdicts.Action.TheVariants.{Start, Send, Wait, Done}
 use Rattle.gtp_match.specs.Controller.{sent, lost}
+use Rattle.gtp_match.specs.Next.{next}
+use Rattle.gtp_match.specs.Sides.{side_of, status_of}
 use Rattle.twogtp.specs.declared.sides.Sides.{Sides}
 use Rattle.twogtp.specs.Pipes.{Fails, IsCutOff, IsUnbroken, Succeeds}
-use Rattle.twogtp.specs.Processes.{WithProcess}
+use Rattle.twogtp.specs.Processes.{WithProcess, while_up}
 use Rattle.twogtp.specs.Turns.{IsHeard, IsSent}
 
 -- the process of a side
 abbrev pub process_of : {P : Type 0} → Sides P → Colour → Option P
 process_of sides Black = sides.black
 process_of sides White = sides.white
+
+-- the process of the other side stays as it was
+abbrev pub OtherStays : {P : Type 0} → Colour → Sides P → Sides P → Type 0
+OtherStays Black before after = after.white ≡ before.white
+OtherStays White before after = after.black ≡ before.black
 
 -- bytes that a process shows to the proofs, where they are known
 abbrev pub Shows : Type 0 → Type 0
@@ -37,11 +44,24 @@ module _ {P : Type 0} (taken given : Shows P) (fails : Fails P) (succeeds : Succ
       IsHeard c side (given before) (given after) (IsUnbroken fails succeeds before after)
       (IsCutOff fails succeeds before after) new × Keeps (taken before) (taken after)
 
-  -- What comes next was said with the process of the side whose turn it is. A side without a process is lost.
+  -- What comes next was said with the process of the side whose turn it is, and nothing with the other's. A side without
+  -- a process is lost.
   abbrev pub Speaks : Controller → Action → Controller → Sides P → Sides P → Type 0
-  Speaks c (Start side) new before after = ⊤
+  Speaks c (Start side) new before after = OtherStays side before after
   Speaks c (Send side) new before after = WithProcess (process_of before side) (process_of after side)
-      (SendsTo c side new) (new ≡ lost (sent c side) side)
+      (SendsTo c side new) (new ≡ lost (sent c side) side) × OtherStays side before after
   Speaks c (Wait side) new before after = WithProcess (process_of before side) (process_of after side)
-      (HearsFrom c side new) (new ≡ lost c side)
+      (HearsFrom c side new) (new ≡ lost c side) × OtherStays side before after
   Speaks c (Done verdict) new before after = ⊤
+
+-- What was said in turns, one after another, from the opening on: in each, what came next, and after each the processes of
+-- the sides that are down were ended.
+pub data HasSpoken {P : Type 0} (taken given : Shows P) (fails : Fails P) (succeeds : Succeeds P)
+    (flushed : P → Type 0) (first : Controller) (opening : Sides P) : Controller → Sides P → Type 0 where
+  silent : HasSpoken taken given fails succeeds flushed first opening first opening
+  speaks : {mid new : Controller} {before closing : Sides P} (after : Sides P)
+      → HasSpoken taken given fails succeeds flushed first opening mid before
+      → Speaks taken given fails succeeds flushed mid (next mid) new before after
+      → closing.black ≡ while_up (status_of (side_of new.sides Black).up) after.black
+      → closing.white ≡ while_up (status_of (side_of new.sides White).up) after.white
+      → HasSpoken taken given fails succeeds flushed first opening new closing

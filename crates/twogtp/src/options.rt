@@ -1,12 +1,12 @@
 //! The options of the command line.
 ghost use Rattle.std.specs.Prelude.{◌≡◌, ◌⊎◌, map, pos, Some, None, codes, false, IfOk, IfErr};
 ghost use Rattle.clap.specs.Walk.{rows_of};
-ghost use Rattle.clap.specs.Words.{app_of, found_of, kind_of, new_app, rule_of};
+ghost use Rattle.clap.specs.Words.{app_of, found_of, kind_of, rule_of};
 ghost use Rattle.clap.specs.declared.builder.value_parser.ValueParser.TheVariants.{Signed};
 ghost use Rattle.clap.specs.declared.error.kind.ErrorKind.TheVariants.{OutOfMemory};
 ghost use Rattle.twogtp.specs.Options.{Ask, AsksFor, HasFault, HasFlag, HasNumber, text_of};
 ghost use Rattle.twogtp.specs.Options.{command_line, with_engines, with_game, with_games, with_moves};
-ghost use Rattle.twogtp.specs.Options.{with_rest, required_rule, option_rule, flag_rule};
+ghost use Rattle.twogtp.specs.Options.{program, with_rest, required_rule, option_rule, flag_rule};
 
 use clap::builder::ValueParser;
 use clap::{Arg, ArgAction, ArgMatches, Command, Error, value_parser};
@@ -39,7 +39,7 @@ pub struct Options<'a> {
 }
 
 /// Reads the words of a command line, of which the first is the program's name. The error is a mistake in the words, a
-/// request for help, or want of memory; its `Display` is the text for the user.
+/// request for help or the version, or want of memory; its `Display` is the text for the user.
 pub fn read_options<'a, S: AsStr>(alloc: Global, words: &'a [S]) -> Result<Options<'a>, Error>
     ensures asked { IfOk result (AsksFor (map S.text words.entry.now)) }
     ensures fault { IfErr result (λ error. (kind_of error ≡ OutOfMemory)
@@ -92,7 +92,7 @@ fn flag_at(matches: &ArgMatches<'_>, name: &str) -> bool
     matches.get_flag(name)
 }
 
-/// The command line, with its help.
+/// The command line, with its help and its version.
 fn command<'a>(alloc: Global) -> Result<Command<'a>, AllocError>
     ensures { IfOk result (λ command. app_of command ≡ command_line) }
 {
@@ -100,12 +100,13 @@ fn command<'a>(alloc: Global) -> Result<Command<'a>, AllocError>
     with_rest(alloc, with_moves(alloc, command)?)
 }
 
-/// The name, and the options of the engines.
+/// The name, the version, and the options of the engines.
 fn with_engines<'a>(alloc: Global) -> Result<Command<'a>, AllocError>
-    ensures { IfOk result (λ command. app_of command ≡ with_engines (new_app (codes "twogtp"))) }
+    ensures { IfOk result (λ command. app_of command ≡ with_engines program) }
 {
     Command::new(alloc, "twogtp")
         .bin_name("twogtp")?
+        .version("1.0")
         .about(
             "Plays two Go engines that speak the Go Text Protocol, version 2, against each other",
         )

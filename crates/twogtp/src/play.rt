@@ -9,7 +9,7 @@ ghost use Rattle.gtp_match.specs.Next.{next};
 ghost use Rattle.gtp_match.specs.Sound.{IsSound};
 ghost use Rattle.twogtp.specs.Pipes.{IsCutOff, IsUnbroken};
 ghost use Rattle.twogtp.specs.Processes.{WithProcess};
-ghost use Rattle.twogtp.specs.Speaking.{HearsFrom, SendsTo, Speaks};
+ghost use Rattle.twogtp.specs.Speaking.{HasSpoken, HearsFrom, OtherStays, SendsTo, Speaks};
 ghost use Rattle.twogtp.specs.Status.{own_fault, status_of};
 ghost use Rattle.twogtp.specs.Turns.{HasPlayed, HasStopped, HasTurned, IsHeard, IsRefused, IsSent};
 
@@ -67,6 +67,9 @@ fn take_turns<S: Starter>(
     ensures sound { IfOk result (λ verdict. IsSound game.new) }
     ensures stopped { IfErr result (HasStopped commands.now game.old
         (S.asked starter.old) (S.asked starter.new) game.new) }
+    // In each turn it was spoken with the process of the side whose turn it was.
+    ensures spoken { OnOk result (HasSpoken S.Process.taken S.Process.given S.Process.fails
+        S.Process.succeeds S.Process.flushed game.old sides.old game.new sides.new) }
     ensures fault { IfErr result (λ fault. status_of fault ≡ own_fault) }
 {
     for _turn in 0..MOST_TURNS {
@@ -144,6 +147,7 @@ fn start<S: Starter>(
     ensures refused { OnErr result (IsRefused commands.now game.old
         (S.asked starter.old) (S.asked starter.new)) }
     ensures unchanged { OnErr result (game.new ≡ game.old) }
+    ensures rests { OtherStays side sides.old sides.new }
     ensures fault { IfErr result (λ fault. fault ≡ Fault.OutOfMemory) }
 {
     match starter.start(commands.of(side)) {

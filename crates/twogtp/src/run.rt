@@ -1,7 +1,7 @@
 //! The program, over any writers and any means to start processes.
 ghost use Rattle.std.specs.Prelude.{◌≡◌, ◌⊎◌, ◌≢◌, ◌<◌, ◌≤◌, map, IfOk, IfErr, OnErr};
 ghost use Rattle.clap.specs.Words.{kind_of};
-ghost use Rattle.twogtp.specs.Options.{AsksForHelp};
+ghost use Rattle.twogtp.specs.Options.{AsksForText};
 ghost use Rattle.twogtp.specs.Status.{IsStatus, IsRequest, done, some_given_up, usage_fault, own_fault};
 ghost use Rattle.twogtp.specs.Status.{status_of, status_with};
 ghost use Rattle.twogtp.specs.Telling.{HasBegun, HasBegunToTell, HasDone, HasMistake, HasTold};
@@ -25,7 +25,7 @@ use std::io::Write;
 /// Plays the games that the words of the command line ask for, the first of which is the program's name, tells each on
 /// `output`, and answers the status that the program ends with:
 ///
-/// - 0 where each game ended by the rules, and where the words ask for help, which goes to `output`;
+/// - 0 where each game ended by the rules, and where the words ask for help or the version, which goes to `output`;
 /// - 1 where in some game a side was unfit or given up;
 /// - 2 where the words have a mistake;
 /// - 3 where the output can't be written, memory was refused, or a game had too many turns.
@@ -43,9 +43,9 @@ pub fn run<A: AsStr, O: Write, E: Write, S: Starter>(
     ensures usage { result ≡ usage_fault →
         (output.new ≡ output.old) × (starter.new ≡ starter.old) × HasMistake (map A.text words.now) }
     ensures quiet { (result ≡ done) ⊎ (result ≡ some_given_up) → errors.new ≡ errors.old }
-    // All games of the task that the words ask for were played and told, unless they ask for help.
+    // All games of the task that the words ask for were played and told, unless they ask for help or the version.
     ensures played { result ≡ done →
-        (AsksForHelp (map A.text words.now) × (starter.new ≡ starter.old))
+        (AsksForText (map A.text words.now) × (starter.new ≡ starter.old))
         ⊎ HasDone (map A.text words.now) done (O.contents output.old) (O.contents output.new)
         (S.asked starter.old) (S.asked starter.new) }
     ensures given_up { result ≡ some_given_up → HasDone (map A.text words.now) some_given_up
@@ -53,7 +53,7 @@ pub fn run<A: AsStr, O: Write, E: Write, S: Starter>(
     // What was written before the program had to stop is the beginning of what is told.
     ensures stopped { result ≡ own_fault →
         ((output.new ≡ output.old) × (starter.new ≡ starter.old))
-        ⊎ (AsksForHelp (map A.text words.now) × (starter.new ≡ starter.old))
+        ⊎ (AsksForText (map A.text words.now) × (starter.new ≡ starter.old))
         ⊎ HasBegun (map A.text words.now) (O.contents output.old) (O.contents output.new)
         (S.asked starter.old) (S.asked starter.new) }
 {
@@ -123,7 +123,7 @@ fn answer_error<W: Write, E: Write>(error: &Error, output: &mut W, errors: &mut 
     ensures mistake { result ≡ usage_fault → ¬ IsRequest (kind_of error.now) }
     ensures stopped { result ≡ own_fault →
         (output.new ≡ output.old) ⊎ IsRequest (kind_of error.now) }
-    // Only a request for help or for the version, of which there is none, is no fault.
+    // Only a request for help or for the version is no fault.
     ensures shown { result ≡ done → IsRequest (kind_of error.now) }
     ensures memory { kind_of error.now ≡ ErrorKind.OutOfMemory → result ≡ own_fault }
     // A mistake in the words is no fault of the program's own.

@@ -3,6 +3,7 @@ ghost use Rattle.std.specs.Prelude.{◌≡◌};
 ghost use Rattle.go_base.specs.declared.colours.Colour.TheVariants.{Black, White};
 ghost use Rattle.gtp_match.specs.Sides.{side_of, status_of};
 ghost use Rattle.twogtp.specs.Processes.{while_up};
+ghost use Rattle.twogtp.specs.Speaking.{OtherStays};
 
 use crate::pipes::{READ_ROOM, read_once, write_whole};
 use crate::starter::Conversation;
@@ -32,7 +33,9 @@ impl<P: Conversation> Sides<P> {
     }
 
     /// Puts a side's process, and answers the one that it had.
-    pub fn replace(&mut self, side: Side, process: P) -> Option<P> {
+    pub fn replace(&mut self, side: Side, process: P) -> Option<P>
+        ensures { OtherStays side self.old self.new }
+    {
         match side {
             Side::Black => self.black.replace(process),
             Side::White => self.white.replace(process),
