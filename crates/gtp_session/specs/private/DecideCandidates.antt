@@ -8,7 +8,7 @@ use Rattle.go_base.specs.declared.colours.Colour.TheVariants.{Black, White}
 use Rattle.go_base.specs.declared.vertices.Vertex.TheVariants.{At}
 use Rattle.go_board.specs.Board.{stone_at}
 use Rattle.go_base.specs.Decide.{both?, either?, by?, number?}
-use Rattle.go_board.specs.Decide.{on?}
+use Rattle.go_board.specs.decisions.Board.{on?}
 use Rattle.go_board.specs.Game.{GameRecord, board_of, legal?}
 use Rattle.gtp_session.specs.Candidate.{IsOpen, HasOpenNeighbour, IsCandidate}
 
