@@ -12,7 +12,7 @@ use Rattle.go_base.specs.Vertex.{vertex_of}
 use Rattle.go_base.specs.declared.colours.Colour.{Colour}
 use Rattle.go_base.specs.declared.vertices.Vertex.{Vertex}
 use Rattle.go_base.proofs.IntLemmas.{spells_int_of}
-use Rattle.go_board.specs.Game.{GameRecord, IsLegal, most_moves, with_move, without_last, legal?}
+use Rattle.go_board.specs.Game.{GameRecord, IsLegal, most_moves, with_move, without_last}
 use Rattle.go_board.specs.Refusals.{IsTouched}
 use Rattle.go_board.specs.Area.{score}
 use Rattle.gtp_wire.specs.declared.lines.Line.{Line}
@@ -23,7 +23,7 @@ use Rattle.gtp_wire.specs.Lines.{lines, most_line_bytes, line_of, line_of_words,
 use Rattle.gtp_wire.specs.Replies.{IsReply, IsReplyText, most_text_bytes, written_reply}
 use Rattle.gtp_wire.proofs.WrittenLemmas.{written_is_read}
 use Rattle.go_base.specs.Decide.{allows?}
-use Rattle.go_board.specs.decisions.Game.{touched?}
+use Rattle.go_board.specs.decisions.Game.{legal?, touched?}
 use Rattle.gtp_session.specs.Policy.{May, IsLawful}
 use Rattle.go_base.specs.declared.choices.Choice.{Choice}
 use Rattle.go_base.specs.declared.choices.Choice.TheVariants as choice

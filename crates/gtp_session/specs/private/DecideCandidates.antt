@@ -9,7 +9,8 @@ use Rattle.go_base.specs.declared.vertices.Vertex.TheVariants.{At}
 use Rattle.go_board.specs.Board.{stone_at}
 use Rattle.go_base.specs.Decide.{both?, either?, by?, number?}
 use Rattle.go_board.specs.decisions.Board.{on?}
-use Rattle.go_board.specs.Game.{GameRecord, board_of, legal?}
+use Rattle.go_board.specs.Game.{GameRecord, board_of}
+use Rattle.go_board.specs.decisions.Game.{legal?}
 use Rattle.gtp_session.specs.Candidate.{IsOpen, HasOpenNeighbour, IsCandidate}
 
 stone_is? : (a b : Option Colour) → Dec (a ≡ b)
