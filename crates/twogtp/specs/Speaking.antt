@@ -1,5 +1,5 @@
 -- What is said with the processes of the sides in a turn.
-use Rattle.std.specs.Prelude.{◌≡◌, ⊤, ℕ, List, Option}
+use Rattle.std.specs.Prelude.{◌≡◌, ⊤, ℕ, List, Option, None}
 use Rattle.std.specs.Io.KnownBytes.{Keeps}
 use Rattle.go_base.specs.declared.colours.Colour.{Colour}
 use Rattle.go_base.specs.declared.colours.Colour.TheVariants.{Black, White}
@@ -24,6 +24,10 @@ abbrev pub OtherStays : {P : Type 0} → Colour → Sides P → Sides P → Type
 OtherStays Black before after = after.white ≡ before.white
 OtherStays White before after = after.black ≡ before.black
 
+-- no side has a process
+abbrev pub no_processes : {P : Type 0} → Sides P
+no_processes = record { black = None; white = None }
+
 -- bytes that a process shows to the proofs, where they are known
 abbrev pub Shows : Type 0 → Type 0
 Shows P = P → Option (List ℕ)
@@ -31,8 +35,8 @@ Shows P = P → Option (List ℕ)
 -- processes that show which bytes they have taken and given, which calls failed, which went through, and where nothing
 -- waits to go out
 module _ {P : Type 0} (taken given : Shows P) (fails : Fails P) (succeeds : Succeeds P) (flushed : P → Type 0) where
-  -- A side was to be sent its command: its process took all of it, no call broke, and nothing waits to go out; or it took
-  -- a part, and was cut off. Nothing is taken from it.
+  -- A side was to be sent its command: its process took all of it, no call broke, and nothing waits to go out; or it
+  -- took the beginning of it, and was cut off. Nothing is heard of it.
   abbrev pub SendsTo : Controller → Colour → Controller → P → P → Type 0
   SendsTo c side new before after =
       IsSent c side (taken before) (taken after) (IsUnbroken fails succeeds before after × flushed after)
@@ -44,8 +48,8 @@ module _ {P : Type 0} (taken given : Shows P) (fails : Fails P) (succeeds : Succ
       IsHeard c side (given before) (given after) (IsUnbroken fails succeeds before after)
       (IsCutOff fails succeeds before after) new × Keeps (taken before) (taken after)
 
-  -- What comes next was said with the process of the side whose turn it is, and nothing with the other's. A side without
-  -- a process is lost.
+  -- What comes next was said with the process of the side whose turn it is, and nothing with the other's. A side
+  -- without a process is lost.
   abbrev pub Speaks : Controller → Action → Controller → Sides P → Sides P → Type 0
   Speaks c (Start side) new before after = OtherStays side before after
   Speaks c (Send side) new before after = WithProcess (process_of before side) (process_of after side)
@@ -54,8 +58,8 @@ module _ {P : Type 0} (taken given : Shows P) (fails : Fails P) (succeeds : Succ
       (HearsFrom c side new) (new ≡ lost c side) × OtherStays side before after
   Speaks c (Done verdict) new before after = ⊤
 
--- What was said in turns, one after another, from the opening on: in each, what came next, and after each the processes of
--- the sides that are down were ended.
+-- What was said in turns, one after another, from the opening on: in each, what came next, and after each the processes
+-- of the sides that are down were ended.
 pub data HasSpoken {P : Type 0} (taken given : Shows P) (fails : Fails P) (succeeds : Succeeds P)
     (flushed : P → Type 0) (first : Controller) (opening : Sides P) : Controller → Sides P → Type 0 where
   silent : HasSpoken taken given fails succeeds flushed first opening first opening
@@ -65,3 +69,9 @@ pub data HasSpoken {P : Type 0} (taken given : Shows P) (fails : Fails P) (succe
       → closing.black ≡ while_up (status_of (side_of new.sides Black).up) after.black
       → closing.white ≡ while_up (status_of (side_of new.sides White).up) after.white
       → HasSpoken taken given fails succeeds flushed first opening new closing
+
+-- what was said in the turns of a game, which began without processes
+abbrev pub IsSpoken : {P : Type 0} → Shows P → Shows P → Fails P → Succeeds P → (P → Type 0) → Controller → Controller
+    → Type 0
+IsSpoken {P} taken given fails succeeds flushed first last =
+    (closing : Sides P) × HasSpoken taken given fails succeeds flushed first no_processes last closing

@@ -32,8 +32,8 @@ abbrev pub command_text : Controller → Colour → List ℕ
 command_text c side = command_for c side (side_of c.sides side).up
 
 -- A side was to be sent its command, to a process that had taken some bytes and has taken others: it took the whole
--- command, which went out, and the command counts as sent; or it took the beginning of it and was cut off, and the side
--- is lost.
+-- command, which went out, and the command counts as sent; or it took the beginning of it and was cut off, and the
+-- side is lost.
 pub data IsSent (c : Controller) (side : Colour) (held holds : Option (List ℕ)) (WentOut CutOff : Type 0)
     : Controller → Type 0 where
   taken : Appends held holds (command_text c side) → WentOut → IsSent c side held holds WentOut CutOff (sent c side)

@@ -9,7 +9,7 @@ ghost use Rattle.gtp_match.specs.Next.{next};
 ghost use Rattle.gtp_match.specs.Sound.{IsSound};
 ghost use Rattle.twogtp.specs.Pipes.{IsCutOff, IsUnbroken};
 ghost use Rattle.twogtp.specs.Processes.{WithProcess};
-ghost use Rattle.twogtp.specs.Speaking.{HasSpoken, HearsFrom, OtherStays, SendsTo, Speaks};
+ghost use Rattle.twogtp.specs.Speaking.{HasSpoken, HearsFrom, IsSpoken, OtherStays, SendsTo, Speaks};
 ghost use Rattle.twogtp.specs.Status.{own_fault, status_of};
 ghost use Rattle.twogtp.specs.Turns.{HasPlayed, HasStopped, HasTurned, IsHeard, IsRefused, IsSent};
 
@@ -40,6 +40,8 @@ pub fn play_game<S: Starter>(
     ensures sound { IfOk result (λ verdict. IsSound game.new) }
     ensures stopped { IfErr result (HasStopped commands.now game.old
         (S.asked starter.old) (S.asked starter.new) game.new) }
+    ensures spoken { OnOk result (IsSpoken S.Process.taken S.Process.given S.Process.fails
+        S.Process.succeeds S.Process.flushed game.old game.new) }
     ensures fault { IfErr result (λ fault. status_of fault ≡ own_fault) }
 {
     let mut sides = Sides::none();

@@ -3,7 +3,7 @@ ghost use Rattle.std.specs.Prelude.{◌≡◌};
 ghost use Rattle.go_base.specs.declared.colours.Colour.TheVariants.{Black, White};
 ghost use Rattle.gtp_match.specs.Sides.{side_of, status_of};
 ghost use Rattle.twogtp.specs.Processes.{while_up};
-ghost use Rattle.twogtp.specs.Speaking.{OtherStays};
+ghost use Rattle.twogtp.specs.Speaking.{OtherStays, no_processes};
 
 use crate::pipes::{READ_ROOM, read_once, write_whole};
 use crate::starter::Conversation;
@@ -25,7 +25,9 @@ pub struct Sides<P> {
 
 impl<P: Conversation> Sides<P> {
     /// No process.
-    pub fn none() -> Self {
+    pub fn none() -> Self
+        ensures { result ≡ no_processes }
+    {
         Sides {
             black: None,
             white: None,
