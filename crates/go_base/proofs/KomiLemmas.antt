@@ -11,7 +11,7 @@ use Rattle.std.proofs.lemmas.Int.{ints}
 use Rattle.std.proofs.lemmas.Str.Parse.{digit_from_value, digits_value_short}
 use Rattle.go_base.specs.Int.{SpellsInt, int_of, written_int}
 use Rattle.go_base.specs.HalfPoints.{written_points, written_half_points}
-use Rattle.go_base.specs.Komi.{half_points_max, IsKomi, Sign, no_sign, plus, minus, sign_text, signed, Fraction, no_point, zeros, half, fraction_text, fraction_digits, fraction_value, SpellsKomi, sign_of, without_sign, front_digits, behind_digits, decimals_of, are_zeros, half_of, half_points_where, half_points_of_parts, unsigned_half_points_of, signed_where, komi_of}
+use Rattle.go_base.specs.Komi.{most_half_points, IsKomi, Sign, no_sign, plus, minus, sign_text, signed, Fraction, no_point, zeros, half, fraction_text, fraction_digits, fraction_value, SpellsKomi, sign_of, without_sign, front_digits, behind_digits, decimals_of, are_zeros, half_of, half_points_where, half_points_of_parts, unsigned_half_points_of, signed_where, komi_of}
 use Rattle.go_base.proofs.IntLemmas.{digit_texts, int_of_spelled, digit_bounds, digit_value-digit}
 
 -- ---- digits
@@ -181,7 +181,7 @@ unsigned_read text decimals points halves decimals_is halves_is some few_before 
     ∙ ap (half_points_where whole decimals) (sym halves_is)
     ∙ half_points_here whole decimals points halves some few_before few_behind (points_is ∙ value_of_digits whole (front_digits_are text) few_before))
 
-pub unsigned_read_limit : (text : List ℕ) (points halves : ℕ) → halves ≤ 1 → length (front_digits text) ≤ 9 → points ≡ unwrap_or (int_of (front_digits text)) 0 → 2 * points + halves ≤ half_points_max
+pub unsigned_read_limit : (text : List ℕ) (points halves : ℕ) → halves ≤ 1 → length (front_digits text) ≤ 9 → points ≡ unwrap_or (int_of (front_digits text)) 0 → 2 * points + halves ≤ most_half_points
 unsigned_read_limit text points halves few_halves few_before points_is =
     let whole = front_digits text in
     omega (arith, points_is ∙ value_of_digits whole (front_digits_are text) few_before, digits_value_few whole (front_digits_are text) few_before)
@@ -311,7 +311,7 @@ no_komi text none half_points spelled =
     cc
 
 -- the written form of a komi without its sign is short
-pub length-written_points : (n : ℕ) → n ≤ half_points_max → length (written_points n) ≤ 11
+pub length-written_points : (n : ℕ) → n ≤ most_half_points → length (written_points n) ≤ 11
 length-written_points n most =
     let whole = length-decimal-le 9 (n / 2) (omega arith) (omega arith) (omega arith) in
     elim (cases_Bool (n % 2 == 1)) [
@@ -346,7 +346,7 @@ fraction_value-for false = refl
 halves_value : (n : ℕ) → n ≡ 2 * (n / 2) + cond (n % 2 == 1) 1 0
 halves_value n = grind (arith, nat_tests)
 
-spells_written_points : (n : ℕ) → n ≤ half_points_max → SpellsUnsigned n (written_points n)
+spells_written_points : (n : ℕ) → n ≤ most_half_points → SpellsUnsigned n (written_points n)
 spells_written_points n most =
     let is_half = n % 2 == 1 in
     let numeral = decimal_is_IsNumeral (n / 2) (omega arith) in

@@ -1,10 +1,10 @@
 -- Places, and the columns and rows that they stand for.
 use Rattle.std.proofs.Common.{ℕ, inl, inr, arith}
-use Rattle.go_base.specs.Size.{size_max}
+use Rattle.go_base.specs.Size.{most_size}
 use Rattle.go_base.specs.Point.{IsOn, Neighbours, AreBeside, in_row, in_column}
 
 -- neighbours on the mailbox board stand beside each other
-pub beside_from_neighbours : (p q : ℕ) → IsOn size_max p → IsOn size_max q → Neighbours p q → AreBeside p q
+pub beside_from_neighbours : (p q : ℕ) → IsOn most_size p → IsOn most_size q → Neighbours p q → AreBeside p q
 beside_from_neighbours p q a b (inl e) =
     let a1 = a.left in let a2 = a.right in let b1 = b.left in let b2 = b.right in
     in_row (omega arith) (inl (omega arith))

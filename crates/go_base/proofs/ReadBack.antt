@@ -1,7 +1,7 @@
 -- What is written of a value is read as it.
 use Rattle.std.proofs.Common.{◌≡◌, ℕ, ◌≤◌, Some, arith}
 use Rattle.std.specs.Prelude.{ℤ}
-use Rattle.go_base.specs.Int.{int_max, int_of, written_int}
+use Rattle.go_base.specs.Int.{most_int, int_of, written_int}
 use Rattle.go_base.specs.Size.{IsSize}
 use Rattle.go_base.specs.Komi.{IsKomi, komi_of}
 use Rattle.go_base.specs.HalfPoints.{written_half_points}
@@ -14,7 +14,7 @@ use Rattle.go_base.proofs.KomiLemmas.{komi_of_spelled, spells_written_komi}
 use Rattle.go_base.proofs.ColourLemmas.{colour_of_spelled, spells_written_colour}
 use Rattle.go_base.proofs.VertexLemmas.{vertex_of_spelled, spells_written_vertex}
 
-pub int_reads : (n : ℕ) → n ≤ int_max → int_of (written_int n) ≡ Some n
+pub int_reads : (n : ℕ) → n ≤ most_int → int_of (written_int n) ≡ Some n
 int_reads n most = int_of_spelled n (written_int n) (spells_written_int n most)
 
 pub size_reads : (n : ℕ) → IsSize n → int_of (written_int n) ≡ Some n

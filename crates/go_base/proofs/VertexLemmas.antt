@@ -10,7 +10,7 @@ use Rattle.std.proofs.lemmas.Bool.Decides.{nat_tests}
 use Rattle.std.proofs.lemmas.Fmt.{first_decimal, length-decimal-le, decimal-digits_value}
 use Rattle.std.proofs.lemmas.Slice.Eq.{bytes_eq-Decides}
 use Rattle.go_base.specs.Int.{SpellsInt, int_of, written_int}
-use Rattle.go_base.specs.Size.{size_max}
+use Rattle.go_base.specs.Size.{most_size}
 use Rattle.go_base.specs.Word.{IsWord}
 use Rattle.go_base.specs.Point.{point, column_of, row_of}
 use Rattle.go_base.specs.declared.vertices.Vertex.{Vertex}
@@ -108,8 +108,8 @@ parts_of_point : (column row : Option ℕ) (p : ℕ) → point_where column row 
 parts_of_point None row p e = absurd (cc)
 parts_of_point (Some c) None p e = absurd (cc)
 parts_of_point (Some c) (Some r) p e =
-    let h = value_where (nat_le 1 r && nat_le r size_max) (point c r) p e in
-    let test : (nat_le 1 r && nat_le r size_max) ≡ true = h.0 in
+    let h = value_where (nat_le 1 r && nat_le r most_size) (point c r) p e in
+    let test : (nat_le 1 r && nat_le r most_size) ≡ true = h.0 in
     record { c = c; r = r; column_is = refl; row_is = refl; least = grind (arith, nat_tests); most = grind (arith, nat_tests); point_is = h.1 }
 
 -- the point of a text is spelled by it

@@ -7,15 +7,15 @@ use Rattle.std.specs.Str.Parse.{AllDigits, digits_value}
 use Rattle.go_base.specs.HalfPoints.{written_half_points}
 
 -- the greatest number of half points, either way: 999,999,999.5 points
-abbrev pub half_points_max : ℕ
-half_points_max = 1999999999
+abbrev pub most_half_points : ℕ
+most_half_points = 1999999999
 
 -- the least and the greatest komi, in half points
 abbrev pub least_komi : ℤ
-least_komi = neg_ℤ (pos half_points_max)
+least_komi = neg_ℤ (pos most_half_points)
 
 abbrev pub most_komi : ℤ
-most_komi = pos half_points_max
+most_komi = pos most_half_points
 
 -- the number of half points is a komi
 pub record IsKomi (half_points : ℤ) : Type 0 where

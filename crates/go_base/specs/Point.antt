@@ -4,7 +4,7 @@
 -- bottom up, 26 places to a row. Place 0 of a row is no point, and 25 columns fill the others, so a step of one from the
 -- end of a row falls on no point of the next row.
 use Rattle.std.specs.Prelude.{◌≡◌, ℕ, ◌+◌, ◌*◌, ◌/◌, ◌%◌, ◌≤◌, ◌⊎◌, ◌↔◌}
-use Rattle.go_base.specs.Size.{size_max}
+use Rattle.go_base.specs.Size.{most_size}
 
 -- the place of a column and a row, both from 1 to 25; A1 is `point 1 1`
 abbrev pub point : ℕ → ℕ → ℕ
@@ -19,9 +19,9 @@ row_of p = p / 26
 -- a column and a row of the largest board
 pub record IsCrossing (column row : ℕ) : Type 0 where
   pub left : 1 ≤ column
-  pub right : column ≤ size_max
+  pub right : column ≤ most_size
   pub bottom : 1 ≤ row
-  pub top : row ≤ size_max
+  pub top : row ≤ most_size
 
 -- the place is a point of the board of that size
 pub record IsOn (size p : ℕ) : Type 0 where
@@ -41,4 +41,4 @@ pub data AreBeside (p q : ℕ) : Type 0 where
 
 -- two points of the largest board are neighbours exactly where they stand beside each other
 abbrev pub NeighboursAreBeside : Type 0
-NeighboursAreBeside = (p q : ℕ) → IsOn size_max p → IsOn size_max q → Neighbours p q ↔ AreBeside p q
+NeighboursAreBeside = (p q : ℕ) → IsOn most_size p → IsOn most_size q → Neighbours p q ↔ AreBeside p q

@@ -3,10 +3,10 @@
 use Rattle.std.specs.Prelude.{ℕ, ◌≤◌}
 
 -- the greatest size of a board
-abbrev pub size_max : ℕ
-size_max = 25
+abbrev pub most_size : ℕ
+most_size = 25
 
 -- the number is a size of a board
 pub record IsSize (size : ℕ) : Type 0 where
   pub least : 1 ≤ size
-  pub most : size ≤ size_max
+  pub most : size ≤ most_size

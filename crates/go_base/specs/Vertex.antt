@@ -2,7 +2,7 @@
 use Rattle.std.specs.Prelude.{◌≡◌, ℕ, ◌+◌, ◌-◌, ◌↔◌, Bool, false, ◌&&◌, ◌==◌, nat_le, List, [], ◌∷◌, Option, Some, None, option_map, codes, if◌then◌else◌}
 use Rattle.std.specs.Char.{to_ascii_uppercase}
 use Rattle.go_base.specs.Int.{int_of, written_int}
-use Rattle.go_base.specs.Size.{size_max}
+use Rattle.go_base.specs.Size.{most_size}
 use Rattle.go_base.specs.Point.{point, column_of, row_of, IsOn}
 use Rattle.go_base.specs.Word.{IsWord, is_word}
 use Rattle.go_base.specs.declared.vertices.Vertex.{Vertex}
@@ -14,7 +14,7 @@ letter_of column = if nat_le column 8 then 64 + column else 65 + column
 
 -- The text spells the point: the letter of its column, capital or small, and its row without leading zeros.
 pub record SpellsPoint (p : ℕ) (text : List ℕ) : Type 0 where
-  pub on : IsOn size_max p
+  pub on : IsOn most_size p
   pub letter : ℕ
   pub letter_is : to_ascii_uppercase letter ≡ letter_of (column_of p)
   pub shape : text ≡ letter ∷ written_int (row_of p)
@@ -48,7 +48,7 @@ row_of_digits digits = if starts_with_zero digits then None else int_of digits
 abbrev pub point_where : Option ℕ → Option ℕ → Option ℕ
 point_where None row = None
 point_where (Some column) None = None
-point_where (Some column) (Some row) = if nat_le 1 row && nat_le row size_max then Some (point column row) else None
+point_where (Some column) (Some row) = if nat_le 1 row && nat_le row most_size then Some (point column row) else None
 
 -- the point that the text spells, where it spells one
 abbrev pub point_of : List ℕ → Option ℕ
@@ -62,7 +62,7 @@ vertex_of text = if is_word (codes "pass") text then Some Pass else option_map A
 -- a pass, or a point of the largest board
 abbrev pub IsVertex : Vertex → Type 0
 IsVertex Pass = Unit {0}
-IsVertex (At p) = IsOn size_max p
+IsVertex (At p) = IsOn most_size p
 
 -- the function tells what the relation says
 abbrev pub VertexOfTells : Type 0

@@ -5,7 +5,7 @@ ghost use Rattle.go_base.specs.Int.{SpellsInt, int_of, written_int};
 use arrayvec::ArrayVec;
 
 /// The greatest int of the protocol.
-const INT_MAX: u32 = 2_147_483_647;
+const MOST_INT: u32 = 2_147_483_647;
 
 /// Reads an int: one digit or more and nothing else, with leading zeros or without, of a value up to 2,147,483,647. `None`
 /// for every other text, so for one with a sign, and for a greater value.
@@ -23,7 +23,7 @@ pub fn read_int(text: &[u8]) -> Option<u32>
             return None;
         }
         let digit = u32::from(*byte - b'0');
-        if value > (INT_MAX - digit) / 10 {
+        if value > (MOST_INT - digit) / 10 {
             return None;
         }
         value = value * 10 + digit;

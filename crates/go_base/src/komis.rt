@@ -2,7 +2,7 @@
 ghost use Rattle.std.specs.Prelude.{◌≡◌, ◌↔◌, ◌+◌, ◌<◌, ◌≤◌, ℤ, pos, neg_ℤ, IsTrue, IsSome, IfSome, IfNone, if◌then◌else◌};
 ghost use Rattle.std.specs.Option.{option_copied};
 ghost use Rattle.go_base.specs.HalfPoints.{written_half_points};
-ghost use Rattle.go_base.specs.Komi.{IsKomi, SpellsKomi, komi_of, half_points_max};
+ghost use Rattle.go_base.specs.Komi.{IsKomi, SpellsKomi, komi_of, most_half_points};
 ghost use Rattle.go_base.specs.Komi.{sign_of, minus, without_sign, unsigned_half_points_of};
 ghost use Rattle.go_base.specs.Komi.{front_digits, behind_digits, decimals_of, half_of, are_zeros};
 
@@ -12,10 +12,10 @@ use arrayvec::ArrayVec;
 use std::marker::Model;
 
 /// The greatest komi in half points, either way.
-const HALF_POINTS_MAX: i32 = 1_999_999_999;
+const MOST_HALF_POINTS: i32 = 1_999_999_999;
 
 /// The most digits of a komi on either side of the point.
-const DIGITS_MAX: usize = 9;
+const MOST_DIGITS: usize = 9;
 
 /// What White gets for playing second: a number of half points, from -1,999,999,999 to 1,999,999,999. The score is less by
 /// komi, so a komi below zero is in Black's favour.
@@ -57,7 +57,7 @@ impl Komi {
         ensures limits { IsSome result ↔ IsKomi half_points }
         ensures value { IfSome result (λ komi. komi ≡ half_points) }
     {
-        if !(-HALF_POINTS_MAX..=HALF_POINTS_MAX).contains(&half_points) {
+        if !(-MOST_HALF_POINTS..=MOST_HALF_POINTS).contains(&half_points) {
             return None;
         }
         Some(Komi { half_points })
@@ -89,7 +89,7 @@ impl Komi {
 
 /// The number with its sign.
 fn signed(is_negative: bool, magnitude: u32) -> i32
-    requires { magnitude ≤ half_points_max }
+    requires { magnitude ≤ most_half_points }
     ensures { result ≡ (if is_negative then neg_ℤ (pos magnitude) else pos magnitude) }
 {
     if is_negative {
@@ -114,7 +114,7 @@ fn split_sign(text: &[u8]) -> (bool, &[u8])
 /// The half points that a text without a sign spells.
 fn read_unsigned(text: &[u8]) -> Option<u32>
     ensures value { result ≡ unsigned_half_points_of text.now }
-    ensures limit { IfSome result (λ half_points. half_points ≤ half_points_max) }
+    ensures limit { IfSome result (λ half_points. half_points ≤ most_half_points) }
 {
     let (whole, rest) = split_digits(text);
     let decimals = read_decimals(rest)?;
@@ -130,7 +130,7 @@ fn read_unsigned(text: &[u8]) -> Option<u32>
 fn may_stand(before: usize, behind: usize) -> bool
     ensures { IsTrue result ↔ ((0 < before + behind) × (before ≤ 9) × (behind ≤ 9)) }
 {
-    (before > 0 || behind > 0) && before <= DIGITS_MAX && behind <= DIGITS_MAX
+    (before > 0 || behind > 0) && before <= MOST_DIGITS && behind <= MOST_DIGITS
 }
 
 /// The digits in front, and what follows them.

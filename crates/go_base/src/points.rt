@@ -1,6 +1,6 @@
 //! Points of a board.
 ghost use Rattle.std.specs.Prelude.{◌≡◌, ◌↔◌, IsTrue, IsSome, IfSome};
-ghost use Rattle.go_base.specs.Size.{size_max};
+ghost use Rattle.go_base.specs.Size.{most_size};
 ghost use Rattle.go_base.specs.Point.{point, column_of, row_of, IsCrossing, IsOn};
 ghost use Rattle.go_base.specs.Vertex.{letter_of};
 
@@ -8,7 +8,7 @@ use crate::sizes::Size;
 use std::marker::Model;
 
 /// The greatest column and the greatest row of a point.
-const LINE_MAX: u32 = 25;
+const MOST_LINES: u32 = 25;
 
 /// A point of the largest board: where a column and a row cross, both from 1 to 25. A1, in the lower left corner, is
 /// column 1 and row 1.
@@ -45,7 +45,7 @@ impl Point {
         ensures limits { IsSome result ↔ IsCrossing column row }
         ensures value { IfSome result (λ p. p ≡ point column row) }
     {
-        if !(1..=LINE_MAX).contains(&column) || !(1..=LINE_MAX).contains(&row) {
+        if !(1..=MOST_LINES).contains(&column) || !(1..=MOST_LINES).contains(&row) {
             return None;
         }
         Some(Point::crossing(column, row))
@@ -65,7 +65,7 @@ impl Point {
     /// The column, 1 to 25, counted from the left.
     pub fn column(self) -> u32
         ensures value { result ≡ column_of self }
-        ensures limits { IsOn size_max self }
+        ensures limits { IsOn most_size self }
     {
         u32::from(self.column)
     }
@@ -73,7 +73,7 @@ impl Point {
     /// The row, 1 to 25, counted from the bottom.
     pub fn row(self) -> u32
         ensures value { result ≡ row_of self }
-        ensures limits { IsOn size_max self }
+        ensures limits { IsOn most_size self }
     {
         u32::from(self.row)
     }

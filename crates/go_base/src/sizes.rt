@@ -5,7 +5,7 @@ ghost use Rattle.go_base.specs.Size.{IsSize};
 use std::marker::Model;
 
 /// The greatest size of a board.
-const SIZE_MAX: u32 = 25;
+const MOST_SIZE: u32 = 25;
 
 /// The number of columns of a board, and of its rows: 1 to 25.
 #[derive(Clone, Copy, Debug, PartialEq, Eq)]
@@ -32,7 +32,7 @@ impl Size {
         ensures limits { IsSome result ↔ IsSize number }
         ensures value { IfSome result (λ size. size ≡ number) }
     {
-        if !(1..=SIZE_MAX).contains(&number) {
+        if !(1..=MOST_SIZE).contains(&number) {
             return None;
         }
         Some(Size { number })

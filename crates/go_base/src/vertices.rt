@@ -1,6 +1,6 @@
 //! Vertices: what a move plays.
 ghost use Rattle.std.specs.Prelude.{◌≡◌, ◌≤◌, IfSome, IfNone};
-ghost use Rattle.go_base.specs.Size.{size_max};
+ghost use Rattle.go_base.specs.Size.{most_size};
 ghost use Rattle.go_base.specs.Vertex.{column_of_letter, row_of_digits, point_of, written_vertex};
 ghost use Rattle.go_base.specs.declared.vertices.Vertex.TheVariants.{At};
 
@@ -61,7 +61,7 @@ fn read_point(text: &[u8]) -> Option<Point>
 /// The column of a letter, small or capital.
 fn read_column(letter: u8) -> Option<u32>
     ensures value { result ≡ column_of_letter letter }
-    ensures limits { IfSome result (λ column. (1 ≤ column) × (column ≤ size_max)) }
+    ensures limits { IfSome result (λ column. (1 ≤ column) × (column ≤ most_size)) }
 {
     let capital = letter.to_ascii_uppercase();
     match capital {

@@ -4,7 +4,7 @@ use Rattle.std.specs.Prelude.{◌⊎◌, ◌≢◌}
 use Rattle.std.proofs.Math.ListN.{set, length-set}
 use Rattle.go_base.specs.Colour.{other}
 use Rattle.go_base.specs.Point.{IsOn}
-use Rattle.go_base.specs.Size.{size_max}
+use Rattle.go_base.specs.Size.{most_size}
 use Rattle.go_base.specs.declared.colours.Colour.{Colour}
 use Rattle.go_base.specs.declared.colours.Colour.TheVariants as colour
 use Rattle.go_board.specs.Board.{at, stone}
@@ -37,7 +37,7 @@ pub IsFramed-set : (board : List Cell) (p : ℕ) (x : Cell) → at board p ≢ E
 IsFramed-set board p x point f = record {
   length_is = length-set board p x ∙ f.length_is;
   inside = λ q held. elim (same_or_other q p) [
-    | inl same ↦ subst (λ r. IsOn size_max r) (sym same) (f.inside p point)
+    | inl same ↦ subst (λ r. IsOn most_size r) (sym same) (f.inside p point)
     | inr another ↦ f.inside q (λ e. held (get_or-set_other board p q x Edge another ∙ e))
   ];
 }

@@ -1,7 +1,7 @@
 //! A board as an array of places with edge round the points.
 ghost use Rattle.std.specs.Prelude.{◌≡◌, ◌≢◌, ℕ, ◌<◌, ◌≤◌, ◌↔◌, ◌⊎◌, if◌then◌else◌, IsTrue, All, ◌+◌};
 ghost use Rattle.go_base.specs.Point.{IsOn};
-ghost use Rattle.go_base.specs.Size.{size_max, IsSize};
+ghost use Rattle.go_base.specs.Size.{most_size, IsSize};
 ghost use Rattle.go_board.specs.Board.{is_point};
 
 use crate::places::Places;
@@ -68,7 +68,7 @@ impl Cell {
 #[inline]
 pub fn place_of(point: Point) -> usize
     ensures value { result ≡ point }
-    ensures point { IsOn size_max result }
+    ensures point { IsOn most_size result }
 {
     ROW * point.row() as usize + point.column() as usize
 }
@@ -191,7 +191,7 @@ impl Board {
     /// Whether a neighbour of a point holds this.
     #[inline]
     pub fn has_beside(&self, place: usize, wanted: Cell) -> bool
-        requires { IsOn size_max place }
+        requires { IsOn most_size place }
         ensures { IsTrue result ↔ HasBeside self.now place wanted }
     {
         self.cells[place + 1] == wanted

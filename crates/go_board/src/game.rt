@@ -3,7 +3,7 @@ ghost use Rattle.std.specs.Prelude.{◌≡◌, ◌<◌, ◌≤◌, ◌↔◌, �
 ghost use Rattle.go_base.specs.Decide.{holds};
 ghost use Rattle.go_base.specs.Handicap.{AllowsHandicap, handicap_points};
 ghost use Rattle.go_base.specs.Point.{IsOn};
-ghost use Rattle.go_base.specs.Size.{size_max};
+ghost use Rattle.go_base.specs.Size.{most_size};
 ghost use Rattle.go_board.specs.Board.{place_count};
 ghost use Rattle.go_board.specs.Removed.{most_removed};
 ghost use Rattle.go_board.specs.Taken.{same_colour};
@@ -217,7 +217,7 @@ impl Game {
 
     /// Whether a play on an empty point would repeat an earlier board: the one before the previous move.
     fn repeats(&self, colour: Colour, place: usize) -> bool
-        requires point { IsOn size_max place }
+        requires point { IsOn most_size place }
         requires empty { at (board_of self.now) place ≡ Empty }
         ensures { IsTrue result ↔ Repeats self.now (put (board_of self.now) colour place) }
     {

@@ -2,7 +2,7 @@
 ghost use Rattle.std.specs.Prelude.{◌≡◌, ◌+◌, ◌<◌, ◌≤◌, [], ◌∷◌, ◌++◌};
 ghost use Rattle.arrayvec.specs.ArrayVec.{array_vec_len};
 ghost use Rattle.go_base.specs.Point.{point, IsCrossing};
-ghost use Rattle.go_base.specs.Size.{size_max, IsSize};
+ghost use Rattle.go_base.specs.Size.{most_size, IsSize};
 ghost use Rattle.go_base.specs.Vertex.{letter_of};
 ghost use Rattle.go_board.specs.Show.{shown_point, shown_letters};
 
@@ -14,16 +14,16 @@ use go_base::{Colour, Point, write_int};
 const TEXT_ROOM: usize = 2000;
 
 /// The most bytes of the points of a row: two for each of 25.
-const POINTS_MOST: usize = 50;
+const MOST_POINT_BYTES: usize = 50;
 
 /// The most bytes of a row: its points and two digits.
-const ROW_MOST: usize = POINTS_MOST + 2;
+const MOST_ROW_BYTES: usize = MOST_POINT_BYTES + 2;
 
 /// The most bytes of the letters: 25 letters and 24 spaces.
-const LETTERS_MOST: usize = 49;
+const MOST_LETTER_BYTES: usize = 49;
 
 /// The most bytes of the captures: 14 of words and spaces, and two numbers of ten digits.
-const CAPTURES_MOST: usize = 34;
+const MOST_CAPTURE_BYTES: usize = 34;
 
 /// The text of a board, as far as it is written.
 type BoardText = ArrayVec<u8, TEXT_ROOM>;
@@ -56,10 +56,10 @@ impl Game {
     /// Appends a row.
     fn push_row(&self, text: &mut BoardText, row: u32)
         requires least { 1 ≤ row }
-        requires most { row ≤ size_max }
-        requires room { array_vec_len text.old + ROW_MOST ≤ TEXT_ROOM }
+        requires most { row ≤ most_size }
+        requires room { array_vec_len text.old + MOST_ROW_BYTES ≤ TEXT_ROOM }
         ensures row { text.new.items ≡ text.old.items ++ shown_row self.now row }
-        ensures few { array_vec_len text.new ≤ array_vec_len text.old + ROW_MOST }
+        ensures few { array_vec_len text.new ≤ array_vec_len text.old + MOST_ROW_BYTES }
     {
         self.push_points(text, row);
         let _ = text.try_extend_from_slice(&write_int(row));
@@ -68,10 +68,10 @@ impl Game {
     /// Appends the points of a row.
     fn push_points(&self, text: &mut BoardText, row: u32)
         requires least { 1 ≤ row }
-        requires most { row ≤ size_max }
-        requires room { array_vec_len text.old + POINTS_MOST ≤ TEXT_ROOM }
+        requires most { row ≤ most_size }
+        requires room { array_vec_len text.old + MOST_POINT_BYTES ≤ TEXT_ROOM }
         ensures points { text.new.items ≡ text.old.items ++ shown_points self.now row }
-        ensures few { array_vec_len text.new ≤ array_vec_len text.old + POINTS_MOST }
+        ensures few { array_vec_len text.new ≤ array_vec_len text.old + MOST_POINT_BYTES }
     {
         let size = self.size().get();
         for column in 1..=size {
@@ -91,7 +91,7 @@ impl Game {
 
     /// Appends how many stones each colour has taken.
     fn push_captures(&self, text: &mut BoardText)
-        requires { array_vec_len text.old + CAPTURES_MOST ≤ TEXT_ROOM }
+        requires { array_vec_len text.old + MOST_CAPTURE_BYTES ≤ TEXT_ROOM }
         ensures { text.new.items ≡ text.old.items ++ shown_captures self.now }
     {
         let _ = text.try_extend_from_slice(b"captures B ");
@@ -115,9 +115,9 @@ fn mark(stone: Option<Colour>) -> u8
 /// Appends the letters of the columns of a board of this size.
 fn push_letters(text: &mut BoardText, size: u32)
     requires size { IsSize size }
-    requires room { array_vec_len text.old + LETTERS_MOST ≤ TEXT_ROOM }
+    requires room { array_vec_len text.old + MOST_LETTER_BYTES ≤ TEXT_ROOM }
     ensures letters { text.new.items ≡ text.old.items ++ shown_letters size }
-    ensures few { array_vec_len text.new ≤ array_vec_len text.old + LETTERS_MOST }
+    ensures few { array_vec_len text.new ≤ array_vec_len text.old + MOST_LETTER_BYTES }
 {
     text.push(b'A');
     for column in 2..=size {

@@ -1,7 +1,7 @@
 -- What must hold before a step. No public clause speaks of it.
 use Rattle.std.specs.Prelude.{◌<◌, length, IfSome, IsSome}
 use Rattle.go_base.specs.Handicap.{AllowsHandicap}
-use Rattle.go_base.specs.Int.{int_max}
+use Rattle.go_base.specs.Int.{most_int}
 use Rattle.go_base.specs.declared.colours.Colour.{Colour}
 use Rattle.go_board.specs.Game.{GameRecord, HasRoom, IsLegal}
 use Rattle.gtp_wire.specs.declared.commands.Command.{Command}
@@ -15,7 +15,7 @@ use Rattle.gtp_match.specs.declared.table.Outcome.TheVariants.{Down, Unfit, Forf
 
 -- an engine may be sent a command more
 abbrev pub MayHand : Incarnation → Type 0
-MayHand engine = (engine.sent < int_max) × (length engine.unanswered < most_unanswered)
+MayHand engine = (engine.sent < most_int) × (length engine.unanswered < most_unanswered)
 
 -- a reply to the command may be judged: where it is a handicap, the game's size allows it
 abbrev pub MayBeAnswered : GameRecord → Command → Type 0
@@ -30,7 +30,7 @@ MayBeAnswered game Quit = Unit {0}
 -- an engine that is up may be heard: its oldest command may be judged, and one more may be confirmed
 pub record MayReply (game : GameRecord) (engine : Incarnation) : Type 0 where
   pub answered : IfSome (oldest engine.unanswered) (λ entry. MayBeAnswered game entry.command)
-  pub confirmed : engine.confirmed < int_max
+  pub confirmed : engine.confirmed < most_int
 
 -- a side may be heard: the record has room for a move
 pub record MayHear (c : Controller) (side : Colour) : Type 0 where
@@ -50,4 +50,4 @@ MayBe game side Resigns = Unit {0}
 pub record MayApply (c : Controller) (side : Colour) (made : Outcome) : Type 0 where
   pub outcome : MayBe c.game side made
   pub up : IsSome (side_of c.sides side).up
-  pub engine : IfSome (side_of c.sides side).up (λ engine. engine.confirmed < int_max)
+  pub engine : IfSome (side_of c.sides side).up (λ engine. engine.confirmed < most_int)

@@ -2,7 +2,7 @@
 use Rattle.std.proofs.Common.{◌≡◌, ℕ, ◌≤◌, [], length, Option, Some, None, true, false, refl, sym, ◌∙◌, ap, subst, arith}
 use Rattle.std.specs.Prelude.{IfSome, IsTrue, ◌↔◌, nat_le, ◌&&◌}
 use Rattle.std.proofs.lemmas.Bool.Decides.{nat_tests}
-use Rattle.go_base.specs.Size.{IsSize, size_max}
+use Rattle.go_base.specs.Size.{IsSize, most_size}
 use Rattle.go_base.specs.Vertex.{IsVertex, vertex_of, written_vertex}
 use Rattle.go_base.specs.declared.colours.Colour.{Colour}
 use Rattle.go_base.specs.declared.vertices.Vertex.{Vertex}
@@ -35,7 +35,7 @@ well_may_be_sent game Quit well = absurd well
 
 -- ---- it can be written
 
-pub vertex_of_legal : (game : GameRecord) (colour : Colour) (v : Vertex) → IsLegal game colour v → game.size ≤ size_max → IsVertex v
+pub vertex_of_legal : (game : GameRecord) (colour : Colour) (v : Vertex) → IsLegal game colour v → game.size ≤ most_size → IsVertex v
 vertex_of_legal game colour Pass legal most = tt
 vertex_of_legal game colour (At p) legal most =
     let on = legal.on_board in
@@ -63,10 +63,10 @@ well_asks_none game id (Play move) well = refl
 well_asks_none game id (Genmove colour) well = absurd well
 well_asks_none game id Quit well = absurd well
 
-size_test : (size : ℕ) → IsSize size → (nat_le 1 size && nat_le size size_max) ≡ true
+size_test : (size : ℕ) → IsSize size → (nat_le 1 size && nat_le size most_size) ≡ true
 size_test size is =
     let least : 1 ≤ size = is.least in
-    let most : size ≤ size_max = is.most in
+    let most : size ≤ most_size = is.most in
     grind (arith, nat_tests)
 
 boardsize_good : (game : GameRecord) (size : ℕ) → IsSize size

@@ -2,7 +2,7 @@
 use Rattle.std.proofs.Common.{◌≡◌, ℕ, List, [], length, Bool, true, false, cond, Option, Some, None, refl}
 use Rattle.std.specs.Prelude.{codes, ℤ, ◌&&◌, nat_le, slice_get}
 use Rattle.go_base.specs.Int.{int_of}
-use Rattle.go_base.specs.Size.{size_max}
+use Rattle.go_base.specs.Size.{most_size}
 use Rattle.go_base.specs.Colour.{colour_of}
 use Rattle.go_base.specs.Komi.{komi_of}
 use Rattle.go_base.specs.Vertex.{vertex_of}
@@ -44,7 +44,7 @@ known_keeps game (Some name) = success_keeps game game _
 boardsize_keeps : (game : GameRecord) (size : Option ℕ) → Keeps (answer_boardsize game size) game
 boardsize_keeps game None = failure_keeps game (codes "syntax error")
 boardsize_keeps game (Some size) =
-    either_keeps game (nat_le 1 size && nat_le size size_max) _ _
+    either_keeps game (nat_le 1 size && nat_le size most_size) _ _
     (success_keeps (record game { size = size; handicap = 0; moves = [] }) game [])
     (failure_keeps game (codes "unacceptable size"))
 

@@ -3,8 +3,8 @@ use Rattle.std.proofs.Common.{◌≡◌, ℕ, ◌≤◌, List, [], ◌∷◌, �
 use Rattle.std.specs.Prelude.{codes, ℤ, IfSome, is_some, ◌&&◌, nat_le, nat_lt, slice_get, filter, MatchOption}
 use Rattle.std.specs.List.{filter_map, join_with_byte, AllByRecursion, slice_split, cons_option}
 use Rattle.std.proofs.lemmas.Bool.Decides.{nat_tests}
-use Rattle.go_base.specs.Int.{int_max, int_of}
-use Rattle.go_base.specs.Size.{IsSize, size_max}
+use Rattle.go_base.specs.Int.{most_int, int_of}
+use Rattle.go_base.specs.Size.{IsSize, most_size}
 use Rattle.go_base.specs.Colour.{colour_of}
 use Rattle.go_base.specs.Komi.{komi_of}
 use Rattle.go_base.specs.Handicap.{AllowsHandicap, handicap_points}
@@ -19,7 +19,7 @@ use Rattle.gtp_wire.specs.declared.lines.Line.{Line}
 use Rattle.gtp_wire.specs.declared.lines.Line.TheVariants as line
 use Rattle.gtp_wire.specs.Bytes.{is_kept, is_newline, space_for_tab, before_hash}
 use Rattle.gtp_wire.specs.Words.{words}
-use Rattle.gtp_wire.specs.Lines.{lines, line_max, line_of, line_of_words, but_last}
+use Rattle.gtp_wire.specs.Lines.{lines, most_line_bytes, line_of, line_of_words, but_last}
 use Rattle.gtp_wire.specs.Replies.{IsReply, IsReplyText, written_reply}
 use Rattle.gtp_wire.proofs.WrittenLemmas.{written_is_read}
 use Rattle.go_base.specs.Decide.{allows?}
@@ -68,13 +68,13 @@ known_good : (game : GameRecord) (name : Option (List ℕ)) → IsSize game.size
 known_good game None is = syntax_good game is
 known_good game (Some name) is = record { text = truth_fits (is_some (command_named name)); size = is }
 
-size_of_test : (size : ℕ) → (nat_le 1 size && nat_le size size_max) ≡ true → IsSize size
+size_of_test : (size : ℕ) → (nat_le 1 size && nat_le size most_size) ≡ true → IsSize size
 size_of_test size e = record { least = grind (arith, nat_tests); most = grind (arith, nat_tests) }
 
 boardsize_good : (game : GameRecord) (size : Option ℕ) → IsSize game.size → IsGood (answer_boardsize game size)
 boardsize_good game None is = syntax_good game is
 boardsize_good game (Some size) is =
-    either_good (nat_le 1 size && nat_le size size_max) (succeeds (record game { size = size; handicap = 0; moves = [] }) [])
+    either_good (nat_le 1 size && nat_le size most_size) (succeeds (record game { size = size; handicap = 0; moves = [] }) [])
     (fails game (codes "unacceptable size"))
     (λ e. empty_good (record game { size = size; handicap = 0; moves = [] }) (size_of_test size e))
     (λ e. record { text = record { fits = lit≤ tt; shown = refl; single = refl; front = refl; end = refl }; size = is })
@@ -122,7 +122,7 @@ undo_good game is =
     (λ e. record { text = record { fits = lit≤ tt; shown = refl; single = refl; front = refl; end = refl }; size = is })
 
 -- what a lawful choice is answered by
-pub choice_fits : (game : GameRecord) (c : Colour) (ch : Choice) → game.size ≤ size_max → IsLawful game c ch
+pub choice_fits : (game : GameRecord) (c : Colour) (ch : Choice) → game.size ≤ most_size → IsLawful game c ch
     → IsReplyText (answer_choice game c ch).text
 choice_fits game c choice.Resign most lawful = record { fits = lit≤ tt; shown = refl; single = refl; front = refl; end = refl }
 choice_fits game c (choice.Play v) most lawful = vertex_fits game c v most lawful
@@ -174,11 +174,11 @@ answer_good game (line.Command cl) ch is lawful = named_good game (command_of cl
 
 -- ---- the ids of lines
 
-int_of-few : (word : List ℕ) (id : Option ℕ) → int_of word ≡ id → IfSome id (λ n. n ≤ int_max)
+int_of-few : (word : List ℕ) (id : Option ℕ) → int_of word ≡ id → IfSome id (λ n. n ≤ most_int)
 int_of-few word None e = tt
 int_of-few word (Some n) e = (spells_int_of n word e).limit
 
-by_first : (o : Option ℕ) (w : List ℕ) (ws : List (List ℕ)) → IfSome o (λ n. n ≤ int_max)
+by_first : (o : Option ℕ) (w : List ℕ) (ws : List (List ℕ)) → IfSome o (λ n. n ≤ most_int)
     → HasIntId (line.Command (cond (is_some o) (record { id = o; words = ws }) (record { id = None; words = w ∷ ws })))
 by_first None w ws fits = tt
 by_first (Some n) w ws fits = fits
@@ -191,7 +191,7 @@ line_id : (ws : List (List ℕ)) → IfSome (line_of_words ws) HasIntId
 unfolding line_of_words
 line_id [] = tt
 line_id (w ∷ ws) =
-    by_length (nat_lt line_max (length (join_with_byte 32 (w ∷ ws)))) _ (by_first (int_of w) w ws (int_of-few w (int_of w) refl))
+    by_length (nat_lt most_line_bytes (length (join_with_byte 32 (w ∷ ws)))) _ (by_first (int_of w) w ws (int_of-few w (int_of w) refl))
 
 consed : {Y : Type 0} (P : Y → Type 0) (o : Option Y) (ys : List Y) → IfSome o P → AllByRecursion P ys → AllByRecursion P (cons_option o ys)
 consed P None ys fits all = all

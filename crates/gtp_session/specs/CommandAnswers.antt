@@ -1,6 +1,6 @@
 -- What the commands that a controller sends do to an engine.
 use Rattle.std.specs.Prelude.{◌≡◌, ℕ, ◌≤◌, List, [], Option, Some, None, IsTrue, ◌↔◌}
-use Rattle.go_base.specs.Size.{IsSize, size_max}
+use Rattle.go_base.specs.Size.{IsSize, most_size}
 use Rattle.go_base.specs.Komi.{IsKomi}
 use Rattle.go_base.specs.Handicap.{AllowsHandicap, handicap_points}
 use Rattle.go_base.specs.declared.colours.Colour.{Colour}
@@ -46,7 +46,7 @@ GoesWell game (Boardsize size) = IsSize size
 GoesWell game (Komi komi) = IsKomi komi
 GoesWell game ClearBoard = Unit {0}
 GoesWell game (FixedHandicap stones) = (IsTouched game → ⊥) × (AllowsHandicap game.size stones × IsSize game.size)
-GoesWell game (Play move) = HasRoom game × (IsLegal game move.colour move.vertex × (game.size ≤ size_max))
+GoesWell game (Play move) = HasRoom game × (IsLegal game move.colour move.vertex × (game.size ≤ most_size))
 GoesWell game (Genmove colour) = ⊥
 GoesWell game Quit = ⊥
 
@@ -57,7 +57,7 @@ MayBeSent game (Komi komi) = GoesWell game (Komi komi)
 MayBeSent game ClearBoard = GoesWell game ClearBoard
 MayBeSent game (FixedHandicap stones) = GoesWell game (FixedHandicap stones)
 MayBeSent game (Play move) = GoesWell game (Play move)
-MayBeSent game (Genmove colour) = HasRoom game × (game.size ≤ size_max)
+MayBeSent game (Genmove colour) = HasRoom game × (game.size ≤ most_size)
 MayBeSent game Quit = ⊥
 
 -- ---- laws

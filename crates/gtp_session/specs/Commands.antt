@@ -3,7 +3,7 @@ use Rattle.std.specs.Prelude.{◌≡◌, ℕ, ℤ, Bool, true, false, ◌&&◌, 
 use Rattle.std.specs.List.{join_with_byte}
 use Rattle.std.specs.Str.{bytes_eq}
 use Rattle.go_base.specs.Int.{int_of}
-use Rattle.go_base.specs.Size.{size_max}
+use Rattle.go_base.specs.Size.{most_size}
 use Rattle.go_base.specs.Colour.{colour_of}
 use Rattle.go_base.specs.Vertex.{vertex_of, written_vertex}
 use Rattle.go_base.specs.Komi.{komi_of}
@@ -92,7 +92,7 @@ answer_known game (Some name) = succeeds game (if is_some (command_named name) t
 abbrev pub answer_boardsize : GameRecord → Option ℕ → Answer
 answer_boardsize game None = syntax_error game
 answer_boardsize game (Some size) =
-    if nat_le 1 size && nat_le size size_max then succeeds (record game { size = size; handicap = 0; moves = [] }) []
+    if nat_le 1 size && nat_le size most_size then succeeds (record game { size = size; handicap = 0; moves = [] }) []
     else fails game (codes "unacceptable size")
 
 -- board, handicap, record and captures are emptied, and size and komi stay

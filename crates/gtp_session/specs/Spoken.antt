@@ -1,6 +1,6 @@
 -- What is answered is one reply, as a controller reads it.
 use Rattle.std.specs.Prelude.{◌≡◌, ℕ, ◌≤◌, List, All, Option, IfSome}
-use Rattle.go_base.specs.Int.{int_max}
+use Rattle.go_base.specs.Int.{most_int}
 use Rattle.go_base.specs.Size.{IsSize}
 use Rattle.go_board.specs.Game.{GameRecord}
 use Rattle.gtp_wire.specs.declared.lines.Line.{Line}
@@ -14,7 +14,7 @@ use Rattle.gtp_session.specs.Engine.{Engine, WrittenReply, Replies}
 
 -- the line's id, where it has one, is an int
 abbrev pub HasIntId : Line → Type 0
-HasIntId line = IfSome (id_of line) (λ id. id ≤ int_max)
+HasIntId line = IfSome (id_of line) (λ id. id ≤ most_int)
 
 -- where the line asks the policy, the choice is lawful for the colour
 abbrev pub IsLawfulAt : GameRecord → Line → Choice → Type 0

@@ -11,7 +11,7 @@ use go_board::Game;
 use std::marker::Model;
 
 /// The most places of a book: as many as a record has moves.
-pub const PLACES_MOST: usize = 2000;
+pub const MOST_PLACES: usize = 2000;
 
 /// A place of a book.
 #[derive(Clone, Copy, Debug, PartialEq, Eq)]
@@ -56,7 +56,7 @@ impl Default for Place {
 /// Where that place is missing, empty, or a vertex that isn't legal, it passes.
 #[derive(Drop)]
 pub struct Book {
-    places: ArrayVec<Place, PLACES_MOST>,
+    places: ArrayVec<Place, MOST_PLACES>,
 }
 
 impl Model for Book {

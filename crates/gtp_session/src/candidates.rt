@@ -2,7 +2,7 @@
 ghost use Rattle.std.specs.Prelude.{◌≡◌, ◌+◌, ◌<◌, ◌≤◌, [], ◌∷◌, ◌++◌, ◌↔◌, ◌⊎◌, IsTrue, slice_get, Some, None};
 ghost use Rattle.arrayvec.specs.ArrayVec.{array_vec_len};
 ghost use Rattle.go_base.specs.Point.{point, IsCrossing};
-ghost use Rattle.go_base.specs.Size.{size_max};
+ghost use Rattle.go_base.specs.Size.{most_size};
 ghost use Rattle.go_base.specs.Colour.{other};
 ghost use Rattle.gtp_session.specs.Candidates.{IsOpen, HasOpenNeighbour, IsCandidate, row_points, points_of, candidates, chosen};
 
@@ -12,10 +12,10 @@ use go_base::{Colour, Point, Size, Vertex};
 use go_board::Game;
 
 /// As many points as the largest board has.
-pub(crate) const POINTS_MOST: usize = 625;
+pub(crate) const MOST_POINTS: usize = 625;
 
 /// Points of a board, at most all of them.
-pub(crate) type Points = ArrayVec<Point, POINTS_MOST>;
+pub(crate) type Points = ArrayVec<Point, MOST_POINTS>;
 
 /// The candidates for a colour, in the order A1, B1, .., A2, B2, ...
 pub(crate) fn candidates(game: &Game, colour: Colour) -> Points
@@ -74,8 +74,8 @@ fn has_open_neighbour(game: &Game, colour: Colour, point: Point) -> bool
 
 /// Whether a column and a row cross on the board, on a point that is empty or holds a stone of the other colour.
 fn is_open(game: &Game, colour: Colour, column: u32, row: u32) -> bool
-    requires column { column ≤ size_max + 1 }
-    requires row { row ≤ size_max + 1 }
+    requires column { column ≤ most_size + 1 }
+    requires row { row ≤ most_size + 1 }
     ensures { IsTrue result ↔ IsOpen game.now colour (point column row) }
 {
     let size = game.size();
@@ -109,8 +109,8 @@ fn points_of(size: Size) -> Points
 /// Appends the points of a row.
 fn push_row(points: &mut Points, size: Size, row: u32)
     requires least { 1 ≤ row }
-    requires most { row ≤ size_max }
-    requires room { array_vec_len points.old + size ≤ POINTS_MOST }
+    requires most { row ≤ most_size }
+    requires room { array_vec_len points.old + size ≤ MOST_POINTS }
     ensures row { points.new.items ≡ points.old.items ++ row_points size row }
     ensures len { array_vec_len points.new ≡ array_vec_len points.old + size }
 {
@@ -122,7 +122,7 @@ fn push_row(points: &mut Points, size: Size, row: u32)
 /// Appends the point where a column and a row cross.
 fn push_point(points: &mut Points, column: u32, row: u32)
     requires crossing { IsCrossing column row }
-    requires room { array_vec_len points.old < POINTS_MOST }
+    requires room { array_vec_len points.old < MOST_POINTS }
     ensures point { points.new.items ≡ points.old.items ++ point column row ∷ [] }
     ensures len { array_vec_len points.new ≡ array_vec_len points.old + 1 }
 {

@@ -1,5 +1,5 @@
 //! What the policies choose.
-use crate::book::{Book, PLACES_MOST, Place};
+use crate::book::{Book, MOST_PLACES, Place};
 use crate::candidates::candidates;
 use crate::first::First;
 use crate::laws;
@@ -266,7 +266,7 @@ fn a_book_with_a_bad_place_is_none(rt: HostRuntime) {
 #[test]
 fn a_book_has_at_most_2000_places(rt: HostRuntime) -> Result<(), Fail> {
     let mut text = Vec::new(rt.alloc());
-    text.resize(PLACES_MOST - 1, b',')?;
+    text.resize(MOST_PLACES - 1, b',')?;
     assert!(rt; Book::read(&text).is_some());
     text.extend_from_slice(b"resign")?;
     let mut book = Book::read(&text).ok_or("book")?;

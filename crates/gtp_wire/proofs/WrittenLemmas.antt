@@ -10,7 +10,7 @@ use Rattle.std.proofs.lemmas.Bool.Decides.{nat_tests}
 use Rattle.std.proofs.lemmas.Fmt.{decimal_is_IsNumeral, length-decimal-le}
 use Rattle.std.proofs.lemmas.Str.Parse.{digit_from_value}
 use Rattle.std.proofs.lemmas.List.{reverse-append, reverse-reverse}
-use Rattle.go_base.specs.Int.{int_of, int_max}
+use Rattle.go_base.specs.Int.{int_of, most_int}
 use Rattle.go_base.proofs.IntLemmas.{int_of_spelled}
 use Rattle.gtp_wire.specs.declared.replies.Reply.{Reply}
 use Rattle.gtp_wire.specs.Bytes.{is_kept, space_for_tab, is_newline, is_space, is_blank}
@@ -159,10 +159,10 @@ pub record IsIdText (id : Option ℕ) (ds : List ℕ) : Type 0 where
   pub short : length ds ≤ 10
   pub id_is : id ≡ int_of ds
 
-pub id_text : (id : Option ℕ) → IfSome id (λ n. n ≤ int_max) → IsIdText id (written_id id)
+pub id_text : (id : Option ℕ) → IfSome id (λ n. n ≤ most_int) → IsIdText id (written_id id)
 id_text None fits = record { digits = tt; short = omega arith; id_is = refl }
 id_text (Some n) fits =
-    let limit : n ≤ int_max = fits in
+    let limit : n ≤ most_int = fits in
     let numeral = decimal_is_IsNumeral n (omega arith) in
     record {
       digits = digits_of_value (decimal n) numeral.0.1;
@@ -192,7 +192,7 @@ past_blanks_status true l shown = ap (behind is_blank) (prepared_shown (61 ∷ l
 past_blanks_status false l shown = ap (behind is_blank) (prepared_shown (63 ∷ l) shown)
 
 -- a written reply is one reply
-pub written_whole : (ok : Bool) (id : Option ℕ) (text : List ℕ) → IfSome id (λ n. n ≤ int_max) → IsReplyText text
+pub written_whole : (ok : Bool) (id : Option ℕ) (text : List ℕ) → IfSome id (λ n. n ≤ most_int) → IsReplyText text
     → IsWhole (written_reply ok id text)
 written_whole ok id text fits_id fits_text =
     let word = id_text id fits_id in
@@ -226,7 +226,7 @@ text_behind : (id : Option ℕ) (text : List ℕ) → AllByRecursion IsDigit (wr
 text_behind None text all = refl
 text_behind (Some n) text all = behind_digits (decimal n) (spaced text) all ∙ spaced_behind text
 
-pub written_is_read : (ok : Bool) (id : Option ℕ) (text : List ℕ) (value : Reply) → IfSome id (λ n. n ≤ int_max)
+pub written_is_read : (ok : Bool) (id : Option ℕ) (text : List ℕ) (value : Reply) → IfSome id (λ n. n ≤ most_int)
     → IsReplyText text
     → value.ok ≡ ok → value.id ≡ id → value.text.items ≡ text → IsReply (written_reply ok id text) value
 unfolding written_whole

@@ -3,17 +3,17 @@ use Rattle.std.specs.Prelude.{◌≡◌, ◌≢◌, ℕ, ◌+◌, ◌<◌, ◌�
 use Rattle.std.specs.Prelude.{Option, Some, None, Result, Ok, Err, IfSome, IfNone}
 use Rattle.std.specs.List.{concat, join_with_byte, list_all}
 use Rattle.std.specs.Option.{option_to_list}
-use Rattle.go_base.specs.Int.{int_max, int_of}
+use Rattle.go_base.specs.Int.{most_int, int_of}
 use Rattle.gtp_wire.specs.declared.commands.Command.{Command}
 use Rattle.gtp_wire.specs.declared.lines.Line.{Line}
 use Rattle.gtp_wire.specs.declared.lines.Line.TheVariants as line
 use Rattle.gtp_wire.specs.declared.replies.Reply.{Reply}
 use Rattle.gtp_wire.specs.declared.replies.ReplyFault.{ReplyFault}
-use Rattle.gtp_wire.specs.Commands.{words_of, written_command, command_max, IsWritable, IsInLimits}
-use Rattle.gtp_wire.specs.Lines.{lines, line_max, Finds, SameFuture}
+use Rattle.gtp_wire.specs.Commands.{words_of, written_command, most_command_bytes, IsWritable, IsInLimits}
+use Rattle.gtp_wire.specs.Lines.{lines, most_line_bytes, Finds, SameFuture}
 use Rattle.gtp_wire.specs.Words.{is_written_word, id_words}
 use Rattle.gtp_wire.specs.Replies.{IsWhole, IsReply, IsFirst, TellsNothing, IsReplyText, written_reply, ReadsFirst}
-use Rattle.gtp_wire.specs.Replies.{reply_text_max, written_reply_max}
+use Rattle.gtp_wire.specs.Replies.{most_text_bytes, most_written_bytes}
 
 -- ---- lines (the standard, preprocessing and command structure)
 
@@ -67,8 +67,8 @@ AnyPiecesReadAlike = (old : List ℕ) (pieces : List (List ℕ)) (found : List L
 -- are one line, of that id and those words.
 abbrev pub WrittenLinesAreRead : Type 0
 WrittenLinesAreRead = (id : Option ℕ) (name : List ℕ) (arguments : List (List ℕ))
-    → IfSome id (λ n. n ≤ int_max) → int_of name ≡ None → list_all is_written_word (name ∷ arguments) ≡ true
-    → length (join_with_byte 32 (id_words id ++ name ∷ arguments)) ≤ line_max
+    → IfSome id (λ n. n ≤ most_int) → int_of name ≡ None → list_all is_written_word (name ∷ arguments) ≡ true
+    → length (join_with_byte 32 (id_words id ++ name ∷ arguments)) ≤ most_line_bytes
     → lines (join_with_byte 32 (id_words id ++ name ∷ arguments) ++ 10 ∷ [])
     ≡ line.Command (record { id = id; words = name ∷ arguments }) ∷ []
 
@@ -78,21 +78,21 @@ WrittenLinesAreRead = (id : Option ℕ) (name : List ℕ) (arguments : List (Lis
 -- stands behind it.
 abbrev pub WrittenCommandsAreLines : Type 0
 WrittenCommandsAreLines = (id : Option ℕ) (command : Command) (later : List ℕ)
-    → IfSome id (λ n. n ≤ int_max) → IsWritable command → IsInLimits command
+    → IfSome id (λ n. n ≤ most_int) → IsWritable command → IsInLimits command
     → lines (written_command id command ++ later)
     ≡ line.Command (record { id = id; words = words_of command }) ∷ lines later
 
 -- a command that is written and cut short holds no line
 abbrev pub CommandFrontsAreOpen : Type 0
 CommandFrontsAreOpen = (id : Option ℕ) (command : Command) (front : List ℕ) (b : ℕ) (rest : List ℕ)
-    → IfSome id (λ n. n ≤ int_max) → IsWritable command → IsInLimits command
+    → IfSome id (λ n. n ≤ most_int) → IsWritable command → IsInLimits command
     → written_command id command ≡ front ++ b ∷ rest → lines front ≡ []
 
 -- a command that is written has at most 64 bytes
 abbrev pub CommandsAreShort : Type 0
 CommandsAreShort = (id : Option ℕ) (command : Command)
-    → IfSome id (λ n. n ≤ int_max) → IsWritable command → IsInLimits command
-    → length (written_command id command) ≤ command_max
+    → IfSome id (λ n. n ≤ most_int) → IsWritable command → IsInLimits command
+    → length (written_command id command) ≤ most_command_bytes
 
 -- ---- replies (the standard, response structure)
 
@@ -117,7 +117,7 @@ RepliesAreToldFirst = (raw later : List ℕ) (value : Reply)
 -- What is written as a reply, of an id and a text that may be written, is one reply of that status, id and text.
 abbrev pub WrittenRepliesAreReplies : Type 0
 WrittenRepliesAreReplies = (ok : Bool) (id : Option ℕ) (text : List ℕ) (value : Reply)
-    → IfSome id (λ n. n ≤ int_max) → IsReplyText text → value.ok ≡ ok → value.id ≡ id → value.text.items ≡ text
+    → IfSome id (λ n. n ≤ most_int) → IsReplyText text → value.ok ≡ ok → value.id ≡ id → value.text.items ≡ text
     → IsReply (written_reply ok id text) value
 
 -- a reply that is cut short tells nothing: neither a reply nor a fault
@@ -133,14 +133,14 @@ ToldStaysTold = (text later : List ℕ) (place : ℕ) (answer : Result Reply Rep
 -- What is written as a reply is told first, at its own end, whatever follows it.
 abbrev pub WrittenRepliesAreToldFirst : Type 0
 WrittenRepliesAreToldFirst = (ok : Bool) (id : Option ℕ) (text later : List ℕ) (value : Reply)
-    → IfSome id (λ n. n ≤ int_max) → IsReplyText text → value.ok ≡ ok → value.id ≡ id → value.text.items ≡ text
+    → IfSome id (λ n. n ≤ most_int) → IsReplyText text → value.ok ≡ ok → value.id ≡ id → value.text.items ≡ text
     → IsFirst (written_reply ok id text ++ later) (length (written_reply ok id text)) (Ok value)
 
 -- a reply that is written, of a text of at most 2,000 bytes and an id that is an int, has at most 2,048 bytes
 abbrev pub RepliesAreShort : Type 0
 RepliesAreShort = (ok : Bool) (id : Option ℕ) (text : List ℕ)
-    → IfSome id (λ n. n ≤ int_max) → length text ≤ reply_text_max
-    → length (written_reply ok id text) ≤ written_reply_max
+    → IfSome id (λ n. n ≤ most_int) → length text ≤ most_text_bytes
+    → length (written_reply ok id text) ≤ most_written_bytes
 
 -- Pieces are read one after the other, each behind what the one before it left, up to and with the first of them that
 -- tells something. So many bytes of them are used in all, and this is told.

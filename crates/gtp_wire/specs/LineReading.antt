@@ -1,7 +1,7 @@
 -- What a line reader holds. No public clause speaks of it.
 use Rattle.std.specs.Prelude.{◌≡◌, ℕ, ◌<◌, ◌≤◌, Bool, true, false, List, [], ◌∷◌, Option, None, IfSome, length, ◌&&◌, ◌==◌, not, ◌⊎◌}
 use Rattle.std.specs.List.{slice_split, AllByRecursion}
-use Rattle.go_base.specs.Int.{int_of, int_max}
+use Rattle.go_base.specs.Int.{int_of, most_int}
 use Rattle.gtp_wire.specs.declared.lines.Place.{Place}
 use Rattle.gtp_wire.specs.declared.lines.Place.TheVariants.{Word, Gap, Comment}
 use Rattle.gtp_wire.specs.declared.lines.Kind.{Kind}
@@ -44,4 +44,4 @@ id_of_words (w ∷ ws) = int_of w
 pub record HoldsCommand (id : Option ℕ) (text : List ℕ) : Type 0 where
   pub joined : IsJoined text
   pub some : 0 < length text
-  pub int : IfSome id (λ n. n ≤ int_max)
+  pub int : IfSome id (λ n. n ≤ most_int)

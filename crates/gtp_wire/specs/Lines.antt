@@ -7,8 +7,8 @@ use Rattle.gtp_wire.specs.Bytes.{is_kept, space_for_tab, is_newline, before_hash
 use Rattle.gtp_wire.specs.Words.{words, command_of}
 
 -- the most bytes that the words of a line have, the id's word included, joined by single spaces (own)
-abbrev pub line_max : ℕ
-line_max = 1000
+abbrev pub most_line_bytes : ℕ
+most_line_bytes = 1000
 
 -- all but the last
 abbrev pub but_last : {X : Type 0} → List X → List X
@@ -26,7 +26,7 @@ head_of (x ∷ xs) = Some x
 unfoldable pub line_of_words : List (List ℕ) → Option Line
 line_of_words [] = None
 line_of_words (w ∷ ws) =
-    Some (if nat_lt line_max (length (join_with_byte 32 (w ∷ ws))) then TooLong else Command (command_of (w ∷ ws)))
+    Some (if nat_lt most_line_bytes (length (join_with_byte 32 (w ∷ ws))) then TooLong else Command (command_of (w ∷ ws)))
 
 -- One line without its newline: `#` and all that follows it is removed, HT turns into a space, and what is left is its
 -- words.

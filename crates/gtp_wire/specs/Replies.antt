@@ -11,16 +11,16 @@ use Rattle.gtp_wire.specs.declared.replies.ReplyFault.TheVariants.{Overlong, NoS
 use Rattle.gtp_wire.specs.Bytes.{is_kept, space_for_tab, is_newline, is_space, is_blank}
 
 -- the most raw bytes of a reply, what is removed and skipped included (own)
-abbrev pub reply_max : ℕ
-reply_max = 8192
+abbrev pub most_reply_bytes : ℕ
+most_reply_bytes = 8192
 
 -- the most bytes of the text of a reply that is written (own)
-abbrev pub reply_text_max : ℕ
-reply_text_max = 2000
+abbrev pub most_text_bytes : ℕ
+most_text_bytes = 2000
 
 -- the most bytes of a reply that is written: room for the text, the status, the id, a space and two newlines (own)
-abbrev pub written_reply_max : ℕ
-written_reply_max = 2048
+abbrev pub most_written_bytes : ℕ
+most_written_bytes = 2048
 
 -- What the controller does before it parses: the control characters but HT and LF are removed, and HT becomes a space.
 -- It knows no comments.
@@ -67,7 +67,7 @@ reply_of status body =
 -- The raw bytes are one reply: at most 8,192, the last of them a newline; and prepared, they are spaces and newlines, a
 -- status, a body, and two newlines, the first in a row behind the status.
 pub record IsWhole (raw : List ℕ) : Type 0 where
-  pub fits : length raw ≤ reply_max
+  pub fits : length raw ≤ most_reply_bytes
   pub front : List ℕ
   pub last : raw ≡ front ++ 10 ∷ []
   pub status : ℕ
@@ -84,7 +84,7 @@ pub record IsReply (raw : List ℕ) (value : Reply) : Type 0 where
 
 -- The raw bytes, at most 8,192, begin no reply: what is left of them begins with another byte than a status.
 pub record IsNoStatus (raw : List ℕ) : Type 0 where
-  pub fits : length raw ≤ reply_max
+  pub fits : length raw ≤ most_reply_bytes
   pub byte : ℕ
   pub more : List ℕ
   pub shape : past_blanks raw ≡ byte ∷ more
@@ -95,7 +95,7 @@ pub record IsNoStatus (raw : List ℕ) : Type 0 where
 abbrev pub Tells : List ℕ → Result Reply ReplyFault → Type 0
 Tells raw (Ok value) = IsReply raw value
 Tells raw (Err NoStatus) = IsNoStatus raw
-Tells raw (Err Overlong) = length raw ≡ reply_max + 1
+Tells raw (Err Overlong) = length raw ≡ most_reply_bytes + 1
 
 -- no place of the text tells anything
 abbrev pub TellsNothing : List ℕ → Type 0
@@ -156,7 +156,7 @@ begins_blank (b ∷ bs) = is_blank b
 -- A text that may be written: at most 2,000 bytes, each a newline or 32 to 126, no two newlines in a row, and neither a
 -- space nor a newline at its front or at its end.
 pub record IsReplyText (text : List ℕ) : Type 0 where
-  pub fits : length text ≤ reply_text_max
+  pub fits : length text ≤ most_text_bytes
   pub shown : list_all is_shown text ≡ true
   pub single : has_two_newlines text ≡ false
   pub front : begins_blank text ≡ false

@@ -2,7 +2,7 @@
 ghost use Rattle.std.specs.Prelude.{◌≡◌, ◌<◌, ◌≤◌, length, slice_get, IfSome};
 ghost use Rattle.std.specs.List.{slice_split};
 ghost use Rattle.std.specs.Option.{option_copied};
-ghost use Rattle.go_base.specs.Int.{int_max};
+ghost use Rattle.go_base.specs.Int.{most_int};
 ghost use Rattle.gtp_wire.specs.Bytes.{is_space};
 ghost use Rattle.gtp_wire.specs.LineReading.{IsJoined, id_of_words};
 ghost use Rattle.gtp_wire.specs.Words.{words, command_of};
@@ -12,7 +12,7 @@ use go_base::read_int;
 use std::marker::Model;
 
 /// The most bytes that the words of a line have, the id's word included, joined by single spaces.
-pub(crate) const LINE_LIMIT: usize = 1000;
+pub(crate) const MOST_LINE_BYTES: usize = 1000;
 
 /// The room for the words of a line, and for a space and a byte that show that it is longer.
 pub(crate) const LINE_ROOM: usize = 1002;
@@ -53,7 +53,7 @@ impl CommandLine {
     /// The id, where the line has one: an int of the protocol, at most 2,147,483,647.
     pub fn id(&self) -> Option<u32>
         ensures value { result ≡ self.now.id }
-        ensures int { IfSome result (λ n. n ≤ int_max) }
+        ensures int { IfSome result (λ n. n ≤ most_int) }
     {
         self.id
     }
@@ -74,7 +74,7 @@ impl CommandLine {
 /// The int that the first part is.
 fn first_int(text: &[u8]) -> Option<u32>
     ensures value { result ≡ id_of_words (slice_split is_space text.now) }
-    ensures int { IfSome result (λ n. n ≤ int_max) }
+    ensures int { IfSome result (λ n. n ≤ most_int) }
 {
     read_int(part(text, 0)?)
 }

@@ -3,7 +3,7 @@ ghost use Rattle.std.specs.Prelude.{◌≡◌, ◌≢◌, ℕ, ◌<◌, ◌≤�
 ghost use Rattle.std.specs.Option.{option_to_list};
 ghost use Rattle.gtp_wire.specs.LineReading.{IsKind};
 
-use super::command_line::{CommandLine, LINE_LIMIT, LINE_ROOM};
+use super::command_line::{CommandLine, LINE_ROOM, MOST_LINE_BYTES};
 use arrayvec::ArrayVec;
 use std::marker::Model;
 
@@ -183,7 +183,7 @@ impl LineReader {
         if self.held.is_empty() {
             return;
         }
-        if self.held.len() > LINE_LIMIT {
+        if self.held.len() > MOST_LINE_BYTES {
             return;
         }
         match self.place {
@@ -207,7 +207,7 @@ impl LineReader {
         ensures step { (z : List ℕ) → lines (self.old ++ byte ∷ z) ≡ lines (self.new ++ z) }
         ensures no_line { lines self.new ≡ [] }
     {
-        if self.held.len() > LINE_LIMIT {
+        if self.held.len() > MOST_LINE_BYTES {
             return;
         }
         match self.place {
@@ -232,7 +232,7 @@ impl LineReader {
             return None;
         }
         let text = self.held.take();
-        if text.len() > LINE_LIMIT {
+        if text.len() > MOST_LINE_BYTES {
             return Some(Line::TooLong);
         }
         Some(Line::Command(CommandLine::of_text(text)))

@@ -1,8 +1,8 @@
 //! Replies, and their writer.
 ghost use Rattle.std.specs.Prelude.{◌≡◌, ℕ, ◌+◌, ◌<◌, ◌≤◌, false, [], ◌++◌, length, None, IfSome};
 ghost use Rattle.arrayvec.specs.ArrayVec.{array_vec_len};
-ghost use Rattle.go_base.specs.Int.{int_max};
-ghost use Rattle.gtp_wire.specs.Replies.{IsReply, IsReplyText, reply_text_max, written_reply, written_id, spaced};
+ghost use Rattle.go_base.specs.Int.{most_int};
+ghost use Rattle.gtp_wire.specs.Replies.{IsReply, IsReplyText, most_text_bytes, written_reply, written_id, spaced};
 ghost use Rattle.gtp_wire.specs.declared.replies.Reply.{Reply};
 
 use arrayvec::ArrayVec;
@@ -55,7 +55,7 @@ pub enum ReplyFault {
 pub type ReplyText = ArrayVec<u8, REPLY_ROOM>;
 
 /// The most bytes that the text of a written reply has.
-const REPLY_TEXT_LIMIT: usize = 2000;
+const MOST_TEXT_BYTES: usize = 2000;
 
 /// The room for a status, an id, a space, a text and two newlines.
 const REPLY_ROOM: usize = 2048;
@@ -66,7 +66,7 @@ const REPLY_ROOM: usize = 2048;
 /// The id is an int of the protocol. The text has at most 2,000 bytes, each of them a newline or 32 to 126, without two
 /// newlines in a row, and begins and ends with neither a space nor a newline.
 pub fn write_reply(ok: bool, id: Option<u32>, text: &[u8]) -> ReplyText
-    requires id_fits { IfSome id (λ n. n ≤ int_max) }
+    requires id_fits { IfSome id (λ n. n ≤ most_int) }
     requires text_fits { IsReplyText text.now }
     ensures bytes { result.items ≡ written_reply ok id text.now }
     // They are one reply, of this status, id and text.
@@ -81,15 +81,15 @@ pub fn write_reply(ok: bool, id: Option<u32>, text: &[u8]) -> ReplyText
 /// Writes a reply as `write_reply` does, in place of what `out` holds. Of a text of more than 2,000 bytes it writes
 /// nothing.
 pub fn write_reply_into(out: &mut ReplyText, ok: bool, id: Option<u32>, text: &[u8])
-    ensures bytes { length text.now ≤ reply_text_max →
+    ensures bytes { length text.now ≤ most_text_bytes →
         out.new.items ≡ written_reply ok id text.now }
-    ensures nothing { reply_text_max < length text.now → out.new.items ≡ [] }
+    ensures nothing { most_text_bytes < length text.now → out.new.items ≡ [] }
     // Where id and text are those of a reply, the bytes are one reply, of this status, id and text.
-    ensures reply { IfSome id (λ n. n ≤ int_max) → IsReplyText text.now →
+    ensures reply { IfSome id (λ n. n ≤ most_int) → IsReplyText text.now →
         (value : Reply) → value.ok ≡ ok → value.id ≡ id → value.text.items ≡ text.now →
         IsReply out.new.items value }
 {
-    if text.len() > REPLY_TEXT_LIMIT {
+    if text.len() > MOST_TEXT_BYTES {
         out.clear();
         return;
     }
@@ -98,7 +98,7 @@ pub fn write_reply_into(out: &mut ReplyText, ok: bool, id: Option<u32>, text: &[
 
 /// Puts the bytes of the reply in place of what `out` holds.
 fn put_reply(out: &mut ReplyText, ok: bool, id: Option<u32>, text: &[u8])
-    requires { length text.now ≤ reply_text_max }
+    requires { length text.now ≤ most_text_bytes }
     ensures { out.new.items ≡ written_reply ok id text.now }
 {
     out.clear();

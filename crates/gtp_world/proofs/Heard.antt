@@ -4,7 +4,7 @@ use Rattle.std.specs.Prelude.{◌⊎◌, ◌==◌, IfSome}
 use Rattle.std.specs.List.{AllByRecursion}
 use Rattle.std.proofs.lemmas.Bool.Decides.{nat_tests}
 use Rattle.go_base.specs.Colour.{other}
-use Rattle.go_base.specs.Size.{size_max}
+use Rattle.go_base.specs.Size.{most_size}
 use Rattle.go_base.specs.declared.colours.Colour.{Colour}
 use Rattle.go_base.specs.declared.vertices.Vertex.{Vertex}
 use Rattle.go_board.specs.Game.{GameRecord, HasRoom, IsGame, with_move}
@@ -137,7 +137,7 @@ record Chose (game : GameRecord) (s : Colour) (o : SentCommand) (r : Reply) (g1 
   heard : outcome game s (Some o) r ≡ outcome_of_choice choice
   game_is : g1 ≡ (answer_choice game s choice).game
 
-chose : (game : GameRecord) (s : Colour) (id : ℕ) (r : Reply) (g1 : GameRecord) → HasRoom game → game.size ≤ size_max
+chose : (game : GameRecord) (s : Colour) (id : ℕ) (r : Reply) (g1 : GameRecord) → HasRoom game → game.size ≤ most_size
     → Answered game (record { id = id; command = Genmove s }) r g1
     → Chose game s (record { id = id; command = Genmove s }) r g1
 chose game s id r g1 room most a =

@@ -1,6 +1,6 @@
 -- What passes between the controller and one engine: the commands that it was sent, and the replies that it owes.
 use Rattle.std.specs.Prelude.{◌≡◌, ℕ, ◌≤◌, List, [], ◌∷◌, ◌++◌, take, Some, IfSome}
-use Rattle.go_base.specs.Int.{int_max}
+use Rattle.go_base.specs.Int.{most_int}
 use Rattle.go_board.specs.Game.{GameRecord}
 use Rattle.gtp_wire.specs.declared.commands.Command.{Command}
 use Rattle.gtp_wire.specs.declared.lines.Line.{Line}
@@ -28,7 +28,7 @@ sent_line sent = line_of_command (Some sent.id) sent.command
 
 -- it can be written
 pub record CanBeWritten (sent : SentCommand) : Type 0 where
-  pub id : sent.id ≤ int_max
+  pub id : sent.id ≤ most_int
   pub writable : IsWritable sent.command
   pub limits : IsInLimits sent.command
 
@@ -59,7 +59,7 @@ pub record Answered (before : GameRecord) (sent : SentCommand) (given : Reply) (
   pub game : after ≡ (answer before (sent_line sent) choice).game
   pub reply : given ≡ reply_with_id sent.id (answer before (sent_line sent) choice)
   -- the id and the text can stand in a reply
-  pub fits : sent.id ≤ int_max
+  pub fits : sent.id ≤ most_int
   pub spoken : IsReplyText (answer before (sent_line sent) choice).text
 
 -- From this game an engine was sent these commands. It answered the first of them by the replies, the others wait in

@@ -12,7 +12,7 @@ use gtp_wire::{Command, Reply, ReplyReader, write_command};
 
 /// How often a reply to `quit` is read for at most: of 8,193 bytes a reply reader tells something, and each read gives
 /// one.
-const QUIT_READS: u32 = 8193;
+const MOST_QUIT_READS: u32 = 8193;
 
 /// The process of each side that has one. It is not `Drop`: `close` or `end` ends them all.
 pub struct Sides<P> {

@@ -8,8 +8,8 @@ returns-then-is_empty-clause-step c z =
     let none : length c.self.inside.held.items ≡ 0 = grind (arith, nat_tests) in
     rw (← c.self.view_is) (end_empty c.self.inside.held.items c.self.inside.place z c.self.invariant.joined none)
 
-pub returns-then-len-gt-LINE_LIMIT-clause-step : goal.returns-then-len-gt-LINE_LIMIT-clause-step
-returns-then-len-gt-LINE_LIMIT-clause-step c z =
+pub returns-then-len-gt-MOST_LINE_BYTES-clause-step : goal.returns-then-len-gt-MOST_LINE_BYTES-clause-step
+returns-then-len-gt-MOST_LINE_BYTES-clause-step c z =
     let long : 1000 < length c.self.inside.held.items = grind arith in
     rw (← c.self.view_is) (end_long c.self.inside.held.items c.self.inside.place z c.self.invariant.joined long)
 

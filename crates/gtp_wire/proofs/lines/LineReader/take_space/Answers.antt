@@ -14,15 +14,15 @@ pub returns-then-is_empty-clause-no_line : goal.returns-then-is_empty-clause-no_
 returns-then-is_empty-clause-no_line c =
     rw (← c.self.view_is) (view_open c.self.inside.held.items c.self.inside.place c.self.invariant.joined)
 
-pub returns-then-len-gt-LINE_LIMIT-clause-step : goal.returns-then-len-gt-LINE_LIMIT-clause-step
-returns-then-len-gt-LINE_LIMIT-clause-step c z =
+pub returns-then-len-gt-MOST_LINE_BYTES-clause-step : goal.returns-then-len-gt-MOST_LINE_BYTES-clause-step
+returns-then-len-gt-MOST_LINE_BYTES-clause-step c z =
     let long : 1000 < length c.self.inside.held.items = grind arith in
     let space = space_byte c.args.byte c.requires in
     rw (← c.self.view_is)
     (step_long c.self.inside.held.items c.self.inside.place c.args.byte z c.self.invariant.joined long space.kept space.inside)
 
-pub returns-then-len-gt-LINE_LIMIT-clause-no_line : goal.returns-then-len-gt-LINE_LIMIT-clause-no_line
-returns-then-len-gt-LINE_LIMIT-clause-no_line c =
+pub returns-then-len-gt-MOST_LINE_BYTES-clause-no_line : goal.returns-then-len-gt-MOST_LINE_BYTES-clause-no_line
+returns-then-len-gt-MOST_LINE_BYTES-clause-no_line c =
     rw (← c.self.view_is) (view_open c.self.inside.held.items c.self.inside.place c.self.invariant.joined)
 
 pub returns-in-Word-clause-step : goal.returns-in-Word-clause-step

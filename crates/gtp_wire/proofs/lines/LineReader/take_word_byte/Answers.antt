@@ -4,15 +4,15 @@ use Rattle.gtp_wire.proofs.StepLemmas.{view_open, step_long, step_comment, joine
 use Rattle.gtp_wire.proofs.WordLemmas.{plain_byte}
 use Rattle.gtp_wire.proofs.lines.LineReader.take_word_byte.Goals as goal
 
-pub returns-then-len-gt-LINE_LIMIT-clause-step : goal.returns-then-len-gt-LINE_LIMIT-clause-step
-returns-then-len-gt-LINE_LIMIT-clause-step c z =
+pub returns-then-len-gt-MOST_LINE_BYTES-clause-step : goal.returns-then-len-gt-MOST_LINE_BYTES-clause-step
+returns-then-len-gt-MOST_LINE_BYTES-clause-step c z =
     let long : 1000 < length c.self.inside.held.items = grind arith in
     let plain = plain_byte c.args.byte c.requires.0 in
     rw (← c.self.view_is)
     (step_long c.self.inside.held.items c.self.inside.place c.args.byte z c.self.invariant.joined long plain.0 plain.2)
 
-pub returns-then-len-gt-LINE_LIMIT-clause-no_line : goal.returns-then-len-gt-LINE_LIMIT-clause-no_line
-returns-then-len-gt-LINE_LIMIT-clause-no_line c =
+pub returns-then-len-gt-MOST_LINE_BYTES-clause-no_line : goal.returns-then-len-gt-MOST_LINE_BYTES-clause-no_line
+returns-then-len-gt-MOST_LINE_BYTES-clause-no_line c =
     rw (← c.self.view_is) (view_open c.self.inside.held.items c.self.inside.place c.self.invariant.joined)
 
 pub invariant_of-self : goal.invariant_of-self

@@ -1,5 +1,5 @@
 use Rattle.std.proofs.Common.{◌≡◌, ◌+◌, ◌<◌, ◌≤◌, length, ap, arith}
-use Rattle.gtp_wire.specs.Replies.{reply_max}
+use Rattle.gtp_wire.specs.Replies.{most_reply_bytes}
 use Rattle.gtp_wire.specs.declared.reply_reader.Step.TheVariants.{To, End, Fault}
 use Rattle.gtp_wire.proofs.ReplyReadingLemmas.{without_fault, quiet_at, reading_fits, leads_nowhere, next_reaches, next_overlong, leads_all}
 use Rattle.gtp_wire.proofs.reply_reader.ReplyReader.scan.Goals as goal
@@ -16,7 +16,7 @@ loop-i-init c =
 
 pub returns-then-i-room : goal.returns-then-i-room
 returns-then-i-room c =
-    let full : reply_max ≤ length c.args.self.now + c.loop-i.i =
+    let full : most_reply_bytes ≤ length c.args.self.now + c.loop-i.i =
     omega (arith, c.len-room.ensures.value, ap length c.self.view_is, c.if-i-room.true) in
     record {
       within = omega arith;
@@ -26,7 +26,7 @@ returns-then-i-room c =
 
 pub returns-in-End : goal.returns-in-End
 returns-in-End c =
-    let room : length c.args.self.now + c.loop-i.i < reply_max =
+    let room : length c.args.self.now + c.loop-i.i < most_reply_bytes =
     omega (arith, c.len-room.ensures.value, ap length c.self.view_is, c.if-i-room.false) in
     record {
       within = omega arith;
@@ -37,7 +37,7 @@ returns-in-End c =
 
 pub returns-in-Fault : goal.returns-in-Fault
 returns-in-Fault c =
-    let room : length c.args.self.now + c.loop-i.i < reply_max =
+    let room : length c.args.self.now + c.loop-i.i < most_reply_bytes =
     omega (arith, c.len-room.ensures.value, ap length c.self.view_is, c.if-i-room.false) in
     record {
       within = omega arith;
@@ -48,7 +48,7 @@ returns-in-Fault c =
 
 pub loop-i-preserved : goal.loop-i-preserved
 loop-i-preserved c =
-    let room : length c.args.self.now + c.loop-i.i < reply_max =
+    let room : length c.args.self.now + c.loop-i.i < most_reply_bytes =
     omega (arith, c.len-room.ensures.value, ap length c.self.view_is, c.if-i-room.false) in
     next_reaches c.args.self.now c.args.input.now c.loop-i.i c.loop-i.phase (To c.in-To.next) (omega arith) room
     c.loop-i.invariant c.in-To.ensures
