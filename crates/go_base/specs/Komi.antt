@@ -4,6 +4,7 @@ use Rattle.std.specs.Prelude.{◌≡◌, ℕ, ◌+◌, ◌*◌, ◌≤◌, ◌<�
 use Rattle.std.specs.Char.{is_ascii_digit}
 use Rattle.std.specs.List.{list_all}
 use Rattle.std.specs.Str.Parse.{AllDigits, digits_value}
+use Rattle.go_base.specs.Bytes.{digit_0, digit_5}
 use Rattle.go_base.specs.HalfPoints.{written_half_points}
 
 -- the greatest number of half points, either way: 999,999,999.5 points
@@ -48,8 +49,8 @@ pub data Fraction : Type 0 where
 
 abbrev pub fraction_text : Fraction → List ℕ
 fraction_text no_point = []
-fraction_text (zeros n) = codes "." ++ replicate n 48
-fraction_text (half n) = codes ".5" ++ replicate n 48
+fraction_text (zeros n) = codes "." ++ replicate n digit_0
+fraction_text (half n) = codes ".5" ++ replicate n digit_0
 
 -- how many digits stand behind the point
 abbrev pub fraction_digits : Fraction → ℕ
@@ -101,12 +102,12 @@ decimals_of [] = Some []
 decimals_of (b ∷ bs) = if b == 46 then Some bs else None
 
 abbrev pub are_zeros : List ℕ → Bool
-are_zeros digits = list_all (λ digit. digit == 48) digits
+are_zeros digits = list_all (λ digit. digit == digit_0) digits
 
 -- the half points of the digits behind the point, where they are none, zeros alone, or 5 and zeros
 abbrev pub half_of : List ℕ → Option ℕ
 half_of [] = Some 0
-half_of (b ∷ bs) = if are_zeros bs then (if b == 48 then Some 0 else (if b == 53 then Some 1 else None)) else None
+half_of (b ∷ bs) = if are_zeros bs then (if b == digit_0 then Some 0 else (if b == digit_5 then Some 1 else None)) else None
 
 -- the half points of a whole part and the digits behind the point, where there is a digit and not too many
 abbrev pub half_points_where : List ℕ → List ℕ → Option ℕ → Option ℕ

@@ -1,6 +1,7 @@
 -- Vertices, and the texts that spell them. (The standard's simple entities: vertex. That a row has no leading zeros is own.)
 use Rattle.std.specs.Prelude.{◌≡◌, ℕ, ◌+◌, ◌-◌, ◌↔◌, Bool, false, ◌&&◌, ◌==◌, nat_le, List, [], ◌∷◌, Option, Some, None, option_map, codes, if◌then◌else◌}
 use Rattle.std.specs.Char.{to_ascii_uppercase}
+use Rattle.go_base.specs.Bytes.{digit_0}
 use Rattle.go_base.specs.Int.{int_of, written_int}
 use Rattle.go_base.specs.Size.{most_size}
 use Rattle.go_base.specs.Point.{point, column_of, row_of, IsOn}
@@ -38,7 +39,7 @@ column_of_letter letter =
 
 abbrev pub starts_with_zero : List ℕ → Bool
 starts_with_zero [] = false
-starts_with_zero (digit ∷ digits) = digit == 48
+starts_with_zero (digit ∷ digits) = digit == digit_0
 
 -- the number that digits without leading zeros spell, where they spell one
 abbrev pub row_of_digits : List ℕ → Option ℕ

@@ -1,6 +1,7 @@
 -- A game's board as text. (The standard's topic showboard leaves the form to the engine; this form is own.)
 use Rattle.std.specs.Prelude.{ℕ, List, [], ◌∷◌, ◌++◌, map, reverse, Option, Some, None, codes}
 use Rattle.std.specs.List.{range_with_len, flat_map, join_with_byte}
+use Rattle.go_base.specs.Bytes.{newline, space}
 use Rattle.go_base.specs.Int.{written_int}
 use Rattle.go_base.specs.Point.{point}
 use Rattle.go_base.specs.Vertex.{letter_of}
@@ -26,7 +27,7 @@ shown_row game row = shown_points game row ++ written_int row
 
 -- the letters of the columns, with single spaces between them
 unfoldable pub shown_letters : ℕ → List ℕ
-shown_letters size = join_with_byte 32 (map (λ column. letter_of column ∷ []) (range_with_len 1 size))
+shown_letters size = join_with_byte space (map (λ column. letter_of column ∷ []) (range_with_len 1 size))
 
 -- how many stones Black's moves have taken, and how many White's
 abbrev pub shown_captures : GameRecord → List ℕ
@@ -42,4 +43,4 @@ shown_lines game = map (shown_row game) (rows_down game.size) ++ shown_letters g
 
 -- The text: its lines with a newline between each two.
 unfoldable pub shown : GameRecord → List ℕ
-shown game = join_with_byte 10 (shown_lines game)
+shown game = join_with_byte newline (shown_lines game)

@@ -2,6 +2,7 @@
 use Rattle.std.specs.Prelude.{◌≡◌, ℕ, ℤ, Bool, true, false, ◌&&◌, nat_le, List, [], ◌∷◌, length, map, find, slice_get, Option, Some, None, is_some, option_and_then, if◌then◌else◌, MatchOption, codes}
 use Rattle.std.specs.List.{join_with_byte}
 use Rattle.std.specs.Str.{bytes_eq}
+use Rattle.go_base.specs.Bytes.{newline, space}
 use Rattle.go_base.specs.Int.{int_of}
 use Rattle.go_base.specs.Size.{most_size}
 use Rattle.go_base.specs.Colour.{colour_of}
@@ -54,7 +55,7 @@ all_commands =
 
 -- their names, one per row (the standard, administrative commands: list_commands)
 abbrev pub all_names : List ℕ
-all_names = join_with_byte 10 (map spelled all_commands)
+all_names = join_with_byte newline (map spelled all_commands)
 
 -- the command of this name, where there is one; case matters
 abbrev pub command_named : List ℕ → Option CommandName
@@ -127,7 +128,7 @@ answer_play game (Some colour) (Some vertex) = answer_move game colour vertex
 
 -- the points' vertices, separated by single spaces
 abbrev pub written_vertices : List ℕ → List ℕ
-written_vertices points = join_with_byte 32 (map (λ p. written_vertex (At p)) points)
+written_vertices points = join_with_byte space (map (λ p. written_vertex (At p)) points)
 
 abbrev pub answer_handicap : GameRecord → Option ℕ → Answer
 answer_handicap game None = syntax_error game

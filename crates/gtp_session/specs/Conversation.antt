@@ -1,6 +1,7 @@
 -- What an engine, a reader and a writer did together.
 use Rattle.std.specs.Prelude.{◌≡◌, ℕ, ◌<◌, ◌≤◌, List, [], ◌∷◌, ◌++◌, length, take, Option, Some, None, Result, Ok, Err}
 use Rattle.std.specs.Io.KnownBytes.{Consumes, Appends, Keeps, IsAtEnd}
+use Rattle.go_base.specs.Bytes.{newline}
 use Rattle.gtp_session.specs.Policy.{May}
 use Rattle.gtp_session.specs.Engine.{Engine, WrittenReply, Replies, output_of}
 
@@ -17,13 +18,13 @@ pub record Breaks {P : Type 0} (may : May P) (old : Engine P) (input : List ℕ)
     (held holds : Option (List ℕ)) : Type 0 where
   pub front : List ℕ
   pub unread : List ℕ
-  pub upto : input ≡ front ++ 10 ∷ unread
+  pub upto : input ≡ front ++ newline ∷ unread
   pub between : Engine P
   pub replies : List WrittenReply
   -- nothing is answered between those replies and the LF
   pub before : Replies may old front between replies
   pub last : WrittenReply
-  pub engine : Replies may old (front ++ 10 ∷ []) new (replies ++ last ∷ [])
+  pub engine : Replies may old (front ++ newline ∷ []) new (replies ++ last ∷ [])
   pub part : List ℕ
   pub left : List ℕ
   pub cut : last.text ≡ part ++ left

@@ -2,6 +2,7 @@
 use Rattle.std.specs.Prelude.{◌≡◌, ℕ, Bool, true, false, ◌&&◌, List, [], ◌∷◌, ◌++◌, map, Option, None, Some, MatchOption, pos}
 use Rattle.std.specs.List.{concat}
 use Rattle.arrayvec.specs.ArrayVec.{ArrayVec}
+use Rattle.go_base.specs.Bytes.{newline}
 use Rattle.gtp_wire.specs.declared.lines.Line.{Line}
 use Rattle.gtp_wire.specs.Lines.{lines}
 use Rattle.gtp_wire.specs.Replies.{written_reply}
@@ -95,7 +96,7 @@ fresh policy = record { rest = []; game = fresh_game; policy = policy; ended = f
 pub record StopsAtLine {P : Type 0} (may : May P) (old : Engine P) (text : List ℕ) : Type 0 where
   pub front : List ℕ
   pub between : Engine P
-  pub ends : text ≡ front ++ 10 ∷ []
+  pub ends : text ≡ front ++ newline ∷ []
   pub before : Replies may old front between []
 
 -- the reply of this text, if there is one, as a list

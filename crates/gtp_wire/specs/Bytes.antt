@@ -1,31 +1,32 @@
 -- What both ends do to single bytes before they parse. (The standard, preprocessing.)
 use Rattle.std.specs.Prelude.{ℕ, Bool, List, [], ◌∷◌, ◌&&◌, ◌||◌, ◌==◌, not, if◌then◌else◌}
 use Rattle.std.specs.Char.{is_ascii_control}
+use Rattle.go_base.specs.Bytes.{tab, newline, space, hash}
 
 -- What is kept: all but the control characters (0 to 31, and 127), of which HT (9) and LF (10) are kept. Bytes from 128
 -- on are ordinary bytes (own).
 abbrev pub is_kept : ℕ → Bool
-is_kept b = b == 9 || (b == 10 || not (is_ascii_control b))
+is_kept b = b == tab || (b == newline || not (is_ascii_control b))
 
 -- HT becomes a space
 abbrev pub space_for_tab : ℕ → ℕ
-space_for_tab b = if b == 9 then 32 else b
+space_for_tab b = if b == tab then space else b
 
 -- whether a byte is parsed as it came: it is kept, and no HT
 abbrev pub stays : ℕ → Bool
-stays b = is_kept b && not (b == 9)
+stays b = is_kept b && not (b == tab)
 
 -- LF, the newline that ends a line
 abbrev pub is_newline : ℕ → Bool
-is_newline b = b == 10
+is_newline b = b == newline
 
 abbrev pub is_space : ℕ → Bool
-is_space b = b == 32
+is_space b = b == space
 
 -- what stands before the first `#`, or all of it: `#` begins a comment
 abbrev pub before_hash : List ℕ → List ℕ
 before_hash [] = []
-before_hash (b ∷ bs) = if b == 35 then [] else b ∷ before_hash bs
+before_hash (b ∷ bs) = if b == hash then [] else b ∷ before_hash bs
 
 -- what may stand before a reply (own), and separates the words of its text: spaces and newlines
 abbrev pub is_blank : ℕ → Bool

@@ -3,6 +3,7 @@ use Rattle.std.specs.Prelude.{◌≡◌, ◌≢◌, ℕ, ◌+◌, ◌<◌, ◌�
 use Rattle.std.specs.Prelude.{Option, Some, None, Result, Ok, Err, IfSome, IfNone}
 use Rattle.std.specs.List.{concat, join_with_byte, list_all}
 use Rattle.std.specs.Option.{option_to_list}
+use Rattle.go_base.specs.Bytes.{newline, space}
 use Rattle.go_base.specs.Int.{most_int, int_of}
 use Rattle.gtp_wire.specs.declared.commands.Command.{Command}
 use Rattle.gtp_wire.specs.declared.lines.Line.{Line}
@@ -27,7 +28,7 @@ OnlyNewlinesEndLines = (text later : List ℕ) → All (λ b. b ≢ 10) later �
 
 -- What stands behind a newline is read by itself: the lines of the whole are those up to the newline, and then its own.
 abbrev pub NewlinesBeginAnew : Type 0
-NewlinesBeginAnew = (text later : List ℕ) → lines (text ++ 10 ∷ later) ≡ lines (text ++ 10 ∷ []) ++ lines later
+NewlinesBeginAnew = (text later : List ℕ) → lines (text ++ newline ∷ later) ≡ lines (text ++ newline ∷ []) ++ lines later
 
 -- Every text can be read after everything that is held: its lines are found, and there is something to hold then.
 abbrev pub TextsAreRead : Type 0
@@ -68,8 +69,8 @@ AnyPiecesReadAlike = (old : List ℕ) (pieces : List (List ℕ)) (found : List L
 abbrev pub WrittenLinesAreRead : Type 0
 WrittenLinesAreRead = (id : Option ℕ) (name : List ℕ) (arguments : List (List ℕ))
     → IfSome id (λ n. n ≤ most_int) → int_of name ≡ None → list_all is_written_word (name ∷ arguments) ≡ true
-    → length (join_with_byte 32 (id_words id ++ name ∷ arguments)) ≤ most_line_bytes
-    → lines (join_with_byte 32 (id_words id ++ name ∷ arguments) ++ 10 ∷ [])
+    → length (join_with_byte space (id_words id ++ name ∷ arguments)) ≤ most_line_bytes
+    → lines (join_with_byte space (id_words id ++ name ∷ arguments) ++ newline ∷ [])
     ≡ line.Command (record { id = id; words = name ∷ arguments }) ∷ []
 
 -- ---- commands (the standard, command structure)

@@ -1,6 +1,7 @@
 -- What a line reader holds. No public clause speaks of it.
 use Rattle.std.specs.Prelude.{◌≡◌, ℕ, ◌<◌, ◌≤◌, Bool, true, false, List, [], ◌∷◌, Option, None, IfSome, length, ◌&&◌, ◌==◌, not, ◌⊎◌}
 use Rattle.std.specs.List.{slice_split, AllByRecursion}
+use Rattle.go_base.specs.Bytes.{tab, newline, space, hash}
 use Rattle.go_base.specs.Int.{int_of, most_int}
 use Rattle.gtp_wire.specs.declared.lines.Place.{Place}
 use Rattle.gtp_wire.specs.declared.lines.Place.TheVariants.{Word, Gap, Comment}
@@ -11,12 +12,12 @@ use Rattle.gtp_wire.specs.Bytes.{is_kept, is_space}
 -- what stands after the words so far: nothing, a space, or the `#` that begins a comment
 abbrev pub ending : Place → List ℕ
 ending Word = []
-ending Gap = 32 ∷ []
-ending Comment = 35 ∷ []
+ending Gap = space ∷ []
+ending Comment = hash ∷ []
 
 -- a byte of a word, or a space: no control character, HT, LF or `#`
 abbrev pub is_plain : ℕ → Bool
-is_plain b = is_kept b && (not (b == 9) && (not (b == 10) && not (b == 35)))
+is_plain b = is_kept b && (not (b == tab) && (not (b == newline) && not (b == hash)))
 
 -- what a byte is to a line that it doesn't end
 abbrev pub IsKind : ℕ → Kind → Type 0

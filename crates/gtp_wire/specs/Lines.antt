@@ -1,6 +1,7 @@
 -- The command lines of a text. (The standard, preprocessing and command structure.)
 use Rattle.std.specs.Prelude.{◌≡◌, ℕ, List, [], ◌∷◌, ◌++◌, length, filter, map, nat_lt, Option, Some, None, if◌then◌else◌}
 use Rattle.std.specs.List.{slice_split, filter_map, join_with_byte}
+use Rattle.go_base.specs.Bytes.{newline, space}
 use Rattle.gtp_wire.specs.declared.lines.Line.{Line}
 use Rattle.gtp_wire.specs.declared.lines.Line.TheVariants.{Command, TooLong}
 use Rattle.gtp_wire.specs.Bytes.{is_kept, space_for_tab, is_newline, before_hash}
@@ -26,7 +27,7 @@ head_of (x ∷ xs) = Some x
 unfoldable pub line_of_words : List (List ℕ) → Option Line
 line_of_words [] = None
 line_of_words (w ∷ ws) =
-    Some (if nat_lt most_line_bytes (length (join_with_byte 32 (w ∷ ws))) then TooLong else Command (command_of (w ∷ ws)))
+    Some (if nat_lt most_line_bytes (length (join_with_byte space (w ∷ ws))) then TooLong else Command (command_of (w ∷ ws)))
 
 -- One line without its newline: `#` and all that follows it is removed, HT turns into a space, and what is left is its
 -- words.
@@ -41,7 +42,7 @@ lines text = filter_map line_of (but_last (slice_split is_newline (filter is_kep
 -- The text ends with the newline that ends a first line: no whole line stands in what was held and the text before it.
 pub record EndsLine (held text : List ℕ) : Type 0 where
   pub front : List ℕ
-  pub newline : text ≡ front ++ 10 ∷ []
+  pub newline : text ≡ front ++ newline ∷ []
   pub before : lines (held ++ front) ≡ []
 
 -- The texts read alike with every text after them.

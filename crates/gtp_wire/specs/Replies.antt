@@ -4,6 +4,7 @@ use Rattle.std.specs.Prelude.{List, [], ◌∷◌, ◌++◌, length, take, filte
 use Rattle.std.specs.Prelude.{Option, Some, None, is_some, IfSome, IfNone, Result, Ok, Err}
 use Rattle.std.specs.Char.{is_ascii_digit}
 use Rattle.std.specs.List.{list_all}
+use Rattle.go_base.specs.Bytes.{newline, space}
 use Rattle.go_base.specs.Int.{int_of, written_int}
 use Rattle.gtp_wire.specs.declared.replies.Reply.{Reply}
 use Rattle.gtp_wire.specs.declared.replies.ReplyFault.{ReplyFault}
@@ -69,13 +70,13 @@ reply_of status body =
 pub record IsWhole (raw : List ℕ) : Type 0 where
   pub fits : length raw ≤ most_reply_bytes
   pub front : List ℕ
-  pub last : raw ≡ front ++ 10 ∷ []
+  pub last : raw ≡ front ++ newline ∷ []
   pub status : ℕ
   pub body : List ℕ
-  pub shape : past_blanks raw ≡ status ∷ (body ++ 10 ∷ 10 ∷ [])
+  pub shape : past_blanks raw ≡ status ∷ (body ++ newline ∷ newline ∷ [])
   pub known : is_status status ≡ true
   -- in the body and the first newline behind it no two newlines come in a row
-  pub first_end : has_two_newlines (body ++ 10 ∷ []) ≡ false
+  pub first_end : has_two_newlines (body ++ newline ∷ []) ≡ false
 
 -- the raw bytes are one reply, of this value
 pub record IsReply (raw : List ℕ) (value : Reply) : Type 0 where
@@ -138,11 +139,11 @@ written_id (Some n) = written_int n
 -- a space and the text, where there is one
 abbrev pub spaced : List ℕ → List ℕ
 spaced [] = []
-spaced (b ∷ bs) = 32 ∷ b ∷ bs
+spaced (b ∷ bs) = space ∷ b ∷ bs
 
 -- the bytes of a reply that is written: the status, the id, a space and the text, and two newlines
 abbrev pub written_reply : Bool → Option ℕ → List ℕ → List ℕ
-written_reply ok id text = (if ok then 61 else 63) ∷ (written_id id ++ (spaced text ++ 10 ∷ 10 ∷ []))
+written_reply ok id text = (if ok then 61 else 63) ∷ (written_id id ++ (spaced text ++ newline ∷ newline ∷ []))
 
 -- a byte of a text that is written: a newline, or 32 to 126
 abbrev pub is_shown : ℕ → Bool

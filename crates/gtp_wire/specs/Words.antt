@@ -3,6 +3,7 @@ use Rattle.std.specs.Prelude.{ℕ, Bool, ◌==◌, ◌&&◌, not, List, [], ◌�
 use Rattle.std.specs.Prelude.{Option, Some, None, is_some, if◌then◌else◌}
 use Rattle.std.specs.Char.{is_ascii_control}
 use Rattle.std.specs.List.{slice_split, list_all}
+use Rattle.go_base.specs.Bytes.{hash}
 use Rattle.go_base.specs.Int.{int_of, written_int}
 use Rattle.gtp_wire.specs.Bytes.{is_space, is_blank}
 
@@ -32,7 +33,7 @@ command_of (w ∷ ws) =
 
 -- a byte of a word as it is written: no space, no control character and no `#`
 abbrev pub is_word_byte : ℕ → Bool
-is_word_byte b = not (is_ascii_control b) && (not (is_space b) && not (b == 35))
+is_word_byte b = not (is_ascii_control b) && (not (is_space b) && not (b == hash))
 
 -- a word as it is written: one such byte or more, and no other
 abbrev pub is_written_word : List ℕ → Bool

@@ -1,6 +1,7 @@
 -- What the program writes of its games.
 use Rattle.std.specs.Prelude.{◌≡◌, ◌≤◌, ◌⊎◌, ℕ, ◌+◌, Bool, true, false, List, [], ◌∷◌, ◌++◌, Option, None, Some}
 use Rattle.std.specs.Io.KnownBytes.{Appends}
+use Rattle.go_base.specs.Bytes.{newline}
 use Rattle.clap.specs.Words.{Text}
 use Rattle.clap.specs.declared.error.kind.ErrorKind.{ErrorKind}
 use Rattle.go_board.specs.Show.{shown}
@@ -21,17 +22,17 @@ use Rattle.twogtp.specs.Turns.{HasStopped, IsPlayed}
 -- the record's line, where it is asked for
 abbrev pub record_part : Bool → Controller → List ℕ
 record_part false c = []
-record_part true c = record_text c.game ++ 10 ∷ []
+record_part true c = record_text c.game ++ newline ∷ []
 
 -- the board and an empty line, where they are asked for
 abbrev pub board_part : Bool → Controller → List ℕ
 board_part false c = []
-board_part true c = shown c.game ++ 10 ∷ 10 ∷ []
+board_part true c = shown c.game ++ newline ∷ newline ∷ []
 
 -- the result line of a match that is over
 abbrev pub result_part : ℕ → Controller → Option Verdict → List ℕ
 result_part number c None = []
-result_part number c (Some verdict) = result_text number c verdict ++ 10 ∷ []
+result_part number c (Some verdict) = result_text number c verdict ++ newline ∷ []
 
 -- what is told of a game: its result line, and then the record and the board where they are asked for
 abbrev pub told : Task → ℕ → Controller → List ℕ
