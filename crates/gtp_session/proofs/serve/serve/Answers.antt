@@ -1,13 +1,12 @@
 use Rattle.std.proofs.Common.{rules, ◌≡◌, ◌≢◌, ◌+◌, arith, refl, sym, ap, ◌∙◌, Ok, Err}
-use Rattle.gtp_session.specs.declared.serve.Served.TheVariants.{Quit}
+use Rattle.gtp_session.specs.declared.serve.Served.TheVariants.{Quit, Stopped}
 use Rattle.gtp_session.specs.declared.serve.ServeFault.TheVariants.{Read, Write, TooManyReads}
 use Rattle.gtp_session.specs.Counts.{raised}
 use Rattle.gtp_session.proofs.CountsLemmas.{raised-none, raised-then}
 use Rattle.gtp_session.proofs.ConversationLemmas.{GivesAtLeast-nothing, GivesAtLeast-both, Conversation-nothing, Conversation-both, BrokenConversation-after}
+use Rattle.gtp_session.proofs.FaultLemmas.{Conversation-off, BrokenConversation-off, off-Conversation, off-BrokenConversation, BentConversation-nothing}
+use Rattle.gtp_session.specs.declared.fault.Fault.TheVariants.{Off}
 use Rattle.gtp_session.proofs.serve.serve.Goals as goal
-
-pub returns-then-ended-clause-answers : goal.returns-then-ended-clause-answers
-returns-then-ended-clause-answers g c = λ _. Conversation-nothing g.P.Policy.may c.args.session.now _ _ c.ended.ensures.unread
 
 pub loop-turn-init : goal.loop-turn-init
 loop-turn-init g c =
@@ -21,29 +20,18 @@ loop-turn-init g c =
       flushed = λ h. h;
     }
 
-pub returns-then-not-is_too_many-clause-answers : goal.returns-then-not-is_too_many-clause-answers
-returns-then-not-is_too_many-clause-answers g c =
-    λ h. Conversation-both g.P.Policy.may c.loop-turn.invariant.conversation (c.serve_within-answer.ensures.answers h)
-
-pub returns-then-not-is_too_many-clause-breaks : goal.returns-then-not-is_too_many-clause-breaks
-returns-then-not-is_too_many-clause-breaks g c =
-    λ h. BrokenConversation-after g.P.Policy.may c.loop-turn.invariant.conversation (c.serve_within-answer.ensures.breaks h)
-
-pub returns-then-not-is_too_many-clause-reads : goal.returns-then-not-is_too_many-clause-reads
-returns-then-not-is_too_many-clause-reads g c =
-    let made = c.serve_within-answer.ensures.reads in
-    (c.loop-turn._turn + made.0, omega (arith, made.1), rw (made.2, c.loop-turn.invariant.reads) (raised-then _ _ _))
-
 pub loop-turn-preserved : goal.loop-turn-preserved
 loop-turn-preserved g c =
     let too_many : c.serve_within-answer.result ≡ Err TooManyReads = c.is_too_many.ensures.yes c.if-not-is_too_many.false in
     let no_write : c.serve_within-answer.result ≢ Err Write = λ h. cc in
+    let no_stop : c.serve_within-answer.result ≢ Ok Stopped = λ h. cc in
     let no_read : c.serve_within-answer.result ≢ Err Read = λ h. cc in
     let no_quit : c.serve_within-answer.result ≢ Ok Quit = λ h. cc in
-    let done = c.serve_within-answer.ensures in
+    let done = c.serve_within-answer.ensures.came_out in
     record {
-      conversation = Conversation-both g.P.Policy.may c.loop-turn.invariant.conversation (done.answers no_write);
-      open_still = done.open no_quit no_write;
+      conversation = Conversation-both g.P.Policy.may c.loop-turn.invariant.conversation
+          (Conversation-off g.P.Policy.may (done.answers no_write no_stop).1);
+      open_still = done.open_still no_quit no_write;
       reads = rw (done.too_many too_many, c.loop-turn.invariant.reads) (raised-then _ _ _);
       gave = GivesAtLeast-both c.loop-turn.invariant.gave (done.gave too_many);
       read_held = done.read_held no_read ∙ c.loop-turn.invariant.read_held;
@@ -51,7 +39,66 @@ loop-turn-preserved g c =
       flushed = λ h. done.flushed no_write (c.loop-turn.invariant.flushed h);
     }
 
-pub returns-then-not-is_too_many-clause-gave_before : goal.returns-then-not-is_too_many-clause-gave_before
-returns-then-not-is_too_many-clause-gave_before g c = λ h.
-    let before = c.serve_within-answer.ensures.gave_before h in
-    (c.loop-turn._turn + before.0, rw (before.1, c.loop-turn.invariant.reads) (raised-then _ _ _ ∙ ap (raised _) (omega arith)), GivesAtLeast-both c.loop-turn.invariant.gave before.2)
+pub returns-then-ended-clause-came_out : goal.returns-then-ended-clause-came_out
+returns-then-ended-clause-came_out g c =
+    record {
+      answers = λ _ _. (0, BentConversation-nothing g.P.Policy.may Off c.args.session.now _ _ c.ended.ensures.unread);
+      stopped = search rules;
+      end_of_input = search rules;
+      open_still = search rules;
+      quit = search rules;
+      breaks = search rules;
+      reads = search rules;
+      too_many = search rules;
+      gave = search rules;
+      gave_before = search rules;
+      read_failed = search rules;
+      read_held = search rules;
+      write_failed = search rules;
+      write_held = search rules;
+      flushed = search rules;
+    }
+
+pub returns-then-not-is_too_many-clause-came_out : goal.returns-then-not-is_too_many-clause-came_out
+returns-then-not-is_too_many-clause-came_out g c =
+    let done = c.serve_within-answer.ensures.came_out in
+    let made = done.reads in
+    record {
+      answers = λ h no_stop. off-Conversation g.P.Policy.may (Conversation-both g.P.Policy.may c.loop-turn.invariant.conversation (Conversation-off g.P.Policy.may (done.answers h no_stop).1));
+      stopped = λ h. absurd (c.serve_within-answer.ensures.not_stopped h);
+      end_of_input = done.end_of_input;
+      open_still = done.open_still;
+      quit = done.quit;
+      breaks = λ h. off-BrokenConversation g.P.Policy.may (BrokenConversation-after g.P.Policy.may c.loop-turn.invariant.conversation (BrokenConversation-off g.P.Policy.may (done.breaks h)));
+      reads = (c.loop-turn._turn + made.0, omega (arith, made.1), rw (made.2, c.loop-turn.invariant.reads) (raised-then _ _ _));
+      too_many = λ h. absurd (c.is_too_many.ensures.no c.if-not-is_too_many.true h);
+      gave = λ h. absurd (c.is_too_many.ensures.no c.if-not-is_too_many.true h);
+      gave_before = λ h.
+          let before = done.gave_before h in
+          (c.loop-turn._turn + before.0, rw (before.1, c.loop-turn.invariant.reads) (raised-then _ _ _ ∙ ap (raised _) (omega arith)), GivesAtLeast-both c.loop-turn.invariant.gave before.2);
+      read_failed = search rules;
+      read_held = search rules;
+      write_failed = search rules;
+      write_held = search rules;
+      flushed = search rules;
+    }
+
+pub returns-clause-came_out : goal.returns-clause-came_out
+returns-clause-came_out g c =
+    record {
+      answers = λ _ _. off-Conversation g.P.Policy.may c.loop-turn.invariant.conversation;
+      stopped = search rules;
+      end_of_input = search rules;
+      open_still = search rules;
+      quit = search rules;
+      breaks = search rules;
+      reads = search rules;
+      too_many = search rules;
+      gave = search rules;
+      gave_before = search rules;
+      read_failed = search rules;
+      read_held = search rules;
+      write_failed = search rules;
+      write_held = search rules;
+      flushed = search rules;
+    }

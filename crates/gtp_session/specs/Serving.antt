@@ -1,0 +1,54 @@
+-- What a call of `serve` says of its engine, its reader and its writer.
+use Rattle.std.specs.Prelude.{◌≡◌, ◌≢◌, ◌+◌, ◌≤◌, ℕ, Bool, true, false, List, Option, Result, Ok, Err}
+use Rattle.std.specs.Io.KnownBytes.{IsAtEnd}
+use Rattle.gtp_session.specs.declared.fault.Fault.{Fault}
+use Rattle.gtp_session.specs.declared.serve.Served.{Served}
+use Rattle.gtp_session.specs.declared.serve.Served.TheVariants.{Quit, EndOfInput, Stopped}
+use Rattle.gtp_session.specs.declared.serve.ServeFault.{ServeFault}
+use Rattle.gtp_session.specs.declared.serve.ServeFault.TheVariants.{Read, Write, TooManyReads}
+use Rattle.gtp_session.specs.Policy.{May}
+use Rattle.gtp_session.specs.Counts.{raised}
+use Rattle.gtp_session.specs.Conversation.{GivesAtLeast}
+use Rattle.gtp_session.specs.Engine.{Engine}
+use Rattle.gtp_session.specs.Faults.{BentConversation, StoppedConversation, BrokenBentConversation}
+
+-- what a reader tells: the bytes that it will give, where they are known, its reads, and how many of them failed
+pub record Reader : Type 0 where
+  pub gives : Option (List ℕ)
+  pub reads : ℕ
+  pub failures : ℕ
+
+-- what a writer tells: the bytes that it holds, where they are known, how many of its calls failed, and whether what it
+-- took waits for a flush
+pub record Writer : Type 0 where
+  pub holds : Option (List ℕ)
+  pub failures : ℕ
+  pub waiting : Bool
+
+-- The engine held a conversation under the fault, of so many reads at most, which came out so.
+pub record CameOut {P : Type 0} (may : May P) (fault : Fault) (most : ℕ) (old new : Engine P)
+    (served : Result Served ServeFault) (reader reader_now : Reader) (writer writer_now : Writer) : Type 0 where
+  -- What the reader gave was answered, and the writer took what goes out of each reply. So many genmoves succeeded.
+  pub answers : served ≢ Err Write → served ≢ Ok Stopped → (genmoves : ℕ) × BentConversation may fault
+      old new genmoves reader.gives reader_now.gives writer.holds writer_now.holds
+  -- It stopped at the genmove that the fault meets, and nowhere else.
+  pub stopped : served ≡ Ok Stopped → StoppedConversation may fault
+      old new reader.gives reader_now.gives writer.holds writer_now.holds
+  pub end_of_input : served ≡ Ok EndOfInput → IsAtEnd reader_now.gives
+  pub open_still : served ≢ Ok Quit → served ≢ Err Write → new.ended ≡ false
+  pub quit : served ≡ Ok Quit → new.ended ≡ true
+  -- After a fault of the writer, which took a beginning of what goes out, nothing further was executed.
+  pub breaks : served ≡ Err Write → BrokenBentConversation may fault
+      old new reader.gives reader_now.gives writer.holds writer_now.holds
+  pub reads : (made : ℕ) × (made ≤ most) × (reader_now.reads ≡ raised reader.reads made)
+  pub too_many : served ≡ Err TooManyReads → reader_now.reads ≡ raised reader.reads most
+  -- The reads gave as many bytes as there were reads, at least.
+  pub gave : served ≡ Err TooManyReads → GivesAtLeast reader.gives reader_now.gives most
+  -- At the end of the input the reads before the last gave as many bytes as they were, at least.
+  pub gave_before : served ≡ Ok EndOfInput → (made : ℕ) × (reader_now.reads ≡ raised reader.reads (made + 1))
+      × GivesAtLeast reader.gives reader_now.gives made
+  pub read_failed : served ≡ Err Read → reader_now.failures ≡ raised reader.failures 1
+  pub read_held : served ≢ Err Read → reader_now.failures ≡ reader.failures
+  pub write_failed : served ≡ Err Write → writer_now.failures ≡ raised writer.failures 1
+  pub write_held : served ≢ Err Write → writer_now.failures ≡ writer.failures
+  pub flushed : served ≢ Err Write → writer.waiting ≡ false → writer_now.waiting ≡ false
