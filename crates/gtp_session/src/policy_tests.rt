@@ -271,7 +271,7 @@ fn a_book_has_at_most_2000_places(rt: HostRuntime) -> Result<(), Fail> {
     text.extend_from_slice(b"resign")?;
     let mut book = Book::read(&text).ok_or("book")?;
     let mut game = fresh(1)?;
-    for _ in 1..PLACES_MOST {
+    for _ in 1..MOST_PLACES {
         assert_eq!(rt; choose_and_play(&mut book, &mut game, Colour::Black)?, PASS);
     }
     assert_eq!(rt; book.choose(&game, Colour::Black), Choice::Resign);

@@ -121,7 +121,7 @@ fn quit<P: Conversation>(process: &mut P, buffer: &mut [u8; READ_ROOM]) {
     }
     let mut reader = ReplyReader::new();
     let mut reply = Reply::new();
-    for _read in 0..QUIT_READS {
+    for _read in 0..MOST_QUIT_READS {
         match read_once(process, buffer) {
             Ok(count) if count > 0 => {
                 if reader.feed_into(&buffer[..count], &mut reply).got.is_some() {
