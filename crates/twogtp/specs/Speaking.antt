@@ -1,12 +1,12 @@
 -- What is said with the processes of the sides in a turn.
-use Rattle.std.specs.Prelude.{◌≡◌, ⊤, ℕ, List, Option, None}
+use Rattle.std.specs.Prelude.{◌≡◌, ◌⊎◌, ℕ, List, Option, Some, None}
 use Rattle.std.specs.Io.KnownBytes.{Keeps}
 use Rattle.go_base.specs.declared.colours.Colour.{Colour}
 use Rattle.go_base.specs.declared.colours.Colour.TheVariants.{Black, White}
 use Rattle.gtp_match.specs.declared.controller.Controller.{Controller}
 use Rattle.gtp_match.specs.declared.verdicts.Action.{Action}
 use Rattle.gtp_match.specs.declared.verdicts.Action.TheVariants.{Start, Send, Wait, Done}
-use Rattle.gtp_match.specs.Controller.{sent, lost}
+use Rattle.gtp_match.specs.Controller.{started, sent, lost}
 use Rattle.gtp_match.specs.Next.{next}
 use Rattle.gtp_match.specs.Sides.{side_of, status_of}
 use Rattle.twogtp.specs.declared.sides.Sides.{Sides}
@@ -23,6 +23,13 @@ process_of sides White = sides.white
 abbrev pub OtherStays : {P : Type 0} → Colour → Sides P → Sides P → Type 0
 OtherStays Black before after = after.white ≡ before.white
 OtherStays White before after = after.black ≡ before.black
+
+-- A side was to be started: it is, and has a process from then on; or it counts as started and lost, and what process
+-- it had stays.
+abbrev pub Begins : {P : Type 0} → Controller → Colour → Controller → Option P → Option P → Type 0
+Begins {P} c side new before after =
+    ((new ≡ started c side) × ((process : P) × (after ≡ Some process)))
+    ⊎ ((new ≡ lost (started c side) side) × (after ≡ before))
 
 -- no side has a process
 abbrev pub no_processes : {P : Type 0} → Sides P
@@ -48,15 +55,16 @@ module _ {P : Type 0} (taken given : Shows P) (fails : Fails P) (succeeds : Succ
       IsHeard c side (given before) (given after) (IsUnbroken fails succeeds before after)
       (IsCutOff fails succeeds before after) new × Keeps (taken before) (taken after)
 
-  -- What comes next was said with the process of the side whose turn it is, and nothing with the other's. A side
-  -- without a process is lost.
+  -- What comes next was done with the process of the side whose turn it is, and nothing with the other's. A side
+  -- without a process is lost. Once the match is over nothing is done.
   abbrev pub Speaks : Controller → Action → Controller → Sides P → Sides P → Type 0
-  Speaks c (Start side) new before after = OtherStays side before after
+  Speaks c (Start side) new before after =
+      Begins c side new (process_of before side) (process_of after side) × OtherStays side before after
   Speaks c (Send side) new before after = WithProcess (process_of before side) (process_of after side)
       (SendsTo c side new) (new ≡ lost (sent c side) side) × OtherStays side before after
   Speaks c (Wait side) new before after = WithProcess (process_of before side) (process_of after side)
       (HearsFrom c side new) (new ≡ lost c side) × OtherStays side before after
-  Speaks c (Done verdict) new before after = ⊤
+  Speaks c (Done verdict) new before after = (new ≡ c) × (after ≡ before)
 
 -- What was said in turns, one after another, from the opening on: in each, what came next, and after each the processes
 -- of the sides that are down were ended.

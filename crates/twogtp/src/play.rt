@@ -9,7 +9,7 @@ ghost use Rattle.gtp_match.specs.Next.{next};
 ghost use Rattle.gtp_match.specs.Sound.{IsSound};
 ghost use Rattle.twogtp.specs.Pipes.{IsCutOff, IsUnbroken};
 ghost use Rattle.twogtp.specs.Processes.{WithProcess};
-ghost use Rattle.twogtp.specs.Speaking.{HasSpoken, HearsFrom, IsSpoken, OtherStays, SendsTo, Speaks};
+ghost use Rattle.twogtp.specs.Speaking.{Begins, process_of, HasSpoken, HearsFrom, IsSpoken, OtherStays, SendsTo, Speaks};
 ghost use Rattle.twogtp.specs.Status.{own_fault, status_of};
 ghost use Rattle.twogtp.specs.Turns.{HasPlayed, HasStopped, HasTurned, IsHeard, IsRefused, IsSent};
 
@@ -149,6 +149,9 @@ fn start<S: Starter>(
     ensures refused { OnErr result (IsRefused commands.now game.old
         (S.asked starter.old) (S.asked starter.new)) }
     ensures unchanged { OnErr result (game.new ≡ game.old) }
+    // Where a process is started, it is the side's; the other side keeps its own.
+    ensures begun { OnOk result (Begins game.old side game.new
+        (process_of sides.old side) (process_of sides.new side)) }
     ensures rests { OtherStays side sides.old sides.new }
     ensures fault { IfErr result (λ fault. fault ≡ Fault.OutOfMemory) }
 {

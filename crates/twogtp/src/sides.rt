@@ -1,9 +1,9 @@
 //! The processes of both sides.
-ghost use Rattle.std.specs.Prelude.{◌≡◌};
+ghost use Rattle.std.specs.Prelude.{◌≡◌, Some};
 ghost use Rattle.go_base.specs.declared.colours.Colour.TheVariants.{Black, White};
 ghost use Rattle.gtp_match.specs.Sides.{side_of, status_of};
 ghost use Rattle.twogtp.specs.Processes.{while_up};
-ghost use Rattle.twogtp.specs.Speaking.{OtherStays, no_processes};
+ghost use Rattle.twogtp.specs.Speaking.{OtherStays, no_processes, process_of};
 
 use crate::pipes::{READ_ROOM, read_once, write_whole};
 use crate::starter::Conversation;
@@ -36,7 +36,9 @@ impl<P: Conversation> Sides<P> {
 
     /// Puts a side's process, and answers the one that it had.
     pub fn replace(&mut self, side: Side, process: P) -> Option<P>
-        ensures { OtherStays side self.old self.new }
+        ensures put { process_of self.new side ≡ Some process }
+        ensures had { result ≡ process_of self.old side }
+        ensures rests { OtherStays side self.old self.new }
     {
         match side {
             Side::Black => self.black.replace(process),
