@@ -63,10 +63,10 @@ static COMMANDS: [CommandName; COMMAND_COUNT] = [
 ];
 
 /// The most bytes of a command's name.
-const NAME_MOST: usize = 16;
+const MOST_NAME_BYTES: usize = 16;
 
 /// The room for the names of all commands, each with a newline.
-const NAMES_ROOM: usize = COMMAND_COUNT * (NAME_MOST + 1);
+const NAMES_ROOM: usize = COMMAND_COUNT * (MOST_NAME_BYTES + 1);
 
 /// The names of the commands, a line each.
 pub(crate) fn all_names() -> ArrayVec<u8, NAMES_ROOM>
@@ -85,9 +85,9 @@ pub(crate) fn all_names() -> ArrayVec<u8, NAMES_ROOM>
 
 /// Appends a newline and the command's name.
 fn push_row(text: &mut ArrayVec<u8, NAMES_ROOM>, command: CommandName)
-    requires { array_vec_len text.old + NAME_MOST + 1 ≤ NAMES_ROOM }
+    requires { array_vec_len text.old + MOST_NAME_BYTES + 1 ≤ NAMES_ROOM }
     ensures bytes { text.new.items ≡ text.old.items ++ 10 ∷ spelled command }
-    ensures len { array_vec_len text.new ≤ array_vec_len text.old + NAME_MOST + 1 }
+    ensures len { array_vec_len text.new ≤ array_vec_len text.old + MOST_NAME_BYTES + 1 }
 {
     text.push(b'\n');
     let _ = text.try_extend_from_slice(command.name());
