@@ -157,9 +157,7 @@ fn three_stones_taken_for_one_are_no_ko(rt: HostRuntime) {
 }
 
 #[test]
-fn a_chain_falls_apart_where_the_stone_that_joined_it_is_taken_back(
-    rt: HostRuntime,
-) -> Result<(), Fail> {
+fn a_chain_falls_apart_where_the_stone_that_joined_it_is_taken_back(rt: HostRuntime) {
     let mut game = new_game(&rt, 3);
     play_all(
         &rt,
@@ -171,7 +169,13 @@ fn a_chain_falls_apart_where_the_stone_that_joined_it_is_taken_back(
         ],
     );
     assert_board(&rt, &game, &["X..", "X..", "X.."]);
-    game.undo()?;
+    assert_eq!(rt;
+        game.undo(),
+        Ok(Move {
+            colour: Colour::Black,
+            vertex: vertex(&rt, "A2")
+        })
+    );
     play_all(
         &rt,
         &mut game,
@@ -183,7 +187,6 @@ fn a_chain_falls_apart_where_the_stone_that_joined_it_is_taken_back(
     play_all(&rt, &mut game, &[(Colour::White, "B3")]);
     assert_board(&rt, &game, &[".O.", "O..", ".O."]);
     assert_captured(&rt, &game, 0, 2);
-    Ok(())
 }
 
 #[test]
