@@ -177,3 +177,31 @@ impl Write for Unflushed<'_> {
         Ok(())
     }
 }
+
+/// Takes no byte of its first text where it is stuck, fails its first flush where it is clogged, and is as good as any
+/// after that.
+#[derive(Drop)]
+pub struct Balky {
+    pub taken: Vec<u8>,
+    pub stuck: bool,
+    pub clogged: bool,
+}
+
+impl Write for Balky {
+    fn write(&mut self, buf: &[u8]) -> io::Result<usize> {
+        if self.stuck {
+            self.stuck = false;
+            return Ok(0);
+        }
+        self.taken.extend_from_slice(buf)?;
+        Ok(buf.len())
+    }
+
+    fn flush(&mut self) -> io::Result<()> {
+        if self.clogged {
+            self.clogged = false;
+            return Err(io::Error::from(ErrorKind::BrokenPipe));
+        }
+        Ok(())
+    }
+}

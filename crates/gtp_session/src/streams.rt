@@ -10,6 +10,9 @@ use std::io::{Read, Write};
 use std::marker::Model;
 use thiserror::Error;
 
+#[cfg(test)]
+mod tests;
+
 /// A read, a write or a flush failed.
 #[derive(Clone, Copy, Debug, PartialEq, Eq, Drop, Error)]
 #[error("broken stream")]

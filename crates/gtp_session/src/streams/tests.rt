@@ -1,0 +1,106 @@
+//! What the counts are after calls that fail once.
+use super::{Broken, Counted, Outgoing};
+use crate::first::First;
+use crate::memory::{Balky, Pieces};
+use crate::serve::{ServeFault, Served, serve};
+use crate::session::Session;
+use std::alloc::Global;
+
+/// A writer that balks so once.
+fn balky(alloc: Global, stuck: bool, clogged: bool) -> Counted<Balky> {
+    Counted::new(Balky {
+        taken: Vec::new(alloc),
+        stuck,
+        clogged,
+    })
+}
+
+/// A reader of two moves, one a read.
+fn two_moves() -> Counted<Pieces<'static>> {
+    Counted::new(Pieces {
+        rest: b"1 play b D4\n2 play w E5\n",
+        sizes: &[12],
+        turn: 0,
+        failing: None,
+    })
+}
+
+#[test]
+fn a_write_that_takes_nothing_is_counted_once(rt: HostRuntime) {
+    let mut writer = balky(rt.alloc(), true, false);
+    assert_eq!(rt; writer.write(b"ab"), Err(Broken));
+    assert_eq!(rt; writer.failures, 1);
+    assert!(rt; !writer.waiting);
+    assert_eq!(rt; writer.write(b"cd"), Ok(2));
+    assert_eq!(rt; writer.failures, 1);
+    assert!(rt; writer.waiting);
+    assert_eq!(rt; writer.flush(), Ok(()));
+    assert_eq!(rt; writer.failures, 1);
+    assert!(rt; !writer.waiting);
+    assert_eq!(rt; writer.inner.taken.as_slice(), b"cd".as_slice());
+}
+
+#[test]
+fn nothing_taken_of_an_empty_text_is_no_failure(rt: HostRuntime) {
+    let mut writer = balky(rt.alloc(), true, false);
+    assert_eq!(rt; writer.write(b""), Ok(0));
+    assert_eq!(rt; writer.failures, 0);
+    assert!(rt; !writer.waiting);
+}
+
+#[test]
+fn a_flush_that_fails_is_counted_once_and_leaves_the_text_waiting(rt: HostRuntime) {
+    let mut writer = balky(rt.alloc(), false, true);
+    assert_eq!(rt; writer.write(b"ab"), Ok(2));
+    assert_eq!(rt; writer.flush(), Err(Broken));
+    assert_eq!(rt; writer.failures, 1);
+    assert!(rt; writer.waiting);
+    assert_eq!(rt; writer.flush(), Ok(()));
+    assert_eq!(rt; writer.failures, 1);
+    assert!(rt; !writer.waiting);
+    assert_eq!(rt; writer.inner.taken.as_slice(), b"ab".as_slice());
+}
+
+#[test]
+fn the_next_call_goes_on_after_a_write_that_took_nothing(rt: HostRuntime) {
+    let mut session = Session::new(First);
+    let mut reader = two_moves();
+    let mut writer = balky(rt.alloc(), true, false);
+    let answer = serve(&mut reader, &mut writer, &mut session);
+    assert_eq!(rt; answer, Err(ServeFault::Write));
+    assert_eq!(rt; (reader.reads, reader.failures), (1, 0));
+    assert_eq!(rt; writer.failures, 1);
+    assert!(rt; !writer.waiting);
+    assert_eq!(rt; session.game().moves().len(), 1);
+    assert_eq!(rt; writer.inner.taken.len(), 0);
+    let answer = serve(&mut reader, &mut writer, &mut session);
+    assert_eq!(rt; answer, Ok(Served::EndOfInput));
+    // The second move, and the end.
+    assert_eq!(rt; (reader.reads, reader.failures), (3, 0));
+    assert_eq!(rt; writer.failures, 1);
+    assert!(rt; !writer.waiting);
+    assert_eq!(rt; session.game().moves().len(), 2);
+    // The reply that was not taken isn't written again.
+    assert_eq!(rt; writer.inner.taken.as_slice(), b"=2\n\n".as_slice());
+}
+
+#[test]
+fn the_next_call_goes_on_after_a_flush_that_failed(rt: HostRuntime) {
+    let mut session = Session::new(First);
+    let mut reader = two_moves();
+    let mut writer = balky(rt.alloc(), false, true);
+    let answer = serve(&mut reader, &mut writer, &mut session);
+    assert_eq!(rt; answer, Err(ServeFault::Write));
+    assert_eq!(rt; (reader.reads, reader.failures), (1, 0));
+    assert_eq!(rt; writer.failures, 1);
+    assert!(rt; writer.waiting);
+    assert_eq!(rt; session.game().moves().len(), 1);
+    assert_eq!(rt; writer.inner.taken.as_slice(), b"=1\n\n".as_slice());
+    let answer = serve(&mut reader, &mut writer, &mut session);
+    assert_eq!(rt; answer, Ok(Served::EndOfInput));
+    assert_eq!(rt; (reader.reads, reader.failures), (3, 0));
+    assert_eq!(rt; writer.failures, 1);
+    assert!(rt; !writer.waiting);
+    assert_eq!(rt; session.game().moves().len(), 2);
+    assert_eq!(rt; writer.inner.taken.as_slice(), b"=1\n\n=2\n\n".as_slice());
+}
