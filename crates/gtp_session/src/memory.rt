@@ -205,3 +205,23 @@ impl Write for Balky {
         Ok(())
     }
 }
+
+/// Gives one byte so often, one a read, and then the end; and counts its reads.
+#[derive(Drop)]
+pub struct Drip {
+    pub byte: u8,
+    pub left: u32,
+    pub turns: u64,
+}
+
+impl Read for Drip {
+    fn read(&mut self, buf: &mut [u8]) -> io::Result<usize> {
+        self.turns = self.turns.saturating_add(1);
+        if self.left == 0 || buf.is_empty() {
+            return Ok(0);
+        }
+        self.left -= 1;
+        buf[0] = self.byte;
+        Ok(1)
+    }
+}

@@ -1,8 +1,8 @@
-//! What the counts are after calls that fail once.
-use super::{Broken, Counted, Outgoing};
+//! What the counts are after calls that fail once, and after many reads.
+use super::{Broken, Counted, Incoming, Outgoing};
 use crate::first::First;
-use crate::memory::{Balky, Pieces};
-use crate::serve::{ServeFault, Served, serve};
+use crate::memory::{Balky, Drip, Pieces};
+use crate::serve::{ServeFault, Served, serve, serve_within};
 use crate::session::Session;
 use std::alloc::Global;
 
@@ -103,4 +103,51 @@ fn the_next_call_goes_on_after_a_flush_that_failed(rt: HostRuntime) {
     assert!(rt; !writer.waiting);
     assert_eq!(rt; session.game().moves().len(), 2);
     assert_eq!(rt; writer.inner.taken.as_slice(), b"=1\n\n=2\n\n".as_slice());
+}
+
+/// A reader that gives this byte so often, one a read, and then the end.
+fn drip(byte: u8, left: u32) -> Counted<Drip> {
+    Counted::new(Drip {
+        byte,
+        left,
+        turns: 0,
+    })
+}
+
+#[test]
+fn each_of_100000_reads_is_counted_and_that_of_the_end(rt: HostRuntime) {
+    let mut session = Session::new(First);
+    let mut reader = drip(b' ', 100_000);
+    let mut writer = balky(rt.alloc(), false, false);
+    let mut buffer = [0u8; 1];
+    for _ in 0..99_000 {
+        assert_eq!(rt; reader.read(&mut buffer), Ok(1));
+    }
+    assert_eq!(rt; (reader.reads, reader.failures), (99_000, 0));
+    // The conversation reads the others.
+    let answer = serve(&mut reader, &mut writer, &mut session);
+    assert_eq!(rt; answer, Ok(Served::EndOfInput));
+    assert_eq!(rt; (reader.reads, reader.failures), (100_001, 0));
+    assert_eq!(rt; reader.inner.turns, 100_001);
+    assert_eq!(rt; (writer.failures, writer.waiting), (0, false));
+    assert_eq!(rt; writer.inner.taken.len(), 0);
+    assert!(rt; !session.ended());
+}
+
+#[test]
+fn the_read_of_the_end_is_one_of_those_that_are_allowed(rt: HostRuntime) {
+    // Spaces, a comment, and control characters: none of them is a line.
+    for byte in [b' ', b'#', b'\x01'] {
+        let mut session = Session::new(First);
+        let mut reader = drip(byte, 100);
+        let mut writer = balky(rt.alloc(), false, false);
+        let answer = serve_within(&mut reader, &mut writer, &mut session, 100);
+        assert_eq!(rt; answer, Err(ServeFault::TooManyReads));
+        assert_eq!(rt; (reader.reads, reader.failures), (100, 0));
+        let answer = serve_within(&mut reader, &mut writer, &mut session, 1);
+        assert_eq!(rt; answer, Ok(Served::EndOfInput));
+        assert_eq!(rt; (reader.reads, reader.failures), (101, 0));
+        assert_eq!(rt; (writer.failures, writer.waiting), (0, false));
+        assert_eq!(rt; writer.inner.taken.len(), 0);
+    }
 }
