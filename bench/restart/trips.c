@@ -1,8 +1,8 @@
 /* Round trips: starts an engine so many times, sends it `boardsize`, `komi`, `clear_board` and so many plays on 19x19, and ends it.
- * At most AHEAD commands are unanswered at a time; all that may be sent go out in one write. With AHEAD 1 each is sent when the
- * reply to the one before has come. With -3 plays nothing is sent.
+ * Once at most LEFT commands are unanswered, more are sent until AHEAD are, all in one write. With AHEAD 1 and LEFT 0 each is sent
+ * when the reply to the one before has come. With -3 plays nothing is sent. At the end it prints how many reads it made.
  *
- * usage: trips COUNT PLAYS AHEAD ENGINE [ARGUMENT ..] */
+ * usage: trips COUNT PLAYS AHEAD LEFT ENGINE [ARGUMENT ..] */
 #include <signal.h>
 #include <stdio.h>
 #include <stdlib.h>
@@ -22,9 +22,12 @@ static int command(char *text, int number) {
     return sprintf(text, "%d play %c %c%d\n", number, "bw"[play % 2], "ABCDEFGHJKLMNOPQRST"[column], row);
 }
 
+static long reads;
+
 /* Reads once, and answers how many newlines came. A reply ends with two. */
 static int heard(int from) {
     char bytes[4096];
+    reads++;
     ssize_t count = read(from, bytes, sizeof bytes);
     if (count <= 0) exit(3);
     int newlines = 0;
@@ -32,18 +35,19 @@ static int heard(int from) {
     return newlines;
 }
 
-static void talk(int to, int from, int commands, int ahead) {
+static void talk(int to, int from, int commands, int ahead, int left) {
     int sent = 0, newlines = 0;
     while (newlines < 2 * commands) {
         char texts[1024];
         int size = 0;
-        while (sent < commands && sent - newlines / 2 < ahead) size += command(texts + size, ++sent);
+        if (sent - newlines / 2 <= left)
+            while (sent < commands && sent - newlines / 2 < ahead) size += command(texts + size, ++sent);
         if (size && write(to, texts, (size_t)size) != size) exit(3);
         newlines += heard(from);
     }
 }
 
-static void replay(int commands, int ahead, char **engine) {
+static void replay(int commands, int ahead, int left, char **engine) {
     int in[2], out[2];
     if (pipe(in) || pipe(out)) exit(3);
     pid_t process = fork();
@@ -57,7 +61,7 @@ static void replay(int commands, int ahead, char **engine) {
     }
     close(in[0]);
     close(out[1]);
-    talk(in[1], out[0], commands, ahead);
+    talk(in[1], out[0], commands, ahead, left);
     close(in[1]);
     close(out[0]);
     kill(process, SIGKILL);
@@ -65,7 +69,10 @@ static void replay(int commands, int ahead, char **engine) {
 }
 
 int main(int count, char **words) {
-    if (count < 5 || atoi(words[3]) < 1 || atoi(words[3]) > 16) return 2;
-    for (int time = atoi(words[1]); time > 0; time--) replay(atoi(words[2]) + 3, atoi(words[3]), words + 4);
+    if (count < 6) return 2;
+    int ahead = atoi(words[3]), left = atoi(words[4]);
+    if (ahead < 1 || ahead > 16 || left < 0 || left >= ahead) return 2;
+    for (int time = atoi(words[1]); time > 0; time--) replay(atoi(words[2]) + 3, ahead, left, words + 5);
+    printf("%ld\n", reads);
     return 0;
 }
