@@ -31,7 +31,7 @@ type BoardText = ArrayVec<u8, TEXT_ROOM>;
 impl Game {
     ghost use Rattle.go_board.specs.Board.{stone_at};
     ghost use Rattle.go_board.specs.Game.{board_of};
-    ghost use Rattle.go_board.specs.Show.{shown_points, shown_row, shown_captures, shown};
+    ghost use Rattle.go_board.specs.Show.{shown_points, shown_row, shown_captures, board_text};
 
     /// The board as text: one line for each row, from the highest down to row 1, then the letters of the columns, then
     /// how many stones each colour has taken, as `captures B 0 W 2`. No newline follows the last line.
@@ -39,7 +39,7 @@ impl Game {
     /// A row has `X` for a black stone, `O` for a white one and `.` for an empty point, from column A on and each
     /// followed by a space, and then its number.
     pub fn show(&self) -> ArrayVec<u8, 2000>
-        ensures { result.items ≡ shown self.now }
+        ensures { result.items ≡ board_text self.now }
     {
         let size = self.size().get();
         let mut text = ArrayVec::new();
