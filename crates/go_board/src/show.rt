@@ -1,6 +1,7 @@
 //! A game's board as text.
 ghost use Rattle.std.specs.Prelude.{◌≡◌, ◌+◌, ◌<◌, ◌≤◌, [], ◌∷◌, ◌++◌};
 ghost use Rattle.arrayvec.specs.ArrayVec.{array_vec_len};
+ghost use Rattle.go_base.specs.Bytes.{space};
 ghost use Rattle.go_base.specs.Point.{point, IsCrossing};
 ghost use Rattle.go_base.specs.Size.{most_size, IsSize};
 ghost use Rattle.go_base.specs.Vertex.{letter_of};
@@ -103,7 +104,7 @@ impl Game {
 
 /// What is shown of a point: `X` for a black stone, `O` for a white one, `.` for none.
 fn mark(stone: Option<Colour>) -> u8
-    ensures { result ∷ 32 ∷ [] ≡ shown_point stone }
+    ensures { result ∷ space ∷ [] ≡ shown_point stone }
 {
     match stone {
         Some(Colour::Black) => b'X',
