@@ -13,10 +13,11 @@ use Rattle.std.proofs.lemmas.Int.{ints}
 use Rattle.std.proofs.lemmas.Str.Parse.{digit_from_value, digits_value_short}
 use Rattle.go_base.specs.Int.{SpellsInt, int_of, written_int}
 use Rattle.go_base.specs.HalfPoints.{written_points, written_half_points}
-use Rattle.go_base.specs.Komi.{most_half_points, IsKomi, Sign, no_sign, plus, minus, sign_text, signed, Fraction}
+use Rattle.go_base.specs.Komi.{most_half_points, IsKomi, Sign, no_sign, plus, minus, sign_text, with_sign, Fraction}
 use Rattle.go_base.specs.Komi.{no_point, zeros, half, fraction_text, fraction_digits, fraction_value, SpellsKomi}
 use Rattle.go_base.specs.Komi.{sign_of, without_sign, front_digits, behind_digits, decimals_of, are_zeros, half_of}
-use Rattle.go_base.specs.Komi.{half_points_where, half_points_of_parts, unsigned_half_points_of, signed_where, komi_of}
+use Rattle.go_base.specs.Komi.{half_points_where, half_points_of_parts, unsigned_half_points_of, with_sign_where}
+use Rattle.go_base.specs.Komi.{komi_of}
 use Rattle.go_base.proofs.IntLemmas.{digit_texts, int_of_spelled, digit_bounds, digit_value-digit}
 
 -- ---- digits
@@ -329,25 +330,26 @@ komi_of_spelled half_points text s =
     } in
     let parts = sign_parts s.sign n unsigned spelled in
     ap komi_of s.shape
-    ∙ ap (λ g. signed_where g (unsigned_half_points_of (without_sign (sign_text s.sign ++ unsigned)))) parts.0
-    ∙ ap (λ t. signed_where s.sign (unsigned_half_points_of t)) parts.1
-    ∙ ap (signed_where s.sign) (unsigned_of_spelled n unsigned spelled)
+    ∙ ap (λ g. with_sign_where g (unsigned_half_points_of (without_sign (sign_text s.sign ++ unsigned)))) parts.0
+    ∙ ap (λ t. with_sign_where s.sign (unsigned_half_points_of t)) parts.1
+    ∙ ap (with_sign_where s.sign) (unsigned_of_spelled n unsigned spelled)
     ∙ ap Some (sym s.value)
 
 record HasSigned (sign : Sign) (unsigned : Option ℕ) (half_points : ℤ) : Type 0 where
   pub n : ℕ
   pub unsigned_is : unsigned ≡ Some n
-  pub value : half_points ≡ signed sign n
+  pub value : half_points ≡ with_sign sign n
 
-signed_parts : (sign : Sign) (unsigned : Option ℕ) (half_points : ℤ) → signed_where sign unsigned ≡ Some half_points
+with_sign_parts : (sign : Sign) (unsigned : Option ℕ) (half_points : ℤ)
+    → with_sign_where sign unsigned ≡ Some half_points
     → HasSigned sign unsigned half_points
-signed_parts sign None half_points e = absurd (cc)
-signed_parts sign (Some n) half_points e = record { n = n; unsigned_is = refl; value = cc }
+with_sign_parts sign None half_points e = absurd (cc)
+with_sign_parts sign (Some n) half_points e = record { n = n; unsigned_is = refl; value = cc }
 
 -- the komi of a text is spelled by it
 pub spells_komi_of : (half_points : ℤ) (text : List ℕ) → komi_of text ≡ Some half_points → SpellsKomi half_points text
 spells_komi_of half_points text e =
-    let parts = signed_parts (sign_of text) (unsigned_half_points_of (without_sign text)) half_points e in
+    let parts = with_sign_parts (sign_of text) (unsigned_half_points_of (without_sign text)) half_points e in
     let u = spells_unsigned_of parts.n (without_sign text) parts.unsigned_is in
     record {
       sign = sign_of text;
@@ -358,7 +360,7 @@ spells_komi_of half_points text e =
       few_before = u.few_before;
       few_behind = u.few_behind;
       some_digit = u.some_digit;
-      value = parts.value ∙ ap (signed (sign_of text)) u.value;
+      value = parts.value ∙ ap (with_sign (sign_of text)) u.value;
     }
 
 -- a text that spells no number behind its sign spells no komi
@@ -366,7 +368,7 @@ pub no_komi : (text : List ℕ) → None ≡ unsigned_half_points_of (without_si
     → SpellsKomi half_points text → ⊥
 no_komi text none half_points spelled =
     let e : None ≡ Some half_points =
-    ap (signed_where (sign_of text)) none ∙ komi_of_spelled half_points text spelled in
+    ap (with_sign_where (sign_of text)) none ∙ komi_of_spelled half_points text spelled in
     cc
 
 -- the written form of a komi without its sign is short
@@ -421,7 +423,7 @@ spells_written_points n most =
     }
 
 komi_of_unsigned : (sign : Sign) (n : ℕ) (text : List ℕ) → SpellsUnsigned n text
-    → SpellsKomi (signed sign n) (sign_text sign ++ text)
+    → SpellsKomi (with_sign sign n) (sign_text sign ++ text)
 komi_of_unsigned sign n text u =
     record {
       sign = sign;
@@ -432,7 +434,7 @@ komi_of_unsigned sign n text u =
       few_before = u.few_before;
       few_behind = u.few_behind;
       some_digit = u.some_digit;
-      value = ap (signed sign) u.value;
+      value = ap (with_sign sign) u.value;
     }
 
 -- what is written of a komi spells it

@@ -1,5 +1,5 @@
 -- The two ways to say which vertex a text spells.
-use Rattle.std.proofs.Common.{◌≡◌, ℕ, ◌-◌, ◌≤◌, ◌<◌, List, [], ◌∷◌, length, get_or, Option, Some, None, Bool, true}
+use Rattle.std.proofs.Common.{◌≡◌, ℕ, ◌+◌, ◌-◌, ◌≤◌, ◌<◌, List, [], ◌∷◌, length, get_or, Option, Some, None, Bool, true}
 use Rattle.std.proofs.Common.{false, refl, sym, subst, ◌∙◌, ap, cond, arith, ◌&&◌, ◌⊎◌, inl, inr, Decides}
 use Rattle.std.specs.Prelude.{codes, option_map, nat_le}
 use Rattle.std.specs.Str.{str_to_ascii_lowercase, bytes_eq}
@@ -25,8 +25,8 @@ use Rattle.go_base.proofs.IntLemmas.{digit_texts, int_of_spelled, spells_int_of,
 -- the column of a capital letter
 abbrev column_of_capital : ℕ → Option ℕ
 column_of_capital capital =
-    cond (nat_le 65 capital && nat_le capital 72) (Some (capital - 64))
-    (cond (nat_le 74 capital && nat_le capital 90) (Some (capital - 65)) None)
+    cond (nat_le 65 capital && nat_le capital 72) (Some (capital - 65 + 1))
+    (cond (nat_le 74 capital && nat_le capital 90) (Some (capital - 74 + 9)) None)
 
 column_of_capital-letter_of : (column : ℕ) → 1 ≤ column → column ≤ 25
     → column_of_capital (letter_of column) ≡ Some column
@@ -46,7 +46,7 @@ two_tests false false x y z e = absurd (cc)
 letter_of_column : (capital column : ℕ) → column_of_capital capital ≡ Some column
     → (1 ≤ column) × (column ≤ 25) × (capital ≡ letter_of column)
 letter_of_column capital column e =
-    elim (two_tests _ _ (capital - 64) (capital - 65) column e) [
+    elim (two_tests _ _ (capital - 65 + 1) (capital - 74 + 9) column e) [
       | inl h ↦ let test = h.0 in
           let same = h.1 in
           (grind (arith, nat_tests), grind (arith, nat_tests), grind (arith, nat_tests))

@@ -5,7 +5,7 @@ use Rattle.std.specs.Prelude.{List, [], ◌∷◌, ◌++◌, length, drop, repli
 use Rattle.std.specs.Char.{is_ascii_digit}
 use Rattle.std.specs.List.{list_all}
 use Rattle.std.specs.Str.Parse.{AllDigits, digits_value}
-use Rattle.go_base.specs.Bytes.{digit_0, digit_5}
+use Rattle.go_base.specs.Bytes.{plus_sign, minus_sign, decimal_point, digit_0, digit_5}
 use Rattle.go_base.specs.HalfPoints.{written_half_points}
 
 -- the greatest number of half points, either way: 999,999,999.5 points
@@ -37,10 +37,11 @@ sign_text no_sign = []
 sign_text plus = codes "+"
 sign_text minus = codes "-"
 
-abbrev pub signed : Sign → ℕ → ℤ
-signed no_sign n = pos n
-signed plus n = pos n
-signed minus n = neg_ℤ (pos n)
+-- the number that a sign makes of another
+abbrev pub with_sign : Sign → ℕ → ℤ
+with_sign no_sign n = pos n
+with_sign plus n = pos n
+with_sign minus n = neg_ℤ (pos n)
 
 -- what stands behind the whole part: nothing; a point and so many zeros; or a point, a 5 and so many zeros
 pub data Fraction : Type 0 where
@@ -75,13 +76,13 @@ pub record SpellsKomi (half_points : ℤ) (text : List ℕ) : Type 0 where
   pub few_before : length whole ≤ 9
   pub few_behind : fraction_digits fraction ≤ 9
   pub some_digit : 0 < length whole + fraction_digits fraction
-  pub value : half_points ≡ signed sign (2 * digits_value 10 whole + fraction_value fraction)
+  pub value : half_points ≡ with_sign sign (2 * digits_value 10 whole + fraction_value fraction)
 
 -- ---- the same as a function
 
 abbrev pub sign_of : List ℕ → Sign
 sign_of [] = no_sign
-sign_of (b ∷ bs) = if b == 43 then plus else (if b == 45 then minus else no_sign)
+sign_of (b ∷ bs) = if b == plus_sign then plus else (if b == minus_sign then minus else no_sign)
 
 -- what follows the sign
 abbrev pub without_sign : List ℕ → List ℕ
@@ -100,7 +101,7 @@ behind_digits (b ∷ bs) = if is_ascii_digit b then behind_digits bs else b ∷ 
 -- the digits behind the point, where what follows the whole part is nothing or begins with a point
 abbrev pub decimals_of : List ℕ → Option (List ℕ)
 decimals_of [] = Some []
-decimals_of (b ∷ bs) = if b == 46 then Some bs else None
+decimals_of (b ∷ bs) = if b == decimal_point then Some bs else None
 
 abbrev pub are_zeros : List ℕ → Bool
 are_zeros digits = list_all (λ digit. digit == digit_0) digits
@@ -108,7 +109,8 @@ are_zeros digits = list_all (λ digit. digit == digit_0) digits
 -- the half points of the digits behind the point, where they are none, zeros alone, or 5 and zeros
 abbrev pub half_of : List ℕ → Option ℕ
 half_of [] = Some 0
-half_of (b ∷ bs) = if are_zeros bs then (if b == digit_0 then Some 0 else (if b == digit_5 then Some 1 else None)) else None
+half_of (b ∷ bs) =
+    if are_zeros bs then (if b == digit_0 then Some 0 else (if b == digit_5 then Some 1 else None)) else None
 
 -- the half points of a whole part and the digits behind the point, where there is a digit and not too many
 abbrev pub half_points_where : List ℕ → List ℕ → Option ℕ → Option ℕ
@@ -126,13 +128,13 @@ half_points_of_parts whole (Some decimals) = half_points_where whole decimals (h
 abbrev pub unsigned_half_points_of : List ℕ → Option ℕ
 unsigned_half_points_of text = half_points_of_parts (front_digits text) (decimals_of (behind_digits text))
 
-abbrev pub signed_where : Sign → Option ℕ → Option ℤ
-signed_where sign None = None
-signed_where sign (Some n) = Some (signed sign n)
+abbrev pub with_sign_where : Sign → Option ℕ → Option ℤ
+with_sign_where sign None = None
+with_sign_where sign (Some n) = Some (with_sign sign n)
 
 -- the half points that the text spells, where it spells a komi
 abbrev pub komi_of : List ℕ → Option ℤ
-komi_of text = signed_where (sign_of text) (unsigned_half_points_of (without_sign text))
+komi_of text = with_sign_where (sign_of text) (unsigned_half_points_of (without_sign text))
 
 -- ---- laws
 

@@ -3,7 +3,7 @@
 use Rattle.std.specs.Prelude.{◌≡◌, ℕ, ◌+◌, ◌-◌, ◌↔◌, Bool, false, ◌&&◌, ◌==◌, nat_le, List, [], ◌∷◌, Option, Some, None}
 use Rattle.std.specs.Prelude.{option_map, codes, if◌then◌else◌}
 use Rattle.std.specs.Char.{to_ascii_uppercase}
-use Rattle.go_base.specs.Bytes.{digit_0}
+use Rattle.go_base.specs.Bytes.{digit_0, capital_a, capital_h, capital_j, capital_z}
 use Rattle.go_base.specs.Int.{int_of, written_int}
 use Rattle.go_base.specs.Size.{most_size}
 use Rattle.go_base.specs.Point.{point, column_of, row_of, IsOn}
@@ -11,9 +11,9 @@ use Rattle.go_base.specs.Word.{IsWord, is_word}
 use Rattle.go_base.specs.declared.vertices.Vertex.{Vertex}
 use Rattle.go_base.specs.declared.vertices.Vertex.TheVariants.{Pass, At}
 
--- the capital letter of a column: A to H (65 to 72) for 1 to 8, and J to Z (74 to 90) for 9 to 25; I is left out
+-- the capital letter of a column: A to H for 1 to 8, and J to Z for 9 to 25; I is left out
 abbrev pub letter_of : ℕ → ℕ
-letter_of column = if nat_le column 8 then 64 + column else 65 + column
+letter_of column = if nat_le column 8 then capital_a - 1 + column else capital_j - 9 + column
 
 -- The text spells the point: the letter of its column, capital or small, and its row without leading zeros.
 pub record SpellsPoint (p : ℕ) (text : List ℕ) : Type 0 where
@@ -36,8 +36,8 @@ written_vertex (At p) = letter_of (column_of p) ∷ written_int (row_of p)
 abbrev pub column_of_letter : ℕ → Option ℕ
 column_of_letter letter =
     let capital = to_ascii_uppercase letter in
-    if nat_le 65 capital && nat_le capital 72 then Some (capital - 64)
-    else (if nat_le 74 capital && nat_le capital 90 then Some (capital - 65) else None)
+    if nat_le capital_a capital && nat_le capital capital_h then Some (capital - capital_a + 1)
+    else (if nat_le capital_j capital && nat_le capital capital_z then Some (capital - capital_j + 9) else None)
 
 abbrev pub starts_with_zero : List ℕ → Bool
 starts_with_zero [] = false

@@ -8,8 +8,7 @@ use arrayvec::ArrayVec;
 const MOST_INT: u32 = 2_147_483_647;
 
 /// Reads an int: one digit or more and nothing else, with leading zeros or without, of a value up to 2,147,483,647.
-/// `None`
-/// for every other text, so for one with a sign, and for a greater value.
+/// `None` for every other text, so for one with a sign, and for a greater value.
 pub fn read_int(text: &[u8]) -> Option<u32>
     ensures read { IfSome result (λ n. SpellsInt n text.now) }
     ensures unread { IfNone result ((n : ℕ) → SpellsInt n text.now → ⊥) }

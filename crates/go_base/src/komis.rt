@@ -50,7 +50,7 @@ impl Komi {
         let (is_negative, unsigned) = split_sign(text);
         let magnitude = read_unsigned(unsigned)?;
         Some(Komi {
-            half_points: signed(is_negative, magnitude),
+            half_points: with_sign(is_negative, magnitude),
         })
     }
 
@@ -90,7 +90,7 @@ impl Komi {
 }
 
 /// The number with its sign.
-fn signed(is_negative: bool, magnitude: u32) -> i32
+fn with_sign(is_negative: bool, magnitude: u32) -> i32
     requires { magnitude ≤ most_half_points }
     ensures { result ≡ (if is_negative then neg_ℤ (pos magnitude) else pos magnitude) }
 {

@@ -212,6 +212,10 @@ fn komi_is_read_in_half_points(rt: HostRuntime) {
             "{text}"
         );
     }
+}
+
+#[test]
+fn komi_is_not_read_from_other_texts(rt: HostRuntime) {
     let others = [
         ".",
         "-",

@@ -17,7 +17,7 @@ use Rattle.go_board.specs.private.Frame.{HasSize, IsFramed}
 use Rattle.go_board.specs.Game.{GameRecord, start, board, board_of, with_move, after_vertex, IsGame, IsLegal}
 use Rattle.go_board.specs.private.Label.{AreFree}
 use Rattle.go_board.specs.Put.{put}
-use Rattle.go_board.specs.private.Removed.{stone_count, removed_of, removed_from, removed_by, taken_at, IsOpen}
+use Rattle.go_board.specs.private.Removed.{removed_of, removed_from, removed_by, taken_at, IsOpen}
 use Rattle.go_board.specs.declared.board.Cell.{Cell}
 use Rattle.go_board.specs.declared.board.Cell.TheVariants.{Black}
 use Rattle.go_board.specs.declared.removed.Taken.{Taken}
@@ -31,6 +31,7 @@ use Rattle.go_board.proofs.NextLemmas.{empty-point}
 use Rattle.go_board.proofs.StackLemmas.{removed_of-with_move, few-after_play}
 use Rattle.go_board.proofs.StartCountLemmas.{stones-start}
 use Rattle.go_board.proofs.StartLemmas.{start-none}
+use Rattle.go_board.proofs.UndoLemmas.{stone_count}
 
 -- The board has the game's size, each stone is free, there are at most as many stones as were put down, and each was
 -- taken by a move of the record.

@@ -11,7 +11,8 @@ use Rattle.go_base.specs.Vertex.{letter_of}
 use Rattle.go_base.specs.declared.colours.Colour.{Colour}
 use Rattle.go_board.specs.Board.{stone_at}
 use Rattle.go_board.specs.Game.{GameRecord, board_of}
-use Rattle.go_board.specs.Show.{shown_point, shown_points, shown_row, shown_letters, shown_captures, rows_down, shown}
+use Rattle.go_board.specs.Show.{shown_point, shown_points, shown_row, shown_letters, shown_captures, rows_down}
+use Rattle.go_board.specs.Show.{board_text}
 
 -- ---- joined pieces
 
@@ -151,10 +152,10 @@ rows_above-more game row least most =
     ∙ ap (flat_map f) (range-down game.size row least most)
 
 -- all rows, the letters and the captures
-pub shown-from_front : (game : GameRecord) (row : ℕ) → row ≡ 0
-    → ((rows_above game row ++ shown_letters game.size) ++ 10 ∷ []) ++ shown_captures game ≡ shown game
-unfolding rows_above shown
-shown-from_front game row none =
+pub board_text-from_front : (game : GameRecord) (row : ℕ) → row ≡ 0
+    → ((rows_above game row ++ shown_letters game.size) ++ 10 ∷ []) ++ shown_captures game ≡ board_text game
+unfolding rows_above board_text
+board_text-from_front game row none =
     append_assoc (rows_above game row ++ shown_letters game.size) (10 ∷ []) (shown_captures game)
     ∙ append_assoc (rows_above game row) (shown_letters game.size) (10 ∷ shown_captures game)
     ∙ ap (λ k. flat_map (λ k. shown_row game k ++ 10 ∷ []) (reverse (range_with_len (k + 1) (game.size - k)))

@@ -10,7 +10,7 @@ use Rattle.go_board.specs.Board.{at, IsStone}
 use Rattle.go_board.specs.private.Frame.{IsFramed}
 use Rattle.go_board.specs.Chain.{Joined, itself, by_way_of}
 use Rattle.go_board.specs.private.Label.{label_of, label_at, label_beside, AreLabels}
-use Rattle.go_board.specs.private.Steps.{renamed, relabelled, IsNamed, IsCut}
+use Rattle.go_board.specs.private.Steps.{rename, rename_three, IsNamed, IsCut}
 use Rattle.go_board.specs.declared.board.Cell.{Cell}
 use Rattle.go_board.specs.declared.board.Cell.TheVariants.{Edge, Empty}
 use Rattle.go_board.proofs.BoardLemmas.{same_or_other}
@@ -19,9 +19,9 @@ use Rattle.go_board.proofs.FloodLemmas.{IsOn-inside}
 use Rattle.go_board.proofs.ChainLemmas.{Joined-then, Joined-same, Joined-back, Joined-kept, IsStone-point}
 use Rattle.go_board.proofs.ChainLemmas.{IsStone-filled, IsStone-joined, AreLabels-steps, along-path}
 use Rattle.go_board.proofs.AnewLemmas.{IsPart, IsPart-named, named-has, AreLabels-part}
-use Rattle.go_board.proofs.JoinLemmas.{relabelled-a}
+use Rattle.go_board.proofs.JoinLemmas.{rename_three-a}
 use Rattle.go_board.proofs.LibertyLemmas.{stone-test}
-use Rattle.go_board.proofs.MergeLemmas.{renamed-other}
+use Rattle.go_board.proofs.MergeLemmas.{rename-other}
 
 -- ---- paths without a place
 
@@ -247,7 +247,7 @@ pub record IsSplitting (board : List Cell) (labels : List ℕ) (place : ℕ) : T
 
 -- the chain's label was cleared
 pub IsSplitting-start : (board : List Cell) (labels new : List ℕ) (place label : ℕ) → IsFramed board
-    → IsCut board labels place label → new ≡ map (relabelled 0 label label label) labels
+    → IsCut board labels place label → new ≡ map (rename_three 0 label label label) labels
     → IsSplitting board new place
 IsSplitting-start board labels new place label framed c made = record {
   part = record {
@@ -256,7 +256,7 @@ IsSplitting-start board labels new place label framed c made = record {
       | inr o ↦ subst (λ (k : ℕ). Joined board q k) (sym (kept q s o)) (c.own q s o)
     ];
     closed =
-        λ q r s path. at_stone q s ∙ ap (relabelled 0 label label label) (along-path board labels c.alike path s)
+        λ q r s path. at_stone q s ∙ ap (rename_three 0 label label label) (along-path board labels c.alike path s)
         ∙ sym (at_stone r (IsStone-joined board q r path s));
   };
   cut = λ q s none. elim (same_or_other (label_of labels q) label) [
@@ -265,20 +265,20 @@ IsSplitting-start board labels new place label framed c made = record {
   ];
 }
   where
-    at_stone : (q : ℕ) → IsStone (at board q) → label_of new q ≡ relabelled 0 label label label (label_of labels q)
+    at_stone : (q : ℕ) → IsStone (at board q) → label_of new q ≡ rename_three 0 label label label (label_of labels q)
     at_stone q s =
         let below = in_list board q (IsStone-point (at board q) s) in
         ap (λ (ls : List ℕ). label_of ls q) made
-        ∙ get_or-map (relabelled 0 label label label) labels q 0 0
+        ∙ get_or-map (rename_three 0 label label label) labels q 0 0
         (omega (arith, below, framed.length_is, c.length_is))
 
     off : (q : ℕ) → IsStone (at board q) → label_of labels q ≡ label → label_of new q ≡ 0
-    off q s e = at_stone q s ∙ relabelled-a 0 label label label (label_of labels q) e
+    off q s e = at_stone q s ∙ rename_three-a 0 label label label (label_of labels q) e
 
     kept : (q : ℕ) → IsStone (at board q) → label_of labels q ≢ label → label_of new q ≡ label_of labels q
     kept q s o =
-        let one = renamed-other 0 label (label_of labels q) o in
-        at_stone q s ∙ ap (λ (k : ℕ). renamed 0 label (renamed 0 label k)) one ∙ ap (renamed 0 label) one ∙ one
+        let one = rename-other 0 label (label_of labels q) o in
+        at_stone q s ∙ ap (λ (k : ℕ). rename 0 label (rename 0 label k)) one ∙ ap (rename 0 label) one ∙ one
 
     not_zero : (q : ℕ) → IsStone (at board q) → label_of labels q ≢ label → label_of labels q ≢ 0
     not_zero q s o e =
@@ -315,7 +315,7 @@ IsFurther-named board old new place n framed (inr same) l = record {
 -- once the chains of all four neighbours are named, all stones have labels
 pub AreLabels-split : (board : List Cell) (labels l1 l2 l3 l4 l5 : List ℕ) (place label : ℕ) → IsFramed board
     → IsCut board labels place label
-    → l1 ≡ map (relabelled 0 label label label) labels → IsNamed board l1 l2 (place + 1)
+    → l1 ≡ map (rename_three 0 label label label) labels → IsNamed board l1 l2 (place + 1)
     → IsNamed board l2 l3 (place - 1) → IsNamed board l3 l4 (place + 26) → IsNamed board l4 l5 (place - 26)
     → length l5 ≡ 702 → AreLabels board l5
 AreLabels-split board labels l1 l2 l3 l4 l5 place label framed c made n2 n3 n4 n5 long =

@@ -29,13 +29,14 @@ stone colour.White = White
 abbrev pub IsStone : Cell → Type 0
 IsStone this = (c : Colour) × (this ≡ stone c)
 
+-- the colour of this stone, where it is one
 abbrev pub stone_of : Cell → Option Colour
 stone_of Black = Some colour.Black
 stone_of White = Some colour.White
 stone_of Empty = None
 stone_of Edge = None
 
--- the stone that a place holds, if it holds one
+-- the colour of the stone on a place, where there is one
 abbrev pub stone_at : List Cell → ℕ → Option Colour
 stone_at board p = stone_of (at board p)
 

@@ -6,8 +6,8 @@ use Rattle.go_board.specs.Board.{at, stone}
 use Rattle.go_board.specs.declared.board.Cell.{Cell}
 use Rattle.go_board.specs.declared.board.Cell.TheVariants.{Edge, Empty}
 
--- There is a path from p to q, each point a neighbour of the one before, and all hold what p holds: stones of one
--- colour, which are then of one chain, or nothing, and the points are then of one empty region.
+-- A path leads from p to q: each of its points is a neighbour of the one before, none is edge, and all hold what p
+-- holds. Stones are then of one colour and of one chain, and empty points of one region.
 pub data Joined (board : List Cell) : ℕ → ℕ → Type 0 where
   itself : {p : ℕ} → at board p ≢ Edge → Joined board p p
   by_way_of : {p q : ℕ} (r : ℕ) → at board p ≢ Edge → Neighbours p r → at board r ≡ at board p → Joined board r q

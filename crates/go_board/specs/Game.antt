@@ -15,7 +15,7 @@ use Rattle.go_board.specs.Board.{at, empty_board, with_black}
 use Rattle.go_board.specs.Chain.{IsFree}
 use Rattle.go_board.specs.Put.{put}
 
--- komi in half points, handicap 0 where there is none
+-- what a game is: its komi is in half points, and its handicap is 0 where there is none
 pub record GameRecord : Type 0 where
   pub size : ℕ
   pub komi : ℤ
@@ -26,6 +26,7 @@ pub record GameRecord : Type 0 where
 abbrev pub most_moves : ℕ
 most_moves = 2000
 
+-- there is room for a move more
 abbrev pub HasRoom : GameRecord → Type 0
 HasRoom game = length game.moves < most_moves
 
@@ -47,6 +48,7 @@ with_move game c v = record game { moves = game.moves ++ record { colour = c; ve
 unfoldable pub start : ℕ → ℕ → List Cell
 start size handicap = with_black (empty_board size) (handicap_points size handicap)
 
+-- the board after a colour plays a vertex
 abbrev pub after_vertex : List Cell → Colour → Vertex → List Cell
 after_vertex board c Pass = board
 after_vertex board c (At p) = put board c p
@@ -59,26 +61,27 @@ after board move = after_vertex board move.colour move.vertex
 unfoldable pub board : ℕ → ℕ → List Move → List Cell
 board size handicap moves = fold after (start size handicap) moves
 
+-- the board of a game: that of its whole list of moves
 abbrev pub board_of : GameRecord → List Cell
 board_of game = board game.size game.handicap game.moves
 
 -- ---- what is legal
 
--- the board would be the one before the previous move: simple ko, for which a pass is a move too; without a move there
--- is no ko
+-- The board would be as it was before the last move of the game: simple ko, for which a pass is a move too. Without a
+-- move there is no ko.
 pub record Repeats (game : GameRecord) (next : List Cell) : Type 0 where
   pub moved : 0 < length game.moves
   pub same : next ≡ board_of (without_last game)
 
--- the point is on the board and empty, the new stone's chain has a liberty once the other colour's stones are removed,
--- and the play is no ko
+-- the point is on the board and empty, the new stone's chain has a liberty once the other colour's stones without one
+-- are removed, and the play is no ko
 pub record IsLegalPlay (game : GameRecord) (c : Colour) (p : ℕ) : Type 0 where
   pub on_board : IsOn game.size p
   pub empty : at (board_of game) p ≡ Empty
   pub free : IsFree (put (board_of game) c p) p
   pub no_ko : ¬ Repeats game (put (board_of game) c p)
 
--- a pass is always legal
+-- a move is legal: a pass always is
 abbrev pub IsLegal : GameRecord → Colour → Vertex → Type 0
 IsLegal game c Pass = Unit {0}
 IsLegal game c (At p) = IsLegalPlay game c p

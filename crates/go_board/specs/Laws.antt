@@ -1,6 +1,7 @@
 -- Laws of the game, as relations: which board a move leaves, what it takes, and what counts for whom. (Own rules of
 -- play.)
-use Rattle.std.specs.Prelude.{◌≡◌, ◌≢◌, ℕ, ℤ, pos, ◌+◌, ◌*ℤ◌, ◌-ℤ◌, ◌⊎◌, ◌↔◌, List, [], Contains, length, slice_set, Some}
+use Rattle.std.specs.Prelude.{◌≡◌, ◌≢◌, ℕ, ℤ, pos, ◌+◌, ◌*ℤ◌, ◌-ℤ◌, ◌⊎◌, ◌↔◌, List, [], Contains, length}
+use Rattle.std.specs.Prelude.{slice_set, Some}
 use Rattle.std.specs.List.{AllPairs}
 use Rattle.go_base.specs.Colour.{other}
 use Rattle.go_base.specs.Handicap.{handicap_points}

@@ -15,7 +15,7 @@ use Rattle.go_board.specs.Chain.{IsFree}
 use Rattle.go_board.specs.Put.{put}
 use Rattle.go_board.specs.Game.{GameRecord, most_moves, HasRoom, board_of, Repeats}
 
--- why a play on a point is refused, where the record has room
+-- why a play on a point is refused where the record has room: each cause leaves out those that are checked before it
 abbrev pub RefusesPoint : GameRecord → Colour → ℕ → PlayFault → Type 0
 RefusesPoint game c p Full = ⊥
 RefusesPoint game c p OffBoard = ¬ IsOn game.size p
@@ -26,12 +26,12 @@ RefusesPoint game c p Ko =
     IsOn game.size p × ((at (board_of game) p ≡ Empty)
     × (IsFree (put (board_of game) c p) p × Repeats game (put (board_of game) c p)))
 
--- a pass is never refused, where the record has room
+-- the same of a vertex: a pass is never refused where the record has room
 abbrev pub RefusesVertex : GameRecord → Colour → Vertex → PlayFault → Type 0
 RefusesVertex game c Pass fault = ⊥
 RefusesVertex game c (At p) fault = RefusesPoint game c p fault
 
--- why a move is refused
+-- why a move is refused: a full record comes before every other cause
 abbrev pub Refuses : GameRecord → Colour → Vertex → PlayFault → Type 0
 Refuses game c v Full = most_moves ≤ length game.moves
 Refuses game c v OffBoard = HasRoom game × RefusesVertex game c v OffBoard
@@ -43,7 +43,7 @@ Refuses game c v Ko = HasRoom game × RefusesVertex game c v Ko
 abbrev pub IsTouched : GameRecord → Type 0
 IsTouched game = HasStone (board_of game) ⊎ (0 < length game.moves)
 
--- why a handicap is refused
+-- why a handicap is refused: a board that was touched comes before a number that the size doesn't allow
 abbrev pub RefusesHandicap : GameRecord → ℕ → HandicapFault → Type 0
 RefusesHandicap game stones NotEmpty = IsTouched game
 RefusesHandicap game stones BadNumber = (¬ IsTouched game) × ¬ AllowsHandicap game.size stones

@@ -44,5 +44,5 @@ abbrev pub shown_lines : GameRecord → List (List ℕ)
 shown_lines game = map (shown_row game) (rows_down game.size) ++ shown_letters game.size ∷ shown_captures game ∷ []
 
 -- The text: its lines with a newline between each two.
-unfoldable pub shown : GameRecord → List ℕ
-shown game = join_with_byte newline (shown_lines game)
+unfoldable pub board_text : GameRecord → List ℕ
+board_text game = join_with_byte newline (shown_lines game)

@@ -14,6 +14,7 @@ abbrev pub captures_of_vertex : List Cell → Colour → Vertex → ℕ
 captures_of_vertex board c Pass = 0
 captures_of_vertex board c (At p) = captures board c p
 
+-- whether they are one colour
 abbrev pub same_colour : Colour → Colour → Bool
 same_colour Black Black = true
 same_colour White White = true

@@ -53,7 +53,7 @@ impl Game {
     ghost use Rattle.go_board.specs.Board.{at, stone_at};
     ghost use Rattle.go_board.specs.Put.{put};
     ghost use Rattle.go_board.specs.declared.board.Cell.TheVariants.{Empty};
-    ghost use Rattle.go_board.specs.Game.{most_moves, HasRoom, without_last, with_move, board_of, Repeats, IsLegal};
+    ghost use Rattle.go_board.specs.Game.{HasRoom, without_last, with_move, board_of, Repeats, IsLegal};
     ghost use Rattle.go_board.specs.Game.{IsGame, IsFinished};
     ghost use Rattle.go_board.specs.decisions.Game.{finished?};
     ghost use Rattle.go_board.specs.Taken.{taken};
@@ -118,8 +118,7 @@ impl Game {
     /// # Errors
     ///
     /// In this order, and the game stays as it was: `NotEmpty` where a stone is on the board or a move is in the
-    /// record;
-    /// `BadNumber` where the size doesn't allow that number.
+    /// record; `BadNumber` where the size doesn't allow that number.
     pub fn place_handicap(&mut self, stones: u32) -> Result<ArrayVec<Point, 9>, HandicapFault>
         ensures ok { IfOk result (λ points. points.items ≡ handicap_points self.old.size stones) }
         ensures placed { OnOk result (self.new ≡ record self.old { handicap = stones }) }

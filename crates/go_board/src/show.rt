@@ -1,6 +1,7 @@
 //! A game's board as text.
 ghost use Rattle.std.specs.Prelude.{◌≡◌, ◌+◌, ◌<◌, ◌≤◌, [], ◌∷◌, ◌++◌};
 ghost use Rattle.arrayvec.specs.ArrayVec.{array_vec_len};
+ghost use Rattle.go_base.specs.Bytes.{space};
 ghost use Rattle.go_base.specs.Point.{point, IsCrossing};
 ghost use Rattle.go_base.specs.Size.{most_size, IsSize};
 ghost use Rattle.go_base.specs.Vertex.{letter_of};
@@ -31,7 +32,7 @@ type BoardText = ArrayVec<u8, TEXT_ROOM>;
 impl Game {
     ghost use Rattle.go_board.specs.Board.{stone_at};
     ghost use Rattle.go_board.specs.Game.{board_of};
-    ghost use Rattle.go_board.specs.Show.{shown_points, shown_row, shown_captures, shown};
+    ghost use Rattle.go_board.specs.Show.{shown_points, shown_row, shown_captures, board_text};
 
     /// The board as text: one line for each row, from the highest down to row 1, then the letters of the columns, then
     /// how many stones each colour has taken, as `captures B 0 W 2`. No newline follows the last line.
@@ -39,7 +40,7 @@ impl Game {
     /// A row has `X` for a black stone, `O` for a white one and `.` for an empty point, from column A on and each
     /// followed by a space, and then its number.
     pub fn show(&self) -> ArrayVec<u8, 2000>
-        ensures { result.items ≡ shown self.now }
+        ensures { result.items ≡ board_text self.now }
     {
         let size = self.size().get();
         let mut text = ArrayVec::new();
@@ -103,7 +104,7 @@ impl Game {
 
 /// What is shown of a point: `X` for a black stone, `O` for a white one, `.` for none.
 fn mark(stone: Option<Colour>) -> u8
-    ensures { result ∷ 32 ∷ [] ≡ shown_point stone }
+    ensures { result ∷ space ∷ [] ≡ shown_point stone }
 {
     match stone {
         Some(Colour::Black) => b'X',

@@ -1,5 +1,5 @@
 //! Examples worked out by hand, and games of random moves beside those of a slow game.
-mod drawn;
+mod legal;
 mod plain;
 mod random;
 mod slow;
@@ -42,10 +42,10 @@ fn mark(stone: Option<Colour>) -> u8 {
 }
 
 /// Compares each point with a drawing, which has the highest row first: `X` is Black's stone, `O` White's.
-fn assert_board(rt: &impl Abort, game: &Game, drawn: &[&str]) {
+fn assert_board(rt: &impl Abort, game: &Game, drawing: &[&str]) {
     let lines = game.size().get();
-    assert_eq!(rt; drawn.len(), lines as usize);
-    for (row, text) in (1..=lines).rev().zip(drawn) {
+    assert_eq!(rt; drawing.len(), lines as usize);
+    for (row, text) in (1..=lines).rev().zip(drawing) {
         assert_eq!(rt; text.len(), lines as usize);
         for (column, want) in (1..=lines).zip(text.bytes()) {
             let point = Point::new(column, row).expect(rt, "a point");

@@ -22,7 +22,7 @@ use Rattle.go_base.proofs.HandicapLemmas.{handicap_sound}
 use Rattle.go_board.specs.Board.{stone_at}
 use Rattle.go_board.specs.Game.{GameRecord, board_of, IsLegal}
 use Rattle.go_board.specs.Taken.{taken}
-use Rattle.go_board.specs.Show.{shown_point, shown_points, shown_row, shown_letters, shown_captures, rows_down, shown}
+use Rattle.go_board.specs.Show.{shown_point, shown_points, shown_row, shown_letters, shown_captures, rows_down, board_text}
 use Rattle.gtp_wire.specs.Bytes.{is_newline, is_blank}
 use Rattle.gtp_wire.proofs.LineLemmas.{AllByRecursion-append}
 use Rattle.gtp_wire.specs.Replies.{has_two_newlines, is_shown, begins_blank, IsReplyText}
@@ -265,8 +265,8 @@ all_reversed P (x ∷ xs) all =
     rw (reverse-append (x ∷ []) xs) (AllByRecursion-append P (reverse xs) (x ∷ []) (all_reversed P xs all.1) (all.0, tt))
 
 -- a board's text of any game
-pub shown_short : (game : GameRecord) → game.size ≤ 25 → length (shown game) ≤ 2000
-unfolding shown shown_letters
+pub shown_short : (game : GameRecord) → game.size ≤ 25 → length (board_text game) ≤ 2000
+unfolding board_text shown_letters
 shown_short game most =
     omega (
       arith,
@@ -345,12 +345,12 @@ neat-lines game (row ∷ rows) letters captures nl nc =
     (neat-row game row, neat-rows game rows (letters ∷ captures ∷ []) (nl, (nc, tt)))
 
 -- the text of a board may be that of a reply
-pub shown_fits : (game : GameRecord) → IsSize game.size → IsReplyText (shown game)
-unfolding shown
+pub shown_fits : (game : GameRecord) → IsSize game.size → IsReplyText (board_text game)
+unfolding board_text
 shown_fits game is_size =
     let least : 1 ≤ game.size = is_size.least in
     let most : game.size ≤ 25 = is_size.most in
-    IsReplyText-neat (shown game) (shown_short game most)
+    IsReplyText-neat (board_text game) (shown_short game most)
     (neat-lines game (rows_down game.size) (shown_letters game.size) (shown_captures game)
     (neat-letters game.size least most) (neat-captures game))
 

@@ -18,7 +18,7 @@ use Rattle.go_board.specs.declared.faults.PlayFault.TheVariants.{Full, OffBoard,
 use Rattle.go_board.specs.Game.{GameRecord, most_moves, with_move, without_last}
 use Rattle.go_board.specs.decisions.Game.{legal?, touched?}
 use Rattle.go_base.specs.Decide.{allows?}
-use Rattle.go_board.specs.Show.{shown}
+use Rattle.go_board.specs.Show.{board_text}
 use Rattle.go_board.specs.Area.{score}
 use Rattle.gtp_wire.specs.declared.lines.Line.{Line}
 use Rattle.gtp_wire.specs.declared.lines.Line.TheVariants as line
@@ -179,7 +179,7 @@ answer_to game Genmove words choice = answer_genmove game (argument colour_of wo
 answer_to game FixedHandicap words choice = answer_handicap game (argument int_of words 1)
 answer_to game Undo words choice = answer_undo game
 answer_to game FinalScore words choice = succeeds game (score_text (score game))
-answer_to game Showboard words choice = succeeds game (shown game)
+answer_to game Showboard words choice = succeeds game (board_text game)
 
 -- a command that is named, or an unknown one (the standard, standard error messages)
 abbrev pub answer_to_named : GameRecord → Option CommandName → List (List ℕ) → Choice → Answer

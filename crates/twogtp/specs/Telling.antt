@@ -4,7 +4,7 @@ use Rattle.std.specs.Io.KnownBytes.{Appends}
 use Rattle.go_base.specs.Bytes.{newline}
 use Rattle.clap.specs.Words.{Text}
 use Rattle.clap.specs.declared.error.kind.ErrorKind.{ErrorKind}
-use Rattle.go_board.specs.Show.{shown}
+use Rattle.go_board.specs.Show.{board_text}
 use Rattle.gtp_match.specs.declared.controller.Controller.{Controller}
 use Rattle.gtp_match.specs.declared.verdicts.Verdict.{Verdict}
 use Rattle.gtp_match.specs.Controller.{new}
@@ -28,7 +28,7 @@ record_part true c = record_text c.game ++ newline ∷ []
 -- the board and an empty line, where they are asked for
 abbrev pub board_part : Bool → Controller → List ℕ
 board_part false c = []
-board_part true c = shown c.game ++ newline ∷ newline ∷ []
+board_part true c = board_text c.game ++ newline ∷ newline ∷ []
 
 -- the result line of a match that is over
 abbrev pub result_part : ℕ → Controller → Option Verdict → List ℕ

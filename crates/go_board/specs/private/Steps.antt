@@ -8,12 +8,12 @@ use Rattle.go_board.specs.Chain.{Joined}
 use Rattle.go_board.specs.private.Label.{label_of, label_at, count_at}
 
 -- what a label becomes where one label turns into another
-abbrev pub renamed : ℕ → ℕ → ℕ → ℕ
-renamed to from label = if label == from then to else label
+abbrev pub rename : ℕ → ℕ → ℕ → ℕ
+rename to from label = if label == from then to else label
 
 -- what it becomes where three labels do
-abbrev pub relabelled : ℕ → ℕ → ℕ → ℕ → ℕ → ℕ
-relabelled to a b c label = renamed to c (renamed to b (renamed to a label))
+abbrev pub rename_three : ℕ → ℕ → ℕ → ℕ → ℕ → ℕ
+rename_three to a b c label = rename to c (rename to b (rename to a label))
 
 -- a place's stone no more counts for its label: its label counts one less
 pub record IsLowered (board : List Cell) (labels old new : List ℕ) (p : ℕ) : Type 0 where

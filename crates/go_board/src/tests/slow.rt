@@ -130,7 +130,7 @@ impl Position {
     }
 
     /// The stones of a colour, and the empty spots of the regions beside them.
-    fn reached(&self, colour: Colour) -> Marks {
+    fn reach(&self, colour: Colour) -> Marks {
         let mut marks = [[false; LINES]; LINES];
         for number in 0..SPOTS {
             let spot = spot_of(number);
@@ -183,7 +183,7 @@ impl Position {
     }
 
     /// The position after a play, or why it is refused if not by ko.
-    fn played(&self, colour: Colour, spot: Spot) -> Result<Position, PlayFault> {
+    fn after_play(&self, colour: Colour, spot: Spot) -> Result<Position, PlayFault> {
         if !self.has(spot) {
             return Err(PlayFault::OffBoard);
         }
@@ -203,8 +203,8 @@ impl Position {
 
     /// How many spots more count for Black than for White: those that one colour's stones reach and the other's don't.
     fn lead(&self) -> i32 {
-        let black = self.reached(Colour::Black);
-        let white = self.reached(Colour::White);
+        let black = self.reach(Colour::Black);
+        let white = self.reach(Colour::White);
         let mut lead: i32 = 0;
         for number in 0..SPOTS {
             let spot = spot_of(number);
@@ -251,7 +251,7 @@ impl SlowGame {
         let Vertex::At(point) = vertex else {
             return Ok(self.now);
         };
-        let next = self.now.played(colour, spot_at(point))?;
+        let next = self.now.after_play(colour, spot_at(point))?;
         if let Some(before) = self.before() {
             if before.stones == next.stones {
                 return Err(PlayFault::Ko);

@@ -5,7 +5,7 @@ use Rattle.std.specs.Borrow.{Bor}
 use Rattle.go_base.specs.Vertex.{written_vertex}
 use Rattle.go_base.specs.HalfPoints.{score_text}
 use Rattle.go_board.specs.Game.{GameRecord}
-use Rattle.go_board.specs.Show.{shown}
+use Rattle.go_board.specs.Show.{board_text}
 use Rattle.gtp_wire.specs.Replies.{written_reply}
 use Rattle.go_base.specs.declared.colours.Colour.{Colour}
 use Rattle.go_base.specs.declared.choices.Choice.{Choice}
@@ -22,7 +22,7 @@ text_of game text.Names = all_names
 text_of game (text.Vertex vertex) = written_vertex vertex
 text_of game (text.Vertices points) = written_vertices points.items
 text_of game (text.Score half_points) = score_text half_points
-text_of game text.Board = shown game
+text_of game text.Board = board_text game
 
 -- the text of a success or a failure
 abbrev pub said : GameRecord → Result Text (Bor (List ℕ)) → List ℕ

@@ -1,6 +1,6 @@
 use Rattle.std.proofs.Common.{◌≡◌, List, ℕ, [], ◌∷◌, ◌++◌, length, arith, ap, ◌∙◌}
 use Rattle.go_board.specs.Show.{shown_row, shown_letters, shown_captures}
-use Rattle.go_board.proofs.ShowLemmas.{rows_above, rows_above-first, rows_above-more, shown-from_front}
+use Rattle.go_board.proofs.ShowLemmas.{rows_above, rows_above-first, rows_above-more, board_text-from_front}
 use Rattle.go_board.proofs.game.Game.show.Goals as goal
 
 pub loop-row-init : goal.loop-row-init
@@ -29,4 +29,4 @@ returns c =
     (c.push-2.ensures.items ∙ ap (λ t. t ++ 10 ∷ []) c.push_letters.ensures.letters)
     ∙ ap (λ t. rest t c.get-size.result) c.loop-row.invariant.written
     ∙ ap (rest (rows_above game c.loop-row.row)) size
-    ∙ shown-from_front game c.loop-row.row (omega arith)
+    ∙ board_text-from_front game c.loop-row.row (omega arith)

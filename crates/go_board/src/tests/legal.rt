@@ -132,7 +132,7 @@ fn take_all_back(rt: &impl Abort, game: &mut Game, plain: &mut PlainGame, refuse
 }
 
 #[test]
-fn drawn_games_go_as_plain_ones(rt: HostRuntime) {
+fn games_of_legal_moves_go_as_plain_ones(rt: HostRuntime) {
     let mut words = Pcg64::seed_from_u64(10);
     let mut taken = 0_u32;
     let mut refused = Refused {
