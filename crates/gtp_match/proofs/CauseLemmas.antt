@@ -1,5 +1,6 @@
 -- Each move was told by a reply, and each verdict has its cause.
-use Rattle.std.proofs.Common.{◌≡◌, ℕ, List, length, Option, Some, None, Bool, true, false, refl, sym, ◌∙◌, ap, subst, cond, eqb, inl, inr}
+use Rattle.std.proofs.Common.{◌≡◌, ℕ, List, length, Option, Some, None, Bool, true, false, refl, sym, ◌∙◌, ap, subst}
+use Rattle.std.proofs.Common.{cond, eqb, inl, inr}
 use Rattle.std.specs.Prelude.{◌⊎◌, ℤ, IsSome, nat_lt}
 use Rattle.go_base.specs.Decide.{holds}
 use Rattle.go_base.specs.declared.colours.Colour.{Colour}

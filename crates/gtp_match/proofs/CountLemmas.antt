@@ -9,7 +9,8 @@ use Rattle.gtp_match.specs.Counting.{unless_started, sent_since_start}
 use Rattle.gtp_match.specs.Hearing.{Hears, HearsAll, HearsAllBy}
 use Rattle.gtp_match.specs.ReplyTable.{outcome, after_outcome}
 use Rattle.gtp_match.specs.Setup.{SetupRecord}
-use Rattle.gtp_match.specs.Sides.{side_of, with_side, with_engine_of, downed_side, handed, heard_reply, answered, confirmed}
+use Rattle.gtp_match.specs.Sides.{side_of, with_side, with_engine_of, downed_side, handed, heard_reply, answered}
+use Rattle.gtp_match.specs.Sides.{confirmed}
 use Rattle.gtp_match.specs.Unanswered.{oldest}
 use Rattle.gtp_match.specs.declared.controller.Controller.{Controller}
 use Rattle.gtp_match.specs.declared.sides.Incarnation.{Incarnation}

@@ -1,5 +1,6 @@
 -- Bytes that are heard keep what holds of every match.
-use Rattle.std.proofs.Common.{◌≡◌, ℕ, zero, suc, ◌+◌, ◌<◌, ◌≤◌, List, [], ◌∷◌, ◌++◌, length, take, drop, Option, Some, None, Result, false, refl, sym, ◌∙◌, ap, subst, arith, inl, inr, append-nil}
+use Rattle.std.proofs.Common.{◌≡◌, ℕ, zero, suc, ◌+◌, ◌<◌, ◌≤◌, List, [], ◌∷◌, ◌++◌, length, take, drop, Option, Some}
+use Rattle.std.proofs.Common.{None, Result, false, refl, sym, ◌∙◌, ap, subst, arith, inl, inr, append-nil}
 use Rattle.std.specs.Prelude.{◌⊎◌, IfSome, is_some}
 use Rattle.go_base.specs.Colour.{other}
 use Rattle.go_base.specs.declared.colours.Colour.{Colour}
@@ -22,7 +23,8 @@ use Rattle.gtp_match.specs.Unanswered.{oldest}
 use Rattle.gtp_match.proofs.OutcomeLemmas.{first_is}
 use Rattle.gtp_match.proofs.ReplySound.{reply_sound}
 use Rattle.gtp_match.proofs.ScriptLemmas.{command_fits}
-use Rattle.gtp_match.proofs.SoundLemmas.{no_blame, my_side, their_side, one_idle, changed, kept, same_side, my_engine, my_start, downed_sound}
+use Rattle.gtp_match.proofs.SoundLemmas.{no_blame, my_side, their_side, one_idle, changed, kept, same_side, my_engine}
+use Rattle.gtp_match.proofs.SoundLemmas.{my_start, downed_sound}
 
 -- ---- what may be kept for a text that tells nothing tells nothing
 

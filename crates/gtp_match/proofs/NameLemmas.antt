@@ -1,12 +1,14 @@
 -- Words that are as many as some distinct points, each of which is among them, name each point once.
-use Rattle.std.proofs.Common.{◌≡◌, ◌≢◌, ℕ, suc, ◌<◌, List, [], ◌∷◌, ◌++◌, length, map, Option, Some, None, Bool, true, false, refl, sym, ◌∙◌, ap, subst, arith, eqb, ◌||◌, ◌&&◌, length-append}
+use Rattle.std.proofs.Common.{◌≡◌, ◌≢◌, ℕ, suc, ◌<◌, List, [], ◌∷◌, ◌++◌, length, map, Option, Some, None, Bool, true}
+use Rattle.std.proofs.Common.{false, refl, sym, ◌∙◌, ap, subst, arith, eqb, ◌||◌, ◌&&◌, length-append}
 use Rattle.std.specs.Prelude.{slice_index_or}
 use Rattle.std.specs.List.{list_all, list_any, AllPairs}
 use Rattle.std.specs.List.Sorted.{IsPermutation}
 use Rattle.std.proofs.lemmas.Bool.Decides.{nat_tests}
 use Rattle.std.proofs.lemmas.Bool.{eqb-true}
 use Rattle.std.proofs.lemmas.List.{map-append}
-use Rattle.std.proofs.lemmas.List.Sorted.{IsPermutation-refl, IsPermutation-sym, IsPermutation-trans, IsPermutation-cons, IsPermutation-middle}
+use Rattle.std.proofs.lemmas.List.Sorted.{IsPermutation-refl, IsPermutation-sym, IsPermutation-trans}
+use Rattle.std.proofs.lemmas.List.Sorted.{IsPermutation-cons, IsPermutation-middle}
 use Rattle.go_base.specs.Vertex.{vertex_of}
 use Rattle.go_base.specs.declared.vertices.Vertex.{Vertex}
 use Rattle.go_base.specs.declared.vertices.Vertex.TheVariants.{Pass, At}
@@ -144,9 +146,16 @@ each_once (p ∷ points) words distinct same all =
     let there : list_all (λ q. list_any (names_point q) (f.before ++ f.word ∷ f.after)) points ≡ true =
     subst (λ (ws : List (List ℕ)). list_all (λ q. list_any (names_point q) ws) points ≡ true) f.words_are both.1 in
     let rest : list_all (λ q. list_any (names_point q) (f.before ++ f.after)) points ≡ true =
-    still_there p points f.before f.word f.after (λ k less. distinct 0 (suc k) 0 (omega arith) (omega (arith, less))) is there in
+    still_there p points f.before f.word f.after
+    (λ k less. distinct 0 (suc k) 0 (omega arith) (omega (arith, less))) is there in
     let few : length (f.before ++ f.after) ≡ length points =
-    omega (arith, same, ap length f.words_are, length-append f.before (f.word ∷ f.after), length-append f.before f.after) in
+    omega (
+      arith,
+      same,
+      ap length f.words_are,
+      length-append f.before (f.word ∷ f.after),
+      length-append f.before f.after,
+    ) in
     let others = each_once points (f.before ++ f.after)
     (λ i j d less inside. distinct (suc i) (suc j) d (omega (arith, less)) (omega (arith, inside))) few rest
     in

@@ -1,5 +1,6 @@
 -- What a reply's outcome says of the command that it answers.
-use Rattle.std.proofs.Common.{◌≡◌, ℕ, List, [], ◌∷◌, Option, Some, None, Bool, true, false, refl, sym, ◌∙◌, ap, subst, cond, inl, inr, map}
+use Rattle.std.proofs.Common.{◌≡◌, ℕ, List, [], ◌∷◌, Option, Some, None, Bool, true, false, refl, sym, ◌∙◌, ap, subst}
+use Rattle.std.proofs.Common.{cond, inl, inr, map}
 use Rattle.std.specs.Prelude.{◌⊎◌, slice_get, nat_le}
 use Rattle.std.specs.List.{AllByRecursion}
 use Rattle.go_base.specs.declared.colours.Colour.{Colour}
@@ -78,7 +79,8 @@ planned : (game : GameRecord) (s : Colour) (engine : Incarnation) (entry : SentC
     → InScript (script game) engine.confirmed engine.unanswered ⊎ IsAsked game s engine.confirmed engine.unanswered
     → Planned game s engine entry.command
 planned game s engine entry more e (inl plan) =
-    let head : InScript (script game) engine.confirmed (entry ∷ more) = subst (InScript (script game) engine.confirmed) e plan in
+    let head : InScript (script game) engine.confirmed (entry ∷ more) =
+    subst (InScript (script game) engine.confirmed) e plan in
     by_kind (of_script game engine.confirmed entry.command head.0)
   where
     by_kind : OfScript entry.command → Planned game s engine entry.command
@@ -132,7 +134,8 @@ module _ (game : GameRecord) (s : Colour) (engine : Incarnation) where
   setup_fits (command.Genmove colour) reply is = absurd is
   setup_fits command.Quit reply is = absurd is
 
-  answer_fits : (k : Command) (reply : Reply) → Planned game s engine k → Fits game s engine k (outcome_of game s k reply)
+  answer_fits : (k : Command) (reply : Reply) → Planned game s engine k
+      → Fits game s engine k (outcome_of game s k reply)
   answer_fits k reply (Planned.setup is) = setup_fits k reply is
   answer_fits k reply (Planned.play is) =
       subst (λ (x : Command). Fits game s engine x (outcome_of game s x reply)) (sym is.1) (play_fits is.0 reply.ok)

@@ -1,5 +1,6 @@
 -- Why a reply has its outcome.
-use Rattle.std.proofs.Common.{◌≡◌, ℕ, List, [], ◌∷◌, Option, Some, None, Bool, true, false, refl, sym, ◌∙◌, ap, subst, cond, Decides, arith, inl, inr, ◌&&◌}
+use Rattle.std.proofs.Common.{◌≡◌, ℕ, List, [], ◌∷◌, Option, Some, None, Bool, true, false, refl, sym, ◌∙◌, ap, subst}
+use Rattle.std.proofs.Common.{cond, Decides, arith, inl, inr, ◌&&◌}
 use Rattle.std.specs.Prelude.{◌⊎◌, codes, option_map}
 use Rattle.std.specs.Str.{str_to_ascii_lowercase}
 use Rattle.std.proofs.lemmas.Bool.Decides.{nat_tests}
@@ -22,10 +23,12 @@ use Rattle.gtp_match.specs.declared.verdicts.ForfeitCause.TheVariants.{NoMove, I
 use Rattle.gtp_match.specs.declared.verdicts.SideFault.{SideFault}
 use Rattle.gtp_match.specs.declared.verdicts.SideFault.TheVariants.{WrongId, Unasked}
 use Rattle.go_base.specs.declared.choices.Choice.TheVariants.{Resign, Play}
-use Rattle.gtp_match.specs.ReplyTable.{outcome, outcome_of, script_outcome, play_outcome, choice_outcome, is_handicap, has_id}
+use Rattle.gtp_match.specs.ReplyTable.{outcome, outcome_of, script_outcome, play_outcome, choice_outcome, is_handicap}
+use Rattle.gtp_match.specs.ReplyTable.{has_id}
 use Rattle.gtp_wire.specs.Words.{reply_words}
 use Rattle.gtp_match.specs.ReplyWords.{choice_of_words}
-use Rattle.gtp_match.specs.Replying.{IsGenmove, ChoosesVertex, TellsMove, ChoosesResign, NamesOtherPoints, IsUnfit, IsForfeit}
+use Rattle.gtp_match.specs.Replying.{IsGenmove, ChoosesVertex, TellsMove, ChoosesResign, NamesOtherPoints, IsUnfit}
+use Rattle.gtp_match.specs.Replying.{IsForfeit}
 use Rattle.gtp_match.specs.Sound.{IsPlay}
 
 -- what a reply to the command has said where this is its outcome

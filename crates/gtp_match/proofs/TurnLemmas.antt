@@ -1,5 +1,6 @@
 -- The colours move in turn: a move by the side to move keeps it so.
-use Rattle.std.proofs.Common.{◌≡◌, ℕ, zero, suc, ◌+◌, ◌%◌, ◌<◌, ◌≤◌, List, [], ◌∷◌, ◌++◌, length, Some, Bool, true, false, refl, sym, ◌∙◌, ap, arith, cond, inl, inr, eqb}
+use Rattle.std.proofs.Common.{◌≡◌, ℕ, zero, suc, ◌+◌, ◌%◌, ◌<◌, ◌≤◌, List, [], ◌∷◌, ◌++◌, length, Some, Bool, true}
+use Rattle.std.proofs.Common.{false, refl, sym, ◌∙◌, ap, arith, cond, inl, inr, eqb}
 use Rattle.std.specs.Prelude.{slice_get, not, nat_le, ◌⊎◌}
 use Rattle.std.proofs.lemmas.Bool.Decides.{nat_tests}
 use Rattle.go_base.specs.Colour.{other}
@@ -74,7 +75,8 @@ first_colour game move (inr some) t e =
     t.with_handicap move some e ∙ ap (λ b. cond b White Black) (sym (at_least game.handicap some))
 
 -- the colour of each move
-colour_at : (game : GameRecord) → HasStones game → TakesTurns game → (k : ℕ) (move : Move) → slice_get game.moves k ≡ Some move
+colour_at : (game : GameRecord) → HasStones game → TakesTurns game → (k : ℕ) (move : Move)
+    → slice_get game.moves k ≡ Some move
     → move.colour ≡ by_parity (first_to_move game) k
 colour_at game stones t zero move e = first_colour game move stones t e
 colour_at game stones t (suc k) move e =
@@ -91,14 +93,16 @@ moved_turns game s v stones t turn = record {
   without_handicap = λ move none e. opens move e (λ o. t.without_handicap move none o) (rw none refl);
   with_handicap = λ move some e.
       opens move e (λ o. t.with_handicap move some o) (ap (λ b. cond b White Black) (at_least game.handicap some));
-  later = λ k move next e f. goes_on k move next (stands game.moves added k move e) (stands game.moves added (k + 1) next f);
+  later = λ k move next e f. goes_on k move next (stands game.moves added k move e)
+      (stands game.moves added (k + 1) next f);
 }
   where
     added : Move
     added = record { colour = s; vertex = v }
 
     -- the new move's colour, by its number
-    new_colour : (n : ℕ) (move : Move) → n ≡ length game.moves → move ≡ added → move.colour ≡ by_parity (first_to_move game) n
+    new_colour : (n : ℕ) (move : Move) → n ≡ length game.moves → move ≡ added
+        → move.colour ≡ by_parity (first_to_move game) n
     new_colour n move is same =
         ap (λ (m : Move). m.colour) same ∙ sym turn ∙ ap (by_parity (first_to_move game)) (sym is)
 

@@ -5,7 +5,8 @@ use Rattle.go_base.specs.Int.{most_int}
 use Rattle.go_base.specs.declared.colours.Colour.{Colour}
 use Rattle.go_board.specs.Game.{GameRecord, HasRoom, IsLegal}
 use Rattle.gtp_wire.specs.declared.commands.Command.{Command}
-use Rattle.gtp_wire.specs.declared.commands.Command.TheVariants.{Boardsize, Komi, ClearBoard, FixedHandicap, Play, Genmove, Quit}
+use Rattle.gtp_wire.specs.declared.commands.Command.TheVariants.{Boardsize, Komi, ClearBoard, FixedHandicap, Play}
+use Rattle.gtp_wire.specs.declared.commands.Command.TheVariants.{Genmove, Quit}
 use Rattle.gtp_match.specs.Sides.{side_of}
 use Rattle.gtp_match.specs.Unanswered.{most_unanswered, oldest}
 use Rattle.gtp_match.specs.declared.controller.Controller.{Controller}

@@ -1,5 +1,6 @@
 -- What bytes of a side, and a loss, may change of a match, and why: told of the replies themselves, without the table.
-use Rattle.std.specs.Prelude.{◌≡◌, ℕ, ◌+◌, ◌<◌, ◌⊎◌, true, false, List, [], ◌∷◌, ◌++◌, length, drop, codes, Option, None, Some, IsSome, Ok}
+use Rattle.std.specs.Prelude.{◌≡◌, ℕ, ◌+◌, ◌<◌, ◌⊎◌, true, false, List, [], ◌∷◌, ◌++◌, length, drop, codes, Option}
+use Rattle.std.specs.Prelude.{None, Some, IsSome, Ok}
 use Rattle.go_base.specs.Vertex.{SpellsVertex}
 use Rattle.go_base.specs.Word.{IsWord}
 use Rattle.go_base.specs.declared.colours.Colour.{Colour}

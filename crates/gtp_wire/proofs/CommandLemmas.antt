@@ -1,5 +1,6 @@
 -- The words of a command line by their numbers.
-use Rattle.std.proofs.Common.{◌≡◌, ℕ, suc, ◌+◌, ◌<◌, ◌≤◌, List, [], ◌∷◌, length, length-drop, drop, zero, Option, None, true, false, cond, refl, sym, ◌∙◌, ap, arith, add-one}
+use Rattle.std.proofs.Common.{◌≡◌, ℕ, suc, ◌+◌, ◌<◌, ◌≤◌, List, [], ◌∷◌, length, length-drop, drop, zero, Option, None}
+use Rattle.std.proofs.Common.{true, false, cond, refl, sym, ◌∙◌, ap, arith, add-one}
 use Rattle.std.specs.Prelude.{slice_get, is_some}
 use Rattle.std.specs.List.{slice_split, count_by}
 use Rattle.std.proofs.lemmas.List.Splits.{length-slice_split}
@@ -15,17 +16,18 @@ pub word_without_id : (id : Option ℕ) (text : List ℕ) (number : ℕ) → IsJ
 word_without_id id text number joined some none =
     rw none (ap (λ ws. slice_get ws number) (sym (words_joined text joined some)))
 
-slice_get-drop_one : {X : Type 0} (xs : List X) (number place : ℕ) → place ≡ number + 1
-    → slice_get xs place ≡ slice_get (drop 1 xs) number
-slice_get-drop_one [] number place e = refl
-slice_get-drop_one (x ∷ xs) number place e = rw (e, add-one) refl
+slice_get-drop_one : {X : Type 0} (xs : List X) (number index : ℕ) → index ≡ number + 1
+    → slice_get xs index ≡ slice_get (drop 1 xs) number
+slice_get-drop_one [] number index e = refl
+slice_get-drop_one (x ∷ xs) number index e = rw (e, add-one) refl
 
-pub word_with_id : (id : Option ℕ) (text : List ℕ) (number place : ℕ) → IsJoined text → 0 < length text
-    → is_some id ≡ true → place ≡ number + 1
-    → slice_get (slice_split is_space text) place ≡ slice_get (drop (cond (is_some id) 1 0) (words text)) number
-word_with_id id text number place joined some has e =
+pub word_with_id : (id : Option ℕ) (text : List ℕ) (number index : ℕ) → IsJoined text → 0 < length text
+    → is_some id ≡ true → index ≡ number + 1
+    → slice_get (slice_split is_space text) index ≡ slice_get (drop (cond (is_some id) 1 0) (words text)) number
+word_with_id id text number index joined some has e =
     rw has
-    (ap (λ ws. slice_get ws place) (sym (words_joined text joined some)) ∙ slice_get-drop_one (words text) number place e)
+    (ap (λ ws. slice_get ws index) (sym (words_joined text joined some))
+    ∙ slice_get-drop_one (words text) number index e)
 
 slice_get_past : {X : Type 0} (xs : List X) (i : ℕ) → length xs ≤ i → None ≡ slice_get xs i
 slice_get_past [] i h = refl
@@ -40,4 +42,5 @@ word_past id text number joined some has past =
     let parts : length (words text) ≡ count_by is_space text + 1 =
     ap length (words_joined text joined some) ∙ length-slice_split is_space text in
     rw has
-    (slice_get_past (drop 1 (words text)) number (omega (arith, length-drop 1 (words text), parts, count_by-le-length is_space text)))
+    (slice_get_past (drop 1 (words text)) number
+    (omega (arith, length-drop 1 (words text), parts, count_by-le-length is_space text)))

@@ -1,9 +1,10 @@
 -- A piece, byte after byte.
-use Rattle.std.proofs.Common.{◌≡◌, ℕ, ◌+◌, ◌<◌, ◌≤◌, List, [], ◌∷◌, ◌++◌, length, take, drop, get_or, Option, Some, None, refl, sym, ◌∙◌, ap, arith, append_assoc, append-nil, below_more}
+use Rattle.std.proofs.Common.{◌≡◌, ℕ, ◌+◌, ◌<◌, ◌≤◌, List, [], ◌∷◌, ◌++◌, length, take, drop, get_or, Option, Some}
+use Rattle.std.proofs.Common.{None, refl, sym, ◌∙◌, ap, arith, append_assoc, append-nil, below_more}
 use Rattle.std.proofs.lemmas.List.{take_more, take_all, take-append-drop}
 use Rattle.std.specs.Option.{option_to_list}
 use Rattle.gtp_wire.specs.declared.lines.Line.{Line}
-use Rattle.gtp_wire.specs.Lines.{lines, head_of, EndsLine}
+use Rattle.gtp_wire.specs.Lines.{lines, head_of, EndsLine, Finds}
 use Rattle.gtp_wire.proofs.LineLemmas.{lines_open}
 
 -- the first i bytes of the input after u gave no line, and v reads on as they do
@@ -92,3 +93,13 @@ pub all_read : (u input : List ℕ) (i : ℕ) (v : List ℕ) → ReadsSoFar u in
     → lines (u ++ input) ≡ []
 all_read u input i v so_far past =
     ap (λ t. lines (u ++ t)) (sym (take_all i input past)) ∙ none_here u input i v so_far
+
+-- no line is found in it
+pub all_found : (u input : List ℕ) (i : ℕ) (v : List ℕ) → ReadsSoFar u input i v → length input ≤ i
+    → (n : ℕ) → n ≡ length input → Finds u (take n input) [] v
+all_found u input i v so_far past n all = record {
+  rest =
+      λ z. ap (λ t. lines (u ++ (t ++ z))) (take_all n input (omega (arith, all)) ∙ sym (take_all i input past))
+      ∙ so_far.same z;
+  no_line = so_far.no_line;
+}

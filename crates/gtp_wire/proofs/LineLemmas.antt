@@ -1,5 +1,6 @@
 -- How the lines of a text come from its front.
-use Rattle.std.proofs.Common.{◌≡◌, ℕ, List, [], ◌∷◌, ◌++◌, Option, Some, None, Bool, true, false, refl, sym, ◌∙◌, ap, cond, ◌⊎◌, inl, inr, append_assoc, append-nil, filter}
+use Rattle.std.proofs.Common.{◌≡◌, ℕ, List, [], ◌∷◌, ◌++◌, Option, Some, None, Bool, true, false, refl, sym, ◌∙◌, ap}
+use Rattle.std.proofs.Common.{cond, ◌⊎◌, inl, inr, append_assoc, append-nil, filter}
 use Rattle.std.proofs.lemmas.List.Elements.{filter-append}
 use Rattle.std.proofs.lemmas.List.Splits.{slice_split-cons_yes, slice_split-cons_no}
 use Rattle.std.specs.List.{slice_split, onto_first, filter_map, cons_option, AllByRecursion}
@@ -28,7 +29,8 @@ pub split_parts : {X : Type 0} (p : X → Bool) (xs : List X)
 split_parts p [] = ([], [], refl)
 split_parts p (x ∷ xs) =
     let rest = split_parts p xs in
-    elim (p x) as (λ t. (w : List _) × (ws : List (List _)) × (cond t ([] ∷ slice_split p xs) (onto_first x (slice_split p xs)) ≡ w ∷ ws))
+    elim (p x) as (λ t. (w : List _) × (ws : List (List _))
+    × (cond t ([] ∷ slice_split p xs) (onto_first x (slice_split p xs)) ≡ w ∷ ws))
     [ true ↦ ([], slice_split p xs, refl) | false ↦ (x ∷ rest.0, rest.1, ap (onto_first x) rest.2) ]
 
 -- either a test passes or it fails
@@ -114,7 +116,8 @@ pub lines_removed : (u : List ℕ) (b : ℕ) (z : List ℕ) → is_kept b ≡ fa
 lines_removed u b z e =
     lines_cut (u ++ b ∷ z)
     ∙ ap cut_lines
-    (filter-append is_kept u (b ∷ z) ∙ ap (λ w. filter is_kept u ++ w) (filter_removed b z e) ∙ sym (filter-append is_kept u z))
+    (filter-append is_kept u (b ∷ z) ∙ ap (λ w. filter is_kept u ++ w) (filter_removed b z e)
+    ∙ sym (filter-append is_kept u z))
     ∙ sym (lines_cut (u ++ z))
 
 -- what is fed so far may stand for another text with the same future

@@ -1,5 +1,6 @@
 -- Two newlines in a row, in a text that grows at its end.
-use Rattle.std.proofs.Common.{◌≡◌, ℕ, List, [], ◌∷◌, ◌++◌, Bool, true, false, refl, sym, ◌∙◌, ap, ◌&&◌, ◌||◌, append_assoc}
+use Rattle.std.proofs.Common.{◌≡◌, ℕ, List, [], ◌∷◌, ◌++◌, Bool, true, false, refl, sym, ◌∙◌, ap, ◌&&◌, ◌||◌}
+use Rattle.std.proofs.Common.{append_assoc}
 use Rattle.std.proofs.Math.Bool.{or-false, or_assoc}
 use Rattle.gtp_wire.specs.Bytes.{is_newline}
 use Rattle.gtp_wire.specs.Replies.{has_two_newlines}

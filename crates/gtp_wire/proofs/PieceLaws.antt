@@ -1,5 +1,6 @@
 -- In whatever pieces a text is read, the same thing is told first.
-use Rattle.std.proofs.Common.{◌≡◌, ℕ, ◌+◌, ◌≤◌, List, [], ◌∷◌, ◌++◌, length, take, Option, Some, None, Result, Ok, Err, refl, sym, ◌∙◌, ap, subst, arith, append_assoc, append-nil, length-append}
+use Rattle.std.proofs.Common.{◌≡◌, ℕ, ◌+◌, List, [], ◌++◌, length, take, Option, Some, None, Result}
+use Rattle.std.proofs.Common.{refl, sym, ◌∙◌, ap, subst, arith, append_assoc, append-nil, length-append}
 use Rattle.std.proofs.lemmas.List.{take-append-le, take_all}
 use Rattle.std.proofs.Math.Seq.{take-append-add}
 use Rattle.std.specs.Prelude.{IfSome, IfNone}
@@ -40,7 +41,8 @@ held_behind old piece used mid reads =
 
 take_behind : (piece rest : List ℕ) (used more : ℕ) → used ≡ length piece
     → take (used + more) (piece ++ rest) ≡ piece ++ take more rest
-take_behind piece rest used more all = ap (λ (n : ℕ). take (n + more) (piece ++ rest)) all ∙ take-append-add piece rest more
+take_behind piece rest used more all = ap (λ (n : ℕ). take (n + more) (piece ++ rest)) all
+    ∙ take-append-add piece rest more
 
 -- a piece that tells nothing, and what is read behind it
 reads_on : (old piece rest : List ℕ) (used more : ℕ) (got : Option (Result Reply ReplyFault)) (mid new : List ℕ)

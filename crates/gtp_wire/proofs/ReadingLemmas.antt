@@ -1,5 +1,6 @@
 -- Texts that are read one after the other.
-use Rattle.std.proofs.Common.{◌≡◌, ◌≢◌, ℕ, List, [], ◌∷◌, ◌++◌, Option, true, false, refl, sym, ◌∙◌, ap, subst, cond, inl, inr, append_assoc, append-nil, filter}
+use Rattle.std.proofs.Common.{◌≡◌, ◌≢◌, ℕ, List, [], ◌∷◌, ◌++◌, Option, true, false, refl, sym, ◌∙◌, ap, subst, cond}
+use Rattle.std.proofs.Common.{inl, inr, append_assoc, append-nil, filter}
 use Rattle.std.proofs.lemmas.Bool.{ne_eqb}
 use Rattle.std.proofs.lemmas.List.{take-append-drop, append_cancel_left}
 use Rattle.std.proofs.lemmas.List.Elements.{filter-append, recursion_from_All}
@@ -11,7 +12,8 @@ use Rattle.gtp_wire.specs.Lines.{lines, line_of, Finds, SameFuture}
 use Rattle.gtp_wire.specs.Laws.{IsFed, AreFed}
 use Rattle.gtp_wire.specs.Laws.IsFed.{used_up, used}
 use Rattle.gtp_wire.specs.Laws.AreFed.{all_fed, fed}
-use Rattle.gtp_wire.proofs.LineLemmas.{AllByRecursion-append, NoNewline, cut_lines, cut_lines_newline, cut_lines_open, test_cases, lines_cut, lines_front, lines_open}
+use Rattle.gtp_wire.proofs.LineLemmas.{AllByRecursion-append, NoNewline, cut_lines, cut_lines_newline, cut_lines_open}
+use Rattle.gtp_wire.proofs.LineLemmas.{test_cases, lines_cut, lines_front, lines_open}
 
 -- what stands behind the last newline, with a text without one before it
 tail_from : List ℕ → List ℕ → List ℕ
@@ -107,7 +109,8 @@ lines_without_newline text later none =
     ∙ ap (λ ls. lines text ++ ls)
     (lines_front (tail_of text) later (tail_kept [] (filter is_kept text) tt (all_kept text))
     ∙ cut_lines_open (tail_of text ++ filter is_kept later)
-    (AllByRecursion-append _ (tail_of text) (filter is_kept later) (tail_open [] (filter is_kept text) tt) (no_newlines later (recursion_from_All _ later none))))
+    (AllByRecursion-append _ (tail_of text) (filter is_kept later) (tail_open [] (filter is_kept text) tt)
+    (no_newlines later (recursion_from_All _ later none))))
     ∙ append-nil (lines text)
 
 -- what is found is the lines
@@ -121,7 +124,8 @@ pub Finds-future : {old text : List ℕ} {found : List Line} {new : List ℕ} {o
     → Finds old text found new → Finds old text others other → SameFuture new other
 Finds-future {old} {text} {found} {new} {others} {other} finds finds_other later =
     append_cancel_left found (lines (new ++ later)) (lines (other ++ later))
-    (sym (finds.rest later) ∙ finds_other.rest later ∙ ap (λ ls. ls ++ lines (other ++ later)) (Finds-lines finds_other ∙ sym (Finds-lines finds)))
+    (sym (finds.rest later) ∙ finds_other.rest later
+    ∙ ap (λ ls. ls ++ lines (other ++ later)) (Finds-lines finds_other ∙ sym (Finds-lines finds)))
 
 -- texts one after the other
 pub Finds-join : {old first : List ℕ} {found : List Line} {mid second : List ℕ} {more : List Line} {new : List ℕ}

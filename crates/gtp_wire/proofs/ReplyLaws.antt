@@ -1,13 +1,17 @@
 -- A text tells one thing first, and no reply begins another.
-use Rattle.std.proofs.Common.{◌≡◌, ℕ, ◌<◌, ◌≤◌, List, [], ◌∷◌, ◌++◌, length, take, drop, Result, Ok, Err, true, false, refl, sym, ◌∙◌, ap, subst, arith, inl, inr, map, filter, append_assoc, length-append, length-drop, append-nil}
+use Rattle.std.proofs.Common.{◌≡◌, ℕ, ◌<◌, ◌≤◌, List, [], ◌∷◌, ◌++◌, length, take, drop, Result, Ok, Err, true, false}
+use Rattle.std.proofs.Common.{refl, sym, ◌∙◌, ap, subst, arith, inl, inr, map, filter, append_assoc, length-append}
+use Rattle.std.proofs.Common.{length-drop, append-nil}
 use Rattle.std.proofs.lemmas.Bool.{cases_lt}
-use Rattle.std.proofs.lemmas.List.{same_from_push, append_cancel_right, map-append, take-append-le, take-append-drop, take_all, take-take, length-take-le}
+use Rattle.std.proofs.lemmas.List.{same_from_push, append_cancel_right, map-append, take-append-le, take-append-drop}
+use Rattle.std.proofs.lemmas.List.{take_all, take-take, length-take-le}
 use Rattle.std.proofs.lemmas.List.Elements.{filter-append}
 use Rattle.gtp_wire.specs.declared.replies.Reply.{Reply}
 use Rattle.gtp_wire.specs.declared.replies.ReplyFault.{ReplyFault}
 use Rattle.gtp_wire.specs.declared.replies.ReplyFault.TheVariants.{Overlong, NoStatus}
 use Rattle.gtp_wire.specs.Bytes.{is_kept, space_for_tab, is_blank}
-use Rattle.gtp_wire.specs.Replies.{prepared, behind, past_blanks, has_two_newlines, IsWhole, IsReply, IsNoStatus, Tells, TellsNothing, IsFirst, reply_of, is_status}
+use Rattle.gtp_wire.specs.Replies.{prepared, behind, past_blanks, has_two_newlines, IsWhole, IsReply, IsNoStatus, Tells}
+use Rattle.gtp_wire.specs.Replies.{TellsNothing, IsFirst, reply_of, is_status}
 use Rattle.gtp_wire.proofs.NewlineLemmas.{has_two_newlines_front, two_newlines}
 use Rattle.gtp_wire.proofs.ReplyLemmas.{no_status_begun, behind_some}
 use Rattle.gtp_wire.proofs.WrittenLemmas.{last_of}
@@ -22,7 +26,7 @@ one_value raw v w a b =
     let body : a.whole.body ≡ b.whole.body = append_cancel_right a.whole.body b.whole.body (10 ∷ 10 ∷ []) tails in
     a.value_is ∙ ap (λ s. reply_of s a.whole.body) status ∙ ap (reply_of b.whole.status) body ∙ sym b.value_is
 
--- what is told at one place is one thing
+-- what is told at one byte is one thing
 pub one_answer : (raw : List ℕ) (a b : Result Reply ReplyFault) → Tells raw a → Tells raw b → a ≡ b
 one_answer raw (Ok v) (Ok w) x y = ap (λ v. Ok v) (one_value raw v w x y)
 one_answer raw (Ok v) (Err NoStatus) x y = absurd (no_status_begun raw x.whole.status _ x.whole.shape x.whole.known y)
@@ -34,7 +38,7 @@ one_answer raw (Err Overlong) (Ok w) x y = absurd (omega (arith, y.whole.fits))
 one_answer raw (Err Overlong) (Err NoStatus) x y = absurd (omega (arith, y.fits))
 one_answer raw (Err Overlong) (Err Overlong) x y = refl
 
--- a text tells one thing first, at one place
+-- a text tells one thing first, and tells it at one byte
 pub one_first : (text : List ℕ) (n m : ℕ) (a b : Result Reply ReplyFault) → IsFirst text n a → IsFirst text m b
     → (n ≡ m) × (a ≡ b)
 one_first text n m a b x y = elim (cases_lt n m) [
@@ -68,11 +72,14 @@ no_reply_in_reply raw b bs short long =
     (append_assoc raw last.0 (last.1 ∷ []) ∙ ap (λ t. raw ++ t) (sym last.2) ∙ long.last) in
     let tail : prepared (b ∷ bs) ≡ prepared last.0 ++ 10 ∷ [] =
     ap prepared last.2 ∙ ap (λ c. prepared (last.0 ++ c ∷ [])) ends.1 ∙ prepared-append last.0 (10 ∷ []) in
-    let both : short.status ∷ ((short.body ++ 10 ∷ 10 ∷ []) ++ prepared (b ∷ bs)) ≡ long.status ∷ (long.body ++ 10 ∷ 10 ∷ []) =
+    let both : short.status ∷ ((short.body ++ 10 ∷ 10 ∷ []) ++ prepared (b ∷ bs))
+    ≡ long.status ∷ (long.body ++ 10 ∷ 10 ∷ []) =
     sym (past_blanks_behind raw (b ∷ bs) short.status (short.body ++ 10 ∷ 10 ∷ []) short.shape) ∙ long.shape in
     let tails : (short.body ++ 10 ∷ 10 ∷ []) ++ prepared (b ∷ bs) ≡ long.body ++ 10 ∷ 10 ∷ [] = cc in
     let same = same_from_push ((short.body ++ 10 ∷ 10 ∷ []) ++ prepared last.0) (long.body ++ 10 ∷ []) 10 10
-    (append_assoc (short.body ++ 10 ∷ 10 ∷ []) (prepared last.0) (10 ∷ []) ∙ ap (λ t. (short.body ++ 10 ∷ 10 ∷ []) ++ t) (sym tail) ∙ tails ∙ sym (append_assoc long.body (10 ∷ []) (10 ∷ [])))
+    (append_assoc (short.body ++ 10 ∷ 10 ∷ []) (prepared last.0) (10 ∷ [])
+    ∙ ap (λ t. (short.body ++ 10 ∷ 10 ∷ []) ++ t) (sym tail) ∙ tails
+    ∙ sym (append_assoc long.body (10 ∷ []) (10 ∷ [])))
     in
     let none : has_two_newlines (short.body ++ 10 ∷ 10 ∷ []) ≡ false =
     has_two_newlines_front (short.body ++ 10 ∷ 10 ∷ []) (prepared last.0)
@@ -126,7 +133,8 @@ reply_is_first raw later value reply =
         behind_front (b ∷ more) some whole told = front_is_quiet (take n raw) b more other whole told
 
 -- a reply that is cut short tells nothing
-pub front_tells_nothing : (raw : List ℕ) (value : Reply) (k : ℕ) → IsReply raw value → k < length raw → TellsNothing (take k raw)
+pub front_tells_nothing : (raw : List ℕ) (value : Reply) (k : ℕ) → IsReply raw value → k < length raw
+    → TellsNothing (take k raw)
 front_tells_nothing raw value k reply less n answer inside told =
     let first = reply_is_first raw [] value reply in
     let short : n ≤ k = omega (arith, inside, length-take-le k raw (omega arith)) in
@@ -134,11 +142,13 @@ front_tells_nothing raw value k reply less n answer inside told =
     first.before n answer (omega arith) (subst T (take-take n k raw short ∙ ap (take n) (sym (append-nil raw))) told)
 
 -- what a text tells first a longer one tells first
-pub told_longer : (text later : List ℕ) (place : ℕ) (answer : Result Reply ReplyFault) → IsFirst text place answer → IsFirst (text ++ later) place answer
-told_longer text later place answer first =
+pub told_longer : (text later : List ℕ) (count : ℕ) (answer : Result Reply ReplyFault) → IsFirst text count answer
+    → IsFirst (text ++ later) count answer
+told_longer text later count answer first =
     let inside = first.inside in
     record {
       inside = omega (arith, inside, length-append text later);
-      told = subst (λ (t : List ℕ). Tells t answer) (sym (take-append-le place text later inside)) first.told;
-      before = λ n other less told. first.before n other less (subst (λ (t : List ℕ). Tells t other) (take-append-le n text later (omega (arith, inside, less))) told);
+      told = subst (λ (t : List ℕ). Tells t answer) (sym (take-append-le count text later inside)) first.told;
+      before = λ n other less told. first.before n other less
+          (subst (λ (t : List ℕ). Tells t other) (take-append-le n text later (omega (arith, inside, less))) told);
     }

@@ -1,12 +1,13 @@
 -- The bytes of a reply and what they say.
-use Rattle.std.proofs.Common.{◌≡◌, ℕ, zero, suc, ◌≤◌, arith, length, length-drop, take, drop, List, [], ◌∷◌, ◌++◌, Option, Bool, true, false, sym, ◌∙◌, ap, cond, eqb, inl, inr}
+use Rattle.std.proofs.Common.{◌≡◌, ℕ, zero, suc, ◌≤◌, arith, length, length-drop, take, drop, List, [], ◌∷◌, ◌++◌}
+use Rattle.std.proofs.Common.{Option, Bool, true, false, sym, ◌∙◌, ap, cond, eqb, inl, inr}
 use Rattle.std.specs.Prelude.{is_some}
 use Rattle.std.specs.Char.{is_ascii_digit}
 use Rattle.arrayvec.specs.ArrayVec.{ArrayVec}
 use Rattle.go_base.specs.Int.{int_of}
 use Rattle.gtp_wire.specs.declared.replies.Reply.{Reply}
 use Rattle.gtp_wire.specs.Bytes.{is_blank}
-use Rattle.gtp_wire.specs.Replies.{behind, past_blanks, is_status, IsWhole, IsReply, IsNoStatus, front_of, trimmed}
+use Rattle.gtp_wire.specs.Replies.{behind, past_blanks, is_status, IsWhole, IsReply, IsNoStatus, front_of, trim}
 use Rattle.gtp_wire.proofs.LineLemmas.{test_cases}
 
 -- what is behind a front, with more at the end
@@ -36,11 +37,12 @@ same_reply a b c = cc
 -- a reply of these parts
 pub reply_made : (raw : List ℕ) (whole : IsWhole raw) (ok : Bool) (id : Option ℕ) (text : ArrayVec ℕ)
     → ok ≡ eqb whole.status 61 → id ≡ int_of (front_of is_ascii_digit whole.body)
-    → text.items ≡ trimmed (cond (is_some id) (behind is_ascii_digit whole.body) whole.body)
+    → text.items ≡ trim (cond (is_some id) (behind is_ascii_digit whole.body) whole.body)
     → IsReply raw (record { ok = ok; id = id; text = text })
 reply_made raw whole ok id text ok_is id_is text_is =
-    let text_same : text.items ≡ trimmed (cond (is_some (int_of (front_of is_ascii_digit whole.body))) (behind is_ascii_digit whole.body) whole.body) =
-    text_is ∙ ap (λ i. trimmed (cond (is_some i) (behind is_ascii_digit whole.body) whole.body)) id_is in
+    let text_same : text.items ≡ trim
+    (cond (is_some (int_of (front_of is_ascii_digit whole.body))) (behind is_ascii_digit whole.body) whole.body) =
+    text_is ∙ ap (λ i. trim (cond (is_some i) (behind is_ascii_digit whole.body) whole.body)) id_is in
     record { whole = whole; value_is = same_reply ok_is id_is (ap (λ t. record { items = t }) text_same) }
 
 -- what is left of a text is no longer

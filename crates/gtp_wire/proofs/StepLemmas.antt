@@ -1,23 +1,26 @@
 -- What each byte does to the line that a reader holds.
-use Rattle.std.proofs.Common.{◌≡◌, ℕ, ◌<◌, ◌≤◌, List, [], ◌∷◌, ◌++◌, length, Some, true, false, refl, sym, ◌∙◌, ap, arith, eqb, ◌⊎◌, inl, inr, append_assoc, append-nil, length-append, lit<}
+use Rattle.std.proofs.Common.{◌≡◌, ℕ, ◌<◌, ◌≤◌, List, [], ◌∷◌, ◌++◌, length, Some, true, false, refl, sym, ◌∙◌, ap}
+use Rattle.std.proofs.Common.{arith, eqb, ◌⊎◌, inl, inr, append_assoc, append-nil, length-append, lit<}
 use Rattle.std.proofs.lemmas.Bool.{le-ltb}
 use Rattle.std.proofs.lemmas.List.{nil_from_length}
 use Rattle.std.specs.List.{slice_split, AllByRecursion, join_with_byte}
 use Rattle.std.specs.Option.{option_to_list}
 use Rattle.gtp_wire.specs.declared.lines.Line.TheVariants.{Command, TooLong}
-use Rattle.gtp_wire.specs.declared.lines.Place.{Place}
-use Rattle.gtp_wire.specs.declared.lines.Place.TheVariants.{Word, Gap, Comment}
+use Rattle.gtp_wire.specs.declared.lines.Stage.{Stage}
+use Rattle.gtp_wire.specs.declared.lines.Stage.TheVariants.{Word, Gap, Comment}
 use Rattle.gtp_wire.specs.Bytes.{is_kept, is_newline, is_space, space_for_tab}
 use Rattle.gtp_wire.specs.Words.{words, command_of}
 use Rattle.gtp_wire.specs.Lines.{lines, line_of, line_of_words}
 use Rattle.gtp_wire.specs.LineReading.{is_plain, IsJoined, HoldsLine, IsKind, ending}
 use Rattle.gtp_wire.specs.declared.lines.Kind.TheVariants.{Space}
 use Rattle.gtp_wire.proofs.LineLemmas.{AllByRecursion-append, NoNewline, lines_same, lines_newline, lines_open}
-use Rattle.gtp_wire.proofs.WordLemmas.{cleaned, cleaned_plain, plain_byte, words_space, words_two_spaces, join_words, some_word, too_long_line, too_long_words, split_push, push_last, split_between, weight_joined}
+use Rattle.gtp_wire.proofs.WordLemmas.{cleaned, cleaned_plain, plain_byte, words_space, words_two_spaces, join_words}
+use Rattle.gtp_wire.proofs.WordLemmas.{some_word, too_long_line, too_long_words, split_push, push_last, split_between}
+use Rattle.gtp_wire.proofs.WordLemmas.{weight_joined}
 
 -- what a reader is seen as
-abbrev pub view : List ℕ → Place → List ℕ
-view held place = held ++ ending place
+abbrev pub view : List ℕ → Stage → List ℕ
+view held stage = held ++ ending stage
 
 pub plain_kept : (held : List ℕ) → AllByRecursion (λ b. is_plain b ≡ true) held
     → AllByRecursion (λ b. is_kept b ≡ true) held
@@ -28,39 +31,39 @@ pub plain_no_newline : (held : List ℕ) → AllByRecursion (λ b. is_plain b �
 plain_no_newline [] plain = tt
 plain_no_newline (b ∷ held) plain = ((plain_byte b plain.0).2, plain_no_newline held plain.1)
 
-ending_kept : (place : Place) → AllByRecursion (λ b. is_kept b ≡ true) (ending place)
+ending_kept : (stage : Stage) → AllByRecursion (λ b. is_kept b ≡ true) (ending stage)
 ending_kept Word = tt
 ending_kept Gap = (refl, tt)
 ending_kept Comment = (refl, tt)
 
-ending_no_newline : (place : Place) → NoNewline (ending place)
+ending_no_newline : (stage : Stage) → NoNewline (ending stage)
 ending_no_newline Word = tt
 ending_no_newline Gap = (refl, tt)
 ending_no_newline Comment = (refl, tt)
 
-pub view_kept : (held : List ℕ) (place : Place) → IsJoined held
-    → AllByRecursion (λ b. is_kept b ≡ true) (view held place)
-view_kept held place joined =
-    AllByRecursion-append _ held (ending place) (plain_kept held joined.plain) (ending_kept place)
+pub view_kept : (held : List ℕ) (stage : Stage) → IsJoined held
+    → AllByRecursion (λ b. is_kept b ≡ true) (view held stage)
+view_kept held stage joined =
+    AllByRecursion-append _ held (ending stage) (plain_kept held joined.plain) (ending_kept stage)
 
-pub view_no_newline : (held : List ℕ) (place : Place) → IsJoined held → NoNewline (view held place)
-view_no_newline held place joined =
-    AllByRecursion-append _ held (ending place) (plain_no_newline held joined.plain) (ending_no_newline place)
+pub view_no_newline : (held : List ℕ) (stage : Stage) → IsJoined held → NoNewline (view held stage)
+view_no_newline held stage joined =
+    AllByRecursion-append _ held (ending stage) (plain_no_newline held joined.plain) (ending_no_newline stage)
 
 -- what is held is no whole line
-pub view_open : (held : List ℕ) (place : Place) → IsJoined held → lines (view held place) ≡ []
-view_open held place joined =
-    lines_open (view held place) (view_kept held place joined) (view_no_newline held place joined)
+pub view_open : (held : List ℕ) (stage : Stage) → IsJoined held → lines (view held stage) ≡ []
+view_open held stage joined =
+    lines_open (view held stage) (view_kept held stage joined) (view_no_newline held stage joined)
 
 -- a byte that leaves another view with the same future
-pub view_same : (held : List ℕ) (place : Place) (held' : List ℕ) (place' : Place) (b : ℕ) → IsJoined held
+pub view_same : (held : List ℕ) (stage : Stage) (held' : List ℕ) (stage' : Stage) (b : ℕ) → IsJoined held
     → IsJoined held' → is_kept b ≡ true → is_newline b ≡ false
-    → ((l : List ℕ) → line_of (view held place ++ b ∷ l) ≡ line_of (view held' place' ++ l)) → (z : List ℕ)
-    → lines (view held place ++ b ∷ z) ≡ lines (view held' place' ++ z)
-view_same held place held' place' b joined joined' kept other same z =
-    lines_same (view held place) (view held' place') b z (view_kept held place joined)
-    (view_kept held' place' joined')
-    (view_no_newline held place joined) (view_no_newline held' place' joined') kept other same
+    → ((l : List ℕ) → line_of (view held stage ++ b ∷ l) ≡ line_of (view held' stage' ++ l)) → (z : List ℕ)
+    → lines (view held stage ++ b ∷ z) ≡ lines (view held' stage' ++ z)
+view_same held stage held' stage' b joined joined' kept other same z =
+    lines_same (view held stage) (view held' stage') b z (view_kept held stage joined)
+    (view_kept held' stage' joined')
+    (view_no_newline held stage joined) (view_no_newline held' stage' joined') kept other same
 
 -- lines by their cleaned texts
 line_of_cleaned : (l : List ℕ) → line_of l ≡ line_of_words (words (cleaned l))
@@ -79,18 +82,18 @@ word_line held l joined =
     line_of_cleaned (held ++ l) ∙ ap (λ t. line_of_words (words t)) (cleaned_plain held l joined.plain)
 
 -- the line that a newline ends
-pub view_line : (held : List ℕ) (place : Place) → IsJoined held
-    → line_of (view held place) ≡ line_of_words (words held)
+pub view_line : (held : List ℕ) (stage : Stage) → IsJoined held
+    → line_of (view held stage) ≡ line_of_words (words held)
 view_line held Word joined = word_line held [] joined ∙ ap (λ t. line_of_words (words t)) (append-nil held)
 view_line held Gap joined = word_line held (32 ∷ []) joined ∙ ap line_of_words (words_space held)
 view_line held Comment joined = comment_line held [] joined
 
 -- a reader whose words are too long skips all but a newline
-pub long_skips : (held : List ℕ) (place : Place) (b : ℕ) → IsJoined held → 1000 < length held → (l : List ℕ)
-    → line_of (view held place ++ b ∷ l) ≡ line_of (view held place ++ l)
-long_skips held place b joined long l =
-    ap line_of (append_assoc held (ending place) (b ∷ l)) ∙ too_long_line held (ending place ++ b ∷ l) joined long
-    ∙ sym (ap line_of (append_assoc held (ending place) l) ∙ too_long_line held (ending place ++ l) joined long)
+pub long_skips : (held : List ℕ) (stage : Stage) (b : ℕ) → IsJoined held → 1000 < length held → (l : List ℕ)
+    → line_of (view held stage ++ b ∷ l) ≡ line_of (view held stage ++ l)
+long_skips held stage b joined long l =
+    ap line_of (append_assoc held (ending stage) (b ∷ l)) ∙ too_long_line held (ending stage ++ b ∷ l) joined long
+    ∙ sym (ap line_of (append_assoc held (ending stage) l) ∙ too_long_line held (ending stage ++ l) joined long)
 
 -- in a comment all but a newline is skipped
 pub comment_skips : (held : List ℕ) (b : ℕ) → IsJoined held → (l : List ℕ)
@@ -123,8 +126,8 @@ space_held held b joined space other l =
     ∙ sym (ap line_of (append_assoc held (32 ∷ []) l) ∙ word_line held (32 ∷ l) joined)
 
 -- `#` begins a comment
-pub hash_held : (held : List ℕ) (place : Place) → IsJoined held → (l : List ℕ)
-    → line_of (view held place ++ 35 ∷ l) ≡ line_of (view held Comment ++ l)
+pub hash_held : (held : List ℕ) (stage : Stage) → IsJoined held → (l : List ℕ)
+    → line_of (view held stage ++ 35 ∷ l) ≡ line_of (view held Comment ++ l)
 hash_held held Word joined l = ap line_of (append_assoc held [] (35 ∷ l) ∙ sym (append_assoc held (35 ∷ []) l))
 hash_held held Gap joined l =
     ap line_of (append_assoc held (32 ∷ []) (35 ∷ l)) ∙ word_line held (32 ∷ 35 ∷ l) joined
@@ -133,23 +136,23 @@ hash_held held Gap joined l =
 hash_held held Comment joined l = comment_skips held 35 joined l
 
 -- a newline ends what is held
-pub end_view : (held : List ℕ) (place : Place) (z : List ℕ) → IsJoined held
-    → lines (view held place ++ 10 ∷ z) ≡ option_to_list (line_of_words (words held)) ++ lines z
-end_view held place z joined =
-    lines_newline (view held place) z (view_kept held place joined) (view_no_newline held place joined)
-    ∙ ap (λ o. option_to_list o ++ lines z) (view_line held place joined)
+pub end_view : (held : List ℕ) (stage : Stage) (z : List ℕ) → IsJoined held
+    → lines (view held stage ++ 10 ∷ z) ≡ option_to_list (line_of_words (words held)) ++ lines z
+end_view held stage z joined =
+    lines_newline (view held stage) z (view_kept held stage joined) (view_no_newline held stage joined)
+    ∙ ap (λ o. option_to_list o ++ lines z) (view_line held stage joined)
 
-pub end_empty : (held : List ℕ) (place : Place) (z : List ℕ) → IsJoined held → length held ≡ 0
-    → lines (view held place ++ 10 ∷ z) ≡ lines z
+pub end_empty : (held : List ℕ) (stage : Stage) (z : List ℕ) → IsJoined held → length held ≡ 0
+    → lines (view held stage ++ 10 ∷ z) ≡ lines z
 unfolding line_of_words
-end_empty held place z joined none =
-    end_view held place z joined
+end_empty held stage z joined none =
+    end_view held stage z joined
     ∙ ap (λ h. option_to_list (line_of_words (words h)) ++ lines z) (nil_from_length held none)
 
-pub end_long : (held : List ℕ) (place : Place) (z : List ℕ) → IsJoined held → 1000 < length held
-    → lines (view held place ++ 10 ∷ z) ≡ TooLong ∷ lines z
-end_long held place z joined long =
-    end_view held place z joined
+pub end_long : (held : List ℕ) (stage : Stage) (z : List ℕ) → IsJoined held → 1000 < length held
+    → lines (view held stage ++ 10 ∷ z) ≡ TooLong ∷ lines z
+end_long held stage z joined long =
+    end_view held stage z joined
     ∙ ap (λ o. option_to_list o ++ lines z)
     (too_long_words (words held) (omega (arith, weight_joined held joined (omega arith))))
 
@@ -159,13 +162,13 @@ unfolding line_of_words
 short_line [] v vs e h = absurd (cc)
 short_line (w ∷ ws) v vs e h = rw (le-ltb _ _ h) refl
 
-pub end_command : (held : List ℕ) (place : Place) (z : List ℕ) → IsJoined held → 0 < length held → length held ≤ 1000
-    → lines (view held place ++ 10 ∷ z) ≡ Command (command_of (words held)) ∷ lines z
-end_command held place z joined some short =
+pub end_command : (held : List ℕ) (stage : Stage) (z : List ℕ) → IsJoined held → 0 < length held → length held ≤ 1000
+    → lines (view held stage ++ 10 ∷ z) ≡ Command (command_of (words held)) ∷ lines z
+end_command held stage z joined some short =
     let word = some_word held joined some in
     let fits : length (join_with_byte 32 (words held)) ≤ 1000 =
     omega (arith, ap length (join_words held joined some)) in
-    end_view held place z joined
+    end_view held stage z joined
     ∙ ap (λ o. option_to_list o ++ lines z) (short_line (words held) word.0 word.1 word.2 fits)
 
 -- a space or HT
@@ -182,30 +185,32 @@ space_byte b kind = elim kind [
 ]
 
 -- what each byte leaves: nothing changes
-pub step_long : (held : List ℕ) (place : Place) (b : ℕ) (z : List ℕ) → IsJoined held → 1000 < length held
+pub step_long : (held : List ℕ) (stage : Stage) (b : ℕ) (z : List ℕ) → IsJoined held → 1000 < length held
     → is_kept b ≡ true → is_newline b ≡ false
-    → lines (view held place ++ b ∷ z) ≡ lines (view held place ++ z)
-step_long held place b z joined long kept inside =
-    view_same held place held place b joined joined kept inside (λ l. long_skips held place b joined long l) z
+    → lines (view held stage ++ b ∷ z) ≡ lines (view held stage ++ z)
+step_long held stage b z joined long kept inside =
+    view_same held stage held stage b joined joined kept inside (λ l. long_skips held stage b joined long l) z
 
-pub step_comment : (held : List ℕ) (place : Place) (b : ℕ) (z : List ℕ) → IsJoined held → place ≡ Comment
+pub step_comment : (held : List ℕ) (stage : Stage) (b : ℕ) (z : List ℕ) → IsJoined held → stage ≡ Comment
     → is_kept b ≡ true → is_newline b ≡ false
-    → lines (view held place ++ b ∷ z) ≡ lines (view held place ++ z)
-step_comment held place b z joined is kept inside =
+    → lines (view held stage ++ b ∷ z) ≡ lines (view held stage ++ z)
+step_comment held stage b z joined is kept inside =
     rw is (view_same held Comment held Comment b joined joined kept inside (λ l. comment_skips held b joined l) z)
 
-pub step_gap : (held : List ℕ) (place : Place) (b : ℕ) (z : List ℕ) → IsJoined held → place ≡ Gap → IsSpaceByte b
-    → lines (view held place ++ b ∷ z) ≡ lines (view held place ++ z)
-step_gap held place b z joined is space =
+pub step_gap : (held : List ℕ) (stage : Stage) (b : ℕ) (z : List ℕ) → IsJoined held → stage ≡ Gap → IsSpaceByte b
+    → lines (view held stage ++ b ∷ z) ≡ lines (view held stage ++ z)
+step_gap held stage b z joined is space =
     rw is
-    (view_same held Gap held Gap b joined joined space.kept space.inside (λ l. gap_skips held b joined space.space space.other l) z)
+    (view_same held Gap held Gap b joined joined space.kept space.inside
+    (λ l. gap_skips held b joined space.space space.other l) z)
 
-pub step_front : (held : List ℕ) (place : Place) (b : ℕ) (z : List ℕ) → HoldsLine held place → length held ≡ 0
+pub step_front : (held : List ℕ) (stage : Stage) (b : ℕ) (z : List ℕ) → HoldsLine held stage → length held ≡ 0
     → IsSpaceByte b
-    → lines (view held place ++ b ∷ z) ≡ lines (view held place ++ z)
+    → lines (view held stage ++ b ∷ z) ≡ lines (view held stage ++ z)
 step_front held Word b z holds none space =
     rw (nil_from_length held none)
-    (view_same [] Word [] Word b nothing nothing space.kept space.inside (λ l. front_skips b space.space space.other l) z)
+    (view_same [] Word [] Word b nothing nothing space.kept space.inside
+    (λ l. front_skips b space.space space.other l) z)
   where
     nothing : IsJoined []
     nothing = record { plain = tt; single = λ h. absurd (omega arith) }
@@ -213,17 +218,34 @@ step_front held Gap b z holds none space = absurd (omega (arith, holds.gap refl)
 step_front held Comment b z holds none space = step_comment held Comment b z holds.joined refl space.kept space.inside
 
 -- a space ends a word
-pub step_space : (held : List ℕ) (place : Place) (b : ℕ) (z : List ℕ) → IsJoined held → place ≡ Word → IsSpaceByte b
-    → lines (view held place ++ b ∷ z) ≡ lines (view held Gap ++ z)
-step_space held place b z joined is space =
+pub step_space : (held : List ℕ) (stage : Stage) (b : ℕ) (z : List ℕ) → IsJoined held → stage ≡ Word → IsSpaceByte b
+    → lines (view held stage ++ b ∷ z) ≡ lines (view held Gap ++ z)
+step_space held stage b z joined is space =
     rw is
-    (view_same held Word held Gap b joined joined space.kept space.inside (λ l. space_held held b joined space.space space.other l) z)
+    (view_same held Word held Gap b joined joined space.kept space.inside
+    (λ l. space_held held b joined space.space space.other l) z)
 
 -- `#` begins a comment
-pub step_hash : (held : List ℕ) (place : Place) (z : List ℕ) → IsJoined held
-    → lines (view held place ++ 35 ∷ z) ≡ lines (view held Comment ++ z)
-step_hash held place z joined =
-    view_same held place held Comment 35 joined joined refl refl (λ l. hash_held held place joined l) z
+-- a byte that is kept behind a word
+pub step_pushed : (held new : List ℕ) (stage : Stage) (b : ℕ) → stage ≡ Word → new ≡ held ++ b ∷ [] → (z : List ℕ)
+    → lines (view held stage ++ b ∷ z) ≡ lines (view new stage ++ z)
+step_pushed held new stage b is e z =
+    rw (is, e)
+    (ap (λ t. lines (t ++ b ∷ z)) (append-nil held)
+    ∙ sym (ap (λ t. lines (t ++ z)) (append-nil (held ++ b ∷ [])) ∙ ap lines (append_assoc held (b ∷ []) z)))
+
+-- a byte that is kept behind a space
+pub step_pushed_gap : (held mid new : List ℕ) (stage : Stage) (b : ℕ) → stage ≡ Gap → mid ≡ held ++ 32 ∷ []
+    → new ≡ mid ++ b ∷ [] → (z : List ℕ) → lines (view held stage ++ b ∷ z) ≡ lines (view new Word ++ z)
+step_pushed_gap held mid new stage b is e f z =
+    rw (is, f, e)
+    (sym (ap (λ t. lines (t ++ z)) (append-nil ((held ++ 32 ∷ []) ++ b ∷ []))
+    ∙ ap lines (append_assoc (held ++ 32 ∷ []) (b ∷ []) z)))
+
+pub step_hash : (held : List ℕ) (stage : Stage) (z : List ℕ) → IsJoined held
+    → lines (view held stage ++ 35 ∷ z) ≡ lines (view held Comment ++ z)
+step_hash held stage z joined =
+    view_same held stage held Comment 35 joined joined refl refl (λ l. hash_held held stage joined l) z
 
 -- a byte of a word keeps what is held joined
 all_push_last : (ps : List (List ℕ)) (c : ℕ) → AllByRecursion (λ part. 0 < length part) ps
@@ -251,17 +273,22 @@ pub joined_push_gap : (held : List ℕ) (b : ℕ) → IsJoined held → 0 < leng
 joined_push_gap held b joined some plain other = rw (append_assoc held (32 ∷ []) (b ∷ [])) (record {
   plain = AllByRecursion-append _ held (32 ∷ b ∷ []) joined.plain (refl, (plain, tt));
   single =
-      λ h. rw (split_between held (b ∷ []), split_push [] b other) (AllByRecursion-append _ (slice_split is_space held) ((b ∷ []) ∷ []) (joined.single some) (lit< tt, tt));
+      λ h. rw (split_between held (b ∷ []), split_push [] b other)
+      (AllByRecursion-append _ (slice_split is_space held) ((b ∷ []) ∷ []) (joined.single some) (lit< tt, tt));
 })
 
 pub holds_word : {held : List ℕ} → IsJoined held → HoldsLine held Word
 holds_word joined = record { joined = joined; gap = λ e. absurd (cc) }
 
-pub holds_word_of : {held : List ℕ} (place : Place) → IsJoined held → place ≡ Word → HoldsLine held place
-holds_word_of place joined is = rw is (holds_word joined)
+pub holds_word_of : {held : List ℕ} (stage : Stage) → IsJoined held → stage ≡ Word → HoldsLine held stage
+holds_word_of stage joined is = rw is (holds_word joined)
 
-pub step_skipped : (held : List ℕ) (place : Place) (b : ℕ) (z : List ℕ) → IsJoined held
-    → (place ≡ Gap) ⊎ (place ≡ Comment) → IsSpaceByte b
-    → lines (view held place ++ b ∷ z) ≡ lines (view held place ++ z)
-step_skipped held place b z joined is space =
-    elim is [ inl e ↦ step_gap held place b z joined e space | inr e ↦ step_comment held place b z joined e space.kept space.inside ]
+pub step_skipped : (held : List ℕ) (stage : Stage) (b : ℕ) (z : List ℕ) → IsJoined held
+    → (stage ≡ Gap) ⊎ (stage ≡ Comment) → IsSpaceByte b
+    → lines (view held stage ++ b ∷ z) ≡ lines (view held stage ++ z)
+step_skipped held stage b z joined is space =
+    elim is [
+      | inl e ↦ step_gap held stage b z joined e space
+      | inr e ↦
+          step_comment held stage b z joined e space.kept space.inside
+    ]

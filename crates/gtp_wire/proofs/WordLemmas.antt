@@ -1,5 +1,7 @@
 -- The words of a text that grows at its end, and the line that they are.
-use Rattle.std.proofs.Common.{◌≡◌, ℕ, ◌+◌, ◌<◌, ◌≤◌, List, [], ◌∷◌, ◌++◌, length, Some, Bool, true, false, refl, sym, ◌∙◌, ap, arith, cond, eqb, ltb, inl, inr, ◌&&◌, not, map, append_assoc, append-nil, length-append, filter}
+use Rattle.std.proofs.Common.{◌≡◌, ℕ, ◌+◌, ◌<◌, ◌≤◌, List, [], ◌∷◌, ◌++◌, length, Some, Bool, true, false, refl, sym}
+use Rattle.std.proofs.Common.{◌∙◌, ap, arith, cond, eqb, ltb, inl, inr, ◌&&◌, not, map, append_assoc, append-nil}
+use Rattle.std.proofs.Common.{length-append, filter}
 use Rattle.std.proofs.lemmas.Bool.{lt-ltb, eqb-true}
 use Rattle.std.proofs.lemmas.List.Elements.{filter-append}
 use Rattle.std.proofs.lemmas.List.Splits.{slice_split-cons_yes, slice_split-cons_no, join_with_byte-slice_split}
@@ -113,7 +115,9 @@ weight_push : (xs : List ℕ) (c : ℕ) → weight (words xs) ≤ weight (words 
 weight_push xs c = elim (test_cases (is_space c)) [
   | inl e ↦ let space : c ≡ 32 = eqb-true c 32 e in
       rw space (let same : words (xs ++ 32 ∷ []) ≡ words xs = words_space xs in omega (arith, ap weight same))
-  | inr e ↦ let same : weight (words (xs ++ c ∷ [])) ≡ weight (filter some_bytes (push_last (slice_split is_space xs) c)) = ap (λ ps. weight (filter some_bytes ps)) (split_push xs c e) in
+  | inr e ↦ let same : weight (words (xs ++ c ∷ []))
+      ≡ weight (filter some_bytes (push_last (slice_split is_space xs) c)) =
+      ap (λ ps. weight (filter some_bytes ps)) (split_push xs c e) in
       omega (arith, same, weight_push_last (slice_split is_space xs) c)
 ]
 

@@ -1,5 +1,7 @@
 -- What is written is read: a written reply is one reply, of its status, id and text.
-use Rattle.std.proofs.Common.{◌≡◌, ℕ, ◌+◌, ◌≤◌, List, [], ◌∷◌, ◌++◌, length, Option, Some, None, Bool, true, false, refl, sym, ◌∙◌, ap, subst, arith, cond, eqb, leb, ◌&&◌, ◌||◌, ◌⊎◌, inl, inr, reverse, append_assoc, append-nil, length-append}
+use Rattle.std.proofs.Common.{◌≡◌, ℕ, ◌+◌, ◌≤◌, List, [], ◌∷◌, ◌++◌, length, Option, Some, None, Bool, true, false}
+use Rattle.std.proofs.Common.{refl, sym, ◌∙◌, ap, subst, arith, cond, eqb, leb, ◌&&◌, ◌||◌, ◌⊎◌, inl, inr, reverse}
+use Rattle.std.proofs.Common.{append_assoc, append-nil, length-append}
 use Rattle.std.specs.Prelude.{is_some, IfSome}
 use Rattle.std.specs.Char.{is_ascii_digit}
 use Rattle.std.specs.List.{AllByRecursion, list_all}
@@ -14,7 +16,9 @@ use Rattle.go_base.specs.Int.{int_of, most_int}
 use Rattle.go_base.proofs.IntLemmas.{int_of_spelled}
 use Rattle.gtp_wire.specs.declared.replies.Reply.{Reply}
 use Rattle.gtp_wire.specs.Bytes.{is_kept, space_for_tab, is_newline, is_space, is_blank}
-use Rattle.gtp_wire.specs.Replies.{prepared, front_of, behind, past_blanks, is_status, has_two_newlines, trimmed, IsWhole, IsReply, written_reply, written_id, spaced, is_shown, begins_blank, IsReplyText}
+use Rattle.gtp_wire.specs.Replies.{prepared, front_of, behind, past_blanks, is_status, has_two_newlines, trim}
+use Rattle.gtp_wire.specs.Replies.{IsWhole, IsReply, written_reply, written_id, spaced, is_shown, begins_blank}
+use Rattle.gtp_wire.specs.Replies.{IsReplyText}
 use Rattle.gtp_wire.proofs.LineLemmas.{AllByRecursion-append, test_cases}
 use Rattle.gtp_wire.proofs.NewlineLemmas.{has_two_newlines_front, body_more, or_parts}
 use Rattle.gtp_wire.proofs.ReplyLemmas.{reply_made}
@@ -46,7 +50,11 @@ all_shown (b ∷ l) shown = elim (test_cases (is_shown b)) [
 
 shown_kept : (b : ℕ) → IsShown b → is_kept b ≡ true
 shown_kept b shown =
-    elim shown [ inl e ↦ rw e refl | inr h ↦ let low : 32 ≤ b = h.0 in let high : b ≤ 126 = h.1 in grind (arith, nat_tests) ]
+    elim shown [
+      | inl e ↦ rw e refl
+      | inr h ↦ let low : 32 ≤ b = h.0 in
+          let high : b ≤ 126 = h.1 in grind (arith, nat_tests)
+    ]
 
 shown_stays : (b : ℕ) → IsShown b → space_for_tab b ≡ b
 shown_stays b shown = elim shown [ inl e ↦ rw e refl | inr h ↦ let low : 32 ≤ b = h.0 in grind (arith, nat_tests) ]
@@ -122,9 +130,9 @@ last_byte : (front : List ℕ) (c : ℕ) (text : List ℕ) → text ≡ front ++
     → is_blank c ≡ false
 last_byte front c text e none = sym (ap begins_blank (ap reverse e ∙ reverse-append front (c ∷ []))) ∙ none
 
-trimmed_spaced : (text : List ℕ) → IsReplyText text → trimmed (spaced text) ≡ text
-trimmed_spaced [] fits = refl
-trimmed_spaced (b ∷ bs) fits =
+trim_spaced : (text : List ℕ) → IsReplyText text → trim (spaced text) ≡ text
+trim_spaced [] fits = refl
+trim_spaced (b ∷ bs) fits =
     let last = last_of b bs in
     let turned : reverse (b ∷ bs) ≡ last.1 ∷ reverse last.0 =
     ap reverse last.2 ∙ reverse-append last.0 (last.1 ∷ []) in
@@ -199,15 +207,23 @@ written_whole ok id text fits_id fits_text =
     let shown : AllByRecursion IsShown (written_id id ++ (spaced text ++ 10 ∷ 10 ∷ [])) =
     AllByRecursion-append IsShown (written_id id) (spaced text ++ 10 ∷ 10 ∷ [])
     (digits_shown (written_id id) word.digits)
-    (AllByRecursion-append IsShown (spaced text) (10 ∷ 10 ∷ []) (spaced_shown text (all_shown text fits_text.shown)) (inl refl, (inl refl, tt)))
+    (AllByRecursion-append IsShown (spaced text) (10 ∷ 10 ∷ []) (spaced_shown text (all_shown text fits_text.shown))
+    (inl refl, (inl refl, tt)))
     in
     record {
       fits =
-          omega
-          (arith, length-append (written_id id) (spaced text ++ 10 ∷ 10 ∷ []), length-append (spaced text) (10 ∷ 10 ∷ []), word.short, length-spaced text, fits_text.fits);
+          omega (
+            arith,
+            length-append (written_id id) (spaced text ++ 10 ∷ 10 ∷ []),
+            length-append (spaced text) (10 ∷ 10 ∷ []),
+            word.short,
+            length-spaced text,
+            fits_text.fits,
+          );
       front = status_of ok ∷ (written_id id ++ (spaced text ++ 10 ∷ []));
       last = ap (λ t. status_of ok ∷ t)
-          (ap (λ t. written_id id ++ t) (sym (append_assoc (spaced text) (10 ∷ []) (10 ∷ []))) ∙ sym (append_assoc (written_id id) (spaced text ++ 10 ∷ []) (10 ∷ [])));
+          (ap (λ t. written_id id ++ t) (sym (append_assoc (spaced text) (10 ∷ []) (10 ∷ [])))
+          ∙ sym (append_assoc (written_id id) (spaced text ++ 10 ∷ []) (10 ∷ [])));
       status = status_of ok;
       body = written_id id ++ spaced text;
       shape =
@@ -222,7 +238,8 @@ written_whole ok id text fits_id fits_text =
 
 -- with or without an id the text is what is behind it
 text_behind : (id : Option ℕ) (text : List ℕ) → AllByRecursion IsDigit (written_id id)
-    → cond (is_some id) (behind is_ascii_digit (written_id id ++ spaced text)) (written_id id ++ spaced text) ≡ spaced text
+    → cond (is_some id) (behind is_ascii_digit (written_id id ++ spaced text))
+    (written_id id ++ spaced text) ≡ spaced text
 text_behind None text all = refl
 text_behind (Some n) text all = behind_digits (decimal n) (spaced text) all ∙ spaced_behind text
 
@@ -234,8 +251,10 @@ written_is_read ok id text value fits_id fits_text ok_is id_is text_is =
     let word = id_text id fits_id in
     reply_made (written_reply ok id text) (written_whole ok id text fits_id fits_text) value.ok value.id value.text
     (ok_is ∙ status_is ok)
-    (id_is ∙ word.id_is ∙ ap int_of (sym (front_of_digits (written_id id) (spaced text) word.digits ∙ ap (λ t. written_id id ++ t) (spaced_front text) ∙ append-nil (written_id id))))
-    (text_is ∙ sym (trimmed_spaced text fits_text) ∙ ap trimmed (sym (text_behind id text word.digits))
+    (id_is ∙ word.id_is ∙ ap int_of (sym (front_of_digits (written_id id) (spaced text) word.digits
+    ∙ ap (λ t. written_id id ++ t) (spaced_front text) ∙ append-nil (written_id id))))
+    (text_is ∙ sym (trim_spaced text fits_text) ∙ ap trim (sym (text_behind id text word.digits))
     ∙ ap
-    (λ i. trimmed (cond (is_some i) (behind is_ascii_digit (written_id id ++ spaced text)) (written_id id ++ spaced text)))
+    (λ i. trim (cond (is_some i) (behind is_ascii_digit (written_id id ++ spaced text))
+    (written_id id ++ spaced text)))
     (sym id_is))

@@ -23,6 +23,18 @@ is_newline b = b == newline
 abbrev pub is_space : ℕ → Bool
 is_space b = b == space
 
+-- `=`, which begins a reply to a command that succeeded
+abbrev pub equals_sign : ℕ
+equals_sign = 61
+
+-- `?`, which begins a reply to a command that failed
+abbrev pub question_mark : ℕ
+question_mark = 63
+
+-- `~`, the last of the bytes that ASCII prints
+abbrev pub tilde : ℕ
+tilde = 126
+
 -- what stands before the first `#`, or all of it: `#` begins a comment
 abbrev pub before_hash : List ℕ → List ℕ
 before_hash [] = []

@@ -1,6 +1,6 @@
 -- Laws of lines, commands and replies: what holds of the definitions alone, whatever code reads and writes the bytes.
 use Rattle.std.specs.Prelude.{◌≡◌, ◌≢◌, ℕ, ◌+◌, ◌<◌, ◌≤◌, Bool, true, List, [], ◌∷◌, ◌++◌, length, take, drop, All}
-use Rattle.std.specs.Prelude.{Option, Some, None, Result, Ok, Err, IfSome, IfNone}
+use Rattle.std.specs.Prelude.{Option, Some, None, Result, Ok, IfSome}
 use Rattle.std.specs.List.{concat, join_with_byte, list_all}
 use Rattle.std.specs.Option.{option_to_list}
 use Rattle.go_base.specs.Bytes.{newline, space}
@@ -28,7 +28,8 @@ OnlyNewlinesEndLines = (text later : List ℕ) → All (λ b. b ≢ newline) lat
 
 -- What stands behind a newline is read by itself: the lines of the whole are those up to the newline, and then its own.
 abbrev pub NewlinesBeginAnew : Type 0
-NewlinesBeginAnew = (text later : List ℕ) → lines (text ++ newline ∷ later) ≡ lines (text ++ newline ∷ []) ++ lines later
+NewlinesBeginAnew = (text later : List ℕ)
+    → lines (text ++ newline ∷ later) ≡ lines (text ++ newline ∷ []) ++ lines later
 
 -- Every text can be read after everything that is held: its lines are found, and there is something to hold then.
 abbrev pub TextsAreRead : Type 0
@@ -101,10 +102,10 @@ CommandsAreShort = (id : Option ℕ) (command : Command)
 abbrev pub RepliesHaveOneValue : Type 0
 RepliesHaveOneValue = (raw : List ℕ) (value other : Reply) → IsReply raw value → IsReply raw other → value ≡ other
 
--- a text tells one thing first, at one place
+-- a text tells one thing first, and tells it at one byte
 abbrev pub OneThingIsToldFirst : Type 0
-OneThingIsToldFirst = (text : List ℕ) (place other_place : ℕ) (answer other : Result Reply ReplyFault)
-    → IsFirst text place answer → IsFirst text other_place other → (place ≡ other_place) × (answer ≡ other)
+OneThingIsToldFirst = (text : List ℕ) (count other_count : ℕ) (answer other : Result Reply ReplyFault)
+    → IsFirst text count answer → IsFirst text other_count other → (count ≡ other_count) × (answer ≡ other)
 
 -- no reply is a proper front of another
 abbrev pub NoReplyBeginsAnother : Type 0
@@ -126,10 +127,10 @@ abbrev pub FrontsTellNothing : Type 0
 FrontsTellNothing = (raw : List ℕ) (value : Reply) (k : ℕ)
     → IsReply raw value → k < length raw → TellsNothing (take k raw)
 
--- what a text tells first every longer text that it begins tells first, at the same place
+-- what a text tells first every longer text that it begins tells first, at the same byte
 abbrev pub ToldStaysTold : Type 0
-ToldStaysTold = (text later : List ℕ) (place : ℕ) (answer : Result Reply ReplyFault)
-    → IsFirst text place answer → IsFirst (text ++ later) place answer
+ToldStaysTold = (text later : List ℕ) (count : ℕ) (answer : Result Reply ReplyFault)
+    → IsFirst text count answer → IsFirst (text ++ later) count answer
 
 -- What is written as a reply is told first, at its own end, whatever follows it.
 abbrev pub WrittenRepliesAreToldFirst : Type 0

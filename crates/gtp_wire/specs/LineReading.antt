@@ -1,16 +1,17 @@
 -- What a line reader holds. No public clause speaks of it.
-use Rattle.std.specs.Prelude.{◌≡◌, ℕ, ◌<◌, ◌≤◌, Bool, true, false, List, [], ◌∷◌, Option, None, IfSome, length, ◌&&◌, ◌==◌, not, ◌⊎◌}
+use Rattle.std.specs.Prelude.{◌≡◌, ℕ, ◌<◌, ◌≤◌, Bool, true, false, List, [], ◌∷◌, Option, None, IfSome, length, ◌&&◌}
+use Rattle.std.specs.Prelude.{◌==◌, not, ◌⊎◌}
 use Rattle.std.specs.List.{slice_split, AllByRecursion}
 use Rattle.go_base.specs.Bytes.{tab, newline, space, hash}
 use Rattle.go_base.specs.Int.{int_of, most_int}
-use Rattle.gtp_wire.specs.declared.lines.Place.{Place}
-use Rattle.gtp_wire.specs.declared.lines.Place.TheVariants.{Word, Gap, Comment}
+use Rattle.gtp_wire.specs.declared.lines.Stage.{Stage}
+use Rattle.gtp_wire.specs.declared.lines.Stage.TheVariants.{Word, Gap, Comment}
 use Rattle.gtp_wire.specs.declared.lines.Kind.{Kind}
 use Rattle.gtp_wire.specs.declared.lines.Kind.TheVariants.{Space, Removed, Hash, Other}
 use Rattle.gtp_wire.specs.Bytes.{is_kept, is_space}
 
 -- what stands after the words so far: nothing, a space, or the `#` that begins a comment
-abbrev pub ending : Place → List ℕ
+abbrev pub ending : Stage → List ℕ
 ending Word = []
 ending Gap = space ∷ []
 ending Comment = hash ∷ []
@@ -21,9 +22,9 @@ is_plain b = is_kept b && (not (b == tab) && (not (b == newline) && not (b == ha
 
 -- what a byte is to a line that it doesn't end
 abbrev pub IsKind : ℕ → Kind → Type 0
-IsKind b Space = (b ≡ 9) ⊎ (b ≡ 32)
+IsKind b Space = (b ≡ tab) ⊎ (b ≡ space)
 IsKind b Removed = is_kept b ≡ false
-IsKind b Hash = b ≡ 35
+IsKind b Hash = b ≡ hash
 IsKind b Other = (is_plain b ≡ true) × (is_space b ≡ false)
 
 -- the bytes are words joined by single spaces, or none
@@ -32,9 +33,9 @@ pub record IsJoined (held : List ℕ) : Type 0 where
   pub single : 0 < length held → AllByRecursion (λ part. 0 < length part) (slice_split is_space held)
 
 -- a space follows words only
-pub record HoldsLine (held : List ℕ) (place : Place) : Type 0 where
+pub record HoldsLine (held : List ℕ) (stage : Stage) : Type 0 where
   pub joined : IsJoined held
-  pub gap : place ≡ Gap → 0 < length held
+  pub gap : stage ≡ Gap → 0 < length held
 
 -- the int that the first of the words is
 abbrev pub id_of_words : List (List ℕ) → Option ℕ

@@ -1,5 +1,6 @@
 -- The command lines of a text. (The standard, preprocessing and command structure.)
-use Rattle.std.specs.Prelude.{◌≡◌, ℕ, List, [], ◌∷◌, ◌++◌, length, filter, map, nat_lt, Option, Some, None, if◌then◌else◌}
+use Rattle.std.specs.Prelude.{◌≡◌, ℕ, List, [], ◌∷◌, ◌++◌, length, filter, map, nat_lt, Option, Some, None}
+use Rattle.std.specs.Prelude.{if◌then◌else◌}
 use Rattle.std.specs.List.{slice_split, filter_map, join_with_byte}
 use Rattle.go_base.specs.Bytes.{newline, space}
 use Rattle.gtp_wire.specs.declared.lines.Line.{Line}
@@ -27,7 +28,8 @@ head_of (x ∷ xs) = Some x
 unfoldable pub line_of_words : List (List ℕ) → Option Line
 line_of_words [] = None
 line_of_words (w ∷ ws) =
-    Some (if nat_lt most_line_bytes (length (join_with_byte space (w ∷ ws))) then TooLong else Command (command_of (w ∷ ws)))
+    Some (if nat_lt most_line_bytes (length (join_with_byte space (w ∷ ws))) then TooLong else
+    Command (command_of (w ∷ ws)))
 
 -- One line without its newline: `#` and all that follows it is removed, HT turns into a space, and what is left is its
 -- words.

@@ -10,6 +10,7 @@ use Rattle.gtp_wire.specs.declared.replies.Reply.{Reply}
 use Rattle.gtp_wire.specs.declared.replies.ReplyFault.{ReplyFault}
 use Rattle.gtp_wire.specs.declared.replies.ReplyFault.TheVariants.{Overlong, NoStatus}
 use Rattle.gtp_wire.specs.Bytes.{is_kept, space_for_tab, is_newline, is_space, is_blank}
+use Rattle.gtp_wire.specs.Bytes.{equals_sign, question_mark, tilde}
 
 -- the most raw bytes of a reply, what is removed and skipped included (own)
 abbrev pub most_reply_bytes : ℕ
@@ -44,7 +45,7 @@ past_blanks raw = behind is_blank (prepared raw)
 
 -- `=` for success, or `?` for failure
 abbrev pub is_status : ℕ → Bool
-is_status b = b == 61 || b == 63
+is_status b = b == equals_sign || b == question_mark
 
 -- whether two newlines come in a row
 abbrev pub has_two_newlines : List ℕ → Bool
@@ -53,8 +54,8 @@ has_two_newlines (x ∷ []) = false
 has_two_newlines (x ∷ y ∷ more) = (is_newline x && is_newline y) || has_two_newlines (y ∷ more)
 
 -- without the spaces at the front and at the end
-abbrev pub trimmed : List ℕ → List ℕ
-trimmed text = reverse (behind is_space (reverse (behind is_space text)))
+abbrev pub trim : List ℕ → List ℕ
+trim text = reverse (behind is_space (reverse (behind is_space text)))
 
 -- What a status and a body say: the run of digits at the body's front is the id where it is an int, and the rest is the
 -- text; where it is none, there is no id and the whole body is the text. Single newlines stay in the text, and the
@@ -63,7 +64,7 @@ abbrev pub reply_of : ℕ → List ℕ → Reply
 reply_of status body =
     let id = int_of (front_of is_ascii_digit body) in
     let text = if is_some id then behind is_ascii_digit body else body in
-    record { ok = status == 61; id = id; text = record { items = trimmed text } }
+    record { ok = status == equals_sign; id = id; text = record { items = trim text } }
 
 -- The raw bytes are one reply: at most 8,192, the last of them a newline; and prepared, they are spaces and newlines, a
 -- status, a body, and two newlines, the first in a row behind the status.
@@ -98,16 +99,16 @@ Tells raw (Ok value) = IsReply raw value
 Tells raw (Err NoStatus) = IsNoStatus raw
 Tells raw (Err Overlong) = length raw ≡ most_reply_bytes + 1
 
--- no place of the text tells anything
+-- no front of the text tells anything, nor the whole text
 abbrev pub TellsNothing : List ℕ → Type 0
 TellsNothing text = (n : ℕ) (answer : Result Reply ReplyFault) → n ≤ length text → Tells (take n text) answer → ⊥
 
--- The first thing that the text tells, and the place at which it does: a reply, with its length; or a fault, with the
--- place of the byte that shows it.
-pub record IsFirst (text : List ℕ) (place : ℕ) (answer : Result Reply ReplyFault) : Type 0 where
-  pub inside : place ≤ length text
-  pub told : Tells (take place text) answer
-  pub before : (n : ℕ) (other : Result Reply ReplyFault) → n < place → Tells (take n text) other → ⊥
+-- The first thing that the text tells, and how many bytes of it tell it: a reply, and its length; or a fault, and the
+-- bytes up to and with the one that shows it.
+pub record IsFirst (text : List ℕ) (count : ℕ) (answer : Result Reply ReplyFault) : Type 0 where
+  pub inside : count ≤ length text
+  pub told : Tells (take count text) answer
+  pub before : (n : ℕ) (other : Result Reply ReplyFault) → n < count → Tells (take n text) other → ⊥
 
 -- What stays of the text when this was told: a reply is taken off, and the rest begins anew; else all of it stays.
 abbrev pub rest_after : Option (Result Reply ReplyFault) → List ℕ → List ℕ
@@ -143,19 +144,20 @@ spaced (b ∷ bs) = space ∷ b ∷ bs
 
 -- the bytes of a reply that is written: the status, the id, a space and the text, and two newlines
 abbrev pub written_reply : Bool → Option ℕ → List ℕ → List ℕ
-written_reply ok id text = (if ok then 61 else 63) ∷ (written_id id ++ (spaced text ++ newline ∷ newline ∷ []))
+written_reply ok id text =
+    (if ok then equals_sign else question_mark) ∷ (written_id id ++ (spaced text ++ newline ∷ newline ∷ []))
 
--- a byte of a text that is written: a newline, or 32 to 126
+-- a byte of a text that is written: a newline, or from the space to `~`
 abbrev pub is_shown : ℕ → Bool
-is_shown b = is_newline b || (nat_le 32 b && nat_le b 126)
+is_shown b = is_newline b || (nat_le space b && nat_le b tilde)
 
 -- whether a space or a newline stands in front
 abbrev pub begins_blank : List ℕ → Bool
 begins_blank [] = false
 begins_blank (b ∷ bs) = is_blank b
 
--- A text that may be written: at most 2,000 bytes, each a newline or 32 to 126, no two newlines in a row, and neither a
--- space nor a newline at its front or at its end.
+-- A text that may be written: at most 2,000 bytes, each a newline or from the space to `~`, no two newlines in a row,
+-- and neither a space nor a newline at its front or at its end.
 pub record IsReplyText (text : List ℕ) : Type 0 where
   pub fits : length text ≤ most_text_bytes
   pub shown : list_all is_shown text ≡ true

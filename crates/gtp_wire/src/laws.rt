@@ -69,7 +69,7 @@ pub fn replies_have_one_value()
     ensures { RepliesHaveOneValue }
 {}
 
-/// A text tells one thing first, at one place.
+/// A text tells one thing first, at one byte.
 pub fn one_thing_is_told_first()
     ensures { OneThingIsToldFirst }
 {}
@@ -94,7 +94,7 @@ pub fn fronts_tell_nothing()
     ensures { FrontsTellNothing }
 {}
 
-/// What a text tells first, every text that it begins tells first, at the same place.
+/// What a text tells first, every text that it begins tells first, at the same byte.
 pub fn told_stays_told()
     ensures { ToldStaysTold }
 {}

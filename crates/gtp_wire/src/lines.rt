@@ -1,6 +1,7 @@
 //! Lines, and their reader.
 ghost use Rattle.std.specs.Prelude.{◌≡◌, ◌≢◌, ℕ, ◌<◌, ◌≤◌, List, [], ◌∷◌, ◌++◌, length, take, IfSome, IfNone};
 ghost use Rattle.std.specs.Option.{option_to_list};
+ghost use Rattle.go_base.specs.Bytes.{newline, hash};
 ghost use Rattle.gtp_wire.specs.LineReading.{IsKind};
 
 use super::command_line::{CommandLine, LINE_ROOM, MOST_LINE_BYTES};
@@ -27,7 +28,7 @@ pub struct LineFed {
 
 /// Where a line stands: in or behind a word (or before all words), behind a space that ended a word, or in a comment.
 #[derive(Clone, Copy, Debug, PartialEq, Eq)]
-enum Place {
+enum Stage {
     Word,
     Gap,
     Comment,
@@ -45,7 +46,7 @@ enum Kind {
 
 /// The kind of a byte that ends no line.
 fn kind_of(byte: u8) -> Kind
-    requires { byte ≢ 10 }
+    requires { byte ≢ newline }
     ensures { IsKind byte result }
 {
     match byte {
@@ -68,7 +69,7 @@ fn kind_of(byte: u8) -> Kind
 #[derive(Debug, Drop)]
 pub struct LineReader {
     held: ArrayVec<u8, LINE_ROOM>,
-    place: Place,
+    stage: Stage,
 }
 
 impl Model for LineReader {
@@ -77,9 +78,9 @@ impl Model for LineReader {
 
     ghost Value = { List ℕ };
 
-    ghost view = { λ r. r.held.items ++ ending r.place };
+    ghost view = { λ r. r.held.items ++ ending r.stage };
 
-    ghost invariant = { λ r. HoldsLine r.held.items r.place };
+    ghost invariant = { λ r. HoldsLine r.held.items r.stage };
 }
 
 impl Default for LineReader {
@@ -91,7 +92,7 @@ impl Default for LineReader {
 }
 
 impl LineReader {
-    ghost use Rattle.gtp_wire.specs.Lines.{lines, head_of, EndsLine};
+    ghost use Rattle.gtp_wire.specs.Lines.{lines, head_of, EndsLine, Finds};
 
     /// A reader that was fed nothing.
     pub fn new() -> Self
@@ -99,7 +100,7 @@ impl LineReader {
     {
         LineReader {
             held: ArrayVec::new(),
-            place: Place::Word,
+            stage: Stage::Word,
         }
     }
 
@@ -124,10 +125,8 @@ impl LineReader {
         ensures none { IfNone result.line (result.used ≡ length input.now) }
 
         // Whatever comes next, what is left reads as it would have after the bytes that were used.
-        ensures rest { (z : List ℕ) →
-            lines (self.old ++ (take result.used input.now ++ z))
-            ≡ option_to_list result.line ++ lines (self.new ++ z) }
-        ensures no_line { lines self.new ≡ [] }
+        ensures finds { Finds self.old (take result.used input.now)
+            (option_to_list result.line) self.new }
 
         // Of a piece that isn't empty one byte at least is used.
         ensures progress { 0 < length input.now → 0 < result.used }
@@ -153,9 +152,8 @@ impl LineReader {
 
     /// Takes one byte that ends no line.
     fn take_byte(&mut self, byte: u8)
-        requires { byte ≢ 10 }
-        ensures step { (z : List ℕ) → lines (self.old ++ byte ∷ z) ≡ lines (self.new ++ z) }
-        ensures no_line { lines self.new ≡ [] }
+        requires { byte ≢ newline }
+        ensures { Finds self.old (byte ∷ []) [] self.new }
     {
         match kind_of(byte) {
             Kind::Removed => self.skip(byte),
@@ -168,8 +166,7 @@ impl LineReader {
     /// A control character changes nothing.
     fn skip(&self, byte: u8)
         requires { IsKind byte Kind.Removed }
-        ensures step { (z : List ℕ) → lines (self.now ++ byte ∷ z) ≡ lines (self.now ++ z) }
-        ensures no_line { lines self.now ≡ [] }
+        ensures { Finds self.now (byte ∷ []) [] self.now }
     {
         let _ = &self.held;
     }
@@ -177,8 +174,7 @@ impl LineReader {
     /// A space ends a word.
     fn take_space(&mut self, byte: u8)
         requires { IsKind byte Kind.Space }
-        ensures step { (z : List ℕ) → lines (self.old ++ byte ∷ z) ≡ lines (self.new ++ z) }
-        ensures no_line { lines self.new ≡ [] }
+        ensures { Finds self.old (byte ∷ []) [] self.new }
     {
         if self.held.is_empty() {
             return;
@@ -186,48 +182,46 @@ impl LineReader {
         if self.held.len() > MOST_LINE_BYTES {
             return;
         }
-        match self.place {
-            Place::Word => self.place = Place::Gap,
-            Place::Gap | Place::Comment => {}
+        match self.stage {
+            Stage::Word => self.stage = Stage::Gap,
+            Stage::Gap | Stage::Comment => {}
         }
     }
 
     /// `#` begins a comment.
     fn take_hash(&mut self)
-        ensures step { (z : List ℕ) → lines (self.old ++ 35 ∷ z) ≡ lines (self.new ++ z) }
-        ensures no_line { lines self.new ≡ [] }
+        ensures { Finds self.old (hash ∷ []) [] self.new }
     {
         let _ = &self.held;
-        self.place = Place::Comment;
+        self.stage = Stage::Comment;
     }
 
     /// Any other byte belongs to a word, unless it stands in a comment or the line is too long already.
     fn take_word_byte(&mut self, byte: u8)
         requires { IsKind byte Kind.Other }
-        ensures step { (z : List ℕ) → lines (self.old ++ byte ∷ z) ≡ lines (self.new ++ z) }
-        ensures no_line { lines self.new ≡ [] }
+        ensures { Finds self.old (byte ∷ []) [] self.new }
     {
         if self.held.len() > MOST_LINE_BYTES {
             return;
         }
-        match self.place {
-            Place::Word => self.held.push(byte),
-            Place::Gap => {
+        match self.stage {
+            Stage::Word => self.held.push(byte),
+            Stage::Gap => {
                 self.held.push(b' ');
                 self.held.push(byte);
-                self.place = Place::Word;
+                self.stage = Stage::Word;
             }
-            Place::Comment => {}
+            Stage::Comment => {}
         }
     }
 
     /// The line that is held, which a newline ends.
     fn end_line(&mut self) -> Option<Line>
         ensures step { (z : List ℕ) →
-            lines (self.old ++ 10 ∷ z) ≡ option_to_list result ++ lines z }
+            lines (self.old ++ newline ∷ z) ≡ option_to_list result ++ lines z }
         ensures new { self.new ≡ [] }
     {
-        self.place = Place::Word;
+        self.stage = Stage::Word;
         if self.held.is_empty() {
             return None;
         }

@@ -42,7 +42,7 @@ fn feed_all(reader: &mut LineReader, piece: &[u8], shown: &mut Shown) {
 }
 
 /// What a new reader gives of a text.
-fn shown(text: &[u8]) -> Shown {
+fn show_lines(text: &[u8]) -> Shown {
     let mut shown = ArrayVec::new();
     feed_all(&mut LineReader::new(), text, &mut shown);
     shown
@@ -51,9 +51,9 @@ fn shown(text: &[u8]) -> Shown {
 #[test]
 fn comments_and_control_characters_are_no_words(rt: HostRuntime) {
     let text = b"# a game\n\t\n3\tpl\x01ay b D4 # corner\r\n";
-    assert_eq!(rt; shown(text).as_slice(), b"[3] play b D4;".as_slice());
+    assert_eq!(rt; show_lines(text).as_slice(), b"[3] play b D4;".as_slice());
     let text = b"# a comment\n\t\n3\tna\x01me # x\r\n";
-    assert_eq!(rt; shown(text).as_slice(), b"[3] name;".as_slice());
+    assert_eq!(rt; show_lines(text).as_slice(), b"[3] name;".as_slice());
 }
 
 #[test]
@@ -74,7 +74,7 @@ fn an_id_is_an_int_up_to_the_greatest(rt: HostRuntime) {
         ),
         (b"007 version\n".as_slice(), b"[7] version;".as_slice()),
     ] {
-        assert_eq!(rt; shown(text).as_slice(), want);
+        assert_eq!(rt; show_lines(text).as_slice(), want);
     }
 }
 

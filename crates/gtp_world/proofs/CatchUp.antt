@@ -1,5 +1,6 @@
 -- Catching up: the starts, the rounds of Black, and the rounds of White.
-use Rattle.std.proofs.Common.{◌≡◌, ℕ, zero, suc, ◌+◌, ◌<◌, ◌≤◌, true, false, List, [], ◌∷◌, ◌++◌, length, drop, Option, Some, None, slice_get, refl, sym, ◌∙◌, ap, subst, arith}
+use Rattle.std.proofs.Common.{◌≡◌, ℕ, zero, suc, ◌+◌, ◌<◌, ◌≤◌, true, false, List, [], ◌∷◌, ◌++◌, length, drop, Option}
+use Rattle.std.proofs.Common.{Some, None, slice_get, refl, sym, ◌∙◌, ap, subst, arith}
 use Rattle.std.specs.Prelude.{◌&&◌, ◌==◌, not, nat_lt, is_some, IsSome}
 use Rattle.std.proofs.lemmas.Bool.Decides.{nat_tests}
 use Rattle.std.proofs.lemmas.List.{append-nil}
@@ -19,7 +20,8 @@ use Rattle.gtp_match.specs.Unanswered.{none_unanswered}
 use Rattle.gtp_match.specs.Script.{script}
 use Rattle.gtp_match.specs.Sides.{new_incarnation}
 use Rattle.gtp_match.specs.Sound.{IsIdle}
-use Rattle.gtp_match.proofs.NextLemmas.{IdleTests, idle_tests_of, tests_of, next_live, at_idle, at_black_down, at_white_down, at_black_script_left, at_white_script_left}
+use Rattle.gtp_match.proofs.NextLemmas.{IdleTests, idle_tests_of, tests_of, next_live, at_idle, at_black_down}
+use Rattle.gtp_match.proofs.NextLemmas.{at_white_down, at_black_script_left, at_white_script_left}
 use Rattle.gtp_match.proofs.SoundLemmas.{my_engine, idle_plan}
 use Rattle.gtp_world.specs.declared.events.Event.{Event}
 use Rattle.gtp_world.specs.declared.events.Event.TheVariants.{Act, ToEngine, ToController}
@@ -197,7 +199,8 @@ module _ {B W : Type 0} (mb : SidePolicies B) (mw : SidePolicies W) (law_b : All
       let fewer : h.black.incarnation.confirmed < length (script c.game) =
       omega (arith, less, h.black.confirmed, ap (λ (g : GameRecord). length (script g)) h.game_is) in
       let is : next c ≡ Send Black =
-      sends_black c h.black.incarnation h.white.incarnation h.none h.black.is_up h.white.is_up h.black.idle h.white.idle fewer in
+      sends_black c h.black.incarnation h.white.incarnation h.none h.black.is_up h.white.is_up
+      h.black.idle h.white.idle fewer in
       let acts : Sends Black c v.black v1.controller v1.black × (v1.white ≡ v.white) =
       subst (λ (x : Action). Acts mb mw v x v1) is a in
       let hears : SideHears Black v1.controller v2.black 100 v3.controller v3.black =
@@ -206,7 +209,8 @@ module _ {B W : Type 0} (mb : SidePolicies B) (mw : SidePolicies W) (law_b : All
       ap (λ (g : GameRecord). slice_get (script g) n) h.game_is ∙ scripted in
       let done : RoundDone Black c v3.controller v3.black n =
       round_done mb.may law_b Black c v.black
-      (bare v.white) n is h.inv h.none h.black k here v1.controller v1.black acts.0 v2.black b.0 v3.controller v3.black hears in
+      (bare v.white) n is h.inv h.none h.black k here v1.controller v1.black acts.0 v2.black b.0
+      v3.controller v3.black hears in
       record {
         world = v3;
         settling = record {
@@ -235,7 +239,8 @@ module _ {B W : Type 0} (mb : SidePolicies B) (mw : SidePolicies W) (law_b : All
       let enough : length (script c.game) ≤ h.black.incarnation.confirmed =
       omega (arith, all, h.black.confirmed, size) in
       let is : next c ≡ Send White =
-      sends_white c h.black.incarnation h.white.incarnation h.none h.black.is_up h.white.is_up h.black.idle h.white.idle enough fewer in
+      sends_white c h.black.incarnation h.white.incarnation h.none h.black.is_up h.white.is_up h.black.idle
+      h.white.idle enough fewer in
       let acts : Sends White c v.white v1.controller v1.white × (v1.black ≡ v.black) =
       subst (λ (x : Action). Acts mb mw v x v1) is a in
       let hears : SideHears White v1.controller v2.white 100 v3.controller v3.white =
@@ -246,7 +251,8 @@ module _ {B W : Type 0} (mb : SidePolicies B) (mw : SidePolicies W) (law_b : All
       flipped c Black (bare v.black) (bare v.white) h.inv in
       let done : RoundDone White c v3.controller v3.white m =
       round_done mw.may law_w White c v.white
-      (bare v.black) m is joint h.none h.white k here v1.controller v1.white acts.0 v2.white b.0 v3.controller v3.white hears in
+      (bare v.black) m is joint h.none h.white k here v1.controller v1.white acts.0 v2.white b.0
+      v3.controller v3.white hears in
       record {
         world = v3;
         settling = record {
@@ -422,7 +428,8 @@ module _ {B W : Type 0} (mb : SidePolicies B) (mw : SidePolicies W) (law_b : All
           game_is = h.game_is;
           black = h.black;
           white =
-              stays_ready old.controller.sides.white.up h.world.controller.sides.white.up old.white h.world.white u.confirmed h.others h.white (up_ready old.controller.sides.white.up u old.white is idle running);
+              stays_ready old.controller.sides.white.up h.world.controller.sides.white.up old.white h.world.white
+              u.confirmed h.others h.white (up_ready old.controller.sides.white.up u old.white is idle running);
         };
         black_is = h.left;
         white_is = left_of old.controller.game u idle ∙ sym (ap (script_left old.controller.game) is);

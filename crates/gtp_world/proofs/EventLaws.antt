@@ -1,5 +1,6 @@
 -- What one event puts down, takes and leaves.
-use Rattle.std.proofs.Common.{◌≡◌, ℕ, ◌+◌, List, [], ◌++◌, length, take, drop, Option, Some, None, refl, sym, ◌∙◌, ap, subst, arith, append_assoc}
+use Rattle.std.proofs.Common.{◌≡◌, ℕ, ◌+◌, List, [], ◌++◌, length, take, drop, Option, Some, None, refl, sym, ◌∙◌, ap}
+use Rattle.std.proofs.Common.{subst, arith, append_assoc}
 use Rattle.std.specs.Prelude.{◌≢◌}
 use Rattle.std.proofs.Math.Seq.{take-add}
 use Rattle.std.proofs.lemmas.List.{drop-drop}
@@ -23,10 +24,14 @@ use Rattle.gtp_match.specs.Next.{next}
 use Rattle.gtp_match.specs.Sides.{side_of}
 use Rattle.gtp_world.specs.declared.events.Event.TheVariants.{Act, BrokenWrite, ToEngine, ToController, Crash, End}
 use Rattle.gtp_world.specs.Lane.{Lane, SidePolicies, ReadsWhereRunning, LaneReads, crash_left, crashed_lane}
-use Rattle.gtp_world.specs.World.{World, opening, lane_where_up, HearsWhereUp, SideHears, Acts, BreaksOff, SideIsLost, LosesWhereUp}
+use Rattle.gtp_world.specs.World.{World, opening, lane_where_up, HearsWhereUp, SideHears, Acts, BreaksOff, SideIsLost}
+use Rattle.gtp_world.specs.World.{LosesWhereUp}
 use Rattle.gtp_world.specs.Worlds.{game_in}
 use Rattle.gtp_world.specs.Joined.{BareLane, bare, body_of, bare_empty, IsJoinedSide, IsJoined}
-use Rattle.gtp_world.specs.EventLaws.{IsDown, HasNothing, SameLane, IsCrashed, side_of_action, EndsPutDown, BrokenWritesPutDown, BrokenWritesAreAlike, DownHasNothing, CrashesStopAndCut, CrashesNeedAnEngine, OthersStay, ReadingsTakeTheirCount, HearingsTakeTheirCount, NoByteHeardIsNothing, CutsOfReadingsJoin}
+use Rattle.gtp_world.specs.EventLaws.{IsDown, HasNothing, SameLane, IsCrashed, side_of_action, EndsPutDown}
+use Rattle.gtp_world.specs.EventLaws.{BrokenWritesPutDown, BrokenWritesAreAlike, DownHasNothing, CrashesStopAndCut}
+use Rattle.gtp_world.specs.EventLaws.{CrashesNeedAnEngine, OthersStay, ReadingsTakeTheirCount, HearingsTakeTheirCount}
+use Rattle.gtp_world.specs.EventLaws.{NoByteHeardIsNothing, CutsOfReadingsJoin}
 use Rattle.gtp_world.proofs.Happenings.{opening_has, runs_keep}
 
 -- ---- a side that is lost is down

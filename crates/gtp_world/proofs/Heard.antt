@@ -1,5 +1,7 @@
 -- A reply that the controller hears keeps what joins it to the engines.
-use Rattle.std.proofs.Common.{◌≡◌, ℕ, ◌+◌, ◌≤◌, Bool, true, false, List, [], ◌∷◌, ◌++◌, length, drop, Option, Some, None, Result, Ok, Err, refl, ap, sym, ◌∙◌, subst, arith, append_assoc, length-append, inl, inr, add-one, cond}
+use Rattle.std.proofs.Common.{◌≡◌, ℕ, ◌+◌, ◌≤◌, Bool, true, false, List, [], ◌∷◌, ◌++◌, length, drop, Option, Some}
+use Rattle.std.proofs.Common.{None, Result, Ok, Err, refl, ap, sym, ◌∙◌, subst, arith, append_assoc, length-append, inl}
+use Rattle.std.proofs.Common.{inr, add-one, cond}
 use Rattle.std.specs.Prelude.{◌⊎◌, ◌==◌, IfSome}
 use Rattle.std.specs.List.{AllByRecursion}
 use Rattle.std.proofs.lemmas.Bool.Decides.{nat_tests}
@@ -52,9 +54,11 @@ use Rattle.gtp_world.proofs.Replay.{GoesWellOn, well_at, after_one_more, script_
 use Rattle.gtp_world.proofs.Exchange.{owes_replies}
 use Rattle.gtp_world.proofs.Invariant.{joint_put}
 use Rattle.gtp_world.proofs.Sides.{live_any, judged_any, alike, Brings, arrives, quiet_or_first}
-use Rattle.gtp_world.specs.Exchange.{CanBeWritten, Answered, reply_with_id, reply_bytes, replayed, Owes, AllMayBeSent, all_reply_bytes}
+use Rattle.gtp_world.specs.Exchange.{CanBeWritten, Answered, reply_with_id, reply_bytes, replayed, Owes, AllMayBeSent}
+use Rattle.gtp_world.specs.Exchange.{all_reply_bytes}
 use Rattle.gtp_session.specs.CommandAnswers.{after_command, GoesWell}
-use Rattle.gtp_world.specs.Joined.{EngineBody, BareLane, WillReadWhereRunning, CutByCrash, IsJoinedInPlay, IsJoinedAtEnd, IsJoinedSide, IsFair, AreJoined, bare_empty}
+use Rattle.gtp_world.specs.Joined.{EngineBody, BareLane, WillReadWhereRunning, CutByCrash, IsJoinedInPlay}
+use Rattle.gtp_world.specs.Joined.{IsJoinedAtEnd, IsJoinedSide, IsFair, AreJoined, bare_empty}
 use Rattle.std.proofs.Math.Seq.{drop-length}
 
 -- ---- what is kept reads alike
@@ -468,7 +472,8 @@ module _ (c : Controller) (s : Colour) (u : Incarnation) (e : Option EngineBody)
       let r =
       replied_keeps c s u e te
       (drop k.used
-      (b ∷ x) ++ y) lo sound none up idle theirs k.reply k.more mine.waiting mine.ahead mine.cut mine.few owes mine.fit mine.may k.left mine.runs mine.uncut in
+      (b ∷ x) ++ y) lo sound none up idle theirs k.reply k.more mine.waiting mine.ahead mine.cut mine.few owes mine.fit
+      mine.may k.left mine.runs mine.uncut in
       subst (λ (n : ℕ). Keeps n (fault_of (outcome c.game s (oldest u.unanswered) k.reply))
       (after_outcome c s (heard_reply u) (outcome c.game s (oldest u.unanswered) k.reply))) (sym is) r
     where
@@ -486,7 +491,8 @@ module _ (c : Controller) (s : Colour) (u : Incarnation) (e : Option EngineBody)
   up_keeps used fault c2 h =
       by_bytes used fault c2 (arrives mine.begun b x y mine.cut mine.replies
       (owes_replies
-      (replayed c.game u.confirmed) u.unanswered mine.replies mine.waiting mine.ahead mine.owes) mine.begun_quiet mine.arriving) h
+      (replayed c.game u.confirmed) u.unanswered mine.replies mine.waiting mine.ahead mine.owes)
+      mine.begun_quiet mine.arriving) h
     where
       by_bytes : (used : ℕ) (fault : Option SideFault) (c2 : Controller)
           → TellsNothing (mine.begun ++ b ∷ x) ⊎ Brings mine.begun (b ∷ x) y mine.cut mine.replies
@@ -499,7 +505,9 @@ module _ (c : Controller) (s : Colour) (u : Incarnation) (e : Option EngineBody)
       by_bytes used fault c2 (inr k) (HearsUp.nothing_yet {kept = kept} tells keeps) =
           absurd (quiet_or_first _ _ _ tells (as_reader (length (reply_bytes k.reply)) (Ok k.reply) k.first))
       by_bytes used fault c2 (inr k) (HearsUp.faulted {shown = shown} first) =
-          absurd (let same = one_first (mine.begun ++ b ∷ x) (length u.rest + used) (length (reply_bytes k.reply)) (Err shown) (Ok k.reply) (as_begun (length u.rest + used) (Err shown) first) k.first in let bad : Err shown ≡ Ok k.reply = same.1 in cc bad)
+          absurd (let same = one_first (mine.begun ++ b ∷ x) (length u.rest + used) (length (reply_bytes k.reply))
+          (Err shown) (Ok k.reply) (as_begun (length u.rest + used) (Err shown) first) k.first in
+          let bad : Err shown ≡ Ok k.reply = same.1 in cc bad)
       by_bytes used fault c2 (inr k) (HearsUp.replied {value = value} first) =
           let same =
           one_first (mine.begun ++ b ∷ x) (length u.rest + used) (length (reply_bytes k.reply)) (Ok value) (Ok k.reply)

@@ -1,5 +1,6 @@
 -- A round of a side: a script command goes out, is read and answered, and its answer is heard. It is confirmed.
-use Rattle.std.proofs.Common.{◌≡◌, ℕ, ◌+◌, ◌≤◌, true, List, [], ◌∷◌, ◌++◌, length, drop, Option, Some, None, Ok, Err, slice_get, refl, sym, ◌∙◌, ap, subst, arith, length-append, lit≤}
+use Rattle.std.proofs.Common.{◌≡◌, ℕ, ◌+◌, ◌≤◌, true, List, [], ◌∷◌, ◌++◌, length, drop, Option, Some, None, Ok, Err}
+use Rattle.std.proofs.Common.{slice_get, refl, sym, ◌∙◌, ap, subst, arith, length-append, lit≤}
 use Rattle.std.specs.List.{AllByRecursion}
 use Rattle.std.proofs.lemmas.List.{append-nil}
 use Rattle.std.proofs.lemmas.List.Elements.{recursion_from_All}
@@ -11,7 +12,8 @@ use Rattle.go_base.specs.declared.colours.Colour.TheVariants.{Black, White}
 use Rattle.go_base.proofs.HandicapLemmas.{handicap_sound}
 use Rattle.go_board.specs.Game.{GameRecord}
 use Rattle.gtp_wire.specs.declared.commands.Command.{Command}
-use Rattle.gtp_wire.specs.declared.commands.Command.TheVariants.{Boardsize, Komi, ClearBoard, FixedHandicap, Play, Genmove, Quit}
+use Rattle.gtp_wire.specs.declared.commands.Command.TheVariants.{Boardsize, Komi, ClearBoard, FixedHandicap, Play}
+use Rattle.gtp_wire.specs.declared.commands.Command.TheVariants.{Genmove, Quit}
 use Rattle.gtp_wire.specs.declared.replies.Reply.{Reply}
 use Rattle.gtp_wire.specs.Replies.{IsReply, IsFirst}
 use Rattle.gtp_wire.proofs.ReplyLaws.{one_first, reply_is_first}
@@ -166,7 +168,8 @@ module _ (c : Controller) (s : Colour) (u : Incarnation) (o : SentCommand) (b : 
         ap (after_outcome c s (heard_reply u)) outcome_is,
       )
   up_confirms used fault c2 (HearsUp.faulted {shown = shown} told) =
-      absurd (let same = one_first (u.rest ++ tc) (length u.rest + used) (length (reply_bytes owed.reply)) (Err shown) (Ok owed.reply) told first in let bad : Err shown ≡ Ok owed.reply = same.1 in cc bad)
+      absurd (let same = one_first (u.rest ++ tc) (length u.rest + used) (length (reply_bytes owed.reply)) (Err shown)
+      (Ok owed.reply) told first in let bad : Err shown ≡ Ok owed.reply = same.1 in cc bad)
   up_confirms used fault c2 (HearsUp.nothing_yet quiet keeps) =
       absurd (quiet_or_first (u.rest ++ tc) (length (reply_bytes owed.reply)) (Ok owed.reply) quiet first)
 
@@ -184,9 +187,14 @@ module _ (c : Controller) (s : Colour) (u : Incarnation) (o : SentCommand) (b : 
       by_bytes : (bytes : List ℕ) → tc ≡ bytes → (fault : Option SideFault) (c2 : Controller)
           → HearsAll s c bytes fault c2 → c2 ≡ confirmed_by c s (heard_reply u)
       by_bytes bytes is fault c2 HearsAllBy.used_up =
-          absurd (let bad : owed.reply ∷ [] ≡ [] = no_replies_left (owed.reply ∷ []) mine.begun (is_reply, tt) mine.begun_quiet (sym (append-nil mine.begun) ∙ ap (λ (t : List ℕ). mine.begun ++ t) (sym is) ∙ owed.text ∙ sym (append-nil (reply_bytes owed.reply))) in cc bad)
+          absurd (let bad : owed.reply ∷ [] ≡ [] =
+          no_replies_left (owed.reply ∷ []) mine.begun (is_reply, tt) mine.begun_quiet
+          (sym (append-nil mine.begun) ∙ ap (λ (t : List ℕ). mine.begun ++ t) (sym is) ∙ owed.text
+          ∙ sym (append-nil (reply_bytes owed.reply))) in cc bad)
       by_bytes bytes is fault c2 (HearsAllBy.faulty {shown = shown} used some h) =
-          absurd (let bad : Some shown ≡ None = (one_confirms used (Some shown) c2 (subst (λ (t : List ℕ). Hears c s t used (Some shown) c2) (sym is) h)).1 in cc bad)
+          absurd (let bad : Some shown ≡ None =
+          (one_confirms used (Some shown) c2 (subst
+          (λ (t : List ℕ). Hears c s t used (Some shown) c2) (sym is) h)).1 in cc bad)
       by_bytes bytes is fault c2 (HearsAllBy.goes_on {mid = mid} used some h more) =
           let done : Confirmed used None mid =
           one_confirms used None mid (subst (λ (t : List ℕ). Hears c s t used None mid) (sym is) h) in

@@ -54,7 +54,8 @@ bare_empty = record { engine = None; to_engine = []; to_controller = [] }
 
 -- A running engine is at this game, and its rest with the bytes on their way to it are these commands: the rest reads,
 -- with every text after it, as the part of a command that was read, and the bytes on their way are all that follows.
-pub record WillRead (engine : EngineBody) (coming : List ℕ) (ahead : GameRecord) (waiting : List SentCommand) : Type 0 where
+pub record WillRead (engine : EngineBody) (coming : List ℕ) (ahead : GameRecord)
+    (waiting : List SentCommand) : Type 0 where
   pub going : engine.ended ≡ false
   pub game : engine.game ≡ ahead
   -- the bytes read since the last whole line

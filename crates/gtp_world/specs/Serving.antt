@@ -3,6 +3,7 @@ use Rattle.std.specs.Prelude.{◌≡◌, ℕ, ◌+◌, ◌*◌, ◌≤◌, List,
 use Rattle.gtp_wire.specs.Lines.{lines}
 use Rattle.gtp_session.specs.Policy.{May}
 use Rattle.gtp_session.specs.Engine.{Engine, Engages}
+use Rattle.gtp_world.specs.World.{most_to_controller}
 
 -- an engine reads these bytes, and what it writes goes behind what is there
 pub record Serves {P : Type 0} (may : May P) (old : Engine P) (bytes : List ℕ) (new : Engine P)
@@ -11,13 +12,11 @@ pub record Serves {P : Type 0} (may : May P) (old : Engine P) (bytes : List ℕ)
   pub engages : Engages may old bytes new written
   pub appended : after ≡ before ++ written
 
--- what a running engine may still write to these bytes has room
+-- the most bytes of one reply
 abbrev pub most_reply : ℕ
 most_reply = 2048
 
-abbrev pub most_to_controller : ℕ
-most_to_controller = 16384
-
+-- what a running engine may still write to these bytes has room
 abbrev pub HasReplyRoom : {P : Type 0} → Option (Engine P) → List ℕ → List ℕ → Type 0
 HasReplyRoom None bytes out = Unit {0}
 HasReplyRoom (Some engine) bytes out =

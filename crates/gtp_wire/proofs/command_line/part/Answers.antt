@@ -7,4 +7,5 @@ use Rattle.gtp_wire.proofs.command_line.part.Goals as goal
 pub returns : goal.returns
 returns c =
     nth_from_yields_List c.nth.result c.nth.new.self c.args.number c.nth.ensures.ran
-    (YieldsList-from_slice_split _ is_space c.args.text.now c.split.ensures.rest c.split.ensures.done c.split.ensures.closure (λ x r q k. search (rules, tests)))
+    (YieldsList-from_slice_split _ is_space c.args.text.now c.split.ensures.rest c.split.ensures.done
+    c.split.ensures.closure (λ x r q k. search (rules, tests)))

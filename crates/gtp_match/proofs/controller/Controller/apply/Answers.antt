@@ -9,7 +9,8 @@ pub returns-in-Moves-clause-applied : goal.returns-in-Moves-clause-applied
 returns-in-Moves-clause-applied c =
     let may : MayBe c.args.self.now.game c.args.side (Moves c.in-Moves.vertex) =
     subst (λ (o : Outcome). MayBe c.args.self.now.game c.args.side o) c.in-Moves.is c.requires.outcome in
-    applied_move c.args.self.now c.args.side c.in-Moves.vertex c.args.outcome c.play.new.self c.confirm-in-Moves.new.self
+    applied_move c.args.self.now c.args.side c.in-Moves.vertex c.args.outcome c.play.new.self
+    c.confirm-in-Moves.new.self
     c.verdict_after-self.result c.in-Moves.is
     (is_played c.args.self.now.game c.play.new.self c.args.side c.in-Moves.vertex c.play.result may.0 may.1
     c.play.ensures.played c.play.ensures.answer)

@@ -1,7 +1,8 @@
 use Rattle.std.proofs.Common.{◌∙◌, sym, ap}
 use Rattle.gtp_match.specs.declared.verdicts.Action.TheVariants.{Send}
 use Rattle.gtp_match.specs.Controller.{to_move}
-use Rattle.gtp_match.proofs.NextLemmas.{idle_tests_of, at_black_down, at_white_down, at_black_script_left, at_white_script_left, at_none}
+use Rattle.gtp_match.proofs.NextLemmas.{idle_tests_of, at_black_down, at_white_down, at_black_script_left}
+use Rattle.gtp_match.proofs.NextLemmas.{at_white_script_left, at_none}
 use Rattle.gtp_match.proofs.controller.Controller.next_idle.Goals as goal
 
 pub returns-then-is_down : goal.returns-then-is_down
@@ -42,4 +43,5 @@ returns c =
     (sym c.is_down.ensures ∙ c.if-is_down.false)
     (sym c.is_down-2.ensures ∙ c.if-is_down-2.false)
     (sym (c.has_script_left.ensures c.args.self.now.game c.script_len-commands.ensures) ∙ c.if-has_script_left.false)
-    (sym (c.has_script_left-2.ensures c.args.self.now.game c.script_len-commands.ensures) ∙ c.if-has_script_left-2.false)
+    (sym (c.has_script_left-2.ensures c.args.self.now.game c.script_len-commands.ensures)
+    ∙ c.if-has_script_left-2.false)

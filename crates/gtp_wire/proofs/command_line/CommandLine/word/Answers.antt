@@ -17,8 +17,10 @@ pub returns-in_err-checked_add : goal.returns-in_err-checked_add
 returns-in_err-checked_add c =
     let small : length c.self.inside.text.items < 2 ^ 64 = rw c.deref-2.ensures.0 at c.deref-2.type_inv.0 in
     rw (← c.self.view_is, c.from_residual.ensures)
-    (word_past c.self.inside.id c.self.inside.text.items c.args.number c.self.invariant.joined c.self.invariant.some (grind rules)
-    (elim (cases_lt (c.args.number + 1) 18446744073709551616) [ inl h ↦ absurd (c.in_err-checked_add.ensures h) | inr h ↦ omega arith ]))
+    (word_past c.self.inside.id c.self.inside.text.items c.args.number c.self.invariant.joined
+    c.self.invariant.some (grind rules)
+    (elim (cases_lt (c.args.number + 1) 18446744073709551616)
+    [ inl h ↦ absurd (c.in_err-checked_add.ensures h) | inr h ↦ omega arith ]))
 
 pub returns : goal.returns
 returns c =

@@ -1,7 +1,8 @@
-use Rattle.std.proofs.Common.{◌≡◌, ◌+◌, ◌<◌, ◌≤◌, length, ap, arith}
+use Rattle.std.proofs.Common.{◌+◌, ◌<◌, ◌≤◌, length, ap, arith}
 use Rattle.gtp_wire.specs.Replies.{most_reply_bytes}
 use Rattle.gtp_wire.specs.declared.reply_reader.Step.TheVariants.{To, End, Fault}
-use Rattle.gtp_wire.proofs.ReplyReadingLemmas.{without_fault, quiet_at, reading_fits, leads_nowhere, next_reaches, next_overlong, leads_all}
+use Rattle.gtp_wire.proofs.ReplyReadingLemmas.{without_fault, quiet_at, reading_fits, leads_nowhere, next_reaches}
+use Rattle.gtp_wire.proofs.ReplyReadingLemmas.{next_overlong}
 use Rattle.gtp_wire.proofs.reply_reader.ReplyReader.scan.Goals as goal
 
 pub overflow_sub-room : goal.overflow_sub-room
@@ -21,7 +22,8 @@ returns-then-i-room c =
     record {
       within = omega arith;
       all = tt;
-      reached = next_overlong c.args.self.now c.args.input.now c.loop-i.i c.loop-i.phase (omega arith) full c.loop-i.invariant;
+      reached = next_overlong c.args.self.now c.args.input.now c.loop-i.i c.loop-i.phase
+          (omega arith) full c.loop-i.invariant;
     }
 
 pub returns-in-End : goal.returns-in-End
@@ -42,7 +44,8 @@ returns-in-Fault c =
     record {
       within = omega arith;
       all = tt;
-      reached = next_reaches c.args.self.now c.args.input.now c.loop-i.i c.loop-i.phase (Fault c.in-Fault.fault) (omega arith) room
+      reached = next_reaches c.args.self.now c.args.input.now c.loop-i.i c.loop-i.phase
+          (Fault c.in-Fault.fault) (omega arith) room
           c.loop-i.invariant c.in-Fault.ensures;
     }
 
