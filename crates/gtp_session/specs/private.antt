@@ -1,4 +1,4 @@
--- What no reader has to believe: proofs that the choices of the policies are lawful, and what functions inside the crate
--- say of one another.
+-- What no reader has to believe: proofs that the choices of the policies are lawful, and what functions inside the
+-- crate say of one another.
 pub mod Lawful
 pub mod Outcome
