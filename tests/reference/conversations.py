@@ -81,12 +81,12 @@ def komi_word(r):
     return r.choice([b"", b"", b"+", b"-"]) + whole + r.choice(fractions)
 
 
-def book_text(r, places):
-    """A book of so many places, or now and then a text that is nearly one."""
+def book_text(r, entries):
+    """A book of so many entries, or now and then a text that is nearly one."""
     widest = r.choice([2, 3, 5, 9, 25])
     odd = r.choice([0, 0, 0, 0, 0.02])
     words = []
-    for _ in range(places):
+    for _ in range(entries):
         kind = r.random()
         if kind < odd:
             words.append(r.choice([*NEARLY_VERTICES, b" ", b" A1", b"A1 ", b"resignn", b"A1;B2", b"A1\t"]))

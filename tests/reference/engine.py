@@ -197,12 +197,12 @@ def argument(arguments, number, read):
 
 def start(policy, seed, book):
     """The engine that the options start, or None where the book is no book, whatever the policy is (own)."""
-    places = policies.read_book(book)
-    if places is None:
+    entries = policies.read_book(book)
+    if entries is None:
         return None
     if policy == "first":
         return Engine(policies.First())
-    return Engine(policies.Random(seed) if policy == "random" else policies.Book(places))
+    return Engine(policies.Random(seed) if policy == "random" else policies.Book(entries))
 
 
 def run(policy, seed, book, data):

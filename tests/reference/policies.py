@@ -7,7 +7,7 @@ from . import values
 from .values import PASS
 
 RESIGN = "resign"
-MOST_PLACES = 2000
+MOST_ENTRIES = 2000
 
 
 def candidates(game, colour):
@@ -43,37 +43,37 @@ class Random:
 
 
 class Book:
-    """The place that has the number of the record's moves, counted from 0; a pass where that place is missing or empty, or a vertex
+    """The entry that has the number of the record's moves, counted from 0; a pass where that entry is missing or empty, or a vertex
     that isn't legal."""
 
-    def __init__(self, places):
-        self.places = places
+    def __init__(self, entries):
+        self.entries = entries
 
     def choose(self, game, colour):
         number = len(game.moves)
-        place = self.places[number] if number < len(self.places) else None
-        if place == RESIGN:
+        entry = self.entries[number] if number < len(self.entries) else None
+        if entry == RESIGN:
             return RESIGN
-        if place is None or game.after(colour, place) is None:
+        if entry is None or game.after(colour, entry) is None:
             return PASS
-        return place
+        return entry
 
 
 def read_book(text):
-    """The places of a book, each a vertex, RESIGN, or None for an empty one; None where the text is no book.
+    """The entries of a book, each a vertex, RESIGN, or None for an empty one; None where the text is no book.
 
-    Places are separated by commas; each is a vertex, resign in capital or small letters, or nothing. The empty text is a book of one
-    empty place. A book has at most 2,000 places.
+    Entries are separated by commas; each is a vertex, resign in capital or small letters, or nothing. The empty text is a book of one
+    empty entry. A book has at most 2,000 entries.
     """
     spelled = text.split(b",")
-    places = [read_place(place) for place in spelled]
-    if len(places) > MOST_PLACES or any(read is None and place != b"" for place, read in zip(spelled, places)):
+    entries = [read_entry(entry) for entry in spelled]
+    if len(entries) > MOST_ENTRIES or any(read is None and entry != b"" for entry, read in zip(spelled, entries)):
         return None
-    return places
+    return entries
 
 
-def read_place(text):
-    """A place of a book; None where it is empty, or where the text spells none."""
+def read_entry(text):
+    """An entry of a book; None where it is empty, or where the text spells none."""
     return RESIGN if text.lower() == b"resign" else values.read_vertex(text)
 
 

@@ -17,7 +17,7 @@ use Rattle.gtp_session.specs.declared.commands.CommandName.{CommandName}
 use Rattle.gtp_session.specs.declared.commands.CommandName.TheVariants.{ProtocolVersion, Name, Version, KnownCommand, ListCommands, Quit, Boardsize, ClearBoard, Komi, Play, Genmove, FixedHandicap, Undo, FinalScore, Showboard}
 use Rattle.gtp_session.specs.Commands.{Answer, answer, asked, id_of, argument, command_of, succeeds, fails, answer_move, answer_choice, answer_genmove, answer_to, answer_to_named, asked_by_command, asked_by_named, asked_by_genmove}
 use Rattle.gtp_session.specs.Engine.{State, WrittenReply, Step}
-use Rattle.gtp_session.specs.Laws.{AllowsLawful}
+use Rattle.gtp_session.proofs.Policies.{AllowsLawful}
 use Rattle.gtp_session.proofs.MoveLemmas.{room_test}
 use Rattle.gtp_session.proofs.NameLemmas.{asks_genmove}
 

@@ -11,7 +11,7 @@ use Rattle.go_base.specs.Decide.{holds}
 use Rattle.go_board.specs.Game.{GameRecord}
 use Rattle.gtp_session.specs.Candidate.{IsCandidate}
 use Rattle.gtp_session.specs.Candidates.{row_points, points_of, candidates}
-use Rattle.gtp_session.specs.private.DecideCandidates.{candidate?}
+use Rattle.gtp_session.specs.decisions.Candidate.{candidate?}
 
 -- ---- a row
 

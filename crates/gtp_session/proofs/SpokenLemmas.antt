@@ -33,7 +33,7 @@ use Rattle.gtp_session.specs.Commands.{Answer, answer, answer_to_named, answer_k
 use Rattle.gtp_session.specs.private.Outcome.{Executes}
 use Rattle.gtp_session.specs.Engine.{Engine, State, WrittenReply, Step, Answers, Replies}
 use Rattle.gtp_session.specs.Engine.Answers.{none, over, more}
-use Rattle.gtp_session.specs.Laws.{AllowsLawful}
+use Rattle.gtp_session.proofs.Policies.{AllowsLawful}
 use Rattle.gtp_session.specs.Spoken.{HasIntId, IsLawfulAt, IsSpoken, reply_of_answer}
 use Rattle.gtp_session.proofs.TextLemmas.{vertex_fits, handicap_fits, shown_fits, score_fits}
 

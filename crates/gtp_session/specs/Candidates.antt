@@ -8,7 +8,7 @@ use Rattle.go_base.specs.Decide.{holds}
 use Rattle.go_board.specs.Game.{GameRecord}
 use Rattle.go_base.specs.declared.choices.Choice.{Choice}
 use Rattle.go_base.specs.declared.choices.Choice.TheVariants.{Play}
-use Rattle.gtp_session.specs.private.DecideCandidates.{candidate?}
+use Rattle.gtp_session.specs.decisions.Candidate.{candidate?}
 
 -- the points of a row, from column A on
 abbrev pub row_points : ℕ → ℕ → List ℕ
@@ -23,6 +23,6 @@ unfoldable pub candidates : GameRecord → Colour → List ℕ
 candidates game colour = filter (λ p. holds (candidate? game colour p)) (points_of game.size)
 
 -- the play on a point, or a pass where there is none
-abbrev pub chosen : Option ℕ → Choice
-chosen (Some p) = Play (At p)
-chosen None = Play Pass
+abbrev pub play_or_pass : Option ℕ → Choice
+play_or_pass (Some p) = Play (At p)
+play_or_pass None = Play Pass

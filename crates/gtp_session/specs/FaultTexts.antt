@@ -34,15 +34,19 @@ SpellsFault (Cut number kept) text = SpellsCut number kept text
 SpellsFault (Junk number) text = SpellsNumbered (codes "junk:") number text
 SpellsFault (Flood number) text = SpellsNumbered (codes "flood:") number text
 
--- what stands before the first colon (58)
+-- `:`
+abbrev pub colon : ℕ
+colon = 58
+
+-- what stands before the first colon
 abbrev pub before_colon : List ℕ → List ℕ
 before_colon [] = []
-before_colon (b ∷ bs) = if b == 58 then [] else b ∷ before_colon bs
+before_colon (b ∷ bs) = if b == colon then [] else b ∷ before_colon bs
 
 -- what stands from the first colon on
 abbrev pub from_colon : List ℕ → List ℕ
 from_colon [] = []
-from_colon (b ∷ bs) = if b == 58 then b ∷ bs else from_colon bs
+from_colon (b ∷ bs) = if b == colon then b ∷ bs else from_colon bs
 
 -- what stands behind the first byte, where there is one
 abbrev pub behind_first : List ℕ → Option (List ℕ)

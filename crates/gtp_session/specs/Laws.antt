@@ -8,16 +8,10 @@ use Rattle.go_board.specs.Game.{GameRecord, HasRoom, IsLegal, with_move}
 use Rattle.go_board.specs.Refusals.{IsTouched}
 use Rattle.gtp_wire.specs.Replies.{written_reply}
 use Rattle.gtp_wire.specs.declared.lines.Line.{Line}
-use Rattle.gtp_session.specs.Policy.{May, IsLawful}
+use Rattle.gtp_session.specs.Policy.{May}
 use Rattle.go_base.specs.declared.choices.Choice.{Choice}
 use Rattle.gtp_session.specs.Commands.{answer, asked, id_of, succeeds, answer_move, answer_handicap, written_vertices}
 use Rattle.gtp_session.specs.Engine.{State, WrittenReply, Step}
-
--- every choice that the relation allows is lawful
-abbrev pub AllowsLawful : {P : Type 0} → May P → Type 0
-AllowsLawful {P} may =
-    (old : P) (game : GameRecord) (colour : Colour) (choice : Choice) (new : P)
-    → may old game colour choice new → IsLawful game colour choice
 
 -- where a line asks no policy, its answer doesn't depend on a choice
 abbrev pub ChoicesDoNotCount : Type 0

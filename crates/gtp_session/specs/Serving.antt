@@ -1,5 +1,5 @@
 -- What a call of `serve` says of its engine, its reader and its writer.
-use Rattle.std.specs.Prelude.{◌≡◌, ◌≢◌, ◌+◌, ◌≤◌, ℕ, Bool, true, false, List, Option, Result, Ok, Err}
+use Rattle.std.specs.Prelude.{◌≡◌, ◌≢◌, ◌+◌, ◌≤◌, ℕ, true, false, Result, Ok, Err}
 use Rattle.std.specs.Io.KnownBytes.{IsAtEnd}
 use Rattle.gtp_session.specs.declared.fault.Fault.{Fault}
 use Rattle.gtp_session.specs.declared.serve.Served.{Served}
@@ -9,25 +9,13 @@ use Rattle.gtp_session.specs.declared.serve.ServeFault.TheVariants.{Read, Write,
 use Rattle.gtp_session.specs.Policy.{May}
 use Rattle.gtp_session.specs.Counts.{raised}
 use Rattle.gtp_session.specs.Conversation.{GivesAtLeast}
+use Rattle.gtp_session.specs.Streams.{Source, Sink}
 use Rattle.gtp_session.specs.Engine.{Engine}
 use Rattle.gtp_session.specs.Faults.{BentConversation, StoppedConversation, BrokenBentConversation}
 
--- what a reader tells: the bytes that it will give, where they are known, its reads, and how many of them failed
-pub record Reader : Type 0 where
-  pub gives : Option (List ℕ)
-  pub reads : ℕ
-  pub failures : ℕ
-
--- what a writer tells: the bytes that it holds, where they are known, how many of its calls failed, and whether what it
--- took waits for a flush
-pub record Writer : Type 0 where
-  pub holds : Option (List ℕ)
-  pub failures : ℕ
-  pub waiting : Bool
-
 -- The engine held a conversation under the fault, of so many reads at most, which came out so.
 pub record CameOut {P : Type 0} (may : May P) (fault : Fault) (most : ℕ) (old new : Engine P)
-    (served : Result Served ServeFault) (reader reader_now : Reader) (writer writer_now : Writer) : Type 0 where
+    (served : Result Served ServeFault) (reader reader_now : Source) (writer writer_now : Sink) : Type 0 where
   -- What the reader gave was answered, and the writer took what goes out of each reply. So many genmoves succeeded.
   pub answers : served ≢ Err Write → served ≢ Ok Stopped → (genmoves : ℕ) × BentConversation may fault
       old new genmoves reader.gives reader_now.gives writer.holds writer_now.holds

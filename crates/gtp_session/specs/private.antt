@@ -1,5 +1,4 @@
--- What no reader has to believe: decisions of what the other files define, proofs that the choices of the policies are
--- lawful, and what functions inside the crate say of one another.
-pub mod DecideCandidates
+-- What no reader has to believe: proofs that the choices of the policies are lawful, and what functions inside the
+-- crate say of one another.
 pub mod Lawful
 pub mod Outcome

@@ -1,7 +1,7 @@
 //! The policy that reads its choices from a book.
 ghost use Rattle.std.specs.Prelude.{◌≡◌, length, slice_get};
-ghost use Rattle.gtp_session.specs.Book.{place_of, book_of};
-ghost use Rattle.gtp_session.specs.private.Lawful.{lawful_place};
+ghost use Rattle.gtp_session.specs.Book.{entry_of, book_of};
+ghost use Rattle.gtp_session.specs.private.Lawful.{lawful_entry};
 ghost use Rattle.gtp_session.specs.Policies.{book_may};
 
 use crate::policy::{Choice, Policy};
@@ -10,12 +10,12 @@ use go_base::{Colour, Vertex};
 use go_board::Game;
 use std::marker::Model;
 
-/// The most places of a book: as many as a record has moves.
-pub const MOST_PLACES: usize = 2000;
+/// The most entries of a book: as many as a record has moves.
+pub const MOST_ENTRIES: usize = 2000;
 
-/// A place of a book.
+/// An entry of a book.
 #[derive(Clone, Copy, Debug, PartialEq, Eq)]
-pub enum Place {
+pub enum Entry {
     /// To pass.
     Empty,
     /// To resign.
@@ -24,66 +24,66 @@ pub enum Place {
     Play(Vertex),
 }
 
-impl Place {
-    /// Reads a place: a vertex, `resign` in small or capital letters, or nothing. `None` for any other text.
-    pub fn read(text: &[u8]) -> Option<Place>
-        ensures { result ≡ place_of text.now }
+impl Entry {
+    /// Reads an entry: a vertex, `resign` in small or capital letters, or nothing. `None` for any other text.
+    pub fn read(text: &[u8]) -> Option<Entry>
+        ensures { result ≡ entry_of text.now }
     {
         if text.is_empty() {
-            return Some(Place::Empty);
+            return Some(Entry::Empty);
         }
-        let place = match Choice::read(text)? {
-            Choice::Resign => Place::Resign,
-            Choice::Play(vertex) => Place::Play(vertex),
+        let entry = match Choice::read(text)? {
+            Choice::Resign => Entry::Resign,
+            Choice::Play(vertex) => Entry::Play(vertex),
         };
-        Some(place)
+        Some(entry)
     }
 }
 
-impl Default for Place {
-    ghost use Rattle.gtp_session.specs.declared.book.Place.{Place};
+impl Default for Entry {
+    ghost use Rattle.gtp_session.specs.declared.book.Entry.{Entry};
 
-    ghost is_default = { λ place. place ≡ Place.Empty };
+    ghost is_default = { λ entry. entry ≡ Entry.Empty };
 
-    /// An empty place.
-    fn default() -> Place {
-        Place::Empty
+    /// An empty entry.
+    fn default() -> Entry {
+        Entry::Empty
     }
 }
 
-/// Chooses what stands at the place that has the number of the record's moves, counted from 0.
+/// Chooses what stands at the entry that has the number of the record's moves, counted from 0.
 ///
-/// Where that place is missing, empty, or a vertex that isn't legal, it passes.
+/// Where that entry is missing, empty, or a vertex that isn't legal, it passes.
 #[derive(Drop)]
 pub struct Book {
-    places: ArrayVec<Place, MOST_PLACES>,
+    entries: ArrayVec<Entry, MOST_ENTRIES>,
 }
 
 impl Model for Book {
     ghost use Rattle.std.specs.Prelude.{List};
-    ghost use Rattle.gtp_session.specs.declared.book.Place.{Place};
+    ghost use Rattle.gtp_session.specs.declared.book.Entry.{Entry};
 
-    ghost Value = { List Place };
+    ghost Value = { List Entry };
 
-    ghost view = { λ b. b.places.items };
+    ghost view = { λ b. b.entries.items };
 }
 
 impl Book {
-    /// Reads a book: places separated by commas. The empty text is a book of one empty place.
+    /// Reads a book: entries separated by commas. The empty text is a book of one empty entry.
     ///
-    /// `None` where a place can't be read, and for more than 2,000 places.
+    /// `None` where an entry can't be read, and for more than 2,000 entries.
     pub fn read(text: &[u8]) -> Option<Book>
         ensures { result ≡ book_of text.now }
     {
-        let mut places = ArrayVec::new();
+        let mut entries = ArrayVec::new();
         for part in text.split(|byte| *byte == b',') {
-            let place = Place::read(part)?;
-            if places.is_full() {
+            let entry = Entry::read(part)?;
+            if entries.is_full() {
                 return None;
             }
-            places.push(place);
+            entries.push(entry);
         }
-        Some(Book { places })
+        Some(Book { entries })
     }
 }
 
@@ -91,13 +91,13 @@ impl Policy for Book {
     ghost may = { book_may };
 
     fn choose(&mut self, game: &Game, colour: Colour) -> Choice {
-        match self.places.as_slice().get(game.moves().len()) {
-            Some(Place::Resign) => Choice::Resign,
-            Some(Place::Play(vertex)) if game.legal(colour, *vertex) => Choice::Play(*vertex),
+        match self.entries.as_slice().get(game.moves().len()) {
+            Some(Entry::Resign) => Choice::Resign,
+            Some(Entry::Play(vertex)) if game.legal(colour, *vertex) => Choice::Play(*vertex),
             _ => Choice::Play(Vertex::Pass),
         }
     }
 
     ghost lawful = { λ old game colour choice new e.
-        lawful_place game colour (slice_get old (length game.moves)) choice e.0 };
+        lawful_entry game colour (slice_get old (length game.moves)) choice e.0 };
 }

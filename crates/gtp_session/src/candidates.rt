@@ -5,7 +5,7 @@ ghost use Rattle.go_base.specs.Point.{point, IsCrossing};
 ghost use Rattle.go_base.specs.Size.{most_size};
 ghost use Rattle.go_base.specs.Colour.{other};
 ghost use Rattle.gtp_session.specs.Candidate.{IsOpen, HasOpenNeighbour, IsCandidate};
-ghost use Rattle.gtp_session.specs.Candidates.{row_points, points_of, candidates, chosen};
+ghost use Rattle.gtp_session.specs.Candidates.{row_points, points_of, candidates, play_or_pass};
 
 use crate::policy::Choice;
 use arrayvec::ArrayVec;
@@ -46,8 +46,8 @@ pub(crate) fn first_candidate(game: &Game, colour: Colour) -> Option<Point>
 }
 
 /// The play on this point, or a pass where there is none.
-pub(crate) fn chosen(point: Option<Point>) -> Choice
-    ensures { result ≡ chosen point }
+pub(crate) fn play_or_pass(point: Option<Point>) -> Choice
+    ensures { result ≡ play_or_pass point }
 {
     match point {
         Some(point) => Choice::Play(Vertex::At(point)),

@@ -2,7 +2,7 @@
 ghost use Rattle.gtp_session.specs.private.Lawful.{lawful_candidate};
 ghost use Rattle.gtp_session.specs.Policies.{first_may};
 
-use crate::candidates::{chosen, first_candidate};
+use crate::candidates::{first_candidate, play_or_pass};
 use crate::policy::{Choice, Policy};
 use go_base::Colour;
 use go_board::Game;
@@ -18,7 +18,7 @@ impl Policy for First {
     ghost may = { first_may };
 
     fn choose(&mut self, game: &Game, colour: Colour) -> Choice {
-        chosen(first_candidate(game, colour))
+        play_or_pass(first_candidate(game, colour))
     }
 
     ghost lawful = { λ old game colour choice new e. lawful_candidate game colour 0 choice e };

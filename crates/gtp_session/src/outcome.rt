@@ -5,7 +5,7 @@ ghost use Rattle.go_base.specs.Vertex.{written_vertex};
 ghost use Rattle.go_base.specs.declared.vertices.Vertex.TheVariants.{At};
 ghost use Rattle.gtp_wire.specs.Replies.{most_text_bytes, written_reply};
 ghost use Rattle.gtp_session.specs.Commands.{written_vertices};
-ghost use Rattle.gtp_session.specs.private.Outcome.{text_of, told};
+ghost use Rattle.gtp_session.specs.private.Outcome.{text_of, answer_of};
 
 use crate::commands::all_names;
 use arrayvec::ArrayVec;
@@ -40,8 +40,8 @@ const VERTICES_ROOM: usize = 44;
 
 /// Puts the reply of a command that left this game in place of what `reply` holds.
 pub(crate) fn write_outcome(outcome: &Outcome, game: &Game, id: Option<u32>, reply: &mut ReplyText)
-    requires { length (told game.now outcome.now).text ≤ most_text_bytes }
-    ensures { let answer = told game.now outcome.now in
+    requires { length (answer_of game.now outcome.now).text ≤ most_text_bytes }
+    ensures { let answer = answer_of game.now outcome.now in
         reply.new.items ≡ written_reply answer.ok id answer.text }
 {
     match outcome {

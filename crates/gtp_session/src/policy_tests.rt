@@ -1,5 +1,5 @@
 //! What the policies choose.
-use crate::book::{Book, MOST_PLACES, Place};
+use crate::book::{Book, Entry, MOST_ENTRIES};
 use crate::candidates::candidates;
 use crate::first::First;
 use crate::laws;
@@ -235,12 +235,12 @@ fn random_without_a_candidate_draws_no_word(rt: HostRuntime) -> Result<(), Fail>
 
 #[test]
 fn one_place_of_a_book_is_a_vertex_resign_or_nothing(rt: HostRuntime) -> Result<(), Fail> {
-    assert_eq!(rt; Place::read(b""), Some(Place::Empty));
-    assert_eq!(rt; Place::read(b"pAsS"), Some(Place::Play(Vertex::Pass)));
-    assert_eq!(rt; Place::read(b"ReSiGn"), Some(Place::Resign));
-    assert_eq!(rt; Place::read(b"c3"), Some(Place::Play(vertex(b"C3")?)));
+    assert_eq!(rt; Entry::read(b""), Some(Entry::Empty));
+    assert_eq!(rt; Entry::read(b"pAsS"), Some(Entry::Play(Vertex::Pass)));
+    assert_eq!(rt; Entry::read(b"ReSiGn"), Some(Entry::Resign));
+    assert_eq!(rt; Entry::read(b"c3"), Some(Entry::Play(vertex(b"C3")?)));
     for text in [b" ".as_slice(), b"C3 ", b"D44", b"I5", b"resigns", b"C3;D4"] {
-        assert_eq!(rt; Place::read(text), None);
+        assert_eq!(rt; Entry::read(text), None);
     }
     Ok(())
 }
@@ -264,14 +264,14 @@ fn a_book_with_a_bad_place_is_none(rt: HostRuntime) {
 }
 
 #[test]
-fn a_book_has_at_most_2000_places(rt: HostRuntime) -> Result<(), Fail> {
+fn a_book_has_at_most_2000_entries(rt: HostRuntime) -> Result<(), Fail> {
     let mut text = Vec::new(rt.alloc());
-    text.resize(MOST_PLACES - 1, b',')?;
+    text.resize(MOST_ENTRIES - 1, b',')?;
     assert!(rt; Book::read(&text).is_some());
     text.extend_from_slice(b"resign")?;
     let mut book = Book::read(&text).ok_or("book")?;
     let mut game = fresh(1)?;
-    for _ in 1..MOST_PLACES {
+    for _ in 1..MOST_ENTRIES {
         assert_eq!(rt; choose_and_play(&mut book, &mut game, Colour::Black)?, PASS);
     }
     assert_eq!(rt; book.choose(&game, Colour::Black), Choice::Resign);
@@ -297,7 +297,7 @@ fn a_book_is_read_by_the_length_of_the_record(rt: HostRuntime) -> Result<(), Fai
         choose_and_play(&mut book, &mut game, Colour::Black)?,
         Choice::Resign
     );
-    // Past its last place it passes.
+    // Past its last entry it passes.
     game.play(Colour::Black, Vertex::Pass)?;
     assert_eq!(rt; choose_and_play(&mut book, &mut game, Colour::White)?, PASS);
     // Taking moves back turns its pages back.

@@ -4,7 +4,7 @@ ghost use Rattle.gtp_session.specs.Random.{generator_of};
 ghost use Rattle.gtp_session.specs.private.Lawful.{lawful_draw};
 ghost use Rattle.gtp_session.specs.Policies.{random_may};
 
-use crate::candidates::{candidates, chosen};
+use crate::candidates::{candidates, play_or_pass};
 use crate::policy::{Choice, Policy};
 use go_base::{Colour, Vertex};
 use go_board::Game;
@@ -52,7 +52,7 @@ impl Policy for Random {
         // The word that `next_u64` gives; the contract of this call tells the state after it too.
         let word = self.generator.next_word();
         let number = word % all.len() as u64;
-        chosen(all.get(number as usize).copied())
+        play_or_pass(all.get(number as usize).copied())
     }
 
     ghost lawful = { λ old game colour choice new e. lawful_draw game colour old choice new e };

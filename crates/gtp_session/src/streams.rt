@@ -1,9 +1,8 @@
 //! Readers and writers that count their calls.
-ghost use Rattle.std.specs.Prelude.{◌≡◌, ℕ, ◌<◌, List, length, Bool, false, IfOk, OnOk, OnErr};
-ghost use Rattle.std.specs.declared.option.Option.{Option};
+ghost use Rattle.std.specs.Prelude.{◌≡◌, ◌<◌, length, false, IfOk, OnOk, OnErr};
 ghost use Rattle.std.specs.Io.{ReadsAtMost, WritesAtMost};
-ghost use Rattle.std.specs.Io.KnownBytes.{Appends, ReadConsumes, WriteAppends, Keeps};
-ghost use Rattle.gtp_session.specs.Conversation.{TakesPart};
+ghost use Rattle.std.specs.Io.KnownBytes.{ReadConsumes, WriteAppends, Keeps};
+ghost use Rattle.gtp_session.specs.Streams.{Source, Sink, TookWhole, TookPart};
 ghost use Rattle.gtp_session.specs.Counts.{raised, failures_after, waiting_after_write, waiting_after_flush};
 
 use std::io::{Read, Write};
@@ -20,49 +19,46 @@ pub struct Broken;
 
 /// A reader that counts its reads and those that failed. Each count stays at its greatest value, 2^64 - 1.
 pub trait Incoming {
-    // The bytes that reads will give from here on, where they are known.
-    ghost remaining: { Self → Option (List ℕ) };
-
-    // How many reads were made.
-    ghost reads: { Self → ℕ };
-
-    // How many of them failed.
-    ghost failures: { Self → ℕ };
+    // The bytes that reads will give from here on, where they are known, how many reads were made, and how many of them
+    // failed.
+    ghost shown: { Self → Source };
 
     /// Reads into the front of the buffer, and answers how many bytes. `Ok(0)` from a read into a buffer that has room
     /// is the end of the input. Any failure of the reader is `Broken`.
     fn read(&mut self, buffer: &mut [u8]) -> Result<usize, Broken>
         ensures bound { ReadsAtMost result buffer.new }
-        ensures bytes { ReadConsumes (remaining self.old) (remaining self.new) result buffer.new }
-        ensures reads { reads self.new ≡ raised (reads self.old) 1 }
-        ensures failures { failures self.new ≡ failures_after (failures self.old) result };
+        ensures bytes { ReadConsumes (shown self.old).gives (shown self.new).gives
+            result buffer.new }
+        ensures reads { (shown self.new).reads ≡ raised (shown self.old).reads 1 }
+        ensures failures { (shown self.new).failures
+            ≡ failures_after (shown self.old).failures result };
 }
 
 /// A writer that counts the calls that failed, and tells whether what it took waits for a flush.
 pub trait Outgoing {
-    // The bytes that the writer holds, where they are known.
-    ghost contents: { Self → Option (List ℕ) };
-
-    // How many writes and flushes failed.
-    ghost failures: { Self → ℕ };
-
-    // Whether a byte that was taken waits for a flush.
-    ghost waiting: { Self → Bool };
+    // The bytes that the writer holds, where they are known, how many writes and flushes failed, and whether a byte
+    // that was taken waits for a flush.
+    ghost shown: { Self → Sink };
 
     /// Takes bytes from the front of the text, and answers how many: at least one of a text that is not empty, or it
     /// fails. What it took waits for a flush.
     fn write(&mut self, text: &[u8]) -> Result<usize, Broken>
         ensures bound { WritesAtMost result text.now }
-        ensures progress { IfOk result (λ taken. 0 < length text.now → 0 < taken) }
-        ensures bytes { WriteAppends (contents self.old) (contents self.new) result text.now }
-        ensures failures { failures self.new ≡ failures_after (failures self.old) result }
-        ensures waiting { waiting self.new ≡ waiting_after_write (waiting self.old) result };
+        ensures progress { IfOk result (λ count. 0 < length text.now → 0 < count) }
+        ensures bytes { WriteAppends (shown self.old).holds (shown self.new).holds
+            result text.now }
+        ensures failures { (shown self.new).failures
+            ≡ failures_after (shown self.old).failures result }
+        ensures waiting { (shown self.new).waiting
+            ≡ waiting_after_write (shown self.old).waiting result };
 
     /// Hands on what it took. A flush that fails leaves it waiting.
     fn flush(&mut self) -> Result<(), Broken>
-        ensures bytes { Keeps (contents self.old) (contents self.new) }
-        ensures failures { failures self.new ≡ failures_after (failures self.old) result }
-        ensures waiting { waiting self.new ≡ waiting_after_flush (waiting self.old) result };
+        ensures bytes { Keeps (shown self.old).holds (shown self.new).holds }
+        ensures failures { (shown self.new).failures
+            ≡ failures_after (shown self.old).failures result }
+        ensures waiting { (shown self.new).waiting
+            ≡ waiting_after_flush (shown self.old).waiting result };
 }
 
 /// Writes the text and flushes it.
@@ -71,17 +67,13 @@ pub trait Outgoing {
 ///
 /// `Broken` where a write or the flush failed; the writer then took a front of the text.
 pub fn send<W: Outgoing>(writer: &mut W, text: &[u8]) -> Result<(), Broken>
-    ensures whole { OnOk result (Appends (W.contents writer.old) (W.contents writer.new) text.now) }
-    ensures part { OnErr result
-        (TakesPart text.now (W.contents writer.old) (W.contents writer.new)) }
-    ensures held { OnOk result (W.failures writer.new ≡ W.failures writer.old) }
-    ensures failed { OnErr result (W.failures writer.new ≡ raised (W.failures writer.old) 1) }
-    ensures flushed { OnOk result (W.waiting writer.new ≡ false) }
+    ensures sent { OnOk result (TookWhole text.now (W.shown writer.old) (W.shown writer.new)) }
+    ensures broke { OnErr result (TookPart text.now (W.shown writer.old) (W.shown writer.new)) }
 {
     let mut done = 0;
     while done < text.len() {
         match writer.write(&text[done..]) {
-            Ok(taken) => done += taken,
+            Ok(count) => done += count,
             Err(broken) => return Err(broken),
         }
     }
@@ -122,11 +114,8 @@ impl<T> Counted<T> {
 }
 
 impl<T: Read> Incoming for Counted<T> {
-    ghost remaining = { λ c. T.remaining c.inner };
-
-    ghost reads = { λ c. c.reads };
-
-    ghost failures = { λ c. c.failures };
+    ghost shown = { λ c.
+        record { gives = T.remaining c.inner; reads = c.reads; failures = c.failures } };
 
     fn read(&mut self, buffer: &mut [u8]) -> Result<usize, Broken> {
         self.reads = self.reads.saturating_add(1);
@@ -141,17 +130,14 @@ impl<T: Read> Incoming for Counted<T> {
 }
 
 impl<T: Write> Outgoing for Counted<T> {
-    ghost contents = { λ c. T.contents c.inner };
-
-    ghost failures = { λ c. c.failures };
-
-    ghost waiting = { λ c. c.waiting };
+    ghost shown = { λ c.
+        record { holds = T.contents c.inner; failures = c.failures; waiting = c.waiting } };
 
     fn write(&mut self, text: &[u8]) -> Result<usize, Broken> {
         match self.inner.write(text) {
-            Ok(taken) if taken > 0 || text.is_empty() => {
-                self.waiting = self.waiting || taken > 0;
-                Ok(taken)
+            Ok(count) if count > 0 || text.is_empty() => {
+                self.waiting = self.waiting || count > 0;
+                Ok(count)
             }
             _ => {
                 self.failures = self.failures.saturating_add(1);

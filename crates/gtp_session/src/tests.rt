@@ -36,7 +36,8 @@ fn writer_of<'a>(
     Counted::new(Limited { taken, room, step })
 }
 
-/// A fresh engine with the first policy answers the input, in pieces of these sizes, with the output, and ends like this.
+/// A fresh engine with the first policy answers the input, in pieces of these sizes, with the output, and ends like
+/// this.
 pub fn assert_serves(
     rt: &impl Abort,
     input: &[u8],

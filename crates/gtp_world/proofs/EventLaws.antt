@@ -7,7 +7,7 @@ use Rattle.std.proofs.lemmas.List.{drop-drop}
 use Rattle.go_base.specs.declared.colours.Colour.{Colour}
 use Rattle.go_base.specs.declared.colours.Colour.TheVariants.{Black, White}
 use Rattle.go_board.specs.Game.{GameRecord}
-use Rattle.gtp_session.specs.Laws.{AllowsLawful}
+use Rattle.gtp_session.proofs.Policies.{AllowsLawful}
 use Rattle.gtp_session.specs.Policy.{May}
 use Rattle.gtp_session.specs.Engine.{Engine, Engages, output_of}
 use Rattle.gtp_session.proofs.EngineLemmas.{Replies-then}

@@ -18,7 +18,7 @@ use Rattle.gtp_wire.specs.declared.replies.Reply.{Reply}
 use Rattle.gtp_wire.specs.Replies.{IsReply, IsFirst}
 use Rattle.gtp_wire.proofs.ReplyLaws.{one_first, reply_is_first}
 use Rattle.gtp_session.proofs.TextLemmas.{short-vertices, few_handicap_points}
-use Rattle.gtp_session.specs.Laws.{AllowsLawful}
+use Rattle.gtp_session.proofs.Policies.{AllowsLawful}
 use Rattle.gtp_session.specs.Policy.{May}
 use Rattle.gtp_session.specs.Engine.{Engine, fresh_game}
 use Rattle.gtp_match.specs.declared.unanswered.SentCommand.{SentCommand}

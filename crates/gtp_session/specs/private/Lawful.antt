@@ -11,13 +11,13 @@ use Rattle.rand_pcg.specs.Lcg.{Lcg}
 use Rattle.rand_pcg.specs.Pcg.{pcg64}
 use Rattle.go_base.specs.declared.choices.Choice.{Choice}
 use Rattle.go_base.specs.declared.choices.Choice.TheVariants as choice
-use Rattle.gtp_session.specs.declared.book.Place.{Place}
-use Rattle.gtp_session.specs.declared.book.Place.TheVariants.{Empty, Resign, Play}
+use Rattle.gtp_session.specs.declared.book.Entry.{Entry}
+use Rattle.gtp_session.specs.declared.book.Entry.TheVariants.{Empty, Resign, Play}
 use Rattle.gtp_session.specs.Policy.{IsLawful}
 use Rattle.go_base.specs.Decide.{holds}
 use Rattle.gtp_session.specs.Candidate.{IsCandidate}
-use Rattle.gtp_session.specs.Candidates.{points_of, candidates, chosen}
-use Rattle.gtp_session.specs.private.DecideCandidates.{candidate?}
+use Rattle.gtp_session.specs.Candidates.{points_of, candidates, play_or_pass}
+use Rattle.gtp_session.specs.decisions.Candidate.{candidate?}
 use Rattle.gtp_session.specs.Random.{MayDraw}
 use Rattle.gtp_session.specs.Book.{choice_at}
 
@@ -45,16 +45,16 @@ candidates-are game colour k p e =
     fact (candidate? game colour p) (passes (λ p. holds (candidate? game colour p)) (points_of game.size) k p e)
 
 -- a candidate of any number, or a pass
-chosen-lawful : (game : GameRecord) (colour : Colour) (k : ℕ) (point : Option ℕ)
-    → slice_get (candidates game colour) k ≡ point → IsLawful game colour (chosen point)
-chosen-lawful game colour k None e = tt
-chosen-lawful game colour k (Some p) e = (candidates-are game colour k p e).legal
+play_or_pass-lawful : (game : GameRecord) (colour : Colour) (k : ℕ) (point : Option ℕ)
+    → slice_get (candidates game colour) k ≡ point → IsLawful game colour (play_or_pass point)
+play_or_pass-lawful game colour k None e = tt
+play_or_pass-lawful game colour k (Some p) e = (candidates-are game colour k p e).legal
 
 pub lawful_candidate : (game : GameRecord) (colour : Colour) (k : ℕ) (choice : Choice)
-    → choice ≡ chosen (slice_get (candidates game colour) k) → IsLawful game colour choice
+    → choice ≡ play_or_pass (slice_get (candidates game colour) k) → IsLawful game colour choice
 lawful_candidate game colour k choice e =
     subst (λ (c : Choice). IsLawful game colour c) (sym e)
-    (chosen-lawful game colour k (slice_get (candidates game colour) k) refl)
+    (play_or_pass-lawful game colour k (slice_get (candidates game colour) k) refl)
 
 pub lawful_draw : (game : GameRecord) (colour : Colour) (old : Lcg) (choice : Choice) (new : Lcg)
     → MayDraw (candidates game colour) old choice new → IsLawful game colour choice
@@ -65,21 +65,21 @@ lawful_draw game colour old choice new = by_list (candidates game colour) refl
     by_list (p ∷ ps) e m =
         let word = (pcg64 old).0 in
         lawful_candidate game colour (word % length (p ∷ ps)) choice
-        (subst (λ (l : List ℕ). choice ≡ chosen (slice_get l (word % length (p ∷ ps)))) e m.0)
+        (subst (λ (l : List ℕ). choice ≡ play_or_pass (slice_get l (word % length (p ∷ ps)))) e m.0)
 
 legal_or_pass : (game : GameRecord) (colour : Colour) (vertex : Vertex) (d : Dec (IsLegal game colour vertex))
     → IsLawful game colour (elim d [ yes _ ↦ choice.Play vertex | no _ ↦ choice.Play Pass ])
 legal_or_pass game colour vertex (yes l) = l
 legal_or_pass game colour vertex (no k) = tt
 
-choice_at-lawful : (game : GameRecord) (colour : Colour) (place : Option Place)
-    → IsLawful game colour (choice_at game colour place)
+choice_at-lawful : (game : GameRecord) (colour : Colour) (entry : Option Entry)
+    → IsLawful game colour (choice_at game colour entry)
 choice_at-lawful game colour None = tt
 choice_at-lawful game colour (Some Empty) = tt
 choice_at-lawful game colour (Some Resign) = tt
 choice_at-lawful game colour (Some (Play vertex)) = legal_or_pass game colour vertex (legal? game colour vertex)
 
-pub lawful_place : (game : GameRecord) (colour : Colour) (place : Option Place) (choice : Choice)
-    → choice ≡ choice_at game colour place → IsLawful game colour choice
-lawful_place game colour place choice e =
-    subst (λ (c : Choice). IsLawful game colour c) (sym e) (choice_at-lawful game colour place)
+pub lawful_entry : (game : GameRecord) (colour : Colour) (entry : Option Entry) (choice : Choice)
+    → choice ≡ choice_at game colour entry → IsLawful game colour choice
+lawful_entry game colour entry choice e =
+    subst (λ (c : Choice). IsLawful game colour c) (sym e) (choice_at-lawful game colour entry)

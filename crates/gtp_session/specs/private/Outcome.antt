@@ -25,13 +25,13 @@ text_of game (text.Score half_points) = score_text half_points
 text_of game text.Board = board_text game
 
 -- the text of a success or a failure
-abbrev pub said : GameRecord → Result Text (Bor (List ℕ)) → List ℕ
-said game (Ok text) = text_of game text
-said game (Err bytes) = bytes.now
+abbrev pub text_of_outcome : GameRecord → Result Text (Bor (List ℕ)) → List ℕ
+text_of_outcome game (Ok text) = text_of game text
+text_of_outcome game (Err bytes) = bytes.now
 
 -- the answer that an outcome is, where its command leaves this game
-abbrev pub told : GameRecord → Result Text (Bor (List ℕ)) → Answer
-told game outcome = record { game = game; ok = is_ok outcome; text = said game outcome }
+abbrev pub answer_of : GameRecord → Result Text (Bor (List ℕ)) → Answer
+answer_of game outcome = record { game = game; ok = is_ok outcome; text = text_of_outcome game outcome }
 
 -- The answer was given: this is the game after it, and these are the bytes of the reply.
 pub record Leaves (given : Answer) (id : Option ℕ) (game : GameRecord) (reply : List ℕ) : Type 0 where

@@ -2,7 +2,7 @@ use Rattle.std.proofs.Common.{rules, ◌≡◌, ◌∙◌, ℕ, Option, Some, re
 use Rattle.gtp_wire.specs.Replies.{written_reply}
 use Rattle.gtp_session.specs.declared.commands.CommandName.TheVariants.{Genmove}
 use Rattle.gtp_session.specs.Commands.{syntax_error}
-use Rattle.gtp_session.specs.private.Outcome.{told}
+use Rattle.gtp_session.specs.private.Outcome.{answer_of}
 use Rattle.gtp_session.proofs.EngineLemmas.{executed_genmove}
 use Rattle.gtp_session.proofs.SpokenLemmas.{executed_fits}
 use Rattle.gtp_session.proofs.answers.answer.Goals as goal
@@ -10,7 +10,7 @@ use Rattle.gtp_session.proofs.answers.answer.Goals as goal
 pub write_outcome-requires-in-Command : goal.write_outcome-requires-in-Command
 write_outcome-requires-in-Command g c =
     executed_fits g.P.Policy.may g.met.P.Policy.lawful c.args.policy.now c.execute-outcome.new.policy c.args.game.now
-    c.named_command-command.result c.in-Command.line.words (told c.execute-outcome.new.game c.execute-outcome.result)
+    c.named_command-command.result c.in-Command.line.words (answer_of c.execute-outcome.new.game c.execute-outcome.result)
     c.size.ensures.game.size c.execute-outcome.ensures
 
 pub returns-in-TooLong-clause-executes : goal.returns-in-TooLong-clause-executes
@@ -20,7 +20,7 @@ returns-in-TooLong-clause-executes g c =
 
 pub returns-then-eq-clause-executes : goal.returns-then-eq-clause-executes
 returns-then-eq-clause-executes g c =
-    let given = told c.execute-outcome.new.game c.execute-outcome.result in
+    let given = answer_of c.execute-outcome.new.game c.execute-outcome.result in
     rw (c.in-Command.is, ← c.named_command-command.ensures) (
       given,
       (
@@ -38,12 +38,12 @@ returns-then-eq-clause-genmove g c =
     rw (c.in-Command.is, ← c.named_command-command.ensures)
     (c.is_ok.ensures.value
     ∙ executed_genmove g.P.Policy.may c.args.policy.now c.execute-outcome.new.policy c.args.game.now
-    c.named_command-command.result c.in-Command.line.words (told c.execute-outcome.new.game c.execute-outcome.result)
+    c.named_command-command.result c.in-Command.line.words (answer_of c.execute-outcome.new.game c.execute-outcome.result)
     named c.execute-outcome.ensures)
 
 pub returns-else-eq-clause-executes : goal.returns-else-eq-clause-executes
 returns-else-eq-clause-executes g c =
-    let given = told c.execute-outcome.new.game c.execute-outcome.result in
+    let given = answer_of c.execute-outcome.new.game c.execute-outcome.result in
     rw (c.in-Command.is, ← c.named_command-command.ensures) (
       given,
       (

@@ -5,12 +5,12 @@ use Rattle.gtp_session.proofs.serve.serve.Given as goal
 
 abbrev pub invariant-loop-turn : goal.invariant-loop-turn
 invariant-loop-turn g l = record {
-  conversation : Conversation g.P.Policy.may l.fn.session l.session (g.R.Incoming.remaining l.fn.reader) (g.R.Incoming.remaining l.reader)
-      (g.W.Outgoing.contents l.fn.writer) (g.W.Outgoing.contents l.writer);
+  conversation : Conversation g.P.Policy.may l.fn.session l.session (g.R.Incoming.shown l.fn.reader).gives (g.R.Incoming.shown l.reader).gives
+      (g.W.Outgoing.shown l.fn.writer).holds (g.W.Outgoing.shown l.writer).holds;
   open_still : l.session.ended ≡ false;
-  reads : g.R.Incoming.reads l.reader ≡ raised (g.R.Incoming.reads l.fn.reader) l._turn;
-  gave : GivesAtLeast (g.R.Incoming.remaining l.fn.reader) (g.R.Incoming.remaining l.reader) l._turn;
-  read_held : g.R.Incoming.failures l.reader ≡ g.R.Incoming.failures l.fn.reader;
-  write_held : g.W.Outgoing.failures l.writer ≡ g.W.Outgoing.failures l.fn.writer;
-  flushed : g.W.Outgoing.waiting l.fn.writer ≡ false → g.W.Outgoing.waiting l.writer ≡ false;
+  reads : (g.R.Incoming.shown l.reader).reads ≡ raised (g.R.Incoming.shown l.fn.reader).reads l._turn;
+  gave : GivesAtLeast (g.R.Incoming.shown l.fn.reader).gives (g.R.Incoming.shown l.reader).gives l._turn;
+  read_held : (g.R.Incoming.shown l.reader).failures ≡ (g.R.Incoming.shown l.fn.reader).failures;
+  write_held : (g.W.Outgoing.shown l.writer).failures ≡ (g.W.Outgoing.shown l.fn.writer).failures;
+  flushed : (g.W.Outgoing.shown l.fn.writer).waiting ≡ false → (g.W.Outgoing.shown l.writer).waiting ≡ false;
 }

@@ -12,21 +12,21 @@ loop-part-init c =
     (YieldsList-from_slice_split _ (λ b. b == 44) c.args.text.now
     (ap split_rest same ∙ c.split-part-items.ensures.rest) (ap split_done same ∙ c.split-part-items.ensures.done) (ap split_callee same ∙ c.split-part-items.ensures.closure)
     (λ x b q k. search rules)).runs
-    c.new-places.ensures
+    c.new-entries.ensures
 
-pub returns-in_err-place : goal.returns-in_err-place
-returns-in_err-place c =
+pub returns-in_err-entry : goal.returns-in_err-entry
+returns-in_err-entry c =
     c.from_residual.ensures
-    ∙ sym (HasRead-bad _ _ c.next.new.self _ _ c.in-Some.part c.loop-part.invariant c.in-Some.ensures.steps (sym c.in_err-place.was ∙ c.read.ensures))
+    ∙ sym (HasRead-bad _ _ c.next.new.self _ _ c.in-Some.part c.loop-part.invariant c.in-Some.ensures.steps (sym c.in_err-entry.was ∙ c.read.ensures))
 
 pub returns-then-is_full : goal.returns-then-is_full
 returns-then-is_full c =
-    sym (HasRead-full _ _ c.next.new.self _ _ c.in-Some.part c.in_ok-place.place c.loop-part.invariant c.in-Some.ensures.steps (sym c.in_ok-place.was ∙ c.read.ensures)
+    sym (HasRead-full _ _ c.next.new.self _ _ c.in-Some.part c.in_ok-entry.entry c.loop-part.invariant c.in-Some.ensures.steps (sym c.in_ok-entry.was ∙ c.read.ensures)
     (full _ c.is_full.result c.is_full.ensures.value c.if-is_full.true))
 
 pub loop-part-preserved : goal.loop-part-preserved
 loop-part-preserved c =
-    HasRead-more _ _ c.next.new.self _ _ _ c.in-Some.part c.in_ok-place.place c.loop-part.invariant c.in-Some.ensures.steps (sym c.in_ok-place.was ∙ c.read.ensures) c.push.ensures.items
+    HasRead-more _ _ c.next.new.self _ _ _ c.in-Some.part c.in_ok-entry.entry c.loop-part.invariant c.in-Some.ensures.steps (sym c.in_ok-entry.was ∙ c.read.ensures) c.push.ensures.items
     (has_room _ c.is_full.result c.is_full.ensures.value c.is_full.ensures.fits c.if-is_full.false)
 
 pub returns : goal.returns

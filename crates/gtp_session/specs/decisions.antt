@@ -1,0 +1,2 @@
+-- Decision procedures: each tells, of a definition of `specs/`, whether it holds.
+pub mod Candidate
