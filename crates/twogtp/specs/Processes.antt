@@ -1,12 +1,35 @@
 -- The processes of the sides, and what is done with the one of a side.
-use Rattle.std.specs.Prelude.{Option, Some, None}
+use Rattle.std.specs.Prelude.{◌≡◌, Option, Some, None}
+use Rattle.go_base.specs.declared.colours.Colour.{Colour}
+use Rattle.go_base.specs.declared.colours.Colour.TheVariants.{Black, White}
+use Rattle.gtp_match.specs.declared.controller.Controller.{Controller}
 use Rattle.gtp_match.specs.declared.sides.Status.{Status}
 use Rattle.gtp_match.specs.declared.sides.Status.TheVariants.{Down, Up}
+use Rattle.gtp_match.specs.Sides.{side_of, status_of}
+use Rattle.twogtp.specs.declared.sides.Sides.{Sides}
+
+-- no side has a process
+abbrev pub no_processes : {P : Type 0} → Sides P
+no_processes = record { black = None; white = None }
+
+-- the process of a side
+abbrev pub process_of : {P : Type 0} → Sides P → Colour → Option P
+process_of sides Black = sides.black
+process_of sides White = sides.white
+
+-- the process of the other side stays as it was
+abbrev pub OtherStays : {P : Type 0} → Colour → Sides P → Sides P → Type 0
+OtherStays Black before after = after.white ≡ before.white
+OtherStays White before after = after.black ≡ before.black
 
 -- a side keeps its process while it is up
 abbrev pub while_up : {P : Type 0} → Status → Option P → Option P
 while_up Down process = None
 while_up (Up confirmed unanswered asked) process = process
+
+-- the process that a side keeps in a match
+abbrev pub kept_by : {P : Type 0} → Controller → Colour → Option P → Option P
+kept_by c side process = while_up (status_of (side_of c.sides side).up) process
 
 -- Where there is a process, before and after, this was done with it; where there is none, that was done.
 abbrev pub WithProcess : {P : Type 0} → Option P → Option P → (P → P → Type 0) → Type 0 → Type 0

@@ -1,5 +1,5 @@
 -- The starts of programs that are asked for.
-use Rattle.std.specs.Prelude.{◌≡◌, ⊤, List, ◌++◌, Option, None, Some, Result, Ok, Err, map}
+use Rattle.std.specs.Prelude.{◌≡◌, ⊤, List, [], ◌∷◌, ◌++◌, Option, None, Some, Result, map}
 use Rattle.std.specs.Borrow.{Bor}
 use Rattle.clap.specs.Words.{Text}
 use Rattle.go_base.specs.declared.colours.Colour.{Colour}
@@ -16,26 +16,17 @@ abbrev pub line_for : Commands → Colour → List Text
 line_for commands Black = line_of commands.black.items
 line_for commands White = line_of commands.white.items
 
--- an attempt to start a program: its command line, and why no process was started, where none was
-pub record Attempt : Type 0 where
+-- an attempt to start a program: its command line, and the answer, the process that was started or why none was
+pub record Attempt (P : Type 0) : Type 0 where
   pub line : List Text
-  pub fault : Option StartFault
-
--- the attempt to start this command line, with this answer
-abbrev pub attempt : {P : Type 0} → List Text → Result P StartFault → Attempt
-attempt line (Ok process) = record { line = line; fault = None }
-attempt line (Err fault) = record { line = line; fault = Some fault }
-
--- an attempt to start a side's program, and why none was started
-abbrev pub attempt_for : Commands → Colour → Option StartFault → Attempt
-attempt_for commands side fault = record { line = line_for commands side; fault = fault }
+  pub answer : Result P StartFault
 
 -- the attempts that were made, where they are known
-abbrev pub Attempts : Type 0
-Attempts = Option (List Attempt)
+abbrev pub Attempts : Type 0 → Type 0
+Attempts P = Option (List (Attempt P))
 
--- known attempts grow by these
-abbrev pub Asks : Attempts → Attempts → List Attempt → Type 0
-Asks None asked attempts = ⊤
-Asks (Some before) None attempts = ⊥
-Asks (Some before) (Some after) attempts = after ≡ before ++ attempts
+-- One attempt more was made, to start this command line, with this answer. Where the attempts are known, they stay so.
+abbrev pub Tries : {P : Type 0} → Attempts P → Attempts P → List Text → Result P StartFault → Type 0
+Tries None asked line answer = ⊤
+Tries (Some before) None line answer = ⊥
+Tries (Some before) (Some after) line answer = after ≡ before ++ (record { line = line; answer = answer } ∷ [])

@@ -6,7 +6,8 @@ use Rattle.go_base.specs.Komi.{komi_of}
 use Rattle.gtp_wire.specs.Words.{words}
 use Rattle.gtp_match.specs.Setup.{setup_of, IsSetup}
 use Rattle.twogtp.specs.declared.fault.Fault.{Fault}
-use Rattle.twogtp.specs.declared.fault.Fault.TheVariants.{BadArgument, NoBlackCommand, NoWhiteCommand, BadKomi, BadHandicap, Write, OutOfMemory, TooManyTurns}
+use Rattle.twogtp.specs.declared.fault.Fault.TheVariants.{BadArgument, NoBlackCommand, NoWhiteCommand, BadKomi}
+use Rattle.twogtp.specs.declared.fault.Fault.TheVariants.{BadHandicap, Write, OutOfMemory, TooManyTurns}
 use Rattle.twogtp.specs.declared.options.Options.{Options}
 use Rattle.twogtp.specs.declared.task.Commands.{Commands}
 use Rattle.twogtp.specs.declared.task.Task.{Task}
@@ -44,8 +45,8 @@ pub record IsPlanOf (options : Options) (commands : Commands) (task : Task) : Ty
 
 -- ---- mistakes in the options
 
--- the text of komi is one, and with it the numbers are no setup: the size doesn't allow the handicap, as the command line
--- takes no other number that is past its limits
+-- the text of komi is one, and with it the numbers are no setup: the size doesn't allow the handicap, as the command
+-- line takes no other number that is past its limits
 pub record IsNoSetup (options : Options) : Type 0 where
   pub komi : ℤ
   pub spells : komi_of options.komi.now ≡ Some komi

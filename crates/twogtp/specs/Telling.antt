@@ -1,5 +1,5 @@
 -- What the program writes of its games.
-use Rattle.std.specs.Prelude.{◌≤◌, ◌⊎◌, ℕ, ◌+◌, Bool, true, false, List, [], ◌∷◌, ◌++◌, Option, None, Some}
+use Rattle.std.specs.Prelude.{◌≡◌, ◌≤◌, ◌⊎◌, ℕ, ◌+◌, Bool, true, false, List, [], ◌∷◌, ◌++◌, Option, None, Some, IfSome}
 use Rattle.std.specs.Io.KnownBytes.{Appends}
 use Rattle.go_base.specs.Bytes.{newline}
 use Rattle.clap.specs.Words.{Text}
@@ -11,12 +11,14 @@ use Rattle.gtp_match.specs.Controller.{new}
 use Rattle.gtp_match.specs.ResultLine.{result_text, record_text}
 use Rattle.twogtp.specs.declared.fault.Fault.{Fault}
 use Rattle.twogtp.specs.declared.options.Options.{Options}
+use Rattle.twogtp.specs.declared.starter.Conversation.{Ghosts}
 use Rattle.twogtp.specs.declared.task.Commands.{Commands}
 use Rattle.twogtp.specs.declared.task.Task.{Task}
-use Rattle.twogtp.specs.Options.{AsksFor, HasFault}
+use Rattle.twogtp.specs.Options.{AsksFor, AsksForText, HasFault}
 use Rattle.twogtp.specs.Pipes.{TakesPart}
-use Rattle.twogtp.specs.Starts.{Asks, Attempt, Attempts}
-use Rattle.twogtp.specs.Status.{IsRequest, done, status_with}
+use Rattle.twogtp.specs.Processes.{no_processes}
+use Rattle.twogtp.specs.Starts.{Attempts}
+use Rattle.twogtp.specs.Status.{IsRequest, done, own_fault, status_with}
 use Rattle.twogtp.specs.Tasks.{IsMistake, IsPlanOf}
 use Rattle.twogtp.specs.Turns.{HasStopped, IsPlayed}
 
@@ -36,52 +38,53 @@ result_part number c None = []
 result_part number c (Some verdict) = result_text number c verdict ++ newline ∷ []
 
 -- what is told of a game: its result line, and then the record and the board where they are asked for
-abbrev pub told : Task → ℕ → Controller → List ℕ
-told task number c = result_part number c c.verdict ++ (record_part task.record c ++ board_part task.show c)
+abbrev pub game_lines : Task → ℕ → Controller → List ℕ
+game_lines task number c = result_part number c c.verdict ++ (record_part task.record c ++ board_part task.show c)
 
--- The status of so many games, the programs that were asked for in them, and their text: each was played to its end,
--- and is told in its turn.
-pub data Tells (commands : Commands) (task : Task) : ℕ → ℕ → List Attempt → List ℕ → Type 0 where
-  no_game : Tells commands task 0 done [] []
-  game : {number status : ℕ} {attempts more : List Attempt} {text : List ℕ} {c : Controller} {verdict : Verdict}
-      → Tells commands task number status attempts text → IsPlayed commands task.setup more c verdict
-      → Tells commands task (number + 1) (status_with status verdict) (attempts ++ more)
-      (text ++ told task (number + 1) c)
+-- The status of so many games, their text, and what was asked for in them: each was played to its end, and is told in
+-- its turn.
+pub data Tells {P : Type 0} (known : Ghosts P) (commands : Commands) (task : Task) (had : Attempts P)
+    : ℕ → ℕ → List ℕ → Attempts P → Type 0 where
+  no_game : Tells known commands task had 0 done [] had
+  game : {number status : ℕ} {text : List ℕ} {between has : Attempts P} {c : Controller} {verdict : Verdict}
+      → Tells known commands task had number status text between
+      → IsPlayed known commands task.setup between has c verdict
+      → Tells known commands task had (number + 1) (status_with status verdict)
+      (text ++ game_lines task (number + 1) c) has
 
--- So many games were played, a writer took what is told of them, and what they ask for was asked for.
-pub record HasToldSome (commands : Commands) (task : Task) (number status : ℕ) (held holds : Option (List ℕ))
-    (had has : Attempts) : Type 0 where
-  pub attempts : List Attempt
+-- So many games were played, and a writer took what is told of them.
+pub record HasToldSome {P : Type 0} (known : Ghosts P) (commands : Commands) (task : Task) (number status : ℕ)
+    (held holds : Option (List ℕ)) (had has : Attempts P) : Type 0 where
   pub text : List ℕ
-  pub tells : Tells commands task number status attempts text
+  pub tells : Tells known commands task had number status text has
   pub taken : Appends held holds text
-  pub asked : Asks had has attempts
 
 -- all games were played, a writer took what is told of them, and nothing else was asked for than they ask for
-abbrev pub HasTold : Commands → Task → ℕ → Option (List ℕ) → Option (List ℕ) → Attempts → Attempts → Type 0
-HasTold commands task status held holds had has = HasToldSome commands task task.games status held holds had has
+abbrev pub HasTold : {P : Type 0} → Ghosts P → Commands → Task → ℕ → Option (List ℕ) → Option (List ℕ)
+    → Attempts P → Attempts P → Type 0
+HasTold known commands task status held holds had has =
+    HasToldSome known commands task task.games status held holds had has
 
 -- After so many games nothing more was asked for, or the next one was begun, and stopped before its end.
-pub data GoesOn (commands : Commands) (task : Task) (number : ℕ) (had : Attempts) : Attempts → Type 0 where
-  no_game_more : GoesOn commands task number had had
-  begins : {has : Attempts} {last : Controller} {fault : Fault}
-      → number + 1 ≤ task.games → HasStopped commands (new task.setup) had has last fault
-      → GoesOn commands task number had has
+pub data GoesOn {P : Type 0} (known : Ghosts P) (commands : Commands) (task : Task) (number : ℕ) (had : Attempts P)
+    : Attempts P → Type 0 where
+  no_game_more : GoesOn known commands task number had had
+  begins : {has : Attempts P} {last : Controller} {fault : Fault}
+      → number + 1 ≤ task.games → HasStopped known commands (new task.setup) no_processes had has last fault
+      → GoesOn known commands task number had has
 
 -- Some games were played, a writer took the beginning of what is told of them, and nothing else was asked for than
 -- they ask for, and the beginning of the next one.
-pub record HasBegunToTell (commands : Commands) (task : Task) (held holds : Option (List ℕ)) (had has : Attempts)
-    : Type 0 where
+pub record HasBegunToTell {P : Type 0} (known : Ghosts P) (commands : Commands) (task : Task)
+    (held holds : Option (List ℕ)) (had has : Attempts P) : Type 0 where
   pub number : ℕ
   pub status : ℕ
-  pub attempts : List Attempt
   pub text : List ℕ
+  pub between : Attempts P
   pub within : number ≤ task.games
-  pub tells : Tells commands task number status attempts text
+  pub tells : Tells known commands task had number status text between
   pub taken : TakesPart text held holds
-  pub mid : Attempts
-  pub asked : Asks had mid attempts
-  pub goes_on : GoesOn commands task number mid has
+  pub goes_on : GoesOn known commands task number between has
 
 -- ---- what the words ask for was done
 
@@ -93,16 +96,37 @@ pub record AsksForTask (words : List Text) (task : Task) : Type 0 where
   pub plan : IsPlanOf options commands task
 
 -- all games of the task that the words ask for were played and told, with this status
-pub record HasDone (words : List Text) (status : ℕ) (held holds : Option (List ℕ)) (had has : Attempts) : Type 0 where
+pub record HasDone {P : Type 0} (known : Ghosts P) (words : List Text) (status : ℕ) (held holds : Option (List ℕ))
+    (had has : Attempts P) : Type 0 where
   pub task : Task
   pub asks : AsksForTask words task
-  pub told : HasTold asks.commands task status held holds had has
+  pub told : HasTold known asks.commands task status held holds had has
 
 -- some games of the task that the words ask for were played, and what is told of them was begun
-pub record HasBegun (words : List Text) (held holds : Option (List ℕ)) (had has : Attempts) : Type 0 where
+pub record HasBegun {P : Type 0} (known : Ghosts P) (words : List Text) (held holds : Option (List ℕ))
+    (had has : Attempts P) : Type 0 where
   pub task : Task
   pub asks : AsksForTask words task
-  pub begun : HasBegunToTell asks.commands task held holds had has
+  pub begun : HasBegunToTell known asks.commands task held holds had has
+
+-- ---- texts that were asked for, and mistakes
+
+-- with status 0 a writer took the text, and with 3 a beginning of it, and nothing else
+abbrev pub IsShown : List ℕ → ℕ → Option (List ℕ) → Option (List ℕ) → Type 0
+IsShown text status held holds =
+    ((status ≡ done) × Appends held holds text) ⊎ ((status ≡ own_fault) × TakesPart text held holds)
+
+-- the same of what a value is displayed as, where that is specified
+pub record IsDisplayed (output : Option (List ℕ)) (status : ℕ) (held holds : Option (List ℕ)) : Type 0 where
+  pub text : List ℕ
+  pub is : IfSome output (λ bytes. text ≡ bytes)
+  pub shown : IsShown text status held holds
+
+-- the words ask for the help or the version, and one text was written, or the writer failed in it
+pub record HasShown (words : List Text) (status : ℕ) (held holds : Option (List ℕ)) : Type 0 where
+  pub asked : AsksForText words
+  pub text : List ℕ
+  pub shown : IsShown text status held holds
 
 -- the options that the words ask for have a mistake
 pub record AsksWrongly (words : List Text) : Type 0 where

@@ -58,6 +58,8 @@ enum Engine {
     Book(Session<Book>),
     /// Takes all that it is sent, and writes one text.
     Says,
+    /// Writes what it is sent, and nothing else.
+    Echoes,
     /// Takes all that it is sent, and can't be read.
     Mute,
     /// Its pipes are broken.
@@ -159,6 +161,7 @@ impl Conversation for Talk {
                 answer(session, text, &mut self.written)
             }
             Engine::Book(session) => answer(session, text, &mut self.written),
+            Engine::Echoes => self.written.extend_from_slice(text),
             Engine::Says | Engine::Mute => Ok(()),
             Engine::Broken => return Err(PipeFault::Broken),
         };
@@ -241,6 +244,7 @@ impl Starter for InMemory {
             ["gtp_engine", "--policy", "book"] => book_engine("")?,
             ["gtp_engine", "--policy", "book", "--book", text] => book_engine(text)?,
             ["says", ..] | ["refuses"] => Engine::Says,
+            ["echoes"] => Engine::Echoes,
             ["mute"] => Engine::Mute,
             ["broken"] => Engine::Broken,
             ["interrupted", "once"] => Engine::Interrupted(Session::new(First), 1),
@@ -256,7 +260,7 @@ impl Starter for InMemory {
             ["refuses"] => b"?1 no\n\n",
             _ => b"",
         };
-        match started_talk(self.alloc, engine, text, &self.log) {
+        match make_talk(self.alloc, engine, text, &self.log) {
             Ok(started) => Ok(started),
             Err(AllocError) => Err(StartFault::OutOfMemory),
         }
@@ -264,7 +268,7 @@ impl Starter for InMemory {
 }
 
 /// A conversation with the engine, which wrote this text at once.
-fn started_talk(alloc: Global, engine: Engine, text: &[u8], log: &Log) -> Result<Talk, AllocError> {
+fn make_talk(alloc: Global, engine: Engine, text: &[u8], log: &Log) -> Result<Talk, AllocError> {
     let mut written = Vec::new(alloc);
     written.extend_from_slice(text)?;
     Ok(Talk {

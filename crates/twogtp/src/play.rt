@@ -1,17 +1,12 @@
 //! A game between two processes.
-ghost use Rattle.std.specs.Prelude.{◌≡◌, ◌⊎◌, ⊤, None, IfOk, IfErr, OnOk, OnErr};
-ghost use Rattle.std.specs.Io.KnownBytes.{Keeps};
-ghost use Rattle.go_base.specs.declared.colours.Colour.TheVariants.{Black, White};
+ghost use Rattle.std.specs.Prelude.{◌≡◌, IfOk, IfErr, OnOk, OnErr};
 ghost use Rattle.gtp_match.specs.declared.verdicts.Action.TheVariants as action;
-ghost use Rattle.gtp_match.specs.declared.verdicts.Action.TheVariants.{Send, Wait};
-ghost use Rattle.gtp_match.specs.Controller.{lost, sent};
 ghost use Rattle.gtp_match.specs.Next.{next};
 ghost use Rattle.gtp_match.specs.Sound.{IsSound};
-ghost use Rattle.twogtp.specs.Pipes.{IsCutOff, IsUnbroken};
-ghost use Rattle.twogtp.specs.Processes.{WithProcess};
-ghost use Rattle.twogtp.specs.Speaking.{Begins, process_of, HasSpoken, HearsFrom, IsSpoken, OtherStays, SendsTo, Speaks};
+ghost use Rattle.twogtp.specs.Processes.{OtherStays, no_processes};
+ghost use Rattle.twogtp.specs.Speaking.{Hears, IsHeard, IsSent, Sends};
 ghost use Rattle.twogtp.specs.Status.{own_fault, status_of};
-ghost use Rattle.twogtp.specs.Turns.{HasPlayed, HasStopped, HasTurned, IsHeard, IsRefused, IsSent};
+ghost use Rattle.twogtp.specs.Turns.{HasPlayed, HasStopped, HasTaken, IsRefused, Turn};
 
 use crate::fault::Fault;
 use crate::pipes::{CutOff, READ_ROOM, read_once, write_whole};
@@ -34,14 +29,12 @@ pub fn play_game<S: Starter>(
     commands: &Commands<'_>,
     starter: &mut S,
 ) -> Result<Verdict, Fault>
-    ensures plays { OnOk result (HasPlayed commands.now game.old
+    ensures plays { OnOk result (HasTaken S.Process.Conversation commands.now game.old
         (S.asked starter.old) (S.asked starter.new) game.new) }
     ensures over { IfOk result (λ verdict. next game.new ≡ action.Done verdict) }
     ensures sound { IfOk result (λ verdict. IsSound game.new) }
-    ensures stopped { IfErr result (HasStopped commands.now game.old
-        (S.asked starter.old) (S.asked starter.new) game.new) }
-    ensures spoken { OnOk result (IsSpoken S.Process.taken S.Process.given S.Process.fails
-        S.Process.succeeds S.Process.flushed game.old game.new) }
+    ensures stopped { IfErr result (HasStopped S.Process.Conversation commands.now game.old
+        no_processes (S.asked starter.old) (S.asked starter.new) game.new) }
     ensures fault { IfErr result (λ fault. status_of fault ≡ own_fault) }
 {
     let mut sides = Sides::none();
@@ -63,15 +56,12 @@ fn take_turns<S: Starter>(
     commands: &Commands<'_>,
     starter: &mut S,
 ) -> Result<Verdict, Fault>
-    ensures plays { OnOk result (HasPlayed commands.now game.old
-        (S.asked starter.old) (S.asked starter.new) game.new) }
+    ensures plays { OnOk result (HasPlayed S.Process.Conversation commands.now game.old sides.old
+        (S.asked starter.old) game.new sides.new (S.asked starter.new)) }
     ensures over { IfOk result (λ verdict. next game.new ≡ action.Done verdict) }
     ensures sound { IfOk result (λ verdict. IsSound game.new) }
-    ensures stopped { IfErr result (HasStopped commands.now game.old
-        (S.asked starter.old) (S.asked starter.new) game.new) }
-    // In each turn it was spoken with the process of the side whose turn it was.
-    ensures spoken { OnOk result (HasSpoken S.Process.taken S.Process.given S.Process.fails
-        S.Process.succeeds S.Process.flushed game.old sides.old game.new sides.new) }
+    ensures stopped { IfErr result (HasStopped S.Process.Conversation commands.now game.old
+        sides.old (S.asked starter.old) (S.asked starter.new) game.new) }
     ensures fault { IfErr result (λ fault. status_of fault ≡ own_fault) }
 {
     for _turn in 0..MOST_TURNS {
@@ -98,41 +88,22 @@ fn take_turn<S: Starter>(
     starter: &mut S,
 ) -> Result<(), Fault>
     requires { next game.old ≡ action }
-    ensures turn { OnOk result (HasTurned commands.now game.old action
-        (S.asked starter.old) (S.asked starter.new) game.new) }
+    ensures turn { OnOk result (Turn S.Process.Conversation commands.now game.old action
+        sides.old (S.asked starter.old) game.new sides.new (S.asked starter.new)) }
     ensures refused { OnErr result (IsRefused commands.now game.old
         (S.asked starter.old) (S.asked starter.new)) }
     ensures unchanged { OnErr result (game.new ≡ game.old) }
-    // What is said in a turn is said with the process of the side whose turn it is.
-    ensures spoken { OnOk result (Speaks S.Process.taken S.Process.given S.Process.fails
-        S.Process.succeeds S.Process.flushed game.old action game.new sides.old sides.new) }
-    // Nothing is said to one side in the other's turn, and nothing heard of it.
-    ensures black_rests { (action ≡ Send White) ⊎ (action ≡ Wait White) →
-        sides.new.black ≡ sides.old.black }
-    ensures white_rests { (action ≡ Send Black) ⊎ (action ≡ Wait Black) →
-        sides.new.white ≡ sides.old.white }
     ensures fault { IfErr result (λ fault. fault ≡ Fault.OutOfMemory) }
 {
     match action {
-        Action::Start(side) => start(game, sides, side, commands, starter),
-        Action::Send(Side::Black) => {
-            send(game, Side::Black, &mut sides.black);
-            Ok(())
-        }
-        Action::Send(Side::White) => {
-            send(game, Side::White, &mut sides.white);
-            Ok(())
-        }
-        Action::Wait(Side::Black) => {
-            hear(game, Side::Black, &mut sides.black, buffer);
-            Ok(())
-        }
-        Action::Wait(Side::White) => {
-            hear(game, Side::White, &mut sides.white, buffer);
-            Ok(())
-        }
-        Action::Done(_) => Ok(()),
+        Action::Start(side) => return start(game, sides, side, commands, starter),
+        Action::Send(Side::Black) => send(game, Side::Black, &mut sides.black),
+        Action::Send(Side::White) => send(game, Side::White, &mut sides.white),
+        Action::Wait(Side::Black) => hear(game, Side::Black, &mut sides.black, buffer),
+        Action::Wait(Side::White) => hear(game, Side::White, &mut sides.white, buffer),
+        Action::Done(_) => {}
     }
+    Ok(())
 }
 
 /// Starts a side's process. One that can't be started counts as started and lost.
@@ -144,15 +115,13 @@ fn start<S: Starter>(
     starter: &mut S,
 ) -> Result<(), Fault>
     requires { next game.old ≡ action.Start side }
-    ensures turn { OnOk result (HasTurned commands.now game.old (action.Start side)
-        (S.asked starter.old) (S.asked starter.new) game.new) }
+    ensures turn { OnOk result (Turn S.Process.Conversation commands.now game.old
+        (action.Start side) sides.old (S.asked starter.old)
+        game.new sides.new (S.asked starter.new)) }
+    ensures rests { OtherStays side sides.old sides.new }
     ensures refused { OnErr result (IsRefused commands.now game.old
         (S.asked starter.old) (S.asked starter.new)) }
     ensures unchanged { OnErr result (game.new ≡ game.old) }
-    // Where a process is started, it is the side's; the other side keeps its own.
-    ensures begun { OnOk result (Begins game.old side game.new
-        (process_of sides.old side) (process_of sides.new side)) }
-    ensures rests { OtherStays side sides.old sides.new }
     ensures fault { IfErr result (λ fault. fault ≡ Fault.OutOfMemory) }
 {
     match starter.start(commands.of(side)) {
@@ -173,10 +142,7 @@ fn start<S: Starter>(
 /// Sends a side its command. A side that has no process is lost.
 fn send<P: Conversation>(game: &mut Match, side: Side, process: &mut Option<P>)
     requires { next game.old ≡ action.Send side }
-    ensures turn { IsSent game.old side None None ⊤ ⊤ game.new }
-    ensures spoken { WithProcess process.old process.new
-        (SendsTo P.taken P.given P.fails P.succeeds P.flushed game.old side game.new)
-        (game.new ≡ lost (sent game.old side) side) }
+    ensures { Sends P.Conversation game.old side process.old process.new game.new }
 {
     match process {
         Some(process) => send_to(game, side, process),
@@ -190,10 +156,7 @@ fn send<P: Conversation>(game: &mut Match, side: Side, process: &mut Option<P>)
 /// Writes a side's command to its process. A side that is cut off is lost.
 fn send_to<P: Conversation>(game: &mut Match, side: Side, process: &mut P)
     requires { next game.old ≡ action.Send side }
-    ensures sent { IsSent game.old side (P.taken process.old) (P.taken process.new)
-        (IsUnbroken P.fails P.succeeds process.old process.new × P.flushed process.new)
-        (IsCutOff P.fails P.succeeds process.old process.new) game.new }
-    ensures given { Keeps (P.given process.old) (P.given process.new) }
+    ensures { IsSent P.Conversation game.old side process.old process.new game.new }
 {
     let text = game.send(side);
     match write_whole(process, text.as_slice()) {
@@ -210,10 +173,7 @@ fn hear<P: Conversation>(
     buffer: &mut [u8; READ_ROOM],
 )
     requires { next game.old ≡ action.Wait side }
-    ensures turn { IsHeard game.old side None None ⊤ ⊤ game.new }
-    ensures spoken { WithProcess process.old process.new
-        (HearsFrom P.taken P.given P.fails P.succeeds P.flushed game.old side game.new)
-        (game.new ≡ lost game.old side) }
+    ensures { Hears P.Conversation game.old side process.old process.new game.new }
 {
     match process {
         Some(process) => hear_from(game, side, process, buffer),
@@ -229,10 +189,7 @@ fn hear_from<P: Conversation>(
     process: &mut P,
     buffer: &mut [u8; READ_ROOM],
 )
-    ensures heard { IsHeard game.old side (P.given process.old) (P.given process.new)
-        (IsUnbroken P.fails P.succeeds process.old process.new)
-        (IsCutOff P.fails P.succeeds process.old process.new) game.new }
-    ensures taken { Keeps (P.taken process.old) (P.taken process.new) }
+    ensures { IsHeard P.Conversation game.old side process.old process.new game.new }
 {
     match read_once(process, buffer) {
         Ok(0) => game.lost(side),

@@ -1,10 +1,10 @@
 //! The program, over any writers and any means to start processes.
-ghost use Rattle.std.specs.Prelude.{◌≡◌, ◌⊎◌, ◌≢◌, ◌<◌, ◌≤◌, map, IfOk, IfErr, OnErr};
+ghost use Rattle.std.specs.Prelude.{◌≡◌, ◌⊎◌, ◌≢◌, map, true, false, IfOk, IfErr, OnErr};
 ghost use Rattle.clap.specs.Words.{kind_of};
-ghost use Rattle.twogtp.specs.Options.{AsksForText};
-ghost use Rattle.twogtp.specs.Status.{IsStatus, IsRequest, done, some_given_up, usage_fault, own_fault};
-ghost use Rattle.twogtp.specs.Status.{status_of, status_with};
-ghost use Rattle.twogtp.specs.Telling.{HasBegun, HasBegunToTell, HasDone, HasMistake, HasTold};
+ghost use Rattle.twogtp.specs.Status.{IsStatus, IsRequest, done, some_given_up, usage_fault};
+ghost use Rattle.twogtp.specs.Status.{own_fault, status_of, status_with};
+ghost use Rattle.twogtp.specs.Telling.{HasBegun, HasBegunToTell, HasDone, HasMistake, HasShown};
+ghost use Rattle.twogtp.specs.Telling.{HasTold, IsDisplayed};
 
 use crate::fault::{Fault, tell};
 use crate::options::read_options;
@@ -13,7 +13,6 @@ use crate::play::play_game;
 use crate::starter::Starter;
 use crate::task::{Commands, Task};
 use crate::telling::{game_text, write_text};
-use clap::Error;
 use clap::error::ErrorKind;
 use gtp_match::{Match, Verdict};
 use std::alloc::Global;
@@ -40,26 +39,30 @@ pub fn run<A: AsStr, O: Write, E: Write, S: Starter>(
 ) -> u8
     ensures status { IsStatus result }
     // After a mistake in the words nothing was started, and nothing written but what the mistake is.
-    ensures usage { result ≡ usage_fault →
-        (output.new ≡ output.old) × (starter.new ≡ starter.old) × HasMistake (map A.text words.now) }
+    ensures usage { result ≡ usage_fault → HasMistake (map A.text words.now)
+        × (output.new ≡ output.old) × (starter.new ≡ starter.old) }
     ensures quiet { (result ≡ done) ⊎ (result ≡ some_given_up) → errors.new ≡ errors.old }
-    // All games of the task that the words ask for were played and told, unless they ask for help or the version.
-    ensures played { result ≡ done →
-        (AsksForText (map A.text words.now) × (starter.new ≡ starter.old))
-        ⊎ HasDone (map A.text words.now) done (O.contents output.old) (O.contents output.new)
+    // All games of the task that the words ask for were played and told; or they ask for help or
+    // the version, that was written, and nothing was started.
+    ensures played { (result ≡ done) ⊎ (result ≡ some_given_up) →
+        ((starter.new ≡ starter.old) × HasShown (map A.text words.now) result
+        (O.contents output.old) (O.contents output.new))
+        ⊎ HasDone S.Process.Conversation (map A.text words.now) result
+        (O.contents output.old) (O.contents output.new)
         (S.asked starter.old) (S.asked starter.new) }
-    ensures given_up { result ≡ some_given_up → HasDone (map A.text words.now) some_given_up
-        (O.contents output.old) (O.contents output.new) (S.asked starter.old) (S.asked starter.new) }
-    // What was written before the program had to stop is the beginning of what is told.
+    // What was written before the program had to stop is the beginning of what is told, or of the
+    // help or the version.
     ensures stopped { result ≡ own_fault →
-        ((output.new ≡ output.old) × (starter.new ≡ starter.old))
-        ⊎ (AsksForText (map A.text words.now) × (starter.new ≡ starter.old))
-        ⊎ HasBegun (map A.text words.now) (O.contents output.old) (O.contents output.new)
+        ((starter.new ≡ starter.old) × (output.new ≡ output.old))
+        ⊎ ((starter.new ≡ starter.old) × HasShown (map A.text words.now) result
+        (O.contents output.old) (O.contents output.new))
+        ⊎ HasBegun S.Process.Conversation (map A.text words.now)
+        (O.contents output.old) (O.contents output.new)
         (S.asked starter.old) (S.asked starter.new) }
 {
     let options = match read_options(alloc, words) {
         Ok(options) => options,
-        Err(error) => return answer_error(&error, output, errors),
+        Err(error) => return answer_error(alloc, error.kind(), &error, output, errors),
     };
     let plan = match plan_of(alloc, &options) {
         Ok(plan) => plan,
@@ -79,11 +82,13 @@ fn play_games<O: Write, S: Starter>(
     starter: &mut S,
 ) -> Result<u8, Fault>
     ensures told { IfOk result (λ status.
-        HasTold commands.now task.now status (O.contents output.old) (O.contents output.new)
+        HasTold S.Process.Conversation commands.now task.now status
+        (O.contents output.old) (O.contents output.new)
         (S.asked starter.old) (S.asked starter.new)) }
     ensures range { IfOk result (λ status. (status ≡ done) ⊎ (status ≡ some_given_up)) }
     ensures begun { OnErr result
-        (HasBegunToTell commands.now task.now (O.contents output.old) (O.contents output.new)
+        (HasBegunToTell S.Process.Conversation commands.now task.now
+        (O.contents output.old) (O.contents output.new)
         (S.asked starter.old) (S.asked starter.new)) }
     ensures fault { IfErr result (λ fault. status_of fault ≡ own_fault) }
 {
@@ -114,33 +119,50 @@ fn with_verdict(status: u8, verdict: Verdict) -> u8
     }
 }
 
-/// Tells what `clap` answers in place of options, and answers the status.
-fn answer_error<W: Write, E: Write>(error: &Error, output: &mut W, errors: &mut E) -> u8
-    ensures status { IsStatus result }
+/// Tells what `clap` answers in place of options, an error of this kind with this text, and answers the status.
+fn answer_error<T: Display, W: Write, E: Write>(
+    alloc: Global,
+    kind: ErrorKind,
+    text: &T,
+    output: &mut W,
+    errors: &mut E,
+) -> u8
+    ensures status { (result ≡ done) ⊎ (result ≡ usage_fault) ⊎ (result ≡ own_fault) }
     ensures usage { result ≡ usage_fault → output.new ≡ output.old }
     ensures quiet { result ≡ done → errors.new ≡ errors.old }
-    ensures no_game { result ≢ some_given_up }
-    ensures mistake { result ≡ usage_fault → ¬ IsRequest (kind_of error.now) }
-    ensures stopped { result ≡ own_fault →
-        (output.new ≡ output.old) ⊎ IsRequest (kind_of error.now) }
-    // Only a request for help or for the version is no fault.
-    ensures shown { result ≡ done → IsRequest (kind_of error.now) }
-    ensures memory { kind_of error.now ≡ ErrorKind.OutOfMemory → result ≡ own_fault }
+    ensures mistake { result ≡ usage_fault → ¬ IsRequest kind }
+    ensures memory { kind ≡ ErrorKind.OutOfMemory → result ≡ own_fault }
+    // A text that was asked for was written once.
+    ensures shown { result ≡ done → IsRequest kind × IsDisplayed (T.output text.now) result
+        (W.contents output.old) (W.contents output.new) }
     // A mistake in the words is no fault of the program's own.
     ensures own { result ≡ own_fault →
-        (kind_of error.now ≡ ErrorKind.OutOfMemory) ⊎ IsRequest (kind_of error.now) }
+        (((kind ≡ ErrorKind.OutOfMemory) ⊎ IsRequest kind) × (output.new ≡ output.old))
+        ⊎ (IsRequest kind × IsDisplayed (T.output text.now) result
+        (W.contents output.old) (W.contents output.new)) }
 {
-    if error.kind() == ErrorKind::OutOfMemory {
+    if kind == ErrorKind::OutOfMemory {
         return tell(Fault::OutOfMemory, errors);
     }
-    if error.use_stderr() {
-        let _ = print(error, errors);
+    if !is_request(kind) {
+        let _ = print(text, errors);
         return 2;
     }
-    match print(error, output) {
+    let Ok(text) = text.to_string(alloc) else {
+        return tell(Fault::OutOfMemory, errors);
+    };
+    match write_text(output, text.as_bytes()) {
         Ok(()) => 0,
         Err(_) => tell(Fault::Write, errors),
     }
+}
+
+/// The words ask for the help or for the version.
+fn is_request(kind: ErrorKind) -> bool
+    ensures yes { result ≡ true → IsRequest kind }
+    ensures no { result ≡ false → ¬ IsRequest kind }
+{
+    matches!(kind, ErrorKind::DisplayHelp | ErrorKind::DisplayVersion)
 }
 
 /// Writes the text and flushes it.

@@ -1,9 +1,7 @@
 //! The processes of both sides.
 ghost use Rattle.std.specs.Prelude.{◌≡◌, Some};
 ghost use Rattle.go_base.specs.declared.colours.Colour.TheVariants.{Black, White};
-ghost use Rattle.gtp_match.specs.Sides.{side_of, status_of};
-ghost use Rattle.twogtp.specs.Processes.{while_up};
-ghost use Rattle.twogtp.specs.Speaking.{OtherStays, no_processes, process_of};
+ghost use Rattle.twogtp.specs.Processes.{OtherStays, kept_by, no_processes, process_of};
 
 use crate::pipes::{READ_ROOM, read_once, write_whole};
 use crate::starter::Conversation;
@@ -48,10 +46,8 @@ impl<P: Conversation> Sides<P> {
 
     /// Ends the processes of the sides that are down.
     pub fn end_what_is_down(&mut self, game: &Match)
-        ensures black { self.new.black ≡
-            while_up (status_of (side_of game.now.sides Black).up) self.old.black }
-        ensures white { self.new.white ≡
-            while_up (status_of (side_of game.now.sides White).up) self.old.white }
+        ensures black { self.new.black ≡ kept_by game.now Black self.old.black }
+        ensures white { self.new.white ≡ kept_by game.now White self.old.white }
     {
         end_if_down(game, Side::Black, &mut self.black);
         end_if_down(game, Side::White, &mut self.white);
@@ -84,7 +80,7 @@ impl<P: Conversation> Sides<P> {
 
 /// Ends the process of a side that is down.
 fn end_if_down<P: Conversation>(game: &Match, side: Side, process: &mut Option<P>)
-    ensures { process.new ≡ while_up (status_of (side_of game.now.sides side).up) process.old }
+    ensures { process.new ≡ kept_by game.now side process.old }
 {
     match game.status(side) {
         Status::Down => end(process.take()),

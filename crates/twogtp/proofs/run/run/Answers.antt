@@ -1,21 +1,75 @@
-use Rattle.std.proofs.Common.{inl, inr, arith, refl, subst, ℕ}
-use Rattle.clap.specs.Words.{kind_of}
-use Rattle.twogtp.specs.Telling.{HasTold}
+use Rattle.std.proofs.Common.{◌∙◌, inl, inr, arith, refl}
 use Rattle.twogtp.proofs.run.run.Goals as goal
 
+pub returns-in-Err-clause-status : goal.returns-in-Err-clause-status
+returns-in-Err-clause-status g c =
+    elim c.answer_error.ensures.status [ inl zero ↦ inl zero | inr (inl two) ↦ inr (inr (inl two)) | inr (inr three) ↦ inr (inr (inr three)) ]
+
+pub returns-in-Err-clause-quiet : goal.returns-in-Err-clause-quiet
+returns-in-Err-clause-quiet g c = elim [
+  | inl zero ↦ c.answer_error.ensures.quiet zero
+  | inr one ↦ absurd (elim c.answer_error.ensures.status [ inl zero ↦ omega (arith, one, zero) | inr (inl two) ↦ omega (arith, one, two) | inr (inr three) ↦ omega (arith, one, three) ])
+]
+
 pub returns-in-Err-clause-usage : goal.returns-in-Err-clause-usage
-returns-in-Err-clause-usage g c = λ two. (
-  c.answer_error.ensures.usage two,
-  refl,
-  inl (
-    kind_of c.in-Err.error,
-    c.answer_error.ensures.mistake two,
-    elim c.in-Err.ensures.fault [
-      | inl refused ↦ let three = c.answer_error.ensures.memory refused in absurd (omega (arith, two, three))
-      | inr among ↦ among
-    ],
-  ),
-)
+returns-in-Err-clause-usage g c = λ two.
+    let is = c.kind.ensures in (
+      inl (
+        c.kind.result,
+        c.answer_error.ensures.mistake two,
+        elim c.in-Err.ensures.fault [
+          | inl refused ↦ let three = c.answer_error.ensures.memory (is ∙ refused) in absurd (omega (arith, two, three))
+          | inr among ↦ rw is among
+        ],
+      ),
+      c.answer_error.ensures.usage two,
+      refl,
+    )
+
+pub returns-in-Err-clause-played : goal.returns-in-Err-clause-played
+returns-in-Err-clause-played g c = elim [
+  | inl zero ↦
+      let is = c.kind.ensures in
+      let shown = c.answer_error.ensures.shown zero in
+      inl (
+        refl,
+        record {
+          asked = (
+            c.kind.result,
+            shown.0,
+            elim c.in-Err.ensures.fault [
+              | inl refused ↦ let three = c.answer_error.ensures.memory (is ∙ refused) in absurd (omega (arith, zero, three))
+              | inr among ↦ rw is among
+            ],
+          );
+          text = shown.1.text;
+          shown = shown.1.shown;
+        },
+      )
+  | inr one ↦ absurd (elim c.answer_error.ensures.status [ inl zero ↦ omega (arith, one, zero) | inr (inl two) ↦ omega (arith, one, two) | inr (inr three) ↦ omega (arith, one, three) ])
+]
+
+pub returns-in-Err-clause-stopped : goal.returns-in-Err-clause-stopped
+returns-in-Err-clause-stopped g c = λ three.
+    let is = c.kind.ensures in
+    elim (c.answer_error.ensures.own three) [
+      | inl same ↦ inl (refl, same.1)
+      | inr broke ↦ inr (inl (
+        refl,
+        record {
+          asked = (
+            c.kind.result,
+            broke.0,
+            elim c.in-Err.ensures.fault [
+              | inl refused ↦ absurd (elim broke.0 [ inl help ↦ cc | inr version ↦ cc ])
+              | inr among ↦ rw is among
+            ],
+          );
+          text = broke.1.text;
+          shown = broke.1.shown;
+        },
+      ))
+    ]
 
 pub returns-in-Ok-play_games-clause-status : goal.returns-in-Ok-play_games-clause-status
 returns-in-Ok-play_games-clause-status g c = elim c.in-Ok-play_games.ensures.range [ inl e ↦ inl e | inr e ↦ inr (inl e) ]
@@ -24,7 +78,7 @@ pub returns-in-Ok-play_games-clause-usage : goal.returns-in-Ok-play_games-clause
 returns-in-Ok-play_games-clause-usage g c = λ two. absurd (elim c.in-Ok-play_games.ensures.range [ inl e ↦ omega arith | inr e ↦ omega arith ])
 
 pub returns-in-Ok-play_games-clause-played : goal.returns-in-Ok-play_games-clause-played
-returns-in-Ok-play_games-clause-played g c = λ zero. inr (record {
+returns-in-Ok-play_games-clause-played g c = λ range. inr (record {
   task = c.in-Ok-plan_of.plan.task;
   asks = record {
     options = c.in-Ok.options;
@@ -32,24 +86,8 @@ returns-in-Ok-play_games-clause-played g c = λ zero. inr (record {
     commands = c.in-Ok-plan_of.plan.commands;
     plan = c.in-Ok-plan_of.ensures.plan;
   };
-  told = subst (λ (status : ℕ). HasTold c.in-Ok-plan_of.plan.commands c.in-Ok-plan_of.plan.task status
-      (g.O.Write.contents c.args.output.now) (g.O.Write.contents c.play_games.new.output)
-      (g.S.Starter.asked c.args.starter.now) (g.S.Starter.asked c.play_games.new.starter)) zero c.in-Ok-play_games.ensures.told;
+  told = c.in-Ok-play_games.ensures.told;
 })
-
-pub returns-in-Ok-play_games-clause-given_up : goal.returns-in-Ok-play_games-clause-given_up
-returns-in-Ok-play_games-clause-given_up g c = λ one. record {
-  task = c.in-Ok-plan_of.plan.task;
-  asks = record {
-    options = c.in-Ok.options;
-    asked = c.in-Ok.ensures.asked;
-    commands = c.in-Ok-plan_of.plan.commands;
-    plan = c.in-Ok-plan_of.ensures.plan;
-  };
-  told = subst (λ (status : ℕ). HasTold c.in-Ok-plan_of.plan.commands c.in-Ok-plan_of.plan.task status
-      (g.O.Write.contents c.args.output.now) (g.O.Write.contents c.play_games.new.output)
-      (g.S.Starter.asked c.args.starter.now) (g.S.Starter.asked c.play_games.new.starter)) one c.in-Ok-play_games.ensures.told;
-}
 
 pub returns-clause-stopped : goal.returns-clause-stopped
 returns-clause-stopped g c = λ three. inr (inr (record {
