@@ -3,6 +3,8 @@
 
 mod choices;
 mod colours;
+#[cfg(test)]
+mod equal;
 pub mod equality;
 mod handicaps;
 mod ints;

@@ -2,6 +2,7 @@
 ghost use Rattle.std.specs.Prelude.{◌<◌, IfSome};
 
 use super::*;
+use crate::equal::{assert_equal, assert_equal_for};
 use arrayvec::ArrayVec;
 use std::process::Abort;
 
@@ -15,7 +16,7 @@ fn ints_are_digits_up_to_the_greatest(rt: HostRuntime) {
         ("00000000002147483647", 2_147_483_647),
     ];
     for (text, number) in spelled {
-        assert_eq!(rt; read_int(text.as_bytes()), Some(number), "{text}");
+        assert_equal_for(&rt, text, read_int(text.as_bytes()), Some(number));
     }
     for text in [
         "",
@@ -29,7 +30,7 @@ fn ints_are_digits_up_to_the_greatest(rt: HostRuntime) {
         "0x1",
         "1.0",
     ] {
-        assert_eq!(rt; read_int(text.as_bytes()), None, "{text}");
+        assert_equal_for(&rt, text, read_int(text.as_bytes()), None);
     }
 }
 
@@ -43,43 +44,45 @@ fn ints_are_written_without_leading_zeros(rt: HostRuntime) {
         (4_294_967_295, "4294967295"),
     ];
     for (number, text) in written {
-        assert_eq!(rt; write_int(number).as_slice(), text.as_bytes());
+        assert_equal(&rt, write_int(number).as_slice(), text.as_bytes());
     }
 }
 
 #[test]
 fn sizes_are_1_to_25(rt: HostRuntime) {
     for number in 1..26 {
-        assert_eq!(rt; Size::new(number).map(|size| size.get()), Some(number));
+        assert_equal(&rt, Size::new(number).map(|size| size.get()), Some(number));
     }
     for number in [0, 26, 4_294_967_295] {
-        assert_eq!(rt; Size::new(number), None);
+        assert_equal(&rt, Size::new(number), None);
     }
 }
 
 #[test]
 fn colours_in_every_spelling(rt: HostRuntime) {
     for text in ["b", "B", "black", "BLACK", "bLaCk"] {
-        assert_eq!(rt;
+        assert_equal_for(
+            &rt,
+            text,
             Colour::read(text.as_bytes()),
             Some(Colour::Black),
-            "{text}"
         );
     }
     for text in ["w", "W", "white", "WHITE", "wHiTe"] {
-        assert_eq!(rt;
+        assert_equal_for(
+            &rt,
+            text,
             Colour::read(text.as_bytes()),
             Some(Colour::White),
-            "{text}"
         );
     }
     for text in ["", "green", "bl", "blackk", "black ", "whit", "bw"] {
-        assert_eq!(rt; Colour::read(text.as_bytes()), None, "{text}");
+        assert_equal_for(&rt, text, Colour::read(text.as_bytes()), None);
     }
-    assert_eq!(rt; Colour::Black.write(), b'b');
-    assert_eq!(rt; Colour::White.write(), b'w');
-    assert_eq!(rt; Colour::Black.other(), Colour::White);
-    assert_eq!(rt; Side::White.other(), Side::Black);
+    assert_equal(&rt, Colour::Black.write(), b'b');
+    assert_equal(&rt, Colour::White.write(), b'w');
+    assert_equal(&rt, Colour::Black.other(), Colour::White);
+    assert_equal(&rt, Side::White.other(), Side::Black);
 }
 
 /// The point of a column and a row, which are 1 to 25.
@@ -91,8 +94,8 @@ fn at(rt: &impl Abort, column: u32, row: u32) -> Point {
 fn points_have_columns_and_rows_1_to_25(rt: HostRuntime) {
     for (column, row) in [(1, 1), (25, 25), (1, 25), (25, 1), (8, 9)] {
         let point = at(&rt, column, row);
-        assert_eq!(rt; point.column(), column);
-        assert_eq!(rt; point.row(), row);
+        assert_equal(&rt, point.column(), column);
+        assert_equal(&rt, point.row(), row);
     }
     for (column, row) in [
         (0, 1),
@@ -112,7 +115,7 @@ fn a_point_is_on_the_boards_that_are_large_enough(rt: HostRuntime) {
         let point = at(&rt, column, row);
         for number in 1..26 {
             let size = Size::new(number).expect(&rt, "a size");
-            assert_eq!(rt; point.on(size), number >= least);
+            assert_equal(&rt, point.on(size), number >= least);
         }
     }
 }
@@ -131,21 +134,22 @@ fn vertices_in_every_spelling(rt: HostRuntime) {
         ("Q10", 16, 10),
     ];
     for (text, column, row) in points {
-        assert_eq!(rt;
+        assert_equal_for(
+            &rt,
+            text,
             Vertex::read(text.as_bytes()),
             Some(Vertex::At(at(&rt, column, row))),
-            "{text}"
         );
     }
     for text in ["pass", "PASS", "pAsS"] {
-        assert_eq!(rt; Vertex::read(text.as_bytes()), Some(Vertex::Pass), "{text}");
+        assert_equal_for(&rt, text, Vertex::read(text.as_bytes()), Some(Vertex::Pass));
     }
     let others = [
         "", "A", "1", "I5", "i5", "A0", "A26", "A01", "B01", "Z26", "AA1", "A1 ", "A+1", "1A",
         "pas", "passs", "resign",
     ];
     for text in others {
-        assert_eq!(rt; Vertex::read(text.as_bytes()), None, "{text}");
+        assert_equal_for(&rt, text, Vertex::read(text.as_bytes()), None);
     }
 }
 
@@ -159,33 +163,35 @@ fn vertices_are_written_in_capitals(rt: HostRuntime) {
         (25, 25, "Z25"),
     ] {
         let vertex = Vertex::At(at(&rt, column, row));
-        assert_eq!(rt; vertex.write().as_slice(), text.as_bytes());
+        assert_equal(&rt, vertex.write().as_slice(), text.as_bytes());
     }
-    assert_eq!(rt; Vertex::Pass.write().as_slice(), b"pass".as_slice());
+    assert_equal(&rt, Vertex::Pass.write().as_slice(), b"pass".as_slice());
 }
 
 #[test]
 fn choices_are_resign_in_any_case_or_vertices(rt: HostRuntime) {
     for text in ["resign", "RESIGN", "Resign", "rEsIgN"] {
-        assert_eq!(rt;
+        assert_equal_for(
+            &rt,
+            text,
             Choice::read(text.as_bytes()),
             Some(Choice::Resign),
-            "{text}"
         );
     }
     for text in ["J5", "j5"] {
         let read = Choice::read(text.as_bytes());
-        assert_eq!(rt;
+        assert_equal_for(
+            &rt,
+            text,
             read,
             Some(Choice::Play(Vertex::At(at(&rt, 9, 5)))),
-            "{text}"
         );
     }
-    assert_eq!(rt; Choice::read(b"PaSs"), Some(Choice::Play(Vertex::Pass)));
+    assert_equal(&rt, Choice::read(b"PaSs"), Some(Choice::Play(Vertex::Pass)));
     for text in [
         "", "resig", "resigns", "resign ", " resign", "re", "I5", "A26", "D4 D5",
     ] {
-        assert_eq!(rt; Choice::read(text.as_bytes()), None, "{text}");
+        assert_equal_for(&rt, text, Choice::read(text.as_bytes()), None);
     }
 }
 
@@ -206,10 +212,11 @@ fn komi_is_read_in_half_points(rt: HostRuntime) {
         ("-3.50", -7),
     ];
     for (text, half_points) in spelled {
-        assert_eq!(rt;
+        assert_equal_for(
+            &rt,
+            text,
             Komi::read(text.as_bytes()).map(|komi| komi.half_points()),
             Some(half_points),
-            "{text}"
         );
     }
 }
@@ -237,7 +244,7 @@ fn komi_is_not_read_from_other_texts(rt: HostRuntime) {
         "5.05",
     ];
     for text in others {
-        assert_eq!(rt; Komi::read(text.as_bytes()), None, "{text}");
+        assert_equal_for(&rt, text, Komi::read(text.as_bytes()), None);
     }
 }
 
@@ -254,23 +261,25 @@ fn komi_is_written_in_points(rt: HostRuntime) {
     ];
     for (half_points, text) in written {
         let komi = Komi::from_half_points(half_points).expect(&rt, "a komi");
-        assert_eq!(rt; komi.half_points(), half_points);
-        assert_eq!(rt; komi.write().as_slice(), text.as_bytes());
+        assert_equal(&rt, komi.half_points(), half_points);
+        assert_equal(&rt, komi.write().as_slice(), text.as_bytes());
     }
     for half_points in [2_000_000_000, -2_000_000_000, 2_147_483_647, -2_147_483_648] {
-        assert_eq!(rt; Komi::from_half_points(half_points), None);
+        assert_equal(&rt, Komi::from_half_points(half_points), None);
     }
 }
 
 #[test]
 fn a_score_past_the_limits_of_komi_is_written_like_one(rt: HostRuntime) {
-    assert_eq!(rt;
+    assert_equal(
+        &rt,
         write_half_points(2_000_001_249).as_slice(),
-        b"1000000624.5".as_slice()
+        b"1000000624.5".as_slice(),
     );
-    assert_eq!(rt;
+    assert_equal(
+        &rt,
         write_half_points(4_294_967_295).as_slice(),
-        b"2147483647.5".as_slice()
+        b"2147483647.5".as_slice(),
     );
 }
 
@@ -289,10 +298,11 @@ fn a_score_names_the_colour_that_leads(rt: HostRuntime) {
         (-2_147_483_648, "W+1073741824"),
     ];
     for (half_points, text) in written {
-        assert_eq!(rt;
+        assert_equal_for(
+            &rt,
+            text,
             write_score(half_points).as_slice(),
             text.as_bytes(),
-            "{text}"
         );
     }
 }
@@ -300,7 +310,7 @@ fn a_score_names_the_colour_that_leads(rt: HostRuntime) {
 #[test]
 fn letters_of_columns_leave_out_i(rt: HostRuntime) {
     for (column, letter) in [(1, b'A'), (8, b'H'), (9, b'J'), (10, b'K'), (25, b'Z')] {
-        assert_eq!(rt; at(&rt, column, 7).letter(), letter);
+        assert_equal(&rt, at(&rt, column, 7).letter(), letter);
     }
 }
 
@@ -309,14 +319,15 @@ fn defaults_are_a1_a_pass_and_blacks_pass(rt: HostRuntime) {
     let point: Point = Default::default();
     let vertex: Vertex = Default::default();
     let pass: Move = Default::default();
-    assert_eq!(rt; point, at(&rt, 1, 1));
-    assert_eq!(rt; vertex, Vertex::Pass);
-    assert_eq!(rt;
+    assert_equal(&rt, point, at(&rt, 1, 1));
+    assert_equal(&rt, vertex, Vertex::Pass);
+    assert_equal(
+        &rt,
         pass,
         Move {
             colour: Colour::Black,
-            vertex: Vertex::Pass
-        }
+            vertex: Vertex::Pass,
+        },
     );
 }
 
@@ -386,22 +397,22 @@ fn handicaps_that_a_size_does_not_allow(rt: HostRuntime) {
         (9, 4_294_967_295),
     ] {
         let size = Size::new(size).expect(&rt, "a size");
-        assert_eq!(rt; handicap(size, stones).is_some(), false);
+        assert_equal(&rt, handicap(size, stones).is_some(), false);
     }
 }
 
 #[test]
 fn long_texts_are_read_or_refused(rt: HostRuntime) {
     let mut text = [b'0'; 5000];
-    assert_eq!(rt; read_int(&text), Some(0));
-    assert_eq!(rt; Colour::read(&text), None);
-    assert_eq!(rt; Vertex::read(&text), None);
-    assert_eq!(rt; Choice::read(&text), None);
-    assert_eq!(rt; Komi::read(&text), None);
+    assert_equal(&rt, read_int(&text), Some(0));
+    assert_equal(&rt, Colour::read(&text), None);
+    assert_equal(&rt, Vertex::read(&text), None);
+    assert_equal(&rt, Choice::read(&text), None);
+    assert_equal(&rt, Komi::read(&text), None);
     text[4999] = b'7';
-    assert_eq!(rt; read_int(&text), Some(7));
+    assert_equal(&rt, read_int(&text), Some(7));
     text[0] = b'9';
-    assert_eq!(rt; read_int(&text), None);
+    assert_equal(&rt, read_int(&text), None);
 }
 
 #[test]
@@ -450,12 +461,13 @@ fn each_reader_of_one_byte_is_a_slow_reading(rt: HostRuntime) {
             b'w' | b'W' => Some(Colour::White),
             _ => None,
         };
-        assert_eq!(rt; read_int(&text), slow_digit(byte));
-        assert_eq!(rt; Colour::read(&text), colour);
-        assert_eq!(rt; Vertex::read(&text), None);
-        assert_eq!(rt;
+        assert_equal(&rt, read_int(&text), slow_digit(byte));
+        assert_equal(&rt, Colour::read(&text), colour);
+        assert_equal(&rt, Vertex::read(&text), None);
+        assert_equal(
+            &rt,
             Komi::read(&text).map(|komi| komi.half_points()),
-            slow_digit(byte).map(|digit| 2 * digit as i32)
+            slow_digit(byte).map(|digit| 2 * digit as i32),
         );
     }
 }
@@ -493,16 +505,18 @@ fn each_reader_of_two_bytes_is_a_slow_reading(rt: HostRuntime) {
     for first in 0..256u32 {
         for second in 0..256u32 {
             let text = [first as u8, second as u8];
-            assert_eq!(rt; read_int(&text), slow_int(text[0], text[1]));
-            assert_eq!(rt; Colour::read(&text), None);
-            assert_eq!(rt; Vertex::read(&text), slow_vertex(text[0], text[1]));
-            assert_eq!(rt;
+            assert_equal(&rt, read_int(&text), slow_int(text[0], text[1]));
+            assert_equal(&rt, Colour::read(&text), None);
+            assert_equal(&rt, Vertex::read(&text), slow_vertex(text[0], text[1]));
+            assert_equal(
+                &rt,
                 Choice::read(&text),
-                slow_vertex(text[0], text[1]).map(Choice::Play)
+                slow_vertex(text[0], text[1]).map(Choice::Play),
             );
-            assert_eq!(rt;
+            assert_equal(
+                &rt,
                 Komi::read(&text).map(|komi| komi.half_points()),
-                slow_komi(text[0], text[1])
+                slow_komi(text[0], text[1]),
             );
         }
     }
@@ -511,8 +525,8 @@ fn each_reader_of_two_bytes_is_a_slow_reading(rt: HostRuntime) {
 #[test]
 fn values_that_are_equal_are_the_same(rt: HostRuntime) {
     let komi = |half_points| Komi::from_half_points(half_points);
-    assert_eq!(rt; komi(13), Komi::read(b"6.5"));
-    assert_eq!(rt; komi(0), Komi::read(b"-0"));
+    assert_equal(&rt, komi(13), Komi::read(b"6.5"));
+    assert_equal(&rt, komi(0), Komi::read(b"-0"));
     let low = Point::new(1, 2).expect(&rt, "a point");
     let high = Point::new(2, 1).expect(&rt, "a point");
     assert!(rt; equality::equal_points(low, low));

@@ -4,6 +4,7 @@ mod plain;
 mod random;
 mod slow;
 
+use crate::equal::{assert_equal, assert_equal_for};
 use crate::{Game, HandicapFault, NothingToUndo, PlayFault};
 use go_base::{Colour, Komi, Move, Point, Size, Vertex};
 use std::process::Abort;
@@ -29,7 +30,7 @@ fn play(rt: &impl Abort, game: &mut Game, colour: Colour, name: &str) -> Result<
 fn play_all(rt: &impl Abort, game: &mut Game, moves: &[(Colour, &str)]) {
     for (colour, name) in moves {
         let answer = play(rt, game, *colour, name);
-        assert_eq!(rt; answer, Ok(()), "{name}");
+        assert_equal_for(rt, name, answer, Ok(()));
     }
 }
 
@@ -44,9 +45,9 @@ fn mark(stone: Option<Colour>) -> u8 {
 /// Compares each point with a drawing, which has the highest row first: `X` is Black's stone, `O` White's.
 fn assert_board(rt: &impl Abort, game: &Game, drawing: &[&str]) {
     let lines = game.size().get();
-    assert_eq!(rt; drawing.len(), lines as usize);
+    assert_equal(rt, drawing.len(), lines as usize);
     for (row, text) in (1..=lines).rev().zip(drawing) {
-        assert_eq!(rt; text.len(), lines as usize);
+        assert_equal(rt, text.len(), lines as usize);
         for (column, want) in (1..=lines).zip(text.bytes()) {
             let point = Point::new(column, row).expect(rt, "a point");
             assert_eq!(rt; mark(game.at(point)), want, "column {column}, row {row}");
@@ -61,8 +62,8 @@ fn place_handicap(game: &mut Game, stones: u32) -> Result<usize, HandicapFault> 
 }
 
 fn assert_captured(rt: &impl Abort, game: &Game, black: u32, white: u32) {
-    assert_eq!(rt; game.captured(Colour::Black), black);
-    assert_eq!(rt; game.captured(Colour::White), white);
+    assert_equal(rt, game.captured(Colour::Black), black);
+    assert_equal(rt, game.captured(Colour::White), white);
 }
 
 #[test]
@@ -74,12 +75,13 @@ fn suicide_is_refused(rt: HostRuntime) {
         &[(Colour::Black, "B1"), (Colour::Black, "A2")],
     );
     assert!(rt; !game.legal(Colour::White, vertex(&rt, "A1")));
-    assert_eq!(rt;
+    assert_equal(
+        &rt,
         play(&rt, &mut game, Colour::White, "A1"),
-        Err(PlayFault::Suicide)
+        Err(PlayFault::Suicide),
     );
     assert_board(&rt, &game, &["X.", ".X"]);
-    assert_eq!(rt; game.moves().len(), 2);
+    assert_equal(&rt, game.moves().len(), 2);
     assert!(rt; game.legal(Colour::Black, vertex(&rt, "A1")));
 }
 
@@ -98,12 +100,13 @@ fn a_stone_that_captures_is_no_suicide(rt: HostRuntime) {
     );
     assert_board(&rt, &game, &[".O", ".O"]);
     assert_captured(&rt, &game, 0, 2);
-    assert_eq!(rt;
+    assert_equal(
+        &rt,
         game.undo(),
         Ok(Move {
             colour: Colour::White,
-            vertex: vertex(&rt, "B2")
-        })
+            vertex: vertex(&rt, "B2"),
+        }),
     );
     assert_board(&rt, &game, &["X.", "XO"]);
     assert_captured(&rt, &game, 0, 0);
@@ -123,9 +126,10 @@ fn one_stone_takes_two_chains(rt: HostRuntime) {
             (Colour::White, "B1"),
         ],
     );
-    assert_eq!(rt;
+    assert_equal(
+        &rt,
         play(&rt, &mut game, Colour::White, "A1"),
-        Err(PlayFault::Suicide)
+        Err(PlayFault::Suicide),
     );
     play_all(&rt, &mut game, &[(Colour::Black, "A1")]);
     assert_board(&rt, &game, &["X..", ".X.", "X.X"]);
@@ -169,12 +173,13 @@ fn a_chain_falls_apart_where_the_stone_that_joined_it_is_taken_back(rt: HostRunt
         ],
     );
     assert_board(&rt, &game, &["X..", "X..", "X.."]);
-    assert_eq!(rt;
+    assert_equal(
+        &rt,
         game.undo(),
         Ok(Move {
             colour: Colour::Black,
-            vertex: vertex(&rt, "A2")
-        })
+            vertex: vertex(&rt, "A2"),
+        }),
     );
     play_all(
         &rt,
@@ -197,9 +202,10 @@ fn the_last_column_of_the_largest_board_is_an_edge(rt: HostRuntime) {
         &mut game,
         &[(Colour::Black, "Y1"), (Colour::Black, "Z2")],
     );
-    assert_eq!(rt;
+    assert_equal(
+        &rt,
         play(&rt, &mut game, Colour::White, "Z1"),
-        Err(PlayFault::Suicide)
+        Err(PlayFault::Suicide),
     );
 }
 
@@ -220,9 +226,10 @@ fn ko(rt: &impl Abort) -> Game {
     );
     assert_board(rt, &game, &["...X", "....", "XO..", "O.O."]);
     assert_captured(rt, &game, 0, 1);
-    assert_eq!(rt;
+    assert_equal(
+        rt,
         play(rt, &mut game, Colour::Black, "B1"),
-        Err(PlayFault::Ko)
+        Err(PlayFault::Ko),
     );
     game
 }
@@ -263,24 +270,27 @@ fn a_full_record_refuses_first(rt: HostRuntime) {
         vertex: Vertex::Pass,
     };
     for _ in 0..2000 {
-        assert_eq!(rt; game.play(Colour::Black, Vertex::Pass), Ok(()));
+        assert_equal(&rt, game.play(Colour::Black, Vertex::Pass), Ok(()));
     }
-    assert_eq!(rt;
+    assert_equal(
+        &rt,
         game.play(Colour::Black, Vertex::Pass),
-        Err(PlayFault::Full)
+        Err(PlayFault::Full),
     );
-    assert_eq!(rt;
+    assert_equal(
+        &rt,
         play(&rt, &mut game, Colour::Black, "Z25"),
-        Err(PlayFault::Full)
+        Err(PlayFault::Full),
     );
     assert!(rt; game.legal(Colour::Black, Vertex::Pass));
-    assert_eq!(rt; game.moves().len(), 2000);
-    assert_eq!(rt; game.undo(), Ok(pass));
-    assert_eq!(rt;
+    assert_equal(&rt, game.moves().len(), 2000);
+    assert_equal(&rt, game.undo(), Ok(pass));
+    assert_equal(
+        &rt,
         play(&rt, &mut game, Colour::Black, "Z25"),
-        Err(PlayFault::OffBoard)
+        Err(PlayFault::OffBoard),
     );
-    assert_eq!(rt; game.play(Colour::Black, Vertex::Pass), Ok(()));
+    assert_equal(&rt, game.play(Colour::Black, Vertex::Pass), Ok(()));
 }
 
 #[test]
@@ -299,30 +309,30 @@ fn each_refusal_of_a_play(rt: HostRuntime) {
         (Colour::White, "B2", PlayFault::Suicide),
     ] {
         assert!(rt; !game.legal(colour, vertex(&rt, name)), "{name}");
-        assert_eq!(rt; play(&rt, &mut game, colour, name), Err(fault), "{name}");
+        assert_equal_for(&rt, name, play(&rt, &mut game, colour, name), Err(fault));
         assert_board(&rt, &game, &["X.", ".X"]);
-        assert_eq!(rt; game.moves().len(), 2);
+        assert_equal(&rt, game.moves().len(), 2);
     }
 }
 
 #[test]
 fn handicap_stones_stay(rt: HostRuntime) -> Result<(), Fail> {
     let mut game = new_game(&rt, 19);
-    assert_eq!(rt; game.undo(), Err(NothingToUndo));
+    assert_equal(&rt, game.undo(), Err(NothingToUndo));
     let points = game.place_handicap(2)?;
-    assert_eq!(rt; points.len(), 2);
+    assert_equal(&rt, points.len(), 2);
     for (point, name) in points.iter().zip(["D4", "Q16"]) {
-        assert_eq!(rt; Vertex::At(*point), vertex(&rt, name));
-        assert_eq!(rt; game.at(*point), Some(Colour::Black));
+        assert_equal(&rt, Vertex::At(*point), vertex(&rt, name));
+        assert_equal(&rt, game.at(*point), Some(Colour::Black));
     }
-    assert_eq!(rt; game.handicap(), 2);
-    assert_eq!(rt; game.undo(), Err(NothingToUndo));
-    assert_eq!(rt; game.handicap(), 2);
+    assert_equal(&rt, game.handicap(), 2);
+    assert_equal(&rt, game.undo(), Err(NothingToUndo));
+    assert_equal(&rt, game.handicap(), 2);
     play_all(&rt, &mut game, &[(Colour::White, "K10")]);
     game.undo()?;
-    assert_eq!(rt; game.undo(), Err(NothingToUndo));
+    assert_equal(&rt, game.undo(), Err(NothingToUndo));
     for point in &points {
-        assert_eq!(rt; game.at(*point), Some(Colour::Black));
+        assert_equal(&rt, game.at(*point), Some(Colour::Black));
     }
     Ok(())
 }
@@ -331,16 +341,25 @@ fn handicap_stones_stay(rt: HostRuntime) -> Result<(), Fail> {
 fn handicap_needs_an_untouched_board(rt: HostRuntime) -> Result<(), Fail> {
     let mut game = new_game(&rt, 9);
     for stones in [0, 1, 10] {
-        assert_eq!(rt;
+        assert_equal(
+            &rt,
             place_handicap(&mut game, stones),
-            Err(HandicapFault::BadNumber)
+            Err(HandicapFault::BadNumber),
         );
     }
     game.place_handicap(3)?;
-    assert_eq!(rt; place_handicap(&mut game, 1), Err(HandicapFault::NotEmpty));
+    assert_equal(
+        &rt,
+        place_handicap(&mut game, 1),
+        Err(HandicapFault::NotEmpty),
+    );
     game.clear();
     game.play(Colour::Black, Vertex::Pass)?;
-    assert_eq!(rt; place_handicap(&mut game, 1), Err(HandicapFault::NotEmpty));
+    assert_equal(
+        &rt,
+        place_handicap(&mut game, 1),
+        Err(HandicapFault::NotEmpty),
+    );
     game.undo()?;
     game.place_handicap(9)?;
     assert_board(
@@ -370,16 +389,16 @@ fn a_new_size_and_a_new_komi(rt: HostRuntime) -> Result<(), Fail> {
     play_all(&rt, &mut game, &[(Colour::White, "A1")]);
     game.set_size(Size::new(2).ok_or("a size")?);
     assert_board(&rt, &game, &["..", ".."]);
-    assert_eq!(rt; game.handicap(), 0);
-    assert_eq!(rt; game.moves().len(), 0);
-    assert_eq!(rt; game.komi(), komi);
+    assert_equal(&rt, game.handicap(), 0);
+    assert_equal(&rt, game.moves().len(), 0);
+    assert_equal(&rt, game.komi(), komi);
     Ok(())
 }
 
 #[test]
 fn area_and_the_end(rt: HostRuntime) {
     let mut game = new_game(&rt, 3);
-    assert_eq!(rt; game.score(), 0);
+    assert_equal(&rt, game.score(), 0);
     game.set_komi(Komi::from_half_points(1).expect(&rt, "a komi"));
     play_all(
         &rt,
@@ -390,7 +409,7 @@ fn area_and_the_end(rt: HostRuntime) {
             (Colour::Black, "B3"),
         ],
     );
-    assert_eq!(rt; game.score(), 17);
+    assert_equal(&rt, game.score(), 17);
     play_all(&rt, &mut game, &[(Colour::White, "pass")]);
     assert!(rt; !game.finished());
     play_all(&rt, &mut game, &[(Colour::White, "pass")]);
@@ -405,9 +424,9 @@ fn a_region_beside_both_colours_counts_for_neither(rt: HostRuntime) {
         &mut game,
         &[(Colour::Black, "A2"), (Colour::White, "C2")],
     );
-    assert_eq!(rt; game.score(), 0);
+    assert_equal(&rt, game.score(), 0);
     play_all(&rt, &mut game, &[(Colour::White, "B2")]);
-    assert_eq!(rt; game.score(), -2);
+    assert_equal(&rt, game.score(), -2);
 }
 
 #[test]
@@ -422,7 +441,7 @@ fn each_fault_has_its_text(rt: HostRuntime) -> Result<(), Fail> {
             "the board's size does not allow this number of handicap stones",
         ),
     ] {
-        assert_eq!(rt; fault.to_string(rt.alloc())?.as_str(), text);
+        assert_equal(&rt, fault.to_string(rt.alloc())?.as_str(), text);
     }
     for (fault, text) in [
         (PlayFault::Full, "the record of moves is full"),
@@ -434,9 +453,9 @@ fn each_fault_has_its_text(rt: HostRuntime) -> Result<(), Fail> {
             "the board would be the same as before the previous move",
         ),
     ] {
-        assert_eq!(rt; fault.to_string(rt.alloc())?.as_str(), text);
+        assert_equal(&rt, fault.to_string(rt.alloc())?.as_str(), text);
     }
     let nothing = NothingToUndo.to_string(rt.alloc())?;
-    assert_eq!(rt; nothing.as_str(), "there is no move to take back");
+    assert_equal(&rt, nothing.as_str(), "there is no move to take back");
     Ok(())
 }

@@ -1,6 +1,8 @@
 //! An engine that speaks the Go Text Protocol, version 2, on its standard input and output.
 #![tactic(auto)]
 
+#[cfg(test)]
+mod equal;
 mod fault;
 mod options;
 pub mod run;

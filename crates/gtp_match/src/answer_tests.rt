@@ -1,3 +1,4 @@
+use crate::equal::assert_equal;
 use crate::test_steps::{
     answer, black_answered, ended, first_sent, handicap_answered, send_and_wait,
 };
@@ -98,25 +99,27 @@ fn a_refused_setup_command_is_unfit(rt: HostRuntime) {
 #[test]
 fn an_answer_may_begin_with_newlines_and_be_written_small(rt: HostRuntime) {
     let played = black_answered(&rt, b"=4 \nA1\n\n");
-    assert_eq!(rt; record_line(&played).as_slice(), b"A1".as_slice());
+    assert_equal(&rt, record_line(&played).as_slice(), b"A1".as_slice());
     let played = black_answered(&rt, b"=4\nA1\n\n");
-    assert_eq!(rt; record_line(&played).as_slice(), b"A1".as_slice());
+    assert_equal(&rt, record_line(&played).as_slice(), b"A1".as_slice());
     let played = black_answered(&rt, b"=004 a1\n\n");
-    assert_eq!(rt; record_line(&played).as_slice(), b"A1".as_slice());
+    assert_equal(&rt, record_line(&played).as_slice(), b"A1".as_slice());
     let played = white_hears_of_a1(&rt, b"=4 what you will\n\n");
-    assert_eq!(rt; played.next(), Action::Send(Side::White));
+    assert_equal(&rt, played.next(), Action::Send(Side::White));
 }
 
 #[test]
 fn the_points_of_a_handicap_in_any_order_and_case(rt: HostRuntime) {
     let corner = Point::new(3, 3).expect(&rt, "a point");
-    assert_eq!(rt;
+    assert_equal(
+        &rt,
         handicap_answered(&rt, b"=4 G7 c3\n\n").next(),
-        Action::Send(Side::White)
+        Action::Send(Side::White),
     );
-    assert_eq!(rt;
+    assert_equal(
+        &rt,
         handicap_answered(&rt, b"=4 C3\nG7\n\n").game().at(corner),
-        Some(Colour::Black)
+        Some(Colour::Black),
     );
 }
 

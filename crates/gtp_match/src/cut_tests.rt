@@ -1,4 +1,5 @@
 //! Bytes that show a fault, heard whole and in two pieces.
+use crate::equal::assert_equal;
 use crate::test_steps::{black_asked, first_sent, hear, up};
 use crate::{Action, Match, SideFault, Status};
 use go_base::Side;
@@ -42,8 +43,8 @@ impl Place {
 
     /// The side is down, no move was made, and the match goes on.
     fn assert_down(self, rt: &impl Abort, played: &Match) {
-        assert_eq!(rt; played.status(self.side()), Status::Down);
-        assert_eq!(rt; played.next(), self.after_the_fault());
+        assert_equal(rt, played.status(self.side()), Status::Down);
+        assert_equal(rt, played.next(), self.after_the_fault());
         assert!(rt; played.game().moves().is_empty());
     }
 }
@@ -61,7 +62,7 @@ fn assert_whole(rt: &impl Abort, place: Place, bytes: &[u8], fault: SideFault) {
     );
     place.assert_down(rt, &played);
     let mut played = place.begin(rt);
-    assert_eq!(rt; played.hear_all(place.side(), bytes), Some(fault));
+    assert_equal(rt, played.hear_all(place.side(), bytes), Some(fault));
     place.assert_down(rt, &played);
 }
 
@@ -72,8 +73,8 @@ fn assert_cut(rt: &impl Abort, place: Place, bytes: &[u8], at: usize, fault: Sid
     let mut played = place.begin(rt);
     let (status, next) = (played.status(place.side()), played.next());
     hear(rt, &mut played, place.side(), first, first.len(), None);
-    assert_eq!(rt; played.status(place.side()), status);
-    assert_eq!(rt; played.next(), next);
+    assert_equal(rt, played.status(place.side()), status);
+    assert_equal(rt, played.next(), next);
     hear(
         rt,
         &mut played,
@@ -84,8 +85,8 @@ fn assert_cut(rt: &impl Abort, place: Place, bytes: &[u8], at: usize, fault: Sid
     );
     place.assert_down(rt, &played);
     let mut played = place.begin(rt);
-    assert_eq!(rt; played.hear_all(place.side(), first), None);
-    assert_eq!(rt; played.hear_all(place.side(), second), Some(fault));
+    assert_equal(rt, played.hear_all(place.side(), first), None);
+    assert_equal(rt, played.hear_all(place.side(), second), Some(fault));
     place.assert_down(rt, &played);
 }
 
@@ -137,7 +138,7 @@ fn a_reply_that_nothing_asked_for_in_any_cut(rt: HostRuntime) {
 fn newlines_show_a_fault_by_the_first_that_is_too_many(rt: HostRuntime) {
     let mut played = first_sent(&rt, 1);
     hear(&rt, &mut played, Side::Black, &[b'\n'; 8192], 8192, None);
-    assert_eq!(rt; played.status(Side::Black), up(0, 1));
+    assert_equal(&rt, played.status(Side::Black), up(0, 1));
     hear(
         &rt,
         &mut played,
@@ -146,7 +147,7 @@ fn newlines_show_a_fault_by_the_first_that_is_too_many(rt: HostRuntime) {
         1,
         Some(SideFault::Overlong),
     );
-    assert_eq!(rt; played.status(Side::Black), Status::Down);
+    assert_equal(&rt, played.status(Side::Black), Status::Down);
 }
 
 #[test]
@@ -156,7 +157,7 @@ fn a_reply_may_end_on_the_last_byte_that_is_read(rt: HostRuntime) {
     bytes[8189] = b'1';
     let mut played = first_sent(&rt, 1);
     hear(&rt, &mut played, Side::Black, &bytes, 8192, None);
-    assert_eq!(rt; played.status(Side::Black), up(1, 0));
+    assert_equal(&rt, played.status(Side::Black), up(1, 0));
     let mut bytes = [b'\n'; 8193];
     bytes[8189] = b'=';
     bytes[8190] = b'1';
@@ -169,5 +170,5 @@ fn a_reply_may_end_on_the_last_byte_that_is_read(rt: HostRuntime) {
         8193,
         Some(SideFault::Overlong),
     );
-    assert_eq!(rt; played.status(Side::Black), Status::Down);
+    assert_equal(&rt, played.status(Side::Black), Status::Down);
 }

@@ -1,3 +1,4 @@
+use crate::equal::assert_equal;
 use crate::test_steps::{answer, black_asked, ended, first_sent, hear, up};
 use crate::{Action, Match, SideFault, Status, Verdict, result_line};
 use go_base::Side;
@@ -15,8 +16,8 @@ fn a_wrong_id_puts_the_side_down(rt: HostRuntime) {
         7,
         Some(SideFault::WrongId),
     );
-    assert_eq!(rt; played.status(Side::Black), Status::Down);
-    assert_eq!(rt; played.next(), Action::Start(Side::Black));
+    assert_equal(&rt, played.status(Side::Black), Status::Down);
+    assert_equal(&rt, played.next(), Action::Start(Side::Black));
 }
 
 #[test]
@@ -30,7 +31,7 @@ fn a_missing_id_puts_the_side_down(rt: HostRuntime) {
         5,
         Some(SideFault::WrongId),
     );
-    assert_eq!(rt; played.status(Side::Black), Status::Down);
+    assert_equal(&rt, played.status(Side::Black), Status::Down);
 }
 
 #[test]
@@ -44,8 +45,8 @@ fn a_byte_that_begins_no_reply_puts_the_side_down(rt: HostRuntime) {
         1,
         Some(SideFault::NoStatus),
     );
-    assert_eq!(rt; played.status(Side::Black), Status::Down);
-    assert_eq!(rt; played.next(), Action::Start(Side::Black));
+    assert_equal(&rt, played.status(Side::Black), Status::Down);
+    assert_equal(&rt, played.next(), Action::Start(Side::Black));
 }
 
 #[test]
@@ -59,7 +60,7 @@ fn a_reply_that_does_not_end_puts_the_side_down(rt: HostRuntime) {
         8193,
         Some(SideFault::Overlong),
     );
-    assert_eq!(rt; played.next(), Action::Start(Side::Black));
+    assert_equal(&rt, played.next(), Action::Start(Side::Black));
 }
 
 #[test]
@@ -73,25 +74,25 @@ fn a_reply_that_nothing_asked_for_puts_its_side_down_and_the_other_goes_on(rt: H
         4,
         Some(SideFault::Unasked),
     );
-    assert_eq!(rt; played.status(Side::White), Status::Down);
-    assert_eq!(rt; played.next(), Action::Send(Side::Black));
+    assert_equal(&rt, played.status(Side::White), Status::Down);
+    assert_equal(&rt, played.next(), Action::Send(Side::Black));
 }
 
 #[test]
 fn blank_lines_and_carriage_returns_before_and_in_a_reply(rt: HostRuntime) {
     let mut played = first_sent(&rt, 1);
     answer(&rt, &mut played, Side::Black, b"\n=1\r\n\r\n");
-    assert_eq!(rt; played.status(Side::Black), up(1, 0));
+    assert_equal(&rt, played.status(Side::Black), up(1, 0));
     let mut played = first_sent(&rt, 1);
     answer(&rt, &mut played, Side::Black, b"\r\n \n\r\n=1\r \r\n\r\n");
-    assert_eq!(rt; played.status(Side::Black), up(1, 0));
+    assert_equal(&rt, played.status(Side::Black), up(1, 0));
 }
 
 #[test]
 fn an_id_may_have_leading_zeros(rt: HostRuntime) {
     let mut played = first_sent(&rt, 1);
     answer(&rt, &mut played, Side::Black, b"=0000000001\n\n");
-    assert_eq!(rt; played.status(Side::Black), up(1, 0));
+    assert_equal(&rt, played.status(Side::Black), up(1, 0));
 }
 
 /// The side, which has no restart, is given up.
@@ -131,24 +132,33 @@ fn a_side_that_is_down_is_not_heard(rt: HostRuntime) {
     let mut played = first_sent(&rt, 1);
     played.lost(Side::Black);
     hear(&rt, &mut played, Side::Black, b"=1\n\nhello", 9, None);
-    assert_eq!(rt; played.status(Side::Black), Status::Down);
-    assert_eq!(rt; played.next(), Action::Start(Side::Black));
+    assert_equal(&rt, played.status(Side::Black), Status::Down);
+    assert_equal(&rt, played.next(), Action::Start(Side::Black));
     played.lost(Side::Black);
-    assert_eq!(rt; played.next(), Action::Start(Side::Black));
+    assert_equal(&rt, played.next(), Action::Start(Side::Black));
 }
 
 #[test]
 fn all_bytes_of_a_read_are_heard(rt: HostRuntime) {
     let mut played = black_asked(&rt, 1);
-    assert_eq!(rt; played.hear_all(Side::Black, b""), None);
-    assert_eq!(rt; played.hear_all(Side::Black, b"=4 A1\n"), None);
-    assert_eq!(rt;
+    assert_equal(&rt, played.hear_all(Side::Black, b""), None);
+    assert_equal(&rt, played.hear_all(Side::Black, b"=4 A1\n"), None);
+    assert_equal(
+        &rt,
         played.hear_all(Side::Black, b"\n=5\n\n?"),
-        Some(SideFault::Unasked)
+        Some(SideFault::Unasked),
     );
-    assert_eq!(rt; played.status(Side::Black), Status::Down);
-    assert_eq!(rt; played.game().moves().len(), 1);
+    assert_equal(&rt, played.status(Side::Black), Status::Down);
+    assert_equal(&rt, played.game().moves().len(), 1);
     let mut played = black_asked(&rt, 1);
-    assert_eq!(rt; played.hear_all(Side::Black, b"=4 resign\n\nhello"), None);
-    assert_eq!(rt; played.next(), Action::Done(Verdict::Resign(Side::Black)));
+    assert_equal(
+        &rt,
+        played.hear_all(Side::Black, b"=4 resign\n\nhello"),
+        None,
+    );
+    assert_equal(
+        &rt,
+        played.next(),
+        Action::Done(Verdict::Resign(Side::Black)),
+    );
 }

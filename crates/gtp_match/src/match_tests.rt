@@ -1,3 +1,4 @@
+use crate::equal::assert_equal;
 use crate::test_steps::{
     answer, black_asked, both_started, bring, ended, first_sent, hear, line, send, send_and_wait,
     setup_with, up,
@@ -31,13 +32,14 @@ fn bring_handicap(rt: &impl Abort, played: &mut Match, side: Side) {
 #[test]
 fn two_passes_end_by_score(rt: HostRuntime) {
     let mut played = black_asked(&rt, 0);
-    assert_eq!(rt;
+    assert_equal(
+        &rt,
         played.status(Side::Black),
         Status::Up {
             confirmed: 3,
             unanswered: 1,
-            asked: true
-        }
+            asked: true,
+        },
     );
     answer(&rt, &mut played, Side::Black, b"=4 pass\n\n");
     assert!(rt; played.in_step(Side::Black));
@@ -49,7 +51,11 @@ fn two_passes_end_by_score(rt: HostRuntime) {
     answer(&rt, &mut played, Side::White, b"=5 pass\n\n");
     let text = b"game 1: 0 moves 2 restarts 0 0";
     ended(&rt, &played, Verdict::Score(0), text.as_slice());
-    assert_eq!(rt; record_line(&played).as_slice(), b"pass pass".as_slice());
+    assert_equal(
+        &rt,
+        record_line(&played).as_slice(),
+        b"pass pass".as_slice(),
+    );
 }
 
 #[test]
@@ -63,17 +69,26 @@ fn score_comes_before_the_limit(rt: HostRuntime) {
     answer(&rt, &mut played, Side::White, b"=4\n\n");
     send_and_wait(&rt, &mut played, Side::White, b"5 genmove w\n");
     answer(&rt, &mut played, Side::White, b"=5 PaSs\n\n");
-    assert_eq!(rt; played.next(), Action::Done(Verdict::Score(1_999_999_999)));
-    assert_eq!(rt;
+    assert_equal(
+        &rt,
+        played.next(),
+        Action::Done(Verdict::Score(1_999_999_999)),
+    );
+    assert_equal(
+        &rt,
         result_line(4_294_967_295, &played)
             .expect(&rt, "an end")
             .as_slice(),
-        b"game 4294967295: B+999999999.5 moves 2 restarts 0 0".as_slice()
+        b"game 4294967295: B+999999999.5 moves 2 restarts 0 0".as_slice(),
     );
     assert!(rt; played.in_step(Side::White));
     assert!(rt; !played.in_step(Side::Black));
     played.lost(Side::White);
-    assert_eq!(rt; played.next(), Action::Done(Verdict::Score(1_999_999_999)));
+    assert_equal(
+        &rt,
+        played.next(),
+        Action::Done(Verdict::Score(1_999_999_999)),
+    );
 }
 
 #[test]
@@ -89,7 +104,7 @@ fn the_last_move_that_is_allowed_ends_by_the_limit(rt: HostRuntime) {
     answer(&rt, &mut played, Side::White, b"=5 B2\n\n");
     let text = b"game 1: limit moves 2 restarts 0 0";
     ended(&rt, &played, Verdict::Limit, text.as_slice());
-    assert_eq!(rt; record_line(&played).as_slice(), b"pass B2".as_slice());
+    assert_equal(&rt, record_line(&played).as_slice(), b"pass B2".as_slice());
 }
 
 #[test]
@@ -100,7 +115,7 @@ fn white_moves_first_where_there_is_a_handicap(rt: HostRuntime) {
     send_and_wait(&rt, &mut played, Side::White, b"5 genmove w\n");
     answer(&rt, &mut played, Side::White, b"=5 Q16\n\n");
     let text = b"game 1: B+F(illegal move) moves 0 restarts 0 0";
-    assert_eq!(rt; line(&rt, &played).as_slice(), text.as_slice());
+    assert_equal(&rt, line(&rt, &played).as_slice(), text.as_slice());
 }
 
 #[test]
@@ -108,20 +123,20 @@ fn a_side_that_went_down_gets_the_whole_script_again(rt: HostRuntime) {
     let mut played = black_asked(&rt, 1);
     hear(&rt, &mut played, Side::Black, b"=4 A1\n", 6, None);
     played.lost(Side::Black);
-    assert_eq!(rt; played.status(Side::Black), Status::Down);
+    assert_equal(&rt, played.status(Side::Black), Status::Down);
     assert!(rt; played.game().moves().is_empty());
     assert!(rt; played.in_step(Side::White));
-    assert_eq!(rt; played.restarts(Side::Black), 0);
-    assert_eq!(rt; played.next(), Action::Start(Side::Black));
+    assert_equal(&rt, played.restarts(Side::Black), 0);
+    assert_equal(&rt, played.next(), Action::Start(Side::Black));
     played.started(Side::Black);
-    assert_eq!(rt; played.restarts(Side::Black), 1);
-    assert_eq!(rt; played.status(Side::Black), up(0, 0));
+    assert_equal(&rt, played.restarts(Side::Black), 1);
+    assert_equal(&rt, played.status(Side::Black), up(0, 0));
     bring(&rt, &mut played, Side::Black);
     assert!(rt; played.in_step(Side::Black));
     send_and_wait(&rt, &mut played, Side::Black, b"4 genmove b\n");
     hear(&rt, &mut played, Side::Black, b"=4 A1\n", 6, None);
     hear(&rt, &mut played, Side::Black, b"\n", 1, None);
-    assert_eq!(rt; record_line(&played).as_slice(), b"A1".as_slice());
+    assert_equal(&rt, record_line(&played).as_slice(), b"A1".as_slice());
     assert!(rt; played.in_step(Side::Black));
 }
 
@@ -131,7 +146,7 @@ fn the_script_of_a_restarted_side_has_the_moves(rt: HostRuntime) {
     answer(&rt, &mut played, Side::Black, b"=4 A1\n\n");
     send_and_wait(&rt, &mut played, Side::White, b"4 play b A1\n");
     played.lost(Side::White);
-    assert_eq!(rt; played.next(), Action::Start(Side::White));
+    assert_equal(&rt, played.next(), Action::Start(Side::White));
     played.started(Side::White);
     bring(&rt, &mut played, Side::White);
     assert!(rt; !played.in_step(Side::White));
@@ -139,8 +154,8 @@ fn the_script_of_a_restarted_side_has_the_moves(rt: HostRuntime) {
     answer(&rt, &mut played, Side::White, b"=4\n\n");
     assert!(rt; played.in_step(Side::White));
     send_and_wait(&rt, &mut played, Side::White, b"5 genmove w\n");
-    assert_eq!(rt; played.restarts(Side::White), 1);
-    assert_eq!(rt; played.restarts(Side::Black), 0);
+    assert_equal(&rt, played.restarts(Side::White), 1);
+    assert_equal(&rt, played.restarts(Side::Black), 0);
 }
 
 #[test]
@@ -155,9 +170,9 @@ fn a_verdict_once_given_stays(rt: HostRuntime) {
         text.as_slice(),
     );
     hear(&rt, &mut played, Side::White, b"hello", 5, None);
-    assert_eq!(rt; played.status(Side::White), up(0, 0));
+    assert_equal(&rt, played.status(Side::White), up(0, 0));
     played.lost(Side::White);
-    assert_eq!(rt; played.status(Side::White), Status::Down);
+    assert_equal(&rt, played.status(Side::White), Status::Down);
     ended(
         &rt,
         &played,
@@ -190,7 +205,7 @@ fn a_match_in_which_each_genmove_of_black_is_lost_stays_below_its_bound(rt: Host
     let sent = bring_counted(&rt, &mut played, Side::White, sent);
     let sent = counted(&rt, &mut played, Side::Black, b"4 genmove b\n", sent);
     played.lost(Side::Black);
-    assert_eq!(rt; played.next(), Action::Start(Side::Black));
+    assert_equal(&rt, played.next(), Action::Start(Side::Black));
     played.started(Side::Black);
     let sent = bring_counted(&rt, &mut played, Side::Black, sent);
     let sent = counted(&rt, &mut played, Side::Black, b"4 genmove b\n", sent);
@@ -203,7 +218,7 @@ fn a_match_in_which_each_genmove_of_black_is_lost_stays_below_its_bound(rt: Host
         text.as_slice(),
     );
     // Black's script and `genmove` twice, and White's script.
-    assert_eq!(rt; sent, 2 * (3 + 1) + 3);
+    assert_equal(&rt, sent, 2 * (3 + 1) + 3);
     // Of two sides, each started twice at most, and each engine sent at most 14.
     assert!(rt; sent <= 56);
 }

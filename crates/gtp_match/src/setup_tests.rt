@@ -1,3 +1,4 @@
+use crate::equal::assert_equal;
 use crate::test_steps::setup_with;
 use crate::{Setup, SetupFault};
 use go_base::{Colour, Komi, Move, Size, Vertex};
@@ -9,25 +10,30 @@ fn a_setup_names_the_first_cause(rt: HostRuntime) {
     let komi = Komi::from_half_points(0).expect(&rt, "a komi");
     let six = Size::new(6).expect(&rt, "a size");
     let nineteen = Size::new(19).expect(&rt, "a size");
-    assert_eq!(rt;
+    assert_equal(
+        &rt,
         Setup::new(six, komi, 2, 1, 0).err(),
-        Some(SetupFault::Handicap)
+        Some(SetupFault::Handicap),
     );
-    assert_eq!(rt;
+    assert_equal(
+        &rt,
         Setup::new(nineteen, komi, 1, 1, 0).err(),
-        Some(SetupFault::Handicap)
+        Some(SetupFault::Handicap),
     );
-    assert_eq!(rt;
+    assert_equal(
+        &rt,
         Setup::new(nineteen, komi, 0, 0, 0).err(),
-        Some(SetupFault::MaxMoves)
+        Some(SetupFault::MaxMoves),
     );
-    assert_eq!(rt;
+    assert_equal(
+        &rt,
         Setup::new(nineteen, komi, 0, 2001, 0).err(),
-        Some(SetupFault::MaxMoves)
+        Some(SetupFault::MaxMoves),
     );
-    assert_eq!(rt;
+    assert_equal(
+        &rt,
         Setup::new(nineteen, komi, 0, 1, 1001).err(),
-        Some(SetupFault::MaxRestarts)
+        Some(SetupFault::MaxRestarts),
     );
     assert!(rt; Setup::new(nineteen, komi, 0, 2000, 1000).is_ok());
 }
@@ -37,17 +43,20 @@ fn the_handicap_is_checked_before_the_moves_and_those_before_the_restarts(rt: Ho
     let komi = Komi::from_half_points(0).expect(&rt, "a komi");
     let six = Size::new(6).expect(&rt, "a size");
     let nineteen = Size::new(19).expect(&rt, "a size");
-    assert_eq!(rt;
+    assert_equal(
+        &rt,
         Setup::new(six, komi, 2, 0, 1001).err(),
-        Some(SetupFault::Handicap)
+        Some(SetupFault::Handicap),
     );
-    assert_eq!(rt;
+    assert_equal(
+        &rt,
         Setup::new(nineteen, komi, 10, 2001, 1001).err(),
-        Some(SetupFault::Handicap)
+        Some(SetupFault::Handicap),
     );
-    assert_eq!(rt;
+    assert_equal(
+        &rt,
         Setup::new(nineteen, komi, 9, 0, 1001).err(),
-        Some(SetupFault::MaxMoves)
+        Some(SetupFault::MaxMoves),
     );
 }
 
@@ -60,12 +69,16 @@ fn the_script_has_the_handicap_and_then_the_moves(rt: HostRuntime) {
         colour: Colour::White,
         vertex: Vertex::Pass,
     }];
-    assert_eq!(rt; setup.script(&moves, 0), Some(Command::Boardsize(size)));
-    assert_eq!(rt; setup.script(&moves, 1), Some(Command::Komi(komi)));
-    assert_eq!(rt; setup.script(&moves, 2), Some(Command::ClearBoard));
-    assert_eq!(rt; setup.script(&moves, 3), Some(Command::FixedHandicap(2)));
-    assert_eq!(rt; setup.script(&moves, 4), Some(Command::Play(moves[0])));
-    assert_eq!(rt; setup.script(&moves, 5), None);
+    assert_equal(&rt, setup.script(&moves, 0), Some(Command::Boardsize(size)));
+    assert_equal(&rt, setup.script(&moves, 1), Some(Command::Komi(komi)));
+    assert_equal(&rt, setup.script(&moves, 2), Some(Command::ClearBoard));
+    assert_equal(
+        &rt,
+        setup.script(&moves, 3),
+        Some(Command::FixedHandicap(2)),
+    );
+    assert_equal(&rt, setup.script(&moves, 4), Some(Command::Play(moves[0])));
+    assert_equal(&rt, setup.script(&moves, 5), None);
 }
 
 #[test]
@@ -75,8 +88,8 @@ fn without_a_handicap_the_moves_follow_the_empty_board(rt: HostRuntime) {
         colour: Colour::Black,
         vertex: Vertex::Pass,
     }];
-    assert_eq!(rt; setup.script(&moves, 2), Some(Command::ClearBoard));
-    assert_eq!(rt; setup.script(&moves, 3), Some(Command::Play(moves[0])));
-    assert_eq!(rt; setup.script(&moves, 4), None);
-    assert_eq!(rt; setup.script(&moves, 4_294_967_295), None);
+    assert_equal(&rt, setup.script(&moves, 2), Some(Command::ClearBoard));
+    assert_equal(&rt, setup.script(&moves, 3), Some(Command::Play(moves[0])));
+    assert_equal(&rt, setup.script(&moves, 4), None);
+    assert_equal(&rt, setup.script(&moves, 4_294_967_295), None);
 }

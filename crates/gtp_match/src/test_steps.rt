@@ -1,4 +1,5 @@
 //! The steps that the tests of matches share.
+use crate::equal::assert_equal;
 use crate::{Action, Heard, Match, ResultText, Setup, SideFault, Status, Verdict, result_line};
 use go_base::{Komi, Side, Size};
 use std::process::Abort;
@@ -19,14 +20,14 @@ pub(crate) fn setup_with(
 
 /// Sends a side its next command, which has to be this line.
 pub(crate) fn send(rt: &impl Abort, played: &mut Match, side: Side, line: &[u8]) {
-    assert_eq!(rt; played.next(), Action::Send(side));
-    assert_eq!(rt; played.send(side).as_slice(), line);
+    assert_equal(rt, played.next(), Action::Send(side));
+    assert_equal(rt, played.send(side).as_slice(), line);
 }
 
 /// Sends a side its next command, as `send` does, which the side has to answer before anything else is done.
 pub(crate) fn send_and_wait(rt: &impl Abort, played: &mut Match, side: Side, line: &[u8]) {
     send(rt, played, side, line);
-    assert_eq!(rt; played.next(), Action::Wait(side));
+    assert_equal(rt, played.next(), Action::Wait(side));
 }
 
 /// A side answers with these bytes: all of them are used, without a fault.
@@ -43,15 +44,15 @@ pub(crate) fn hear(
     used: usize,
     fault: Option<SideFault>,
 ) {
-    assert_eq!(rt; played.heard(side, bytes), Heard { used, fault });
+    assert_equal(rt, played.heard(side, bytes), Heard { used, fault });
 }
 
 /// A match of which both sides are started.
 pub(crate) fn both_started(rt: &impl Abort, setup: Setup) -> Match {
     let mut played = Match::new(setup);
-    assert_eq!(rt; played.next(), Action::Start(Side::Black));
+    assert_equal(rt, played.next(), Action::Start(Side::Black));
     played.started(Side::Black);
-    assert_eq!(rt; played.next(), Action::Start(Side::White));
+    assert_equal(rt, played.next(), Action::Start(Side::White));
     played.started(Side::White);
     played
 }
@@ -119,8 +120,8 @@ pub(crate) fn line(rt: &impl Abort, played: &Match) -> ResultText {
 
 /// The match ended so, and is told by this line.
 pub(crate) fn ended(rt: &impl Abort, played: &Match, verdict: Verdict, text: &[u8]) {
-    assert_eq!(rt; played.next(), Action::Done(verdict));
-    assert_eq!(rt; line(rt, played).as_slice(), text);
+    assert_equal(rt, played.next(), Action::Done(verdict));
+    assert_equal(rt, line(rt, played).as_slice(), text);
 }
 
 /// A side that is up, and was not asked for a move.

@@ -1,4 +1,5 @@
 //! Commands that are sent before earlier ones are answered.
+use crate::equal::assert_equal;
 use crate::test_steps::{
     answer, both_in_step, both_started, first_sent, hear, send, send_and_wait, setup_with, up,
 };
@@ -13,13 +14,13 @@ fn a_script_is_sent_before_its_first_answer(rt: HostRuntime) {
     send(&rt, &mut played, Side::Black, b"1 boardsize 2\n");
     send(&rt, &mut played, Side::Black, b"2 komi 0\n");
     send_and_wait(&rt, &mut played, Side::Black, b"3 clear_board\n");
-    assert_eq!(rt; played.status(Side::Black), up(0, 3));
+    assert_equal(&rt, played.status(Side::Black), up(0, 3));
     hear(&rt, &mut played, Side::Black, b"=1\n\n=2", 4, None);
-    assert_eq!(rt; played.status(Side::Black), up(1, 2));
-    assert_eq!(rt; played.next(), Action::Wait(Side::Black));
-    assert_eq!(rt; played.hear_all(Side::Black, b"=2\n\n=3\n\n"), None);
+    assert_equal(&rt, played.status(Side::Black), up(1, 2));
+    assert_equal(&rt, played.next(), Action::Wait(Side::Black));
+    assert_equal(&rt, played.hear_all(Side::Black, b"=2\n\n=3\n\n"), None);
     assert!(rt; played.in_step(Side::Black));
-    assert_eq!(rt; played.next(), Action::Send(Side::White));
+    assert_equal(&rt, played.next(), Action::Send(Side::White));
 }
 
 #[test]
@@ -28,8 +29,12 @@ fn a_side_that_goes_on_is_sent_more_before_the_other_starts_again(rt: HostRuntim
     played.lost(Side::White);
     send(&rt, &mut played, Side::Black, b"2 komi 0\n");
     send_and_wait(&rt, &mut played, Side::Black, b"3 clear_board\n");
-    assert_eq!(rt; played.hear_all(Side::Black, b"=1\n\n=2\n\n=3\n\n"), None);
-    assert_eq!(rt; played.next(), Action::Start(Side::White));
+    assert_equal(
+        &rt,
+        played.hear_all(Side::Black, b"=1\n\n=2\n\n=3\n\n"),
+        None,
+    );
+    assert_equal(&rt, played.next(), Action::Start(Side::White));
 }
 
 #[test]
@@ -44,12 +49,13 @@ fn the_oldest_command_is_answered_first(rt: HostRuntime) {
         4,
         Some(SideFault::WrongId),
     );
-    assert_eq!(rt; played.status(Side::Black), Status::Down);
+    assert_equal(&rt, played.status(Side::Black), Status::Down);
     let mut played = first_sent(&rt, 1);
     send(&rt, &mut played, Side::Black, b"2 komi 0\n");
-    assert_eq!(rt;
+    assert_equal(
+        &rt,
         played.hear_all(Side::Black, b"=1\n\n=1\n\n"),
-        Some(SideFault::WrongId)
+        Some(SideFault::WrongId),
     );
 }
 
@@ -62,9 +68,9 @@ fn success(id: u32, text: &[u8]) -> ReplyText {
 
 /// A side is sent a command, which it has to answer, and answers it by this id and text.
 fn send_and_answer(rt: &impl Abort, played: &mut Match, side: Side, id: u32, text: &[u8]) {
-    assert_eq!(rt; played.next(), Action::Send(side));
+    assert_equal(rt, played.next(), Action::Send(side));
     played.send(side);
-    assert_eq!(rt; played.next(), Action::Wait(side));
+    assert_equal(rt, played.next(), Action::Wait(side));
     answer(rt, played, side, success(id, text).as_slice());
 }
 
@@ -92,16 +98,16 @@ fn fill(rt: &impl Abort, played: &mut Match, moves: u32) {
 /// A side goes down, and is started again.
 fn start_again(rt: &impl Abort, played: &mut Match, side: Side) {
     played.lost(side);
-    assert_eq!(rt; played.next(), Action::Start(side));
+    assert_equal(rt, played.next(), Action::Start(side));
     played.started(side);
-    assert_eq!(rt; played.status(side), up(0, 0));
+    assert_equal(rt, played.status(side), up(0, 0));
 }
 
 #[test]
 fn a_side_started_again_is_sent_eight_commands_before_it_has_to_answer(rt: HostRuntime) {
     let mut played = both_in_step(&rt, 1);
     fill(&rt, &mut played, 3);
-    assert_eq!(rt; played.game().moves().len(), 6);
+    assert_equal(&rt, played.game().moves().len(), 6);
     start_again(&rt, &mut played, Side::Black);
     send(&rt, &mut played, Side::Black, b"1 boardsize 2\n");
     send(&rt, &mut played, Side::Black, b"2 komi 0\n");
@@ -111,12 +117,12 @@ fn a_side_started_again_is_sent_eight_commands_before_it_has_to_answer(rt: HostR
     send(&rt, &mut played, Side::Black, b"6 play b B1\n");
     send(&rt, &mut played, Side::Black, b"7 play w pass\n");
     send_and_wait(&rt, &mut played, Side::Black, b"8 play b A2\n");
-    assert_eq!(rt; played.status(Side::Black), up(0, 8));
+    assert_equal(&rt, played.status(Side::Black), up(0, 8));
     answer(&rt, &mut played, Side::Black, b"=1\n\n");
     send_and_wait(&rt, &mut played, Side::Black, b"9 play w pass\n");
-    assert_eq!(rt; played.status(Side::Black), up(1, 8));
+    assert_equal(&rt, played.status(Side::Black), up(1, 8));
     let rest = b"=2\n\n=3\n\n=4\n\n=5\n\n=6\n\n=7\n\n=8\n\n=9\n\n";
-    assert_eq!(rt; played.hear_all(Side::Black, rest.as_slice()), None);
+    assert_equal(&rt, played.hear_all(Side::Black, rest.as_slice()), None);
     assert!(rt; played.in_step(Side::Black));
     send_and_wait(&rt, &mut played, Side::Black, b"10 genmove b\n");
 }
@@ -144,10 +150,10 @@ fn round_trip(rt: &impl Abort, played: &mut Match, side: Side, at_once: u32, ans
 fn trips_after_200_moves(rt: &impl Abort, at_once: u32) -> u32 {
     let mut played = both_started(rt, setup_with(rt, 19, 0, 0, 300, 1));
     for side in [Side::Black, Side::White] {
-        assert_eq!(rt; round_trip(rt, &mut played, side, 8, 0), 3);
+        assert_equal(rt, round_trip(rt, &mut played, side, 8, 0), 3);
     }
     fill(rt, &mut played, 100);
-    assert_eq!(rt; played.game().moves().len(), 200);
+    assert_equal(rt, played.game().moves().len(), 200);
     start_again(rt, &mut played, Side::Black);
     let (mut trips, mut answered): (u32, u32) = (0, 0);
     for _ in 0..300 {
@@ -157,8 +163,8 @@ fn trips_after_200_moves(rt: &impl Abort, at_once: u32) -> u32 {
         answered = round_trip(rt, &mut played, Side::Black, at_once, answered);
         trips = trips.saturating_add(1);
     }
-    assert_eq!(rt; answered, 203);
-    assert_eq!(rt; played.restarts(Side::Black), 1);
+    assert_equal(rt, answered, 203);
+    assert_equal(rt, played.restarts(Side::Black), 1);
     trips
 }
 
@@ -166,10 +172,10 @@ fn trips_after_200_moves(rt: &impl Abort, at_once: u32) -> u32 {
 fn a_game_of_200_moves_is_replayed_in_26_round_trips(rt: HostRuntime) {
     // The script has size, komi, the empty board and the moves: 203 commands. They are sent eight at a time, 25 times,
     // and then the last three.
-    assert_eq!(rt; trips_after_200_moves(&rt, 300), 26);
+    assert_equal(&rt, trips_after_200_moves(&rt, 300), 26);
 }
 
 #[test]
 fn one_answer_at_a_time_makes_a_round_trip_of_each_command(rt: HostRuntime) {
-    assert_eq!(rt; trips_after_200_moves(&rt, 1), 203);
+    assert_equal(&rt, trips_after_200_moves(&rt, 1), 203);
 }

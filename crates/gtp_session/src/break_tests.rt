@@ -1,4 +1,5 @@
 //! Conversations whose streams break, over memory.
+use crate::equal::assert_equal;
 use crate::fault::Fault;
 use crate::first::First;
 use crate::memory::{Limited, Pieces, Stuck, Telling, Unflushed, Waiting};
@@ -108,10 +109,10 @@ fn a_writer_breaks_after_each_number_of_bytes(rt: HostRuntime) -> Result<(), Fai
         let answer = serve_within(&mut reader, &mut writer, &mut session, 1000);
         // The line whose reply broke was executed, and none was read after it.
         let executed = whole_replies(room).saturating_add(1);
-        assert_eq!(rt; answer, Err(ServeFault::Write));
-        assert_eq!(rt; taken.as_slice(), &output[..room]);
-        assert_eq!(rt; session.game().moves().len(), moves_after(executed));
-        assert_eq!(rt; pieces.turn, executed);
+        assert_equal(&rt, answer, Err(ServeFault::Write));
+        assert_equal(&rt, taken.as_slice(), &output[..room]);
+        assert_equal(&rt, session.game().moves().len(), moves_after(executed));
+        assert_equal(&rt, pieces.turn, executed);
     }
     Ok(())
 }
@@ -134,17 +135,21 @@ fn a_reader_fails_at_each_line_and_the_next_call_goes_on(rt: HostRuntime) -> Res
             &mut Counted::new(&mut taken),
             &mut session,
         );
-        assert_eq!(rt; answer, Err(ServeFault::Read));
-        assert_eq!(rt; taken.as_slice(), replies(rt.alloc(), failing)?.as_slice());
-        assert_eq!(rt; session.game().moves().len(), moves_after(failing));
-        assert_eq!(rt; pieces.turn, failing.saturating_add(1));
+        assert_equal(&rt, answer, Err(ServeFault::Read));
+        assert_equal(
+            &rt,
+            taken.as_slice(),
+            replies(rt.alloc(), failing)?.as_slice(),
+        );
+        assert_equal(&rt, session.game().moves().len(), moves_after(failing));
+        assert_equal(&rt, pieces.turn, failing.saturating_add(1));
         let answer = serve(
             &mut Counted::new(&mut pieces),
             &mut Counted::new(&mut taken),
             &mut session,
         );
-        assert_eq!(rt; answer, Ok(Served::EndOfInput));
-        assert_eq!(rt; taken.as_slice(), replies(rt.alloc(), 12)?.as_slice());
+        assert_equal(&rt, answer, Ok(Served::EndOfInput));
+        assert_equal(&rt, taken.as_slice(), replies(rt.alloc(), 12)?.as_slice());
     }
     Ok(())
 }
@@ -168,10 +173,14 @@ fn a_reader_fails_after_each_byte(rt: HostRuntime) -> Result<(), Fail> {
             &mut session,
             1000,
         );
-        assert_eq!(rt; answer, Err(ServeFault::Read));
-        assert_eq!(rt; taken.as_slice(), replies(rt.alloc(), lines)?.as_slice());
-        assert_eq!(rt; session.game().moves().len(), moves_after(lines));
-        assert_eq!(rt; pieces.turn, failing.saturating_add(1));
+        assert_equal(&rt, answer, Err(ServeFault::Read));
+        assert_equal(
+            &rt,
+            taken.as_slice(),
+            replies(rt.alloc(), lines)?.as_slice(),
+        );
+        assert_equal(&rt, session.game().moves().len(), moves_after(lines));
+        assert_equal(&rt, pieces.turn, failing.saturating_add(1));
         if input[failing] == b'\n' {
             lines = lines.saturating_add(1);
         }
@@ -194,9 +203,13 @@ fn a_flush_that_fails_is_a_write_fault(rt: HostRuntime) -> Result<(), Fail> {
             &mut session,
         );
         let executed = flushes.saturating_add(1);
-        assert_eq!(rt; answer, Err(ServeFault::Write));
-        assert_eq!(rt; taken.as_slice(), replies(rt.alloc(), executed)?.as_slice());
-        assert_eq!(rt; session.game().moves().len(), moves_after(executed));
+        assert_equal(&rt, answer, Err(ServeFault::Write));
+        assert_equal(
+            &rt,
+            taken.as_slice(),
+            replies(rt.alloc(), executed)?.as_slice(),
+        );
+        assert_equal(&rt, session.game().moves().len(), moves_after(executed));
     }
     Ok(())
 }
@@ -215,9 +228,9 @@ fn a_write_that_takes_nothing_is_a_write_fault(rt: HostRuntime) {
         &mut Counted::new(Stuck),
         &mut session,
     );
-    assert_eq!(rt; answer, Err(ServeFault::Write));
-    assert_eq!(rt; session.game().moves().len(), 1);
-    assert_eq!(rt; pieces.turn, 1);
+    assert_equal(&rt, answer, Err(ServeFault::Write));
+    assert_equal(&rt, session.game().moves().len(), 1);
+    assert_equal(&rt, pieces.turn, 1);
 }
 
 #[test]
@@ -236,7 +249,7 @@ fn several_reads_of_one_call_wait_for_the_replies(rt: HostRuntime) -> Result<(),
     });
     let mut session = Session::new(First);
     let answer = serve_within(&mut reader, &mut writer, &mut session, 10);
-    assert_eq!(rt; answer, Ok(Served::Quit));
+    assert_equal(&rt, answer, Ok(Served::Quit));
     Ok(())
 }
 
@@ -258,7 +271,7 @@ fn nothing_is_read_after_a_stop(rt: HostRuntime) {
             10,
             fault,
         );
-        assert_eq!(rt; answer, Ok(Served::Stopped));
-        assert_eq!(rt; pieces.turn, 1);
+        assert_equal(&rt, answer, Ok(Served::Stopped));
+        assert_equal(&rt, pieces.turn, 1);
     }
 }

@@ -1,5 +1,6 @@
 //! What each command answers, from the bytes in to the bytes out.
 use crate::book::Book;
+use crate::equal::assert_equal;
 use crate::first::First;
 use crate::memory::Pieces;
 use crate::serve::{Served, serve};
@@ -355,8 +356,8 @@ fn a_full_record_refuses_before_the_board_does(rt: HostRuntime) -> Result<(), Fa
         });
         let mut writer = Counted::new(&mut taken);
         let answer = serve(&mut reader, &mut writer, &mut session);
-        assert_eq!(rt; answer, Ok(Served::EndOfInput));
-        assert_eq!(rt; taken.as_slice(), output.as_slice());
+        assert_equal(&rt, answer, Ok(Served::EndOfInput));
+        assert_equal(&rt, taken.as_slice(), output.as_slice());
     }
     Ok(())
 }

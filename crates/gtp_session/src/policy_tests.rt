@@ -1,6 +1,7 @@
 //! What the policies choose.
 use crate::book::{Book, Entry, MOST_ENTRIES};
 use crate::candidates::candidates;
+use crate::equal::assert_equal;
 use crate::first::First;
 use crate::laws;
 use crate::policy::{Choice, Policy};
@@ -103,9 +104,9 @@ fn assert_candidates(
     texts: &[&[u8]],
 ) -> Result<(), Fail> {
     let found = candidates(game, colour);
-    assert_eq!(rt; found.len(), texts.len());
+    assert_equal(rt, found.len(), texts.len());
     for (point, text) in found.iter().zip(texts) {
-        assert_eq!(rt; Vertex::At(*point), vertex(text)?);
+        assert_equal(rt, Vertex::At(*point), vertex(text)?);
     }
     Ok(())
 }
@@ -146,7 +147,11 @@ fn candidates_are_those_of_a_slow_search(rt: HostRuntime) -> Result<(), Fail> {
         let mut colour = Colour::Black;
         for _ in 0..moves {
             let found = candidates(&game, colour);
-            assert_eq!(rt; found.as_slice(), slow_candidates(&game, colour).as_slice());
+            assert_equal(
+                &rt,
+                found.as_slice(),
+                slow_candidates(&game, colour).as_slice(),
+            );
             choose_and_play(&mut policy, &mut game, colour)?;
             colour = colour.other();
         }
@@ -157,21 +162,23 @@ fn candidates_are_those_of_a_slow_search(rt: HostRuntime) -> Result<(), Fail> {
 #[test]
 fn first_takes_a1_on_an_empty_board(rt: HostRuntime) -> Result<(), Fail> {
     let game = fresh(19)?;
-    assert_eq!(rt; First.choose(&game, Colour::Black), play(b"A1")?);
-    assert_eq!(rt; First.choose(&game, Colour::White), play(b"A1")?);
+    assert_equal(&rt, First.choose(&game, Colour::Black), play(b"A1")?);
+    assert_equal(&rt, First.choose(&game, Colour::White), play(b"A1")?);
     Ok(())
 }
 
 #[test]
 fn first_passes_on_the_board_of_one_point(rt: HostRuntime) -> Result<(), Fail> {
     let mut game = fresh(1)?;
-    assert_eq!(rt;
+    assert_equal(
+        &rt,
         choose_and_play(&mut First, &mut game, Colour::Black)?,
-        PASS
+        PASS,
     );
-    assert_eq!(rt;
+    assert_equal(
+        &rt,
         choose_and_play(&mut First, &mut game, Colour::White)?,
-        PASS
+        PASS,
     );
     assert!(rt; game.finished());
     Ok(())
@@ -185,9 +192,10 @@ fn first_against_itself_on_four_points(rt: HostRuntime) -> Result<(), Fail> {
         b"A1", b"B1", b"A2", b"B2", b"A1", b"A2", b"A1", b"B1", b"A2", b"B2",
     ];
     for text in moves {
-        assert_eq!(rt;
+        assert_equal(
+            &rt,
             choose_and_play(&mut First, &mut game, colour)?,
-            play(text)?
+            play(text)?,
         );
         colour = colour.other();
     }
@@ -210,7 +218,7 @@ fn random_takes_the_candidates_that_the_words_of_its_seed_name(
                 let number = words.next_u64() % all.len() as u64;
                 want = Choice::Play(Vertex::At(*all.get(number as usize).ok_or("number")?));
             }
-            assert_eq!(rt; choose_and_play(&mut policy, &mut game, colour)?, want);
+            assert_equal(&rt, choose_and_play(&mut policy, &mut game, colour)?, want);
             colour = colour.other();
         }
     }
@@ -222,25 +230,25 @@ fn random_without_a_candidate_draws_no_word(rt: HostRuntime) -> Result<(), Fail>
     let mut policy = Random::new(1);
     let smallest = fresh(1)?;
     for _ in 0..3 {
-        assert_eq!(rt; policy.choose(&smallest, Colour::Black), PASS);
+        assert_equal(&rt, policy.choose(&smallest, Colour::Black), PASS);
     }
     let game = fresh(19)?;
     let word = Pcg64::seed_from_u64(1).next_u64();
     let number = (word % 361) as u32;
     let point = Point::new(number % 19 + 1, number / 19 + 1).ok_or("point")?;
     let want = Choice::Play(Vertex::At(point));
-    assert_eq!(rt; policy.choose(&game, Colour::Black), want);
+    assert_equal(&rt, policy.choose(&game, Colour::Black), want);
     Ok(())
 }
 
 #[test]
 fn one_place_of_a_book_is_a_vertex_resign_or_nothing(rt: HostRuntime) -> Result<(), Fail> {
-    assert_eq!(rt; Entry::read(b""), Some(Entry::Empty));
-    assert_eq!(rt; Entry::read(b"pAsS"), Some(Entry::Play(Vertex::Pass)));
-    assert_eq!(rt; Entry::read(b"ReSiGn"), Some(Entry::Resign));
-    assert_eq!(rt; Entry::read(b"c3"), Some(Entry::Play(vertex(b"C3")?)));
+    assert_equal(&rt, Entry::read(b""), Some(Entry::Empty));
+    assert_equal(&rt, Entry::read(b"pAsS"), Some(Entry::Play(Vertex::Pass)));
+    assert_equal(&rt, Entry::read(b"ReSiGn"), Some(Entry::Resign));
+    assert_equal(&rt, Entry::read(b"c3"), Some(Entry::Play(vertex(b"C3")?)));
     for text in [b" ".as_slice(), b"C3 ", b"D44", b"I5", b"resigns", b"C3;D4"] {
-        assert_eq!(rt; Entry::read(text), None);
+        assert_equal(&rt, Entry::read(text), None);
     }
     Ok(())
 }
@@ -272,9 +280,13 @@ fn a_book_has_at_most_2000_entries(rt: HostRuntime) -> Result<(), Fail> {
     let mut book = Book::read(&text).ok_or("book")?;
     let mut game = fresh(1)?;
     for _ in 1..MOST_ENTRIES {
-        assert_eq!(rt; choose_and_play(&mut book, &mut game, Colour::Black)?, PASS);
+        assert_equal(
+            &rt,
+            choose_and_play(&mut book, &mut game, Colour::Black)?,
+            PASS,
+        );
     }
-    assert_eq!(rt; book.choose(&game, Colour::Black), Choice::Resign);
+    assert_equal(&rt, book.choose(&game, Colour::Black), Choice::Resign);
     text.push(b',')?;
     assert!(rt; Book::read(&text).is_none());
     Ok(())
@@ -284,26 +296,37 @@ fn a_book_has_at_most_2000_entries(rt: HostRuntime) -> Result<(), Fail> {
 fn a_book_is_read_by_the_length_of_the_record(rt: HostRuntime) -> Result<(), Fail> {
     let mut book = Book::read(b"C3,,resign").ok_or("book")?;
     let mut game = fresh(9)?;
-    assert_eq!(rt;
+    assert_equal(
+        &rt,
         choose_and_play(&mut book, &mut game, Colour::Black)?,
-        play(b"C3")?
+        play(b"C3")?,
     );
-    assert_eq!(rt; choose_and_play(&mut book, &mut game, Colour::White)?, PASS);
-    assert_eq!(rt;
-        choose_and_play(&mut book, &mut game, Colour::Black)?,
-        Choice::Resign
+    assert_equal(
+        &rt,
+        choose_and_play(&mut book, &mut game, Colour::White)?,
+        PASS,
     );
-    assert_eq!(rt;
+    assert_equal(
+        &rt,
         choose_and_play(&mut book, &mut game, Colour::Black)?,
-        Choice::Resign
+        Choice::Resign,
+    );
+    assert_equal(
+        &rt,
+        choose_and_play(&mut book, &mut game, Colour::Black)?,
+        Choice::Resign,
     );
     // Past its last entry it passes.
     game.play(Colour::Black, Vertex::Pass)?;
-    assert_eq!(rt; choose_and_play(&mut book, &mut game, Colour::White)?, PASS);
+    assert_equal(
+        &rt,
+        choose_and_play(&mut book, &mut game, Colour::White)?,
+        PASS,
+    );
     // Taking moves back turns its pages back.
     game.undo()?;
     game.undo()?;
-    assert_eq!(rt; book.choose(&game, Colour::White), Choice::Resign);
+    assert_equal(&rt, book.choose(&game, Colour::White), Choice::Resign);
     Ok(())
 }
 
@@ -313,13 +336,17 @@ fn a_book_passes_where_its_vertex_is_not_legal(rt: HostRuntime) -> Result<(), Fa
     let mut game = fresh(9)?;
     let choices = [play(b"C3")?, PASS, PASS, PASS, play(b"D4")?, PASS];
     for want in choices {
-        assert_eq!(rt; choose_and_play(&mut book, &mut game, Colour::Black)?, want);
+        assert_equal(
+            &rt,
+            choose_and_play(&mut book, &mut game, Colour::Black)?,
+            want,
+        );
     }
     // Suicide.
     let mut book = Book::read(b",,A1").ok_or("book")?;
     let game = game_with(9, &[b"B1", b"A2"], &[])?;
-    assert_eq!(rt; book.choose(&game, Colour::White), PASS);
-    assert_eq!(rt; book.choose(&game, Colour::Black), play(b"A1")?);
+    assert_equal(&rt, book.choose(&game, Colour::White), PASS);
+    assert_equal(&rt, book.choose(&game, Colour::Black), play(b"A1")?);
     Ok(())
 }
 
@@ -327,8 +354,16 @@ fn a_book_passes_where_its_vertex_is_not_legal(rt: HostRuntime) -> Result<(), Fa
 fn an_empty_book_passes(rt: HostRuntime) -> Result<(), Fail> {
     let mut book = Book::read(b"").ok_or("book")?;
     let mut game = fresh(9)?;
-    assert_eq!(rt; choose_and_play(&mut book, &mut game, Colour::Black)?, PASS);
-    assert_eq!(rt; choose_and_play(&mut book, &mut game, Colour::White)?, PASS);
+    assert_equal(
+        &rt,
+        choose_and_play(&mut book, &mut game, Colour::Black)?,
+        PASS,
+    );
+    assert_equal(
+        &rt,
+        choose_and_play(&mut book, &mut game, Colour::White)?,
+        PASS,
+    );
     Ok(())
 }
 

@@ -1,4 +1,5 @@
 //! What a session answers, as a controller reads it.
+use crate::equal::assert_equal;
 use crate::first::First;
 use crate::session::Session;
 use gtp_wire::{Reply, ReplyReader};
@@ -9,7 +10,7 @@ use std::test::Fail;
 fn reply_to(rt: &impl Abort, session: &mut Session<First>, line: &[u8]) -> Result<Reply, Fail> {
     let bytes = session.feed(line).reply.ok_or("no reply")?;
     let read = ReplyReader::new().feed(&bytes);
-    assert_eq!(rt; read.used, bytes.len());
+    assert_equal(rt, read.used, bytes.len());
     let Some(Ok(reply)) = read.got else {
         return Err("no whole reply".into());
     };
@@ -50,9 +51,9 @@ fn each_reply_is_read_as_it_was_meant(rt: HostRuntime) -> Result<(), Fail> {
     let mut session = Session::new(First);
     for (line, ok, id, text) in lines {
         let reply = reply_to(&rt, &mut session, line)?;
-        assert_eq!(rt; reply.ok, ok);
-        assert_eq!(rt; reply.id, id);
-        assert_eq!(rt; reply.text.as_slice(), text);
+        assert_equal(&rt, reply.ok, ok);
+        assert_equal(&rt, reply.id, id);
+        assert_equal(&rt, reply.text.as_slice(), text);
     }
     Ok(())
 }

@@ -1,4 +1,5 @@
 //! Conversations over memory.
+use crate::equal::assert_equal;
 use crate::first::First;
 use crate::memory::{Limited, Pieces, Strict, Telling, Waiting};
 use crate::policy::Policy;
@@ -62,9 +63,9 @@ pub fn assert_policy_serves<P: Policy>(
     let mut reader = reader_of(input, sizes, None);
     let mut writer = writer_of(&mut taken, 4096, 100);
     let answer = serve(&mut reader, &mut writer, &mut session);
-    assert_eq!(rt; answer, Ok(served));
-    assert_eq!(rt; session.ended(), served == Served::Quit);
-    assert_eq!(rt; taken.as_slice(), output);
+    assert_equal(rt, answer, Ok(served));
+    assert_equal(rt, session.ended(), served == Served::Quit);
+    assert_equal(rt, taken.as_slice(), output);
 }
 
 /// The same in one piece, in each two pieces, and byte after byte.
@@ -177,8 +178,8 @@ fn replies_go_out_in_as_many_writes_as_the_writer_wants(rt: HostRuntime) {
         let mut reader = reader_of(b"1 name\n2 version\n", &[], None);
         let mut writer = writer_of(&mut taken, 4096, step);
         let answer = serve(&mut reader, &mut writer, &mut session);
-        assert_eq!(rt; answer, Ok(Served::EndOfInput));
-        assert_eq!(rt; taken.as_slice(), b"=1 stepgo\n\n=2 1.0\n\n".as_slice());
+        assert_equal(&rt, answer, Ok(Served::EndOfInput));
+        assert_equal(&rt, taken.as_slice(), b"=1 stepgo\n\n=2 1.0\n\n".as_slice());
     }
 }
 
@@ -189,8 +190,8 @@ fn nothing_is_executed_after_a_writer_that_breaks(rt: HostRuntime) {
     let mut reader = reader_of(b"1 name\n2 quit\n", &[], None);
     let mut writer = writer_of(&mut taken, 3, 100);
     let answer = serve(&mut reader, &mut writer, &mut session);
-    assert_eq!(rt; answer, Err(ServeFault::Write));
-    assert_eq!(rt; taken.as_slice(), b"=1 ".as_slice());
+    assert_equal(&rt, answer, Err(ServeFault::Write));
+    assert_equal(&rt, taken.as_slice(), b"=1 ".as_slice());
     assert!(rt; !session.ended());
 }
 
@@ -201,8 +202,8 @@ fn no_read_is_allowed(rt: HostRuntime) {
     let mut reader = reader_of(b"name\n", &[], None);
     let mut writer = writer_of(&mut taken, 4096, 100);
     let answer = serve_within(&mut reader, &mut writer, &mut session, 0);
-    assert_eq!(rt; answer, Err(ServeFault::TooManyReads));
-    assert_eq!(rt; taken.len(), 0);
+    assert_equal(&rt, answer, Err(ServeFault::TooManyReads));
+    assert_equal(&rt, taken.len(), 0);
 }
 
 #[test]
@@ -212,14 +213,15 @@ fn reads_are_counted(rt: HostRuntime) {
     let mut reader = reader_of(b"1 name\n2 version\nquit\n", &[7, 10], None);
     let mut writer = writer_of(&mut taken, 4096, 100);
     let answer = serve_within(&mut reader, &mut writer, &mut session, 2);
-    assert_eq!(rt; answer, Err(ServeFault::TooManyReads));
+    assert_equal(&rt, answer, Err(ServeFault::TooManyReads));
     let answer = serve_within(&mut reader, &mut writer, &mut session, 1);
-    assert_eq!(rt; answer, Ok(Served::Quit));
+    assert_equal(&rt, answer, Ok(Served::Quit));
     let answer = serve_within(&mut reader, &mut writer, &mut session, 0);
-    assert_eq!(rt; answer, Ok(Served::Quit));
-    assert_eq!(rt;
+    assert_equal(&rt, answer, Ok(Served::Quit));
+    assert_equal(
+        &rt,
         taken.as_slice(),
-        b"=1 stepgo\n\n=2 1.0\n\n=\n\n".as_slice()
+        b"=1 stepgo\n\n=2 1.0\n\n=\n\n".as_slice(),
     );
 }
 
@@ -230,8 +232,8 @@ fn a_read_that_fails_ends_the_conversation(rt: HostRuntime) {
     let mut reader = reader_of(b"name\nquit\n", &[], Some(0));
     let mut writer = writer_of(&mut taken, 4096, 100);
     let answer = serve(&mut reader, &mut writer, &mut session);
-    assert_eq!(rt; answer, Err(ServeFault::Read));
-    assert_eq!(rt; taken.len(), 0);
+    assert_equal(&rt, answer, Err(ServeFault::Read));
+    assert_equal(&rt, taken.len(), 0);
 }
 
 #[test]
@@ -241,8 +243,8 @@ fn nothing_is_read_after_quit(rt: HostRuntime) {
     let mut reader = reader_of(b"name\nquit\nname\n", &[10], Some(1));
     let mut writer = writer_of(&mut taken, 4096, 100);
     let answer = serve(&mut reader, &mut writer, &mut session);
-    assert_eq!(rt; answer, Ok(Served::Quit));
-    assert_eq!(rt; taken.as_slice(), b"= stepgo\n\n=\n\n".as_slice());
+    assert_equal(&rt, answer, Ok(Served::Quit));
+    assert_equal(&rt, taken.as_slice(), b"= stepgo\n\n=\n\n".as_slice());
 }
 
 #[test]
@@ -252,10 +254,10 @@ fn a_conversation_goes_on_after_a_read_that_failed(rt: HostRuntime) {
     let mut reader = reader_of(b"name\nquit\n", &[7], Some(1));
     let mut writer = writer_of(&mut taken, 4096, 100);
     let answer = serve(&mut reader, &mut writer, &mut session);
-    assert_eq!(rt; answer, Err(ServeFault::Read));
+    assert_equal(&rt, answer, Err(ServeFault::Read));
     let answer = serve(&mut reader, &mut writer, &mut session);
-    assert_eq!(rt; answer, Ok(Served::Quit));
-    assert_eq!(rt; taken.as_slice(), b"= stepgo\n\n=\n\n".as_slice());
+    assert_equal(&rt, answer, Ok(Served::Quit));
+    assert_equal(&rt, taken.as_slice(), b"= stepgo\n\n=\n\n".as_slice());
 }
 
 #[test]
@@ -274,7 +276,7 @@ fn each_line_is_answered_and_flushed_before_the_next_is_read(rt: HostRuntime) ->
     });
     let mut session = Session::new(First);
     let answer = serve(&mut reader, &mut writer, &mut session);
-    assert_eq!(rt; answer, Ok(Served::Quit));
+    assert_equal(&rt, answer, Ok(Served::Quit));
     Ok(())
 }
 
@@ -287,10 +289,10 @@ fn comments_and_control_characters_in_a_play(rt: HostRuntime) -> Result<(), Fail
     let mut reader = reader_of(input, &[], None);
     let mut writer = writer_of(&mut taken, 4096, 100);
     let answer = serve(&mut reader, &mut writer, &mut session);
-    assert_eq!(rt; answer, Ok(Served::EndOfInput));
-    assert_eq!(rt; session.game().moves().len(), 1);
+    assert_equal(&rt, answer, Ok(Served::EndOfInput));
+    assert_equal(&rt, session.game().moves().len(), 1);
     let point = Point::new(4, 4).ok_or("no point")?;
-    assert_eq!(rt; session.game().at(point), Some(Colour::Black));
+    assert_equal(&rt, session.game().at(point), Some(Colour::Black));
     Ok(())
 }
 
@@ -302,9 +304,9 @@ fn an_unfinished_play_is_not_executed(rt: HostRuntime) {
     let mut reader = reader_of(b"play b D1", &[], None);
     let mut writer = writer_of(&mut taken, 4096, 100);
     let answer = serve(&mut reader, &mut writer, &mut session);
-    assert_eq!(rt; answer, Ok(Served::EndOfInput));
-    assert_eq!(rt; session.game().moves().len(), 0);
-    assert_eq!(rt; taken.len(), 0);
+    assert_equal(&rt, answer, Ok(Served::EndOfInput));
+    assert_equal(&rt, session.game().moves().len(), 0);
+    assert_equal(&rt, taken.len(), 0);
 }
 
 #[test]
@@ -314,11 +316,11 @@ fn a_play_whose_reply_breaks_was_made_and_the_next_was_not(rt: HostRuntime) -> R
     let mut reader = reader_of(b"1 play b A1\n2 play b B1\n", &[], None);
     let mut writer = writer_of(&mut taken, 3, 100);
     let answer = serve(&mut reader, &mut writer, &mut session);
-    assert_eq!(rt; answer, Err(ServeFault::Write));
-    assert_eq!(rt; taken.as_slice(), b"=1\n".as_slice());
-    assert_eq!(rt; session.game().moves().len(), 1);
+    assert_equal(&rt, answer, Err(ServeFault::Write));
+    assert_equal(&rt, taken.as_slice(), b"=1\n".as_slice());
+    assert_equal(&rt, session.game().moves().len(), 1);
     let point = Point::new(1, 1).ok_or("no point")?;
-    assert_eq!(rt; session.game().at(point), Some(Colour::Black));
+    assert_equal(&rt, session.game().at(point), Some(Colour::Black));
     Ok(())
 }
 
@@ -332,8 +334,8 @@ fn a_reply_is_one_write_and_is_flushed_before_the_next(rt: HostRuntime) -> Resul
         whole: false,
     });
     let answer = serve(&mut reader, &mut writer, &mut session);
-    assert_eq!(rt; answer, Ok(Served::Quit));
-    assert_eq!(rt; writes.get(), 3);
+    assert_equal(&rt, answer, Ok(Served::Quit));
+    assert_equal(&rt, writes.get(), 3);
     Ok(())
 }
 
@@ -348,7 +350,7 @@ fn one_read_has_room_for_4096_bytes(rt: HostRuntime) -> Result<(), Fail> {
     let mut reader = reader_of(&input, &[], None);
     let mut writer = writer_of(&mut taken, 4096, 100);
     let answer = serve_within(&mut reader, &mut writer, &mut session, 1);
-    assert_eq!(rt; answer, Err(ServeFault::TooManyReads));
-    assert_eq!(rt; taken.as_slice(), b"= stepgo\n\n".as_slice());
+    assert_equal(&rt, answer, Err(ServeFault::TooManyReads));
+    assert_equal(&rt, taken.as_slice(), b"= stepgo\n\n".as_slice());
     Ok(())
 }

@@ -1,4 +1,5 @@
 use super::*;
+use crate::equal::assert_equal;
 use arrayvec::ArrayVec;
 use go_base::write_int;
 use std::test::Fail;
@@ -51,9 +52,13 @@ fn show_lines(text: &[u8]) -> Shown {
 #[test]
 fn comments_and_control_characters_are_no_words(rt: HostRuntime) {
     let text = b"# a game\n\t\n3\tpl\x01ay b D4 # corner\r\n";
-    assert_eq!(rt; show_lines(text).as_slice(), b"[3] play b D4;".as_slice());
+    assert_equal(
+        &rt,
+        show_lines(text).as_slice(),
+        b"[3] play b D4;".as_slice(),
+    );
     let text = b"# a comment\n\t\n3\tna\x01me # x\r\n";
-    assert_eq!(rt; show_lines(text).as_slice(), b"[3] name;".as_slice());
+    assert_equal(&rt, show_lines(text).as_slice(), b"[3] name;".as_slice());
 }
 
 #[test]
@@ -74,7 +79,7 @@ fn an_id_is_an_int_up_to_the_greatest(rt: HostRuntime) {
         ),
         (b"007 version\n".as_slice(), b"[7] version;".as_slice()),
     ] {
-        assert_eq!(rt; show_lines(text).as_slice(), want);
+        assert_equal(&rt, show_lines(text).as_slice(), want);
     }
 }
 
@@ -93,10 +98,10 @@ fn is_command(front: &[u8], letters: usize) -> Option<bool> {
 
 #[test]
 fn the_words_of_a_line_have_at_most_1000_bytes(rt: HostRuntime) {
-    assert_eq!(rt; is_command(b"known_command ", 986), Some(true));
-    assert_eq!(rt; is_command(b"known_command ", 987), Some(false));
-    assert_eq!(rt; is_command(b"7 known_command ", 985), Some(false));
-    assert_eq!(rt; is_command(b"# known_command ", 987), None);
+    assert_equal(&rt, is_command(b"known_command ", 986), Some(true));
+    assert_equal(&rt, is_command(b"known_command ", 987), Some(false));
+    assert_equal(&rt, is_command(b"7 known_command ", 985), Some(false));
+    assert_equal(&rt, is_command(b"# known_command ", 987), None);
 }
 
 #[test]
@@ -108,7 +113,7 @@ fn spaces_do_not_count(rt: HostRuntime) -> Result<(), Fail> {
     assert!(rt; reader.feed(&spaces).line.is_none());
     let mut line = ArrayVec::new();
     show(&reader.feed(b"\n").line.ok_or("no line")?, &mut line);
-    assert_eq!(rt; line.as_slice(), b"[] name;".as_slice());
+    assert_equal(&rt, line.as_slice(), b"[] name;".as_slice());
     Ok(())
 }
 
@@ -116,7 +121,7 @@ fn spaces_do_not_count(rt: HostRuntime) -> Result<(), Fail> {
 fn an_unfinished_line_is_none(rt: HostRuntime) {
     let mut reader = LineReader::new();
     let fed = reader.feed(b"play b D1");
-    assert_eq!(rt; fed.used, 9);
+    assert_equal(&rt, fed.used, 9);
     assert!(rt; fed.line.is_none());
     assert!(rt; reader.feed(b"").line.is_none());
 }
@@ -124,7 +129,7 @@ fn an_unfinished_line_is_none(rt: HostRuntime) {
 #[test]
 fn bytes_behind_a_line_are_left(rt: HostRuntime) {
     let fed = LineReader::new().feed(b" \nquit\nname\n");
-    assert_eq!(rt; fed.used, 7);
+    assert_equal(&rt, fed.used, 7);
     assert!(rt; fed.line.is_some());
 }
 
@@ -134,7 +139,7 @@ fn no_line_has_a_word_of_the_greatest_number(rt: HostRuntime) -> Result<(), Fail
         let Some(Line::Command(command)) = LineReader::new().feed(text).line else {
             return Err("no command")?;
         };
-        assert_eq!(rt; command.word(1).ok_or("no word")?, b"x".as_slice());
+        assert_equal(&rt, command.word(1).ok_or("no word")?, b"x".as_slice());
         assert!(rt; command.word(2).is_none());
         assert!(rt; command.word(usize::MAX).is_none());
     }
@@ -166,23 +171,26 @@ fn a_text_byte_by_byte_has_the_same_lines(rt: HostRuntime) {
     for byte in SAMPLE {
         feed_all(&mut reader, &[*byte], &mut shown);
     }
-    assert_eq!(rt; shown.as_slice(), SAMPLE_LINES);
+    assert_equal(&rt, shown.as_slice(), SAMPLE_LINES);
 }
 
 #[test]
 fn replies_are_written(rt: HostRuntime) {
-    assert_eq!(rt;
+    assert_equal(
+        &rt,
         write_reply(true, None, b"").as_slice(),
-        b"=\n\n".as_slice()
+        b"=\n\n".as_slice(),
     );
-    assert_eq!(rt;
+    assert_equal(
+        &rt,
         write_reply(true, Some(7), b"").as_slice(),
-        b"=7\n\n".as_slice()
+        b"=7\n\n".as_slice(),
     );
-    assert_eq!(rt;
+    assert_equal(
+        &rt,
         write_reply(true, None, b"2").as_slice(),
-        b"= 2\n\n".as_slice()
+        b"= 2\n\n".as_slice(),
     );
     let reply = write_reply(false, Some(5), b"unknown command");
-    assert_eq!(rt; reply.as_slice(), b"?5 unknown command\n\n".as_slice());
+    assert_equal(&rt, reply.as_slice(), b"?5 unknown command\n\n".as_slice());
 }

@@ -1,6 +1,7 @@
 //! Games of moves drawn from the legal ones, beside the game in its plainest form.
 use super::new_game;
 use super::plain::{MOVES, PlainGame};
+use crate::equal::assert_equal;
 use crate::{Game, PlayFault};
 use arrayvec::ArrayVec;
 use go_base::{Colour, Move, Point, Vertex};
@@ -20,9 +21,9 @@ fn at(rt: &impl Abort, column: u32, row: u32) -> Point {
 
 /// Compares two games by their moves and captures, and point by point.
 fn assert_same(rt: &impl Abort, game: &Game, plain: &PlainGame) {
-    assert_eq!(rt; game.moves(), plain.moves());
+    assert_equal(rt, game.moves(), plain.moves());
     for colour in [Colour::Black, Colour::White] {
-        assert_eq!(rt; game.captured(colour), plain.captured(colour));
+        assert_equal(rt, game.captured(colour), plain.captured(colour));
     }
     let lines = game.size().get();
     for row in 1..=lines {
@@ -54,7 +55,7 @@ fn assert_refuses(
     refused: &mut Refused,
 ) {
     let answer = game.play(made.colour, made.vertex);
-    assert_eq!(rt; answer, plain.play(made.colour, made.vertex));
+    assert_equal(rt, answer, plain.play(made.colour, made.vertex));
     match answer {
         Err(PlayFault::Occupied) => refused.occupied = refused.occupied.saturating_add(1),
         Err(PlayFault::Suicide) => refused.suicide = refused.suicide.saturating_add(1),
@@ -112,8 +113,8 @@ fn step(
         .checked_rem(legal.len() as u64)
         .unwrap_or(0);
     let made = legal.get(number as usize).copied().expect(rt, "a move");
-    assert_eq!(rt; game.play(made.colour, made.vertex), Ok(()));
-    assert_eq!(rt; plain.play(made.colour, made.vertex), Ok(()));
+    assert_equal(rt, game.play(made.colour, made.vertex), Ok(()));
+    assert_equal(rt, plain.play(made.colour, made.vertex), Ok(()));
     assert_same(rt, game, plain);
 }
 
@@ -121,7 +122,7 @@ fn step(
 fn take_all_back(rt: &impl Abort, game: &mut Game, plain: &mut PlainGame, refused: &mut Refused) {
     let small = game.size().get() <= 4;
     for _ in 0..=MOVES {
-        assert_eq!(rt; game.undo(), plain.undo());
+        assert_equal(rt, game.undo(), plain.undo());
         assert_same(rt, game, plain);
         if small {
             let _ = legal_moves(rt, game, plain, Colour::Black, refused);

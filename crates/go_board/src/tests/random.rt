@@ -1,6 +1,7 @@
 //! Games of random moves, legal ones and others, beside the same games of a slow game.
 use super::new_game;
 use super::slow::SlowGame;
+use crate::equal::assert_equal;
 use crate::{Game, NothingToUndo, PlayFault};
 use go_base::{Colour, Move, Point, Vertex};
 use std::process::Abort;
@@ -48,11 +49,11 @@ fn at(rt: &impl Abort, column: u32, row: u32) -> Point {
 
 /// Compares two games by their moves, captures and scores, and point by point.
 fn assert_same(rt: &impl Abort, game: &Game, slow: &SlowGame) {
-    assert_eq!(rt; game.moves(), slow.moves());
+    assert_equal(rt, game.moves(), slow.moves());
     for colour in [Colour::Black, Colour::White] {
-        assert_eq!(rt; game.captured(colour), slow.captured(colour));
+        assert_equal(rt, game.captured(colour), slow.captured(colour));
     }
-    assert_eq!(rt; game.score(), slow.score());
+    assert_equal(rt, game.score(), slow.score());
     let lines = game.size().get();
     for row in 1..=lines {
         for column in 1..=lines {
@@ -113,15 +114,15 @@ fn step(
     let made = draw(rt, draws, game, slow);
     let legal = game.legal(made.colour, made.vertex);
     let wanted = slow.play(made.colour, made.vertex);
-    assert_eq!(rt; legal, wanted.is_ok());
-    assert_eq!(rt; game.play(made.colour, made.vertex), wanted);
+    assert_equal(rt, legal, wanted.is_ok());
+    assert_equal(rt, game.play(made.colour, made.vertex), wanted);
     assert_same(rt, game, slow);
     wanted
 }
 
 /// Takes one move back.
 fn back(rt: &impl Abort, game: &mut Game, slow: &mut SlowGame) {
-    assert_eq!(rt; game.undo(), slow.undo().ok_or(NothingToUndo));
+    assert_equal(rt, game.undo(), slow.undo().ok_or(NothingToUndo));
     assert_same(rt, game, slow);
 }
 

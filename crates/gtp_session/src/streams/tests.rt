@@ -1,5 +1,6 @@
 //! What the counts are after calls that fail once, and after many reads.
 use super::{Broken, Counted, Incoming, Outgoing};
+use crate::equal::assert_equal;
 use crate::first::First;
 use crate::memory::{Balky, Drip, Pieces};
 use crate::serve::{ServeFault, Served, serve, serve_within};
@@ -28,37 +29,37 @@ fn two_moves() -> Counted<Pieces<'static>> {
 #[test]
 fn a_write_that_takes_nothing_is_counted_once(rt: HostRuntime) {
     let mut writer = balky(rt.alloc(), true, false);
-    assert_eq!(rt; writer.write(b"ab"), Err(Broken));
-    assert_eq!(rt; writer.failures, 1);
+    assert_equal(&rt, writer.write(b"ab"), Err(Broken));
+    assert_equal(&rt, writer.failures, 1);
     assert!(rt; !writer.waiting);
-    assert_eq!(rt; writer.write(b"cd"), Ok(2));
-    assert_eq!(rt; writer.failures, 1);
+    assert_equal(&rt, writer.write(b"cd"), Ok(2));
+    assert_equal(&rt, writer.failures, 1);
     assert!(rt; writer.waiting);
-    assert_eq!(rt; writer.flush(), Ok(()));
-    assert_eq!(rt; writer.failures, 1);
+    assert_equal(&rt, writer.flush(), Ok(()));
+    assert_equal(&rt, writer.failures, 1);
     assert!(rt; !writer.waiting);
-    assert_eq!(rt; writer.inner.taken.as_slice(), b"cd".as_slice());
+    assert_equal(&rt, writer.inner.taken.as_slice(), b"cd".as_slice());
 }
 
 #[test]
 fn nothing_taken_of_an_empty_text_is_no_failure(rt: HostRuntime) {
     let mut writer = balky(rt.alloc(), true, false);
-    assert_eq!(rt; writer.write(b""), Ok(0));
-    assert_eq!(rt; writer.failures, 0);
+    assert_equal(&rt, writer.write(b""), Ok(0));
+    assert_equal(&rt, writer.failures, 0);
     assert!(rt; !writer.waiting);
 }
 
 #[test]
 fn a_flush_that_fails_is_counted_once_and_leaves_the_text_waiting(rt: HostRuntime) {
     let mut writer = balky(rt.alloc(), false, true);
-    assert_eq!(rt; writer.write(b"ab"), Ok(2));
-    assert_eq!(rt; writer.flush(), Err(Broken));
-    assert_eq!(rt; writer.failures, 1);
+    assert_equal(&rt, writer.write(b"ab"), Ok(2));
+    assert_equal(&rt, writer.flush(), Err(Broken));
+    assert_equal(&rt, writer.failures, 1);
     assert!(rt; writer.waiting);
-    assert_eq!(rt; writer.flush(), Ok(()));
-    assert_eq!(rt; writer.failures, 1);
+    assert_equal(&rt, writer.flush(), Ok(()));
+    assert_equal(&rt, writer.failures, 1);
     assert!(rt; !writer.waiting);
-    assert_eq!(rt; writer.inner.taken.as_slice(), b"ab".as_slice());
+    assert_equal(&rt, writer.inner.taken.as_slice(), b"ab".as_slice());
 }
 
 #[test]
@@ -67,21 +68,21 @@ fn the_next_call_goes_on_after_a_write_that_took_nothing(rt: HostRuntime) {
     let mut reader = two_moves();
     let mut writer = balky(rt.alloc(), true, false);
     let answer = serve(&mut reader, &mut writer, &mut session);
-    assert_eq!(rt; answer, Err(ServeFault::Write));
-    assert_eq!(rt; (reader.reads, reader.failures), (1, 0));
-    assert_eq!(rt; writer.failures, 1);
+    assert_equal(&rt, answer, Err(ServeFault::Write));
+    assert_equal(&rt, (reader.reads, reader.failures), (1, 0));
+    assert_equal(&rt, writer.failures, 1);
     assert!(rt; !writer.waiting);
-    assert_eq!(rt; session.game().moves().len(), 1);
-    assert_eq!(rt; writer.inner.taken.len(), 0);
+    assert_equal(&rt, session.game().moves().len(), 1);
+    assert_equal(&rt, writer.inner.taken.len(), 0);
     let answer = serve(&mut reader, &mut writer, &mut session);
-    assert_eq!(rt; answer, Ok(Served::EndOfInput));
+    assert_equal(&rt, answer, Ok(Served::EndOfInput));
     // The second move, and the end.
-    assert_eq!(rt; (reader.reads, reader.failures), (3, 0));
-    assert_eq!(rt; writer.failures, 1);
+    assert_equal(&rt, (reader.reads, reader.failures), (3, 0));
+    assert_equal(&rt, writer.failures, 1);
     assert!(rt; !writer.waiting);
-    assert_eq!(rt; session.game().moves().len(), 2);
+    assert_equal(&rt, session.game().moves().len(), 2);
     // The reply that was not taken isn't written again.
-    assert_eq!(rt; writer.inner.taken.as_slice(), b"=2\n\n".as_slice());
+    assert_equal(&rt, writer.inner.taken.as_slice(), b"=2\n\n".as_slice());
 }
 
 #[test]
@@ -90,19 +91,23 @@ fn the_next_call_goes_on_after_a_flush_that_failed(rt: HostRuntime) {
     let mut reader = two_moves();
     let mut writer = balky(rt.alloc(), false, true);
     let answer = serve(&mut reader, &mut writer, &mut session);
-    assert_eq!(rt; answer, Err(ServeFault::Write));
-    assert_eq!(rt; (reader.reads, reader.failures), (1, 0));
-    assert_eq!(rt; writer.failures, 1);
+    assert_equal(&rt, answer, Err(ServeFault::Write));
+    assert_equal(&rt, (reader.reads, reader.failures), (1, 0));
+    assert_equal(&rt, writer.failures, 1);
     assert!(rt; writer.waiting);
-    assert_eq!(rt; session.game().moves().len(), 1);
-    assert_eq!(rt; writer.inner.taken.as_slice(), b"=1\n\n".as_slice());
+    assert_equal(&rt, session.game().moves().len(), 1);
+    assert_equal(&rt, writer.inner.taken.as_slice(), b"=1\n\n".as_slice());
     let answer = serve(&mut reader, &mut writer, &mut session);
-    assert_eq!(rt; answer, Ok(Served::EndOfInput));
-    assert_eq!(rt; (reader.reads, reader.failures), (3, 0));
-    assert_eq!(rt; writer.failures, 1);
+    assert_equal(&rt, answer, Ok(Served::EndOfInput));
+    assert_equal(&rt, (reader.reads, reader.failures), (3, 0));
+    assert_equal(&rt, writer.failures, 1);
     assert!(rt; !writer.waiting);
-    assert_eq!(rt; session.game().moves().len(), 2);
-    assert_eq!(rt; writer.inner.taken.as_slice(), b"=1\n\n=2\n\n".as_slice());
+    assert_equal(&rt, session.game().moves().len(), 2);
+    assert_equal(
+        &rt,
+        writer.inner.taken.as_slice(),
+        b"=1\n\n=2\n\n".as_slice(),
+    );
 }
 
 /// A reader that gives this byte so often, one a read, and then the end.
@@ -121,16 +126,16 @@ fn each_of_100000_reads_is_counted_and_that_of_the_end(rt: HostRuntime) {
     let mut writer = balky(rt.alloc(), false, false);
     let mut buffer = [0u8; 1];
     for _ in 0..99_000 {
-        assert_eq!(rt; reader.read(&mut buffer), Ok(1));
+        assert_equal(&rt, reader.read(&mut buffer), Ok(1));
     }
-    assert_eq!(rt; (reader.reads, reader.failures), (99_000, 0));
+    assert_equal(&rt, (reader.reads, reader.failures), (99_000, 0));
     // The conversation reads the others.
     let answer = serve(&mut reader, &mut writer, &mut session);
-    assert_eq!(rt; answer, Ok(Served::EndOfInput));
-    assert_eq!(rt; (reader.reads, reader.failures), (100_001, 0));
-    assert_eq!(rt; reader.inner.turns, 100_001);
-    assert_eq!(rt; (writer.failures, writer.waiting), (0, false));
-    assert_eq!(rt; writer.inner.taken.len(), 0);
+    assert_equal(&rt, answer, Ok(Served::EndOfInput));
+    assert_equal(&rt, (reader.reads, reader.failures), (100_001, 0));
+    assert_equal(&rt, reader.inner.turns, 100_001);
+    assert_equal(&rt, (writer.failures, writer.waiting), (0, false));
+    assert_equal(&rt, writer.inner.taken.len(), 0);
     assert!(rt; !session.ended());
 }
 
@@ -142,12 +147,12 @@ fn the_read_of_the_end_is_one_of_those_that_are_allowed(rt: HostRuntime) {
         let mut reader = drip(byte, 100);
         let mut writer = balky(rt.alloc(), false, false);
         let answer = serve_within(&mut reader, &mut writer, &mut session, 100);
-        assert_eq!(rt; answer, Err(ServeFault::TooManyReads));
-        assert_eq!(rt; (reader.reads, reader.failures), (100, 0));
+        assert_equal(&rt, answer, Err(ServeFault::TooManyReads));
+        assert_equal(&rt, (reader.reads, reader.failures), (100, 0));
         let answer = serve_within(&mut reader, &mut writer, &mut session, 1);
-        assert_eq!(rt; answer, Ok(Served::EndOfInput));
-        assert_eq!(rt; (reader.reads, reader.failures), (101, 0));
-        assert_eq!(rt; (writer.failures, writer.waiting), (0, false));
-        assert_eq!(rt; writer.inner.taken.len(), 0);
+        assert_equal(&rt, answer, Ok(Served::EndOfInput));
+        assert_equal(&rt, (reader.reads, reader.failures), (101, 0));
+        assert_equal(&rt, (writer.failures, writer.waiting), (0, false));
+        assert_equal(&rt, writer.inner.taken.len(), 0);
     }
 }

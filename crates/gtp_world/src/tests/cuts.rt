@@ -1,6 +1,7 @@
 //! A command that reaches an engine in two cuts.
 use super::{SIDES, Told};
 use crate::Event;
+use crate::equal::assert_equal;
 use go_base::Side;
 
 #[test]
@@ -12,18 +13,20 @@ fn the_last_byte_of_a_command_brings_the_reply(rt: HostRuntime) {
         told.rounds(&rt, side, 3);
     }
     told.step(&rt, Event::Act);
-    assert_eq!(rt;
+    assert_equal(
+        &rt,
         told.world.to_engine(Side::Black),
-        b"4 genmove b\n".as_slice()
+        b"4 genmove b\n".as_slice(),
     );
     told.step(&rt, Event::ToEngine(Side::Black, 11));
-    assert_eq!(rt; told.world.to_engine(Side::Black), b"\n".as_slice());
-    assert_eq!(rt; told.world.to_controller(Side::Black), b"".as_slice());
+    assert_equal(&rt, told.world.to_engine(Side::Black), b"\n".as_slice());
+    assert_equal(&rt, told.world.to_controller(Side::Black), b"".as_slice());
     told.step(&rt, Event::ToEngine(Side::Black, 1));
-    assert_eq!(rt; told.world.to_engine(Side::Black), b"".as_slice());
-    assert_eq!(rt;
+    assert_equal(&rt, told.world.to_engine(Side::Black), b"".as_slice());
+    assert_equal(
+        &rt,
         told.world.to_controller(Side::Black),
-        b"=4 A1\n\n".as_slice()
+        b"=4 A1\n\n".as_slice(),
     );
     told.assert_one_run(&rt);
 }

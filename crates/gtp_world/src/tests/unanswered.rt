@@ -1,6 +1,7 @@
 //! Commands that are on their way before earlier ones are answered.
 use super::{SIDES, Told, assert_same_world};
 use crate::Event;
+use crate::equal::assert_equal;
 use go_base::Side;
 use gtp_match::{Action, Status};
 use std::process::Abort;
@@ -20,7 +21,11 @@ fn black_sent(rt: &impl Abort, count: u32) -> Told {
     told.step(rt, Event::Act);
     told.step(rt, Event::Act);
     for _ in 0..count {
-        assert_eq!(rt; told.world.controller().next(), Action::Send(Side::Black));
+        assert_equal(
+            rt,
+            told.world.controller().next(),
+            Action::Send(Side::Black),
+        );
         told.step(rt, Event::Act);
     }
     told
@@ -29,21 +34,27 @@ fn black_sent(rt: &impl Abort, count: u32) -> Told {
 #[test]
 fn a_whole_script_is_on_its_way_before_its_first_answer(rt: HostRuntime) {
     let mut told = black_sent(&rt, 3);
-    assert_eq!(rt;
+    assert_equal(
+        &rt,
         told.world.to_engine(Side::Black),
-        b"1 boardsize 2\n2 komi 0\n3 clear_board\n".as_slice()
+        b"1 boardsize 2\n2 komi 0\n3 clear_board\n".as_slice(),
     );
-    assert_eq!(rt; told.world.to_engine(Side::Black).len(), 37);
-    assert_eq!(rt; told.world.controller().next(), Action::Wait(Side::Black));
+    assert_equal(&rt, told.world.to_engine(Side::Black).len(), 37);
+    assert_equal(
+        &rt,
+        told.world.controller().next(),
+        Action::Wait(Side::Black),
+    );
     told.step(&rt, Event::ToEngine(Side::Black, 100));
-    assert_eq!(rt; told.world.to_engine(Side::Black), b"".as_slice());
-    assert_eq!(rt;
+    assert_equal(&rt, told.world.to_engine(Side::Black), b"".as_slice());
+    assert_equal(
+        &rt,
         told.world.to_controller(Side::Black),
-        b"=1\n\n=2\n\n=3\n\n".as_slice()
+        b"=1\n\n=2\n\n=3\n\n".as_slice(),
     );
-    assert_eq!(rt; told.world.to_controller(Side::Black).len(), 12);
+    assert_equal(&rt, told.world.to_controller(Side::Black).len(), 12);
     told.step(&rt, Event::ToController(Side::Black, 6));
-    assert_eq!(rt; told.status(Side::Black), up(1, 2));
+    assert_equal(&rt, told.status(Side::Black), up(1, 2));
     assert!(rt; !told.in_step(Side::Black));
     told.step(&rt, Event::ToController(Side::Black, 100));
     assert!(rt; told.in_step(Side::Black));
@@ -75,10 +86,10 @@ fn started_after_six_moves(rt: &impl Abort) -> Told {
         one_move(rt, &mut told, Side::Black);
         one_move(rt, &mut told, Side::White);
     }
-    assert_eq!(rt; told.record_len(), 6);
+    assert_equal(rt, told.record_len(), 6);
     told.step(rt, Event::End(Side::Black));
     told.step(rt, Event::Act);
-    assert_eq!(rt; told.status(Side::Black), up(0, 0));
+    assert_equal(rt, told.status(Side::Black), up(0, 0));
     told
 }
 
@@ -86,20 +97,36 @@ fn started_after_six_moves(rt: &impl Abort) -> Told {
 fn a_side_started_again_has_eight_commands_on_their_way(rt: HostRuntime) {
     let mut told = started_after_six_moves(&rt);
     for count in 0..8 {
-        assert_eq!(rt; told.status(Side::Black), up(0, count));
-        assert_eq!(rt; told.world.controller().next(), Action::Send(Side::Black));
+        assert_equal(&rt, told.status(Side::Black), up(0, count));
+        assert_equal(
+            &rt,
+            told.world.controller().next(),
+            Action::Send(Side::Black),
+        );
         told.step(&rt, Event::Act);
     }
-    assert_eq!(rt; told.status(Side::Black), up(0, 8));
-    assert_eq!(rt; told.world.controller().next(), Action::Wait(Side::Black));
+    assert_equal(&rt, told.status(Side::Black), up(0, 8));
+    assert_equal(
+        &rt,
+        told.world.controller().next(),
+        Action::Wait(Side::Black),
+    );
     told.step(&rt, Event::ToEngine(Side::Black, 512));
-    assert_eq!(rt; told.world.to_controller(Side::Black).len(), 8 * 4);
+    assert_equal(&rt, told.world.to_controller(Side::Black).len(), 8 * 4);
     told.step(&rt, Event::ToController(Side::Black, 4));
-    assert_eq!(rt; told.status(Side::Black), up(1, 7));
-    assert_eq!(rt; told.world.controller().next(), Action::Send(Side::Black));
+    assert_equal(&rt, told.status(Side::Black), up(1, 7));
+    assert_equal(
+        &rt,
+        told.world.controller().next(),
+        Action::Send(Side::Black),
+    );
     told.step(&rt, Event::Act);
-    assert_eq!(rt; told.status(Side::Black), up(1, 8));
-    assert_eq!(rt; told.world.controller().next(), Action::Wait(Side::Black));
+    assert_equal(&rt, told.status(Side::Black), up(1, 8));
+    assert_equal(
+        &rt,
+        told.world.controller().next(),
+        Action::Wait(Side::Black),
+    );
     told.step(&rt, Event::ToEngine(Side::Black, 512));
     told.step(&rt, Event::ToController(Side::Black, 512));
     assert!(rt; told.in_step(Side::Black));
@@ -116,11 +143,12 @@ fn third_broken_after(rt: &impl Abort, sent: usize) -> Told {
 #[test]
 fn a_write_that_broke_behind_others_takes_them_along(rt: HostRuntime) {
     let none_sent = third_broken_after(&rt, 0);
-    assert_eq!(rt; none_sent.status(Side::Black), Status::Down);
-    assert_eq!(rt; none_sent.world.to_engine(Side::Black), b"".as_slice());
-    assert_eq!(rt;
+    assert_equal(&rt, none_sent.status(Side::Black), Status::Down);
+    assert_equal(&rt, none_sent.world.to_engine(Side::Black), b"".as_slice());
+    assert_equal(
+        &rt,
         none_sent.world.controller().next(),
-        Action::Start(Side::Black)
+        Action::Start(Side::Black),
     );
     for sent in 1..=64 {
         assert_same_world(&rt, &none_sent.world, &third_broken_after(&rt, sent).world);

@@ -1,0 +1,18 @@
+//! Equality in tests.
+use std::fmt::Debug;
+use std::process::Abort;
+
+/// Both are equal. What `assert_eq!` writes is proved anew wherever it stands, and a call isn't: so tests call this.
+pub fn assert_equal<T: PartialEq + Debug + Drop>(rt: &impl Abort, left: T, right: T) {
+    assert_eq!(rt; left, right);
+}
+
+/// The same, where the case is told beside the two.
+pub fn assert_equal_for<C: Debug + Drop, T: PartialEq + Debug + Drop>(
+    rt: &impl Abort,
+    case: C,
+    left: T,
+    right: T,
+) {
+    assert_eq!(rt; left, right, "{case:?}");
+}

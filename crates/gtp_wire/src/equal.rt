@@ -1,0 +1,8 @@
+//! Equality in tests.
+use std::fmt::Debug;
+use std::process::Abort;
+
+/// Both are equal. What `assert_eq!` writes is proved anew wherever it stands, and a call isn't: so tests call this.
+pub fn assert_equal<T: PartialEq + Debug + Drop>(rt: &impl Abort, left: T, right: T) {
+    assert_eq!(rt; left, right);
+}
