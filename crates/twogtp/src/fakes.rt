@@ -69,8 +69,8 @@ enum Engine {
     Interrupted(Session<First>, u32),
 }
 
-/// A conversation with an engine in memory: the engine, what it wrote, how much of that was read, and how often the call
-/// that is tried was interrupted.
+/// A conversation with an engine in memory: the engine, what it wrote, how much of that was read, and how often the
+/// call that is tried was interrupted.
 pub struct Talk {
     engine: Engine,
     written: Vec<u8>,

@@ -22,8 +22,8 @@ pub struct Plan<'a> {
 ///
 /// # Errors
 ///
-/// `OutOfMemory`, or the first mistake in this order: Black's command has no word, White's has none, the text of komi is
-/// no komi, the size doesn't allow the handicap.
+/// `OutOfMemory`, or the first mistake in this order: Black's command has no word, White's has none, the text of komi
+/// is no komi, the size doesn't allow the handicap.
 pub fn plan_of<'a>(alloc: Global, options: &Options<'a>) -> Result<Plan<'a>, Fault>
     ensures plan { IfOk result (λ plan. IsPlanOf options.now plan.commands plan.task) }
     ensures fault { IfErr result (λ fault.
