@@ -129,9 +129,9 @@ fn a_side_started_again_is_sent_eight_commands_before_it_has_to_answer(rt: HostR
 
 /// Sends a side commands while `next` says so, at most so many, and hears the answer to each. Of a side that has
 /// answered so many before, it tells how many those are then.
-fn round_trip(rt: &impl Abort, played: &mut Match, side: Side, at_once: u32, answered: u32) -> u32 {
+fn round_trip(rt: &impl Abort, played: &mut Match, side: Side, most: u32, answered: u32) -> u32 {
     let mut sent = answered;
-    for _ in 0..at_once {
+    for _ in 0..most {
         if played.next() != Action::Send(side) {
             break;
         }
@@ -147,7 +147,7 @@ fn round_trip(rt: &impl Abort, played: &mut Match, side: Side, at_once: u32, ans
 
 /// By how many round trips Black catches up that is started again in a game of 200 moves, where at most so many
 /// commands are sent before their answers are heard.
-fn trips_after_200_moves(rt: &impl Abort, at_once: u32) -> u32 {
+fn trips_after_200_moves(rt: &impl Abort, most: u32) -> u32 {
     let mut played = both_started(rt, setup_with(rt, 19, 0, 0, 300, 1));
     for side in [Side::Black, Side::White] {
         assert_equal(rt, round_trip(rt, &mut played, side, 8, 0), 3);
@@ -160,7 +160,7 @@ fn trips_after_200_moves(rt: &impl Abort, at_once: u32) -> u32 {
         if played.in_step(Side::Black) {
             break;
         }
-        answered = round_trip(rt, &mut played, Side::Black, at_once, answered);
+        answered = round_trip(rt, &mut played, Side::Black, most, answered);
         trips = trips.saturating_add(1);
     }
     assert_equal(rt, answered, 203);
