@@ -51,7 +51,7 @@ impl Default for Entry {
     }
 }
 
-/// Chooses what stands at the entry that has the number of the record's moves, counted from 0.
+/// Chooses what the entry says that has the number of the record's moves, counted from 0.
 ///
 /// Where that entry is missing, empty, or a vertex that isn't legal, it passes.
 #[derive(Drop)]

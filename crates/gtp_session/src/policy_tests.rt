@@ -242,7 +242,7 @@ fn random_without_a_candidate_draws_no_word(rt: HostRuntime) -> Result<(), Fail>
 }
 
 #[test]
-fn one_place_of_a_book_is_a_vertex_resign_or_nothing(rt: HostRuntime) -> Result<(), Fail> {
+fn one_entry_of_a_book_is_a_vertex_resign_or_nothing(rt: HostRuntime) -> Result<(), Fail> {
     assert_equal(&rt, Entry::read(b""), Some(Entry::Empty));
     assert_equal(&rt, Entry::read(b"pAsS"), Some(Entry::Play(Vertex::Pass)));
     assert_equal(&rt, Entry::read(b"ReSiGn"), Some(Entry::Resign));
@@ -254,7 +254,7 @@ fn one_place_of_a_book_is_a_vertex_resign_or_nothing(rt: HostRuntime) -> Result<
 }
 
 #[test]
-fn a_book_with_a_bad_place_is_none(rt: HostRuntime) {
+fn a_book_with_a_bad_entry_is_none(rt: HostRuntime) {
     let bad = [
         b"C3,D44".as_slice(),
         b" ",
