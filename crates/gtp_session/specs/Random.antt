@@ -17,7 +17,7 @@ abbrev pub draw : List ℕ → ℕ → Option ℕ
 draw all word = slice_get all (word % length all)
 
 -- Of these candidates the generator's next word names the choice, and the generator moves on by that word. Without a
--- candidate the choice is to pass, and no word is draw.
+-- candidate the choice is to pass, and no word is drawn.
 abbrev pub MayDraw : List ℕ → Lcg → Choice → Lcg → Type 0
 MayDraw [] old choice new = (choice ≡ Play Pass) × (new ≡ old)
 MayDraw (p ∷ ps) old choice new = (choice ≡ play_or_pass (draw (p ∷ ps) (pcg64 old).0)) × (new ≡ (pcg64 old).1)

@@ -12,7 +12,7 @@ pub record Serves {P : Type 0} (may : May P) (old : Engine P) (bytes : List ℕ)
   pub engages : Engages may old bytes new written
   pub appended : after ≡ before ++ written
 
--- the most bytes of one reply
+-- a bound on the bytes of a reply that an engine writes
 abbrev pub most_reply : ℕ
 most_reply = 2048
 

@@ -122,7 +122,7 @@ pub record IsDisplayed (output : Option (List ℕ)) (status : ℕ) (held holds :
   pub is : IfSome output (λ bytes. text ≡ bytes)
   pub shown : IsShown text status held holds
 
--- the words ask for the help or the version, and one text was written, or the writer failed in it
+-- the words ask for the help or the version, and a text was written with status 0, or with 3 a beginning of it
 pub record HasShown (words : List Text) (status : ℕ) (held holds : Option (List ℕ)) : Type 0 where
   pub asked : AsksForText words
   pub text : List ℕ

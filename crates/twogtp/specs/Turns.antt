@@ -62,7 +62,7 @@ pub record IsRefused {P : Type 0} (commands : Commands) (c : Controller) (had ha
 -- ---- turns, one after another
 
 -- So many turns, from the opening on: each did what the controller said with the processes that the sides had then, and
--- after each the processes of the sides that are down were ended.
+-- a side that is down has no process after its turn.
 pub data Plays {P : Type 0} (known : Ghosts P) (commands : Commands) (first : Controller) (opening : Sides P)
     (had : Attempts P) : ℕ → Controller → Sides P → Attempts P → Type 0 where
   not_yet : Plays known commands first opening had 0 first opening had

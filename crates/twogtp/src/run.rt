@@ -38,7 +38,7 @@ pub fn run<A: AsStr, O: Write, E: Write, S: Starter>(
     starter: &mut S,
 ) -> u8
     ensures status { IsStatus result }
-    // After a mistake in the words nothing was started, and nothing written but the mistake.
+    // After a mistake in the words nothing was started, and nothing written to the output.
     ensures usage { result ≡ usage_fault → HasMistake (map A.text words.now)
         × (output.new ≡ output.old) × (starter.new ≡ starter.old) }
     ensures quiet { (result ≡ done) ⊎ (result ≡ some_given_up) → errors.new ≡ errors.old }
