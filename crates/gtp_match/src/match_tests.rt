@@ -127,7 +127,7 @@ fn a_side_that_went_down_gets_the_whole_script_again(rt: HostRuntime) {
     assert!(rt; played.game().moves().is_empty());
     assert!(rt; played.in_step(Side::White));
     assert_equal(&rt, played.restarts(Side::Black), 0);
-    assert_equal(&rt, played.next(), Action::Start(Side::Black));
+    assert_eq!(rt; played.next(), Action::Start(Side::Black));
     played.started(Side::Black);
     assert_equal(&rt, played.restarts(Side::Black), 1);
     assert_equal(&rt, played.status(Side::Black), up(0, 0));
@@ -146,7 +146,7 @@ fn the_script_of_a_restarted_side_has_the_moves(rt: HostRuntime) {
     answer(&rt, &mut played, Side::Black, b"=4 A1\n\n");
     send_and_wait(&rt, &mut played, Side::White, b"4 play b A1\n");
     played.lost(Side::White);
-    assert_equal(&rt, played.next(), Action::Start(Side::White));
+    assert_eq!(rt; played.next(), Action::Start(Side::White));
     played.started(Side::White);
     bring(&rt, &mut played, Side::White);
     assert!(rt; !played.in_step(Side::White));
@@ -205,7 +205,7 @@ fn a_match_in_which_each_genmove_of_black_is_lost_stays_below_its_bound(rt: Host
     let sent = bring_counted(&rt, &mut played, Side::White, sent);
     let sent = counted(&rt, &mut played, Side::Black, b"4 genmove b\n", sent);
     played.lost(Side::Black);
-    assert_equal(&rt, played.next(), Action::Start(Side::Black));
+    assert_eq!(rt; played.next(), Action::Start(Side::Black));
     played.started(Side::Black);
     let sent = bring_counted(&rt, &mut played, Side::Black, sent);
     let sent = counted(&rt, &mut played, Side::Black, b"4 genmove b\n", sent);

@@ -20,7 +20,7 @@ pub(crate) fn setup_with(
 
 /// Sends a side its next command, which has to be this line.
 pub(crate) fn send(rt: &impl Abort, played: &mut Match, side: Side, line: &[u8]) {
-    assert_equal(rt, played.next(), Action::Send(side));
+    assert_eq!(rt; played.next(), Action::Send(side));
     assert_equal(rt, played.send(side).as_slice(), line);
 }
 
@@ -50,9 +50,9 @@ pub(crate) fn hear(
 /// A match of which both sides are started.
 pub(crate) fn both_started(rt: &impl Abort, setup: Setup) -> Match {
     let mut played = Match::new(setup);
-    assert_equal(rt, played.next(), Action::Start(Side::Black));
+    assert_eq!(rt; played.next(), Action::Start(Side::Black));
     played.started(Side::Black);
-    assert_equal(rt, played.next(), Action::Start(Side::White));
+    assert_eq!(rt; played.next(), Action::Start(Side::White));
     played.started(Side::White);
     played
 }

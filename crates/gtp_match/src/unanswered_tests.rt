@@ -68,7 +68,7 @@ fn success(id: u32, text: &[u8]) -> ReplyText {
 
 /// A side is sent a command, which it has to answer, and answers it by this id and text.
 fn send_and_answer(rt: &impl Abort, played: &mut Match, side: Side, id: u32, text: &[u8]) {
-    assert_equal(rt, played.next(), Action::Send(side));
+    assert_eq!(rt; played.next(), Action::Send(side));
     played.send(side);
     assert_equal(rt, played.next(), Action::Wait(side));
     answer(rt, played, side, success(id, text).as_slice());
@@ -98,7 +98,7 @@ fn fill(rt: &impl Abort, played: &mut Match, moves: u32) {
 /// A side goes down, and is started again.
 fn start_again(rt: &impl Abort, played: &mut Match, side: Side) {
     played.lost(side);
-    assert_equal(rt, played.next(), Action::Start(side));
+    assert_eq!(rt; played.next(), Action::Start(side));
     played.started(side);
     assert_equal(rt, played.status(side), up(0, 0));
 }
