@@ -107,7 +107,7 @@ def free_point(size, plays):
 
 
 def with_book(engine, size, plays):
-    """The words of an engine's command line, with a book whose place for the position is a free point."""
+    """The words of an engine's command line, with a book whose entry for the position is a free point."""
     return engine.replace("{book}", "," * len(plays) + free_point(size, plays)).split()
 
 
