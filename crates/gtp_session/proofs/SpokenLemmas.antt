@@ -18,8 +18,8 @@ use Rattle.go_board.specs.Area.{score}
 use Rattle.gtp_wire.specs.declared.lines.Line.{Line}
 use Rattle.gtp_wire.specs.declared.lines.Line.TheVariants as line
 use Rattle.gtp_wire.specs.Bytes.{is_kept, is_newline, space_for_tab, before_hash}
-use Rattle.gtp_wire.specs.Words.{words}
-use Rattle.gtp_wire.specs.Lines.{lines, most_line_bytes, line_of, line_of_words, but_last}
+use Rattle.gtp_wire.specs.Words.{most_line_bytes, words}
+use Rattle.gtp_wire.specs.Lines.{lines, line_of, line_of_words, but_last}
 use Rattle.gtp_wire.specs.Replies.{IsReply, IsReplyText, most_text_bytes, written_reply}
 use Rattle.gtp_wire.proofs.WrittenLemmas.{written_is_read}
 use Rattle.go_base.specs.Decide.{allows?}

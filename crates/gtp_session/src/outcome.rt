@@ -4,7 +4,8 @@ ghost use Rattle.arrayvec.specs.ArrayVec.{array_vec_len};
 ghost use Rattle.go_base.specs.Vertex.{written_vertex};
 ghost use Rattle.go_base.specs.declared.vertices.Vertex.TheVariants.{At};
 ghost use Rattle.gtp_wire.specs.Replies.{most_text_bytes, written_reply};
-ghost use Rattle.gtp_session.specs.Commands.{written_vertices};
+ghost use Rattle.go_board.specs.Show.{board_text};
+ghost use Rattle.gtp_session.specs.Commands.{all_names, written_vertices};
 ghost use Rattle.gtp_session.specs.private.Outcome.{text_of, answer_of};
 
 use crate::commands::all_names;
@@ -58,12 +59,27 @@ fn write_success(text: &Text, game: &Game, id: Option<u32>, reply: &mut ReplyTex
     match text {
         Text::Empty => write_reply_into(reply, true, id, b""),
         Text::Fixed(bytes) => write_reply_into(reply, true, id, bytes),
-        Text::Names => write_reply_into(reply, true, id, &all_names()),
+        Text::Names => write_names(id, reply),
         Text::Vertex(vertex) => write_reply_into(reply, true, id, &vertex.write()),
         Text::Vertices(points) => write_reply_into(reply, true, id, &written_vertices(points)),
         Text::Score(half_points) => write_reply_into(reply, true, id, &write_score(*half_points)),
-        Text::Board => write_reply_into(reply, true, id, &game.show()),
+        Text::Board => write_board(game, id, reply),
     }
+}
+
+/// The same for the names of the commands, apart since only they need room for the text.
+fn write_names(id: Option<u32>, reply: &mut ReplyText)
+    ensures { reply.new.items ≡ written_reply true id all_names }
+{
+    write_reply_into(reply, true, id, &all_names());
+}
+
+/// The same for the board.
+fn write_board(game: &Game, id: Option<u32>, reply: &mut ReplyText)
+    requires { length (board_text game.now) ≤ most_text_bytes }
+    ensures { reply.new.items ≡ written_reply true id (board_text game.now) }
+{
+    write_reply_into(reply, true, id, &game.show());
 }
 
 /// The vertices of points, separated by single spaces.

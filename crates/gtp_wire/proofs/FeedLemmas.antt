@@ -4,7 +4,7 @@ use Rattle.std.proofs.Common.{None, refl, sym, ◌∙◌, ap, arith, append_asso
 use Rattle.std.proofs.lemmas.List.{take_more, take_all, take-append-drop}
 use Rattle.std.specs.Option.{option_to_list}
 use Rattle.gtp_wire.specs.declared.lines.Line.{Line}
-use Rattle.gtp_wire.specs.Lines.{lines, head_of, EndsLine, Finds}
+use Rattle.gtp_wire.specs.Lines.{lines, head_of, EndsLine, Finds, ReadsLine}
 use Rattle.gtp_wire.proofs.LineLemmas.{lines_open}
 
 -- the first i bytes of the input after u gave no line, and v reads on as they do
@@ -102,4 +102,38 @@ all_found u input i v so_far past n all = record {
       λ z. ap (λ t. lines (u ++ (t ++ z))) (take_all n input (omega (arith, all)) ∙ sym (take_all i input past))
       ∙ so_far.same z;
   no_line = so_far.no_line;
+}
+
+-- a newline ends a line, which is found
+pub line_read : (u input : List ℕ) (i : ℕ) (v w : List ℕ) (l : Line) → lines u ≡ [] → ReadsSoFar u input i v
+    → i < length input → get_or input i 0 ≡ 10
+    → ((z : List ℕ) → lines (v ++ 10 ∷ z) ≡ l ∷ lines z) → w ≡ []
+    → ReadsLine u input (i + 1) (Some l) w
+line_read u input i v w l none so_far inside newline step empty =
+    let rest = newline_more u input i v w (Some l) so_far inside newline step empty in
+    record {
+      held = none;
+      first = first_line u input (i + 1) w l rest;
+      within = omega (arith, inside);
+      whole = one_line u input (i + 1) w l rest (nothing_open w empty);
+      newline = ends_line u input i v so_far inside newline;
+      before = none_before u input i v so_far;
+      none = tt;
+      finds = record { rest = rest; no_line = nothing_open w empty };
+      progress = λ some. omega arith;
+    }
+
+-- the piece ends, and none is found
+pub none_read : (u input : List ℕ) (i : ℕ) (v : List ℕ) → lines u ≡ [] → ReadsSoFar u input i v
+    → i ≡ length input → ReadsLine u input (length input) None v
+none_read u input i v none so_far all = record {
+  held = none;
+  first = sym (ap head_of (all_read u input i v so_far (omega (arith, all))));
+  within = omega arith;
+  whole = tt;
+  newline = tt;
+  before = λ k below. so_far.before k (omega (arith, all, below));
+  none = refl;
+  finds = all_found u input i v so_far (omega (arith, all)) _ refl;
+  progress = λ some. some;
 }

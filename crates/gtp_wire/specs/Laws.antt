@@ -11,8 +11,8 @@ use Rattle.gtp_wire.specs.declared.lines.Line.TheVariants as line
 use Rattle.gtp_wire.specs.declared.replies.Reply.{Reply}
 use Rattle.gtp_wire.specs.declared.replies.ReplyFault.{ReplyFault}
 use Rattle.gtp_wire.specs.Commands.{words_of, written_command, most_command_bytes, IsWritable, IsInLimits}
-use Rattle.gtp_wire.specs.Lines.{lines, most_line_bytes, Finds, SameFuture}
-use Rattle.gtp_wire.specs.Words.{is_written_word, id_words}
+use Rattle.gtp_wire.specs.Lines.{lines, Finds, SameFuture}
+use Rattle.gtp_wire.specs.Words.{most_line_bytes, is_written_word, id_words}
 use Rattle.gtp_wire.specs.Replies.{IsWhole, IsReply, IsFirst, TellsNothing, IsReplyText, written_reply, ReadsFirst}
 use Rattle.gtp_wire.specs.Replies.{most_text_bytes, most_written_bytes}
 

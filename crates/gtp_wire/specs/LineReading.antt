@@ -9,6 +9,7 @@ use Rattle.gtp_wire.specs.declared.lines.Stage.TheVariants.{Word, Gap, Comment}
 use Rattle.gtp_wire.specs.declared.lines.Kind.{Kind}
 use Rattle.gtp_wire.specs.declared.lines.Kind.TheVariants.{Space, Removed, Hash, Other}
 use Rattle.gtp_wire.specs.Bytes.{is_kept, is_space}
+use Rattle.gtp_wire.specs.Words.{most_line_bytes}
 
 -- what stands after the words so far: nothing, a space, or the `#` that begins a comment
 abbrev pub ending : Stage → List ℕ
@@ -31,6 +32,12 @@ IsKind b Other = (is_plain b ≡ true) × (is_space b ≡ false)
 pub record IsJoined (held : List ℕ) : Type 0 where
   pub plain : AllByRecursion (λ b. is_plain b ≡ true) held
   pub single : 0 < length held → AllByRecursion (λ part. 0 < length part) (slice_split is_space held)
+
+-- words joined by single spaces, one at least, as many bytes of them as a line has
+pub record IsLineText (text : List ℕ) : Type 0 where
+  pub joined : IsJoined text
+  pub some : 0 < length text
+  pub few : length text ≤ most_line_bytes
 
 -- a space follows words only
 pub record HoldsLine (held : List ℕ) (stage : Stage) : Type 0 where

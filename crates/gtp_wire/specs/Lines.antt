@@ -1,16 +1,13 @@
 -- The command lines of a text. (The standard, preprocessing and command structure.)
-use Rattle.std.specs.Prelude.{◌≡◌, ℕ, List, [], ◌∷◌, ◌++◌, length, filter, map, nat_lt, Option, Some, None}
-use Rattle.std.specs.Prelude.{if◌then◌else◌}
+use Rattle.std.specs.Prelude.{◌≡◌, ◌<◌, ◌≤◌, ℕ, Bool, true, false, List, [], ◌∷◌, ◌++◌, length, take, filter, map}
+use Rattle.std.specs.Prelude.{nat_lt, Option, Some, None, IfSome, IfNone, if◌then◌else◌}
 use Rattle.std.specs.List.{slice_split, filter_map, join_with_byte}
+use Rattle.std.specs.Option.{option_to_list}
 use Rattle.go_base.specs.Bytes.{newline, space}
 use Rattle.gtp_wire.specs.declared.lines.Line.{Line}
 use Rattle.gtp_wire.specs.declared.lines.Line.TheVariants.{Command, TooLong}
 use Rattle.gtp_wire.specs.Bytes.{is_kept, space_for_tab, is_newline, before_hash}
-use Rattle.gtp_wire.specs.Words.{words, command_of}
-
--- the most bytes that the words of a line have, the id's word included, joined by single spaces (own)
-abbrev pub most_line_bytes : ℕ
-most_line_bytes = 1000
+use Rattle.gtp_wire.specs.Words.{words, command_of, most_line_bytes}
 
 -- all but the last
 abbrev pub but_last : {X : Type 0} → List X → List X
@@ -56,3 +53,26 @@ SameFuture a b = (later : List ℕ) → lines (a ++ later) ≡ lines (b ++ later
 pub record Finds (old text : List ℕ) (found : List Line) (new : List ℕ) : Type 0 where
   pub rest : (later : List ℕ) → lines (old ++ (text ++ later)) ≡ found ++ lines (new ++ later)
   pub no_line : lines new ≡ []
+
+-- A reader that held this reads a piece: it uses so many bytes of it, and finds this line or none; then it holds this.
+pub record ReadsLine (old input : List ℕ) (used : ℕ) (line : Option Line) (new : List ℕ) : Type 0 where
+  -- no whole line was held back
+  pub held : lines old ≡ []
+  -- the line is the first of all that came
+  pub first : line ≡ head_of (lines (old ++ input))
+  -- with a line, the bytes used end with the newline that makes it, and make nothing else
+  pub within : used ≤ length input
+  pub whole : IfSome line (λ found. lines (old ++ take used input) ≡ found ∷ [])
+  pub newline : IfSome line (λ found. EndsLine old (take used input))
+  pub before : (k : ℕ) → k < used → lines (old ++ take k input) ≡ []
+  -- without one, all are used
+  pub none : IfNone line (used ≡ length input)
+  -- whatever comes next, what is left reads as it would have after the bytes that were used
+  pub finds : Finds old (take used input) (option_to_list line) new
+  -- of a piece that isn't empty one byte at least is used
+  pub progress : 0 < length input → 0 < used
+
+-- the line, where one was found
+abbrev pub line_if : Bool → Line → Option Line
+line_if true line = Some line
+line_if false line = None

@@ -31,6 +31,10 @@ command_of [] = record { id = None; words = [] }
 command_of (w ∷ ws) =
     if is_some (int_of w) then record { id = int_of w; words = ws } else record { id = None; words = w ∷ ws }
 
+-- the most bytes that the words of a line have, the id's word included, joined by single spaces (own)
+abbrev pub most_line_bytes : ℕ
+most_line_bytes = 1000
+
 -- a byte of a word as it is written: no space, no control character and no `#`
 abbrev pub is_word_byte : ℕ → Bool
 is_word_byte b = not (is_ascii_control b) && (not (is_space b) && not (b == hash))

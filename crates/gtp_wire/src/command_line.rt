@@ -4,7 +4,7 @@ ghost use Rattle.std.specs.List.{slice_split};
 ghost use Rattle.std.specs.Option.{option_copied};
 ghost use Rattle.go_base.specs.Int.{most_int};
 ghost use Rattle.gtp_wire.specs.Bytes.{is_space};
-ghost use Rattle.gtp_wire.specs.LineReading.{IsJoined, id_of_words};
+ghost use Rattle.gtp_wire.specs.LineReading.{IsLineText, id_of_words};
 ghost use Rattle.gtp_wire.specs.Words.{words, command_of};
 
 use arrayvec::ArrayVec;
@@ -41,13 +41,26 @@ impl Model for CommandLine {
 
 impl CommandLine {
     /// The command line of a text of words joined by single spaces.
-    pub(crate) fn of_text(text: ArrayVec<u8, LINE_ROOM>) -> Self
-        requires joined { IsJoined text.items }
-        requires some { 0 < length text.items }
-        ensures { result ≡ command_of (words text.items) }
+    pub(crate) fn of_text(line: &[u8]) -> Self
+        requires { IsLineText line.now }
+        ensures { result ≡ command_of (words line.now) }
     {
-        let id = first_int(&text);
-        CommandLine { id, text }
+        let mut text = ArrayVec::new();
+        let _ = text.try_extend_from_slice(line);
+        CommandLine {
+            id: first_int(line),
+            text,
+        }
+    }
+
+    /// Puts the command line of a text of words joined by single spaces in place of this one.
+    pub(crate) fn put(&mut self, text: &[u8])
+        requires { IsLineText text.now }
+        ensures { self.new ≡ command_of (words text.now) }
+    {
+        self.id = first_int(text);
+        self.text.clear();
+        let _ = self.text.try_extend_from_slice(text);
     }
 
     /// The id, where the line has one: an int of the protocol, at most 2,147,483,647.

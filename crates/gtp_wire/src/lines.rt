@@ -1,8 +1,10 @@
 //! Lines, and their reader.
-ghost use Rattle.std.specs.Prelude.{◌≡◌, ◌≢◌, ℕ, ◌<◌, ◌≤◌, List, [], ◌∷◌, ◌++◌, length, take, IfSome, IfNone};
+ghost use Rattle.std.specs.Prelude.{◌≡◌, ◌≢◌, ℕ, ◌<◌, ◌≤◌, List, [], ◌∷◌, ◌++◌, length, false};
 ghost use Rattle.std.specs.Option.{option_to_list};
+ghost use Rattle.gtp_wire.specs.declared.lines.Line.TheVariants.{Command};
+ghost use Rattle.gtp_wire.specs.Words.{words, command_of};
 ghost use Rattle.go_base.specs.Bytes.{newline, hash};
-ghost use Rattle.gtp_wire.specs.LineReading.{IsKind};
+ghost use Rattle.gtp_wire.specs.LineReading.{IsKind, IsLineText};
 
 use super::command_line::{CommandLine, LINE_ROOM, MOST_LINE_BYTES};
 use arrayvec::ArrayVec;
@@ -17,6 +19,19 @@ pub enum Line {
     TooLong,
 }
 
+impl Line {
+    /// Puts the command line of a text of words joined by single spaces in place of this line.
+    fn put_command(&mut self, text: &[u8])
+        requires { IsLineText text.now }
+        ensures { self.new ≡ Command (command_of (words text.now)) }
+    {
+        match self {
+            Line::Command(command) => command.put(text),
+            Line::TooLong => *self = Line::Command(CommandLine::of_text(text)),
+        }
+    }
+}
+
 /// What a line reader did with a piece of its input.
 #[derive(Debug, Drop)]
 pub struct LineFed {
@@ -24,6 +39,15 @@ pub struct LineFed {
     pub used: usize,
     /// The line that the last of these bytes ended, if any.
     pub line: Option<Line>,
+}
+
+/// What a line reader did with a piece of its input, where it put the line elsewhere.
+#[derive(Clone, Copy, Debug, PartialEq, Eq, Drop)]
+pub struct LineFedInto {
+    /// How many bytes of the piece it used.
+    pub used: usize,
+    /// Whether the last of these bytes ended a line.
+    pub found: bool,
 }
 
 /// Where a line stands: in or behind a word (or before all words), behind a space that ended a word, or in a comment.
@@ -92,7 +116,7 @@ impl Default for LineReader {
 }
 
 impl LineReader {
-    ghost use Rattle.gtp_wire.specs.Lines.{lines, head_of, EndsLine, Finds};
+    ghost use Rattle.gtp_wire.specs.Lines.{lines, line_if, Finds, ReadsLine};
 
     /// A reader that was fed nothing.
     pub fn new() -> Self
@@ -107,29 +131,24 @@ impl LineReader {
     /// Takes the next piece up to and with the newline that ends the first line that has a word, or all of it.
     ///
     /// Lines without a word (blank lines and comments) are passed over. A line that is too long is told at its newline.
+    /// A line takes some 1 kB: `feed_into` puts it in place.
     pub fn feed(&mut self, input: &[u8]) -> LineFed
-        // No whole line was held back.
-        ensures held { lines self.old ≡ [] }
-        // The line is the first of all that came.
-        ensures first { result.line ≡ head_of (lines (self.old ++ input.now)) }
+        ensures { ReadsLine self.old input.now result.used result.line self.new }
+    {
+        let mut line = Line::TooLong;
+        let LineFedInto { used, found } = self.feed_into(input, &mut line);
+        LineFed {
+            used,
+            line: if found { Some(line) } else { None },
+        }
+    }
 
-        // With a line, the bytes used end with the newline that makes it, and make nothing else.
-        ensures within { result.used ≤ length input.now }
-        ensures whole { IfSome result.line (λ line.
-            lines (self.old ++ take result.used input.now) ≡ line ∷ []) }
-        ensures newline { IfSome result.line (λ line.
-            EndsLine self.old (take result.used input.now)) }
-        ensures before { (k : ℕ) → k < result.used → lines (self.old ++ take k input.now) ≡ [] }
-
-        // Without one, all are used.
-        ensures none { IfNone result.line (result.used ≡ length input.now) }
-
-        // Whatever comes next, what is left reads as it would have after the bytes that were used.
-        ensures finds { Finds self.old (take result.used input.now)
-            (option_to_list result.line) self.new }
-
-        // Of a piece that isn't empty one byte at least is used.
-        ensures progress { 0 < length input.now → 0 < result.used }
+    /// Takes the next piece as `feed` does, and puts a line that it ends in place of the one handed in.
+    pub fn feed_into(&mut self, input: &[u8], line: &mut Line) -> LineFedInto
+        ensures reads { ReadsLine self.old input.now result.used
+            (line_if result.found line.new) self.new }
+        // Where none is found, the line stays as it was.
+        ensures unchanged { result.found ≡ false → line.new ≡ line.old }
     {
         let _ = &self.held;
         for (i, byte) in input.iter().enumerate() {
@@ -137,16 +156,16 @@ impl LineReader {
                 self.take_byte(*byte);
                 continue;
             }
-            if let Some(line) = self.end_line() {
-                return LineFed {
+            if self.end_line(line) {
+                return LineFedInto {
                     used: i + 1,
-                    line: Some(line),
+                    found: true,
                 };
             }
         }
-        LineFed {
+        LineFedInto {
             used: input.len(),
-            line: None,
+            found: false,
         }
     }
 
@@ -215,20 +234,24 @@ impl LineReader {
         }
     }
 
-    /// The line that is held, which a newline ends.
-    fn end_line(&mut self) -> Option<Line>
-        ensures step { (z : List ℕ) →
-            lines (self.old ++ newline ∷ z) ≡ option_to_list result ++ lines z }
+    /// Puts the line that is held, which a newline ends, in place of the one handed in, and answers whether there is one.
+    fn end_line(&mut self, line: &mut Line) -> bool
+        ensures step { (z : List ℕ) → lines (self.old ++ newline ∷ z)
+            ≡ option_to_list (line_if result line.new) ++ lines z }
+        ensures unchanged { result ≡ false → line.new ≡ line.old }
         ensures new { self.new ≡ [] }
     {
         self.stage = Stage::Word;
         if self.held.is_empty() {
-            return None;
+            return false;
         }
-        let text = self.held.take();
-        if text.len() > MOST_LINE_BYTES {
-            return Some(Line::TooLong);
+        let is_short = self.held.len() <= MOST_LINE_BYTES;
+        if is_short {
+            line.put_command(&self.held);
+        } else {
+            *line = Line::TooLong;
         }
-        Some(Line::Command(CommandLine::of_text(text)))
+        self.held.clear();
+        true
     }
 }

@@ -117,6 +117,36 @@ fn spaces_do_not_count(rt: HostRuntime) -> Result<(), Fail> {
     Ok(())
 }
 
+/// Feeds a piece, puts a line that it ends in place of `line`, and tells what `line` is then, and how many bytes were used
+/// where one was found.
+fn feed_into(reader: &mut LineReader, piece: &[u8], line: &mut Line) -> (Shown, Option<usize>) {
+    let fed = reader.feed_into(piece, line);
+    let mut shown = ArrayVec::new();
+    show(line, &mut shown);
+    let used = if fed.found { Some(fed.used) } else { None };
+    (shown, used)
+}
+
+#[test]
+fn a_line_is_put_in_place_of_the_one_before(rt: HostRuntime) {
+    let mut reader = LineReader::new();
+    let mut line = Line::TooLong;
+    let long = [b'x'; 1001];
+    let pieces: [(&[u8], &[u8], Option<usize>); 6] = [
+        (b"# a comment\n 3 play", b"too long;", None),
+        (b" b  D4\nname\n", b"[3] play b D4;", Some(7)),
+        (b"name\n", b"[] name;", Some(5)),
+        (&long, b"[] name;", None),
+        (b"\n", b"too long;", Some(1)),
+        (b"quit\n", b"[] quit;", Some(5)),
+    ];
+    for (piece, wanted, wanted_used) in pieces {
+        let (shown, used) = feed_into(&mut reader, piece, &mut line);
+        assert_equal(&rt, shown.as_slice(), wanted);
+        assert_equal(&rt, used, wanted_used);
+    }
+}
+
 #[test]
 fn an_unfinished_line_is_none(rt: HostRuntime) {
     let mut reader = LineReader::new();
