@@ -166,7 +166,10 @@ impl Conversation for Talk {
             Engine::Broken => return Err(PipeFault::Broken),
         };
         match taken {
-            Ok(()) => Ok(text.len()),
+            Ok(()) => {
+                add_one(&self.log.writes);
+                Ok(text.len())
+            }
             Err(AllocError) => Err(PipeFault::Broken),
         }
     }
@@ -201,6 +204,8 @@ pub struct Log {
     pub quits: Rc<Cell<u32>>,
     /// How many had been ended when the last `quit` was sent.
     pub ended_by_quit: Rc<Cell<u32>>,
+    /// How many writes went through.
+    pub writes: Rc<Cell<u32>>,
     /// How many calls of pipes were interrupted.
     pub interrupted: Rc<Cell<u32>>,
 }
@@ -213,6 +218,7 @@ impl Log {
             ended: Rc::new(alloc, Cell::new(0))?,
             quits: Rc::new(alloc, Cell::new(0))?,
             ended_by_quit: Rc::new(alloc, Cell::new(0))?,
+            writes: Rc::new(alloc, Cell::new(0))?,
             interrupted: Rc::new(alloc, Cell::new(0))?,
         })
     }

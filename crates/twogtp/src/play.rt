@@ -4,12 +4,13 @@ ghost use Rattle.gtp_match.specs.declared.verdicts.Action.TheVariants as action;
 ghost use Rattle.gtp_match.specs.Next.{next};
 ghost use Rattle.gtp_match.specs.Sound.{IsSound};
 ghost use Rattle.twogtp.specs.Processes.{OtherStays, no_processes};
-ghost use Rattle.twogtp.specs.Speaking.{Hears, IsHeard, IsSent, Sends};
+ghost use Rattle.twogtp.specs.Speaking.{AreSent, Hears, IsHeard, Sends};
 ghost use Rattle.twogtp.specs.Status.{own_fault, status_of};
 ghost use Rattle.twogtp.specs.Turns.{HasPlayed, HasStopped, HasTaken, IsRefused, Turn};
 
 use crate::fault::Fault;
 use crate::pipes::{CutOff, READ_ROOM, read_once, write_whole};
+use crate::sending::take_commands;
 use crate::sides::{Sides, end};
 use crate::starter::{Conversation, StartFault, Starter};
 use crate::task::Commands;
@@ -139,7 +140,7 @@ fn start<S: Starter>(
     }
 }
 
-/// Sends a side its command. A side that has no process is lost.
+/// Sends a side its commands: all that come next for it. A side that has no process is lost.
 fn send<P: Conversation>(game: &mut Match, side: Side, process: &mut Option<P>)
     requires { next game.old ≡ action.Send side }
     ensures { Sends P.Conversation game.old side process.old process.new game.new }
@@ -153,12 +154,11 @@ fn send<P: Conversation>(game: &mut Match, side: Side, process: &mut Option<P>)
     }
 }
 
-/// Writes a side's command to its process. A side that is cut off is lost.
+/// Writes a side's commands to its process, in one text. A side that is cut off is lost.
 fn send_to<P: Conversation>(game: &mut Match, side: Side, process: &mut P)
-    requires { next game.old ≡ action.Send side }
-    ensures { IsSent P.Conversation game.old side process.old process.new game.new }
+    ensures { AreSent P.Conversation game.old side process.old process.new game.new }
 {
-    let text = game.send(side);
+    let text = take_commands(game, side);
     match write_whole(process, text.as_slice()) {
         Ok(()) => {}
         Err(CutOff) => game.lost(side),

@@ -1,0 +1,32 @@
+use Rattle.std.proofs.Common.{arith, inl, inr, refl}
+use Rattle.twogtp.specs.Speaking.{none, one_more}
+use Rattle.twogtp.proofs.sending.take_commands.Goals as goal
+
+pub loop-number-init : goal.loop-number-init
+loop-number-init c = rw c.new-text.ensures (none, omega arith)
+
+pub loop-number-preserved : goal.loop-number-preserved
+loop-number-preserved c =
+    let few = c.push_command.ensures.few in
+    let so_far = c.loop-number.invariant.1 in (
+      rw (c.push_command.ensures.text, c.push_command.ensures.sent)
+          (one_more c.loop-number.invariant.0 (c.if-not-is_to_send.ensures.yes refl)),
+      omega (arith, few, so_far),
+    )
+
+pub push_command-requires-clause-room : goal.push_command-requires-clause-room
+push_command-requires-clause-room c = let so_far = c.loop-number.invariant.1 in omega (arith, so_far)
+
+pub returns-then-not-is_to_send : goal.returns-then-not-is_to_send
+returns-then-not-is_to_send c = record {
+  number = c.loop-number._number;
+  takes = c.loop-number.invariant.0;
+  all = inr (c.if-not-is_to_send.ensures.no refl);
+}
+
+pub returns : goal.returns
+returns c = record {
+  number = c.loop-number._number;
+  takes = c.loop-number.invariant.0;
+  all = inl (omega arith);
+}
