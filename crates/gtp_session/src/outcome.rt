@@ -6,11 +6,11 @@ ghost use Rattle.go_base.specs.declared.vertices.Vertex.TheVariants.{At};
 ghost use Rattle.gtp_wire.specs.Replies.{most_text_bytes, written_reply};
 ghost use Rattle.go_board.specs.Show.{board_text};
 ghost use Rattle.gtp_session.specs.Commands.{all_names, written_vertices};
-ghost use Rattle.gtp_session.specs.private.Outcome.{text_of, answer_of};
+ghost use Rattle.gtp_session.specs.private.Outcome.{text_of, handicap_text, answer_of};
 
 use crate::commands::all_names;
 use arrayvec::ArrayVec;
-use go_base::{Point, Vertex, write_score};
+use go_base::{Point, Vertex, handicap, write_score};
 use go_board::Game;
 use gtp_wire::{ReplyText, write_reply_into};
 
@@ -28,8 +28,8 @@ pub(crate) enum Text {
     Names,
     /// A vertex.
     Vertex(Vertex),
-    /// The vertices of points, separated by single spaces.
-    Vertices(ArrayVec<Point, 9>),
+    /// The vertices of the handicap stones.
+    Handicap,
     /// A score in half points.
     Score(i32),
     /// The board.
@@ -61,9 +61,20 @@ fn write_success(text: &Text, game: &Game, id: Option<u32>, reply: &mut ReplyTex
         Text::Fixed(bytes) => write_reply_into(reply, true, id, bytes),
         Text::Names => write_names(id, reply),
         Text::Vertex(vertex) => write_reply_into(reply, true, id, &vertex.write()),
-        Text::Vertices(points) => write_reply_into(reply, true, id, &written_vertices(points)),
+        Text::Handicap => write_handicap(game, id, reply),
         Text::Score(half_points) => write_reply_into(reply, true, id, &write_score(*half_points)),
         Text::Board => write_board(game, id, reply),
+    }
+}
+
+/// The same for the vertices of the handicap stones.
+fn write_handicap(game: &Game, id: Option<u32>, reply: &mut ReplyText)
+    requires { length (handicap_text game.now) ≤ most_text_bytes }
+    ensures { reply.new.items ≡ written_reply true id (handicap_text game.now) }
+{
+    match handicap(game.size(), game.handicap()) {
+        Some(points) => write_reply_into(reply, true, id, &written_vertices(&points)),
+        None => write_reply_into(reply, true, id, b""),
     }
 }
 
