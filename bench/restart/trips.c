@@ -1,6 +1,7 @@
 /* Round trips: starts an engine so many times, sends it `boardsize`, `komi`, `clear_board` and so many plays on 19x19, and ends it.
  * Once at most LEFT commands are unanswered, more are sent until AHEAD are, all in one write. With AHEAD 1 and LEFT 0 each is sent
- * when the reply to the one before has come. With -3 plays nothing is sent. At the end it prints how many reads it made.
+ * when the reply to the one before has come. With -2 plays the first command alone is sent. At the end it prints how many reads it
+ * made.
  *
  * usage: trips COUNT PLAYS AHEAD LEFT ENGINE [ARGUMENT ..] */
 #include <signal.h>
@@ -38,7 +39,7 @@ static int heard(int from) {
 static void talk(int to, int from, int commands, int ahead, int left) {
     int sent = 0, newlines = 0;
     while (newlines < 2 * commands) {
-        char texts[1024];
+        char texts[8192];
         int size = 0;
         if (sent - newlines / 2 <= left)
             while (sent < commands && sent - newlines / 2 < ahead) size += command(texts + size, ++sent);
@@ -71,7 +72,7 @@ static void replay(int commands, int ahead, int left, char **engine) {
 int main(int count, char **words) {
     if (count < 6) return 2;
     int ahead = atoi(words[3]), left = atoi(words[4]);
-    if (ahead < 1 || ahead > 16 || left < 0 || left >= ahead) return 2;
+    if (ahead < 1 || ahead > 256 || left < 0 || left >= ahead) return 2;
     for (int time = atoi(words[1]); time > 0; time--) replay(atoi(words[2]) + 3, ahead, left, words + 5);
     printf("%ld\n", reads);
     return 0;

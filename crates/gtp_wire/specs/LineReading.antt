@@ -33,7 +33,7 @@ pub record IsJoined (held : List ℕ) : Type 0 where
   pub plain : AllByRecursion (λ b. is_plain b ≡ true) held
   pub single : 0 < length held → AllByRecursion (λ part. 0 < length part) (slice_split is_space held)
 
--- words joined by single spaces, one at least, as many bytes of them as a line has
+-- words joined by single spaces, one at least, in no more bytes than the words of a line have
 pub record IsLineText (text : List ℕ) : Type 0 where
   pub joined : IsJoined text
   pub some : 0 < length text

@@ -1,5 +1,5 @@
 //! Lines, and their reader.
-ghost use Rattle.std.specs.Prelude.{◌≡◌, ◌≢◌, ℕ, ◌<◌, ◌≤◌, List, [], ◌∷◌, ◌++◌, length, false};
+ghost use Rattle.std.specs.Prelude.{◌≡◌, ◌≢◌, ℕ, List, [], ◌∷◌, ◌++◌, false};
 ghost use Rattle.std.specs.Option.{option_to_list};
 ghost use Rattle.gtp_wire.specs.declared.lines.Line.TheVariants.{Command};
 ghost use Rattle.gtp_wire.specs.Words.{words, command_of};
@@ -234,7 +234,7 @@ impl LineReader {
         }
     }
 
-    /// Puts the line that is held, which a newline ends, in place of the one handed in, and answers whether there is one.
+    /// Puts the line that is held, which a newline ends, in place of the one handed in. Answers whether there is one.
     fn end_line(&mut self, line: &mut Line) -> bool
         ensures step { (z : List ℕ) → lines (self.old ++ newline ∷ z)
             ≡ option_to_list (line_if result line.new) ++ lines z }

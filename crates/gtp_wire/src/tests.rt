@@ -117,8 +117,8 @@ fn spaces_do_not_count(rt: HostRuntime) -> Result<(), Fail> {
     Ok(())
 }
 
-/// Feeds a piece, puts a line that it ends in place of `line`, and tells what `line` is then, and how many bytes were used
-/// where one was found.
+/// Feeds a piece, puts a line that it ends in place of `line`, and tells what `line` is then, and how many bytes were
+/// used where one was found.
 fn feed_into(reader: &mut LineReader, piece: &[u8], line: &mut Line) -> (Shown, Option<usize>) {
     let fed = reader.feed_into(piece, line);
     let mut shown = ArrayVec::new();

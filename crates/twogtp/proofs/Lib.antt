@@ -2,4 +2,3 @@ mod OptionLemmas
 mod PipeLemmas
 mod PlanLemmas
 mod TellingLemmas
-mod TurnLemmas

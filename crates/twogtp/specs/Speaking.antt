@@ -30,7 +30,8 @@ pub data Takes (c : Controller) (side : Colour) : ℕ → List ℕ → Controlle
   one_more : {number : ℕ} {text : List ℕ} {mid : Controller} → Takes c side number text mid → next mid ≡ Send side
       → Takes c side (number + 1) (text ++ command_text mid side) (sent mid side)
 
--- All that come next for it were taken, until something else comes next: eight at most, since then it has to answer.
+-- All that come next for it were taken, until something else comes next. After eight nothing more comes next for it,
+-- since as many unanswered commands have to be answered first.
 pub record TakesAll (c : Controller) (side : Colour) (text : List ℕ) (new : Controller) : Type 0 where
   pub number : ℕ
   pub takes : Takes c side number text new

@@ -39,8 +39,8 @@ pub data Begins {P : Type 0} (commands : Commands) (c : Controller) (side : Colo
       → Begins commands c side before after had has (lost (started c side) side)
 
 -- One turn does what comes next, with the process of the side whose turn it is, and nothing with the other's: its
--- program is asked for, or it is sent its command, or it is waited for. Once the match is over nothing is done. Only a
--- start asks for a program.
+-- program is asked for, or it is sent its commands, all that come next for it, or it is waited for. Once the match is
+-- over nothing is done. Only a start asks for a program.
 abbrev pub Turn : {P : Type 0} → Ghosts P → Commands → Controller → Action → Sides P → Attempts P
     → Controller → Sides P → Attempts P → Type 0
 Turn known commands c (Start side) before had new after has =

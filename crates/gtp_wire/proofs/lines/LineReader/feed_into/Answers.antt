@@ -1,4 +1,4 @@
-use Rattle.std.proofs.Common.{◌+◌, ◌∙◌, refl, arith}
+use Rattle.std.proofs.Common.{◌∙◌, refl, arith}
 use Rattle.gtp_wire.proofs.StepLemmas.{view_open}
 use Rattle.gtp_wire.proofs.FeedLemmas.{so_far_none, so_far_more, so_far_newline, line_read, none_read}
 use Rattle.gtp_wire.proofs.lines.LineReader.feed_into.Goals as goal
