@@ -1,9 +1,10 @@
 /* Round trips: starts an engine so many times, sends it `boardsize`, `komi`, `clear_board` and so many plays on 19x19, and ends it.
  * Once at most LEFT commands are unanswered, more are sent until AHEAD are, all in one write. With AHEAD 1 and LEFT 0 each is sent
- * when the reply to the one before has come. With -2 plays the first command alone is sent. At the end it prints how many reads it
- * made.
+ * when the reply to the one before has come. With -2 plays the first command alone is sent. With FIRST 1 others may run before each
+ * read. At the end it prints how many reads it made.
  *
- * usage: trips COUNT PLAYS AHEAD LEFT ENGINE [ARGUMENT ..] */
+ * usage: trips COUNT PLAYS AHEAD LEFT FIRST ENGINE [ARGUMENT ..] */
+#include <sched.h>
 #include <signal.h>
 #include <stdio.h>
 #include <stdlib.h>
@@ -36,7 +37,7 @@ static int heard(int from) {
     return newlines;
 }
 
-static void talk(int to, int from, int commands, int ahead, int left) {
+static void talk(int to, int from, int commands, int ahead, int left, int first) {
     int sent = 0, newlines = 0;
     while (newlines < 2 * commands) {
         char texts[8192];
@@ -44,11 +45,12 @@ static void talk(int to, int from, int commands, int ahead, int left) {
         if (sent - newlines / 2 <= left)
             while (sent < commands && sent - newlines / 2 < ahead) size += command(texts + size, ++sent);
         if (size && write(to, texts, (size_t)size) != size) exit(3);
+        if (first) sched_yield();
         newlines += heard(from);
     }
 }
 
-static void replay(int commands, int ahead, int left, char **engine) {
+static void replay(int commands, int ahead, int left, int first, char **engine) {
     int in[2], out[2];
     if (pipe(in) || pipe(out)) exit(3);
     pid_t process = fork();
@@ -62,7 +64,7 @@ static void replay(int commands, int ahead, int left, char **engine) {
     }
     close(in[0]);
     close(out[1]);
-    talk(in[1], out[0], commands, ahead, left);
+    talk(in[1], out[0], commands, ahead, left, first);
     close(in[1]);
     close(out[0]);
     kill(process, SIGKILL);
@@ -70,10 +72,10 @@ static void replay(int commands, int ahead, int left, char **engine) {
 }
 
 int main(int count, char **words) {
-    if (count < 6) return 2;
-    int ahead = atoi(words[3]), left = atoi(words[4]);
+    if (count < 7) return 2;
+    int ahead = atoi(words[3]), left = atoi(words[4]), first = atoi(words[5]);
     if (ahead < 1 || ahead > 256 || left < 0 || left >= ahead) return 2;
-    for (int time = atoi(words[1]); time > 0; time--) replay(atoi(words[2]) + 3, ahead, left, words + 5);
+    for (int time = atoi(words[1]); time > 0; time--) replay(atoi(words[2]) + 3, ahead, left, first, words + 6);
     printf("%ld\n", reads);
     return 0;
 }

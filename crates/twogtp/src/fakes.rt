@@ -11,6 +11,40 @@ use std::cell::Cell;
 use std::io;
 use std::io::{ErrorKind, Read, Write};
 use std::rc::Rc;
+use std::time::{Clock, Duration};
+
+/// A clock that goes on by so many microseconds at each reading, and can't be read at all where it has none.
+#[derive(Drop)]
+pub struct Ticking {
+    now: Cell<u64>,
+    step: Option<u64>,
+}
+
+impl Ticking {
+    /// A clock with this step.
+    pub fn new(step: Option<u64>) -> Self {
+        Ticking {
+            now: Cell::new(0),
+            step,
+        }
+    }
+}
+
+impl Clock for Ticking {
+    fn monotonic(&self) -> io::Result<Duration> {
+        match self.step {
+            Some(step) => {
+                self.now.set(self.now.get().saturating_add(step));
+                Ok(Duration::from_micros(self.now.get()))
+            }
+            None => Err(io::Error::from(ErrorKind::Unsupported)),
+        }
+    }
+
+    fn since_1970(&self) -> io::Result<Duration> {
+        self.monotonic()
+    }
+}
 
 /// A stream of which each write and flush fails.
 #[derive(Clone, Copy, Drop)]
@@ -177,6 +211,8 @@ impl Conversation for Talk {
     fn flush(&mut self) -> Result<(), PipeFault> {
         self.interrupt()
     }
+
+    fn let_run(&self) {}
 
     fn end(self) {
         let Talk {

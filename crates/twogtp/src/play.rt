@@ -15,7 +15,7 @@ use crate::sides::{Sides, end};
 use crate::starter::{Conversation, StartFault, Starter};
 use crate::task::Commands;
 use go_base::Side;
-use gtp_match::{Action, Match, Verdict};
+use gtp_match::{Action, Match, Status, Verdict};
 
 /// How many turns a game has at most. No match within the limits has as many.
 const MOST_TURNS: u64 = 1_000_000_000_000;
@@ -182,7 +182,7 @@ fn hear<P: Conversation>(
 }
 
 /// Reads once, and hears all that the process wrote, before anything else is done. A side whose stream has ended or
-/// that is cut off is lost.
+/// that is cut off is lost. A process that has several commands to answer may run first.
 fn hear_from<P: Conversation>(
     game: &mut Match,
     side: Side,
@@ -191,11 +191,22 @@ fn hear_from<P: Conversation>(
 )
     ensures { IsHeard P.Conversation game.old side process.old process.new game.new }
 {
+    if has_several_unanswered(game, side) {
+        process.let_run();
+    }
     match read_once(process, buffer) {
         Ok(0) => game.lost(side),
         Ok(count) => {
             let _ = game.hear_all(side, &buffer[..count]);
         }
         Err(_) => game.lost(side),
+    }
+}
+
+/// Whether a side is up and has more than one unanswered command.
+fn has_several_unanswered(game: &Match, side: Side) -> bool {
+    match game.status(side) {
+        Status::Up { unanswered, .. } => unanswered > 1,
+        Status::Down => false,
     }
 }
