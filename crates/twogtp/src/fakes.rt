@@ -13,7 +13,7 @@ use std::io::{ErrorKind, Read, Write};
 use std::rc::Rc;
 use std::time::{Clock, Duration};
 
-/// A clock that goes on by so many microseconds at each reading, and can't be read at all where it has none.
+/// A clock that goes on by so many microseconds at each reading, and can't be read at all where it has no step.
 #[derive(Drop)]
 pub struct Ticking {
     now: Cell<u64>,
@@ -212,7 +212,9 @@ impl Conversation for Talk {
         self.interrupt()
     }
 
-    fn let_run(&self) {}
+    fn let_run(&self) {
+        add_one(&self.log.let_run);
+    }
 
     fn end(self) {
         let Talk {
@@ -242,6 +244,8 @@ pub struct Log {
     pub ended_by_quit: Rc<Cell<u32>>,
     /// How many writes went through.
     pub writes: Rc<Cell<u32>>,
+    /// How often one was let run before it was read.
+    pub let_run: Rc<Cell<u32>>,
     /// How many calls of pipes were interrupted.
     pub interrupted: Rc<Cell<u32>>,
 }
@@ -255,6 +259,7 @@ impl Log {
             quits: Rc::new(alloc, Cell::new(0))?,
             ended_by_quit: Rc::new(alloc, Cell::new(0))?,
             writes: Rc::new(alloc, Cell::new(0))?,
+            let_run: Rc::new(alloc, Cell::new(0))?,
             interrupted: Rc::new(alloc, Cell::new(0))?,
         })
     }

@@ -7,15 +7,16 @@ use std::time::{Clock, Duration, Instant};
 /// How many milliseconds the processor may be gone for a process to go first again.
 const MOST_MILLISECONDS: u64 = 1;
 
-/// Whether a process that has several commands to answer goes first before it is read. One that does has answered them
-/// all by then, and the system needn't wake the program that reads for each answer. What is read is the same.
+/// Whether a process that has several commands to answer runs before it is read. On one processor it has mostly answered
+/// them all then, and the system needn't wake the program that reads for each answer. The bytes are the same, maybe in
+/// other pieces.
 #[derive(Clone, Copy, Debug, PartialEq, Eq, Drop)]
 pub enum Precedence {
-    /// It was started just now, and is read at once for once: its start isn't counted.
+    /// It was just started. Its first read isn't delayed, so that the time of its start doesn't count.
     Starting,
     /// It goes first.
     First,
-    /// It goes first no more, since the processor was gone for too long: it thinks, or others want the processor too.
+    /// It goes first no more: the processor came back too late, since the process thinks, or others want it too.
     Over,
 }
 
