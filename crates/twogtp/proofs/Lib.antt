@@ -1,4 +1,5 @@
 mod OptionLemmas
 mod PipeLemmas
 mod PlanLemmas
+mod SendingLemmas
 mod TellingLemmas

@@ -1,5 +1,5 @@
 -- What is said with the process of a side in a turn.
-use Rattle.std.specs.Prelude.{◌≡◌, ◌≢◌, ◌<◌, ◌+◌, ◌⊎◌, ℕ, List, [], ◌++◌, length, Option, Some, None}
+use Rattle.std.specs.Prelude.{◌≡◌, ◌≢◌, ◌<◌, ◌+◌, ℕ, List, [], ◌++◌, length, Option, Some, None}
 use Rattle.std.specs.Io.KnownBytes.{Appends, Keeps}
 use Rattle.go_base.specs.declared.colours.Colour.{Colour}
 use Rattle.gtp_match.specs.declared.controller.Controller.{Controller}
@@ -10,7 +10,6 @@ use Rattle.gtp_match.specs.Controller.{next_text, sent, lost}
 use Rattle.gtp_match.specs.Hearing.{HearsAllExactly}
 use Rattle.gtp_match.specs.Next.{next}
 use Rattle.gtp_match.specs.Sides.{side_of}
-use Rattle.gtp_match.specs.Unanswered.{most_unanswered}
 use Rattle.twogtp.specs.declared.starter.Conversation.{Ghosts}
 use Rattle.twogtp.specs.Pipes.{IsCutOff, IsUnbroken, TakesPart}
 use Rattle.twogtp.specs.Processes.{WithProcess}
@@ -30,12 +29,11 @@ pub data Takes (c : Controller) (side : Colour) : ℕ → List ℕ → Controlle
   one_more : {number : ℕ} {text : List ℕ} {mid : Controller} → Takes c side number text mid → next mid ≡ Send side
       → Takes c side (number + 1) (text ++ command_text mid side) (sent mid side)
 
--- All that come next for it were taken, until something else comes next. After eight nothing more comes next for it,
--- since as many unanswered commands have to be answered first.
+-- All that come next for it were taken, until something else comes next.
 pub record TakesAll (c : Controller) (side : Colour) (text : List ℕ) (new : Controller) : Type 0 where
   pub number : ℕ
   pub takes : Takes c side number text new
-  pub all : (number ≡ most_unanswered) ⊎ (next new ≢ Send side)
+  pub all : next new ≢ Send side
 
 -- A side was to be sent its commands: all that come next for it, in one text. Its process took the whole text, no call
 -- broke, and nothing waits to go out: they count as sent. Or it took the beginning of it and was cut off: the side is

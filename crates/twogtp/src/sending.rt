@@ -8,16 +8,11 @@ ghost use Rattle.twogtp.specs.Speaking.{TakesAll, command_text};
 
 use arrayvec::ArrayVec;
 use go_base::Side;
-use gtp_match::{Action, Match};
+use gtp_match::{Action, MOST_UNANSWERED, Match};
+use gtp_wire::MOST_COMMAND_BYTES;
 
-/// How many commands a side may have unanswered, and so is sent at once at most.
-const MOST_AT_ONCE: usize = 8;
-
-/// The most bytes of a command.
-const MOST_COMMAND_BYTES: usize = 64;
-
-/// The room for the bytes of as many commands.
-const TEXT_ROOM: usize = MOST_AT_ONCE * MOST_COMMAND_BYTES;
+/// The room for the bytes of as many commands as a side may have unanswered.
+const TEXT_ROOM: usize = MOST_UNANSWERED * MOST_COMMAND_BYTES;
 
 /// The bytes of commands, joined.
 pub type CommandsText = ArrayVec<u8, TEXT_ROOM>;
@@ -27,7 +22,7 @@ pub fn take_commands(game: &mut Match, side: Side) -> CommandsText
     ensures { TakesAll game.old side result.items game.new }
 {
     let mut text = ArrayVec::new();
-    for _number in 0..MOST_AT_ONCE {
+    for _number in 0..MOST_UNANSWERED {
         if !is_to_send(game, side) {
             return text;
         }

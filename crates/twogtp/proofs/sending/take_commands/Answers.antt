@@ -1,5 +1,6 @@
-use Rattle.std.proofs.Common.{arith, inl, inr, refl}
+use Rattle.std.proofs.Common.{arith, refl}
 use Rattle.twogtp.specs.Speaking.{none, one_more}
+use Rattle.twogtp.proofs.SendingLemmas.{eight_wait, taken_are_unanswered}
 use Rattle.twogtp.proofs.sending.take_commands.Goals as goal
 
 pub loop-number-init : goal.loop-number-init
@@ -21,12 +22,14 @@ pub returns-then-not-is_to_send : goal.returns-then-not-is_to_send
 returns-then-not-is_to_send c = record {
   number = c.loop-number._number;
   takes = c.loop-number.invariant.0;
-  all = inr (c.if-not-is_to_send.ensures.no refl);
+  all = c.if-not-is_to_send.ensures.no refl;
 }
 
 pub returns : goal.returns
-returns c = record {
-  number = c.loop-number._number;
-  takes = c.loop-number.invariant.0;
-  all = inl (omega arith);
-}
+returns c =
+    let taken = taken_are_unanswered c.loop-number.invariant.0 in
+    record {
+      number = c.loop-number._number;
+      takes = c.loop-number.invariant.0;
+      all = eight_wait c.loop-number.game c.args.side (omega (arith, taken));
+    }
