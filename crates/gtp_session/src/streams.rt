@@ -72,10 +72,8 @@ pub fn send<W: Outgoing>(writer: &mut W, text: &[u8]) -> Result<(), Broken>
 {
     let mut done = 0;
     while done < text.len() {
-        match writer.write(&text[done..]) {
-            Ok(count) => done += count,
-            Err(broken) => return Err(broken),
-        }
+        let count = writer.write(&text[done..])?;
+        done += count;
     }
     writer.flush()
 }

@@ -60,10 +60,12 @@ impl Write for Full {
     }
 }
 
-/// A stream with room for so many bytes; a write into it when it is full fails.
+/// A stream with room for so many bytes, which keeps how many it had taken at each flush; a write into it when it is
+/// full fails.
 #[derive(Drop)]
 pub struct Narrow {
     pub taken: Vec<u8>,
+    pub flushed: Vec<usize>,
     pub room: usize,
 }
 
@@ -79,7 +81,7 @@ impl Write for Narrow {
     }
 
     fn flush(&mut self) -> io::Result<()> {
-        Ok(())
+        Ok(self.flushed.push(self.taken.len())?)
     }
 }
 

@@ -45,11 +45,7 @@ pub fn read_options<'a, S: AsStr>(alloc: Global, words: &'a [S]) -> Result<Optio
     ensures fault { IfErr result (λ error. (kind_of error ≡ OutOfMemory)
         ⊎ HasFault (map S.text words.entry.now) (kind_of error)) }
 {
-    let command = command(alloc)?;
-    let matches = match command.try_get_matches_from(words) {
-        Ok(matches) => matches,
-        Err(error) => return Err(error),
-    };
+    let matches = command(alloc)?.try_get_matches_from(words)?;
     Ok(options_of(&matches))
 }
 

@@ -59,11 +59,11 @@ pub fn write_whole<P: Conversation>(process: &mut P, text: &[u8]) -> Result<(), 
 {
     let mut done = 0;
     while done < text.len() {
-        match write_once(process, &text[done..]) {
-            Ok(0) => return Err(CutOff),
-            Ok(count) => done += count,
-            Err(CutOff) => return Err(CutOff),
+        let count = write_once(process, &text[done..])?;
+        if count == 0 {
+            return Err(CutOff);
         }
+        done += count;
     }
     flush(process)
 }

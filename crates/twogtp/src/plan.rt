@@ -29,14 +29,9 @@ pub fn plan_of<'a>(alloc: Global, options: &Options<'a>) -> Result<Plan<'a>, Fau
     ensures fault { IfErr result (λ fault.
         (fault ≡ Fault.OutOfMemory) ⊎ IsMistake options.now fault) }
 {
-    let commands = match commands_of(alloc, options) {
-        Ok(commands) => commands,
-        Err(fault) => return Err(fault),
-    };
-    match task_of(options) {
-        Ok(task) => Ok(Plan { commands, task }),
-        Err(fault) => Err(fault),
-    }
+    let commands = commands_of(alloc, options)?;
+    let task = task_of(options)?;
+    Ok(Plan { commands, task })
 }
 
 /// The commands of the options. Black's is looked at first.

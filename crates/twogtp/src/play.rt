@@ -70,10 +70,7 @@ fn take_turns<S: Starter>(
         if let Action::Done(verdict) = action {
             return Ok(verdict);
         }
-        match take_turn(game, action, sides, buffer, commands, starter) {
-            Ok(()) => {}
-            Err(fault) => return Err(fault),
-        }
+        take_turn(game, action, sides, buffer, commands, starter)?;
         sides.end_what_is_down(game);
     }
     Err(Fault::TooManyTurns)

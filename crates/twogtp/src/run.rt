@@ -95,10 +95,7 @@ fn play_games<O: Write, S: Starter>(
     let mut status = 0;
     for index in 0..task.games {
         let mut game = Match::new(task.setup);
-        let verdict = match play_game(&mut game, commands, starter) {
-            Ok(verdict) => verdict,
-            Err(fault) => return Err(fault),
-        };
+        let verdict = play_game(&mut game, commands, starter)?;
         let text = game_text(task, index + 1, &game);
         match write_text(output, text.as_slice()) {
             Ok(()) => {}

@@ -1,4 +1,5 @@
 use Rattle.std.proofs.Common.{arith}
+use Rattle.std.proofs.lemmas.Result.{err_from_is_err_and}
 use Rattle.std.proofs.KnownBytes.{Appends-nil, Keeps-refl, Keeps-trans}
 use Rattle.twogtp.specs.Pipes.{untouched}
 use Rattle.twogtp.proofs.PipeLemmas.{cut_off-last, cut_off-then, unbroken-last, unbroken-then}
@@ -11,25 +12,31 @@ loop-done-init g c = record { within = omega arith; taken = Appends-nil _; given
 pub loop-done-preserved : goal.loop-done-preserved
 loop-done-preserved g c =
     record {
-      within = tail-within c.args.text.now c.loop-done.done c.in-Ok.count c.loop-done.invariant.within c.in-Ok.ensures.bound;
-      taken = Appends-take _ _ _ c.args.text.now c.loop-done.done c.in-Ok.count c.loop-done.invariant.taken c.in-Ok.ensures.takes;
-      given = Keeps-trans _ _ _ c.loop-done.invariant.given c.in-Ok.ensures.given;
-      unbroken = unbroken-then c.loop-done.invariant.unbroken (c.in-Ok.ensures.unbroken (omega arith));
+      within = tail-within c.args.text.now c.loop-done.done c.in_ok-count.count c.loop-done.invariant.within c.in_ok-count.ensures.bound;
+      taken = Appends-take _ _ _ c.args.text.now c.loop-done.done c.in_ok-count.count c.loop-done.invariant.taken c.in_ok-count.ensures.takes;
+      given = Keeps-trans _ _ _ c.loop-done.invariant.given c.in_ok-count.ensures.given;
+      unbroken = unbroken-then c.loop-done.invariant.unbroken (c.in_ok-count.ensures.unbroken (omega arith));
     }
 
-pub returns-in-Ok-eq0-clause-failed : goal.returns-in-Ok-eq0-clause-failed
-returns-in-Ok-eq0-clause-failed g c =
+pub returns-then-count-eq0-clause-failed : goal.returns-then-count-eq0-clause-failed
+returns-then-count-eq0-clause-failed g c =
     cut_off-then c.loop-done.invariant.unbroken
-    (c.in-Ok-eq0.ensures.none c.in-Ok-eq0.field-0-test (tail-some c.args.text.now c.loop-done.done c.loop-done-test.true))
+    (c.in_ok-count.ensures.none (omega arith) (tail-some c.args.text.now c.loop-done.done c.loop-done-test.true))
 
-pub returns-in-Ok-eq0-clause-part : goal.returns-in-Ok-eq0-clause-part
-returns-in-Ok-eq0-clause-part g c = TakesPart-more _ _ _ c.args.text.now c.loop-done.done _ c.loop-done.invariant.taken c.in-Ok-eq0.ensures.takes
+pub returns-then-count-eq0-clause-part : goal.returns-then-count-eq0-clause-part
+returns-then-count-eq0-clause-part g c = TakesPart-more _ _ _ c.args.text.now c.loop-done.done _ c.loop-done.invariant.taken c.in_ok-count.ensures.takes
 
-pub returns-in-Err-clause-failed : goal.returns-in-Err-clause-failed
-returns-in-Err-clause-failed g c = cut_off-then c.loop-done.invariant.unbroken c.in-Err.ensures.failed
+pub returns-in_err-count-clause-failed : goal.returns-in_err-count-clause-failed
+returns-in_err-count-clause-failed g c =
+    let exit = c.from_residual in
+    rw ((err_from_is_err_and exit.result exit.ensures.1).1)
+    (cut_off-then c.loop-done.invariant.unbroken c.in_err-count.ensures.failed)
 
-pub returns-in-Err-clause-part : goal.returns-in-Err-clause-part
-returns-in-Err-clause-part g c = TakesPart-kept _ _ _ c.args.text.now c.loop-done.done c.loop-done.invariant.taken c.in-Err.ensures.takes
+pub returns-in_err-count-clause-part : goal.returns-in_err-count-clause-part
+returns-in_err-count-clause-part g c =
+    let exit = c.from_residual in
+    rw ((err_from_is_err_and exit.result exit.ensures.1).1)
+    (TakesPart-kept _ _ _ c.args.text.now c.loop-done.done c.loop-done.invariant.taken c.in_err-count.ensures.takes)
 
 pub returns-clause-unbroken : goal.returns-clause-unbroken
 returns-clause-unbroken g c = unbroken-last _ c.flush.result c.loop-done.invariant.unbroken c.flush.ensures.unbroken
