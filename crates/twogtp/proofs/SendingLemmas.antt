@@ -1,7 +1,7 @@
--- A side that was sent eight commands one after the other has to answer before it is sent more.
-use Rattle.std.proofs.Common.{◌≡◌, ◌+◌, ◌<◌, ◌≤◌, ℕ, Bool, true, false, not, Option, Some, None, List, length}
+-- A side that was sent as many commands as may be unanswered has to answer before it is sent more.
+use Rattle.std.proofs.Common.{◌≡◌, ◌+◌, ◌≤◌, ℕ, Bool, true, false, Option, Some, None, List, length}
 use Rattle.std.proofs.Common.{refl, cond, arith}
-use Rattle.std.specs.Prelude.{◌≢◌, nat_le}
+use Rattle.std.specs.Prelude.{◌≢◌}
 use Rattle.std.proofs.lemmas.Bool.Decides.{nat_tests}
 use Rattle.std.proofs.lemmas.List.{length-append}
 use Rattle.go_base.specs.declared.colours.Colour.{Colour}
@@ -9,12 +9,11 @@ use Rattle.go_base.specs.declared.colours.Colour.TheVariants.{Black, White}
 use Rattle.go_board.specs.Game.{GameRecord}
 use Rattle.gtp_match.specs.declared.controller.Controller.{Controller}
 use Rattle.gtp_match.specs.declared.sides.Incarnation.{Incarnation}
-use Rattle.gtp_match.specs.declared.unanswered.SentCommand.{SentCommand}
 use Rattle.gtp_match.specs.declared.verdicts.Action.{Action}
-use Rattle.gtp_match.specs.declared.verdicts.Action.TheVariants.{Start, Send, Wait, Done}
+use Rattle.gtp_match.specs.declared.verdicts.Action.TheVariants.{Start, Send, Wait}
 use Rattle.gtp_match.specs.declared.verdicts.Verdict.{Verdict}
 use Rattle.gtp_match.specs.Controller.{sent, sent_to}
-use Rattle.gtp_match.specs.Next.{has_unanswered, is_down, must_answer, next, next_of, next_of_idle, next_where}
+use Rattle.gtp_match.specs.Next.{has_unanswered, is_down, must_answer, next, next_of, next_where}
 use Rattle.gtp_match.specs.Sides.{side_of}
 use Rattle.gtp_match.specs.Unanswered.{is_full, most_unanswered}
 use Rattle.twogtp.specs.Speaking.{Takes, none, one_more}
@@ -71,7 +70,7 @@ is_up : (c : Controller) (side : Colour) → next c ≡ Send side
 is_up c Black e = up_of_black c.game Black c.sides.black.up c.sides.white.up refl (live c Black e)
 is_up c White e = up_of_white c.game White c.sides.black.up c.sides.white.up refl (live c White e)
 
--- ---- nor is one that has eight unanswered
+-- ---- nor is one that has as many unanswered as it may have
 
 black_waits : (side : Colour) (must : Bool) (later : Action) → must ≡ true → cond must (Wait Black) later ≡ Send side → ⊥
 black_waits side true later is e = cc
@@ -89,11 +88,11 @@ full_must_answer game None many = absurd (omega arith)
 full_must_answer game (Some engine) many =
     let full : is_full engine.unanswered ≡ true = grind (arith, nat_tests) in rw full refl
 
-pub eight_wait : (c : Controller) (side : Colour) → most_unanswered ≤ count c side → next c ≢ Send side
-eight_wait c Black many e =
+pub full_waits : (c : Controller) (side : Colour) → most_unanswered ≤ count c side → next c ≢ Send side
+full_waits c Black many e =
     black_waits Black (must_answer c.game c.sides.black.up) _
     (full_must_answer c.game c.sides.black.up many) (live c Black e)
-eight_wait c White many e =
+full_waits c White many e =
     white_waits White (must_answer c.game c.sides.black.up) (must_answer c.game c.sides.white.up) _
     (full_must_answer c.game c.sides.white.up many) (live c White e)
 

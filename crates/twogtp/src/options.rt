@@ -149,16 +149,13 @@ fn with_games<'a>(alloc: Global, command: Command<'a>) -> Result<Command<'a>, Al
 fn with_moves<'a>(alloc: Global, command: Command<'a>) -> Result<Command<'a>, AllocError>
     ensures { IfOk result (λ with. app_of with ≡ with_moves (app_of command.entry)) }
 {
-    match command.arg(number(
+    command.arg(number(
         alloc,
         "max-moves",
         moves_parser(),
         "1000",
         "Most moves of a game, 1 to 2000",
-    )) {
-        Ok(with) => Ok(with),
-        Err(error) => Err(error),
-    }
+    ))
 }
 
 /// With the restarts and the flags.

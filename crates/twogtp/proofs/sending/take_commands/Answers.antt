@@ -1,6 +1,6 @@
 use Rattle.std.proofs.Common.{arith, refl}
 use Rattle.twogtp.specs.Speaking.{none, one_more}
-use Rattle.twogtp.proofs.SendingLemmas.{eight_wait, taken_are_unanswered}
+use Rattle.twogtp.proofs.SendingLemmas.{full_waits, taken_are_unanswered}
 use Rattle.twogtp.proofs.sending.take_commands.Goals as goal
 
 pub loop-number-init : goal.loop-number-init
@@ -31,5 +31,5 @@ returns c =
     record {
       number = c.loop-number._number;
       takes = c.loop-number.invariant.0;
-      all = eight_wait c.loop-number.game c.args.side (omega (arith, taken));
+      all = full_waits c.loop-number.game c.args.side (omega (arith, taken));
     }
