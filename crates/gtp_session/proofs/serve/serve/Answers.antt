@@ -5,6 +5,7 @@ use Rattle.gtp_session.specs.Counts.{raised}
 use Rattle.gtp_session.proofs.CountsLemmas.{raised-none, raised-then}
 use Rattle.gtp_session.proofs.ConversationLemmas.{GivesAtLeast-nothing, GivesAtLeast-both, Conversation-nothing, Conversation-both, BrokenConversation-after}
 use Rattle.gtp_session.proofs.FaultLemmas.{Conversation-off, BrokenConversation-off, off-Conversation, off-BrokenConversation, BentConversation-nothing}
+use Rattle.gtp_session.proofs.ServingLemmas.{came_out_quit, came_out_too_many}
 use Rattle.gtp_session.specs.declared.fault.Fault.TheVariants.{Off}
 use Rattle.gtp_session.proofs.serve.serve.Goals as goal
 
@@ -41,23 +42,8 @@ loop-turn-preserved g c =
 
 pub returns-then-ended-clause-came_out : goal.returns-then-ended-clause-came_out
 returns-then-ended-clause-came_out g c =
-    record {
-      answers = λ _ _. (0, BentConversation-nothing g.P.Policy.may Off c.args.session.now _ _ c.ended.ensures.unread);
-      stopped = search rules;
-      end_of_input = search rules;
-      open_still = search rules;
-      quit = search rules;
-      breaks = search rules;
-      reads = search rules;
-      too_many = search rules;
-      gave = search rules;
-      gave_before = search rules;
-      read_failed = search rules;
-      read_held = search rules;
-      write_failed = search rules;
-      write_held = search rules;
-      flushed = search rules;
-    }
+    came_out_quit g.P.Policy.may 0 0 (BentConversation-nothing g.P.Policy.may Off c.args.session.now _ _ c.ended.ensures.unread)
+    (sym c.ended.ensures.ended ∙ c.if-ended.true) (omega arith) (sym (raised-none _)) refl (record { held = refl; flushed = λ h. h })
 
 pub returns-then-not-is_too_many-clause-came_out : goal.returns-then-not-is_too_many-clause-came_out
 returns-then-not-is_too_many-clause-came_out g c =
@@ -76,29 +62,15 @@ returns-then-not-is_too_many-clause-came_out g c =
       gave_before = λ h.
           let before = done.gave_before h in
           (c.loop-turn._turn + before.0, rw (before.1, c.loop-turn.invariant.reads) (raised-then _ _ _ ∙ ap (raised _) (omega arith)), GivesAtLeast-both c.loop-turn.invariant.gave before.2);
-      read_failed = search rules;
-      read_held = search rules;
-      write_failed = search rules;
-      write_held = search rules;
-      flushed = search rules;
+      read_failed = λ h. done.read_failed h ∙ ap (λ n. raised n 1) c.loop-turn.invariant.read_held;
+      read_held = λ h. done.read_held h ∙ c.loop-turn.invariant.read_held;
+      write_failed = λ h. done.write_failed h ∙ ap (λ n. raised n 1) c.loop-turn.invariant.write_held;
+      write_held = λ h. done.write_held h ∙ c.loop-turn.invariant.write_held;
+      flushed = λ h waiting. done.flushed h (c.loop-turn.invariant.flushed waiting);
     }
 
 pub returns-clause-came_out : goal.returns-clause-came_out
 returns-clause-came_out g c =
-    record {
-      answers = λ _ _. off-Conversation g.P.Policy.may c.loop-turn.invariant.conversation;
-      stopped = search rules;
-      end_of_input = search rules;
-      open_still = search rules;
-      quit = search rules;
-      breaks = search rules;
-      reads = search rules;
-      too_many = search rules;
-      gave = search rules;
-      gave_before = search rules;
-      read_failed = search rules;
-      read_held = search rules;
-      write_failed = search rules;
-      write_held = search rules;
-      flushed = search rules;
-    }
+    let all = off-Conversation g.P.Policy.may c.loop-turn.invariant.conversation in
+    came_out_too_many g.P.Policy.may all.0 all.1 c.loop-turn.invariant.open_still (search rules) (search rules)
+    c.loop-turn.invariant.read_held (record { held = c.loop-turn.invariant.write_held; flushed = c.loop-turn.invariant.flushed })
