@@ -78,9 +78,8 @@ def read_entry(text):
 
 
 class Generator:
-    """The generator PCG XSL RR 128/64 (M. O'Neill, PCG: A Family of Simple Fast Space-Efficient Statistically Good Algorithms for
-    Random Number Generation, 2014), which Rust's rand_pcg calls Pcg64: a linear congruential generator of 128 bits, whose words are
-    the two halves of its state, xored, and turned right by the state's upper six bits."""
+    """The generator PCG XSL RR 128/64, which Rust's rand_pcg calls Pcg64: a linear congruential generator of 128 bits, whose words
+    are the two halves of its state, xored, and turned right by the state's upper six bits."""
 
     MULTIPLIER = 0x2360ED051FC65DA44385DF649FCCF645
 

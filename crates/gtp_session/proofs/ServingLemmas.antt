@@ -1,4 +1,4 @@
--- How a call of `serve` came out, of each answer that it may give.
+-- How a call of `serve_with` came out, of each answer that it may give.
 use Rattle.std.proofs.Common.{◌≡◌, ℕ, ◌+◌, ◌≤◌, true, false, Ok, Err, refl, arith}
 use Rattle.std.specs.Io.KnownBytes.{IsAtEnd}
 use Rattle.gtp_session.specs.declared.fault.Fault.{Fault}

@@ -19,6 +19,6 @@ pub trait Policy: Drop {
         ensures { may self.old game.now colour result self.new };
 
     // Every choice that it may make is lawful.
-    ghost lawful: { (old : Self) (game : GameRecord) (colour : Colour) (choice : Choice) (new : Self) →
-        may old game colour choice new → IsLawful game colour choice };
+    ghost lawful: { (old : Self) (game : GameRecord) (colour : Colour) (choice : Choice)
+        (new : Self) → may old game colour choice new → IsLawful game colour choice };
 }

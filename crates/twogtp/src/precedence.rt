@@ -7,9 +7,9 @@ use std::time::{Clock, Duration, Instant};
 /// How many milliseconds the processor may be gone for a process to go first again.
 const MOST_MILLISECONDS: u64 = 1;
 
-/// Whether a process that has several commands to answer runs before it is read. On one processor it has mostly answered
-/// them all then, and the system needn't wake the program that reads for each answer. The bytes are the same, maybe in
-/// other pieces.
+/// Whether a process that has several commands to answer runs before it is read. On one processor it has mostly
+/// answered them all then, and the system needn't wake the program that reads for each answer. The bytes are the same,
+/// maybe in other pieces.
 #[derive(Clone, Copy, Debug, PartialEq, Eq, Drop)]
 pub enum Precedence {
     /// It was just started. Its first read isn't delayed, so that the time of its start doesn't count.

@@ -156,3 +156,16 @@ fn the_read_of_the_end_is_one_of_those_that_are_allowed(rt: HostRuntime) {
         assert_equal(&rt, writer.inner.taken.len(), 0);
     }
 }
+
+#[test]
+fn nothing_is_read_after_the_read_of_the_end(rt: HostRuntime) {
+    // Two reads bring 24 bytes, which would be enough for more reads.
+    for most in [3, 100] {
+        let mut session = Session::new(First);
+        let mut reader = two_moves();
+        let mut writer = balky(rt.alloc(), false, false);
+        let answer = serve_within(&mut reader, &mut writer, &mut session, most);
+        assert_equal(&rt, answer, Ok(Served::EndOfInput));
+        assert_equal(&rt, (reader.reads, reader.failures), (3, 0));
+    }
+}
