@@ -11,7 +11,11 @@ use Rattle.go_base.specs.declared.vertices.Vertex.{Vertex}
 use Rattle.go_base.specs.declared.vertices.Vertex.TheVariants.{Pass, At}
 use Rattle.go_base.specs.declared.moves.Move.{Move}
 use Rattle.go_board.specs.Game.{GameRecord, HasRoom, start, board, first_moves, without_last, with_move, after, IsGame}
-use Rattle.go_board.specs.Game.{IsLegal}
+use Rattle.go_board.specs.Game.{board_of, RepeatsBy, IsLegal}
+use Rattle.go_board.specs.Put.{put}
+use Rattle.go_board.specs.declared.board.Cell.{Cell}
+use Rattle.go_board.specs.declared.rules.KoRule.{KoRule}
+use Rattle.go_board.specs.declared.rules.KoRule.TheVariants.{Simple, Positional}
 use Rattle.go_board.specs.Refusals.{RefusesVertex}
 use Rattle.go_board.specs.declared.faults.PlayFault.{PlayFault}
 use Rattle.go_board.specs.declared.faults.PlayFault.TheVariants.{Full, OffBoard, Occupied, Suicide, Ko}
@@ -28,13 +32,13 @@ unfolding board
 board-push size handicap moves m = fold-push after (start size handicap) moves m
 
 -- the games of a game's first moves are those of the longer one
-first_moves-with_move : (game : GameRecord) (c : Colour) (v : Vertex) (k : ℕ) → k ≤ length game.moves
+pub first_moves-with_move : (game : GameRecord) (c : Colour) (v : Vertex) (k : ℕ) → k ≤ length game.moves
     → first_moves k (with_move game c v) ≡ first_moves k game
 first_moves-with_move game c v k h =
     ap (λ (ms : List Move). let g : GameRecord = record game { moves = ms } in g)
     (take-append-le k game.moves (record { colour = c; vertex = v } ∷ []) h)
 
-first_moves-all : (game : GameRecord) (c : Colour) (v : Vertex)
+pub first_moves-all : (game : GameRecord) (c : Colour) (v : Vertex)
     → first_moves (length game.moves) (with_move game c v) ≡ game
 first_moves-all game c v =
     ap (λ (ms : List Move). let g : GameRecord = record game { moves = ms } in g)
@@ -80,6 +84,11 @@ IsGame-with_move game c v g room legal =
 
 -- ---- a game with another komi
 
+repeats-komi : (rule : KoRule) (game : GameRecord) (komi : ℤ) (next : List Cell)
+    → RepeatsBy rule (record game { komi = komi }) next → RepeatsBy rule game next
+repeats-komi Simple game komi next r = record { moved = r.moved; same = r.same }
+repeats-komi Positional game komi next r = record { number = r.number; within = r.within; same = r.same }
+
 IsLegal-komi : (game : GameRecord) (komi : ℤ) (c : Colour) (v : Vertex) → IsLegal game c v
     → IsLegal (record game { komi = komi }) c v
 IsLegal-komi game komi c Pass l = l
@@ -88,7 +97,7 @@ IsLegal-komi game komi c (At p) l =
       on_board = l.on_board;
       empty = l.empty;
       free = l.free;
-      no_ko = λ r. l.no_ko (record { moved = r.moved; same = r.same });
+      no_ko = λ r. l.no_ko (repeats-komi game.rule game komi (put (board_of game) c p) r);
     }
 
 pub IsGame-komi : (game : GameRecord) (komi : ℤ) → IsKomi komi → IsGame game → IsGame (record game { komi = komi })

@@ -28,7 +28,7 @@ use Rattle.go_board.proofs.PutBackLemmas.{length-with_stones, filled-in, filled-
 use Rattle.go_board.proofs.UndoLemmas.{undo-board}
 
 -- each place of the list is one whose stone is captured
-all-captured : (board : List Cell) (c : Colour) (ps : List ℕ)
+pub all-captured : (board : List Cell) (c : Colour) (ps : List ℕ)
     → AllByRecursion (λ (p : ℕ). IsCaptured board c p) (filter (is_captured board c) ps)
 all-captured board c [] = tt
 all-captured board c (p ∷ ps) = by_test (captured? board c p) (all-captured board c ps)

@@ -1,4 +1,5 @@
--- A game is its size, komi, handicap and moves: its board and what is legal next are made from the whole list of moves.
+-- A game is its size, komi, ko rule, handicap and moves: its board and what is legal next are made from the whole list of
+-- moves.
 use Rattle.std.specs.Prelude.{◌≡◌, ℕ, ℤ, ◌-◌, ◌≤◌, ◌<◌, ◌⊎◌, List, [], ◌∷◌, ◌++◌, length, take, slice_get, Some}
 use Rattle.std.specs.List.{fold}
 use Rattle.go_base.specs.Handicap.{handicap_points, AllowsHandicap}
@@ -11,6 +12,8 @@ use Rattle.go_base.specs.declared.vertices.Vertex.TheVariants.{Pass, At}
 use Rattle.go_base.specs.declared.moves.Move.{Move}
 use Rattle.go_board.specs.declared.board.Cell.{Cell}
 use Rattle.go_board.specs.declared.board.Cell.TheVariants.{Empty}
+use Rattle.go_board.specs.declared.rules.KoRule.{KoRule}
+use Rattle.go_board.specs.declared.rules.KoRule.TheVariants.{Simple, Positional}
 use Rattle.go_board.specs.Board.{at, empty_board, with_black}
 use Rattle.go_board.specs.Chain.{IsFree}
 use Rattle.go_board.specs.Put.{put}
@@ -19,6 +22,7 @@ use Rattle.go_board.specs.Put.{put}
 pub record GameRecord : Type 0 where
   pub size : ℕ
   pub komi : ℤ
+  pub rule : KoRule
   pub handicap : ℕ
   pub moves : List Move
 
@@ -67,11 +71,26 @@ board_of game = board game.size game.handicap game.moves
 
 -- ---- what is legal
 
--- The board would be as it was before the last move of the game: simple ko, for which a pass is a move too. Without a
--- move there is no ko.
-pub record Repeats (game : GameRecord) (next : List Cell) : Type 0 where
+-- The board would be as it was before the last move of the game, for which a pass is a move too. Before the first move
+-- no board would.
+pub record RepeatsLast (game : GameRecord) (next : List Cell) : Type 0 where
   pub moved : 0 < length game.moves
   pub same : next ≡ board_of (without_last game)
+
+-- The board would be as it was after so many of the game's moves: none of them, some, or all.
+pub record RepeatsAny (game : GameRecord) (next : List Cell) : Type 0 where
+  pub number : ℕ
+  pub within : number ≤ length game.moves
+  pub same : next ≡ board_of (first_moves number game)
+
+-- the board would be one that this ko rule forbids
+abbrev pub RepeatsBy : KoRule → GameRecord → List Cell → Type 0
+RepeatsBy Simple game next = RepeatsLast game next
+RepeatsBy Positional game next = RepeatsAny game next
+
+-- the board would be one that the game's ko rule forbids
+abbrev pub Repeats : GameRecord → List Cell → Type 0
+Repeats game next = RepeatsBy game.rule game next
 
 -- the point is on the board and empty, the new stone's chain has a liberty once the other colour's stones without one
 -- are removed, and the play is no ko

@@ -1,7 +1,7 @@
 -- Laws of the game, as relations: which board a move leaves, what it takes, and what counts for whom. (Own rules of
 -- play.)
-use Rattle.std.specs.Prelude.{◌≡◌, ◌≢◌, ℕ, ℤ, pos, ◌+◌, ◌*ℤ◌, ◌-ℤ◌, ◌⊎◌, ◌↔◌, List, [], Contains, length}
-use Rattle.std.specs.Prelude.{slice_set, Some}
+use Rattle.std.specs.Prelude.{◌≡◌, ◌≢◌, ℕ, ℤ, pos, ◌≤◌, ◌+◌, ◌*ℤ◌, ◌-ℤ◌, ◌⊎◌, ◌↔◌, List, [], Contains, length}
+use Rattle.std.specs.Prelude.{slice_get, slice_set, Some}
 use Rattle.std.specs.List.{AllPairs}
 use Rattle.go_base.specs.Colour.{other}
 use Rattle.go_base.specs.Handicap.{handicap_points}
@@ -15,7 +15,9 @@ use Rattle.go_board.specs.declared.board.Cell.TheVariants.{Edge, Empty, Black}
 use Rattle.go_board.specs.Board.{place_count, at, stone, stone_at}
 use Rattle.go_board.specs.Chain.{Touches, IsCaptured}
 use Rattle.go_board.specs.Counting.{CountsFor}
-use Rattle.go_board.specs.Game.{GameRecord, IsGame, IsLegal, board_of, with_move}
+use Rattle.go_board.specs.Game.{GameRecord, IsGame, IsLegal, board_of, first_moves, with_move}
+use Rattle.go_board.specs.declared.rules.KoRule.{KoRule}
+use Rattle.go_board.specs.declared.rules.KoRule.TheVariants.{Simple, Positional}
 use Rattle.go_board.specs.Taken.{taken}
 use Rattle.go_board.specs.Area.{score}
 
@@ -66,6 +68,24 @@ BoardsLeftAreJustThese = (game : GameRecord) (c : Colour) (v : Vertex) (board : 
 abbrev pub StonesAreOnTheBoard : Type 0
 StonesAreOnTheBoard = (game : GameRecord) (p : ℕ) (c : Colour) → IsGame game → stone_at (board_of game) p ≡ Some c
     → IsOn game.size p
+
+-- ---- ko rules
+
+-- the game under this ko rule
+abbrev pub under : KoRule → GameRecord → GameRecord
+under rule game = record game { rule = rule }
+
+-- what is legal under positional ko is legal under simple ko
+abbrev pub PositionalIsStricter : Type 0
+PositionalIsStricter = (game : GameRecord) (c : Colour) (v : Vertex) → IsLegal (under Positional game) c v
+    → IsLegal (under Simple game) c v
+
+-- Under positional ko no play leaves a board that the game had before: neither that before the first move nor one after
+-- any other.
+abbrev pub NoBoardComesBack : Type 0
+NoBoardComesBack = (game : GameRecord) (j k p : ℕ) (c : Colour) → IsGame game → game.rule ≡ Positional → j ≤ k
+    → slice_get game.moves k ≡ Some (record { colour = c; vertex = At p })
+    → board_of (first_moves (k + 1) game) ≢ board_of (first_moves j game)
 
 -- ---- taken stones
 

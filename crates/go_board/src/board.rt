@@ -5,7 +5,8 @@ ghost use Rattle.go_base.specs.Size.{most_size, IsSize};
 ghost use Rattle.go_board.specs.Board.{is_point};
 
 use crate::places::Places;
-use go_base::{Colour, Point, Size, handicap};
+use crate::removed::Taken;
+use go_base::{Colour, Point, Size, Vertex, handicap};
 use std::marker::Model;
 
 /// How many places a row has: its points and its edge.
@@ -120,7 +121,8 @@ impl Board {
     ghost use Rattle.go_board.specs.Area.{area};
     ghost use Rattle.go_board.specs.Chain.{HasBeside};
     ghost use Rattle.go_board.specs.private.Flood.{IsSpread, AreSpread, AreTouching};
-    ghost use Rattle.go_board.specs.Game.{start};
+    ghost use Rattle.go_board.specs.Game.{start, after_vertex};
+    ghost use Rattle.go_board.specs.private.Removed.{ArePoints, AreTakenBy, IsOpen, cleared, later_than};
     ghost use Rattle.go_board.specs.declared.board.Cell.TheVariants.{Edge};
 
     /// The board of this size without a stone.
@@ -186,6 +188,56 @@ impl Board {
         ensures { self.new ≡ slice_set self.old place cell }
     {
         self.cells[place] = cell;
+    }
+
+    /// Whether all places hold the same on another board. A place that may well differ is looked at first.
+    #[inline]
+    pub fn is(&self, other: &Board, place: usize) -> bool
+        requires { place < place_count }
+        ensures { IsTrue result ↔ (self.now ≡ other.now) }
+    {
+        self.cells[place] == other.cells[place] && self.cells == other.cells
+    }
+
+    /// Clears the points of the stones at the front that a move took, and answers those of later moves.
+    pub fn clear_taken<'a>(&mut self, number: usize, stones: &'a [Taken]) -> &'a [Taken]
+        requires { ArePoints self.old stones.now }
+        ensures board { self.new ≡ cleared self.old number stones.now }
+        ensures left { result.now ≡ later_than number stones.now }
+        ensures points { ArePoints self.new result.now }
+    {
+        let mut left = stones;
+        while let Some((first, later)) = left.split_first() {
+            if usize::from(first.number) != number {
+                return left;
+            }
+            self.set(usize::from(first.place), Cell::Empty);
+            left = later;
+        }
+        left
+    }
+
+    /// Makes a move again, where these stones were taken by it and by later moves. Answers those of later moves.
+    #[inline]
+    pub fn make_again<'a>(
+        &mut self,
+        colour: Colour,
+        vertex: Vertex,
+        number: usize,
+        stones: &'a [Taken],
+    ) -> &'a [Taken]
+        requires open { IsOpen self.old vertex }
+        requires points { ArePoints self.old stones.now }
+        ensures board { AreTakenBy self.old colour vertex number stones.now
+            → self.new ≡ after_vertex self.old colour vertex }
+        ensures left { result.now ≡ later_than number stones.now }
+        ensures points { ArePoints self.new result.now }
+    {
+        match vertex {
+            Vertex::Pass => {}
+            Vertex::At(point) => self.set(place_of(point), Cell::stone(colour)),
+        }
+        self.clear_taken(number, stones)
     }
 
     /// Whether a neighbour of a point holds this.

@@ -27,8 +27,8 @@ pub enum PlayFault {
     /// The new stone's chain would have no liberty.
     #[error("the stone would have no liberty")]
     Suicide,
-    /// The board would be the one before the previous move.
-    #[error("the board would be the same as before the previous move")]
+    /// The board would be one that the ko rule forbids.
+    #[error("the board would be the same as an earlier one")]
     Ko,
 }
 

@@ -14,6 +14,7 @@ use crate::chains::Chains;
 use crate::faults::{HandicapFault, NothingToUndo, PlayFault};
 use crate::ko::{Ko, ko_after};
 use crate::removed::Removed;
+use crate::rules::KoRule;
 use arrayvec::ArrayVec;
 use go_base::{Colour, Komi, Move, Point, Size, Vertex, handicap};
 use std::marker::Model;
@@ -28,6 +29,7 @@ pub const MOST_MOVES: usize = 2000;
 pub struct Game {
     size: Size,
     komi: Komi,
+    rule: KoRule,
     handicap: u32,
     moves: ArrayVec<Move, MOST_MOVES>,
     chains: Chains,
@@ -53,7 +55,9 @@ impl Game {
     ghost use Rattle.go_board.specs.Board.{at, stone_at};
     ghost use Rattle.go_board.specs.Put.{put};
     ghost use Rattle.go_board.specs.declared.board.Cell.TheVariants.{Empty};
-    ghost use Rattle.go_board.specs.Game.{HasRoom, without_last, with_move, board_of, Repeats, IsLegal};
+    ghost use Rattle.go_board.specs.Game.{HasRoom, without_last, with_move, board_of, RepeatsLast, RepeatsAny};
+    ghost use Rattle.go_board.specs.Game.{Repeats, IsLegal};
+    ghost use Rattle.go_board.specs.declared.rules.KoRule.TheVariants.{Simple};
     ghost use Rattle.go_board.specs.Game.{IsGame, IsFinished};
     ghost use Rattle.go_board.specs.decisions.Game.{finished?};
     ghost use Rattle.go_board.specs.Taken.{taken};
@@ -61,17 +65,27 @@ impl Game {
     ghost use Rattle.go_board.specs.Refusals.{RefusesPoint, RefusesVertex, Refuses, IsTouched, RefusesHandicap};
     ghost use Rattle.go_base.specs.declared.vertices.Vertex.TheVariants.{At};
 
-    /// A game without handicap and moves.
+    /// A game under simple ko, without handicap and moves.
     pub fn new(size: Size, komi: Komi) -> Self
-        ensures { result ≡ record { size = size; komi = komi; handicap = 0; moves = [] } }
+        ensures { result
+            ≡ record { size = size; komi = komi; rule = Simple; handicap = 0; moves = [] } }
     {
-        Game::opening(size, komi, 0)
+        Game::with_rule(size, komi, KoRule::Simple)
     }
 
-    /// A game with so many handicap stones, or none, and without moves.
-    fn opening(size: Size, komi: Komi, stones: u32) -> Self
+    /// A game under a ko rule, without handicap and moves. No call changes the rule.
+    pub fn with_rule(size: Size, komi: Komi, rule: KoRule) -> Self
+        ensures { result
+            ≡ record { size = size; komi = komi; rule = rule; handicap = 0; moves = [] } }
+    {
+        Game::opening(size, komi, rule, 0)
+    }
+
+    /// A game under a ko rule with so many handicap stones, or none, and without moves.
+    fn opening(size: Size, komi: Komi, rule: KoRule, stones: u32) -> Self
         requires { (stones ≡ 0) ⊎ AllowsHandicap size stones }
-        ensures { result ≡ record { size = size; komi = komi; handicap = stones; moves = [] } }
+        ensures { result
+            ≡ record { size = size; komi = komi; rule = rule; handicap = stones; moves = [] } }
     {
         // Its contract tells that komi is in its limits.
         let _ = komi.half_points();
@@ -80,6 +94,7 @@ impl Game {
         Game {
             size,
             komi,
+            rule,
             handicap: stones,
             moves: ArrayVec::new(),
             chains,
@@ -94,7 +109,7 @@ impl Game {
     pub fn set_size(&mut self, size: Size)
         ensures { self.new ≡ record self.old { size = size; handicap = 0; moves = [] } }
     {
-        *self = Game::opening(size, self.komi, 0);
+        *self = Game::opening(size, self.komi, self.rule, 0);
     }
 
     /// Sets komi. All else stays.
@@ -110,7 +125,7 @@ impl Game {
     pub fn clear(&mut self)
         ensures { self.new ≡ record self.old { handicap = 0; moves = [] } }
     {
-        *self = Game::opening(self.size, self.komi, 0);
+        *self = Game::opening(self.size, self.komi, self.rule, 0);
     }
 
     /// Puts that many of Black's handicap stones on the board, and answers their points in the order of the table.
@@ -135,12 +150,12 @@ impl Game {
         let Some(points) = handicap(self.size, stones) else {
             return Err(HandicapFault::BadNumber);
         };
-        *self = Game::opening(self.size, self.komi, stones);
+        *self = Game::opening(self.size, self.komi, self.rule, stones);
         Ok(points)
     }
 
     /// Whether a colour may make a move next: a pass always; a point of the board that is empty, where the new stone's
-    /// chain then has a liberty and the board isn't the one before the previous move. The number of moves in the record
+    /// chain then has a liberty and the board isn't one that the ko rule forbids. The number of moves in the record
     /// doesn't count.
     pub fn legal(&self, colour: Colour, vertex: Vertex) -> bool
         ensures legal { IsTrue result ↔ IsLegal self.now colour vertex }
@@ -155,7 +170,7 @@ impl Game {
     ///
     /// In this order, and the game stays as it was: `Full` where the record has 2,000 moves, `OffBoard` where the board
     /// doesn't have the point, `Occupied` where a stone is on it, `Suicide` where the new stone's chain would have no
-    /// liberty, `Ko` where the board would be the one before the previous move. A pass is refused by `Full` alone.
+    /// liberty, `Ko` where the board would be one that the ko rule forbids. A pass is refused by `Full` alone.
     pub fn play(&mut self, colour: Colour, vertex: Vertex) -> Result<(), PlayFault>
         ensures played { OnOk result (self.new ≡ with_move self.old colour vertex) }
         ensures unchanged { OnErr result (self.new ≡ self.old) }
@@ -211,17 +226,69 @@ impl Game {
         if !self.chains.would_be_free(colour, place) {
             return Err(PlayFault::Suicide);
         }
-        if self.repeats(colour, place) {
+        if self.repeats(colour, point) {
             return Err(PlayFault::Ko);
         }
         Ok(())
     }
 
-    /// Whether a play on an empty point would repeat an earlier board: the one before the previous move.
-    fn repeats(&self, colour: Colour, place: usize) -> bool
+    /// Whether a play on an empty point would bring back a board that the ko rule forbids.
+    #[inline]
+    fn repeats(&self, colour: Colour, point: Point) -> bool
+        requires { at (board_of self.now) point ≡ Empty }
+        ensures { IsTrue result ↔ Repeats self.now (put (board_of self.now) colour point) }
+    {
+        match self.rule {
+            KoRule::Simple => self.repeats_last(colour, place_of(point)),
+            KoRule::Positional => self.repeats_any(colour, point),
+        }
+    }
+
+    /// Whether it would bring back any board of the record. A stone that was on the point before isn't there any more:
+    /// so where none was taken from it, no board of the record has one there.
+    #[inline(never)]
+    fn repeats_any(&self, colour: Colour, point: Point) -> bool
+        requires { at (board_of self.now) point ≡ Empty }
+        ensures { IsTrue result ↔ RepeatsAny self.now (put (board_of self.now) colour point) }
+    {
+        self.removed.has(place_of(point))
+            && self.was(&self.board_after(colour, point), place_of(point))
+    }
+
+    /// The board after a play on an empty point.
+    fn board_after(&self, colour: Colour, point: Point) -> Board
+        requires { at (board_of self.now) point ≡ Empty }
+        ensures { result ≡ put (board_of self.now) colour point }
+    {
+        let mut chains = self.chains;
+        let mut removed = Removed::new();
+        let _ = chains.put(colour, place_of(point), 0, &mut removed);
+        *chains.board()
+    }
+
+    /// Whether the board was this one after some number of moves, from none to all: the record is played again on
+    /// another board. The place is one where earlier boards may well differ.
+    fn was(&self, wanted: &Board, place: usize) -> bool
+        requires { IsOn most_size place }
+        ensures { IsTrue result ↔ RepeatsAny self.now wanted.now }
+    {
+        let mut board = Board::start(self.size, self.handicap);
+        let mut stones = self.removed.stones();
+        for (number, made) in self.moves.iter().enumerate() {
+            if board.is(wanted, place) {
+                return true;
+            }
+            stones = board.make_again(made.colour, made.vertex, number, stones);
+        }
+        board.is(wanted, place)
+    }
+
+    /// Whether a play on an empty point would bring back the board before the previous move.
+    #[inline]
+    fn repeats_last(&self, colour: Colour, place: usize) -> bool
         requires point { IsOn most_size place }
         requires empty { at (board_of self.now) place ≡ Empty }
-        ensures { IsTrue result ↔ Repeats self.now (put (board_of self.now) colour place) }
+        ensures { IsTrue result ↔ RepeatsLast self.now (put (board_of self.now) colour place) }
     {
         let Some(ko) = self.ko else {
             return false;
@@ -267,6 +334,13 @@ impl Game {
         ensures { result ≡ self.now.komi }
     {
         self.komi
+    }
+
+    /// The ko rule that the game was made with.
+    pub fn rule(&self) -> KoRule
+        ensures { result ≡ self.now.rule }
+    {
+        self.rule
     }
 
     /// The number of handicap stones, 0 where there is no handicap.

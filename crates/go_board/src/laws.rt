@@ -2,6 +2,7 @@
 //!
 //! Each function does nothing: that it is proved is the law in its contract.
 ghost use Rattle.go_board.specs.Laws.{FirstBoardsAreJustThese, BoardsLeftAreJustThese, StonesAreOnTheBoard};
+ghost use Rattle.go_board.specs.Laws.{PositionalIsStricter, NoBoardComesBack};
 ghost use Rattle.go_board.specs.Laws.{NoneIsTakenFirst, MovesAddWhatTheyTake};
 ghost use Rattle.go_board.specs.Laws.{WhatBelongsCounts, PointsBelongToOne, ScoresAreThese};
 
@@ -21,6 +22,12 @@ pub fn boards_left()
 /// none.
 pub fn stones_on_the_board()
     ensures { StonesAreOnTheBoard }
+{}
+
+/// Positional ko allows no move that simple ko forbids, and under it no play brings back a board of the game.
+pub fn ko_rules()
+    ensures stricter { PositionalIsStricter }
+    ensures never { NoBoardComesBack }
 {}
 
 /// A move adds to what its colour has taken as many stones as it takes: those of the other colour whose chains have no

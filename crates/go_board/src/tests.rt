@@ -1,11 +1,12 @@
 //! Examples worked out by hand, and games of random moves beside those of a slow game.
 mod legal;
 mod plain;
+mod positional;
 mod random;
 mod slow;
 
 use crate::equal::{assert_equal, assert_equal_for};
-use crate::{Game, HandicapFault, NothingToUndo, PlayFault};
+use crate::{Game, HandicapFault, KoRule, NothingToUndo, PlayFault};
 use go_base::{Colour, Komi, Move, Point, Size, Vertex};
 use std::process::Abort;
 use std::test::Fail;
@@ -15,6 +16,13 @@ fn new_game(rt: &impl Abort, lines: u32) -> Game {
     let size = Size::new(lines).expect(rt, "a size");
     let komi = Komi::from_half_points(0).expect(rt, "a komi");
     Game::new(size, komi)
+}
+
+/// The same under a ko rule.
+fn new_game_under(rt: &impl Abort, lines: u32, rule: KoRule) -> Game {
+    let size = Size::new(lines).expect(rt, "a size");
+    let komi = Komi::from_half_points(0).expect(rt, "a komi");
+    Game::with_rule(size, komi, rule)
 }
 
 /// The vertex of this name.
@@ -450,7 +458,7 @@ fn each_fault_has_its_text(rt: HostRuntime) -> Result<(), Fail> {
         (PlayFault::Suicide, "the stone would have no liberty"),
         (
             PlayFault::Ko,
-            "the board would be the same as before the previous move",
+            "the board would be the same as an earlier one",
         ),
     ] {
         assert_equal(&rt, fault.to_string(rt.alloc())?.as_str(), text);

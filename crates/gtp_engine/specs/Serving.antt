@@ -1,6 +1,7 @@
 -- What the program does between its streams: the conversation that the words of the command line ask for. (Own.)
 use Rattle.std.specs.Prelude.{◌≡◌, ◌⊎◌, ℕ, List, Option, Result, IfSome}
 use Rattle.clap.specs.Words.{Text}
+use Rattle.go_board.specs.declared.rules.KoRule.{KoRule}
 use Rattle.gtp_session.specs.declared.book.Entry.{Entry}
 use Rattle.gtp_session.specs.declared.fault.Fault.{Fault}
 use Rattle.gtp_session.specs.declared.first.First.{First as FirstPolicy}
@@ -10,7 +11,7 @@ use Rattle.gtp_session.specs.Policy.{May}
 use Rattle.gtp_session.specs.Policies.{first_may, random_may, book_may}
 use Rattle.gtp_session.specs.Random.{generator_of}
 use Rattle.gtp_session.specs.Counts.{most_reads}
-use Rattle.gtp_session.specs.Engine.{Engine, fresh}
+use Rattle.gtp_session.specs.Engine.{Engine, fresh_under}
 use Rattle.gtp_session.specs.Streams.{Source, Sink, TookWhole, TookPart}
 use Rattle.gtp_session.specs.Serving.{CameOut}
 use Rattle.gtp_engine.specs.declared.options.Options.{Options}
@@ -19,23 +20,23 @@ use Rattle.gtp_engine.specs.declared.options.PolicyName.TheVariants.{First, Rand
 use Rattle.gtp_engine.specs.Options.{AsksFor, AsksForText, Spells}
 use Rattle.gtp_engine.specs.Status.{done, own_fault, status_after}
 
--- An engine with this policy, which was given nothing before, held a conversation under the fault, of as many reads as
+-- An engine with this policy and this ko rule, which was given nothing before, held a conversation under the fault, of as many reads as
 -- there may be, which came out so.
-abbrev pub FreshCameOut : {P : Type 0} → May P → Fault → P → Result Served ServeFault
+abbrev pub FreshCameOut : {P : Type 0} → May P → Fault → KoRule → P → Result Served ServeFault
     → Source → Source → Sink → Sink → Type 0
-FreshCameOut {P} may fault policy served reader reader_now writer writer_now =
+FreshCameOut {P} may fault rule policy served reader reader_now writer writer_now =
     (engine : Engine P)
-    × CameOut may fault most_reads (fresh policy) engine served reader reader_now writer writer_now
+    × CameOut may fault most_reads (fresh_under rule policy) engine served reader reader_now writer writer_now
 
--- the conversation of the policy of this name, with this seed or these entries
-abbrev pub PolicyCameOut : PolicyName → ℕ → List Entry → Fault → Result Served ServeFault
+-- the conversation of the policy of this name, with this seed or these entries, under this ko rule
+abbrev pub PolicyCameOut : PolicyName → ℕ → List Entry → KoRule → Fault → Result Served ServeFault
     → Source → Source → Sink → Sink → Type 0
-PolicyCameOut First seed entries fault served reader reader_now writer writer_now =
-    (policy : FirstPolicy) × FreshCameOut first_may fault policy served reader reader_now writer writer_now
-PolicyCameOut Random seed entries fault served reader reader_now writer writer_now =
-    FreshCameOut random_may fault (generator_of seed) served reader reader_now writer writer_now
-PolicyCameOut Book seed entries fault served reader reader_now writer writer_now =
-    FreshCameOut book_may fault entries served reader reader_now writer writer_now
+PolicyCameOut First seed entries rule fault served reader reader_now writer writer_now =
+    (policy : FirstPolicy) × FreshCameOut first_may fault rule policy served reader reader_now writer writer_now
+PolicyCameOut Random seed entries rule fault served reader reader_now writer writer_now =
+    FreshCameOut random_may fault rule (generator_of seed) served reader reader_now writer writer_now
+PolicyCameOut Book seed entries rule fault served reader reader_now writer writer_now =
+    FreshCameOut book_may fault rule entries served reader reader_now writer writer_now
 
 -- The options have a book and a fault. The conversation that they ask for was held, and its end has this status.
 pub record Serves (options : Options) (status : ℕ)
@@ -44,7 +45,7 @@ pub record Serves (options : Options) (status : ℕ)
   pub fault : Fault
   pub spells : Spells options entries fault
   pub served : Result Served ServeFault
-  pub came_out : PolicyCameOut options.policy options.seed entries fault served reader reader_now writer writer_now
+  pub came_out : PolicyCameOut options.policy options.seed entries options.rule fault served reader reader_now writer writer_now
   pub status_is : status ≡ status_after served
 
 -- the words ask for such options

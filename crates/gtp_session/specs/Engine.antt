@@ -7,6 +7,8 @@ use Rattle.gtp_wire.specs.declared.lines.Line.{Line}
 use Rattle.gtp_wire.specs.Lines.{lines}
 use Rattle.gtp_wire.specs.Replies.{written_reply}
 use Rattle.go_board.specs.Game.{GameRecord}
+use Rattle.go_board.specs.declared.rules.KoRule.{KoRule}
+use Rattle.go_board.specs.declared.rules.KoRule.TheVariants.{Simple}
 use Rattle.gtp_session.specs.Policy.{May}
 use Rattle.go_base.specs.declared.choices.Choice.{Choice}
 use Rattle.gtp_session.specs.Commands.{answer, asked, id_of, ends, is_genmove_line}
@@ -85,12 +87,19 @@ EngagesJoin {P} may =
     (a b c : Engine P) (text next out more : List ℕ)
     → Engages may a text b out → Engages may b next c more → Engages may a (text ++ next) c (out ++ more)
 
--- An engine that was given nothing: size 19, komi 0, no handicap and no moves.
+-- An engine with this ko rule that was given nothing: size 19, komi 0, no handicap and no moves.
+abbrev pub fresh_game_under : KoRule → GameRecord
+fresh_game_under rule = record { size = 19; komi = pos 0; rule = rule; handicap = 0; moves = [] }
+
+abbrev pub fresh_under : {P : Type 0} → KoRule → P → Engine P
+fresh_under rule policy = record { rest = []; game = fresh_game_under rule; policy = policy; ended = false }
+
+-- the same with simple ko
 abbrev pub fresh_game : GameRecord
-fresh_game = record { size = 19; komi = pos 0; handicap = 0; moves = [] }
+fresh_game = fresh_game_under Simple
 
 abbrev pub fresh : {P : Type 0} → P → Engine P
-fresh policy = record { rest = []; game = fresh_game; policy = policy; ended = false }
+fresh policy = fresh_under Simple policy
 
 -- the text ends with an LF, and nothing is answered before that
 pub record StopsAtLine {P : Type 0} (may : May P) (old : Engine P) (text : List ℕ) : Type 0 where

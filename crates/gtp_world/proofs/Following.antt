@@ -8,7 +8,7 @@ use Rattle.gtp_wire.specs.declared.commands.Command.{Command}
 use Rattle.gtp_wire.specs.declared.commands.Command.TheVariants.{Genmove}
 use Rattle.gtp_wire.specs.declared.replies.Reply.{Reply}
 use Rattle.gtp_session.specs.CommandAnswers.{MayBeSent, after_command}
-use Rattle.gtp_session.specs.Engine.{fresh_game}
+use Rattle.gtp_session.specs.Engine.{fresh_game_under}
 use Rattle.gtp_session.proofs.CommandLemmas.{well_may_be_sent}
 use Rattle.gtp_match.specs.declared.unanswered.SentCommand.{SentCommand}
 use Rattle.gtp_match.specs.declared.sides.Incarnation.{Incarnation}
@@ -28,14 +28,14 @@ use Rattle.gtp_world.proofs.Replay.{well_at, script_well, after_one_more, replay
 replayed_next : (game : GameRecord) (n : ℕ) (k : Command) → slice_get (script game) n ≡ Some k
     → replayed game (n + 1) ≡ after_command (replayed game n) k
 replayed_next game n k e =
-    let next : n + 1 ≡ suc n = omega arith in ap (replayed game) next ∙ after_one_more fresh_game (script game) n k e
+    let next : n + 1 ≡ suc n = omega arith in ap (replayed game) next ∙ after_one_more (fresh_game_under game.rule) (script game) n k e
 
 -- the script's commands from a number on may be sent, one after the other, to an engine of the game that stands there
 script_may : (game : GameRecord) → IsGame game → (n : ℕ) (os : List SentCommand) → InScript (script game) n os
     → AllMayBeSent (replayed game n) os
 script_may game is n [] plan = tt
 script_may game is n (o ∷ os) plan =
-    let well = well_at game.size fresh_game (script game) n o.command (script_well game is) plan.0 in (
+    let well = well_at game.size (fresh_game_under game.rule) (script game) n o.command (script_well game is) plan.0 in (
       well_may_be_sent (replayed game n) o.command well.well,
       λ r g1 a.
           subst (λ (g : GameRecord). AllMayBeSent g os)
@@ -62,7 +62,7 @@ waits_from game is n os [] waiting ahead plan h = record {
 }
 waits_from game is n [] (r ∷ rs) waiting ahead plan h = absurd h
 waits_from game is n (o ∷ os) (r ∷ rs) waiting ahead plan h =
-    let well = well_at game.size fresh_game (script game) n o.command (script_well game is) plan.0 in
+    let well = well_at game.size (fresh_game_under game.rule) (script game) n o.command (script_well game is) plan.0 in
     let next : h.0 ≡ replayed game (n + 1) =
     scripted_game o r (replayed game n) h.0 h.1 well.well ∙ sym (replayed_next game n o.command plan.0) in
     let rest = waits_from game is (n + 1) os rs waiting ahead plan.1
@@ -97,7 +97,7 @@ script_follows : (game : GameRecord) (u : Incarnation) (o : SentCommand) → IsG
 script_follows game u o is plan e = record {
   there = replayed game (u.confirmed + length u.unanswered);
   may = well_may_be_sent (replayed game (u.confirmed + length u.unanswered)) o.command
-      (well_at game.size fresh_game (script game) (u.confirmed + length u.unanswered) o.command (script_well game is)
+      (well_at game.size (fresh_game_under game.rule) (script game) (u.confirmed + length u.unanswered) o.command (script_well game is)
       e).well;
   behind = λ rs waiting ahead owes.
       let w = waits_from game is u.confirmed u.unanswered rs waiting ahead plan owes in

@@ -21,7 +21,7 @@ use Rattle.gtp_session.specs.Policy.{IsLawful}
 use Rattle.go_base.specs.declared.choices.Choice.{Choice}
 use Rattle.go_base.specs.declared.choices.Choice.TheVariants as choice
 use Rattle.gtp_session.specs.Commands.{Answer, answer, answer_choice}
-use Rattle.gtp_session.specs.Engine.{fresh_game}
+use Rattle.gtp_session.specs.Engine.{fresh_game_under}
 use Rattle.gtp_match.specs.declared.unanswered.SentCommand.{SentCommand}
 use Rattle.gtp_match.specs.declared.sides.Incarnation.{Incarnation}
 use Rattle.gtp_match.specs.declared.sides.Sides.{Sides}
@@ -336,11 +336,11 @@ module _ (c : Controller) (s : Colour) (u : Incarnation) (e : Option EngineBody)
               subst (InScript (script c.game) u.confirmed) is in_script in
               let g : GameRecord = replayed c.game u.confirmed in
               let well : GoesWellOn c.game.size g o.command =
-              well_at c.game.size fresh_game (script c.game) u.confirmed o.command
+              well_at c.game.size (fresh_game_under c.game.rule) (script c.game) u.confirmed o.command
               (script_well c.game is_game) plan.0 in
               let next_game : owes.0 ≡ replayed c.game (u.confirmed + 1) =
               scripted_game o r g owes.0 owes.1 well.well
-              ∙ sym (rw add-one (after_one_more fresh_game (script c.game) u.confirmed o.command plan.0)) in
+              ∙ sym (rw add-one (after_one_more (fresh_game_under c.game.rule) (script c.game) u.confirmed o.command plan.0)) in
               confirms r (oldest_is ∙ scripted_outcome c.game s o r g owes.0 owes.1 well)
               (left_of c.game (u.confirmed + 1) next_game)
           by_plan (inr asks) =

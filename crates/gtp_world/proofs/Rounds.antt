@@ -20,7 +20,7 @@ use Rattle.gtp_wire.proofs.ReplyLaws.{one_first, reply_is_first}
 use Rattle.gtp_session.proofs.TextLemmas.{short-vertices, few_handicap_points}
 use Rattle.gtp_session.proofs.Policies.{AllowsLawful}
 use Rattle.gtp_session.specs.Policy.{May}
-use Rattle.gtp_session.specs.Engine.{Engine, fresh_game}
+use Rattle.gtp_session.specs.Engine.{Engine, fresh_game_under}
 use Rattle.gtp_match.specs.declared.unanswered.SentCommand.{SentCommand}
 use Rattle.gtp_match.specs.declared.sides.Incarnation.{Incarnation}
 use Rattle.gtp_match.specs.declared.sides.SideState.{SideState}
@@ -119,7 +119,7 @@ module _ (c : Controller) (s : Colour) (u : Incarnation) (o : SentCommand) (b : 
   mine = rw (none, up) at j.mine
 
   abbrev well : GoesWellOn c.game.size (replayed c.game u.confirmed) o.command
-  well = well_at c.game.size fresh_game (script c.game) u.confirmed o.command (script_well c.game j.sound.game) scripted
+  well = well_at c.game.size (fresh_game_under c.game.rule) (script c.game) u.confirmed o.command (script_well c.game j.sound.game) scripted
 
   abbrev owed : OneReply c.game u o mine.begun tc
   owed = one_reply c.game u o b tc mine one

@@ -10,7 +10,7 @@ use Rattle.gtp_wire.specs.Replies.{IsReplyText, written_reply}
 use Rattle.gtp_session.specs.Policy.{IsLawful}
 use Rattle.go_base.specs.declared.choices.Choice.{Choice}
 use Rattle.gtp_session.specs.Commands.{Answer, answer, asked}
-use Rattle.gtp_session.specs.Engine.{fresh_game}
+use Rattle.gtp_session.specs.Engine.{fresh_game_under}
 use Rattle.gtp_match.specs.declared.unanswered.SentCommand.{SentCommand}
 use Rattle.gtp_match.specs.Script.{script}
 use Rattle.gtp_session.specs.CommandAnswers.{line_of_command, after_command, MayBeSent}
@@ -84,6 +84,6 @@ abbrev pub after_commands : GameRecord → List Command → GameRecord
 after_commands game [] = game
 after_commands game (command ∷ later) = after_commands (after_command game command) later
 
--- the game of a new engine after so many commands of the script that brings it to this game
+-- the game of a new engine with the same ko rule, after so many commands of the script that brings it to this game
 abbrev pub replayed : GameRecord → ℕ → GameRecord
-replayed game count = after_commands fresh_game (take count (script game))
+replayed game count = after_commands (fresh_game_under game.rule) (take count (script game))

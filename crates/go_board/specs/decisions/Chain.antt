@@ -13,7 +13,7 @@ use Rattle.go_board.specs.declared.board.Cell.{Cell}
 use Rattle.go_board.specs.declared.board.Cell.TheVariants.{Edge, Empty}
 
 -- some number below n
-some_below? : (n : ℕ) (P : ℕ → Type 0) → ((k : ℕ) → Dec (P k)) → Dec ((k : ℕ) × (k < n) × P k)
+pub some_below? : (n : ℕ) (P : ℕ → Type 0) → ((k : ℕ) → Dec (P k)) → Dec ((k : ℕ) × (k < n) × P k)
 some_below? zero P d = no (λ h. let k = h.1 in absurd (omega arith))
 some_below? (suc n) P d = step (some_below? n P d) (d n)
   where

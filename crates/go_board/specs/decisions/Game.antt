@@ -1,6 +1,6 @@
 -- Decisions of a game: whether a move is legal, whether a stone is on its board, whether it was touched, whether it is
 -- finished.
-use Rattle.std.proofs.Common.{◌≡◌, ℕ, zero, suc, List, [], ◌∷◌, ◌++◌, length, refl, ap, ◌∙◌, inl, inr}
+use Rattle.std.proofs.Common.{◌≡◌, ℕ, zero, suc, ◌+◌, arith, List, [], ◌∷◌, ◌++◌, length, refl, ap, ◌∙◌, inl, inr}
 use Rattle.std.specs.Prelude.{◌⊎◌}
 use Rattle.go_base.specs.Decide.{both?, either?, not?, by?, below?}
 use Rattle.go_base.specs.declared.colours.Colour.{Colour}
@@ -10,20 +10,39 @@ use Rattle.go_base.specs.declared.vertices.Vertex.{Vertex}
 use Rattle.go_base.specs.declared.vertices.Vertex.TheVariants.{Pass, At}
 use Rattle.go_board.specs.declared.board.Cell.{Cell}
 use Rattle.go_board.specs.declared.board.Cell.TheVariants.{Edge, Empty, Black, White}
+use Rattle.go_board.specs.declared.rules.KoRule.{KoRule}
+use Rattle.go_board.specs.declared.rules.KoRule.TheVariants.{Simple, Positional}
 use Rattle.go_board.specs.Board.{at, IsStone, HasStone}
 use Rattle.go_board.specs.Put.{put}
 use Rattle.go_board.specs.decisions.Board.{on?, cell?, boards?}
-use Rattle.go_board.specs.decisions.Chain.{touches?}
-use Rattle.go_board.specs.Game.{GameRecord, without_last, board_of, Repeats, IsLegal, IsFinished}
+use Rattle.go_board.specs.decisions.Chain.{some_below?, touches?}
+use Rattle.go_board.specs.Game.{GameRecord, first_moves, without_last, board_of, RepeatsLast, RepeatsAny, RepeatsBy, Repeats}
+use Rattle.go_board.specs.Game.{IsLegal, IsFinished}
 use Rattle.go_board.specs.Refusals.{IsTouched}
 
 -- ---- legal
 
 -- whether the board would be the one before the previous move
-pub repeats? : (game : GameRecord) (next : List Cell) → Dec (Repeats game next)
-repeats? game next =
+repeats_last? : (game : GameRecord) (next : List Cell) → Dec (RepeatsLast game next)
+repeats_last? game next =
     by? (λ h. record { moved = h.0; same = h.1 }) (λ r. (r.moved, r.same))
     (both? (below? 0 (length game.moves)) (boards? next (board_of (without_last game))))
+
+-- whether the board would be an earlier one
+repeats_any? : (game : GameRecord) (next : List Cell) → Dec (RepeatsAny game next)
+repeats_any? game next =
+    by? (λ h. let less = h.1 in record { number = h.0; within = omega (arith, less); same = h.2 })
+    (λ r. let within = r.within in (r.number, omega (arith, within), r.same))
+    (some_below? (length game.moves + 1) (λ k. next ≡ board_of (first_moves k game))
+    (λ k. boards? next (board_of (first_moves k game))))
+
+repeats_by? : (rule : KoRule) (game : GameRecord) (next : List Cell) → Dec (RepeatsBy rule game next)
+repeats_by? Simple game next = repeats_last? game next
+repeats_by? Positional game next = repeats_any? game next
+
+-- whether the board would be one that the ko rule forbids
+pub repeats? : (game : GameRecord) (next : List Cell) → Dec (Repeats game next)
+repeats? game next = repeats_by? game.rule game next
 
 -- whether a move may be made
 pub legal? : (game : GameRecord) (c : Colour) (v : Vertex) → Dec (IsLegal game c v)

@@ -10,7 +10,7 @@ use Rattle.go_board.specs.private.Removed.{removed_of}
 use Rattle.go_board.specs.Taken.{taken}
 
 abbrev pub record_of : Inside → GameRecord
-record_of f = record { size = f.size; komi = f.komi; handicap = f.handicap; moves = f.moves.items }
+record_of f = record { size = f.size; komi = f.komi; rule = f.rule; handicap = f.handicap; moves = f.moves.items }
 
 -- Labels and counts are those of the board's chains, the ko point and the taken stones are those of the record.
 pub record IsKept (f : Inside) : Type 0 where

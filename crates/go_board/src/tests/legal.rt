@@ -1,8 +1,8 @@
 //! Games of moves drawn from the legal ones, beside the game in its plainest form.
-use super::new_game;
+use super::new_game_under;
 use super::plain::{MOVES, PlainGame};
 use crate::equal::assert_equal;
-use crate::{Game, PlayFault};
+use crate::{Game, KoRule, PlayFault};
 use arrayvec::ArrayVec;
 use go_base::{Colour, Move, Point, Vertex};
 use rand_core::{Rng, SeedableRng};
@@ -143,8 +143,14 @@ fn games_of_legal_moves_go_as_plain_ones(rt: HostRuntime) {
     };
     for number in 0..GAMES {
         let lines = number % 9 + 1;
-        let mut game = new_game(&rt, lines);
-        let mut plain = PlainGame::new(lines);
+        // Half of the games of each size are under each rule.
+        let rule = if number % 18 < 9 {
+            KoRule::Simple
+        } else {
+            KoRule::Positional
+        };
+        let mut game = new_game_under(&rt, lines, rule);
+        let mut plain = PlainGame::new(lines, rule);
         let mut colour = Colour::Black;
         for _ in 0..MOVES {
             step(&rt, &mut words, &mut game, &mut plain, colour, &mut refused);

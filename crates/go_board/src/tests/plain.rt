@@ -1,7 +1,7 @@
 //! The game in its plainest form, to compare with: liberties by flood fill over the whole board, the ko test by
-//! comparing two boards, `undo` by playing the shorter record again.
+//! comparing whole boards, all of which are kept, `undo` by playing the shorter record again.
 use crate::board::{Cell, PLACES, ROW, place_of};
-use crate::{NothingToUndo, PlayFault};
+use crate::{KoRule, NothingToUndo, PlayFault};
 use arrayvec::ArrayVec;
 use go_base::{Colour, Move, Point, Vertex};
 
@@ -139,21 +139,24 @@ impl PlainBoard {
 #[derive(Drop)]
 pub struct PlainGame {
     lines: u32,
+    rule: KoRule,
     moves: ArrayVec<Move, MOVES>,
     board: PlainBoard,
-    before: PlainBoard,
+    /// The boards before the first move and after each.
+    boards: [PlainBoard; MOVES + 1],
     taken_by_black: u32,
     taken_by_white: u32,
 }
 
 impl PlainGame {
-    pub fn new(lines: u32) -> PlainGame {
+    pub fn new(lines: u32, rule: KoRule) -> PlainGame {
         let board = PlainBoard::empty(lines);
         PlainGame {
             lines,
+            rule,
             moves: ArrayVec::new(),
             board,
-            before: board,
+            boards: [board; MOVES + 1],
             taken_by_black: 0,
             taken_by_white: 0,
         }
@@ -178,6 +181,22 @@ impl PlainGame {
         }
     }
 
+    /// Whether the ko rule forbids to bring a board back: that before the last move, or any.
+    fn forbids(&self, board: &PlainBoard) -> bool {
+        let moves = self.moves.len();
+        let first = match self.rule {
+            KoRule::Simple => moves.saturating_sub(1),
+            KoRule::Positional => 0,
+        };
+        let last = match self.rule {
+            KoRule::Simple => moves,
+            KoRule::Positional => moves.saturating_add(1),
+        };
+        self.boards.iter().enumerate().any(|(number, earlier)| {
+            first <= number && number < last && earlier.cells == board.cells
+        })
+    }
+
     /// The board that a move would leave and how many stones it would take, or why it is refused.
     fn next(&self, colour: Colour, vertex: Vertex) -> Result<(PlainBoard, u32), PlayFault> {
         let Vertex::At(point) = vertex else {
@@ -194,7 +213,7 @@ impl PlainGame {
         if !board.is_free(colour, place) {
             return Err(PlayFault::Suicide);
         }
-        if !self.moves.is_empty() && board.cells == self.before.cells {
+        if self.forbids(&board) {
             return Err(PlayFault::Ko);
         }
         Ok((board, taken))
@@ -210,13 +229,15 @@ impl PlainGame {
         }
         let made = Move { colour, vertex };
         let (board, taken) = self.next(made.colour, made.vertex)?;
-        self.before = self.board;
         self.board = board;
         match made.colour {
             Colour::Black => self.taken_by_black = self.taken_by_black.saturating_add(taken),
             Colour::White => self.taken_by_white = self.taken_by_white.saturating_add(taken),
         }
         let _ = self.moves.try_push(made);
+        if let Some(after) = self.boards.get_mut(self.moves.len()) {
+            *after = board;
+        }
         Ok(())
     }
 
@@ -224,7 +245,7 @@ impl PlainGame {
         let Some(last) = self.moves.last().copied() else {
             return Err(NothingToUndo);
         };
-        let mut game = PlainGame::new(self.lines);
+        let mut game = PlainGame::new(self.lines, self.rule);
         for made in self.moves.iter().take(self.moves.len().saturating_sub(1)) {
             let _ = game.play(made.colour, made.vertex);
         }
