@@ -32,7 +32,7 @@ is_played game new s v (Err Ko) legal room played answer = absurd (legal-or_refu
 
 -- the controller with another game, verdict and sides
 abbrev made : Controller → GameRecord → Option Verdict → Sides → Controller
-made c game verdict sides = record { setup = c.setup; game = game; verdict = verdict; sides = sides }
+made c game verdict sides = record c { game = game; verdict = verdict; sides = sides }
 
 pub applied_move : (c : Controller) (s : Colour) (v : Vertex) (o : Outcome) (game : GameRecord) (sides : Sides)
     (verdict : Option Verdict) → o ≡ Moves v → game ≡ with_move c.game s v

@@ -10,15 +10,19 @@ use Rattle.gtp_match.specs.Hearing.{Hears, HearsAll, HearsAllBy}
 use Rattle.gtp_match.specs.ReplyTable.{outcome, after_outcome}
 use Rattle.gtp_match.specs.Setup.{SetupRecord}
 use Rattle.gtp_match.specs.Sides.{side_of, with_side, with_engine_of, downed_side, handed, heard_reply, answered}
-use Rattle.gtp_match.specs.Sides.{confirmed}
+use Rattle.gtp_match.specs.Sides.{confirmed, taken_back}
+use Rattle.gtp_match.specs.Taking.{may_retake}
 use Rattle.gtp_match.specs.Unanswered.{oldest}
 use Rattle.gtp_match.specs.declared.controller.Controller.{Controller}
 use Rattle.gtp_match.specs.declared.sides.Incarnation.{Incarnation}
 use Rattle.gtp_match.specs.declared.sides.Sides.{Sides}
 use Rattle.gtp_match.specs.declared.table.Outcome.{Outcome}
 use Rattle.gtp_match.specs.declared.table.Outcome.TheVariants.{Down, Unfit, Forfeits, Confirms, Resigns, Moves}
+use Rattle.gtp_match.specs.declared.table.Outcome.TheVariants.{Refuses, TakesBack}
+use Rattle.gtp_match.specs.declared.table.Outcome.TheVariants as made
 use Rattle.gtp_match.specs.declared.verdicts.SideFault.{SideFault}
 use Rattle.gtp_match.proofs.BoundLemmas.{started_starts, up_starts}
+use Rattle.gtp_match.proofs.RefusalLemmas.{refused_all}
 use Rattle.gtp_match.proofs.ReplyingLemmas.{Heard, heard}
 
 abbrev IsSent : ℕ → Option Incarnation → Type 0
@@ -60,6 +64,14 @@ keeps_outcome c s t engine (Forfeits cause) up = keeps_up s t c.sides engine (he
 keeps_outcome c s t engine Confirms up = keeps_up s t c.sides engine (confirmed (heard_reply engine)) up refl
 keeps_outcome c s t engine Resigns up = keeps_up s t c.sides engine (answered (heard_reply engine)) up refl
 keeps_outcome c s t engine (Moves v) up = keeps_up s t c.sides engine (confirmed (heard_reply engine)) up refl
+keeps_outcome c s t engine Refuses up =
+    refused_all (λ (x : Controller). Keeps t c.sides x.sides) c s (heard_reply engine)
+    (keeps_up s t c.sides engine (heard_reply engine) up refl)
+    (keeps_up s t c.sides engine (answered (heard_reply engine)) up refl)
+    (keeps_up s t c.sides engine (answered (heard_reply engine)) up refl)
+    (may_retake c s (heard_reply engine))
+keeps_outcome c s t engine TakesBack up = keeps_up s t c.sides engine (taken_back (heard_reply engine)) up refl
+keeps_outcome c s t engine made.Keeps up = keeps_up s t c.sides engine (heard_reply engine) up refl
 
 hears_keeps : (c mid : Controller) (s t : Colour) (bytes : List ℕ) (used : ℕ) (fault : Option SideFault)
     → Hears c s bytes used fault mid → Keeps t c.sides mid.sides

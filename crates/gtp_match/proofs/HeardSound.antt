@@ -1,10 +1,11 @@
 -- Bytes that are heard keep what holds of every match.
-use Rattle.std.proofs.Common.{◌≡◌, ℕ, zero, suc, ◌+◌, ◌<◌, ◌≤◌, List, [], ◌∷◌, ◌++◌, length, take, drop, Option, Some}
+use Rattle.std.proofs.Common.{◌≡◌, ℕ, zero, suc, ◌+◌, ◌*◌, ◌<◌, ◌≤◌, List, [], ◌∷◌, ◌++◌, length, take, drop, Option, Some}
 use Rattle.std.proofs.Common.{None, Result, false, refl, sym, ◌∙◌, ap, subst, arith, inl, inr, append-nil}
 use Rattle.std.specs.Prelude.{◌⊎◌, IfSome, is_some}
 use Rattle.go_base.specs.Colour.{other}
 use Rattle.go_base.specs.declared.colours.Colour.{Colour}
 use Rattle.go_board.specs.Game.{GameRecord, IsGame}
+use Rattle.gtp_wire.specs.declared.commands.Command.{Command}
 use Rattle.gtp_wire.specs.declared.replies.Reply.{Reply}
 use Rattle.gtp_wire.specs.declared.replies.ReplyFault.{ReplyFault}
 use Rattle.gtp_wire.specs.Replies.{TellsNothing, Tells, IsFirst}
@@ -18,13 +19,14 @@ use Rattle.gtp_match.specs.Controller.{with_side_up}
 use Rattle.gtp_match.specs.Hearing.{MayKeep, HearsUp, HearsWhere, Hears, HearsAll, HearsAllBy}
 use Rattle.gtp_match.specs.Script.{script}
 use Rattle.gtp_match.specs.Sides.{side_of, with_side, with_engine}
-use Rattle.gtp_match.specs.Sound.{VerdictFits, InScript, IsAsked, IsUnderWay, IsSoundEngine, IsIdle, IsSound}
+use Rattle.gtp_match.specs.Sound.{VerdictFits, InScript, AreUndo, HasPlan, IsUnderWay, LacksLast, IsTakingBack}
+use Rattle.gtp_match.specs.Sound.{all_retakes, IsIdle, IsSound}
 use Rattle.gtp_match.specs.Unanswered.{oldest}
 use Rattle.gtp_match.proofs.OutcomeLemmas.{first_is}
 use Rattle.gtp_match.proofs.ReplySound.{reply_sound}
-use Rattle.gtp_match.proofs.ScriptLemmas.{command_fits}
-use Rattle.gtp_match.proofs.SoundLemmas.{no_blame, my_side, their_side, one_idle, changed, kept, same_side, my_engine}
-use Rattle.gtp_match.proofs.SoundLemmas.{my_start, downed_sound}
+use Rattle.gtp_match.proofs.ScriptLemmas.{script_few, below_length, command_fits}
+use Rattle.gtp_match.proofs.SoundLemmas.{no_blame, my_side, one_idle, with_verdict, kept_game, my_engine, my_start}
+use Rattle.gtp_match.proofs.SoundLemmas.{goes_on_taking, taken_at, downed_sound}
 
 -- ---- what may be kept for a text that tells nothing tells nothing
 
@@ -60,16 +62,11 @@ pub quiet_sound : (c : Controller) (s : Colour) (engine : Incarnation) (text kep
 quiet_sound c s engine text kept_text h none up quiet is =
     let mine = my_side c s h in
     let e = my_engine c s engine h up in
-    let next : Incarnation = record engine { rest = kept_text } in
     let state = with_engine next (side_of c.sides s) in
-    kept c c.game c.verdict s state (record {
-      setup = h.setup;
-      game_is = h.game_is;
-      legal = h.game;
-      turns = h.turns;
-      few_moves = h.few_moves;
+    kept_game c c.verdict s state h (record {
+      back = λ x. x;
       ends = h.ends;
-      blames = no_blame (changed c c.game c.verdict s state) c.verdict none;
+      blames = no_blame (with_verdict c c.verdict (with_side s state c.sides)) c.verdict none;
       mine = record {
         starts = mine.starts;
         start_left = λ _ x. absurd (cc);
@@ -80,18 +77,48 @@ quiet_sound c s engine text kept_text h none up quiet is =
           under_way = λ none. same_way (e.under_way none);
         };
       };
-      theirs = same_side c (other s) c.verdict (with_side s state c.sides) (side_of c.sides (other s)) (λ x. x)
-          (their_side c s h);
       one_asked = by_one (one_idle c s h);
+      taking_back = λ none. goes_on_taking c s state same_mine same_theirs (h.taking_back none);
     })
   where
-    same_way : IsUnderWay c.game s engine → IsUnderWay c.game s (record engine { rest = kept_text })
+    next : Incarnation
+    next = record engine { rest = kept_text }
+
+    same_way : IsUnderWay c.game c.pending (all_retakes c) s engine
+        → IsUnderWay c.game c.pending (all_retakes c) s (record engine { rest = kept_text })
     same_way way = record { plan = way.plan; few_unanswered = way.few_unanswered; counted = way.counted }
 
     by_one : IsIdle (side_of c.sides s).up ⊎ IsIdle (side_of c.sides (other s)).up
         → IsIdle (Some (record engine { rest = kept_text })) ⊎ IsIdle (side_of c.sides (other s)).up
     by_one (inl i) = inl (subst IsIdle up i)
     by_one (inr i) = inr i
+
+    same_mine : IsTakingBack c.game (all_retakes c) s (side_of c.sides s).up (side_of c.sides (other s)).up
+        → IsTakingBack c.game (all_retakes c) s (Some (record engine { rest = kept_text }))
+        (side_of c.sides (other s)).up
+    same_mine t =
+        let same : Some t.engine ≡ Some engine = sym t.up ∙ up in
+        let e : t.engine ≡ engine = cc in
+        let T : Incarnation → Type 0 = λ x. (x.confirmed ≡ length (script c.game))
+        × ((x.unanswered ≡ []) ⊎ AreUndo x.unanswered)
+        × (x.sent + 2 ≤ x.confirmed + length x.unanswered + 2 * all_retakes c) in
+        let now : T engine = subst T e (t.all, t.told, t.counted) in
+        record {
+          some = t.some;
+          made = t.made;
+          engine = record engine { rest = kept_text };
+          up = refl;
+          all = now.0;
+          told = now.1;
+          lacks = t.lacks;
+          counted = now.2;
+        }
+
+    same_theirs : IfSome (side_of c.sides s).up (LacksLast c.game)
+        → IfSome (Some (record engine { rest = kept_text })) (LacksLast c.game)
+    same_theirs l =
+        let x : LacksLast c.game engine = subst (λ (u : Option Incarnation). IfSome u (LacksLast c.game)) up l in
+        record { idle = x.idle; lacks = x.lacks }
 
 up_sound : (c : Controller) (s : Colour) (engine : Incarnation) (bytes : List ℕ) (used : ℕ) (fault : Option SideFault)
     (c2 : Controller) → IsSound c → c.verdict ≡ None → (side_of c.sides s).up ≡ Some engine
@@ -125,34 +152,58 @@ hears_all_sound s c new bytes fault h (HearsAllBy.goes_on {mid = mid} used some 
 
 -- ---- what a side that is heard may be asked for
 
-oldest_fits : (game : GameRecord) (s : Colour) (n : ℕ) (entries : List SentCommand) → IsGame game
-    → InScript (script game) n entries ⊎ IsAsked game s n entries
+oldest_fits : (game : GameRecord) (pending : Option Colour) (s : Colour) (n : ℕ) (entries : List SentCommand)
+    → IsGame game → HasPlan game pending s n entries
     → IfSome (oldest entries) (λ entry. MayBeAnswered game entry.command)
-oldest_fits game s n [] g plan = tt
-oldest_fits game s n (entry ∷ entries) g (inl plan) = command_fits game n entry.command g.handicap plan.0
-oldest_fits game s n (entry ∷ entries) g (inr asked) =
+oldest_fits game pending s n [] g plan = tt
+oldest_fits game pending s n (entry ∷ entries) g (inl plan) = command_fits game n entry.command g.handicap plan.0
+oldest_fits game pending s n (entry ∷ entries) g (inr (inl asked)) =
     let same : entry ≡ asked.entry = first_is (entry ∷ entries) entry entries asked.entry refl asked.alone in
     subst (MayBeAnswered game) (sym (ap (λ (x : SentCommand). x.command) same ∙ asked.genmove)) tt
+oldest_fits game pending s n (entry ∷ entries) g (inr (inr (is, undo))) =
+    let same : entry ≡ undo.entry = first_is (entry ∷ entries) entry entries undo.entry refl undo.alone in
+    subst (MayBeAnswered game) (sym (ap (λ (x : SentCommand). x.command) same ∙ undo.undo)) tt
 
-confirmed_few : (game : GameRecord) (s : Colour) (engine : Incarnation) → IsUnderWay game s engine
-    → engine.confirmed ≤ engine.sent
-confirmed_few game s engine way = omega (arith, way.counted)
+in_script_few : (commands : List Command) (n : ℕ) (entries : List SentCommand) → InScript commands n entries
+    → n ≤ length commands
+in_script_few commands n [] plan = plan
+in_script_few commands n (entry ∷ entries) plan = omega (arith, below_length commands n entry.command plan.0)
+
+-- an engine has confirmed the whole script at most
+pub confirmed_few : (c : Controller) (s : Colour) (engine : Incarnation) → IsSound c → c.verdict ≡ None
+    → (side_of c.sides s).up ≡ Some engine → engine.confirmed ≤ length (script c.game)
+confirmed_few c s engine h none up = let e = my_engine c s engine h up in by_plan (e.under_way none).plan
+  where
+    by_plan : HasPlan c.game c.pending s engine.confirmed engine.unanswered → engine.confirmed ≤ length (script c.game)
+    by_plan (inl plan) = in_script_few (script c.game) engine.confirmed engine.unanswered plan
+    by_plan (inr (inl asked)) = omega (arith, asked.all)
+    by_plan (inr (inr (is, undo))) =
+        let t = taken_at c s h none is in
+        let same : Some t.engine ≡ Some engine = sym t.up ∙ up in
+        let e : t.engine ≡ engine = cc in
+        omega (arith, t.all, ap (λ (x : Incarnation). x.confirmed) e)
 
 pub may_hear : (c : Controller) (s : Colour) → IsSound c → c.verdict ≡ None → MayHear c s
 may_hear c s h none =
     let ends : VerdictFits c None = subst (VerdictFits c) none h.ends in
     record {
       room = omega (arith, ends.0, h.setup.moves.1);
-      engine = by_up (side_of c.sides s).up (my_side c s h).engine;
+      engine = by_up (side_of c.sides s).up refl;
     }
   where
-    by_up : (u : Option Incarnation) → IfSome u (IsSoundEngine c s) → IfSome u (MayReply c.game)
-    by_up None e = tt
-    by_up (Some engine) e =
-        let way = e.under_way none in
+    by_up : (u : Option Incarnation) → (side_of c.sides s).up ≡ u → IfSome u (MayReply c.game)
+    by_up None up = tt
+    by_up (Some engine) up =
+        let e = my_engine c s engine h up in
         record {
-          answered = oldest_fits c.game s engine.confirmed engine.unanswered h.game way.plan;
-          confirmed = omega (arith, confirmed_few c.game s engine way, e.sent, h.setup.moves.1);
+          answered = oldest_fits c.game c.pending s engine.confirmed engine.unanswered h.game (e.under_way none).plan;
+          confirmed = omega (
+            arith,
+            confirmed_few c s engine h none up,
+            script_few c.game,
+            h.few_moves,
+            h.setup.moves.1,
+          );
         }
 
 pub none_of : {A : Type 0} (o : Option A) → is_some o ≡ false → o ≡ None

@@ -17,8 +17,16 @@ pub use Rattle.gtp_match.proofs.HeardSound.{quiet_sound, hears_sound, hears_all_
 pub use Rattle.gtp_match.proofs.CallsLemmas.{calls_sound}
 -- What is heard exactly is heard: of one call, and of all of a read.
 pub use Rattle.gtp_match.proofs.HeardLemmas.{wider, all_wider}
--- What holds where a start or a command comes next.
-pub use Rattle.gtp_match.proofs.SaysLemmas.{SaysStart, says_start, BothIdle, GoesOn, SaysSend, says_send}
+-- What holds where a start or a command comes next; the maker of a move that is to be taken back is up.
+pub use Rattle.gtp_match.proofs.SaysLemmas.{SaysStart, says_start, BothIdle, GoesOn, ToUndo, SaysSend, MakerIsUp}
+pub use Rattle.gtp_match.proofs.SaysLemmas.{says_send}
+pub use Rattle.gtp_match.proofs.SoundLemmas.{maker_is_up}
+-- What holds while a move is to be taken back, and where nothing is; and what a side that goes down leaves.
+pub use Rattle.gtp_match.proofs.SoundLemmas.{TakingBack, taken_at, their_take_back, nothing_pending, downed_by}
+-- The game without its last move: it is a game, and its script is shorter by one command.
+pub use Rattle.gtp_match.proofs.ShorterLemmas.{shorter_length, script_shorter, shorter_is_game, turn_after}
+-- What holds of all that a refused move may leave holds of what it leaves.
+pub use Rattle.gtp_match.proofs.RefusalLemmas.{refused_all}
 -- A script grows by one command with each move; a number that it has no command of is past its end.
 pub use Rattle.gtp_match.proofs.ScriptLemmas.{script_longer, past_length}
 -- The game before its first move has no stone of a move.

@@ -14,6 +14,7 @@ use Rattle.gtp_wire.proofs.ReplyReadingLemmas.{first_more}
 use Rattle.gtp_match.specs.declared.sides.Incarnation.{Incarnation}
 use Rattle.gtp_match.specs.declared.table.Outcome.{Outcome}
 use Rattle.gtp_match.specs.declared.table.Outcome.TheVariants.{Down, Unfit, Forfeits, Confirms, Resigns, Moves}
+use Rattle.gtp_match.specs.declared.table.Outcome.TheVariants.{Refuses, TakesBack, Keeps}
 use Rattle.gtp_match.specs.declared.verdicts.SideFault.{SideFault}
 use Rattle.gtp_match.specs.declared.verdicts.Verdict.{Verdict}
 use Rattle.gtp_match.specs.declared.controller.Controller.{Controller}
@@ -151,6 +152,9 @@ down_of_outcome c s engine (Forfeits cause) x e = absurd (cc)
 down_of_outcome c s engine Confirms x e = absurd (cc)
 down_of_outcome c s engine Resigns x e = absurd (cc)
 down_of_outcome c s engine (Moves v) x e = absurd (cc)
+down_of_outcome c s engine Refuses x e = absurd (cc)
+down_of_outcome c s engine TakesBack x e = absurd (cc)
+down_of_outcome c s engine Keeps x e = absurd (cc)
 
 down_of_up : (c : Controller) (s : Colour) (engine : Incarnation) (bytes : List ℕ) (used : ℕ) (fault : Option SideFault)
     (x : SideFault) (new : Controller)

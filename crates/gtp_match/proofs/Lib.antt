@@ -2,11 +2,14 @@ pub mod WordLemmas
 pub mod NameLemmas
 pub mod PassLemmas
 pub mod NextLemmas
+pub mod RefusalLemmas
 pub mod HearLemmas
 pub mod SaysLemmas
 pub mod ScriptLemmas
 pub mod SoundLemmas
 pub mod TurnLemmas
+pub mod RetakeLemmas
+pub mod ShorterLemmas
 pub mod OutcomeLemmas
 pub mod ApplyLemmas
 pub mod ReplySound

@@ -18,27 +18,35 @@ use Rattle.gtp_wire.specs.declared.commands.Command.TheVariants as command
 use Rattle.gtp_wire.specs.declared.replies.Reply.{Reply}
 use Rattle.gtp_match.specs.declared.table.Outcome.{Outcome}
 use Rattle.gtp_match.specs.declared.table.Outcome.TheVariants.{Down, Unfit, Forfeits, Confirms, Resigns, Moves}
+use Rattle.gtp_match.specs.declared.table.Outcome.TheVariants.{Refuses, TakesBack, Keeps}
 use Rattle.gtp_match.specs.declared.unanswered.SentCommand.{SentCommand}
-use Rattle.gtp_match.specs.declared.verdicts.ForfeitCause.TheVariants.{NoMove, IllegalMove}
+use Rattle.gtp_match.specs.declared.verdicts.ForfeitCause.TheVariants.{RefusedPlay, NoMove, NoVertex, IllegalMove}
 use Rattle.gtp_match.specs.declared.verdicts.SideFault.{SideFault}
 use Rattle.gtp_match.specs.declared.verdicts.SideFault.TheVariants.{WrongId, Unasked}
 use Rattle.go_base.specs.declared.choices.Choice.TheVariants.{Resign, Play}
 use Rattle.gtp_match.specs.ReplyTable.{outcome, outcome_of, script_outcome, play_outcome, choice_outcome, is_handicap}
-use Rattle.gtp_match.specs.ReplyTable.{has_id}
+use Rattle.gtp_match.specs.ReplyTable.{undo_outcome, has_id}
 use Rattle.gtp_wire.specs.Words.{reply_words}
 use Rattle.gtp_match.specs.ReplyWords.{choice_of_words}
 use Rattle.gtp_match.specs.Replying.{IsGenmove, ChoosesVertex, TellsMove, ChoosesResign, NamesOtherPoints, IsUnfit}
-use Rattle.gtp_match.specs.Replying.{IsForfeit}
-use Rattle.gtp_match.specs.Sound.{IsPlay}
+use Rattle.gtp_match.specs.Replying.{ChoosesNothing, TellsRefusal, TellsUndone, TellsKept}
+use Rattle.gtp_match.specs.Sound.{IsPlay, IsUndo}
 
 -- what a reply to the command has said where this is its outcome
 abbrev pub Reason : GameRecord → Colour → Command → Reply → Outcome → Type 0
 Reason game s k reply (Down fault) = Unit {0}
 Reason game s k reply Unfit = IsUnfit game k reply
-Reason game s k reply (Forfeits cause) = IsForfeit game s cause k reply
+Reason game s k reply (Forfeits RefusedPlay) = ⊥
+Reason game s k reply (Forfeits NoMove) = IsGenmove k × (reply.ok ≡ false)
+Reason game s k reply (Forfeits NoVertex) = ChoosesNothing k reply
+Reason game s k reply (Forfeits IllegalMove) =
+    (vertex : Vertex) × ChoosesVertex vertex k reply × ¬ IsLegal game s vertex
 Reason game s k reply Confirms = reply.ok ≡ true
 Reason game s k reply Resigns = ChoosesResign k reply
 Reason game s k reply (Moves v) = (reply.ok ≡ true) × TellsMove game s v k reply
+Reason game s k reply Refuses = TellsRefusal k reply
+Reason game s k reply TakesBack = TellsUndone k reply
+Reason game s k reply Keeps = TellsKept k reply
 
 both_true : (a b : Bool) → (a && b) ≡ true → a ≡ true
 both_true true b e = refl
@@ -49,19 +57,21 @@ not_both true b e = inr e
 not_both false b e = inl refl
 
 module _ (game : GameRecord) (s : Colour) (reply : Reply) where
-  script_reason : (k : Command) → ¬ IsPlay k → ¬ IsGenmove k → (b : Bool) → (b ≡ true → reply.ok ≡ true)
+  script_reason : (k : Command) → ¬ IsPlay k → ¬ IsGenmove k → ¬ IsUndo k → (b : Bool) → (b ≡ true → reply.ok ≡ true)
       → (b ≡ false → (reply.ok ≡ false) ⊎ NamesOtherPoints game k reply) → Reason game s k reply (script_outcome b)
-  script_reason k no_play no_genmove true good bad = good refl
-  script_reason k no_play no_genmove false good bad = record {
+  script_reason k no_play no_genmove no_undo true good bad = good refl
+  script_reason k no_play no_genmove no_undo false good bad = record {
     no_play = no_play;
     no_genmove = no_genmove;
+    no_undo = no_undo;
     why = bad refl;
   }
 
   handicap_reason : (stones : ℕ) → ¬ IsPlay (command.FixedHandicap stones) → ¬ IsGenmove (command.FixedHandicap stones)
+      → ¬ IsUndo (command.FixedHandicap stones)
       → Reason game s (command.FixedHandicap stones) reply (script_outcome (reply.ok && is_handicap game stones reply))
-  handicap_reason stones no_play no_genmove =
-      script_reason (command.FixedHandicap stones) no_play no_genmove (reply.ok && is_handicap game stones reply)
+  handicap_reason stones no_play no_genmove no_undo =
+      script_reason (command.FixedHandicap stones) no_play no_genmove no_undo (reply.ok && is_handicap game stones reply)
       (both_true reply.ok (is_handicap game stones reply))
       (λ e. by_case (not_both reply.ok (is_handicap game stones reply) e))
     where
@@ -73,6 +83,10 @@ module _ (game : GameRecord) (s : Colour) (reply : Reply) where
   play_reason : (k : Command) → IsPlay k → (ok : Bool) → reply.ok ≡ ok → Reason game s k reply (play_outcome ok)
   play_reason k is true e = e
   play_reason k is false e = (is, e)
+
+  undo_reason : (k : Command) → IsUndo k → (ok : Bool) → reply.ok ≡ ok → Reason game s k reply (undo_outcome ok)
+  undo_reason k is true e = (is, e)
+  undo_reason k is false e = (is, e)
 
   -- ---- a `genmove` that succeeded
 
@@ -137,18 +151,19 @@ module _ (game : GameRecord) (s : Colour) (reply : Reply) where
 
   pub reason : (k : Command) → Reason game s k reply (outcome_of game s k reply)
   reason (command.Boardsize size) =
-      script_reason (command.Boardsize size) (λ p. let e = p.1 in cc) (λ g. let e = g.1 in cc) reply.ok (λ x. x)
+      script_reason (command.Boardsize size) (λ p. let e = p.1 in cc) (λ g. let e = g.1 in cc) (λ e. cc) reply.ok (λ x. x)
       (λ x. inl x)
   reason (command.Komi komi) =
-      script_reason (command.Komi komi) (λ p. let e = p.1 in cc) (λ g. let e = g.1 in cc) reply.ok (λ x. x) (λ x. inl x)
+      script_reason (command.Komi komi) (λ p. let e = p.1 in cc) (λ g. let e = g.1 in cc) (λ e. cc) reply.ok (λ x. x) (λ x. inl x)
   reason command.ClearBoard =
-      script_reason command.ClearBoard (λ p. let e = p.1 in cc) (λ g. let e = g.1 in cc) reply.ok (λ x. x) (λ x. inl x)
+      script_reason command.ClearBoard (λ p. let e = p.1 in cc) (λ g. let e = g.1 in cc) (λ e. cc) reply.ok (λ x. x) (λ x. inl x)
   reason (command.FixedHandicap stones) =
-      handicap_reason stones (λ p. let e = p.1 in cc) (λ g. let e = g.1 in cc)
+      handicap_reason stones (λ p. let e = p.1 in cc) (λ g. let e = g.1 in cc) (λ e. cc)
   reason (command.Play move) = play_reason (command.Play move) (move, refl) reply.ok refl
   reason (command.Genmove colour) = genmove_reason (command.Genmove colour) (colour, refl) reply.ok refl
+  reason command.Undo = undo_reason command.Undo refl reply.ok refl
   reason command.Quit =
-      script_reason command.Quit (λ p. let e = p.1 in cc) (λ g. let e = g.1 in cc) reply.ok (λ x. x) (λ x. inl x)
+      script_reason command.Quit (λ p. let e = p.1 in cc) (λ g. let e = g.1 in cc) (λ e. cc) reply.ok (λ x. x) (λ x. inl x)
 
 -- ---- the command that a reply answers
 

@@ -1,7 +1,8 @@
 -- What is heard of a side, and a loss, may change of a match.
 use Rattle.std.proofs.Common.{◌≡◌, ℕ, ◌+◌, ◌<◌, List, ◌++◌, length, Option, Some, None, Ok, Err, refl, sym, ◌∙◌, ap}
-use Rattle.std.proofs.Common.{subst, arith}
+use Rattle.std.proofs.Common.{subst, arith, ◌≤◌, Bool, true, false}
 use Rattle.std.specs.Prelude.{IsSome}
+use Rattle.go_base.specs.Colour.{other}
 use Rattle.go_base.specs.declared.colours.Colour.{Colour}
 use Rattle.go_base.specs.declared.colours.Colour.TheVariants.{Black, White}
 use Rattle.gtp_wire.specs.Replies.{IsFirst, TellsNothing}
@@ -10,15 +11,17 @@ use Rattle.gtp_wire.specs.declared.replies.ReplyFault.{ReplyFault}
 use Rattle.gtp_wire.proofs.ReplyLaws.{one_first}
 use Rattle.gtp_match.specs.Controller.{with_side_up, downed, lost, lost_engine, verdict_when_down}
 use Rattle.gtp_match.specs.Hearing.{side_fault, MayKeep, HearsUp, HearsWhere, Hears}
-use Rattle.gtp_match.specs.ReplyTable.{outcome, after_outcome, fault_of}
-use Rattle.gtp_match.specs.Replying.{EndsReply, IsStranger, ConfirmsOne}
-use Rattle.gtp_match.specs.Sides.{side_of, with_engine_of, heard_reply, answered, confirmed}
+use Rattle.gtp_match.specs.ReplyTable.{outcome, after_outcome, fault_of, retaken_at, refused}
+use Rattle.gtp_match.specs.Replying.{EndsReply, IsStranger, ConfirmsOne, UnconfirmsOne}
+use Rattle.gtp_match.specs.Sides.{side_of, with_engine_of, heard_reply, answered, confirmed, taken_back}
+use Rattle.gtp_match.specs.Taking.{may_retake, has_all}
 use Rattle.gtp_match.specs.Unanswered.{oldest}
 use Rattle.gtp_match.specs.declared.controller.Controller.{Controller}
 use Rattle.gtp_match.specs.declared.sides.Incarnation.{Incarnation}
 use Rattle.gtp_match.specs.declared.sides.Sides.{Sides}
 use Rattle.gtp_match.specs.declared.table.Outcome.{Outcome}
 use Rattle.gtp_match.specs.declared.table.Outcome.TheVariants.{Down, Unfit, Forfeits, Confirms, Resigns, Moves}
+use Rattle.gtp_match.specs.declared.table.Outcome.TheVariants.{Refuses, TakesBack, Keeps}
 use Rattle.gtp_match.specs.declared.verdicts.SideFault.{SideFault}
 use Rattle.gtp_match.specs.declared.verdicts.Verdict.{Verdict}
 use Rattle.gtp_match.proofs.ReplyReasons.{IsNoFault, replies_to}
@@ -76,22 +79,43 @@ down_there : (c : Controller) (s : Colour) → (side_of (downed c s).sides s).up
 down_there c Black = refl
 down_there c White = refl
 
-abbrev engine_after : Incarnation → Outcome → Option Incarnation
-engine_after engine (Down fault) = None
-engine_after engine Unfit = Some engine
-engine_after engine (Forfeits cause) = Some engine
-engine_after engine Confirms = Some (confirmed engine)
-engine_after engine Resigns = Some (answered engine)
-engine_after engine (Moves v) = Some (confirmed engine)
+-- the engine of a side that refused a `play`
+abbrev engine_refused : Incarnation → Bool → Option Incarnation
+engine_refused engine true = Some (answered engine)
+engine_refused engine false = Some engine
+
+-- the engine after each outcome; of one that refused a `play`, by whether that may be retaken
+abbrev engine_after : Incarnation → Bool → Outcome → Option Incarnation
+engine_after engine may (Down fault) = None
+engine_after engine may Unfit = Some engine
+engine_after engine may (Forfeits cause) = Some engine
+engine_after engine may Confirms = Some (confirmed engine)
+engine_after engine may Resigns = Some (answered engine)
+engine_after engine may (Moves v) = Some (confirmed engine)
+engine_after engine may Refuses = engine_refused engine may
+engine_after engine may TakesBack = Some (taken_back engine)
+engine_after engine may Keeps = Some engine
+
+up_refused : (c : Controller) (s : Colour) (engine : Incarnation) (b : Bool)
+    → (side_of (refused c s engine b).sides s).up ≡ engine_refused engine b
+up_refused c s engine false = up_there c.sides s engine
+up_refused c s engine true = by_held (has_all c.game (side_of c.sides (other s)).up)
+  where
+    by_held : (b : Bool) → (side_of (retaken_at c s engine b).sides s).up ≡ Some (answered engine)
+    by_held true = up_there c.sides s (answered engine)
+    by_held false = up_there c.sides s (answered engine)
 
 up_after : (c : Controller) (s : Colour) (engine : Incarnation) (o : Outcome)
-    → (side_of (after_outcome c s engine o).sides s).up ≡ engine_after engine o
+    → (side_of (after_outcome c s engine o).sides s).up ≡ engine_after engine (may_retake c s engine) o
 up_after c s engine (Down fault) = down_there c s
 up_after c s engine Unfit = up_there c.sides s engine
 up_after c s engine (Forfeits cause) = up_there c.sides s engine
 up_after c s engine Confirms = up_there c.sides s (confirmed engine)
 up_after c s engine Resigns = up_there c.sides s (answered engine)
 up_after c s engine (Moves v) = up_there c.sides s (confirmed engine)
+up_after c s engine Refuses = up_refused c s engine (may_retake c s engine)
+up_after c s engine TakesBack = up_there c.sides s (taken_back engine)
+up_after c s engine Keeps = up_there c.sides s engine
 
 abbrev pub up_in : Colour → Controller → Option Incarnation
 up_in s c = (side_of c.sides s).up
@@ -116,12 +140,12 @@ confirmed_by_id c new s before after bytes used fault hears up_before up_after_i
 
     by_outcome : (reply : Reply) → EndsReply before bytes used reply → (o : Outcome)
         → outcome c.game s (oldest before.unanswered) reply ≡ o
-        → engine_after (heard_reply before) o ≡ Some after → ConfirmsOne before after bytes used
-    by_outcome reply ends (Down fault) e is = absurd (let no : None ≡ Some after = is in cc)
-    by_outcome reply ends Unfit e is = absurd (no_more (heard_reply before) before after is refl more)
-    by_outcome reply ends (Forfeits cause) e is = absurd (no_more (heard_reply before) before after is refl more)
-    by_outcome reply ends Resigns e is = absurd (no_more (answered (heard_reply before)) before after is refl more)
-    by_outcome reply ends Confirms e is =
+        → (may : Bool) → engine_after (heard_reply before) may o ≡ Some after → ConfirmsOne before after bytes used
+    by_outcome reply ends (Down fault) e may is = absurd (let no : None ≡ Some after = is in cc)
+    by_outcome reply ends Unfit e may is = absurd (no_more (heard_reply before) before after is refl more)
+    by_outcome reply ends (Forfeits cause) e may is = absurd (no_more (heard_reply before) before after is refl more)
+    by_outcome reply ends Resigns e may is = absurd (no_more (answered (heard_reply before)) before after is refl more)
+    by_outcome reply ends Confirms e may is =
         let r = replies_to c.game s (oldest before.unanswered) reply Confirms (λ f x. cc) e in
         let same : confirmed (heard_reply before) ≡ after = cc in
         record {
@@ -136,7 +160,7 @@ confirmed_by_id c new s before after bytes used fault hears up_before up_after_i
           one_more = sym (ap (λ (y : Incarnation). y.confirmed) same);
           answered = sym (ap (λ (y : Incarnation). y.unanswered) same);
         }
-    by_outcome reply ends (Moves v) e is =
+    by_outcome reply ends (Moves v) e may is =
         let r = replies_to c.game s (oldest before.unanswered) reply (Moves v) (λ f x. cc) e in
         let same : confirmed (heard_reply before) ≡ after = cc in
         record {
@@ -151,6 +175,12 @@ confirmed_by_id c new s before after bytes used fault hears up_before up_after_i
           one_more = sym (ap (λ (y : Incarnation). y.confirmed) same);
           answered = sym (ap (λ (y : Incarnation). y.unanswered) same);
         }
+    by_outcome reply ends Refuses e true is = absurd (no_more (answered (heard_reply before)) before after is refl more)
+    by_outcome reply ends Refuses e false is = absurd (no_more (heard_reply before) before after is refl more)
+    by_outcome reply ends TakesBack e may is =
+        let same : taken_back (heard_reply before) ≡ after = cc in
+        absurd (omega (arith, more, ap (λ (y : Incarnation). y.confirmed) same))
+    by_outcome reply ends Keeps e may is = absurd (no_more (heard_reply before) before after is refl more)
 
     by_way : Heard c s bytes used fault new → ConfirmsOne before after bytes used
     by_way (Heard.replied engine reply none up ends fault_is new_is) =
@@ -160,11 +190,12 @@ confirmed_by_id c new s before after bytes used fault hears up_before up_after_i
         let o = outcome c.game s (oldest engine.unanswered) reply in
         let o_is : outcome c.game s (oldest before.unanswered) reply ≡ o =
         ap (λ (x : Incarnation). outcome c.game s (oldest x.unanswered) reply) (sym same) in
-        let is : engine_after (heard_reply before) o ≡ Some after =
-        ap (λ (x : Incarnation). engine_after (heard_reply x) o) (sym same)
+        let may = may_retake c s (heard_reply engine) in
+        let is : engine_after (heard_reply before) may o ≡ Some after =
+        ap (λ (x : Incarnation). engine_after (heard_reply x) may o) (sym same)
         ∙ sym (up_after c s (heard_reply engine) o) ∙ sym (ap (up_in s) new_is) ∙ up_after_is
         in
-        by_outcome reply (subst E same ends) o o_is is
+        by_outcome reply (subst E same ends) o o_is may is
     by_way (Heard.faulted engine shown none up first fault_is new_is) =
         let no : None ≡ Some after = sym (down_there c s) ∙ sym (ap (up_in s) new_is) ∙ up_after_is in absurd (cc)
     by_way (Heard.quiet engine kept none up nothing fault_is new_is) =
@@ -174,6 +205,82 @@ confirmed_by_id c new s before after bytes used fault hears up_before up_after_i
         absurd (no_more next before after
         (sym (up_there c.sides s next) ∙ sym (ap (up_in s) new_is) ∙ up_after_is)
         (ap (λ (y : Incarnation). y.confirmed) same) more)
+    by_way (Heard.down up fault_is new_is) = unchanged new_is
+    by_way (Heard.over v e fault_is new_is) = unchanged new_is
+
+-- ---- what is confirmed no more
+
+no_less : (x before after : Incarnation) → Some x ≡ Some after → before.confirmed ≤ x.confirmed
+    → after.confirmed < before.confirmed → ⊥
+no_less x before after e same less =
+    let is : x ≡ after = cc in
+    omega (arith, less, same, ap (λ (y : Incarnation). y.confirmed) is)
+
+pub unconfirmed_by_id : (c new : Controller) (s : Colour) (before after : Incarnation) (bytes : List ℕ) (used : ℕ)
+    (fault : Option SideFault) → Hears c s bytes used fault new → (side_of c.sides s).up ≡ Some before
+    → (side_of new.sides s).up ≡ Some after → after.confirmed < before.confirmed
+    → UnconfirmsOne before after bytes used
+unconfirmed_by_id c new s before after bytes used fault hears up_before up_after_is less =
+    by_way (heard c s bytes used fault new hears)
+  where
+    unchanged : new ≡ c → UnconfirmsOne before after bytes used
+    unchanged e =
+        absurd (no_less before before after (sym up_before ∙ sym (ap (up_in s) e) ∙ up_after_is) (omega arith) less)
+
+    no : (x : Incarnation) → Some x ≡ Some after → before.confirmed ≤ x.confirmed
+        → UnconfirmsOne before after bytes used
+    no x is more = absurd (no_less x before after is more less)
+
+    by_outcome : (reply : Reply) → EndsReply before bytes used reply → (o : Outcome)
+        → outcome c.game s (oldest before.unanswered) reply ≡ o → (may : Bool)
+        → engine_after (heard_reply before) may o ≡ Some after → UnconfirmsOne before after bytes used
+    by_outcome reply ends (Down fault) e may is = absurd (let no : None ≡ Some after = is in cc)
+    by_outcome reply ends Unfit e may is = no (heard_reply before) is (omega arith)
+    by_outcome reply ends (Forfeits cause) e may is = no (heard_reply before) is (omega arith)
+    by_outcome reply ends Resigns e may is = no (answered (heard_reply before)) is (omega arith)
+    by_outcome reply ends Confirms e may is = no (confirmed (heard_reply before)) is (omega arith)
+    by_outcome reply ends (Moves v) e may is = no (confirmed (heard_reply before)) is (omega arith)
+    by_outcome reply ends Refuses e true is = no (answered (heard_reply before)) is (omega arith)
+    by_outcome reply ends Refuses e false is = no (heard_reply before) is (omega arith)
+    by_outcome reply ends Keeps e may is = no (heard_reply before) is (omega arith)
+    by_outcome reply ends TakesBack e may is =
+        let r = replies_to c.game s (oldest before.unanswered) reply TakesBack (λ f x. cc) e in
+        let same : taken_back (heard_reply before) ≡ after = cc in
+        record {
+          heard = record {
+            reply = reply;
+            entry = r.entry;
+            ends = ends;
+            answers_oldest = r.asked_is;
+            id = r.id;
+            is = r.reason;
+          };
+          one_less = sym (ap (λ (y : Incarnation). y.confirmed) same);
+          answered = sym (ap (λ (y : Incarnation). y.unanswered) same);
+        }
+
+    by_way : Heard c s bytes used fault new → UnconfirmsOne before after bytes used
+    by_way (Heard.replied engine reply none up ends fault_is new_is) =
+        let some : Some engine ≡ Some before = sym up ∙ up_before in
+        let same : engine ≡ before = cc in
+        let E : Incarnation → Type 0 = λ x. EndsReply x bytes used reply in
+        let o = outcome c.game s (oldest engine.unanswered) reply in
+        let o_is : outcome c.game s (oldest before.unanswered) reply ≡ o =
+        ap (λ (x : Incarnation). outcome c.game s (oldest x.unanswered) reply) (sym same) in
+        let may = may_retake c s (heard_reply engine) in
+        let is : engine_after (heard_reply before) may o ≡ Some after =
+        ap (λ (x : Incarnation). engine_after (heard_reply x) may o) (sym same)
+        ∙ sym (up_after c s (heard_reply engine) o) ∙ sym (ap (up_in s) new_is) ∙ up_after_is
+        in
+        by_outcome reply (subst E same ends) o o_is may is
+    by_way (Heard.faulted engine shown none up first fault_is new_is) =
+        let no : None ≡ Some after = sym (down_there c s) ∙ sym (ap (up_in s) new_is) ∙ up_after_is in absurd (cc)
+    by_way (Heard.quiet engine kept none up nothing fault_is new_is) =
+        let some : Some engine ≡ Some before = sym up ∙ up_before in
+        let same : engine ≡ before = cc in
+        let next : Incarnation = record engine { rest = kept } in
+        no next (sym (up_there c.sides s next) ∙ sym (ap (up_in s) new_is) ∙ up_after_is)
+        (omega (arith, ap (λ (y : Incarnation). y.confirmed) same))
     by_way (Heard.down up fault_is new_is) = unchanged new_is
     by_way (Heard.over v e fault_is new_is) = unchanged new_is
 
@@ -187,6 +294,9 @@ down_by_fault c s engine (Forfeits cause) some = absurd (cc)
 down_by_fault c s engine Confirms some = absurd (cc)
 down_by_fault c s engine Resigns some = absurd (cc)
 down_by_fault c s engine (Moves v) some = absurd (cc)
+down_by_fault c s engine Refuses some = absurd (cc)
+down_by_fault c s engine TakesBack some = absurd (cc)
+down_by_fault c s engine Keeps some = absurd (cc)
 
 no_fault_shown : (f : Option SideFault) → f ≡ None → IsSome f → ⊥
 no_fault_shown None e some = cc
@@ -227,6 +337,11 @@ stranger_fault c s engine reply strange Resigns e =
     absurd (answered_one c s engine reply strange Resigns (λ f x. cc) e)
 stranger_fault c s engine reply strange (Moves v) e =
     absurd (answered_one c s engine reply strange (Moves v) (λ f x. cc) e)
+stranger_fault c s engine reply strange Refuses e =
+    absurd (answered_one c s engine reply strange Refuses (λ f x. cc) e)
+stranger_fault c s engine reply strange TakesBack e =
+    absurd (answered_one c s engine reply strange TakesBack (λ f x. cc) e)
+stranger_fault c s engine reply strange Keeps e = absurd (answered_one c s engine reply strange Keeps (λ f x. cc) e)
 
 pub strangers_put_down : (c new : Controller) (s : Colour) (engine : Incarnation) (reply : Reply) (bytes : List ℕ)
     (used : ℕ) (fault : Option SideFault) → Hears c s bytes used fault new → c.verdict ≡ None

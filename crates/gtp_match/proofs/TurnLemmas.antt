@@ -8,7 +8,8 @@ use Rattle.go_base.specs.declared.colours.Colour.{Colour}
 use Rattle.go_base.specs.declared.colours.Colour.TheVariants.{Black, White}
 use Rattle.go_base.specs.declared.moves.Move.{Move}
 use Rattle.go_base.specs.declared.vertices.Vertex.{Vertex}
-use Rattle.go_board.specs.Game.{GameRecord, with_move}
+use Rattle.go_base.specs.Handicap.{AllowsHandicap}
+use Rattle.go_board.specs.Game.{GameRecord, IsGame, with_move}
 use Rattle.gtp_match.specs.Controller.{first_to_move, to_move}
 use Rattle.gtp_match.specs.Sound.{TakesTurns}
 
@@ -43,10 +44,10 @@ inside (y ∷ ys) (suc k) x e = omega (arith, inside ys k x e)
 
 -- ---- whose turn it is
 
-abbrev by_parity : Colour → ℕ → Colour
+abbrev pub by_parity : Colour → ℕ → Colour
 by_parity first n = cond (eqb (n % 2) 0) first (other first)
 
-other_twice : (c : Colour) → other (other c) ≡ c
+pub other_twice : (c : Colour) → other (other c) ≡ c
 other_twice Black = refl
 other_twice White = refl
 
@@ -54,7 +55,7 @@ even_next : (n : ℕ) (b : Bool) → eqb (n % 2) 0 ≡ b → eqb ((n + 1) % 2) 0
 even_next n true e = grind (arith, nat_tests)
 even_next n false e = grind (arith, nat_tests)
 
-turned : (first : Colour) (n : ℕ) → by_parity first (n + 1) ≡ other (by_parity first n)
+pub turned : (first : Colour) (n : ℕ) → by_parity first (n + 1) ≡ other (by_parity first n)
 turned first n = by_test (eqb (n % 2) 0) refl
   where
     by_test : (b : Bool) → eqb (n % 2) 0 ≡ b → by_parity first (n + 1) ≡ other (cond b first (other first))
@@ -64,6 +65,15 @@ turned first n = by_test (eqb (n % 2) 0) refl
 -- no handicap, or so many stones as there may be
 abbrev pub HasStones : GameRecord → Type 0
 HasStones game = (game.handicap ≡ 0) ⊎ (2 ≤ game.handicap)
+
+pub has_stones : (game : GameRecord) → IsGame game → HasStones game
+has_stones game g = by_handicap g.handicap
+  where
+    by_handicap : (game.handicap ≡ 0) ⊎ AllowsHandicap game.size game.handicap → HasStones game
+    by_handicap (inl none) = inl none
+    by_handicap (inr (inl h)) = inr h.2
+    by_handicap (inr (inr (inl h))) = inr h.1
+    by_handicap (inr (inr (inr h))) = inr h.2
 
 at_least : (n : ℕ) → 2 ≤ n → nat_le 2 n ≡ true
 at_least n h = grind (arith, nat_tests)
@@ -75,7 +85,7 @@ first_colour game move (inr some) t e =
     t.with_handicap move some e ∙ ap (λ b. cond b White Black) (sym (at_least game.handicap some))
 
 -- the colour of each move
-colour_at : (game : GameRecord) → HasStones game → TakesTurns game → (k : ℕ) (move : Move)
+pub colour_at : (game : GameRecord) → HasStones game → TakesTurns game → (k : ℕ) (move : Move)
     → slice_get game.moves k ≡ Some move
     → move.colour ≡ by_parity (first_to_move game) k
 colour_at game stones t zero move e = first_colour game move stones t e

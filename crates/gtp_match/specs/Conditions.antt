@@ -6,13 +6,14 @@ use Rattle.go_base.specs.declared.colours.Colour.{Colour}
 use Rattle.go_board.specs.Game.{GameRecord, HasRoom, IsLegal}
 use Rattle.gtp_wire.specs.declared.commands.Command.{Command}
 use Rattle.gtp_wire.specs.declared.commands.Command.TheVariants.{Boardsize, Komi, ClearBoard, FixedHandicap, Play}
-use Rattle.gtp_wire.specs.declared.commands.Command.TheVariants.{Genmove, Quit}
+use Rattle.gtp_wire.specs.declared.commands.Command.TheVariants.{Genmove, Undo, Quit}
 use Rattle.gtp_match.specs.Sides.{side_of}
 use Rattle.gtp_match.specs.Unanswered.{most_unanswered, oldest}
 use Rattle.gtp_match.specs.declared.controller.Controller.{Controller}
 use Rattle.gtp_match.specs.declared.sides.Incarnation.{Incarnation}
 use Rattle.gtp_match.specs.declared.table.Outcome.{Outcome}
 use Rattle.gtp_match.specs.declared.table.Outcome.TheVariants.{Down, Unfit, Forfeits, Confirms, Resigns, Moves}
+use Rattle.gtp_match.specs.declared.table.Outcome.TheVariants.{Refuses, TakesBack, Keeps}
 
 -- an engine may be sent a command more
 abbrev pub MayHand : Incarnation → Type 0
@@ -26,6 +27,7 @@ MayBeAnswered game (Komi komi) = Unit {0}
 MayBeAnswered game ClearBoard = Unit {0}
 MayBeAnswered game (Play move) = Unit {0}
 MayBeAnswered game (Genmove colour) = Unit {0}
+MayBeAnswered game Undo = Unit {0}
 MayBeAnswered game Quit = Unit {0}
 
 -- an engine that is up may be heard: its oldest command may be judged, and one more may be confirmed
@@ -46,6 +48,9 @@ MayBe game side Unfit = Unit {0}
 MayBe game side (Forfeits cause) = Unit {0}
 MayBe game side Confirms = Unit {0}
 MayBe game side Resigns = Unit {0}
+MayBe game side Refuses = Unit {0}
+MayBe game side TakesBack = Unit {0}
+MayBe game side Keeps = Unit {0}
 
 -- what a reply does may be done: the side is up, and may confirm one command more
 pub record MayApply (c : Controller) (side : Colour) (made : Outcome) : Type 0 where

@@ -1,11 +1,12 @@
 -- What bytes of a side, and a loss, may change of a match, and why: told of the replies themselves, without the table.
-use Rattle.std.specs.Prelude.{◌≡◌, ℕ, ◌+◌, ◌<◌, ◌⊎◌, true, false, List, [], ◌∷◌, ◌++◌, length, drop, codes, Option}
-use Rattle.std.specs.Prelude.{None, Some, IsSome, Ok}
+use Rattle.std.specs.Prelude.{◌≡◌, ℕ, ◌+◌, ◌-◌, ◌<◌, ◌⊎◌, true, false, List, [], ◌∷◌, ◌++◌, length, drop, codes}
+use Rattle.std.specs.Prelude.{Option, None, Some, IsSome, Ok}
 use Rattle.go_base.specs.Vertex.{SpellsVertex}
 use Rattle.go_base.specs.Word.{IsWord}
 use Rattle.go_base.specs.declared.colours.Colour.{Colour}
 use Rattle.go_base.specs.declared.vertices.Vertex.{Vertex}
-use Rattle.go_board.specs.Game.{GameRecord, IsLegal, with_move}
+use Rattle.go_base.specs.Colour.{other}
+use Rattle.go_board.specs.Game.{GameRecord, IsLegal, with_move, without_last}
 use Rattle.gtp_wire.specs.Replies.{IsFirst}
 use Rattle.gtp_wire.specs.declared.commands.Command.{Command}
 use Rattle.gtp_wire.specs.declared.commands.Command.TheVariants.{FixedHandicap, Genmove}
@@ -15,7 +16,9 @@ use Rattle.gtp_match.specs.Hearing.{Hears}
 use Rattle.gtp_match.specs.ReplyTable.{is_handicap}
 use Rattle.gtp_wire.specs.Words.{reply_words}
 use Rattle.gtp_match.specs.Sides.{side_of}
-use Rattle.gtp_match.specs.Sound.{IsPlay}
+use Rattle.gtp_match.specs.Retakes.{with_retake}
+use Rattle.gtp_match.specs.Sound.{IsPlay, IsUndo}
+use Rattle.gtp_match.specs.Taking.{may_retake, has_all, taking_back}
 use Rattle.gtp_match.specs.Unanswered.{oldest}
 use Rattle.gtp_match.specs.declared.controller.Controller.{Controller}
 use Rattle.gtp_match.specs.declared.sides.Incarnation.{Incarnation}
@@ -70,6 +73,25 @@ ConfirmedById =
     → (side_of c.sides s).up ≡ Some before → (side_of new.sides s).up ≡ Some after
     → before.confirmed < after.confirmed → ConfirmsOne before after bytes used
 
+-- an `undo` succeeded
+abbrev pub TellsUndone : Command → Reply → Type 0
+TellsUndone command reply = IsUndo command × (reply.ok ≡ true)
+
+-- one command less is confirmed, and `undo` answered: by a success that has its id
+pub record UnconfirmsOne (before after : Incarnation) (bytes : List ℕ) (used : ℕ) : Type 0 where
+  pub heard : HearsReply before bytes used TellsUndone
+  pub one_less : after.confirmed ≡ before.confirmed - 1
+  pub answered : after.unanswered ≡ drop 1 before.unanswered
+
+-- Where an engine has confirmed less after its bytes were heard, they ended a success of an `undo` with its id.
+abbrev pub UnconfirmedById : Type 0
+UnconfirmedById =
+    (c new : Controller) (s : Colour) (before after : Incarnation) (bytes : List ℕ) (used : ℕ)
+    (fault : Option SideFault)
+    → Hears c s bytes used fault new
+    → (side_of c.sides s).up ≡ Some before → (side_of new.sides s).up ≡ Some after
+    → after.confirmed < before.confirmed → UnconfirmsOne before after bytes used
+
 -- ---- what puts a side down
 
 -- Before a verdict, a reply that nothing unanswered is owed, that has no id or another than the oldest unanswered
@@ -118,17 +140,65 @@ pub record MakesMove (c new : Controller) (s : Colour) (bytes : List ℕ) (used 
   pub heard : HearsReply engine bytes used (TellsMove c.game s vertex)
   pub game : new.game ≡ with_move c.game s vertex
 
--- What is heard of a side leaves the game, or tells the move that is added to it.
+-- a `play` failed
+abbrev pub TellsRefusal : Command → Reply → Type 0
+TellsRefusal command reply = IsPlay command × (reply.ok ≡ false)
+
+-- Why a move leaves the game: its maker took it back; it was refused, and its maker doesn't have the whole script; or
+-- its maker, at which it was to be taken back, is put down by a fault.
+pub data WhyTakenBack (c : Controller) (s : Colour) (engine : Incarnation) (bytes : List ℕ) (used : ℕ)
+    (fault : Option SideFault) : Type 0 where
+  undone : HearsReply engine bytes used TellsUndone → WhyTakenBack c s engine bytes used fault
+  refused : HearsReply engine bytes used TellsRefusal → may_retake c s engine ≡ true
+      → has_all c.game (side_of c.sides (other s)).up ≡ false → WhyTakenBack c s engine bytes used fault
+  put_down : IsSome fault → taking_back c ≡ Some s → WhyTakenBack c s engine bytes used fault
+
+pub record TakesMoveBack (c new : Controller) (s : Colour) (bytes : List ℕ) (used : ℕ) (fault : Option SideFault)
+    : Type 0 where
+  pub engine : Incarnation
+  pub up : (side_of c.sides s).up ≡ Some engine
+  pub why : WhyTakenBack c s engine bytes used fault
+  pub game : new.game ≡ without_last c.game
+
+-- What is heard of a side leaves the game, or tells the move that is added to it, or takes its last move back.
 abbrev pub MovesAreTold : Type 0
 MovesAreTold =
     (c new : Controller) (s : Colour) (bytes : List ℕ) (used : ℕ) (fault : Option SideFault)
-    → Hears c s bytes used fault new → (new.game ≡ c.game) ⊎ MakesMove c new s bytes used
+    → Hears c s bytes used fault new
+    → (new.game ≡ c.game) ⊎ (MakesMove c new s bytes used ⊎ TakesMoveBack c new s bytes used fault)
 
--- a start, a command that is sent and a loss leave the game
+-- A start and a command that is sent leave the game. So does a loss, but for a move that was to be taken back at the
+-- side that is lost.
 abbrev pub OthersLeaveTheGame : Type 0
 OthersLeaveTheGame =
     (c : Controller) (s : Colour)
-    → ((started c s).game ≡ c.game) × ((sent c s).game ≡ c.game) × ((lost c s).game ≡ c.game)
+    → ((started c s).game ≡ c.game) × ((sent c s).game ≡ c.game)
+    × (((lost c s).game ≡ c.game) ⊎ (taking_back c ≡ Some s) × ((lost c s).game ≡ without_last c.game))
+
+-- ---- retakes
+
+-- The bytes end the refusal of a `play` that may be retaken: the number of the last move has one retake more. Where its
+-- maker has the whole script, the move is to be taken back there, and stays in the record till then.
+pub record CountsRetake (c new : Controller) (s : Colour) (bytes : List ℕ) (used : ℕ) : Type 0 where
+  pub engine : Incarnation
+  pub up : (side_of c.sides s).up ≡ Some engine
+  pub heard : HearsReply engine bytes used TellsRefusal
+  pub may : may_retake c s engine ≡ true
+  pub one_more : new.retakes ≡ with_retake (length c.game.moves) c.retakes
+  pub pending : has_all c.game (side_of c.sides (other s)).up ≡ true
+      → (taking_back new ≡ Some (other s)) × (new.game ≡ c.game)
+
+-- what is heard of a side leaves the retakes, or tells the refusal that is met by one
+abbrev pub RetakesAreTold : Type 0
+RetakesAreTold =
+    (c new : Controller) (s : Colour) (bytes : List ℕ) (used : ℕ) (fault : Option SideFault)
+    → Hears c s bytes used fault new → (new.retakes ≡ c.retakes) ⊎ CountsRetake c new s bytes used
+
+-- a start, also of a new engine, a command that is sent and a loss leave the retakes
+abbrev pub OthersLeaveTheRetakes : Type 0
+OthersLeaveTheRetakes =
+    (c : Controller) (s : Colour)
+    → ((started c s).retakes ≡ c.retakes) × ((sent c s).retakes ≡ c.retakes) × ((lost c s).retakes ≡ c.retakes)
 
 -- ---- causes of verdicts
 
@@ -154,19 +224,31 @@ pub record NamesOtherPoints (game : GameRecord) (command : Command) (reply : Rep
   pub handicap : command ≡ FixedHandicap stones
   pub other_points : is_handicap game stones reply ≡ false
 
--- neither a `play` nor a `genmove`; it failed, or named other points than the handicap's
+-- none of `play`, `genmove` and `undo`; it failed, or named other points than the handicap's
 pub record IsUnfit (game : GameRecord) (command : Command) (reply : Reply) : Type 0 where
   pub no_play : ¬ IsPlay command
   pub no_genmove : ¬ IsGenmove command
+  pub no_undo : ¬ IsUndo command
   pub why : (reply.ok ≡ false) ⊎ NamesOtherPoints game command reply
 
--- a reply for which its side forfeits
-abbrev pub IsForfeit : GameRecord → Colour → ForfeitCause → Command → Reply → Type 0
-IsForfeit game s RefusedPlay command reply = IsPlay command × (reply.ok ≡ false)
-IsForfeit game s NoMove command reply = IsGenmove command × (reply.ok ≡ false)
-IsForfeit game s NoVertex command reply = ChoosesNothing command reply
-IsForfeit game s IllegalMove command reply =
-    (vertex : Vertex) × ChoosesVertex vertex command reply × ¬ IsLegal game s vertex
+-- a reply for which its side forfeits; a `play` that it refused may not be retaken
+abbrev pub IsForfeit : Controller → Colour → Incarnation → ForfeitCause → Command → Reply → Type 0
+IsForfeit c s engine RefusedPlay command reply = TellsRefusal command reply × (may_retake c s engine ≡ false)
+IsForfeit c s engine NoMove command reply = IsGenmove command × (reply.ok ≡ false)
+IsForfeit c s engine NoVertex command reply = ChoosesNothing command reply
+IsForfeit c s engine IllegalMove command reply =
+    (vertex : Vertex) × ChoosesVertex vertex command reply × ¬ IsLegal c.game s vertex
+
+-- an `undo` failed
+abbrev pub TellsKept : Command → Reply → Type 0
+TellsKept command reply = IsUndo command × (reply.ok ≡ false)
+
+-- A side forfeits by its own reply; or it had refused a move, and the other side's reply fails to take it back.
+pub data IsForfeited (c : Controller) (s : Colour) (engine : Incarnation) (bytes : List ℕ) (used : ℕ)
+    : Colour → ForfeitCause → Type 0 where
+  by_itself : {cause : ForfeitCause} → HearsReply engine bytes used (IsForfeit c s engine cause)
+      → IsForfeited c s engine bytes used s cause
+  by_the_other : HearsReply engine bytes used TellsKept → IsForfeited c s engine bytes used (other s) RefusedPlay
 
 -- the command that a resignation answers is answered, and isn't confirmed
 pub record IsAnsweredOnly (engine : Incarnation) (new : Controller) (s : Colour) : Type 0 where
@@ -175,12 +257,12 @@ pub record IsAnsweredOnly (engine : Incarnation) (new : Controller) (s : Colour)
   pub answered : after.unanswered ≡ drop 1 engine.unanswered
   pub confirmed : after.confirmed ≡ engine.confirmed
 
--- Why a verdict is given when bytes of the side are heard: it names the side, or is the end after its move.
+-- Why a verdict is given when bytes of the side are heard: it names the side, or the other where this one keeps a move
+-- that the other refused, or is the end after its move.
 abbrev pub HasCause : Controller → Controller → Colour → Incarnation → List ℕ → ℕ → Option SideFault → Verdict → Type 0
 HasCause c new s engine bytes used fault (Resign side) =
     (side ≡ s) × HearsReply engine bytes used ChoosesResign × IsAnsweredOnly engine new s
-HasCause c new s engine bytes used fault (Forfeit side cause) =
-    (side ≡ s) × HearsReply engine bytes used (IsForfeit c.game s cause)
+HasCause c new s engine bytes used fault (Forfeit side cause) = IsForfeited c s engine bytes used side cause
 HasCause c new s engine bytes used fault (Unfit side) = (side ≡ s) × HearsReply engine bytes used (IsUnfit c.game)
 HasCause c new s engine bytes used fault (Abandoned side) = (side ≡ s) × IsSome fault
 HasCause c new s engine bytes used fault (Score half_points) = MakesMove c new s bytes used

@@ -2,7 +2,7 @@ use crate::equal::assert_equal;
 use crate::test_steps::{
     answer, black_answered, ended, first_sent, handicap_answered, send_and_wait,
 };
-use crate::{Action, ForfeitCause, Match, Verdict, record_line};
+use crate::{Action, ForfeitCause, Verdict, record_line};
 use go_base::{Colour, Point, Side};
 use std::process::Abort;
 use std::test::Fail;
@@ -20,14 +20,6 @@ fn unfit(rt: &impl Abort, bytes: &[u8]) {
     let played = handicap_answered(rt, bytes);
     let text = b"game 1: unfit black moves 0 restarts 0 0";
     ended(rt, &played, Verdict::Unfit(Side::Black), text.as_slice());
-}
-
-/// White is sent its command of this id, which is Black's move at A1, and answers with these bytes.
-fn white_hears_of_a1(rt: &impl Abort, bytes: &[u8]) -> Match {
-    let mut played = black_answered(rt, b"=4 A1\n\n");
-    send_and_wait(rt, &mut played, Side::White, b"4 play b A1\n");
-    answer(rt, &mut played, Side::White, bytes);
-    played
 }
 
 #[test]
@@ -79,16 +71,6 @@ fn a_failed_genmove_forfeits(rt: HostRuntime) {
 }
 
 #[test]
-fn a_refused_play_forfeits(rt: HostRuntime) {
-    let played = white_hears_of_a1(&rt, b"?4 no\n\n");
-    let text = b"game 1: B+F(refused play) moves 1 restarts 0 0";
-    let verdict = Verdict::Forfeit(Side::White, ForfeitCause::RefusedPlay);
-    ended(&rt, &played, verdict, text.as_slice());
-    assert!(rt; played.in_step(Side::Black));
-    assert!(rt; !played.in_step(Side::White));
-}
-
-#[test]
 fn a_refused_setup_command_is_unfit(rt: HostRuntime) {
     let mut played = first_sent(&rt, 1);
     answer(&rt, &mut played, Side::Black, b"?1 no\n\n");
@@ -104,7 +86,9 @@ fn an_answer_may_begin_with_newlines_and_be_written_small(rt: HostRuntime) {
     assert_equal(&rt, record_line(&played).as_slice(), b"A1".as_slice());
     let played = black_answered(&rt, b"=004 a1\n\n");
     assert_equal(&rt, record_line(&played).as_slice(), b"A1".as_slice());
-    let played = white_hears_of_a1(&rt, b"=4 what you will\n\n");
+    let mut played = black_answered(&rt, b"=4 A1\n\n");
+    send_and_wait(&rt, &mut played, Side::White, b"4 play b A1\n");
+    answer(&rt, &mut played, Side::White, b"=4 what you will\n\n");
     assert_equal(&rt, played.next(), Action::Send(Side::White));
 }
 

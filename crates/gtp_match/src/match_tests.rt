@@ -219,6 +219,6 @@ fn a_match_in_which_each_genmove_of_black_is_lost_stays_below_its_bound(rt: Host
     );
     // Black's script and `genmove` twice, and White's script.
     assert_equal(&rt, sent, 2 * (3 + 1) + 3);
-    // Of two sides, each started twice at most, and each engine sent at most 14.
-    assert!(rt; sent <= 56);
+    // Of two sides, each started twice at most, and each engine sent at most 74.
+    assert!(rt; sent <= 296);
 }

@@ -4,18 +4,22 @@ use Rattle.std.proofs.Common.{Some, None, slice_get, refl, sym, ◌∙◌, ap, s
 use Rattle.std.specs.Prelude.{◌&&◌, ◌==◌, not, nat_lt, is_some, IsSome}
 use Rattle.std.proofs.lemmas.Bool.Decides.{nat_tests}
 use Rattle.std.proofs.lemmas.List.{append-nil}
+use Rattle.go_base.specs.declared.colours.Colour.{Colour}
 use Rattle.go_base.specs.declared.colours.Colour.TheVariants.{Black, White}
-use Rattle.go_board.specs.Game.{GameRecord}
+use Rattle.go_board.specs.Game.{GameRecord, IsGame}
 use Rattle.gtp_wire.specs.declared.commands.Command.{Command}
 use Rattle.gtp_session.proofs.Policies.{AllowsLawful}
-use Rattle.gtp_session.specs.Engine.{Engine, fresh}
+use Rattle.gtp_session.specs.Engine.{Engine, fresh_under}
 use Rattle.gtp_match.specs.declared.unanswered.SentCommand.{SentCommand}
 use Rattle.gtp_match.specs.declared.sides.Incarnation.{Incarnation}
 use Rattle.gtp_match.specs.declared.verdicts.Action.{Action}
 use Rattle.gtp_match.specs.declared.verdicts.Action.TheVariants.{Start, Send}
 use Rattle.gtp_match.specs.declared.controller.Controller.{Controller}
 use Rattle.gtp_match.specs.Controller.{to_move, engine_in_step, in_step}
-use Rattle.gtp_match.specs.Next.{has_unanswered, must_answer, is_down, has_script_left, next_of_idle, next}
+use Rattle.gtp_match.specs.Next.{has_unanswered, must_answer, is_down, has_script_left, next_of_idle, next_of_free, next}
+use Rattle.gtp_match.specs.declared.verdicts.Verdict.{Verdict}
+use Rattle.gtp_match.specs.Taking.{taking_back, unless_over}
+use Rattle.gtp_match.specs.Sound.{all_retakes}
 use Rattle.gtp_match.specs.Unanswered.{none_unanswered}
 use Rattle.gtp_match.specs.Script.{script}
 use Rattle.gtp_match.specs.Sides.{new_incarnation}
@@ -31,7 +35,8 @@ use Rattle.gtp_world.specs.Settle.{start_of, script_left, round, rounds, RunsWhe
 use Rattle.gtp_world.proofs.Invariant.{flipped}
 use Rattle.gtp_world.proofs.Happenings.{opening_has, happens_keeps, runs_keep}
 use Rattle.gtp_world.proofs.Rounds.{IsReady, RoundDone, round_done}
-use Rattle.gtp_world.specs.Joined.{bare, AreJoined, IsJoined}
+use Rattle.gtp_world.specs.Joined.{Rules, rule_of, ruled, bare, AreJoined, IsJoined}
+use Rattle.gtp_world.specs.Laws.{rules_of}
 
 -- ---- what comes next
 
@@ -45,18 +50,19 @@ none_of None idle = refl
 none_of (Some u) idle = ap (λ (os : List SentCommand). not (none_unanswered os)) idle
 
 -- so the last lines say what comes next
-next_where_idle : (c : Controller) → c.verdict ≡ None → IsIdle c.sides.black.up → IsIdle c.sides.white.up
+next_where_idle : (c : Controller) → c.verdict ≡ None → c.pending ≡ None → IsIdle c.sides.black.up → IsIdle c.sides.white.up
     → next c ≡ next_of_idle c.game c.sides.black.up c.sides.white.up
-next_where_idle c none black white =
+next_where_idle c none free black white =
     next_live c none
     ∙ sym (at_idle (tests_of c.game c.sides.black.up c.sides.white.up)
-    (next_of_idle c.game c.sides.black.up c.sides.white.up)
+    (next_of_free c.pending c.game c.sides.black.up c.sides.white.up)
     (record {
       black_free = free_of c.game c.sides.black.up black;
       white_free = free_of c.game c.sides.white.up white;
       black_idle = none_of c.sides.black.up black;
       white_idle = none_of c.sides.white.up white;
     }))
+    ∙ ap (λ (p : Option Colour). next_of_free p c.game c.sides.black.up c.sides.white.up) free
 
 idle_down : (up : Option Incarnation) → up ≡ None → IsIdle up
 idle_down up down = subst IsIdle (sym down) tt
@@ -64,16 +70,16 @@ idle_down up down = subst IsIdle (sym down) tt
 idle_up : (up : Option Incarnation) (u : Incarnation) → up ≡ Some u → u.unanswered ≡ [] → IsIdle up
 idle_up up u is idle = subst IsIdle (sym is) idle
 
-starts_black : (c : Controller) → c.verdict ≡ None → IsIdle c.sides.white.up → c.sides.black.up ≡ None
+starts_black : (c : Controller) → c.verdict ≡ None → c.pending ≡ None → IsIdle c.sides.white.up → c.sides.black.up ≡ None
     → next c ≡ Start Black
-starts_black c none idle down =
-    next_where_idle c none (idle_down c.sides.black.up down) idle
+starts_black c none free idle down =
+    next_where_idle c none free (idle_down c.sides.black.up down) idle
     ∙ sym (at_black_down (to_move c.game) (idle_tests_of c.game c.sides.black.up c.sides.white.up) (ap is_down down))
 
-starts_white : (c : Controller) (black : Incarnation) → c.verdict ≡ None → c.sides.black.up ≡ Some black
+starts_white : (c : Controller) (black : Incarnation) → c.verdict ≡ None → c.pending ≡ None → c.sides.black.up ≡ Some black
     → black.unanswered ≡ [] → c.sides.white.up ≡ None → next c ≡ Start White
-starts_white c black none up idle down =
-    next_where_idle c none (idle_up c.sides.black.up black up idle) (idle_down c.sides.white.up down)
+starts_white c black none free up idle down =
+    next_where_idle c none free (idle_up c.sides.black.up black up idle) (idle_down c.sides.white.up down)
     ∙ sym (at_white_down (to_move c.game) (idle_tests_of c.game c.sides.black.up c.sides.white.up) (ap is_down up)
     (ap is_down down))
 
@@ -92,7 +98,7 @@ lacks_none game u all = above (u.confirmed + length u.unanswered) (length (scrip
     above : (m n : ℕ) → n ≤ m → nat_lt m n ≡ false
     above m n h = grind (arith, nat_tests)
 
-module _ (c : Controller) (black white : Incarnation) (none : c.verdict ≡ None)
+module _ (c : Controller) (black white : Incarnation) (none : c.verdict ≡ None) (free : c.pending ≡ None)
     (black_up : c.sides.black.up ≡ Some black) (white_up : c.sides.white.up ≡ Some white)
     (black_idle : black.unanswered ≡ []) (white_idle : white.unanswered ≡ []) where
   abbrev tests : IdleTests
@@ -100,7 +106,7 @@ module _ (c : Controller) (black white : Incarnation) (none : c.verdict ≡ None
 
   next_is : next c ≡ next_of_idle c.game c.sides.black.up c.sides.white.up
   next_is =
-      next_where_idle c none (idle_up c.sides.black.up black black_up black_idle)
+      next_where_idle c none free (idle_up c.sides.black.up black black_up black_idle)
       (idle_up c.sides.white.up white white_up white_idle)
 
   sends_black : black.confirmed < length (script c.game) → next c ≡ Send Black
@@ -155,10 +161,16 @@ new_ready up l e is runs =
 
 module _ {B W : Type 0} (mb : SidePolicies B) (mw : SidePolicies W) (law_b : AllowsLawful mb.may)
     (law_w : AllowsLawful mw.may) where
+  -- the ko rules of both sides
+  abbrev rules : Rules
+  rules = rules_of mb mw
+
   -- both sides are up with running engines and nothing unanswered, and have confirmed so many commands
   record Settling (game : GameRecord) (v : World B W) (black_count white_count : ℕ) : Type 0 where
-    inv : IsJoined v
+    inv : IsJoined rules v
     none : v.controller.verdict ≡ None
+    free : v.controller.pending ≡ None
+    games : (side : Colour) → IsGame (ruled (rule_of rules side) v.controller.game)
     game_is : v.controller.game ≡ game
     black : IsReady v.controller.sides.black.up v.black black_count
     white : IsReady v.controller.sides.white.up v.white white_count
@@ -167,7 +179,7 @@ module _ {B W : Type 0} (mb : SidePolicies B) (mw : SidePolicies W) (law_b : All
   black_within game v n m h =
       let u = h.black.incarnation in
       let within : u.confirmed ≤ length (script v.controller.game) =
-      idle_plan v.controller.game Black u
+      idle_plan v.controller.game v.controller.pending (all_retakes v.controller) Black u
       ((my_engine v.controller Black u h.inv.sound h.black.is_up).under_way h.none) h.black.idle in
       omega (arith, within, h.black.confirmed, ap (λ (g : GameRecord). length (script g)) h.game_is)
 
@@ -175,7 +187,7 @@ module _ {B W : Type 0} (mb : SidePolicies B) (mw : SidePolicies W) (law_b : All
   white_within game v n m h =
       let u = h.white.incarnation in
       let within : u.confirmed ≤ length (script v.controller.game) =
-      idle_plan v.controller.game White u
+      idle_plan v.controller.game v.controller.pending (all_retakes v.controller) White u
       ((my_engine v.controller White u h.inv.sound h.white.is_up).under_way h.none) h.white.idle in
       omega (arith, within, h.white.confirmed, ap (λ (g : GameRecord). length (script g)) h.game_is)
 
@@ -186,8 +198,15 @@ module _ {B W : Type 0} (mb : SidePolicies B) (mw : SidePolicies W) (law_b : All
     settling : Settling game world black_count white_count
     rest : Runs mb mw world later last
 
-  keeps : (v : World B W) (e : Event) (v2 : World B W) → Happens mb mw v e v2 → IsJoined v → IsJoined v2
+  keeps : (v : World B W) (e : Event) (v2 : World B W) → Happens mb mw v e v2 → IsJoined rules v → IsJoined rules v2
   keeps v e v2 h j = happens_keeps mb mw law_b law_w v e v2 h j
+
+  -- the game stays one under the ko rule of each side
+  still_games : (rules : Rules) (c c2 : Controller) → c2.game ≡ c.game
+      → ((side : Colour) → IsGame (ruled (rule_of rules side) c.game)) → (side : Colour)
+      → IsGame (ruled (rule_of rules side) c2.game)
+  still_games rules c c2 same games side =
+      let G : GameRecord → Type 0 = λ g. IsGame (ruled (rule_of rules side) g) in subst G (sym same) (games side)
 
   -- a round of Black
   black_round : (game : GameRecord) (k : Command) (v last : World B W) (n m : ℕ) (later : List Event)
@@ -199,7 +218,7 @@ module _ {B W : Type 0} (mb : SidePolicies B) (mw : SidePolicies W) (law_b : All
       let fewer : h.black.incarnation.confirmed < length (script c.game) =
       omega (arith, less, h.black.confirmed, ap (λ (g : GameRecord). length (script g)) h.game_is) in
       let is : next c ≡ Send Black =
-      sends_black c h.black.incarnation h.white.incarnation h.none h.black.is_up h.white.is_up
+      sends_black c h.black.incarnation h.white.incarnation h.none h.free h.black.is_up h.white.is_up
       h.black.idle h.white.idle fewer in
       let acts : Sends Black c v.black v1.controller v1.black × (v1.white ≡ v.white) =
       subst (λ (x : Action). Acts mb mw v x v1) is a in
@@ -208,14 +227,16 @@ module _ {B W : Type 0} (mb : SidePolicies B) (mw : SidePolicies W) (law_b : All
       let here : slice_get (script c.game) n ≡ Some k =
       ap (λ (g : GameRecord). slice_get (script g) n) h.game_is ∙ scripted in
       let done : RoundDone Black c v3.controller v3.black n =
-      round_done mb.may law_b Black c v.black
-      (bare v.white) n is h.inv h.none h.black k here v1.controller v1.black acts.0 v2.black b.0
+      round_done mb.may law_b rules Black c v.black
+      (bare v.white) n is h.inv (h.games Black) h.free h.none h.black k here v1.controller v1.black acts.0 v2.black b.0
       v3.controller v3.black hears in
       record {
         world = v3;
         settling = record {
           inv = keeps v2 (ToController Black 100) v3 d (keeps v1 (ToEngine Black 100) v2 b (keeps v Act v1 a h.inv));
           none = done.verdict;
+          free = done.pending;
+          games = λ side. still_games rules c v3.controller done.game h.games side;
           game_is = done.game ∙ h.game_is;
           black = done.ready;
           white =
@@ -239,7 +260,7 @@ module _ {B W : Type 0} (mb : SidePolicies B) (mw : SidePolicies W) (law_b : All
       let enough : length (script c.game) ≤ h.black.incarnation.confirmed =
       omega (arith, all, h.black.confirmed, size) in
       let is : next c ≡ Send White =
-      sends_white c h.black.incarnation h.white.incarnation h.none h.black.is_up h.white.is_up h.black.idle
+      sends_white c h.black.incarnation h.white.incarnation h.none h.free h.black.is_up h.white.is_up h.black.idle
       h.white.idle enough fewer in
       let acts : Sends White c v.white v1.controller v1.white × (v1.black ≡ v.black) =
       subst (λ (x : Action). Acts mb mw v x v1) is a in
@@ -247,17 +268,19 @@ module _ {B W : Type 0} (mb : SidePolicies B) (mw : SidePolicies W) (law_b : All
       subst (λ (x : Controller). SideHears White x v2.white 100 v3.controller v3.white) b.1 d.0 in
       let here : slice_get (script c.game) m ≡ Some k =
       ap (λ (g : GameRecord). slice_get (script g) m) h.game_is ∙ scripted in
-      let joint : AreJoined c White (bare v.white) (bare v.black) =
-      flipped c Black (bare v.black) (bare v.white) h.inv in
+      let joint : AreJoined rules c White (bare v.white) (bare v.black) =
+      flipped rules c Black (bare v.black) (bare v.white) h.inv in
       let done : RoundDone White c v3.controller v3.white m =
-      round_done mw.may law_w White c v.white
-      (bare v.black) m is joint h.none h.white k here v1.controller v1.white acts.0 v2.white b.0
+      round_done mw.may law_w rules White c v.white
+      (bare v.black) m is joint (h.games White) h.free h.none h.white k here v1.controller v1.white acts.0 v2.white b.0
       v3.controller v3.white hears in
       record {
         world = v3;
         settling = record {
           inv = keeps v2 (ToController White 100) v3 d (keeps v1 (ToEngine White 100) v2 b (keeps v Act v1 a h.inv));
           none = done.verdict;
+          free = done.pending;
+          games = λ side. still_games rules c v3.controller done.game h.games side;
           game_is = done.game ∙ h.game_is;
           black =
               stays_ready c.sides.black.up v3.controller.sides.black.up v.black v3.black n done.others
@@ -302,8 +325,9 @@ module _ {B W : Type 0} (mb : SidePolicies B) (mw : SidePolicies W) (law_b : All
   record BlackBegun (old : World B W) (later : List Event) (last : World B W) : Type 0 where
     world : World B W
     count : ℕ
-    inv : IsJoined world
+    inv : IsJoined rules world
     none : world.controller.verdict ≡ None
+    free : world.controller.pending ≡ None
     game_is : world.controller.game ≡ old.controller.game
     black : IsReady world.controller.sides.black.up world.black count
     left : drop count (script old.controller.game) ≡ script_left old.controller.game old.controller.sides.black.up
@@ -324,14 +348,19 @@ module _ {B W : Type 0} (mb : SidePolicies B) (mw : SidePolicies W) (law_b : All
       let number : u.confirmed ≡ u.confirmed + length u.unanswered =
       omega (arith, ap length idle) in ap (λ (n : ℕ). drop n (script game)) number
 
-  black_begins : (old last : World B W) (later : List Event) → IsJoined old → MaySettle old
+  -- nothing is to be taken back
+  free_of_all : (c : Controller) → c.verdict ≡ None → taking_back c ≡ None → c.pending ≡ None
+  free_of_all c none nothing = sym (ap (λ (v : Option Verdict). unless_over v c.pending) none) ∙ nothing
+
+  black_begins : (old last : World B W) (later : List Event) → IsJoined rules old → MaySettle rules old
       → Runs mb mw old (start_of old.controller.sides.black.up ++ later) last → BlackBegun old later last
   black_begins old last later j may runs = by_up old.controller.sides.black.up refl (may.idle Black) may.black runs
     where
       started_by : (v1 : World B W) → old.controller.sides.black.up ≡ None → Happens mb mw old Act v1
           → Runs mb mw v1 later last → BlackBegun old later last
       started_by v1 down a rest =
-          let is : next old.controller ≡ Start Black = starts_black old.controller may.verdict (may.idle White) down in
+          let is : next old.controller ≡ Start Black = starts_black old.controller may.verdict
+          (free_of_all old.controller may.verdict may.nothing) (may.idle White) down in
           let begun : Starts mb Black old.controller v1.controller v1.black × (v1.white ≡ old.white) =
           subst (λ (x : Action). Acts mb mw old x v1) is a in
           record {
@@ -339,9 +368,11 @@ module _ {B W : Type 0} (mb : SidePolicies B) (mw : SidePolicies W) (law_b : All
             count = 0;
             inv = keeps old Act v1 a j;
             none = ap (λ (d : Controller). d.verdict) begun.0.controller_is ∙ may.verdict;
+            free = ap (λ (d : Controller). d.pending) begun.0.controller_is
+                ∙ free_of_all old.controller may.verdict may.nothing;
             game_is = ap (λ (d : Controller). d.game) begun.0.controller_is;
             black =
-                new_ready v1.controller.sides.black.up v1.black (fresh begun.0.fresh_lane.policy)
+                new_ready v1.controller.sides.black.up v1.black (fresh_under mb.rule begun.0.fresh_lane.policy)
                 (ap (λ (d : Controller). d.sides.black.up) begun.0.controller_is)
                 (ap (λ (l : Lane B). l.engine) begun.0.fresh_lane.lane);
             left = sym (ap (script_left old.controller.game) down);
@@ -358,6 +389,7 @@ module _ {B W : Type 0} (mb : SidePolicies B) (mw : SidePolicies W) (law_b : All
         count = u.confirmed;
         inv = j;
         none = may.verdict;
+        free = free_of_all old.controller may.verdict may.nothing;
         game_is = refl;
         black = up_ready old.controller.sides.black.up u old.black is idle running;
         left = left_of old.controller.game u idle ∙ sym (ap (script_left old.controller.game) is);
@@ -382,7 +414,7 @@ module _ {B W : Type 0} (mb : SidePolicies B) (mw : SidePolicies W) (law_b : All
       BothBegun old.controller.game (script_left old.controller.game old.controller.sides.black.up)
       (script_left old.controller.game old.controller.sides.white.up) later last
 
-  white_begins : (old last : World B W) (later : List Event) → MaySettle old
+  white_begins : (old last : World B W) (later : List Event) → MaySettle rules old
       → BlackBegun old (start_of old.controller.sides.white.up ++ later) last → Begun old later last
   white_begins old last later may h = by_up old.controller.sides.white.up refl (may.idle White) may.white h.rest
     where
@@ -391,7 +423,7 @@ module _ {B W : Type 0} (mb : SidePolicies B) (mw : SidePolicies W) (law_b : All
       started_by v1 down a rest =
           let c = h.world.controller in
           let is : next c ≡ Start White =
-          starts_white c h.black.incarnation h.none h.black.is_up h.black.idle (h.others ∙ down) in
+          starts_white c h.black.incarnation h.none h.free h.black.is_up h.black.idle (h.others ∙ down) in
           let begun : Starts mw White c v1.controller v1.white × (v1.black ≡ h.world.black) =
           subst (λ (x : Action). Acts mb mw h.world x v1) is a in
           record {
@@ -401,12 +433,15 @@ module _ {B W : Type 0} (mb : SidePolicies B) (mw : SidePolicies W) (law_b : All
             settling = record {
               inv = keeps h.world Act v1 a h.inv;
               none = ap (λ (d : Controller). d.verdict) begun.0.controller_is ∙ h.none;
+              free = ap (λ (d : Controller). d.pending) begun.0.controller_is ∙ h.free;
+              games = still_games rules old.controller v1.controller
+                  (ap (λ (d : Controller). d.game) begun.0.controller_is ∙ h.game_is) may.games;
               game_is = ap (λ (d : Controller). d.game) begun.0.controller_is ∙ h.game_is;
               black =
                   stays_ready c.sides.black.up v1.controller.sides.black.up h.world.black v1.black h.count
                   (ap (λ (d : Controller). d.sides.black.up) begun.0.controller_is) begun.1 h.black;
               white =
-                  new_ready v1.controller.sides.white.up v1.white (fresh begun.0.fresh_lane.policy)
+                  new_ready v1.controller.sides.white.up v1.white (fresh_under mw.rule begun.0.fresh_lane.policy)
                   (ap (λ (d : Controller). d.sides.white.up) begun.0.controller_is)
                   (ap (λ (l : Lane W). l.engine) begun.0.fresh_lane.lane);
             };
@@ -425,6 +460,8 @@ module _ {B W : Type 0} (mb : SidePolicies B) (mw : SidePolicies W) (law_b : All
         settling = record {
           inv = h.inv;
           none = h.none;
+          free = h.free;
+          games = still_games rules old.controller h.world.controller h.game_is may.games;
           game_is = h.game_is;
           black = h.black;
           white =
@@ -475,7 +512,8 @@ module _ {B W : Type 0} (mb : SidePolicies B) (mw : SidePolicies W) (law_b : All
       let game = old.controller.game in
       let black_left = script_left game old.controller.sides.black.up in
       let white_left = script_left game old.controller.sides.white.up in
-      let j : IsJoined old = runs_keep mb mw law_b law_w (opening setup) events old reached (opening_has setup is) in
+      let j : IsJoined rules old =
+      runs_keep mb mw law_b law_w (opening setup) events old reached (opening_has rules setup is) in
       let one =
       black_begins old last (start_of old.controller.sides.white.up ++
       (rounds Black black_left ++ rounds White white_left)) j may runs in

@@ -27,7 +27,8 @@ use Rattle.gtp_world.specs.Lane.{Lane, SidePolicies, ReadsWhereRunning, LaneRead
 use Rattle.gtp_world.specs.World.{World, opening, lane_where_up, HearsWhereUp, SideHears, Acts, BreaksOff, SideIsLost}
 use Rattle.gtp_world.specs.World.{LosesWhereUp}
 use Rattle.gtp_world.specs.Worlds.{game_in}
-use Rattle.gtp_world.specs.Joined.{BareLane, bare, body_of, bare_empty, IsJoinedSide, IsJoined}
+use Rattle.gtp_world.specs.Joined.{Rules, ruled, BareLane, bare, body_of, bare_empty, IsJoinedSide, IsJoined}
+use Rattle.gtp_world.specs.Laws.{rules_of}
 use Rattle.gtp_world.specs.EventLaws.{IsDown, HasNothing, SameLane, IsCrashed, side_of_action, EndsPutDown}
 use Rattle.gtp_world.specs.EventLaws.{BrokenWritesPutDown, BrokenWritesAreAlike, DownHasNothing, CrashesStopAndCut}
 use Rattle.gtp_world.specs.EventLaws.{CrashesNeedAnEngine, OthersStay, ReadingsTakeTheirCount, HearingsTakeTheirCount}
@@ -211,18 +212,20 @@ module _ {B W : Type 0} (mb : SidePolicies B) (mw : SidePolicies W) where
   pub broken_writes_are_alike : BrokenWritesAreAlike mb mw
   broken_writes_are_alike one two old first second p q = breaks_alike (next old.controller) old first second p q
 
-  joined_has_nothing : (v : World B W) (s : Colour) → IsJoined v → IsDown v s → HasNothing v s
-  joined_has_nothing v Black j down =
+  joined_has_nothing : (rules : Rules) (v : World B W) (s : Colour) → IsJoined rules v → IsDown v s → HasNothing v s
+  joined_has_nothing rules v Black j down =
       let e : bare v.black ≡ bare_empty =
-      bare_nothing v.controller.game v.controller.verdict v.controller.sides.black.up (bare v.black) down j.mine in
+      bare_nothing (ruled rules.black v.controller.game) v.controller.verdict v.controller.sides.black.up
+      (bare v.black) down j.mine.joined in
       record {
         engine = no_game v.black.engine (ap (λ (l : BareLane). l.engine) e);
         to_engine = ap (λ (l : BareLane). l.to_engine) e;
         to_controller = ap (λ (l : BareLane). l.to_controller) e;
       }
-  joined_has_nothing v White j down =
+  joined_has_nothing rules v White j down =
       let e : bare v.white ≡ bare_empty =
-      bare_nothing v.controller.game v.controller.verdict v.controller.sides.white.up (bare v.white) down j.theirs in
+      bare_nothing (ruled rules.white v.controller.game) v.controller.verdict v.controller.sides.white.up
+      (bare v.white) down j.theirs.joined in
       record {
         engine = no_game v.white.engine (ap (λ (l : BareLane). l.engine) e);
         to_engine = ap (λ (l : BareLane). l.to_engine) e;
@@ -231,8 +234,9 @@ module _ {B W : Type 0} (mb : SidePolicies B) (mw : SidePolicies W) where
 
   pub down_has_nothing : AllowsLawful mb.may → AllowsLawful mw.may → DownHasNothing mb mw
   down_has_nothing law_b law_w setup events v s is runs down =
-      let j : IsJoined v = runs_keep mb mw law_b law_w (opening setup) events v runs (opening_has setup is) in
-      joined_has_nothing v s j down
+      let j : IsJoined (rules_of mb mw) v =
+      runs_keep mb mw law_b law_w (opening setup) events v runs (opening_has (rules_of mb mw) setup is) in
+      joined_has_nothing (rules_of mb mw) v s j down
 
   pub crashes_stop_and_cut : CrashesStopAndCut mb mw
   crashes_stop_and_cut Black k old new game is h =

@@ -1,18 +1,30 @@
 -- A reply that the controller hears keeps what joins it to the engines.
-use Rattle.std.proofs.Common.{◌≡◌, ℕ, ◌+◌, ◌≤◌, Bool, true, false, List, [], ◌∷◌, ◌++◌, length, drop, Option, Some}
+use Rattle.std.proofs.Common.{◌≡◌, ◌≢◌, ℕ, ◌+◌, ◌-◌, ◌<◌, ◌≤◌, Bool, true, false, List, [], ◌∷◌, ◌++◌, length, take, drop, slice_get, Option, Some}
 use Rattle.std.proofs.Common.{None, Result, Ok, Err, refl, ap, sym, ◌∙◌, subst, arith, append_assoc, length-append, inl}
 use Rattle.std.proofs.Common.{inr, add-one, cond}
-use Rattle.std.specs.Prelude.{◌⊎◌, ◌==◌, IfSome}
+use Rattle.std.specs.Prelude.{◌⊎◌, ◌==◌, ◌&&◌, nat_lt, IfSome}
+use Rattle.std.proofs.lemmas.Option.{slice_get_within}
 use Rattle.std.specs.List.{AllByRecursion}
 use Rattle.std.proofs.lemmas.Bool.Decides.{nat_tests}
 use Rattle.go_base.specs.Colour.{other}
 use Rattle.go_base.specs.Size.{most_size}
 use Rattle.go_base.specs.declared.colours.Colour.{Colour}
+use Rattle.go_base.specs.declared.colours.Colour.TheVariants.{Black, White}
+use Rattle.go_base.specs.declared.moves.Move.{Move}
+use Rattle.go_base.specs.Vertex.{IsVertex}
 use Rattle.go_base.specs.declared.vertices.Vertex.{Vertex}
-use Rattle.go_board.specs.Game.{GameRecord, HasRoom, IsGame, with_move}
+use Rattle.go_base.specs.declared.vertices.Vertex.TheVariants.{Pass, At}
+use Rattle.go_board.specs.Game.{GameRecord, HasRoom, IsGame, IsLegal, with_move, without_last, first_moves, board_of}
+use Rattle.go_board.specs.Game.{RepeatsLast, RepeatsBy}
+use Rattle.go_board.specs.Put.{put}
+use Rattle.go_board.specs.Taken.{same_colour}
+use Rattle.go_board.specs.declared.board.Cell.{Cell}
+use Rattle.go_board.specs.declared.rules.KoRule.{KoRule}
+use Rattle.go_board.specs.declared.rules.KoRule.TheVariants.{Simple, Positional}
+use Rattle.go_board.proofs.GameLemmas.{IsGame-with_move}
 use Rattle.go_board.specs.Area.{score}
 use Rattle.gtp_wire.specs.declared.commands.Command.{Command}
-use Rattle.gtp_wire.specs.declared.commands.Command.TheVariants.{Genmove}
+use Rattle.gtp_wire.specs.declared.commands.Command.TheVariants.{Genmove, Play, Undo}
 use Rattle.gtp_wire.specs.declared.replies.Reply.{Reply}
 use Rattle.gtp_wire.specs.declared.replies.ReplyFault.{ReplyFault}
 use Rattle.gtp_wire.specs.Replies.{IsFirst, TellsNothing}
@@ -26,40 +38,49 @@ use Rattle.gtp_match.specs.declared.unanswered.SentCommand.{SentCommand}
 use Rattle.gtp_match.specs.declared.sides.Incarnation.{Incarnation}
 use Rattle.gtp_match.specs.declared.sides.Sides.{Sides}
 use Rattle.gtp_match.specs.declared.table.Outcome.{Outcome}
-use Rattle.gtp_match.specs.declared.table.Outcome.TheVariants.{Down, Confirms, Resigns, Moves}
+use Rattle.gtp_match.specs.declared.table.Outcome.TheVariants.{Down, Confirms, Resigns, Moves, Refuses, TakesBack}
 use Rattle.gtp_match.specs.declared.verdicts.SideFault.{SideFault}
 use Rattle.gtp_match.specs.declared.verdicts.SideFault.TheVariants.{WrongId}
 use Rattle.gtp_match.specs.declared.verdicts.Verdict.{Verdict}
-use Rattle.gtp_match.specs.declared.verdicts.Verdict.TheVariants.{Score, Resign, Limit}
+use Rattle.gtp_match.specs.declared.verdicts.Verdict.TheVariants.{Score, Resign, Limit, Forfeit}
+use Rattle.gtp_match.specs.declared.verdicts.ForfeitCause.TheVariants.{RefusedPlay}
 use Rattle.gtp_match.specs.declared.controller.Controller.{Controller}
 use Rattle.gtp_match.specs.Unanswered.{oldest}
 use Rattle.gtp_match.specs.Script.{script}
-use Rattle.gtp_match.specs.Sides.{side_of, with_side, with_engine, heard_reply, confirmed, answered}
-use Rattle.gtp_match.specs.Controller.{with_side_up}
-use Rattle.gtp_match.specs.ReplyTable.{outcome, outcome_of, has_id, after_outcome, fault_of, verdict_after}
+use Rattle.gtp_match.specs.Sides.{side_of, with_side, with_engine, heard_reply, confirmed, answered, taken_back}
+use Rattle.gtp_match.specs.Controller.{with_side_up, to_move}
+use Rattle.gtp_match.specs.Retakes.{most_retakes, retakes_of, with_retake}
+use Rattle.gtp_match.specs.Taking.{last_move, is_by, moved_last, has_all, owes_last, may_retake}
+use Rattle.gtp_match.specs.ReplyTable.{outcome, outcome_of, has_id, after_outcome, fault_of, verdict_after, ended}
+use Rattle.gtp_match.specs.ReplyTable.{refused, retaken_at}
 use Rattle.gtp_match.specs.Hearing.{ReadsAlike, MayKeep, HearsUp, HearsWhere, Hears, HearsAllBy, HearsAll}
 use Rattle.go_base.specs.Decide.{holds}
-use Rattle.go_board.specs.decisions.Game.{finished?}
+use Rattle.go_board.specs.decisions.Game.{finished?, legal?}
 use Rattle.gtp_match.specs.Setup.{SetupRecord}
-use Rattle.gtp_match.specs.Sound.{VerdictFits, InScript, IsAsked, IsSoundEngine, IsIdle, IsSound}
+use Rattle.gtp_match.specs.Sound.{VerdictFits, InScript, IsAsked, AreUndo, HasPlan, LacksLast, IsUndo, IsSoundEngine, IsIdle, IsSound}
+use Rattle.gtp_match.specs.Sound.{all_retakes}
 use Rattle.gtp_match.specs.Unanswered.{most_unanswered}
 use Rattle.gtp_match.proofs.ScriptLemmas.{script_longer}
-use Rattle.gtp_match.proofs.SoundLemmas.{my_engine, their_side, one_idle, idle_plan, nothing_told}
+use Rattle.gtp_match.proofs.SoundLemmas.{changed, my_engine, their_side, one_idle, idle_plan, nothing_told, taken_at, nothing_pending}
+use Rattle.gtp_match.proofs.ShorterLemmas.{shorter_length, script_shorter, turn_after}
+use Rattle.gtp_match.proofs.TurnLemmas.{has_stones}
 use Rattle.gtp_match.proofs.ReplySound.{reply_sound}
 use Rattle.gtp_match.proofs.HeardSound.{quiet_sound}
-use Rattle.gtp_session.proofs.CommandLemmas.{well_answer, genmove_answer, genmove_asks}
+use Rattle.gtp_session.proofs.CommandLemmas.{well_answer, genmove_answer, genmove_asks, play_refused, undo_answer, vertex_of_legal}
 use Rattle.gtp_world.proofs.OrderAnswers.{succeeds_with}
 use Rattle.gtp_world.proofs.ReplyReads.{well_heard, choice_heard, outcome_of_choice}
-use Rattle.gtp_world.proofs.Replay.{GoesWellOn, well_at, after_one_more, script_well, replayed_all, replayed_longer}
+use Rattle.gtp_world.proofs.Replay.{GoesWellOn, after_one_more, replayed_all, replayed_longer, replayed_shorter, with_moves}
+use Rattle.gtp_world.proofs.Replay.{get_after, EndsWith, ends_with, some_or_none, Place, place}
 use Rattle.gtp_world.proofs.Exchange.{owes_replies}
-use Rattle.gtp_world.proofs.Invariant.{joint_put}
-use Rattle.gtp_world.proofs.Sides.{live_any, judged_any, alike, Brings, arrives, quiet_or_first}
+use Rattle.gtp_world.proofs.Invariant.{IsPut, joint_put, simple_game, playable_shorter}
+use Rattle.gtp_world.proofs.Sides.{live_any, live_at, judged_any, alike, Brings, arrives, quiet_or_first}
 use Rattle.gtp_world.specs.Exchange.{CanBeWritten, Answered, reply_with_id, reply_bytes, replayed, Owes, AllMayBeSent}
 use Rattle.gtp_world.specs.Exchange.{all_reply_bytes}
 use Rattle.gtp_session.specs.CommandAnswers.{after_command, GoesWell}
-use Rattle.gtp_world.specs.Joined.{EngineBody, BareLane, WillReadWhereRunning, CutByCrash, IsJoinedInPlay}
+use Rattle.gtp_world.specs.Joined.{Rules, rule_of, ruled, IsPlayable, IsRefusal, EngineBody, BareLane}
+use Rattle.gtp_world.specs.Joined.{WillReadWhereRunning, CutByCrash, IsJoinedInPlay}
 use Rattle.gtp_world.specs.Joined.{IsJoinedAtEnd, IsJoinedSide, IsFair, AreJoined, bare_empty}
-use Rattle.std.proofs.Math.Seq.{drop-length}
+use Rattle.std.proofs.Math.Seq.{drop-length, take-append_seam}
 
 -- ---- what is kept reads alike
 
@@ -134,64 +155,193 @@ pub scripted_game : (o : SentCommand) (r : Reply) (g g1 : GameRecord) → Answer
     → g1 ≡ after_command g o.command
 scripted_game o r g g1 a well = a.game ∙ ap (λ (x : Answer). x.game) (well_answer g (Some o.id) o.command a.choice well)
 
--- what was chosen, and how it is heard
-record Chose (game : GameRecord) (s : Colour) (o : SentCommand) (r : Reply) (g1 : GameRecord) : Type 0 where
-  choice : Choice
-  lawful : IsLawful game s choice
-  heard : outcome game s (Some o) r ≡ outcome_of_choice choice
-  game_is : g1 ≡ (answer_choice game s choice).game
+-- what is legal under any ko rule is legal under simple ko
+simple_repeats : (rule : KoRule) (game : GameRecord) (board : List Cell) → RepeatsLast game board
+    → RepeatsBy rule (ruled rule game) board
+simple_repeats Simple game board h = record { moved = h.moved; same = h.same }
+simple_repeats Positional game board h =
+    record { number = length game.moves - 1; within = omega arith; same = h.same }
 
-chose : (game : GameRecord) (s : Colour) (id : ℕ) (r : Reply) (g1 : GameRecord) → HasRoom game → game.size ≤ most_size
-    → Answered game (record { id = id; command = Genmove s }) r g1
-    → Chose game s (record { id = id; command = Genmove s }) r g1
-chose game s id r g1 room most a =
-    let lawful : IsLawful game s a.choice =
-    subst (λ (x : Option Colour). IfSome x (λ d. IsLawful game d a.choice))
-    (genmove_asks game (Some id) s room) a.lawful in
-    let given = genmove_answer game (Some id) s a.choice room in
+legal_simply : (rule : KoRule) (game : GameRecord) (s : Colour) (v : Vertex) → game.rule ≡ Simple
+    → IsLegal (ruled rule game) s v → IsLegal game s v
+legal_simply rule game s Pass is legal = tt
+legal_simply rule game s (At p) is legal = record {
+  on_board = legal.on_board;
+  empty = legal.empty;
+  free = legal.free;
+  no_ko = λ repeats.
+      let last : RepeatsBy Simple game (put (board_of game) s p) =
+      subst (λ (k : KoRule). RepeatsBy k game (put (board_of game) s p)) is repeats in
+      legal.no_ko (simple_repeats rule game (put (board_of game) s p) last);
+}
+
+lawful_simply : (rule : KoRule) (game : GameRecord) (s : Colour) (ch : Choice) → game.rule ≡ Simple
+    → IsLawful (ruled rule game) s ch → IsLawful game s ch
+lawful_simply rule game s choice.Resign is lawful = lawful
+lawful_simply rule game s (choice.Play v) is lawful = legal_simply rule game s v is lawful
+
+simple_rule : (c : Controller) → IsSound c → c.game.rule ≡ Simple
+simple_rule c h = ap (λ (x : GameRecord). x.rule) h.game_is
+
+-- the reply to a choice is that of any game
+same_answer : (game other_game : GameRecord) (s : Colour) (id : ℕ) (ch : Choice)
+    → outcome_of game s (Genmove s) (reply_with_id id (answer_choice other_game s ch))
+    ≡ outcome_of game s (Genmove s) (reply_with_id id (answer_choice game s ch))
+same_answer game other_game s id choice.Resign = refl
+same_answer game other_game s id (choice.Play v) = refl
+
+-- a game's last move, under any rule
+simple_ends : {rule : KoRule} (game : GameRecord) → (e : EndsWith (ruled rule game))
+    → game ≡ with_move (without_last game) e.move.colour e.move.vertex
+simple_ends game e =
+    let moves_are = ap (λ (x : GameRecord). x.moves) e.game_is in ap (with_moves game) moves_are
+
+-- what was chosen under the side's ko rule, and how it is heard
+record Chose (rule : KoRule) (game : GameRecord) (s : Colour) (o : SentCommand) (r : Reply) (g1 : GameRecord)
+    : Type 0 where
+  choice : Choice
+  lawful : IsLawful (ruled rule game) s choice
+  heard : outcome game s (Some o) r ≡ outcome_of_choice choice
+  game_is : g1 ≡ (answer_choice (ruled rule game) s choice).game
+
+chose : (rule : KoRule) (game : GameRecord) (s : Colour) (id : ℕ) (r : Reply) (g1 : GameRecord)
+    → game.rule ≡ Simple → HasRoom (ruled rule game) → game.size ≤ most_size
+    → Answered (ruled rule game) (record { id = id; command = Genmove s }) r g1
+    → Chose rule game s (record { id = id; command = Genmove s }) r g1
+chose rule game s id r g1 simple room most a =
+    let lawful : IsLawful (ruled rule game) s a.choice =
+    subst (λ (x : Option Colour). IfSome x (λ d. IsLawful (ruled rule game) d a.choice))
+    (genmove_asks (ruled rule game) (Some id) s room) a.lawful in
+    let given = genmove_answer (ruled rule game) (Some id) s a.choice room in
     record {
       choice = a.choice;
       lawful = lawful;
       heard =
           ap (outcome game s (Some (record { id = id; command = Genmove s }))) (a.reply ∙ ap (reply_with_id id) given)
-          ∙ own_id id (outcome_of game s (Genmove s) (reply_with_id id (answer_choice game s a.choice))) (Down WrongId)
-          ∙ choice_heard game s s id a.choice most lawful;
+          ∙ own_id id (outcome_of game s (Genmove s) (reply_with_id id (answer_choice (ruled rule game) s a.choice)))
+          (Down WrongId)
+          ∙ same_answer game (ruled rule game) s id a.choice
+          ∙ choice_heard game s s id a.choice most (lawful_simply rule game s a.choice simple lawful);
       game_is = a.game ∙ ap (λ (x : Answer). x.game) given;
     }
 
--- ---- the record grows: a side with nothing unanswered has_script_left the new command
+-- ---- the games of a longer and a shorter record
 
-theirs_moved : (c : Controller) (s : Colour) (mover : Colour) (v : Vertex) (verdict : Option Verdict)
+-- the game with a move more, without it
+without_with : (game : GameRecord) (c : Colour) (v : Vertex) → without_last (with_move game c v) ≡ game
+without_with game c v =
+    let m : Move = record { colour = c; vertex = v } in
+    let n : length (game.moves ++ m ∷ []) - 1 ≡ length game.moves = omega (arith, length-append game.moves (m ∷ [])) in
+    ap (with_moves game) (ap (λ k. take k (game.moves ++ m ∷ [])) n ∙ take-append_seam game.moves (m ∷ []))
+
+same_self : (c : Colour) → same_colour c c ≡ true
+same_self Black = refl
+same_self White = refl
+
+not_other : (c : Colour) → same_colour c (other c) ≡ false
+not_other Black = refl
+not_other White = refl
+
+this_or_other : (c s : Colour) → (c ≡ s) ⊎ (c ≡ other s)
+this_or_other Black Black = inl refl
+this_or_other Black White = inr refl
+this_or_other White Black = inr refl
+this_or_other White White = inl refl
+
+other_back : (c s : Colour) → s ≡ other c → c ≡ other s
+other_back Black White e = refl
+other_back White Black e = refl
+other_back Black Black e = absurd (cc e)
+other_back White White e = absurd (cc e)
+
+-- who made the last move
+made_by : (game : GameRecord) (e : EndsWith game) (c : Colour) → e.move.colour ≡ c → moved_last game c ≡ true
+made_by game e c is =
+    ap (λ (m : Option Move). is_by m c) e.there ∙ ap (λ (x : Colour). same_colour x c) is ∙ same_self c
+
+-- the move that was added is the side's, and not the other's
+added_by : (game : GameRecord) (s : Colour) (v : Vertex) (c : Colour)
+    → moved_last (with_move game s v) c ≡ same_colour s c
+added_by game s v c =
+    let m : Move = record { colour = s; vertex = v } in
+    let n : length (game.moves ++ m ∷ []) - 1 ≡ length game.moves = omega (arith, length-append game.moves (m ∷ [])) in
+    ap (λ (o : Option Move). is_by o c)
+    (ap (slice_get (game.moves ++ m ∷ [])) n ∙ get_after game.moves [] m)
+
+-- a side has confirmed the whole script where the numbers are equal
+has_all_is : (n m : ℕ) → (n == m) ≡ true → n ≡ m
+has_all_is n m e = grind (arith, nat_tests)
+
+has_all_if : (n m : ℕ) → n ≡ m → (n == m) ≡ true
+has_all_if n m e = grind (arith, nat_tests)
+
+-- ---- the other side, where the record grows or is cut
+
+-- an idle side where the record grows: it has left the new command
+theirs_moved : (rule : KoRule) (c : Controller) (s : Colour) (mover : Colour) (v : Vertex) (verdict : Option Verdict)
     (up : Option Incarnation) (l : BareLane)
     → c.verdict ≡ None → IfSome up (IsSoundEngine c s)
-    → IsJoinedSide c.game None up l → IsIdle up → IsJoinedSide (with_move c.game mover v) verdict up l
-theirs_moved c s mover v verdict None l none sound h idle = h
-theirs_moved c s mover v verdict (Some u) l none sound h idle =
-    let within : u.confirmed ≤ length (script c.game) = idle_plan c.game s u (sound.under_way none) idle in
-    let same : replayed (with_move c.game mover v) u.confirmed ≡ replayed c.game u.confirmed =
-    replayed_longer c.game mover v u.confirmed within in
-    live_any (with_move c.game mover v) verdict u l (record {
-      few = h.few;
-      replies = h.replies;
-      waiting = h.waiting;
-      ahead = h.ahead;
-      owes = subst (λ (g : GameRecord). Owes g u.unanswered h.replies h.waiting h.ahead) (sym same) h.owes;
-      fit = h.fit;
-      may = h.may;
-      begun = h.begun;
-      cut = h.cut;
-      begun_quiet = h.begun_quiet;
-      kept = h.kept;
-      arriving = h.arriving;
-      runs = h.runs;
-      uncut = h.uncut;
-    })
+    → IsJoinedSide (ruled rule c.game) None up l → IsIdle up
+    → IsJoinedSide (ruled rule (with_move c.game mover v)) verdict up l
+theirs_moved rule c s mover v None None l none sound h idle = h
+theirs_moved rule c s mover v (Some w) None l none sound h idle = h
+theirs_moved rule c s mover v verdict (Some u) l none sound h idle =
+    let within : u.confirmed ≤ length (script c.game) =
+    idle_plan c.game c.pending (all_retakes c) s u (sound.under_way none) idle in
+    live_any (ruled rule (with_move c.game mover v)) verdict u l
+    (live_at (ruled rule c.game) (ruled rule (with_move c.game mover v)) u l
+    (replayed_longer (ruled rule c.game) mover v u.confirmed within) h)
 
-fair_ended : (setup : SetupRecord) (game : GameRecord) (sides : Sides) (most : ℕ)
-    → IsFair most sides (verdict_after setup game)
-fair_ended setup game sides most = go (holds (finished? game)) (length game.moves == setup.max_moves)
+-- a side that lacks the last command of the script where the last move leaves the record
+pub theirs_shorter : (rule : KoRule) (game : GameRecord) (verdict : Option Verdict) (up : Option Incarnation)
+    (l : BareLane) → IsJoinedSide (ruled rule game) None up l
+    → IfSome up (λ u. u.confirmed ≤ length (script (without_last game)))
+    → IsJoinedSide (ruled rule (without_last game)) verdict up l
+theirs_shorter rule game None None l h lacks = h
+theirs_shorter rule game (Some w) None l h lacks = h
+theirs_shorter rule game verdict (Some u) l h lacks =
+    live_any (ruled rule (without_last game)) verdict u l
+    (live_at (ruled rule game) (ruled rule (without_last game)) u l
+    (sym (replayed_shorter (ruled rule game) u.confirmed lacks)) h)
+
+-- what the other side can replay of the longer record: the whole of the shorter one, of which it made the last move
+theirs_longer : (rule : KoRule) (c : Controller) (s : Colour) (v : Vertex) (up : Option Incarnation)
+    → IsSound c → to_move c.game ≡ s → IfSome up (λ u. u.confirmed ≤ length (script c.game))
+    → IsPlayable rule c.game (other s) up → IsPlayable rule (with_move c.game s v) (other s) up
+theirs_longer rule c s v up sound turn within p = record {
+  earlier = subst IsGame (sym (without_with (ruled rule c.game) s v)) (whole (some_or_none c.game));
+  last = λ h. elim h [ inl made ↦ absurd (not_made made) | inr all ↦ absurd (not_all up within all) ];
+}
   where
-    go : (a b : Bool) → IsFair most sides (cond a (Some (Score (score game))) (cond b (Some Limit) None))
+    whole : (0 < length c.game.moves) ⊎ (without_last c.game ≡ c.game) → IsGame (ruled rule c.game)
+    whole (inr same) = subst (λ (g : GameRecord). IsGame (ruled rule g)) same p.earlier
+    whole (inl some) =
+        let e = ends_with c.game some in
+        let own : moved_last c.game e.move.colour ≡ true = made_by c.game e e.move.colour refl in
+        let next : to_move c.game ≡ other e.move.colour =
+        (turn_after c.game e.move.colour (has_stones c.game sound.game) sound.turns own).1 in
+        p.last (inl (made_by c.game e (other s) (other_back e.move.colour s (sym turn ∙ next))))
+
+    not_made : moved_last (with_move c.game s v) (other s) ≡ true → ⊥
+    not_made made =
+        let bad : true ≡ false = sym made ∙ added_by c.game s v (other s) ∙ not_other s in cc bad
+
+    not_all : (u : Option Incarnation) → IfSome u (λ x. x.confirmed ≤ length (script c.game))
+        → has_all (with_move c.game s v) u ≡ true → ⊥
+    not_all None w all = cc all
+    not_all (Some x) w all =
+        omega (
+          arith,
+          has_all_is x.confirmed (length (script (with_move c.game s v))) all,
+          script_longer c.game s v,
+          w,
+        )
+
+fair_ended : (rules : Rules) (c : Controller) (setup : SetupRecord) (game : GameRecord)
+    → IsFair rules c (verdict_after setup game)
+fair_ended rules c setup game = go (holds (finished? game)) (length game.moves == setup.max_moves)
+  where
+    go : (a b : Bool) → IsFair rules c (cond a (Some (Score (score game))) (cond b (Some Limit) None))
     go true b = tt
     go false true = tt
     go false false = tt
@@ -199,8 +349,8 @@ fair_ended setup game sides most = go (holds (finished? game)) (length game.move
 -- ---- a whole reply that the side owes
 
 -- what hearing it leaves
-abbrev Replied : Controller → Colour → Incarnation → BareLane → BareLane → Outcome → Type 0
-Replied c s u l lo o = (fault_of o ≡ None) × AreJoined (after_outcome c s (heard_reply u) o) s l lo
+abbrev Replied : Rules → Controller → Colour → Incarnation → BareLane → BareLane → Outcome → Type 0
+Replied rules c s u l lo o = (fault_of o ≡ None) × AreJoined rules (after_outcome c s (heard_reply u) o) s l lo
 
 -- what is left of a side once its oldest order is answered
 record Left (game : GameRecord) (n : ℕ) (us : List SentCommand) (e : Option EngineBody) (te tc : List ℕ) : Type 0 where
@@ -223,12 +373,47 @@ left_live : (game : GameRecord) (n sent : ℕ) (us : List SentCommand) (e : Opti
 left_live game n sent us e te tc h =
     next_live game n sent us h.more h.waiting h.ahead e te tc h.cut h.few h.owes h.fit h.may h.arriving h.runs h.uncut
 
-module _ (c : Controller) (s : Colour) (u : Incarnation) (e : Option EngineBody) (te tc : List ℕ) (lo : BareLane)
-    (sound : IsSound c) (none : c.verdict ≡ None)
+-- a refusal is heard as one
+refused_heard : (game : GameRecord) (s : Colour) (id : ℕ) (move : Move) (r : Reply) (g g1 : GameRecord)
+    → Answered g (record { id = id; command = Play move }) r g1 → HasRoom g → IsVertex move.vertex
+    → ¬ IsLegal g move.colour move.vertex
+    → (outcome game s (Some (record { id = id; command = Play move })) r ≡ Refuses) × (g1 ≡ g)
+refused_heard game s id move r g g1 a room is_vertex un =
+    let given = play_refused g (Some id) move a.choice room is_vertex un in (
+      ap (outcome game s (Some (record { id = id; command = Play move }))) (a.reply ∙ ap (reply_with_id id) given)
+          ∙ own_id id Refuses (Down WrongId),
+      a.game ∙ ap (λ (x : Answer). x.game) given,
+    )
+
+-- an undo is heard as one
+undone_heard : (game : GameRecord) (s : Colour) (id : ℕ) (r : Reply) (g g1 : GameRecord)
+    → Answered g (record { id = id; command = Undo }) r g1 → 0 < length g.moves
+    → (outcome game s (Some (record { id = id; command = Undo })) r ≡ TakesBack) × (g1 ≡ without_last g)
+undone_heard game s id r g g1 a some =
+    let given = undo_answer g (Some id) a.choice some in (
+      ap (outcome game s (Some (record { id = id; command = Undo }))) (a.reply ∙ ap (reply_with_id id) given)
+          ∙ own_id id TakesBack (Down WrongId),
+      a.game ∙ ap (λ (x : Answer). x.game) given,
+    )
+
+module _ (rules : Rules) (c : Controller) (s : Colour) (u : Incarnation) (e : Option EngineBody) (te tc : List ℕ)
+    (lo : BareLane) (sound : IsSound c) (none : c.verdict ≡ None)
     (up : (side_of c.sides s).up ≡ Some u) (idle : IsIdle (side_of c.sides (other s)).up)
-    (theirs : IsJoinedSide c.game None (side_of c.sides (other s)).up lo) where
+    (playable : IsPlayable (rule_of rules s) c.game s (Some u))
+    (theirs : IsJoinedSide (ruled (rule_of rules (other s)) c.game) None (side_of c.sides (other s)).up lo)
+    (their_playable : IsPlayable (rule_of rules (other s)) c.game (other s) (side_of c.sides (other s)).up) where
   abbrev here : BareLane
   here = record { engine = e; to_engine = te; to_controller = tc }
+
+  abbrev rule : KoRule
+  rule = rule_of rules s
+
+  abbrev their_rule : KoRule
+  their_rule = rule_of rules (other s)
+
+  -- the game as the side's engine has it
+  abbrev g : GameRecord
+  g = ruled rule c.game
 
   -- the outcome's controller is sound
   outcome_sound : (r : Reply) (o : Outcome) → outcome c.game s (oldest u.unanswered) r ≡ o
@@ -236,76 +421,324 @@ module _ (c : Controller) (s : Colour) (u : Incarnation) (e : Option EngineBody)
   outcome_sound r o is =
       subst (λ (x : Outcome). IsSound (after_outcome c s (heard_reply u) x)) is (reply_sound c s u r sound none up)
 
+  -- the other side stays, whatever verdict comes
+  abbrev TheirsAt : Option Verdict → Type 0
+  TheirsAt v = IsPut their_rule c.game v (other s) (side_of c.sides (other s)).up lo
+
+  theirs_at : (v : Option Verdict) → TheirsAt v
+  theirs_at v = record {
+    joined = judged_any (ruled their_rule c.game) v (side_of c.sides (other s)).up lo theirs;
+    playable = their_playable;
+  }
+
+  -- an idle side that is up confirmed no more than the script has
+  theirs_within : IfSome (side_of c.sides (other s)).up (λ x. x.confirmed ≤ length (script c.game))
+  theirs_within = by_up (side_of c.sides (other s)).up (their_side c s sound).engine idle
+    where
+      by_up : (x : Option Incarnation) → IfSome x (IsSoundEngine c (other s)) → IsIdle x
+          → IfSome x (λ y. y.confirmed ≤ length (script c.game))
+      by_up None engine free = tt
+      by_up (Some y) engine free =
+          idle_plan c.game c.pending (all_retakes c) (other s) y (engine.under_way none) free
+
   confirms : (r : Reply) → outcome c.game s (oldest u.unanswered) r ≡ Confirms
-      → Left c.game (u.confirmed + 1) (drop 1 u.unanswered) e te tc
-      → Replied c s u here lo (outcome c.game s (oldest u.unanswered) r)
-  confirms r is left =
+      → Left g (u.confirmed + 1) (drop 1 u.unanswered) e te tc
+      → (u.confirmed + 1 ≡ length (script c.game) → IsGame g)
+      → Replied rules c s u here lo (outcome c.game s (oldest u.unanswered) r)
+  confirms r is left whole =
       let next : Incarnation = confirmed (heard_reply u) in
-      let mine : IsJoinedInPlay c.game next here =
-      left_live c.game (u.confirmed + 1) u.sent (drop 1 u.unanswered) e te tc left in
-      let done : Replied c s u here lo Confirms = (
+      let mine : IsJoinedInPlay g next here =
+      left_live g (u.confirmed + 1) u.sent (drop 1 u.unanswered) e te tc left in
+      let done : Replied rules c s u here lo Confirms = (
         refl,
-        joint_put c s (with_engine next (side_of c.sides s)) c.game c.verdict here lo (outcome_sound r Confirms is)
-            (rw none tt)
-            (live_any c.game c.verdict next here mine) (judged_any c.game c.verdict
-            (side_of c.sides (other s)).up lo theirs),
+        joint_put rules c s (with_engine next (side_of c.sides s)) c.game c.verdict c.pending c.retakes here lo
+            (outcome_sound r Confirms is) (rw none tt)
+            (record {
+              joined = live_any g c.verdict next here mine;
+              playable = record {
+                earlier = playable.earlier;
+                last = λ h. elim h [
+                  | inl made ↦ playable.last (inl made)
+                  | inr all ↦ whole (has_all_is (u.confirmed + 1) (length (script c.game)) all)
+                ];
+              };
+            })
+            (theirs_at c.verdict),
       )
       in
-      subst (Replied c s u here lo) (sym is) done
+      subst (Replied rules c s u here lo) (sym is) done
 
   resigns : (r : Reply) → outcome c.game s (oldest u.unanswered) r ≡ Resigns
-      → Left c.game u.confirmed (drop 1 u.unanswered) e te tc
-      → Replied c s u here lo (outcome c.game s (oldest u.unanswered) r)
+      → Left g u.confirmed (drop 1 u.unanswered) e te tc
+      → Replied rules c s u here lo (outcome c.game s (oldest u.unanswered) r)
   resigns r is left =
       let next : Incarnation = answered (heard_reply u) in
-      let mine : IsJoinedInPlay c.game next here =
-      left_live c.game u.confirmed u.sent (drop 1 u.unanswered) e te tc left in
-      let done : Replied c s u here lo Resigns = (
+      let mine : IsJoinedInPlay g next here =
+      left_live g u.confirmed u.sent (drop 1 u.unanswered) e te tc left in
+      let done : Replied rules c s u here lo Resigns = (
         refl,
-        joint_put c s (with_engine next (side_of c.sides s)) c.game (Some (Resign s)) here lo
+        joint_put rules c s (with_engine next (side_of c.sides s)) c.game (Some (Resign s)) c.pending c.retakes here lo
             (outcome_sound r Resigns is) tt
-            (live_any c.game (Some (Resign s)) next here mine)
-            (judged_any c.game (Some (Resign s)) (side_of c.sides (other s)).up lo theirs),
+            (record {
+              joined = live_any g (Some (Resign s)) next here mine;
+              playable = record { earlier = playable.earlier; last = playable.last };
+            })
+            (theirs_at (Some (Resign s))),
       )
       in
-      subst (Replied c s u here lo) (sym is) done
+      subst (Replied rules c s u here lo) (sym is) done
 
   moves : (r : Reply) (v : Vertex) → outcome c.game s (oldest u.unanswered) r ≡ Moves v
-      → Left (with_move c.game s v) (u.confirmed + 1) (drop 1 u.unanswered) e te tc
-      → Replied c s u here lo (outcome c.game s (oldest u.unanswered) r)
-  moves r v is left =
+      → to_move c.game ≡ s → IsGame g → IsGame (with_move g s v)
+      → Left (with_move g s v) (u.confirmed + 1) (drop 1 u.unanswered) e te tc
+      → Replied rules c s u here lo (outcome c.game s (oldest u.unanswered) r)
+  moves r v is turn is_game longer left =
       let game : GameRecord = with_move c.game s v in
       let verdict : Option Verdict = verdict_after c.setup game in
       let next : Incarnation = confirmed (heard_reply u) in
-      let mine : IsJoinedInPlay game next here =
-      left_live game (u.confirmed + 1) u.sent (drop 1 u.unanswered) e te tc left in
-      let done : Replied c s u here lo (Moves v) = (
+      let mine : IsJoinedInPlay (ruled rule game) next here =
+      left_live (ruled rule game) (u.confirmed + 1) u.sent (drop 1 u.unanswered) e te tc left in
+      let done : Replied rules c s u here lo (Moves v) = (
         refl,
-        joint_put c s (with_engine next (side_of c.sides s)) game verdict here lo (outcome_sound r (Moves v) is)
-            (fair_ended c.setup game (with_side s (with_engine next (side_of c.sides s)) c.sides) c.setup.max_restarts)
-            (live_any game verdict next here mine)
-            (theirs_moved c (other s) s v verdict (side_of c.sides (other s)).up lo none
-            (their_side c s sound).engine theirs idle),
+        joint_put rules c s (with_engine next (side_of c.sides s)) game verdict c.pending c.retakes here lo
+            (outcome_sound r (Moves v) is)
+            (fair_ended rules (changed c game verdict (with_side s (with_engine next (side_of c.sides s)) c.sides)
+            c.pending c.retakes) c.setup game)
+            (record {
+              joined = live_any (ruled rule game) verdict next here mine;
+              playable = record {
+                earlier = subst IsGame (sym (without_with g s v)) is_game;
+                last = λ _. longer;
+              };
+            })
+            (record {
+              joined = theirs_moved their_rule c (other s) s v verdict (side_of c.sides (other s)).up lo none
+                  (their_side c s sound).engine theirs idle;
+              playable = theirs_longer their_rule c s v (side_of c.sides (other s)).up sound turn theirs_within
+                  their_playable;
+            }),
       )
       in
-      subst (Replied c s u here lo) (sym is) done
+      subst (Replied rules c s u here lo) (sym is) done
+
+  -- a refused last move that may be retaken: it is to be taken back at its maker, or leaves the record
+  retakes : (b : Bool) → has_all c.game (side_of c.sides (other s)).up ≡ b
+      → IsSound (retaken_at c s (heard_reply u) b) → 0 < length c.game.moves
+      → u.confirmed + 1 ≡ length (script c.game)
+      → Left g u.confirmed (drop 1 u.unanswered) e te tc
+      → AreJoined rules (retaken_at c s (heard_reply u) b) s here lo
+  retakes true all is_sound some lacks left =
+      let next : Incarnation = answered (heard_reply u) in
+      let mine : IsJoinedInPlay g next here =
+      left_live g u.confirmed u.sent (drop 1 u.unanswered) e te tc left in
+      joint_put rules c s (with_engine next (side_of c.sides s)) c.game c.verdict (Some (other s))
+      (with_retake (length c.game.moves) c.retakes) here lo is_sound (rw none tt)
+      (record {
+        joined = live_any g c.verdict next here mine;
+        playable = record { earlier = playable.earlier; last = playable.last };
+      })
+      (theirs_at c.verdict)
+  retakes false not_all is_sound some lacks left =
+      let next : Incarnation = answered (heard_reply u) in
+      let shorter : GameRecord = without_last c.game in
+      let within : u.confirmed ≤ length (script shorter) = omega (arith, lacks, script_shorter c.game some) in
+      let mine : IsJoinedInPlay (ruled rule shorter) next here =
+      live_at g (ruled rule shorter) next here (sym (replayed_shorter g u.confirmed within))
+      (left_live g u.confirmed u.sent (drop 1 u.unanswered) e te tc left) in
+      joint_put rules c s (with_engine next (side_of c.sides s)) shorter c.verdict c.pending
+      (with_retake (length c.game.moves) c.retakes) here lo is_sound (rw none tt)
+      (record {
+        joined = live_any (ruled rule shorter) c.verdict next here mine;
+        playable = playable_shorter rule c.game s (Some u) (Some next) playable;
+      })
+      (record {
+        joined = theirs_shorter their_rule c.game c.verdict (side_of c.sides (other s)).up lo theirs
+            (less (side_of c.sides (other s)).up not_all theirs_within);
+        playable = playable_shorter their_rule c.game (other s) (side_of c.sides (other s)).up
+            (side_of c.sides (other s)).up their_playable;
+      })
+    where
+      less : (x : Option Incarnation) → has_all c.game x ≡ false → IfSome x (λ y. y.confirmed ≤ length (script c.game))
+          → IfSome x (λ y. y.confirmed ≤ length (script (without_last c.game)))
+      less None lacking within = tt
+      less (Some y) lacking within =
+          omega (
+            arith,
+            within,
+            unequal y.confirmed (length (script c.game)) lacking,
+            script_shorter c.game some,
+          )
+        where
+          unequal : (m n : ℕ) → (m == n) ≡ false → m ≢ n
+          unequal m n e = grind (arith, nat_tests)
+
+  -- the verdict names a refusal that may not be retaken
+  forfeits : IsSound (ended c s (heard_reply u) (Forfeit s RefusedPlay)) → IsRefusal rules c s
+      → IsJoinedAtEnd g (heard_reply u) here
+      → AreJoined rules (ended c s (heard_reply u) (Forfeit s RefusedPlay)) s here lo
+  forfeits is_sound refusal mine =
+      joint_put rules c s (with_engine (heard_reply u) (side_of c.sides s)) c.game (Some (Forfeit s RefusedPlay))
+      c.pending c.retakes here lo is_sound (record {
+        positional = refusal.positional;
+        simple = refusal.simple;
+        by_other = refusal.by_other;
+        repeats = refusal.repeats;
+        often = refusal.often;
+        nothing = refusal.nothing;
+      })
+      (record {
+        joined = mine;
+        playable = record { earlier = playable.earlier; last = playable.last };
+      })
+      (theirs_at (Some (Forfeit s RefusedPlay)))
+
+  -- a refused last move
+  refuses : (r : Reply) (end : EndsWith c.game) → c.pending ≡ None → outcome c.game s (oldest u.unanswered) r ≡ Refuses
+      → u.confirmed + 1 ≡ length (script c.game)
+      → ¬ IsLegal (without_last g) end.move.colour end.move.vertex
+      → Left g u.confirmed (drop 1 u.unanswered) e te tc
+      → IsJoinedAtEnd g (heard_reply u) here
+      → Replied rules c s u here lo (outcome c.game s (oldest u.unanswered) r)
+  refuses r end free is lacks illegal left at_end =
+      subst (Replied rules c s u here lo) (sym is) (
+        refl,
+        by_retake (may_retake c s (heard_reply u)) refl (outcome_sound r Refuses is),
+      )
+    where
+      some : 0 < length c.game.moves
+      some = let within = slice_get_within c.game.moves (length c.game.moves - 1) end.move end.there in omega (arith, within)
+
+      -- no game of this rule has the move
+      no_game : IsGame g → ⊥
+      no_game is_game = illegal (is_game.legal (length c.game.moves - 1) end.move end.there)
+
+      by_other : moved_last c.game (other s) ≡ true
+      by_other =
+          elim (this_or_other end.move.colour s) [
+            | inl own ↦ absurd (no_game (playable.last (inl (made_by c.game end s own))))
+            | inr theirs ↦ made_by c.game end (other s) theirs
+          ]
+
+      positional : (k : KoRule) → rule_of rules s ≡ k → rule_of rules s ≡ Positional
+      positional Positional is = is
+      positional Simple is =
+          absurd (no_game (subst (λ (k : KoRule). IsGame (ruled k c.game)) (sym is) (simple_game c sound)))
+
+      -- the maker's own rule allows the move
+      simple : (k : KoRule) → rule_of rules (other s) ≡ k → rule_of rules (other s) ≡ Simple
+      simple Simple is = is
+      simple Positional is =
+          let same : rule_of rules (other s) ≡ rule_of rules s = is ∙ sym (positional (rule_of rules s) refl) in
+          absurd (no_game (subst (λ (k : KoRule). IsGame (ruled k c.game)) same (their_playable.last (inl by_other))))
+
+      often : may_retake c s (heard_reply u) ≡ false
+          → retakes_of c.retakes (length c.game.moves) ≡ most_retakes
+      often no_retake =
+          let few : retakes_of c.retakes (length c.game.moves) ≤ most_retakes =
+          sound.retakes.few (length c.game.moves) in
+          let owes : owes_last c.game (heard_reply u) ≡ true =
+          has_all_if (u.confirmed + 1) (length (script c.game)) lacks in
+          let left : nat_lt (retakes_of c.retakes (length c.game.moves)) most_retakes ≡ false =
+          last_test (owes_last c.game (heard_reply u)) (moved_last c.game (other s))
+          (nat_lt (retakes_of c.retakes (length c.game.moves)) most_retakes) owes by_other no_retake in
+          at_most (retakes_of c.retakes (length c.game.moves)) few left
+        where
+          last_test : (x y z : Bool) → x ≡ true → y ≡ true → (x && (y && z)) ≡ false → z ≡ false
+          last_test true true z p q h = h
+          last_test false y z p q h = absurd (cc p)
+          last_test true false z p q h = absurd (cc q)
+
+          at_most : (n : ℕ) → n ≤ most_retakes → nat_lt n most_retakes ≡ false → n ≡ most_retakes
+          at_most n few h = grind (arith, nat_tests)
+
+      by_retake : (b : Bool) → may_retake c s (heard_reply u) ≡ b
+          → IsSound (refused c s (heard_reply u) (may_retake c s (heard_reply u)))
+          → AreJoined rules (refused c s (heard_reply u) (may_retake c s (heard_reply u))) s here lo
+      by_retake true may is_sound =
+          let R : Bool → Type 0 = λ b. AreJoined rules (refused c s (heard_reply u) b) s here lo in
+          let S : Bool → Type 0 = λ b. IsSound (refused c s (heard_reply u) b) in
+          let T : Bool → Type 0 = λ b. IsSound (retaken_at c s (heard_reply u) b) in
+          let U : Bool → Type 0 = λ b. AreJoined rules (retaken_at c s (heard_reply u) b) s here lo in
+          subst R (sym may)
+          (retakes (has_all c.game (side_of c.sides (other s)).up) refl (subst S may is_sound) some lacks left)
+      by_retake false may is_sound =
+          let R : Bool → Type 0 = λ b. AreJoined rules (refused c s (heard_reply u) b) s here lo in
+          let S : Bool → Type 0 = λ b. IsSound (refused c s (heard_reply u) b) in
+          subst R (sym may) (forfeits (subst S may is_sound) (record {
+            positional = positional (rule_of rules s) refl;
+            simple = simple (rule_of rules (other s)) refl;
+            by_other = by_other;
+            repeats = λ is_game. no_game (subst (λ (k : KoRule). IsGame (ruled k c.game))
+                (sym (positional (rule_of rules s) refl)) is_game);
+            often = often may;
+            nothing = free;
+          }) at_end)
+
+  -- the last move is taken back
+  takes_back : (r : Reply) → outcome c.game s (oldest u.unanswered) r ≡ TakesBack → c.pending ≡ Some s
+      → Left (without_last g) (u.confirmed - 1) (drop 1 u.unanswered) e te tc
+      → Replied rules c s u here lo (outcome c.game s (oldest u.unanswered) r)
+  takes_back r is pending left =
+      let next : Incarnation = taken_back (heard_reply u) in
+      let shorter : GameRecord = without_last c.game in
+      let t = taken_at c s sound none pending in
+      let mine : IsJoinedInPlay (ruled rule shorter) next here =
+      left_live (ruled rule shorter) (u.confirmed - 1) u.sent (drop 1 u.unanswered) e te tc left in
+      let done : Replied rules c s u here lo TakesBack = (
+        refl,
+        joint_put rules c s (with_engine next (side_of c.sides s)) shorter c.verdict None c.retakes here lo
+            (outcome_sound r TakesBack is) (rw none tt)
+            (record {
+              joined = live_any (ruled rule shorter) c.verdict next here mine;
+              playable = playable_shorter rule c.game s (Some u) (Some next) playable;
+            })
+            (record {
+              joined = theirs_shorter their_rule c.game c.verdict (side_of c.sides (other s)).up lo theirs
+                  (less t.some (side_of c.sides (other s)).up t.lacks);
+              playable = playable_shorter their_rule c.game (other s) (side_of c.sides (other s)).up
+                  (side_of c.sides (other s)).up their_playable;
+            }),
+      )
+      in
+      subst (Replied rules c s u here lo) (sym is) done
+    where
+      less : 0 < length c.game.moves → (x : Option Incarnation) → IfSome x (LacksLast c.game)
+          → IfSome x (λ y. y.confirmed ≤ length (script (without_last c.game)))
+      less some None lacks = tt
+      less some (Some y) lacks = omega (arith, lacks.lacks, script_shorter c.game some)
 
   -- by the order that the reply answers
   replied_keeps : (r : Reply) (more : List Reply) (waiting : List SentCommand) (ahead : GameRecord) (cut : List ℕ)
-      → length u.unanswered ≤ most_unanswered → Owes (replayed c.game u.confirmed) u.unanswered (r ∷ more) waiting ahead
+      → length u.unanswered ≤ most_unanswered → Owes (replayed g u.confirmed) u.unanswered (r ∷ more) waiting ahead
       → AllByRecursion CanBeWritten waiting → AllMayBeSent ahead waiting → tc ++ cut ≡ all_reply_bytes more
       → WillReadWhereRunning e te ahead waiting → CutByCrash e cut
-      → Replied c s u here lo (outcome c.game s (oldest u.unanswered) r)
+      → Replied rules c s u here lo (outcome c.game s (oldest u.unanswered) r)
   replied_keeps r more waiting ahead cut few owes fit may arriving runs uncut =
       by_orders u.unanswered refl few owes ((my_engine c s u sound up).under_way none).plan
     where
-      is_game : IsGame c.game
-      is_game = sound.game
+      -- what is left of the side where the verdict blames it for the reply
+      at_end : IsJoinedAtEnd g (heard_reply u) here
+      at_end = record {
+        few = few;
+        replies = r ∷ more;
+        waiting = waiting;
+        ahead = ahead;
+        owes = owes;
+        fit = fit;
+        may = may;
+        runs = runs;
+        room = omega (
+          arith,
+          ap length arriving,
+          length-append tc cut,
+          length-append (reply_bytes r) (all_reply_bytes more),
+        );
+      }
 
       by_orders : (os : List SentCommand) → u.unanswered ≡ os → length os ≤ most_unanswered
-          → Owes (replayed c.game u.confirmed) os (r ∷ more) waiting ahead
-          → InScript (script c.game) u.confirmed u.unanswered ⊎ IsAsked c.game s u.confirmed u.unanswered
-          → Replied c s u here lo (outcome c.game s (oldest u.unanswered) r)
+          → Owes (replayed g u.confirmed) os (r ∷ more) waiting ahead
+          → HasPlan c.game c.pending s u.confirmed u.unanswered
+          → Replied rules c s u here lo (outcome c.game s (oldest u.unanswered) r)
       by_orders [] is few owes plan = absurd owes
       by_orders (o ∷ us) is few owes plan = by_plan plan
         where
@@ -317,7 +750,7 @@ module _ (c : Controller) (s : Colour) (u : Incarnation) (e : Option EngineBody)
             ahead = ahead;
             owes =
                 subst (λ (os : List SentCommand). Owes (replayed game n) os more waiting ahead) (sym (ap (drop 1) is))
-                (subst (λ (g : GameRecord). Owes g us more waiting ahead) same owes.2);
+                (subst (λ (x : GameRecord). Owes x us more waiting ahead) same owes.2);
             fit = fit;
             may = may;
             cut = cut;
@@ -329,32 +762,95 @@ module _ (c : Controller) (s : Colour) (u : Incarnation) (e : Option EngineBody)
           oldest_is : outcome c.game s (oldest u.unanswered) r ≡ outcome c.game s (Some o) r
           oldest_is = ap (λ (os : List SentCommand). outcome c.game s (oldest os) r) is
 
-          by_plan : InScript (script c.game) u.confirmed u.unanswered ⊎ IsAsked c.game s u.confirmed u.unanswered
-              → Replied c s u here lo (outcome c.game s (oldest u.unanswered) r)
+          -- a command of the script that goes well is confirmed
+          well_confirms : slice_get (script c.game) u.confirmed ≡ Some o.command
+              → GoesWellOn g.size (replayed g u.confirmed) o.command
+              → (u.confirmed + 1 ≡ length (script c.game) → IsGame g)
+              → Replied rules c s u here lo (outcome c.game s (oldest u.unanswered) r)
+          well_confirms there well whole =
+              let next_game : owes.0 ≡ replayed g (u.confirmed + 1) =
+              scripted_game o r (replayed g u.confirmed) owes.0 owes.1 well.well
+              ∙ sym (rw add-one
+              (after_one_more (fresh_game_under g.rule) (script c.game) u.confirmed o.command there)) in
+              confirms r
+              (oldest_is ∙ scripted_outcome c.game s o r (replayed g u.confirmed) owes.0 owes.1 well)
+              (left_of g (u.confirmed + 1) next_game) whole
+
+          -- the last move of the record: legal for the side's engine, or refused
+          by_last : slice_get (script c.game) u.confirmed ≡ Some o.command
+              → (end : EndsWith g) → o.command ≡ Play end.move → u.confirmed + 1 ≡ length (script c.game)
+              → replayed g u.confirmed ≡ without_last g
+              → Dec (IsLegal (without_last g) end.move.colour end.move.vertex)
+              → Replied rules c s u here lo (outcome c.game s (oldest u.unanswered) r)
+          by_last there end is_play lacks at (yes legal) =
+              let whole : IsGame g =
+              subst IsGame (sym end.game_is)
+              (IsGame-with_move (without_last g) end.move.colour end.move.vertex playable.earlier room legal) in
+              let well : GoesWellOn g.size (without_last g) (Play end.move) =
+              record { well = (room, (legal, sound.game.size)); sized = λ h. absurd h } in
+              well_confirms there
+              (subst (λ (x : GameRecord). GoesWellOn g.size x o.command) (sym at)
+              (subst (λ (k : Command). GoesWellOn g.size (without_last g) k) (sym is_play) well))
+              (λ _. whole)
+            where
+              room : HasRoom (without_last g)
+              room = omega (arith, sound.game.few, shorter_length c.game, end_some)
+                where
+                  end_some : 0 < length c.game.moves
+                  end_some =
+                      let within = slice_get_within c.game.moves (length c.game.moves - 1) end.move end.there in
+                      omega (arith, within)
+          by_last there end is_play lacks at (no illegal) =
+              let some : 0 < length c.game.moves =
+              let within = slice_get_within c.game.moves (length c.game.moves - 1) end.move end.there in
+              omega (arith, within) in
+              let room : HasRoom (without_last g) = omega (arith, sound.game.few, shorter_length c.game, some) in
+              let is_vertex : IsVertex end.move.vertex =
+              vertex_of_legal (first_moves (length c.game.moves - 1) c.game) end.move.colour end.move.vertex
+              (sound.game.legal (length c.game.moves - 1) end.move end.there) sound.game.size.most in
+              let order_is : o ≡ record { id = o.id; command = Play end.move } =
+              ap (λ (k : Command). record { id = o.id; command = k }) is_play in
+              let a : Answered (without_last g) (record { id = o.id; command = Play end.move }) r owes.0 =
+              subst (λ (x : SentCommand). Answered (without_last g) x r owes.0) order_is
+              (subst (λ (x : GameRecord). Answered x o r owes.0) at owes.1) in
+              let heard =
+              refused_heard c.game s o.id end.move r (without_last g) owes.0 a room is_vertex illegal in
+              let no_undo : ¬ IsUndo o.command =
+              λ (undo : IsUndo o.command). let bad : Play end.move ≡ Undo = sym is_play ∙ undo in cc bad in
+              refuses r (record { move = end.move; there = end.there; game_is = simple_ends c.game end })
+              (nothing_pending c s u o us sound none up is no_undo)
+              (oldest_is ∙ ap (λ (x : SentCommand). outcome c.game s (Some x) r) order_is ∙ heard.0)
+              lacks illegal
+              (left_of g u.confirmed (heard.1 ∙ sym at)) at_end
+
+          by_place : slice_get (script c.game) u.confirmed ≡ Some o.command → Place g u.confirmed o.command
+              → Replied rules c s u here lo (outcome c.game s (oldest u.unanswered) r)
+          by_place there (Place.early well whole) = well_confirms there well whole
+          by_place there (Place.last end is_play lacks at) =
+              by_last there end is_play lacks at
+              (legal? (without_last g) end.move.colour end.move.vertex)
+
+          by_plan : HasPlan c.game c.pending s u.confirmed u.unanswered
+              → Replied rules c s u here lo (outcome c.game s (oldest u.unanswered) r)
           by_plan (inl in_script) =
               let plan : InScript (script c.game) u.confirmed (o ∷ us) =
               subst (InScript (script c.game) u.confirmed) is in_script in
-              let g : GameRecord = replayed c.game u.confirmed in
-              let well : GoesWellOn c.game.size g o.command =
-              well_at c.game.size (fresh_game_under c.game.rule) (script c.game) u.confirmed o.command
-              (script_well c.game is_game) plan.0 in
-              let next_game : owes.0 ≡ replayed c.game (u.confirmed + 1) =
-              scripted_game o r g owes.0 owes.1 well.well
-              ∙ sym (rw add-one (after_one_more (fresh_game_under c.game.rule) (script c.game) u.confirmed o.command plan.0)) in
-              confirms r (oldest_is ∙ scripted_outcome c.game s o r g owes.0 owes.1 well)
-              (left_of c.game (u.confirmed + 1) next_game)
-          by_plan (inr asks) =
+              by_place plan.0 (place g playable.earlier u.confirmed o.command plan.0)
+          by_plan (inr (inl asks)) =
               let order_is : o ≡ record { id = o.id; command = Genmove s } = of_genmove asks in
-              let whole : replayed c.game u.confirmed ≡ c.game = replayed_all c.game u.confirmed is_game asks.all in
-              let a : Answered c.game (record { id = o.id; command = Genmove s }) r owes.0 =
-              subst (λ (x : SentCommand). Answered c.game x r owes.0) order_is
-              (subst (λ (g : GameRecord). Answered g o r owes.0) whole owes.1) in
+              let is_game : IsGame g =
+              playable.last (inr (has_all_if u.confirmed (length (script c.game)) asks.all)) in
+              let whole : replayed g u.confirmed ≡ g = replayed_all g u.confirmed is_game asks.all in
+              let a : Answered g (record { id = o.id; command = Genmove s }) r owes.0 =
+              subst (λ (x : SentCommand). Answered g x r owes.0) order_is
+              (subst (λ (x : GameRecord). Answered x o r owes.0) whole owes.1) in
               let ends : VerdictFits c None = subst (VerdictFits c) none sound.ends in
-              let picked : Chose c.game s (record { id = o.id; command = Genmove s }) r owes.0 =
-              chose c.game s o.id r owes.0 (omega (arith, ends.0, sound.setup.moves.1)) is_game.size.most a in
+              let room : HasRoom g = omega (arith, ends.0, sound.setup.moves.1) in
+              let picked : Chose rule c.game s (record { id = o.id; command = Genmove s }) r owes.0 =
+              chose rule c.game s o.id r owes.0 (simple_rule c sound) room is_game.size.most a in
               let heard : outcome c.game s (oldest u.unanswered) r ≡ outcome_of_choice picked.choice =
               oldest_is ∙ ap (λ (x : SentCommand). outcome c.game s (Some x) r) order_is ∙ picked.heard in
-              by_choice picked.choice heard picked.game_is asks.all
+              by_choice picked.choice heard picked.lawful picked.game_is room is_game asks.turn asks.all
             where
               of_genmove : IsAsked c.game s u.confirmed u.unanswered → o ≡ record { id = o.id; command = Genmove s }
               of_genmove a =
@@ -364,18 +860,46 @@ module _ (c : Controller) (s : Colour) (u : Incarnation) (e : Option EngineBody)
                   (ap (λ (x : SentCommand). x.command) same ∙ a.genmove)
 
               by_choice : (ch : Choice) → outcome c.game s (oldest u.unanswered) r ≡ outcome_of_choice ch
-                  → owes.0 ≡ (answer_choice c.game s ch).game
+                  → IsLawful g s ch
+                  → owes.0 ≡ (answer_choice g s ch).game → HasRoom g → IsGame g → to_move c.game ≡ s
                   → u.confirmed ≡ length (script c.game)
-                  → Replied c s u here lo (outcome c.game s (oldest u.unanswered) r)
-              by_choice choice.Resign heard game_is all =
-                  resigns r heard (left_of c.game u.confirmed
-                  (game_is ∙ sym (replayed_all c.game u.confirmed is_game all)))
-              by_choice (choice.Play v) heard game_is all =
+                  → Replied rules c s u here lo (outcome c.game s (oldest u.unanswered) r)
+              by_choice choice.Resign heard lawful game_is room is_game turn all =
+                  resigns r heard (left_of g u.confirmed
+                  (game_is ∙ sym (replayed_all g u.confirmed is_game all)))
+              by_choice (choice.Play v) heard lawful game_is room is_game turn all =
                   let longer : u.confirmed + 1 ≡ length (script (with_move c.game s v)) =
                   omega (arith, all, script_longer c.game s v) in
-                  let is2 : IsGame (with_move c.game s v) = (outcome_sound r (Moves v) heard).game in
-                  moves r v heard (left_of (with_move c.game s v) (u.confirmed + 1)
-                  (game_is ∙ sym (replayed_all (with_move c.game s v) (u.confirmed + 1) is2 longer)))
+                  let is2 : IsGame (with_move g s v) = IsGame-with_move g s v is_game room lawful in
+                  moves r v heard turn is_game is2 (left_of (with_move g s v) (u.confirmed + 1)
+                  (game_is ∙ sym (replayed_all (with_move g s v) (u.confirmed + 1) is2 longer)))
+          by_plan (inr (inr taking)) =
+              let order_is : o ≡ record { id = o.id; command = Undo } = of_undo taking.1 in
+              let t = taken_at c s sound none taking.0 in
+              let same : Some t.engine ≡ Some u = sym t.up ∙ up in
+              let same_engine : t.engine ≡ u = cc same in
+              let all : u.confirmed ≡ length (script c.game) =
+              sym (ap (λ (x : Incarnation). x.confirmed) same_engine) ∙ t.all in
+              let is_game : IsGame g = playable.last (inr (has_all_if u.confirmed (length (script c.game)) all)) in
+              let whole : replayed g u.confirmed ≡ g = replayed_all g u.confirmed is_game all in
+              let a : Answered g (record { id = o.id; command = Undo }) r owes.0 =
+              subst (λ (x : SentCommand). Answered g x r owes.0) order_is
+              (subst (λ (x : GameRecord). Answered x o r owes.0) whole owes.1) in
+              let heard = undone_heard c.game s o.id r g owes.0 a t.some in
+              let shorter : u.confirmed - 1 ≡ length (script (without_last g)) =
+              omega (arith, all, script_shorter c.game t.some) in
+              takes_back r
+              (oldest_is ∙ ap (λ (x : SentCommand). outcome c.game s (Some x) r) order_is ∙ heard.0)
+              taking.0
+              (left_of (without_last g) (u.confirmed - 1)
+              (heard.1 ∙ sym (replayed_all (without_last g) (u.confirmed - 1) playable.earlier shorter)))
+            where
+              of_undo : AreUndo u.unanswered → o ≡ record { id = o.id; command = Undo }
+              of_undo a =
+                  let both : o ∷ us ≡ a.entry ∷ [] = sym is ∙ a.alone in
+                  let same : o ≡ a.entry = cc both in
+                  ap (λ (k : Command). record { id = o.id; command = k })
+                  (ap (λ (x : SentCommand). x.command) same ∙ a.undo)
 
 -- ---- bytes
 
@@ -418,15 +942,22 @@ heard_settled game u e te x y used is h = record {
 }
 
 -- one call on a side that is up, before any verdict
-module _ (c : Controller) (s : Colour) (u : Incarnation) (e : Option EngineBody) (te : List ℕ) (b : ℕ) (x y : List ℕ)
-    (lo : BareLane) (sound : IsSound c) (none : c.verdict ≡ None)
-    (up : (side_of c.sides s).up ≡ Some u) (mine : IsJoinedInPlay c.game u
+module _ (rules : Rules) (c : Controller) (s : Colour) (u : Incarnation) (e : Option EngineBody) (te : List ℕ) (b : ℕ)
+    (x y : List ℕ) (lo : BareLane) (sound : IsSound c) (none : c.verdict ≡ None)
+    (up : (side_of c.sides s).up ≡ Some u) (mine : IsJoinedInPlay (ruled (rule_of rules s) c.game) u
     (record { engine = e; to_engine = te; to_controller = (b ∷ x) ++ y }))
-    (theirs : IsJoinedSide c.game None (side_of c.sides (other s)).up lo) where
+    (playable : IsPlayable (rule_of rules s) c.game s (Some u))
+    (theirs : IsJoinedSide (ruled (rule_of rules (other s)) c.game) None (side_of c.sides (other s)).up lo)
+    (their_playable : IsPlayable (rule_of rules (other s)) c.game (other s) (side_of c.sides (other s)).up) where
+  -- the game as the side's engine has it
+  abbrev own : GameRecord
+  own = ruled (rule_of rules s) c.game
+
   -- what is left to show
   abbrev Keeps : ℕ → Option SideFault → Controller → Type 0
   Keeps used fault c2 =
-      (fault ≡ None) × AreJoined c2 s (record { engine = e; to_engine = te; to_controller = drop used (b ∷ x) ++ y }) lo
+      (fault ≡ None)
+      × AreJoined rules c2 s (record { engine = e; to_engine = te; to_controller = drop used (b ∷ x) ++ y }) lo
 
   -- what the bytes heard so far tell, by what the reader's text tells
   as_begun : (place : ℕ) (answer : Result Reply ReplyFault) → IsFirst (u.rest ++ b ∷ x) place answer
@@ -447,17 +978,23 @@ module _ (c : Controller) (s : Colour) (u : Incarnation) (e : Option EngineBody)
       let longer : MayKeep kept (mine.begun ++ b ∷ x) = kept_longer kept u.rest mine.begun (b ∷ x) keeps mine.kept in
       let next_sound : IsSound (with_side_up c s next) =
       quiet_sound c s u (mine.begun ++ b ∷ x) kept sound none up quiet longer in
-      let live : IsJoinedInPlay c.game next (record { engine = e; to_engine = te; to_controller = y }) =
-      part_keeps c.game u e te (b ∷ x) y kept mine quiet keeps in
-      let done : AreJoined (with_side_up c s next) s (record { engine = e; to_engine = te; to_controller = y }) lo =
-      joint_put c s (with_engine next (side_of c.sides s)) c.game c.verdict
+      let live : IsJoinedInPlay own next (record { engine = e; to_engine = te; to_controller = y }) =
+      part_keeps own u e te (b ∷ x) y kept mine quiet keeps in
+      let done : AreJoined rules (with_side_up c s next) s (record { engine = e; to_engine = te; to_controller = y }) lo =
+      joint_put rules c s (with_engine next (side_of c.sides s)) c.game c.verdict c.pending c.retakes
       (record { engine = e; to_engine = te; to_controller = y }) lo next_sound (rw none tt)
-      (live_any c.game c.verdict next (record { engine = e; to_engine = te; to_controller = y }) live)
-      (judged_any c.game c.verdict (side_of c.sides (other s)).up lo theirs)
+      (record {
+        joined = live_any own c.verdict next (record { engine = e; to_engine = te; to_controller = y }) live;
+        playable = record { earlier = playable.earlier; last = playable.last };
+      })
+      (record {
+        joined = judged_any (ruled (rule_of rules (other s)) c.game) c.verdict (side_of c.sides (other s)).up lo theirs;
+        playable = their_playable;
+      })
       in
       let all : y ≡ drop (length (b ∷ x)) (b ∷ x) ++ y = rw (drop-length (b ∷ x)) refl in (
         refl,
-        subst (λ (t : List ℕ). AreJoined (with_side_up c s next) s
+        subst (λ (t : List ℕ). AreJoined rules (with_side_up c s next) s
             (record { engine = e; to_engine = te; to_controller = t }) lo) all done,
       )
 
@@ -466,23 +1003,23 @@ module _ (c : Controller) (s : Colour) (u : Incarnation) (e : Option EngineBody)
       → Keeps used (fault_of (outcome c.game s (oldest u.unanswered) k.reply))
       (after_outcome c s (heard_reply u) (outcome c.game s (oldest u.unanswered) k.reply))
   whole_keeps used k is =
-      let owes : Owes (replayed c.game u.confirmed) u.unanswered (k.reply ∷ k.more) mine.waiting mine.ahead =
+      let owes : Owes (replayed own u.confirmed) u.unanswered (k.reply ∷ k.more) mine.waiting mine.ahead =
       rw (k.replies) at mine.owes in
       let idle : IsIdle (side_of c.sides (other s)).up = other_idle (one_idle c s sound) owes in
       let r =
-      replied_keeps c s u e te
+      replied_keeps rules c s u e te
       (drop k.used
-      (b ∷ x) ++ y) lo sound none up idle theirs k.reply k.more mine.waiting mine.ahead mine.cut mine.few owes mine.fit
+      (b ∷ x) ++ y) lo sound none up idle playable theirs their_playable k.reply k.more mine.waiting mine.ahead mine.cut mine.few owes mine.fit
       mine.may k.left mine.runs mine.uncut in
       subst (λ (n : ℕ). Keeps n (fault_of (outcome c.game s (oldest u.unanswered) k.reply))
       (after_outcome c s (heard_reply u) (outcome c.game s (oldest u.unanswered) k.reply))) (sym is) r
     where
       other_idle : IsIdle (side_of c.sides s).up ⊎ IsIdle (side_of c.sides (other s)).up
-          → Owes (replayed c.game u.confirmed) u.unanswered (k.reply ∷ k.more) mine.waiting mine.ahead
+          → Owes (replayed own u.confirmed) u.unanswered (k.reply ∷ k.more) mine.waiting mine.ahead
           → IsIdle (side_of c.sides (other s)).up
       other_idle (inl i) owes =
           let none_left : u.unanswered ≡ [] =
-          subst IsIdle up i in absurd (subst (λ (os : List SentCommand). Owes (replayed c.game u.confirmed) os
+          subst IsIdle up i in absurd (subst (λ (os : List SentCommand). Owes (replayed own u.confirmed) os
           (k.reply ∷ k.more) mine.waiting mine.ahead) none_left owes)
       other_idle (inr i) owes = i
 
@@ -491,7 +1028,7 @@ module _ (c : Controller) (s : Colour) (u : Incarnation) (e : Option EngineBody)
   up_keeps used fault c2 h =
       by_bytes used fault c2 (arrives mine.begun b x y mine.cut mine.replies
       (owes_replies
-      (replayed c.game u.confirmed) u.unanswered mine.replies mine.waiting mine.ahead mine.owes)
+      (replayed own u.confirmed) u.unanswered mine.replies mine.waiting mine.ahead mine.owes)
       mine.begun_quiet mine.arriving) h
     where
       by_bytes : (used : ℕ) (fault : Option SideFault) (c2 : Controller)
@@ -519,63 +1056,64 @@ module _ (c : Controller) (s : Colour) (u : Incarnation) (e : Option EngineBody)
           (whole_keeps used k used_is)
 
 -- one call that hears bytes: no fault comes, and what joins them is kept, with the used bytes gone
-pub heard_keeps : (c : Controller) (s : Colour) (e : Option EngineBody) (te : List ℕ) (b : ℕ) (x y : List ℕ)
+pub heard_keeps : (rules : Rules) (c : Controller) (s : Colour) (e : Option EngineBody) (te : List ℕ) (b : ℕ) (x y : List ℕ)
     (lo : BareLane) (used : ℕ) (fault : Option SideFault) (c2 : Controller)
-    → AreJoined c s (record { engine = e; to_engine = te; to_controller = (b ∷ x) ++ y }) lo
+    → AreJoined rules c s (record { engine = e; to_engine = te; to_controller = (b ∷ x) ++ y }) lo
     → Hears c s (b ∷ x) used fault c2
-    → (fault ≡ None) × AreJoined c2 s (record { engine = e; to_engine = te; to_controller = drop used (b ∷ x) ++ y }) lo
-heard_keeps c s e te b x y lo used fault c2 j h =
-    by_state c.verdict (side_of c.sides s).up refl refl j.fair j.mine j.theirs h
+    → (fault ≡ None)
+    × AreJoined rules c2 s (record { engine = e; to_engine = te; to_controller = drop used (b ∷ x) ++ y }) lo
+heard_keeps rules c s e te b x y lo used fault c2 j h =
+    by_state c.verdict (side_of c.sides s).up refl refl j.mine.joined j.mine.playable j.theirs.joined h
   where
     l : BareLane
     l = record { engine = e; to_engine = te; to_controller = (b ∷ x) ++ y }
 
     by_state : (v : Option Verdict) (up : Option Incarnation) → c.verdict ≡ v → (side_of c.sides s).up ≡ up
-        → IsFair c.setup.max_restarts c.sides v
-        → IsJoinedSide c.game v up (record { engine = e; to_engine = te; to_controller = (b ∷ x) ++ y })
-        → IsJoinedSide c.game v (side_of c.sides (other s)).up lo
+        → IsJoinedSide (ruled (rule_of rules s) c.game) v up
+        (record { engine = e; to_engine = te; to_controller = (b ∷ x) ++ y })
+        → IsPlayable (rule_of rules s) c.game s up
+        → IsJoinedSide (ruled (rule_of rules (other s)) c.game) v (side_of c.sides (other s)).up lo
         → HearsWhere MayKeep c s (b ∷ x) v up used fault c2
         → (fault ≡ None)
-        × AreJoined c2 s (record { engine = e; to_engine = te; to_controller = drop used (b ∷ x) ++ y }) lo
-    by_state v None v_is up_is fair mine theirs h =
+        × AreJoined rules c2 s (record { engine = e; to_engine = te; to_controller = drop used (b ∷ x) ++ y }) lo
+    by_state v None v_is up_is mine playable theirs h =
         absurd (let bad : (b ∷ x) ++ y ≡ [] = ap (λ (k : BareLane). k.to_controller) (still_of v mine) in cc bad)
       where
-        still_of : (w : Option Verdict) → IsJoinedSide c.game w None
+        still_of : (w : Option Verdict) → IsJoinedSide (ruled (rule_of rules s) c.game) w None
             (record { engine = e; to_engine = te; to_controller = (b ∷ x) ++ y })
             → record { engine = e; to_engine = te; to_controller = (b ∷ x) ++ y } ≡ bare_empty
         still_of None m = m
         still_of (Some w) m = m
-    by_state (Some v) (Some u) v_is up_is fair mine theirs h =
+    by_state (Some v) (Some u) v_is up_is mine playable theirs h =
         let J : Controller → Type 0 =
-        λ d. AreJoined d s (record { engine = e; to_engine = te; to_controller = drop used (b ∷ x) ++ y }) lo in
-        let settled : IsJoinedAtEnd c.game u (record {
+        λ d. AreJoined rules d s (record { engine = e; to_engine = te; to_controller = drop used (b ∷ x) ++ y }) lo in
+        let settled : IsJoinedAtEnd (ruled (rule_of rules s) c.game) u (record {
           engine = e;
           to_engine = te;
           to_controller = drop used
               (b ∷ x) ++ y;
         }) =
-        heard_settled c.game u e te (b ∷ x) y used h.all mine in (
+        heard_settled (ruled (rule_of rules s) c.game) u e te (b ∷ x) y used h.all mine in (
           h.no_fault,
           subst J (sym h.same) (record {
             sound = j.sound;
             fair = j.fair;
-            mine = rw
-                (v_is, up_is) settled;
+            mine = record { joined = rw (v_is, up_is) settled; playable = j.mine.playable };
             theirs = j.theirs;
           }),
         )
-    by_state None (Some u) v_is up_is fair mine theirs h =
-        up_keeps c s u e te b x y lo j.sound v_is up_is mine theirs used fault c2 h
+    by_state None (Some u) v_is up_is mine playable theirs h =
+        up_keeps rules c s u e te b x y lo j.sound v_is up_is mine playable theirs j.theirs.playable used fault c2 h
 
 -- all bytes of a delivery
-pub hears_keep : (s : Colour) (e : Option EngineBody) (te y : List ℕ) (lo : BareLane) (c c2 : Controller) (x : List ℕ)
+pub hears_keep : (rules : Rules) (s : Colour) (e : Option EngineBody) (te y : List ℕ) (lo : BareLane) (c c2 : Controller) (x : List ℕ)
     (fault : Option SideFault) → HearsAll s c x fault c2
-    → AreJoined c s (record { engine = e; to_engine = te; to_controller = x ++ y }) lo
-    → (fault ≡ None) × AreJoined c2 s (record { engine = e; to_engine = te; to_controller = y }) lo
-hears_keep s e te y lo c c2 x fault HearsAllBy.used_up j = (refl, j)
-hears_keep s e te y lo c c2 [] fault (HearsAllBy.faulty used some h) j = absurd (omega (arith, some))
-hears_keep s e te y lo c c2 [] fault (HearsAllBy.goes_on used some h more) j = absurd (omega (arith, some))
-hears_keep s e te y lo c c2 (b ∷ xs) fault (HearsAllBy.faulty {shown = f} used some h) j =
-    absurd (let bad : Some f ≡ None = (heard_keeps c s e te b xs y lo used (Some f) c2 j h).0 in cc bad)
-hears_keep s e te y lo c c2 (b ∷ xs) fault (HearsAllBy.goes_on {mid = mid} used some h more) j =
-    hears_keep s e te y lo mid c2 (drop used (b ∷ xs)) fault more (heard_keeps c s e te b xs y lo used None mid j h).1
+    → AreJoined rules c s (record { engine = e; to_engine = te; to_controller = x ++ y }) lo
+    → (fault ≡ None) × AreJoined rules c2 s (record { engine = e; to_engine = te; to_controller = y }) lo
+hears_keep rules s e te y lo c c2 x fault HearsAllBy.used_up j = (refl, j)
+hears_keep rules s e te y lo c c2 [] fault (HearsAllBy.faulty used some h) j = absurd (omega (arith, some))
+hears_keep rules s e te y lo c c2 [] fault (HearsAllBy.goes_on used some h more) j = absurd (omega (arith, some))
+hears_keep rules s e te y lo c c2 (b ∷ xs) fault (HearsAllBy.faulty {shown = f} used some h) j =
+    absurd (let bad : Some f ≡ None = (heard_keeps rules c s e te b xs y lo used (Some f) c2 j h).0 in cc bad)
+hears_keep rules s e te y lo c c2 (b ∷ xs) fault (HearsAllBy.goes_on {mid = mid} used some h more) j =
+    hears_keep rules s e te y lo mid c2 (drop used (b ∷ xs)) fault more (heard_keeps rules c s e te b xs y lo used None mid j h).1

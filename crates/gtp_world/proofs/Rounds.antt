@@ -10,10 +10,10 @@ use Rattle.go_base.specs.Point.{IsOn}
 use Rattle.go_base.specs.declared.colours.Colour.{Colour}
 use Rattle.go_base.specs.declared.colours.Colour.TheVariants.{Black, White}
 use Rattle.go_base.proofs.HandicapLemmas.{handicap_sound}
-use Rattle.go_board.specs.Game.{GameRecord}
+use Rattle.go_board.specs.Game.{GameRecord, IsGame}
 use Rattle.gtp_wire.specs.declared.commands.Command.{Command}
 use Rattle.gtp_wire.specs.declared.commands.Command.TheVariants.{Boardsize, Komi, ClearBoard, FixedHandicap, Play}
-use Rattle.gtp_wire.specs.declared.commands.Command.TheVariants.{Genmove, Quit}
+use Rattle.gtp_wire.specs.declared.commands.Command.TheVariants.{Genmove, Undo, Quit}
 use Rattle.gtp_wire.specs.declared.replies.Reply.{Reply}
 use Rattle.gtp_wire.specs.Replies.{IsReply, IsFirst}
 use Rattle.gtp_wire.proofs.ReplyLaws.{one_first, reply_is_first}
@@ -30,7 +30,7 @@ use Rattle.gtp_match.specs.declared.verdicts.Action.TheVariants.{Send}
 use Rattle.gtp_match.specs.declared.verdicts.SideFault.{SideFault}
 use Rattle.gtp_match.specs.declared.verdicts.Verdict.{Verdict}
 use Rattle.gtp_match.specs.declared.controller.Controller.{Controller}
-use Rattle.gtp_match.specs.Controller.{next_command, script_or_genmove, sent_to, with_side_up}
+use Rattle.gtp_match.specs.Controller.{next_command, undo_or, script_or_genmove, sent_to, with_side_up}
 use Rattle.gtp_match.specs.Hearing.{MayKeep, HearsUp, HearsWhere, Hears, HearsAllBy, HearsAll}
 use Rattle.gtp_match.specs.Next.{next}
 use Rattle.gtp_match.specs.Unanswered.{oldest}
@@ -51,7 +51,7 @@ use Rattle.gtp_world.proofs.Happenings.{send_keeps, fed_keeps}
 use Rattle.gtp_world.proofs.Settle.{idle_lists_empty, no_orders_left, no_replies_left}
 use Rattle.gtp_world.specs.Exchange.{Answered, reply_with_id, reply_bytes, replayed, Owes, all_reply_bytes}
 use Rattle.gtp_session.specs.CommandAnswers.{GoesWell, success_text}
-use Rattle.gtp_world.specs.Joined.{EngineBody, body, BareLane, bare, IsJoinedInPlay, AreJoined}
+use Rattle.gtp_world.specs.Joined.{Rules, rule_of, ruled, EngineBody, body, BareLane, bare, IsJoinedInPlay, AreJoined}
 use Rattle.std.proofs.lemmas.List.{drop_all, take_all}
 
 -- ---- texts of script commands are short
@@ -67,6 +67,7 @@ success_short g (FixedHandicap stones) h =
     omega (arith, few_handicap_points g.size stones, short-vertices g.size points h.1.1.most on)
 success_short g (Play move) h = lit≤ tt
 success_short g (Genmove c) h = absurd h
+success_short g Undo h = absurd h
 success_short g Quit h = absurd h
 
 -- the reply to a script command has at most 50 bytes
@@ -111,21 +112,26 @@ nothing_heard s c c2 bytes fault e HearsAllBy.used_up = refl
 nothing_heard s c c2 bytes fault e (HearsAllBy.faulty used some h) = absurd (omega (arith, some, ap length e))
 nothing_heard s c c2 bytes fault e (HearsAllBy.goes_on used some h more) = absurd (omega (arith, some, ap length e))
 
-module _ (c : Controller) (s : Colour) (u : Incarnation) (o : SentCommand) (b : EngineBody) (tc : List ℕ)
-    (lo : BareLane) (j : AreJoined c s (record { engine = Some b; to_engine = []; to_controller = tc }) lo)
+module _ (rules : Rules) (c : Controller) (s : Colour) (u : Incarnation) (o : SentCommand) (b : EngineBody) (tc : List ℕ)
+    (lo : BareLane) (j : AreJoined rules c s (record { engine = Some b; to_engine = []; to_controller = tc }) lo)
+    (legal : IsGame (ruled (rule_of rules s) c.game))
     (none : c.verdict ≡ None) (up : (side_of c.sides s).up ≡ Some u) (one : u.unanswered ≡ o ∷ [])
     (scripted : slice_get (script c.game) u.confirmed ≡ Some o.command) where
-  abbrev mine : IsJoinedInPlay c.game u (record { engine = Some b; to_engine = []; to_controller = tc })
-  mine = rw (none, up) at j.mine
+  -- the game as the side's engine has it
+  abbrev g : GameRecord
+  g = ruled (rule_of rules s) c.game
 
-  abbrev well : GoesWellOn c.game.size (replayed c.game u.confirmed) o.command
-  well = well_at c.game.size (fresh_game_under c.game.rule) (script c.game) u.confirmed o.command (script_well c.game j.sound.game) scripted
+  abbrev mine : IsJoinedInPlay g u (record { engine = Some b; to_engine = []; to_controller = tc })
+  mine = rw (none, up) at j.mine.joined
 
-  abbrev owed : OneReply c.game u o mine.begun tc
-  owed = one_reply c.game u o b tc mine one
+  abbrev well : GoesWellOn g.size (replayed g u.confirmed) o.command
+  well = well_at g.size (fresh_game_under g.rule) (script c.game) u.confirmed o.command (script_well g legal) scripted
+
+  abbrev owed : OneReply g u o mine.begun tc
+  owed = one_reply g u o b tc mine one
 
   is_reply : IsReply (reply_bytes owed.reply) owed.reply
-  is_reply = answered_is_reply (replayed c.game u.confirmed) o owed.reply owed.game_after owed.answered
+  is_reply = answered_is_reply (replayed g u.confirmed) o owed.reply owed.game_after owed.answered
 
   -- the reply fits into a round's bytes
   pub reply_fits : length tc ≤ 100
@@ -133,7 +139,7 @@ module _ (c : Controller) (s : Colour) (u : Incarnation) (o : SentCommand) (b : 
       omega (
         arith,
         script_reply_short
-            (replayed c.game u.confirmed) o owed.reply owed.game_after well.well owed.answered,
+            (replayed g u.confirmed) o owed.reply owed.game_after well.well owed.answered,
         ap length owed.text,
         length-append mine.begun tc,
       )
@@ -141,7 +147,7 @@ module _ (c : Controller) (s : Colour) (u : Incarnation) (o : SentCommand) (b : 
   confirms : outcome c.game s (oldest u.unanswered) owed.reply ≡ Confirms
   confirms =
       ap (λ (os : List SentCommand). outcome c.game s (oldest os) owed.reply) one
-      ∙ scripted_outcome c.game s o owed.reply (replayed c.game u.confirmed) owed.game_after owed.answered well
+      ∙ scripted_outcome c.game s o owed.reply (replayed g u.confirmed) owed.game_after owed.answered well
 
   first : IsFirst (u.rest ++ tc) (length (reply_bytes owed.reply)) (Ok owed.reply)
   first =
@@ -224,21 +230,23 @@ pub record IsReady {P : Type 0} (up : Option Incarnation) (l : Lane P) (count : 
 pub record RoundDone {P : Type 0} (s : Colour) (c c2 : Controller) (l2 : Lane P) (count : ℕ) : Type 0 where
   pub game : c2.game ≡ c.game
   pub verdict : c2.verdict ≡ None
+  pub pending : c2.pending ≡ None
   pub ready : IsReady (side_of c2.sides s).up l2 (count + 1)
   pub others : (side_of c2.sides (other s)).up ≡ (side_of c.sides (other s)).up
 
 -- the lane of a side with nothing unanswered
-lane_is_idle : {P : Type 0} (c : Controller) (s : Colour) (l : Lane P) (lo : BareLane) (u : Incarnation) (e : Engine P)
-    → AreJoined c s (bare l) lo → c.verdict ≡ None → (side_of c.sides s).up ≡ Some u
+lane_is_idle : {P : Type 0} (rules : Rules) (c : Controller) (s : Colour) (l : Lane P) (lo : BareLane) (u : Incarnation) (e : Engine P)
+    → AreJoined rules c s (bare l) lo → c.verdict ≡ None → (side_of c.sides s).up ≡ Some u
     → u.unanswered ≡ [] → l.engine ≡ Some e → l ≡ record { engine = Some e; to_engine = []; to_controller = [] }
-lane_is_idle c s l lo u e j none up idle runs =
-    let live : IsJoinedInPlay c.game u (bare l) = rw (none, up) at j.mine in
-    let empty = idle_lists_empty c.game u (bare l) live idle in
+lane_is_idle rules c s l lo u e j none up idle runs =
+    let g : GameRecord = ruled (rule_of rules s) c.game in
+    let live : IsJoinedInPlay g u (bare l) = rw (none, up) at j.mine.joined in
+    let empty = idle_lists_empty g u (bare l) live idle in
     λ i. record { engine = runs i; to_engine = empty.0 i; to_controller = empty.1 i }
 
-module _ {P : Type 0} (may : May P) (lawful : AllowsLawful may) (s : Colour) (c : Controller) (l : Lane P)
-    (lo : BareLane) (count : ℕ) (is : next c ≡ Send s) (j : AreJoined c s (bare l) lo)
-    (none : c.verdict ≡ None) (ready : IsReady (side_of c.sides s).up l count) (k : Command)
+module _ {P : Type 0} (may : May P) (lawful : AllowsLawful may) (rules : Rules) (s : Colour) (c : Controller)
+    (l : Lane P) (lo : BareLane) (count : ℕ) (is : next c ≡ Send s) (j : AreJoined rules c s (bare l) lo)
+    (legal : IsGame (ruled (rule_of rules s) c.game)) (free : c.pending ≡ None) (none : c.verdict ≡ None) (ready : IsReady (side_of c.sides s).up l count) (k : Command)
     (scripted : slice_get (script c.game) count ≡ Some k) where
   abbrev engine : Incarnation
   engine = ready.incarnation
@@ -255,7 +263,9 @@ module _ {P : Type 0} (may : May P) (lawful : AllowsLawful may) (s : Colour) (c 
 
   command_is : next_command c s engine ≡ k
   command_is =
-      ap (λ (n : ℕ). script_or_genmove s (slice_get (script c.game) n)) number ∙ ap (script_or_genmove s) scripted
+      ap (λ (p : Option Colour). undo_or p (script_or_genmove s (slice_get (script c.game)
+      (engine.confirmed + length engine.unanswered)))) free
+      ∙ ap (λ (n : ℕ). script_or_genmove s (slice_get (script c.game) n)) number ∙ ap (script_or_genmove s) scripted
 
   -- the command has gone out
   abbrev sent_lane : Lane P
@@ -276,7 +286,7 @@ module _ {P : Type 0} (may : May P) (lawful : AllowsLawful may) (s : Colour) (c 
   asked_up = ap (λ (x : SideState). x.up) (at_put s (with_engine asked (side_of c.sides s)) c.sides)
 
   -- the reply is heard
-  heard_done : (after : Engine P) (written : List ℕ) → AreJoined sender s (bare (fed_lane after written)) lo
+  heard_done : (after : Engine P) (written : List ℕ) → AreJoined rules sender s (bare (fed_lane after written)) lo
       → (c3 : Controller) (l3 : Lane P) → SideHears s sender (fed_lane after written) 100 c3 l3
       → RoundDone s c c3 l3 count
   heard_done after written j2 c3 l3 heard =
@@ -286,11 +296,11 @@ module _ {P : Type 0} (may : May P) (lawful : AllowsLawful may) (s : Colour) (c 
       let h : HearsFront s sender (fed_lane after written) 100 c3 l3 =
       subst (λ (x : Option Incarnation). HearsWhereUp s sender x (fed_lane after written) 100 c3 l3) asked_up heard in
       let fits : length written ≤ 100 =
-      reply_fits sender s asked order (body after) written lo j2 none asked_up one scripted_now in
+      reply_fits rules sender s asked order (body after) written lo j2 legal none asked_up one scripted_now in
       let hears : HearsAll s sender written h.fault c3 =
       subst (λ (t : List ℕ). HearsAll s sender t h.fault c3) (take_all 100 written fits) h.hears in
       let c3_is : c3 ≡ confirmed_by sender s (heard_reply asked) =
-      all_confirm sender s asked order (body after) written lo j2 none asked_up one scripted_now h.fault c3 hears in
+      all_confirm rules sender s asked order (body after) written lo j2 legal none asked_up one scripted_now h.fault c3 hears in
       let last : Incarnation = confirmed (heard_reply asked) in
       let last_up : (side_of c3.sides s).up ≡ Some last =
       ap (λ (d : Controller). (side_of d.sides s).up) c3_is
@@ -298,6 +308,7 @@ module _ {P : Type 0} (may : May P) (lawful : AllowsLawful may) (s : Colour) (c 
       record {
         game = ap (λ (d : Controller). d.game) c3_is;
         verdict = ap (λ (d : Controller). d.verdict) c3_is ∙ none;
+        pending = ap (λ (d : Controller). d.pending) c3_is ∙ free;
         ready = record {
           incarnation = last;
           is_up = last_up;
@@ -320,7 +331,7 @@ module _ {P : Type 0} (may : May P) (lawful : AllowsLawful may) (s : Colour) (c 
   round_done c1 l1 sends l2 fed c3 l3 heard =
       let sender_is : c1 ≡ sender = sends.controller_is ∙ ap (λ (x : Option Incarnation). sent_to c s x) ready.is_up in
       let before : l ≡ record { engine = Some ready.running; to_engine = []; to_controller = [] } =
-      lane_is_idle c s l lo engine ready.running j none ready.is_up ready.idle ready.runs in
+      lane_is_idle rules c s l lo engine ready.running j none ready.is_up ready.idle ready.runs in
       let sent_is : l1 ≡ sent_lane =
       sends.lane ∙ ap (λ (x : Option Incarnation). lane_with_next c s x l) ready.is_up
       ∙ ap (λ (x : Lane P). written_lane x (next_text c s engine)) before in
@@ -329,11 +340,11 @@ module _ {P : Type 0} (may : May P) (lawful : AllowsLawful may) (s : Colour) (c 
       let fed_is : l2 ≡ fed_lane r.after r.written =
       r.lane ∙ ap (λ (t : List ℕ). record { engine = Some r.after; to_engine = t; to_controller = r.written })
       (drop_all 100 (next_text c s engine) bytes_short) in
-      let j2 : AreJoined c1 s (bare l2) lo =
-      fed_keeps may lawful c1 s l1 l2 lo 100 fed (send_keeps c c1 s l l1 lo is sends j) in
-      let now : AreJoined sender s (bare (fed_lane r.after r.written)) lo =
-      subst (λ (d : Controller). AreJoined d s (bare (fed_lane r.after r.written)) lo) sender_is
-      (subst (λ (x : Lane P). AreJoined c1 s (bare x) lo) fed_is j2) in
+      let j2 : AreJoined rules c1 s (bare l2) lo =
+      fed_keeps may lawful rules c1 s l1 l2 lo 100 fed (send_keeps rules c c1 s l l1 lo is sends j) in
+      let now : AreJoined rules sender s (bare (fed_lane r.after r.written)) lo =
+      subst (λ (d : Controller). AreJoined rules d s (bare (fed_lane r.after r.written)) lo) sender_is
+      (subst (λ (x : Lane P). AreJoined rules c1 s (bare x) lo) fed_is j2) in
       let hears : SideHears s sender (fed_lane r.after r.written) 100 c3 l3 =
       subst (λ (d : Controller). SideHears s d (fed_lane r.after r.written) 100 c3 l3) sender_is
       (subst (λ (x : Lane P). SideHears s c1 x 100 c3 l3) fed_is heard) in

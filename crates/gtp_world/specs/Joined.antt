@@ -1,11 +1,13 @@
 -- What joins the controller, the engines and the bytes between them. It holds in the opening, each event keeps it, and
--- it says that a running engine whose side is in step is at the controller's game.
-use Rattle.std.specs.Prelude.{◌≡◌, ℕ, ◌+◌, ◌≤◌, Bool, false, List, [], ◌++◌, length, Option, None, Some}
+-- it says that a running engine whose side is in step is at the controller's game, under its own ko rule.
+use Rattle.std.specs.Prelude.{◌≡◌, ℕ, ◌+◌, ◌≤◌, ◌⊎◌, Bool, true, false, List, [], ◌++◌, length, Option, None, Some}
 use Rattle.std.specs.List.{AllByRecursion}
 use Rattle.go_base.specs.Colour.{other}
 use Rattle.go_base.specs.declared.colours.Colour.{Colour}
-use Rattle.go_base.specs.declared.colours.Colour.TheVariants.{Black}
-use Rattle.go_board.specs.Game.{GameRecord}
+use Rattle.go_base.specs.declared.colours.Colour.TheVariants.{Black, White}
+use Rattle.go_board.specs.Game.{GameRecord, IsGame, without_last}
+use Rattle.go_board.specs.declared.rules.KoRule.{KoRule}
+use Rattle.go_board.specs.declared.rules.KoRule.TheVariants.{Simple, Positional}
 use Rattle.gtp_wire.specs.declared.replies.Reply.{Reply}
 use Rattle.gtp_wire.specs.Lines.{lines, SameFuture}
 use Rattle.gtp_wire.specs.Replies.{TellsNothing}
@@ -20,9 +22,33 @@ use Rattle.gtp_match.specs.Hearing.{MayKeep}
 use Rattle.gtp_match.specs.Sides.{side_of}
 use Rattle.gtp_match.specs.Sound.{IsSound}
 use Rattle.gtp_match.specs.Unanswered.{most_unanswered}
+use Rattle.gtp_match.specs.Retakes.{most_retakes, retakes_of}
+use Rattle.gtp_match.specs.Taking.{moved_last, has_all}
+use Rattle.gtp_match.specs.declared.verdicts.ForfeitCause.TheVariants.{RefusedPlay, NoMove, NoVertex, IllegalMove}
 use Rattle.gtp_world.specs.Lane.{Lane}
 use Rattle.gtp_world.specs.World.{World}
 use Rattle.gtp_world.specs.Exchange.{CanBeWritten, all_sent_bytes, all_reply_bytes, Owes, AllMayBeSent, replayed}
+
+-- ---- ko rules
+
+-- the ko rules of the engines of both sides
+pub record Rules : Type 0 where
+  pub black : KoRule
+  pub white : KoRule
+
+abbrev pub rule_of : Rules → Colour → KoRule
+rule_of rules Black = rules.black
+rule_of rules White = rules.white
+
+-- the game under this ko rule
+abbrev pub ruled : KoRule → GameRecord → GameRecord
+ruled rule game = record game { rule = rule }
+
+-- What a side's engine can replay under its ko rule: the game without its last move, and the whole game where the side
+-- made the last move, or where its engine has confirmed the whole script.
+pub record IsPlayable (rule : KoRule) (game : GameRecord) (side : Colour) (up : Option Incarnation) : Type 0 where
+  pub earlier : IsGame (without_last (ruled rule game))
+  pub last : (moved_last game side ≡ true) ⊎ (has_all game up ≡ true) → IsGame (ruled rule game)
 
 -- ---- engines and lanes, without the policy
 
@@ -117,22 +143,42 @@ IsJoinedSide game (Some verdict) (Some side) lane = IsJoinedAtEnd game side lane
 
 -- ---- the world
 
--- no verdict blames an engine, and a side is given up only after all its starts
-abbrev pub IsFair : ℕ → Sides → Option Verdict → Type 0
-IsFair most sides None = Unit {0}
-IsFair most sides (Some (Forfeit side cause)) = ⊥
-IsFair most sides (Some (Unfit side)) = ⊥
-IsFair most sides (Some (Abandoned side)) = (side_of sides side).starts ≡ most + 1
-IsFair most sides (Some (Score half_points)) = Unit {0}
-IsFair most sides (Some (Resign side)) = Unit {0}
-IsFair most sides (Some Limit) = Unit {0}
+-- A side refused the last move once more: it plays under positional ko, the other side made the move under simple ko, the
+-- game with it is none under positional ko, and moves of that number were retaken as often as may be. No `undo` failed:
+-- nothing is to be taken back.
+pub record IsRefusal (rules : Rules) (c : Controller) (side : Colour) : Type 0 where
+  pub positional : rule_of rules side ≡ Positional
+  pub simple : rule_of rules (other side) ≡ Simple
+  pub by_other : moved_last c.game (other side) ≡ true
+  pub repeats : ¬ IsGame (ruled Positional c.game)
+  pub often : retakes_of c.retakes (length c.game.moves) ≡ most_retakes
+  pub nothing : c.pending ≡ None
+
+-- No verdict blames an engine, but one that refused moves of one number again and again; and a side is given up only
+-- after all its starts.
+abbrev pub IsFair : Rules → Controller → Option Verdict → Type 0
+IsFair rules c None = Unit {0}
+IsFair rules c (Some (Forfeit side RefusedPlay)) = IsRefusal rules c side
+IsFair rules c (Some (Forfeit side NoMove)) = ⊥
+IsFair rules c (Some (Forfeit side NoVertex)) = ⊥
+IsFair rules c (Some (Forfeit side IllegalMove)) = ⊥
+IsFair rules c (Some (Unfit side)) = ⊥
+IsFair rules c (Some (Abandoned side)) = (side_of c.sides side).starts ≡ c.setup.max_restarts + 1
+IsFair rules c (Some (Score half_points)) = Unit {0}
+IsFair rules c (Some (Resign side)) = Unit {0}
+IsFair rules c (Some Limit) = Unit {0}
+
+-- one side with its lane, under its ko rule
+pub record IsJoinedUnder (rule : KoRule) (c : Controller) (side : Colour) (lane : BareLane) : Type 0 where
+  pub joined : IsJoinedSide (ruled rule c.game) c.verdict (side_of c.sides side).up lane
+  pub playable : IsPlayable rule c.game side (side_of c.sides side).up
 
 -- a sound controller with a fair verdict, and both sides with their lanes: the lane of this side, and that of the other
-pub record AreJoined (c : Controller) (side : Colour) (lane others : BareLane) : Type 0 where
+pub record AreJoined (rules : Rules) (c : Controller) (side : Colour) (lane others : BareLane) : Type 0 where
   pub sound : IsSound c
-  pub fair : IsFair c.setup.max_restarts c.sides c.verdict
-  pub mine : IsJoinedSide c.game c.verdict (side_of c.sides side).up lane
-  pub theirs : IsJoinedSide c.game c.verdict (side_of c.sides (other side)).up others
+  pub fair : IsFair rules c c.verdict
+  pub mine : IsJoinedUnder (rule_of rules side) c side lane
+  pub theirs : IsJoinedUnder (rule_of rules (other side)) c (other side) others
 
-abbrev pub IsJoined : {B W : Type 0} → World B W → Type 0
-IsJoined world = AreJoined world.controller Black (bare world.black) (bare world.white)
+abbrev pub IsJoined : {B W : Type 0} → Rules → World B W → Type 0
+IsJoined rules world = AreJoined rules world.controller Black (bare world.black) (bare world.white)

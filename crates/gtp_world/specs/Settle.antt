@@ -3,7 +3,7 @@ use Rattle.std.specs.Prelude.{◌≡◌, ◌+◌, true, List, [], ◌∷◌, ◌
 use Rattle.std.specs.List.{flat_map}
 use Rattle.go_base.specs.declared.colours.Colour.{Colour}
 use Rattle.go_base.specs.declared.colours.Colour.TheVariants.{Black, White}
-use Rattle.go_board.specs.Game.{GameRecord}
+use Rattle.go_board.specs.Game.{GameRecord, IsGame}
 use Rattle.gtp_wire.specs.declared.commands.Command.{Command}
 use Rattle.gtp_session.specs.Engine.{Engine}
 use Rattle.gtp_match.specs.declared.sides.Incarnation.{Incarnation}
@@ -13,10 +13,13 @@ use Rattle.gtp_match.specs.Script.{script}
 use Rattle.gtp_match.specs.Setup.{SetupRecord, IsSetup}
 use Rattle.gtp_match.specs.Sides.{side_of}
 use Rattle.gtp_match.specs.Sound.{IsIdle}
+use Rattle.gtp_match.specs.Taking.{taking_back}
 use Rattle.gtp_world.specs.declared.events.Event.{Event}
 use Rattle.gtp_world.specs.declared.events.Event.TheVariants.{Act, ToEngine, ToController}
 use Rattle.gtp_world.specs.Lane.{SidePolicies}
 use Rattle.gtp_world.specs.World.{World, opening, Runs}
+use Rattle.gtp_world.specs.Joined.{Rules, rule_of, ruled}
+use Rattle.gtp_world.specs.Laws.{rules_of}
 
 -- ---- the events
 
@@ -51,9 +54,12 @@ abbrev pub RunsWhereUp : {P : Type 0} → Option Incarnation → Option (Engine 
 RunsWhereUp None engine = Unit {0}
 RunsWhereUp (Some u) engine = IsSome engine
 
--- no verdict, nothing unanswered, and an engine runs for each side that is up
-pub record MaySettle {B W : Type 0} (world : World B W) : Type 0 where
+-- No verdict, nothing unanswered, nothing to be taken back, and an engine runs for each side that is up; and the game is
+-- one under the ko rule of each side.
+pub record MaySettle {B W : Type 0} (rules : Rules) (world : World B W) : Type 0 where
   pub verdict : world.controller.verdict ≡ None
+  pub nothing : taking_back world.controller ≡ None
+  pub games : (side : Colour) → IsGame (ruled (rule_of rules side) world.controller.game)
   pub idle : (side : Colour) → IsIdle (side_of world.controller.sides side).up
   pub black : RunsWhereUp world.controller.sides.black.up world.black.engine
   pub white : RunsWhereUp world.controller.sides.white.up world.white.engine
@@ -70,5 +76,6 @@ module _ {B W : Type 0} (policies_black : SidePolicies B) (policies_white : Side
   abbrev pub Settles : Type 0
   Settles =
       (setup : SetupRecord) (events : List Event) (old new : World B W) → IsSetup setup
-      → Runs policies_black policies_white (opening setup) events old → MaySettle old
+      → Runs policies_black policies_white (opening setup) events old
+      → MaySettle (rules_of policies_black policies_white) old
       → Runs policies_black policies_white old (settle old.controller) new → IsSettled old new

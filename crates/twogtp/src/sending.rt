@@ -4,6 +4,7 @@ ghost use Rattle.arrayvec.specs.ArrayVec.{array_vec_len};
 ghost use Rattle.gtp_match.specs.declared.verdicts.Action.TheVariants as action;
 ghost use Rattle.gtp_match.specs.Controller.{sent};
 ghost use Rattle.gtp_match.specs.Next.{next};
+ghost use Rattle.gtp_match.specs.Sound.{IsSound};
 ghost use Rattle.twogtp.specs.Speaking.{TakesAll, command_text};
 
 use arrayvec::ArrayVec;
@@ -35,6 +36,7 @@ pub fn take_commands(game: &mut Match, side: Side) -> CommandsText
 fn is_to_send(game: &Match, side: Side) -> bool
     ensures yes { result ≡ true → next game.now ≡ action.Send side }
     ensures no { result ≡ false → next game.now ≢ action.Send side }
+    ensures sound { IsSound game.now }
 {
     match (game.next(), side) {
         (Action::Send(Side::Black), Side::Black) | (Action::Send(Side::White), Side::White) => true,

@@ -2,4 +2,4 @@ use Rattle.gtp_world.proofs.Agreement.{inv_agrees}
 use Rattle.gtp_world.proofs.laws.joined_worlds_agree.Goals as goal
 
 pub returns : goal.returns
-returns g c world joined = inv_agrees world joined
+returns g c rules world joined = inv_agrees rules world joined

@@ -2,4 +2,4 @@ use Rattle.gtp_world.proofs.Happenings.{opening_has}
 use Rattle.gtp_world.proofs.laws.openings_are_joined.Goals as goal
 
 pub returns : goal.returns
-returns g c setup is = opening_has setup is
+returns g c rules setup is = opening_has rules setup is

@@ -1,0 +1,5 @@
+use Rattle.gtp_match.proofs.CauseLemmas.{others_leave_the_retakes}
+use Rattle.gtp_match.proofs.laws.others_leave_the_retakes.Goals as goal
+
+pub returns : goal.returns
+returns ctx c s = others_leave_the_retakes c s
