@@ -13,6 +13,7 @@ from . import replies
 START, SEND, WAIT, DONE = "start", "send", "wait", "done"
 SIDES = [BLACK, WHITE]
 MOST_UNANSWERED = 8
+MOST_RETAKES = 3  # of one move number in a match
 
 # A match's values: komi in half points, the other numbers as they are.
 Setup = namedtuple("Setup", "size komi handicap most_moves most_restarts")
@@ -41,6 +42,8 @@ class Controller:
             self.game.place_handicap(self.handicap_points())
         self.sides = {BLACK: None, WHITE: None}
         self.starts = {BLACK: 0, WHITE: 0}
+        self.retakes = {}  # of each move number, from 1, where there were any
+        self.pending = None  # the maker of the last move, where that move is to be taken back
         self.verdict = None
 
     # ---- what the tables speak of
@@ -71,6 +74,15 @@ class Controller:
         first = WHITE if self.setup.handicap else BLACK
         return first if len(self.game.moves) % 2 == 0 else values.other(first)
 
+    def is_last_of_the_other(self, side):
+        """Is the oldest unanswered command of this side the script's last one, a play, whose move the other side made?"""
+        is_last = self.sides[side].confirmed == len(self.script()) - 1
+        return is_last and bool(self.game.moves) and self.game.moves[-1][0] == values.other(side)
+
+    def has_confirmed_all(self, side):
+        """Is this side up, and has it confirmed the whole script?"""
+        return not self.is_down(side) and self.sides[side].confirmed == len(self.script())
+
     def restarts(self, side):
         """How often this side was started again."""
         return max(0, self.starts[side] - 1)
@@ -84,6 +96,7 @@ class Controller:
         for does, applies in [
             (WAIT, self.has_to_answer),
             (SEND, self.has_unanswered),
+            (SEND, self.is_to_undo),
             (START, self.is_down),
             (SEND, self.left),
         ]:
@@ -105,6 +118,10 @@ class Controller:
         asked = any(command[0] == "genmove" for _, command in unanswered)
         return len(unanswered) >= self.most or asked or not self.left(side)
 
+    def is_to_undo(self, side):
+        """Is a move of this side to be taken back?"""
+        return self.pending == side
+
     def is_down(self, side):
         """Is this side down?"""
         return self.sides[side] is None
@@ -117,21 +134,33 @@ class Controller:
         self.starts[side] += 1
 
     def send(self, side):
-        """The bytes of the command that this side is sent: its next script command, or else a genmove. The k-th command that an
-        engine is sent has the id k."""
+        """The bytes of the command that this side is sent: an undo where its move is to be taken back, or its next script command,
+        or else a genmove. The k-th command that an engine is sent has the id k."""
         up = self.sides[side]
-        command = (self.left(side) or [("genmove", letter(side))])[0]
+        if self.is_to_undo(side):
+            command = ("undo",)
+        else:
+            command = (self.left(side) or [("genmove", letter(side))])[0]
         up.sent += 1
         up.unanswered.append((up.sent, command))
         return b" ".join([b"%d" % up.sent, command[0].encode(), *command[1:]]) + b"\n"
 
     def lost(self, side):
-        """This side's engine is gone, or can't be understood any more. Where it has had all its starts, it is abandoned."""
+        """This side's engine is gone, or can't be understood any more. Where its move was to be taken back, that move leaves the
+        record. Where it has had all its starts, it is abandoned."""
         if self.is_down(side):
             return
         self.sides[side] = None
-        if self.verdict is None and self.starts[side] == self.setup.most_restarts + 1:
-            self.verdict = f"abandoned {side}"
+        if self.verdict is None:
+            if self.is_to_undo(side):
+                self.take_back()
+            if self.starts[side] == self.setup.most_restarts + 1:
+                self.verdict = f"abandoned {side}"
+
+    def take_back(self):
+        """The last move leaves the record, and none is to be taken back."""
+        self.game.undo()
+        self.pending = None
 
     def heard(self, side, data):
         """This side wrote these bytes. Those of a side that is down change nothing, and so do all bytes after a verdict."""
@@ -160,6 +189,8 @@ class Controller:
             return self.lost(side)
         if command[0] == "genmove":
             return self.judge_move(side, reply)
+        if command[0] == "undo":
+            return self.judge_undo(side, reply)
         return self.judge_script(side, command, reply)
 
     def answers(self, reply, number):
@@ -170,12 +201,34 @@ class Controller:
         """A reply to a script command: refused, unfit, or confirmed."""
         up = self.sides[side]
         if not reply.ok and command[0] == "play":
-            self.forfeit(side, "refused play")
+            self.judge_refusal(side)
         elif not reply.ok or (command[0] == "fixed_handicap" and not self.names_handicap(reply.text)):
             self.verdict = f"unfit {side}"
         else:
             up.unanswered.pop(0)
             up.confirmed += 1
+
+    def judge_refusal(self, side):
+        """A play was refused. The last move, which the other side made, is taken back, at most three times for one number; where the
+        side that made it doesn't have the whole game, it leaves the record at once."""
+        number = len(self.game.moves)
+        if not self.is_last_of_the_other(side) or self.retakes.get(number, 0) >= MOST_RETAKES:
+            return self.forfeit(side, "refused play")
+        self.sides[side].unanswered.pop(0)
+        self.retakes[number] = self.retakes.get(number, 0) + 1
+        maker = values.other(side)
+        if self.has_confirmed_all(maker):
+            self.pending = maker
+        else:
+            self.game.undo()
+
+    def judge_undo(self, side, reply):
+        """A reply to an undo: the move is taken back, or the other side, which refused it, forfeits."""
+        if not reply.ok:
+            return self.forfeit(values.other(side), "refused play")
+        self.sides[side].unanswered.pop(0)
+        self.sides[side].confirmed -= 1
+        self.take_back()
 
     def names_handicap(self, text):
         """Are these words vertices, which are the handicap's points, each once, in any order?"""

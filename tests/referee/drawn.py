@@ -7,14 +7,18 @@ Drawn is only what has one outcome, whenever a process happens to run. So these 
   then, where it sends several before the first is answered, is a question of time;
 - an engine that gives a script command a reply that ends the match, and then ends: the controller may meet its end first;
 - a reply and another behind it, from an engine that also writes thousands of bytes: they may come in two reads;
-- anything that an engine writes while it is told nothing.
+- anything that an engine writes while it is told nothing;
+- an engine that refuses a move before the last one, and notes what it is told behind it.
 """
 import random
+from collections import namedtuple
 
+from reference.game import POSITIONAL, SIMPLE
 from reference.values import BLACK, WHITE
 
 from . import faults
 from .engines import OTHERS, Other, Ours, Planned
+from .faulty import ENDS, REFUSES
 from .matches import Match
 
 KOMIS = ["6.5", "0", "0.5", "7", "-0", "+.5", "-3.50", "007.", "-12.5", "999999999.5", "40"]
@@ -26,15 +30,63 @@ RESTARTS = [0, 1, 1, 2, 2, 3, 3]
 LATE = [1, 1, 1, 2, 2, 2, 3, 3, 4, 6]
 LATER = [1, 2, 3, 3, 4, 4, 5, 6, 7, 8, 9, 10, 13, 18]
 
+# What one engine does first, its own faults, and those of the other one, where they aren't drawn: lists of faults, each a life, the
+# places of which one is drawn, a template and what comes then. `moves_first` says whether that engine moves first, where that isn't
+# drawn. The restarts are some of these, the moves so many at least.
+Turn = namedtuple("Turn", "own other moves_first restarts moves", defaults=[None, None, RESTARTS, 1])
+
+REFUSAL = faults.REFUSALS[0]
+REFUSES_ONE = [(1, ["p1", "p1", "p2"], REFUSAL, REFUSES)]
+ONCE_MORE = (["g1"], "<reply><reply>", "on")  # it makes a move, and goes down
+ANYWHERE = ["c1", "c2", "c3", "c5", "g1", "p1", "u1"]
+
+# A match between two of our engines, of which one or both know the positional rule of ko, and how many of them there are.
+KO = "ko"
+KO_TURNS = 16
+
+
+def at(places, template, then="on"):
+    """What an engine does once, at one of these places. Where that is an undo, the other side refuses a move."""
+    return Turn([(1, places, template, then)])
+
+
+def undoing(template, then):
+    """What an engine does at an undo, where the other side refuses its first move, and maybe another one."""
+    return Turn([(1, ["u1"], template, then)], REFUSES_ONE, moves=3)
+
+
 # All that engines do, each with the places at which nearly every match comes by.
 EARLY = [
-    *((["c1", "c2", "c3", "c5", "g1", "p1"], template, then) for template, then in faults.ENDINGS),
-    *((["c1", "c2", "c3", "c5", "g1", "p1"], template, "on") for kind in faults.ANY for template in kind),
-    *((["g1", "g1", "g2"], template, "on") for template in faults.MOVES),
-    (["g1", "g1", "g2"], *faults.SHUT),
-    *((["h"], template, "on") for template in faults.STONES),
-    *((["q"], *quit) for quit in faults.QUITS),
-    *((["0"], *greeting) for greeting in faults.GREETINGS),
+    *(at(ANYWHERE, template, then) for template, then in faults.ENDINGS),
+    *(at(ANYWHERE, template) for kind in faults.ANY for template in kind),
+    *(at(["g1", "g1", "g2"], template) for template in faults.MOVES),
+    at(["g1", "g1", "g2"], *faults.SHUT),
+    *(at(["h"], template) for template in faults.STONES),
+    *(at(["q"], *quit) for quit in faults.QUITS),
+    *(at(["0"], *greeting) for greeting in faults.GREETINGS),
+    # It refuses moves of the other side.
+    *(Turn([(1, row, template, REFUSES)], moves=5) for row in faults.ROWS for template in faults.REFUSALS[::2]),
+    *(Turn([(1, ["p1-3"], REFUSAL, REFUSES), (1, [row], REFUSAL, REFUSES)], [], moves=8) for row in ("p5-6", "p6-8")),
+    *(Turn([(1, ["p1", "p2"], *more)], moves=5) for more in faults.REFUSED_AND_MORE),
+    Turn([("*", ["p1"], REFUSAL + "hello", "on")], [], False, [0, 1, 2], 3),
+    # It is told to take a move back.
+    *(undoing(template, then) for template, then in faults.ENDINGS + faults.UNDOES),
+    Turn([("*", ["u1"], "", ENDS)], [(1, ["p1-3"], REFUSAL, REFUSES)], None, [0, 1, 2], 3),
+    # It refuses a move when it is told of the game again, the other side's or its own, which is the last one or isn't.
+    *(Turn([(1, ["g2"], "", ENDS), (2, [place], REFUSAL, "on")], [], None, [1, 2, 3], 6) for place in ("p1", "p2", "p3")),
+    *(Turn([(1, *ONCE_MORE), (2, [place], REFUSAL, "on")], [], place == "p1", [1, 2, 3], 3) for place in ("p1", "p2")),
+    # It refuses a move, is started again, and refuses it again.
+    Turn([(1, ["p1-2"], REFUSAL, REFUSES), (1, ["p3"], "", ENDS), (2, ["p1-2"], REFUSAL, REFUSES)], [], False, [1, 2, 3], 3),
+    Turn([(1, ["p1-3"], REFUSAL, REFUSES), (1, ["p4"], "", ENDS), (2, ["p2"], REFUSAL, REFUSES)], [], True, [1, 2, 3], 3),
+    Turn([("*", ["p1"], REFUSAL, REFUSES), ("*", ["p2"], "", ENDS)], [], False, [3], 3),
+    # It refuses a move, takes it after all, is started again, and refuses it.
+    Turn([(1, ["p1-3"], REFUSAL, REFUSES), (1, ["g1"], "", ENDS), (2, ["p1"], REFUSAL, REFUSES)], [], False, [1, 2, 3], 3),
+    # It goes down after each of its moves, which the other side refuses.
+    *(Turn([("*", *ONCE_MORE)], [(1, ["p1-4"], REFUSAL, REFUSES)], first, [4], 3) for first in (False, True)),
+    # The other side refuses a move and goes down, and it fails to take the move back, or goes down too.
+    Turn([(1, ["u1"], REFUSAL, REFUSES)], [(1, ["p1"], REFUSAL + "hello", "on")], None, [1, 2, 3], 3),
+    Turn([("*", ["u1"], "", ENDS)], [(1, ["p1"], REFUSAL, REFUSES), (1, ["p2"], REFUSAL + "hello", "on")], None, [1], 3),
+    *([KO] * KO_TURNS),
 ]
 
 
@@ -42,22 +94,49 @@ def match_of(seed, number):
     """The match of this number that a seed gives. The number alone says what one of the engines does first, so that as many matches
     as EARLY is long have each of these once; all else is drawn."""
     r = random.Random(f"{seed} {number}")
-    places, template, then = EARLY[number % len(EARLY)]
-    early = written(r, 1, r.choice(places), template, then)
-    size = r.choice([7, 8, 9] if places == ["h"] else SIZES)
-    handicap = handicap_of(r, size, places == ["h"])
-    restarts, games = r.choice(RESTARTS), r.choice([1, 1, 1, 1, 2])
+    turn = EARLY[number % len(EARLY)]
+    return match_of_ko(r) if turn == KO else match_with(r, turn)
+
+
+def match_with(r, turn):
+    """A match in which one of the engines has this turn."""
+    has_stones = any(places == ["h"] for _, places, _, _ in turn.own)
+    own = plan_of(r, turn.own)
+    size = r.choice([7, 8, 9] if has_stones else SIZES if turn.other is None else SIZES[1:])
+    wrong = 0.015 if turn.other is None else 0  # how often an option is one that the program refuses
+    handicap = handicap_of(r, size, has_stones, wrong)
+    restarts, games = r.choice(turn.restarts), r.choice([1, 1, 1, 1, 2])
     lives = (restarts + 1) * games
-    komi = r.choice(BAD_KOMIS if r.random() < 0.02 else KOMIS)
-    engines = [engine_with(r, early, handicap, lives), engine_of(r, size, handicap, lives)]
-    r.shuffle(engines)
-    sides = dict(zip([BLACK, WHITE], engines))
-    return Match(size, komi, handicap, games, r.choice(MOST_MOVES), restarts, r.random() < 0.8, r.random() < 0.5, sides)
+    komi = r.choice(BAD_KOMIS if r.random() < wrong else KOMIS)
+    if turn.other is not None:
+        engines = [engine_with(r, plan, handicap, lives, 0) for plan in (own, plan_of(r, turn.other))]
+    elif "/u" in own[0]:
+        engines = [engine_with(r, plan, handicap, lives) for plan in (own, plan_of(r, REFUSES_ONE))]
+    else:
+        engines = [engine_with(r, own, handicap, lives), engine_of(r, size, handicap, lives)]
+    moves_first = r.random() < 0.5 if turn.moves_first is None else turn.moves_first
+    sides = [BLACK, WHITE] if moves_first == (handicap == 0) else [WHITE, BLACK]
+    most_moves = max(r.choice(MOST_MOVES), turn.moves)
+    return Match(size, komi, handicap, games, most_moves, restarts, r.random() < 0.8, r.random() < 0.5, dict(zip(sides, engines)))
 
 
-def handicap_of(r, size, is_wanted):
-    """A number of handicap stones: none in most matches where they aren't wanted; seldom one that the size doesn't allow."""
-    if not is_wanted and r.random() < 0.015:
+def plan_of(r, faults_of_it):
+    """These faults, each at one of its places."""
+    return [written(r, life, r.choice(places), template, then) for life, places, template, then in faults_of_it]
+
+
+def match_of_ko(r):
+    """A match between two of our engines, of which one or both know the positional rule, on a small board. On the smallest, positions
+    come back most often, and where White knows that rule."""
+    rules = r.choice([[SIMPLE, POSITIONAL]] * 6 + [[POSITIONAL, SIMPLE], [POSITIONAL, POSITIONAL]])
+    size, restarts = r.choice([2, 2, 2, 2, 2, 2, 3, 3, 4]), r.choice(RESTARTS)
+    engines = [our_engine(r, size, rule, r.choice(["first", "random", "random", "random"])) for rule in rules]
+    return Match(size, r.choice(KOMIS), 0, 1, r.choice([12, 20, 30, 40, 60]), restarts, True, True, dict(zip([BLACK, WHITE], engines)))
+
+
+def handicap_of(r, size, is_wanted, wrong):
+    """A number of handicap stones: none in most matches where they aren't wanted; so often one that the size doesn't allow."""
+    if not is_wanted and r.random() < wrong:
         return r.choice([1, 5, 9])
     if size < 7 or (not is_wanted and r.random() < 0.7):
         return 0
@@ -67,9 +146,11 @@ def handicap_of(r, size, is_wanted):
 # ---- engines
 
 
-def engine_with(r, early, handicap, lives):
-    """An engine that does this in its first life, and something else in most of the others."""
-    return faulty_engine(r, [early] + [fault_of(r, life, handicap) for life in range(2, lives + 1) if r.random() < 0.6])
+def engine_with(r, plan, handicap, lives, passes=None):
+    """An engine that does this first, and something else in most of the lives behind."""
+    seen = {fault.split("/")[0] for fault in plan}
+    behind = [life for life in range(2, lives + 1) if not seen & {str(life), "*"}]
+    return faulty_engine(r, plan + [fault_of(r, life, handicap) for life in behind if r.random() < 0.6], passes=passes)
 
 
 def engine_of(r, size, handicap, lives):
@@ -84,14 +165,15 @@ def engine_of(r, size, handicap, lives):
     return faulty_engine(r, [], long_style(r)) if kind < 0.96 else Other(r.choice(list(OTHERS)))
 
 
-def our_engine(r, size):
-    """Our engine, now and then with a fault of its own."""
+def our_engine(r, size, rule=None, policy=None):
+    """Our engine, now and then with a fault of its own. Its rule of ko and its policy are drawn where they aren't given."""
     fault = "none"
+    rule = rule or r.choice([SIMPLE, SIMPLE, POSITIONAL])
     if r.random() < 0.25:
         number = r.randint(1, 4)
         fault = r.choice([f"stop:{number}", f"cut:{number}:{r.randint(0, 9)}", f"junk:{number}", f"flood:{number}"])
-    policy = r.choice(["first", "random", "book"])
-    return Ours(policy, r.randint(0, 2**32 - 1), book_of(r, size) if policy == "book" else "", fault)
+    policy = policy or r.choice(["first", "random", "book"])
+    return Ours(policy, r.randint(0, 2**32 - 1), book_of(r, size) if policy == "book" else "", fault, rule)
 
 
 def book_of(r, size):
@@ -101,11 +183,12 @@ def book_of(r, size):
     return ",".join(places) or "A1"
 
 
-def faulty_engine(r, plan, style=None):
+def faulty_engine(r, plan, style=None, passes=None):
     """An engine with this plan. Beside a fault that writes thousands of bytes its replies are plain ones."""
+    passes = r.choice([0, 0, 2, 3, 5, 9]) if passes is None else passes
     is_long = any("fill" in fault or "*\\" in fault or "*_" in fault or "*a" in fault for fault in plan)
     style = style or ("<reply>" if is_long else r.choice(["<reply>"] * 20 + faults.STYLES))
-    return Planned(r.randint(0, 999), r.choice([0, 0, 2, 3, 5, 9]), style, ",".join(plan) or "-")
+    return Planned(r.randint(0, 999), passes, style, ",".join(plan) or "-")
 
 
 def long_style(r):
@@ -127,12 +210,24 @@ def fault_of(r, life, handicap):
         return written(r, life, "q", *r.choice(faults.QUITS))
     if kind < 0.11:
         return written(r, life, f"g{r.choice(LATE)}", *faults.SHUT)
-    if handicap and kind < 0.3:
+    if kind < 0.15:
+        return written(r, life, "u1", *deed_of(r))
+    if kind < 0.23:
+        return refusal_of(r, life)
+    if handicap and kind < 0.38:
         return written(r, life, "h", r.choice(faults.STONES), "on")
-    if kind < 0.25:
+    if kind < 0.35:
         return written(r, life, f"g{r.choice(LATE)}", r.choice(faults.MOVES), "on")
     place = r.choice([f"c{r.choice(LATER)}", f"g{r.choice(LATE)}", f"p{r.choice(LATE)}"])
     return written(r, life, place, *deed_of(r))
+
+
+def refusal_of(r, life):
+    """Plays that are refused in this life, one or some in a row. In the first life each play is the last move. In a later one it may
+    be another, whose refusal ends the match while more may be on its way to the engine, so it notes nothing any more."""
+    first = r.choice(LATE)
+    place = f"p{first}-{first + r.choice([0, 0, 1, 1, 2, 3, 6])}"
+    return written(r, life, place, r.choice(faults.REFUSALS), REFUSES if life == 1 else "on")
 
 
 def deed_of(r):

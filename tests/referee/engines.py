@@ -73,14 +73,15 @@ class Ours:
 
     takes_notes = False
 
-    def __init__(self, policy, seed=1, book="", fault="none"):
-        self.policy, self.seed, self.book, self.fault = policy, seed, book, fault
+    def __init__(self, policy, seed=1, book="", fault="none", rule="simple"):
+        self.policy, self.seed, self.book, self.fault, self.rule = policy, seed, book, fault, rule
         self.answered = {}
 
     def command(self, notes):
         """The words of its command."""
         words = ["gtp_engine", "--policy", self.policy, "--seed", str(self.seed)]
         words += ["--book", self.book] if self.book else []
+        words += ["--ko", self.rule] if self.rule != "simple" else []
         return words + (["--fault", self.fault] if self.fault != "none" else [])
 
     def started(self, life):
@@ -89,7 +90,7 @@ class Ours:
 
     def fresh(self):
         """The reference of it, under its fault."""
-        return Bent(reference.start(self.policy, self.seed, self.book.encode()), self.fault)
+        return Bent(reference.start(self.policy, self.seed, self.book.encode(), self.rule), self.fault)
 
 
 class Remembering:

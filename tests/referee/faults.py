@@ -57,7 +57,7 @@ STRANGE_IDS = [
     r"?<id+4294967296>_no\n\n",
     r"?_no\n\n",
 ]
-# Failures.
+# Failures. A play that fails is one that the engine refuses.
 REFUSALS = [r"?<id>_no\n\n", r"?<id>\n\n", r"?<id>_<text>\n\n", r"?00<id>no\n\n"]
 # Thousands of bytes: at the limit of 8,192, above it, and without an end.
 LONG = [
@@ -111,6 +111,25 @@ MOVES = [
 ]
 # To a genmove too: it closes its input before it replies. Nothing else is on its way to it then.
 SHUT = ("<reply>", "shuts")
+# To the last move, which the other side made: it is refused, so many times in a row. The engine doesn't do it.
+ROWS = [["p1", "p2", "p3"], ["p1-2", "p2-3"], ["p1-3", "p2-4"], ["p1-4", "p2-5"], ["p1-2000"]]
+# To the last move too: it is refused, and at once more follows than was asked for, or the front of a reply, or nothing more at all.
+REFUSED_AND_MORE = [
+    (r"?<id>_no\n\nhello", "on"),
+    (r"?<id>_no\n\n=\n\n", "on"),
+    (r"?<id>_no\n\n?<id>_no\n\n", "on"),
+    (r"?<id>_no\n\n=<id+1>\n\n", "on"),
+    (r"?<id>_no\n\n=", "on"),
+    (r"?<id>_no\n\n", "ends"),
+    (r"?<id>_no\n\n", "closes"),
+]
+# To an undo, beside the endings.
+UNDOES = [
+    *((refusal, "refuses") for refusal in REFUSALS),
+    *((template, "on") for template in [r"hello\n\n", r"<id>_ok\n\n", r"=<id-1>\n\n", r"=\n\n", r"?<id+1>_no\n\n", r"?_no\n\n"]),
+    *((template, "on") for template in [r"=<id>_as_you_like\n\n", r"\r\n_=00<id>\n\n", "<reply><reply>", "<reply>=", r"<8193*\n>"]),
+    SHUT,
+]
 # To a handicap.
 STONES = [
     *(r"=<id>_%s\n\n" % right for right in ["<reversed>", "<reversed>", "<lines>", "<lower>", r"_\t<text>_"]),

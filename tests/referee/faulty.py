@@ -8,10 +8,10 @@ board was empty, or passes at about one move in PASSES (never, where that is 0).
 
 STYLE is a template, by which all replies are written, `<reply>` for the plain one. PLAN is `-`, or faults with commas between:
 LIFE/PLACE/TEMPLATE/THEN. LIFE counts the processes that were started with this file NOTES, from 1; `*` is each of them. PLACE is 0
-before the first command, cN at the N-th command of this life, gN at its N-th genmove, pN at its N-th play, h at a handicap, q at
-quit. There the template is written in place of the reply, in one write. THEN is `on`; `ends`, and the process ends; `closes`, and
-its output ends; `shuts`, and its input is closed before that write, and the process goes on; or `forgets`, and it does not do what
-it was told.
+before the first command, cN at the N-th command of this life, gN at its N-th genmove, pN at its N-th play, uN at its N-th undo, h
+at a handicap, q at quit; pN-M is each play from the N-th to the M-th. There the template is written in place of the reply, in one
+write. THEN is `on`; `ends`, and the process ends; `closes`, and its output ends; `shuts`, and its input is closed before that
+write, and the process goes on; `forgets`, and it does not do what it was told; or `refuses`, which is the same, but the notes go on.
 
 In a template `_` is a space, \\n \\r \\t and \\xHH are bytes, and in angle brackets stand
 
@@ -23,7 +23,8 @@ In a template `_` is a space, \\n \\r \\t and \\xHH are bytes, and in angle brac
     <8193*\\n>              so many times that byte
     <fill:8192:\\n>         as many of that byte as make the whole template so long
 
-At its start it adds a line `start` to NOTES, and then each command that it is told, until a fault came.
+At its start it adds a line `start` to NOTES, and then each command that it is told, until a fault came. What it does at an undo is
+to reply: what was taken back was named all the same, so it plays another point.
 
 It is run as a process by `twogtp`, and as an object by the reference. It imports little, so that it starts quickly.
 """
@@ -32,7 +33,7 @@ import sys
 import time
 
 COLUMNS = b"ABCDEFGHJKLMNOPQRSTUVWXYZ"
-ENDS, CLOSES, SHUTS, FORGETS = "ends", "closes", "shuts", "forgets"
+ENDS, CLOSES, SHUTS, FORGETS, REFUSES = "ends", "closes", "shuts", "forgets", "refuses"
 LONG = 100  # seconds, more than any match takes
 
 
@@ -40,7 +41,9 @@ class Fault:
     """A fault of the plan."""
 
     def __init__(self, text):
-        self.life, self.place, self.template, self.then = text.split("/")
+        self.life, place, self.template, self.then = text.split("/")
+        first, _, last = place[1:].partition("-")
+        self.places = [f"{place[0]}{number}" for number in range(int(first), int(last) + 1)] if last else [place]
 
 
 def read_plan(text):
@@ -84,7 +87,7 @@ class Faulty:
         words = line.split()
         number = words.pop(0) if words[0].isdigit() else b""
         fault = self.fault_at(self.places(words[0].decode()))
-        text = b"" if fault and fault.then == FORGETS else self.text_of(words[0], words[1:])
+        text = b"" if fault and fault.then in (FORGETS, REFUSES) else self.text_of(words[0], words[1:])
         if fault:
             return self.written(fault.template, number, text), fault.then
         return self.written(self.style, number, text), ENDS if words[0] == b"quit" else "on"
@@ -94,15 +97,15 @@ class Faulty:
         for counted in ("", name):
             self.count[counted] = self.count.get(counted, 0) + 1
         places = ["c%d" % self.count[""]]
-        if name in ("genmove", "play"):
+        if name in ("genmove", "play", "undo"):
             places.append("%s%d" % (name[0], self.count[name]))
         return places + {"fixed_handicap": ["h"], "quit": ["q"]}.get(name, [])
 
     def fault_at(self, places):
-        """The fault of the plan at one of these places, if there is one. From then on nothing is noted."""
+        """The fault of the plan at one of these places, if there is one. From then on nothing is noted, unless it only refuses."""
         for fault in self.plan:
-            if fault.place in places and fault.life in ("*", str(self.life)):
-                self.notes = False
+            if fault.life in ("*", str(self.life)) and any(place in fault.places for place in places):
+                self.notes = self.notes and fault.then == REFUSES
                 return fault
         return None
 

@@ -6,14 +6,16 @@ from reference import values
 from reference.values import BLACK, PASS, WHITE
 
 from . import controller, matches, replies
-from .controller import SEND, START, Controller
+from .controller import MOST_RETAKES, SEND, START, Controller
 
 # The right bodies, which some of the wrong ones call.
 right_first = replies.first
 right_heard = Controller.heard
 right_judge = Controller.judge
 right_judge_move = Controller.judge_move
+right_judge_refusal = Controller.judge_refusal
 right_judge_script = Controller.judge_script
+right_judge_undo = Controller.judge_undo
 right_lost = Controller.lost
 right_next = Controller.next
 right_read_reply = replies.read_reply
@@ -239,6 +241,143 @@ def id_of_32_bits(line):
     return read._replace(id=int(digits) % 2**32) if read.id is None and digits else read
 
 
+def no_retakes(self, side):
+    self.forfeit(side, "refused play")
+
+
+def move_leaves_without_an_undo(self, side):
+    right_judge_refusal(self, side)
+    if self.pending:
+        self.sides[self.pending].confirmed -= 1
+        self.take_back()
+
+
+def undo_whoever_holds_the_move(self, side):
+    maker = values.other(side)
+    if self.is_last_of_the_other(side) and not self.is_down(maker) and self.retakes.get(len(self.game.moves), 0) < MOST_RETAKES:
+        self.sides[maker].confirmed = len(self.script())
+    right_judge_refusal(self, side)
+
+
+def retakes_of_an_engine(self, side):
+    right_started(self, side)
+    self.retakes = {}
+
+
+def retakes_of_the_match(self, side):
+    most = max(self.retakes.values(), default=0)
+    if self.is_last_of_the_other(side):
+        self.retakes[len(self.game.moves)] = most
+    right_judge_refusal(self, side)
+
+
+def accepted_move_is_counted_anew(self, side, command, reply):
+    if command[0] == "play" and reply.ok and self.is_last_of_the_other(side):
+        self.retakes.pop(len(self.game.moves), None)
+    right_judge_script(self, side, command, reply)
+
+
+def counts_with_an_undo_alone(self, side):
+    number = len(self.game.moves)
+    right_judge_refusal(self, side)
+    if self.verdict is None and self.pending is None:
+        self.retakes[number] -= 1
+
+
+def refused_play_is_confirmed(self, side):
+    right_judge_refusal(self, side)
+    if self.pending:
+        self.sides[side].confirmed += 1
+
+
+def undo_leaves_the_count(self, side, reply):
+    right_judge_undo(self, side, reply)
+    if reply.ok:
+        self.sides[side].confirmed += 1
+
+
+def failed_undo_blames_its_side(self, side, reply):
+    if reply.ok:
+        right_judge_undo(self, side, reply)
+    else:
+        self.forfeit(side, "refused play")
+
+
+def failed_undo_takes_back(self, side, reply):
+    right_judge_undo(self, side, reply)
+    if not reply.ok:
+        self.game.undo()
+
+
+def failed_undo_goes_down(self, side, reply):
+    if reply.ok:
+        right_judge_undo(self, side, reply)
+    else:
+        self.lost(side)
+
+
+def failed_undo_is_passed_over(self, side, reply):
+    right_judge_undo(self, side, reply._replace(ok=True))
+
+
+def failed_undo_is_answered(self, side, reply):
+    right_judge_undo(self, side, reply)
+    if not reply.ok:
+        self.sides[side].unanswered.pop(0)
+
+
+def last_refusal_takes_back(self, side):
+    right_judge_refusal(self, side)
+    if self.verdict:
+        self.game.undo()
+
+
+def last_refusal_is_answered(self, side):
+    right_judge_refusal(self, side)
+    if self.verdict:
+        self.sides[side].unanswered.pop(0)
+
+
+def lost_maker_leaves_its_move(self, side):
+    if self.pending == side:
+        self.pending = None
+    right_lost(self, side)
+
+
+def abandoned_maker_leaves_its_move(self, side):
+    if self.starts[side] == self.setup.most_restarts + 1:
+        lost_maker_leaves_its_move(self, side)
+    else:
+        right_lost(self, side)
+
+
+def abandoned_refuser_takes_back(self, side):
+    before = self.verdict
+    right_lost(self, side)
+    if before is None and self.verdict and self.pending:
+        self.take_back()
+
+
+def lost_refuser_takes_back(self, side):
+    right_lost(self, side)
+    if self.verdict is None and self.pending and not self.has_unanswered(self.pending):
+        self.sides[self.pending].confirmed -= 1
+        self.take_back()
+
+
+def own_last_move_is_retaken(self, side):
+    return self.sides[side].confirmed == len(self.script()) - 1
+
+
+def earlier_moves_are_retaken(self, side):
+    return self.game.moves[-1][0] == values.other(side)
+
+
+def start_before_undo(self):
+    down = [side for side in controller.SIDES if self.is_down(side)]
+    return (START, down[0]) if self.verdict is None and self.pending and down else right_next(self)
+
+
 def nobody_is_told_to_quit(referee, processes):
     pass
 
@@ -275,6 +414,31 @@ MUTANTS = [
     ("resign is read in small letters alone", Controller, "judge_move", resign_in_small_letters),
     ("pass is read in small letters alone", Controller, "judge_move", pass_in_small_letters),
     ("Black moves first with a handicap too", Controller, "to_move", black_moves_first),
+    ("no refused move is taken back", Controller, "judge_refusal", no_retakes),
+    ("a move that is refused leaves without an undo", Controller, "judge_refusal", move_leaves_without_an_undo),
+    ("an undo goes to an engine that doesn't have the move", Controller, "judge_refusal", undo_whoever_holds_the_move),
+    ("a number is retaken twice at most", controller, "MOST_RETAKES", 2),
+    ("a number is retaken four times", controller, "MOST_RETAKES", 4),
+    ("retakes are counted anew after a restart", Controller, "started", retakes_of_an_engine),
+    ("retakes are counted for all numbers together", Controller, "judge_refusal", retakes_of_the_match),
+    ("a number is counted anew when its move is accepted", Controller, "judge_script", accepted_move_is_counted_anew),
+    ("a retake without an undo doesn't count", Controller, "judge_refusal", counts_with_an_undo_alone),
+    ("a refusal confirms the play", Controller, "judge_refusal", refused_play_is_confirmed),
+    ("an undo leaves the count of what is confirmed", Controller, "judge_undo", undo_leaves_the_count),
+    ("who fails to undo is blamed itself", Controller, "judge_undo", failed_undo_blames_its_side),
+    ("an undo that fails takes the move back", Controller, "judge_undo", failed_undo_takes_back),
+    ("an undo that fails puts a side down", Controller, "judge_undo", failed_undo_goes_down),
+    ("an undo that fails is passed over", Controller, "judge_undo", failed_undo_is_passed_over),
+    ("an undo that fails is answered", Controller, "judge_undo", failed_undo_is_answered),
+    ("the last refusal takes the move back", Controller, "judge_refusal", last_refusal_takes_back),
+    ("the last refusal answers the play", Controller, "judge_refusal", last_refusal_is_answered),
+    ("a side that is lost leaves its refused move", Controller, "lost", lost_maker_leaves_its_move),
+    ("a side that is abandoned leaves its refused move", Controller, "lost", abandoned_maker_leaves_its_move),
+    ("who refused a move and is abandoned takes it back", Controller, "lost", abandoned_refuser_takes_back),
+    ("who refused a move and is lost takes it back", Controller, "lost", lost_refuser_takes_back),
+    ("an own move is retaken", Controller, "is_last_of_the_other", own_last_move_is_retaken),
+    ("an earlier move is retaken", Controller, "is_last_of_the_other", earlier_moves_are_retaken),
+    ("a side is started before a move is taken back", Controller, "next", start_before_undo),
     ("passes aren't told", Controller, "script", passes_are_not_told),
     ("komi isn't told", Controller, "script", komi_is_not_told),
     ("passes don't count as moves", Controller, "look_for_the_end", passes_do_not_count),

@@ -8,6 +8,7 @@ from dataclasses import dataclass
 
 from . import engine, values
 from . import game as rules
+from .game import POSITIONAL, SIMPLE
 from .values import BLACK, PASS, WHITE
 
 NAMES = [
@@ -35,6 +36,13 @@ NEARLY_KOMIS = [
 ]  # fmt: skip
 CONTROLS = [byte for byte in [*range(32), 127] if byte not in (9, 10)]
 SMALL_SIZES = [1, 2, 2, 3, 3, 3, 4, 4, 5, 5]
+TIGHT_SIZES = [1, 2, 2, 3, 3, 3, 3, 4, 4, 5]
+# Around a stone of Black, H: X and O are stones of Black and White. In the first, White takes H by 2, and then Black takes 2 by
+# H. In the second, Black sends 1 beside H, White takes both by 2, and then Black takes 2 by H.
+PATTERNS = [
+    ("..OX.", ".OH2X", "..OX."),
+    (".OOX.", "O1H2X", ".OOX."),
+]
 
 
 @dataclass
@@ -45,6 +53,7 @@ class Conversation:
     seed: int
     book: bytes
     data: bytes
+    rule: str = SIMPLE
 
 
 def in_any_letters(r, text):
@@ -114,12 +123,25 @@ def aimed_vertex(r, game, wild):
     return r.choice(sorted(liberties)) if 0 < len(liberties) <= 2 else r.choice(points)
 
 
+def returning_move(r, game, colour):
+    """A move of this colour. Some points are tried: it is one that makes an earlier board again, where there is one, or at times the
+    one that leaves the fewest stones; else an aimed move."""
+    empty = [point for point in rules.points(game.size) if point not in game.board()]
+    made = {point: rules.put(game.board(), game.size, colour, point) for point in r.sample(empty, min(len(empty), 8))}
+    back = [point for point in made if made[point] in game.boards]
+    if back and r.random() < 0.8:
+        return r.choice(back)
+    if made and r.random() < 0.3:
+        return min(made, key=lambda point: len(made[point]))
+    return aimed_vertex(r, game, 0.02)
+
+
 class Talk:
     """A conversation while it is made, and the game that it has led to."""
 
-    def __init__(self, r, policy, seed, book):
+    def __init__(self, r, policy, seed, book, rule):
         self.r = r
-        self.engine = engine.start(policy, seed, book)
+        self.engine = engine.start(policy, seed, book, rule)
         self.data = b""
         self.noise = r.choice([0, 0, 0.3, 0.7])
         self.wild = r.choice([0.05, 0.2, 0.5])
@@ -336,17 +358,88 @@ def full_records(r, talk):
             talk.line(b"showboard")
 
 
-# Each kind by its short name: what it is called, what makes it, and how often: one in so many.
+def returning_boards(r, talk):
+    """Games on boards of 1x1 to 5x5 in which much is captured, so that boards come back, with undos, passes and new games."""
+    if r.random() < 0.5:
+        ko_fight(r, talk)
+    if r.random() < 0.7:
+        size = r.randint(3, 5)
+        talk.line(b"boardsize %d" % size)
+        taken_and_returned(r, talk, size, r.choice(rules.points(size)))
+    for _ in range(r.choice([1, 2, 2, 3])):
+        size = r.choice(TIGHT_SIZES)
+        talk.line(b"boardsize %d" % size)
+        colour = BLACK
+        for _ in range(r.choice([30, 60, 120])):
+            colour = values.other(colour) if r.random() < 0.85 else colour
+            own = b"b" if colour == BLACK else b"w"
+            if r.random() < 0.75:
+                talk.line(b"play " + own + b" " + values.write_vertex(returning_move(r, talk.engine.game, colour)))
+            elif r.random() < talk.generated:
+                talk.line(b"genmove " + own)
+            else:
+                others = [b"play " + own + b" pass", b"undo", b"showboard", b"komi 0.5", b"clear_board", b"boardsize %d" % size]
+                line = r.choices(others, [10, 16, 4, 2, 1, 1])[0]
+                for _ in range(r.choice([1, 1, 1, 2, 5, 12]) if line == b"undo" else 1):
+                    talk.line(line)
+        talk.line(b"showboard")
+
+
+def returning_handicaps(r, talk):
+    """Stones of a handicap that are taken and come back, on boards of 7x7 to 9x9, between other moves, undos and new games."""
+    for _ in range(r.choice([1, 2, 3])):
+        size = r.choice([7, 8, 9, 9])
+        talk.line(b"boardsize %d" % size)
+        number = r.randint(2, 9 if size == 9 else 4)
+        talk.line(b"fixed_handicap %d" % number)
+        for _ in range(r.choice([1, 1, 2])):
+            taken_and_returned(r, talk, size, r.choice(values.handicap_points(size, number)))
+            talk.line(b"showboard")
+        if r.random() < 0.3:
+            talk.line(b"clear_board")
+
+
+def taken_and_returned(r, talk, size, stone):
+    """One of the patterns around this stone of Black, which may stand there already, turned and mirrored, as far as it is on the board;
+    then plays at its points, passes, undos and some other moves."""
+    swapped, left, down = (r.random() < 0.5 for _ in range(3))
+    plays = {mark: [] for mark in "XO12H"}
+
+    def play(colour, vertex):
+        return b"play " + colour + b" " + values.write_vertex(vertex)
+
+    for row, line in enumerate(r.choice(PATTERNS)):
+        for column, mark in enumerate(line):
+            across, up = (column - 2) * (-1 if left else 1), (row - 1) * (-1 if down else 1)
+            across, up = (up, across) if swapped else (across, up)
+            point = (stone[0] + across, stone[1] + up)
+            if mark != "." and rules.is_on(size, point):
+                plays[mark].append(play(b"b" if mark in "X1H" else b"w", point))
+    walls = plays["X"] + plays["O"] + plays["H"]
+    r.shuffle(walls)
+    fight = plays["1"] + plays["2"]
+    for line in walls + fight:
+        talk.line(line)
+    for _ in range(r.randint(3, 25)):
+        colour = r.choice([b"b", b"w"])
+        away = play(colour, r.choice(rules.points(size)))
+        others = [play(colour, PASS), play(colour, PASS), away, b"undo", b"undo", b"genmove " + colour, b"showboard"]
+        talk.line(r.choice([*fight, *plays["H"] * 3, r.choice(others), r.choice(others)]))
+
+
+# Each kind by its short name: what it is called, what makes it, how often: one in so many, and its rule of ko, or None for any.
 KINDS = {
-    "small": ("small boards", small_boards, 1),
-    "big": ("big boards", big_boards, 4),
-    "bytes": ("bytes and control characters", any_bytes, 1),
-    "long": ("long lines", long_lines, 1),
-    "values": ("spellings of values", spellings, 1),
-    "mutated": ("mutated lines", mutated_lines, 1),
-    "books": ("books", small_boards, 1),
-    "quit": ("quit in the middle", quit_in_the_middle, 1),
-    "full": ("full records", full_records, 25),
+    "small": ("small boards", small_boards, 1, None),
+    "big": ("big boards", big_boards, 4, None),
+    "bytes": ("bytes and control characters", any_bytes, 1, None),
+    "long": ("long lines", long_lines, 1, None),
+    "values": ("spellings of values", spellings, 1, None),
+    "mutated": ("mutated lines", mutated_lines, 1, None),
+    "books": ("books", small_boards, 1, None),
+    "quit": ("quit in the middle", quit_in_the_middle, 1, None),
+    "full": ("full records", full_records, 25, None),
+    "returns": ("boards that come back", returning_boards, 1, POSITIONAL),
+    "handicap": ("handicap stones that come back", returning_handicaps, 1, POSITIONAL),
 }
 
 
@@ -358,9 +451,10 @@ def conversation(kind, seed):
     book = b""
     if policy == "book" or r.random() < 0.1:
         book = book_text(r, r.choice([0, 1, 2, 3, 10, 10, 40, 40, 200]) if r.random() < 0.9 else r.choice([1999, 2000, 2001]))
+    rule = KINDS[kind][3] or r.choice([SIMPLE, SIMPLE, SIMPLE, POSITIONAL])
     if engine.start(policy, number, book) is None:
-        return Conversation(policy, number, book, b"name\nquit\n")
-    talk = Talk(r, policy, number, book)
+        return Conversation(policy, number, book, b"name\nquit\n", rule)
+    talk = Talk(r, policy, number, book, rule)
     KINDS[kind][1](r, talk)
     unfinished = r.choice([b"", b"", b"", b"name", b"quit", b"play b A1\r", b"#", b"1", b" ", b"x" * 2000])
-    return Conversation(policy, number, book, talk.data + unfinished)
+    return Conversation(policy, number, book, talk.data + unfinished, rule)

@@ -3,7 +3,7 @@
 It states the rules in the most literal way, and shares no code with the program.
 """
 from . import policies, values
-from .game import Game
+from .game import SIMPLE, Game
 
 LONGEST_LINE = 1000
 TOO_LONG = "too long"
@@ -42,10 +42,10 @@ class Failure(Exception):
 
 
 class Engine:
-    """A session of the engine: size 19, komi 0 and no moves at first. It ends with quit."""
+    """A session of the engine: size 19, komi 0 and no moves at first. It ends with quit. The rule of ko stays as it was given (own)."""
 
-    def __init__(self, policy):
-        self.game = Game()
+    def __init__(self, policy, rule=SIMPLE):
+        self.game = Game(rule)
         self.policy = policy
         self.ended = False
         self.unfinished = b""
@@ -195,19 +195,19 @@ def argument(arguments, number, read):
     return value
 
 
-def start(policy, seed, book):
+def start(policy, seed, book, rule=SIMPLE):
     """The engine that the options start, or None where the book is no book, whatever the policy is (own)."""
     entries = policies.read_book(book)
     if entries is None:
         return None
     if policy == "first":
-        return Engine(policies.First())
-    return Engine(policies.Random(seed) if policy == "random" else policies.Book(entries))
+        return Engine(policies.First(), rule)
+    return Engine(policies.Random(seed) if policy == "random" else policies.Book(entries), rule)
 
 
-def run(policy, seed, book, data):
+def run(policy, seed, book, data, rule=SIMPLE):
     """What the program does with these options and this input: its status, its output, and what it tells on standard error. (Own.)"""
-    engine = start(policy, seed, book)
+    engine = start(policy, seed, book, rule)
     if engine is None:
         return 2, b"", b"gtp_engine: bad book\n"
     return 0, engine.feed(data), b""

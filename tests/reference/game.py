@@ -9,6 +9,9 @@ from . import values
 from .values import BLACK, PASS, WHITE
 
 MOST_MOVES = 2000
+# The rules of ko.
+SIMPLE = "simple"
+POSITIONAL = "positional"
 
 
 @lru_cache(maxsize=None)
@@ -82,15 +85,16 @@ def put(board, size, colour, point):
 
 
 class Game:
-    """A game: size, komi, handicap stones, and the record of its moves, each a pair (colour, vertex)."""
+    """A game: the rule of ko, size, komi, handicap stones, and the record of its moves, each a pair (colour, vertex)."""
 
-    def __init__(self):
+    def __init__(self, rule=SIMPLE):
+        self.rule = rule
         self.komi = 0
         self.begin(19)
 
     def begin(self, size):
-        """Sets the size and empties board, handicap, record and captures. Komi stays. (The standard, setup commands, leaves to the
-        engine which sizes there are and what is emptied.)"""
+        """Sets the size and empties board, handicap, record and captures. Komi and the rule of ko stay. (The standard, setup commands,
+        leaves to the engine which sizes there are and what is emptied.)"""
         self.size = size
         self.moves = []
         self.boards = [{}]  # boards[k] is the board after k moves
@@ -103,8 +107,7 @@ class Game:
         """The board that this move makes, or None where the move is illegal.
 
         A pass is always legal and changes no stone. A play is illegal off the board, on a stone, where its chain then has no liberty
-        (suicide), and where it makes the board that stood before the previous move (ko). A pass counts as a previous move, and with
-        an empty record there is no ko. Any colour may move at any time.
+        (suicide), and where it is ko. Any colour may move at any time.
         """
         if vertex == PASS:
             return self.board()
@@ -113,9 +116,18 @@ class Game:
         board = put(self.board(), self.size, colour, vertex)
         if not has_liberty(board, self.size, joined(board, self.size, vertex)):
             return None
-        if self.moves and board == self.boards[-2]:
-            return None
-        return board
+        return None if self.is_ko(board) else board
+
+    def is_ko(self, board):
+        """Is a play that makes this board ko?
+
+        By the simple rule it is where that board stood before the previous move. A pass counts as a previous move, and with an empty
+        record there is no ko. By the positional rule it is where that board stood at any time, at the start or after any of the moves,
+        whoever was to move.
+        """
+        if self.rule == POSITIONAL:
+            return board in self.boards
+        return bool(self.moves) and board == self.boards[-2]
 
     def is_full(self):
         """Has the record no room for a further move?"""

@@ -5,14 +5,16 @@ Each is put in the place of one function of the reference, and makes one mistake
 from . import engine, policies, values
 from . import game as rules
 from .engine import Engine
-from .game import Game
-from .values import BLACK, PASS
+from .game import POSITIONAL, SIMPLE, Game
+from .values import BLACK, PASS, WHITE
 
 # The right bodies, which some of the wrong ones call.
 right_after = Game.after
 right_begin = Game.begin
 right_candidates = policies.candidates
+right_is_ko = Game.is_ko
 right_put = rules.put
+right_play = Game.play
 right_undo = Game.undo
 right_read_int = values.read_int
 right_read_komi = values.read_komi
@@ -44,6 +46,105 @@ def no_board_comes_back(game, colour, vertex):
     return None if vertex != PASS and made in game.boards else made
 
 
+def simple_whatever_is_asked(game, board):
+    return bool(game.moves) and board == game.boards[-2]
+
+
+def handicap_forgotten(game, board):
+    if game.rule == SIMPLE or not game.boards[0]:
+        return right_is_ko(game, board)
+    earlier = [{}]
+    for colour, vertex in game.moves:
+        earlier.append(earlier[-1] if vertex == PASS else rules.put(earlier[-1], game.size, colour, vertex))
+    return board in earlier
+
+
+def nine_boards_alone(game, board):
+    return board in game.boards[-9:] if game.rule == POSITIONAL else right_is_ko(game, board)
+
+
+def boards_since_the_last_pass(game, board):
+    passes = [number for number, (_, vertex) in enumerate(game.moves) if vertex == PASS]
+    return board in game.boards[passes[-1] + 1 :] if game.rule == POSITIONAL and passes else right_is_ko(game, board)
+
+
+def boards_by_count(game, board):
+    def count(stones):
+        return len(stones), list(stones.values()).count(WHITE)
+
+    return count(board) in map(count, game.boards) if game.rule == POSITIONAL else right_is_ko(game, board)
+
+
+def boards_without_colours(game, board):
+    return any(set(board) == set(earlier) for earlier in game.boards) if game.rule == POSITIONAL else right_is_ko(game, board)
+
+
+def boards_of_the_same_mover(game, colour, vertex):
+    made = right_after(game, colour, vertex)
+    if game.rule == SIMPLE or vertex == PASS or made is not None:
+        return made
+    own = [board for board, (mover, _) in zip(game.boards[1:], game.moves) if mover == colour]
+    hidden, game.boards = game.boards, own + game.boards[-2:]
+    try:
+        return right_after(game, colour, vertex)
+    finally:
+        game.boards = hidden
+
+
+def pass_is_ko(game, colour, vertex):
+    return None if game.rule == POSITIONAL and vertex == PASS and game.moves else right_after(game, colour, vertex)
+
+
+def boards_of_earlier_games(game, board):
+    games = vars(game).setdefault("games", [])
+    if not any(boards is game.boards for boards in games):
+        games.append(game.boards)
+    return any(board in boards for boards in games) if game.rule == POSITIONAL else right_is_ko(game, board)
+
+
+def boards_that_were_taken_back(game, colour, vertex):
+    if not game.moves:
+        vars(game)["kept"] = []
+    if game.rule == POSITIONAL and vertex != PASS and right_after(game, colour, vertex) in game.kept:
+        return False
+    game.kept.append(game.board())
+    return right_play(game, colour, vertex)
+
+
+def rule_lost_by_clear_board(self, arguments):
+    self.game.begin(self.game.size)
+    self.game.rule = SIMPLE
+
+
+def rule_lost_by_boardsize(self, arguments):
+    Engine.boardsize(self, arguments)
+    self.game.rule = SIMPLE
+
+
+def rule_lost_by_komi(self, arguments):
+    Engine.komi(self, arguments)
+    self.game.rule = SIMPLE
+
+
+def rule_lost_by_undo(game):
+    right_undo(game)
+    game.rule = SIMPLE
+
+
+def rule_lost_by_a_handicap(self, arguments):
+    told = Engine.fixed_handicap(self, arguments)
+    self.game.rule = SIMPLE
+    return told
+
+
+def policies_know_simple_ko(self, arguments):
+    rule, self.game.rule = self.game.rule, SIMPLE
+    try:
+        return Engine.genmove(self, arguments)
+    finally:
+        self.game.rule = rule
+
+
 def suicide_is_legal(game, colour, vertex):
     if vertex == PASS or not rules.is_on(game.size, vertex) or vertex in game.board():
         return right_after(game, colour, vertex)
@@ -51,7 +152,7 @@ def suicide_is_legal(game, colour, vertex):
     own = rules.joined(board, game.size, vertex)
     if not rules.has_liberty(board, game.size, own):
         board = {point: stone for point, stone in board.items() if point not in own}
-    return None if game.moves and board == game.boards[-2] else board
+    return None if game.is_ko(board) else board
 
 
 def own_chain_is_taken_first(board, size, colour, point):
@@ -119,7 +220,7 @@ def a_word_without_candidates(self, game, colour):
 
 def book_counts_its_own_moves(self, game, colour):
     number = self.asked = getattr(self, "asked", -1) + 1
-    place = self.places[number] if number < len(self.places) else None
+    place = self.entries[number] if number < len(self.entries) else None
     if place is None or (place != policies.RESIGN and game.after(colour, place) is None):
         return PASS
     return place
@@ -203,7 +304,23 @@ def nine_on_even_sizes(size, number):
 MUTANTS = [
     ("there is no ko", Game, "after", no_ko),
     ("ko stays after a pass", Game, "after", ko_stays_after_a_pass),
-    ("no earlier board may come back", Game, "after", no_board_comes_back),
+    ("no earlier board may come back, by simple ko either", Game, "after", no_board_comes_back),
+    ("positional ko is simple ko", Game, "is_ko", simple_whatever_is_asked),
+    ("earlier boards are without the handicap", Game, "is_ko", handicap_forgotten),
+    ("the last nine boards alone are compared", Game, "is_ko", nine_boards_alone),
+    ("boards before the last pass are not compared", Game, "is_ko", boards_since_the_last_pass),
+    ("boards with as many stones of each colour are the same", Game, "is_ko", boards_by_count),
+    ("boards with stones on the same points are the same", Game, "is_ko", boards_without_colours),
+    ("boards that the other colour made are not compared", Game, "after", boards_of_the_same_mover),
+    ("a pass is positional ko", Game, "after", pass_is_ko),
+    ("boards that were taken back are compared", Game, "play", boards_that_were_taken_back),
+    ("boards of earlier games are compared", Game, "is_ko", boards_of_earlier_games),
+    ("clear_board loses the rule of ko", engine.COMMANDS, b"clear_board", rule_lost_by_clear_board),
+    ("boardsize loses the rule of ko", engine.COMMANDS, b"boardsize", rule_lost_by_boardsize),
+    ("komi loses the rule of ko", engine.COMMANDS, b"komi", rule_lost_by_komi),
+    ("undo loses the rule of ko", Game, "undo", rule_lost_by_undo),
+    ("a handicap loses the rule of ko", engine.COMMANDS, b"fixed_handicap", rule_lost_by_a_handicap),
+    ("genmove plays by simple ko", engine.COMMANDS, b"genmove", policies_know_simple_ko),
     ("suicide is legal", Game, "after", suicide_is_legal),
     ("the own chain is taken first", rules, "put", own_chain_is_taken_first),
     ("a play takes one chain alone", rules, "put", one_chain_is_taken),

@@ -59,10 +59,11 @@ def failures():
     conversations = [*worked(), *computed()]
     for name, options, said, wanted in conversations:
         policy, seed, book = options.get("--policy", "first"), int(options.get("--seed", 1)), options.get("--book", "").encode()
-        got = engine.run(policy, seed, book, said)
+        rule = options.get("--ko", "simple")
+        got = engine.run(policy, seed, book, said, rule)
         if got != (0, wanted, b""):
             found.append(f"{name}: {wanted!r} is wanted, not {got!r}")
-        cut = engine.start(policy, seed, book)
+        cut = engine.start(policy, seed, book, rule)
         if b"".join(cut.feed(said[place : place + 1]) for place in range(len(said))) != wanted:
             found.append(f"{name}, fed byte after byte")
     generator = policies.Generator(42, 54 << 1)

@@ -1,5 +1,5 @@
--- A game is its size, komi, ko rule, handicap and moves: its board and what is legal next are made from the whole list of
--- moves.
+-- A game is its size, komi, ko rule, handicap and moves: its board and what is legal next are made from the whole list
+-- of moves.
 use Rattle.std.specs.Prelude.{◌≡◌, ℕ, ℤ, ◌-◌, ◌≤◌, ◌<◌, ◌⊎◌, List, [], ◌∷◌, ◌++◌, length, take, slice_get, Some}
 use Rattle.std.specs.List.{fold}
 use Rattle.go_base.specs.Handicap.{handicap_points, AllowsHandicap}
@@ -77,7 +77,7 @@ pub record RepeatsLast (game : GameRecord) (next : List Cell) : Type 0 where
   pub moved : 0 < length game.moves
   pub same : next ≡ board_of (without_last game)
 
--- The board would be as it was after so many of the game's moves: none of them, some, or all.
+-- The board would be as it was after some number of the game's first moves: none of them, some, or all.
 pub record RepeatsAny (game : GameRecord) (next : List Cell) : Type 0 where
   pub number : ℕ
   pub within : number ≤ length game.moves

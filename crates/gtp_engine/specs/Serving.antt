@@ -20,8 +20,8 @@ use Rattle.gtp_engine.specs.declared.options.PolicyName.TheVariants.{First, Rand
 use Rattle.gtp_engine.specs.Options.{AsksFor, AsksForText, Spells}
 use Rattle.gtp_engine.specs.Status.{done, own_fault, status_after}
 
--- An engine with this policy and this ko rule, which was given nothing before, held a conversation under the fault, of as many reads as
--- there may be, which came out so.
+-- An engine with this policy and this ko rule, which was given nothing before, held a conversation under the fault, of
+-- as many reads as there may be, which came out so.
 abbrev pub FreshCameOut : {P : Type 0} → May P → Fault → KoRule → P → Result Served ServeFault
     → Source → Source → Sink → Sink → Type 0
 FreshCameOut {P} may fault rule policy served reader reader_now writer writer_now =
@@ -45,7 +45,8 @@ pub record Serves (options : Options) (status : ℕ)
   pub fault : Fault
   pub spells : Spells options entries fault
   pub served : Result Served ServeFault
-  pub came_out : PolicyCameOut options.policy options.seed entries options.rule fault served reader reader_now writer writer_now
+  pub came_out : PolicyCameOut options.policy options.seed entries options.rule fault served reader reader_now writer
+      writer_now
   pub status_is : status ≡ status_after served
 
 -- the words ask for such options

@@ -204,6 +204,7 @@ retakes_are_told c new s bytes used fault hears = by_way (heard c s bytes used f
             ap taking_back new_is ∙ ap (λ v. unless_over v (Some (other s))) none,
             ap (λ (x : Controller). x.game) new_is,
           );
+          gone = λ unheld. absurd (let clash : true ≡ false = sym held ∙ unheld in cc);
         })
         by_held false unheld new_is = inr (record {
           engine = engine;
@@ -212,6 +213,7 @@ retakes_are_told c new s bytes used fault hears = by_way (heard c s bytes used f
           may = is;
           one_more = ap (λ (x : Controller). x.retakes) new_is;
           pending = λ held. absurd (let clash : false ≡ true = sym unheld ∙ held in cc);
+          gone = λ _. ap (λ (x : Controller). x.game) new_is;
         })
 
     by_outcome : (engine : Incarnation) (reply : Reply) → c.verdict ≡ None → (side_of c.sides s).up ≡ Some engine

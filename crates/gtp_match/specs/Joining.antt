@@ -15,7 +15,7 @@ first_fault None second = second
 pub record AreAsOne (mid two one : Controller) (first second joined : Option SideFault) : Type 0 where
   -- the same first fault
   pub fault : joined ≡ first_fault first second
-  -- the same match: setup, record, verdict, and all that is kept of both sides
+  -- the same match: setup, record, verdict, all that is kept of both sides, what is to be taken back, and the retakes
   pub same : one ≡ two
   -- after a fault of the first piece the second is not heard
   pub unheard : IsSome first → (second ≡ None) × (two ≡ mid)

@@ -178,7 +178,8 @@ OthersLeaveTheGame =
 -- ---- retakes
 
 -- The bytes end the refusal of a `play` that may be retaken: the number of the last move has one retake more. Where its
--- maker has the whole script, the move is to be taken back there, and stays in the record till then.
+-- maker has the whole script, the move is to be taken back there, and stays in the record till then. Else it leaves the
+-- record at once.
 pub record CountsRetake (c new : Controller) (s : Colour) (bytes : List ℕ) (used : ℕ) : Type 0 where
   pub engine : Incarnation
   pub up : (side_of c.sides s).up ≡ Some engine
@@ -187,6 +188,7 @@ pub record CountsRetake (c new : Controller) (s : Colour) (bytes : List ℕ) (us
   pub one_more : new.retakes ≡ with_retake (length c.game.moves) c.retakes
   pub pending : has_all c.game (side_of c.sides (other s)).up ≡ true
       → (taking_back new ≡ Some (other s)) × (new.game ≡ c.game)
+  pub gone : has_all c.game (side_of c.sides (other s)).up ≡ false → new.game ≡ without_last c.game
 
 -- what is heard of a side leaves the retakes, or tells the refusal that is met by one
 abbrev pub RetakesAreTold : Type 0

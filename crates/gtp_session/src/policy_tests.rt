@@ -8,7 +8,7 @@ use crate::policy::{Choice, Policy};
 use crate::random::Random;
 use arrayvec::ArrayVec;
 use go_base::{Colour, Komi, Point, Size, Vertex};
-use go_board::{Game, PlayFault};
+use go_board::{Game, KoRule, PlayFault};
 use rand_core::{Rng, SeedableRng};
 use rand_pcg::Pcg64;
 use std::process::Abort;
@@ -364,6 +364,49 @@ fn an_empty_book_passes(rt: HostRuntime) -> Result<(), Fail> {
         choose_and_play(&mut book, &mut game, Colour::White)?,
         PASS,
     );
+    Ok(())
+}
+
+/// A game on four points in which White has just taken Black's stone on A1. The first move left that stone alone there.
+fn four_points_under(rule: KoRule) -> Result<Game, Fail> {
+    let komi = Komi::from_half_points(0).ok_or("komi")?;
+    let mut game = Game::with_rule(Size::new(2).ok_or("size")?, komi, rule);
+    let mut colour = Colour::Black;
+    let moves: [&[u8]; 6] = [b"A1", b"B1", b"A2", b"B2", b"A1", b"A2"];
+    for text in moves {
+        game.play(colour, vertex(text)?)?;
+        colour = colour.other();
+    }
+    Ok(game)
+}
+
+#[test]
+fn each_policy_takes_the_last_point_under_simple_ko(rt: HostRuntime) -> Result<(), Fail> {
+    let game = four_points_under(KoRule::Simple)?;
+    let last = play(b"A1")?;
+    let mut book = Book::read(b",,,,,,A1").ok_or("book")?;
+    assert_equal(&rt, First.choose(&game, Colour::Black), last);
+    assert_equal(&rt, Random::new(1).choose(&game, Colour::Black), last);
+    assert_equal(&rt, book.choose(&game, Colour::Black), last);
+    Ok(())
+}
+
+/// Black's stone on A1 alone would be the board after the first move.
+#[test]
+fn each_policy_passes_where_positional_ko_forbids_the_last_point(
+    rt: HostRuntime,
+) -> Result<(), Fail> {
+    let game = four_points_under(KoRule::Positional)?;
+    let mut book = Book::read(b",,,,,,A1").ok_or("book")?;
+    assert_candidates(&rt, &game, Colour::Black, &[])?;
+    assert_equal(&rt, First.choose(&game, Colour::Black), PASS);
+    assert_equal(&rt, book.choose(&game, Colour::Black), PASS);
+    // Without a candidate no word is drawn: the next choice is the one that the first word names.
+    let mut random = Random::new(1);
+    assert_equal(&rt, random.choose(&game, Colour::Black), PASS);
+    let board = fresh(19)?;
+    let want = Random::new(1).choose(&board, Colour::Black);
+    assert_equal(&rt, random.choose(&board, Colour::Black), want);
     Ok(())
 }
 

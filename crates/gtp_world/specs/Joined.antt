@@ -143,9 +143,9 @@ IsJoinedSide game (Some verdict) (Some side) lane = IsJoinedAtEnd game side lane
 
 -- ---- the world
 
--- A side refused the last move once more: it plays under positional ko, the other side made the move under simple ko, the
--- game with it is none under positional ko, and moves of that number were retaken as often as may be. No `undo` failed:
--- nothing is to be taken back.
+-- A side refused the last move for the fourth time: it plays under positional ko, the other side made the move under
+-- simple ko, the game with it is none under positional ko, and moves of that number were retaken three times, as often
+-- as may be. So this verdict is the fourth refusal. No `undo` failed: nothing is to be taken back.
 pub record IsRefusal (rules : Rules) (c : Controller) (side : Colour) : Type 0 where
   pub positional : rule_of rules side ≡ Positional
   pub simple : rule_of rules (other side) ≡ Simple
@@ -154,8 +154,8 @@ pub record IsRefusal (rules : Rules) (c : Controller) (side : Colour) : Type 0 w
   pub often : retakes_of c.retakes (length c.game.moves) ≡ most_retakes
   pub nothing : c.pending ≡ None
 
--- No verdict blames an engine, but one that refused moves of one number again and again; and a side is given up only
--- after all its starts.
+-- No verdict blames an engine, but one that refused moves of one number four times; and a side is given up only after
+-- all its starts.
 abbrev pub IsFair : Rules → Controller → Option Verdict → Type 0
 IsFair rules c None = Unit {0}
 IsFair rules c (Some (Forfeit side RefusedPlay)) = IsRefusal rules c side

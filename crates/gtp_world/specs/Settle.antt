@@ -54,8 +54,8 @@ abbrev pub RunsWhereUp : {P : Type 0} → Option Incarnation → Option (Engine 
 RunsWhereUp None engine = Unit {0}
 RunsWhereUp (Some u) engine = IsSome engine
 
--- No verdict, nothing unanswered, nothing to be taken back, and an engine runs for each side that is up; and the game is
--- one under the ko rule of each side.
+-- No verdict, nothing unanswered, nothing to be taken back, and an engine runs for each side that is up; and the game
+-- is one under the ko rule of each side.
 pub record MaySettle {B W : Type 0} (rules : Rules) (world : World B W) : Type 0 where
   pub verdict : world.controller.verdict ≡ None
   pub nothing : taking_back world.controller ≡ None
