@@ -17,7 +17,8 @@ fn assert_same(rt: &impl Abort, one: &Match, two: &Match) {
     }
 }
 
-/// One match hears these bytes whole, and an equal one hears them cut here: the first fault is the same, and what is left.
+/// One match hears these bytes whole, and an equal one hears them cut here. The first fault is the same, and so is what
+/// is left.
 fn assert_cut(
     rt: &impl Abort,
     mut whole: Match,

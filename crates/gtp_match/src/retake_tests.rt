@@ -212,7 +212,8 @@ fn answer_undo(rt: &impl Abort, played: &mut Match) {
 
 #[test]
 fn a_maker_without_the_move_is_sent_no_undo(rt: HostRuntime) {
-    // Black goes down after its move: White's refusal takes the move off the record, and Black gets the script without it.
+    // Black goes down after its move. White's refusal takes the move off the record, and Black gets the script without
+    // it.
     let mut played = black_answered(&rt, b"=4 A1\n\n");
     send(&rt, &mut played, Side::White, b"4 play b A1\n");
     played.lost(Side::Black);
