@@ -116,11 +116,7 @@ fn undo_read(rt: &impl Abort) -> World<Onces, Firsts> {
     let mut world = refused_world(rt);
     world.step(Event::Act);
     world.step(Event::ToEngine(Side::Black, 100));
-    assert_equal(
-        rt,
-        world.to_controller(Side::Black),
-        b"=11\n\n".as_slice(),
-    );
+    assert_equal(rt, world.to_controller(Side::Black), b"=11\n\n".as_slice());
     let game = world.running(Side::Black).expect(rt, "an engine");
     assert_equal(rt, game.moves().len(), 6);
     assert_equal(rt, world.controller().game().moves().len(), 7);
