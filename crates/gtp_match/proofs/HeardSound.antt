@@ -26,7 +26,8 @@ use Rattle.gtp_match.proofs.OutcomeLemmas.{first_is}
 use Rattle.gtp_match.proofs.ReplySound.{reply_sound}
 use Rattle.gtp_match.proofs.ScriptLemmas.{script_few, below_length, command_fits}
 use Rattle.gtp_match.proofs.SoundLemmas.{no_blame, my_side, one_idle, with_verdict, kept_game, my_engine, my_start}
-use Rattle.gtp_match.proofs.SoundLemmas.{goes_on_taking, taken_at, downed_sound}
+use Rattle.gtp_match.proofs.SoundLemmas.{goes_on_taking, taken_at}
+use Rattle.gtp_match.proofs.DownLemmas.{downed_sound}
 
 -- ---- what may be kept for a text that tells nothing tells nothing
 

@@ -9,7 +9,8 @@ pub use Rattle.gtp_match.proofs.SoundLemmas.{idle_plan, nothing_told, changed}
 -- What is unanswered goes on in the script: with a command of it more, and wherever no `genmove` is unanswered.
 pub use Rattle.gtp_match.proofs.SoundLemmas.{script_grows, in_script}
 -- Each call keeps a match sound: a new match, a start, a command, a side that goes down, and a side that is lost.
-pub use Rattle.gtp_match.proofs.SoundLemmas.{new_sound, started_sound, sent_sound, downed_sound, lost_sound}
+pub use Rattle.gtp_match.proofs.SoundLemmas.{new_sound, started_sound, sent_sound}
+pub use Rattle.gtp_match.proofs.DownLemmas.{downed_sound, lost_sound}
 -- So does a whole reply, and so do bytes that are heard: a rest that tells nothing yet, one call, and all of a read.
 pub use Rattle.gtp_match.proofs.ReplySound.{reply_sound}
 pub use Rattle.gtp_match.proofs.HeardSound.{quiet_sound, hears_sound, hears_all_sound}
@@ -22,7 +23,8 @@ pub use Rattle.gtp_match.proofs.SaysLemmas.{SaysStart, says_start, BothIdle, Goe
 pub use Rattle.gtp_match.proofs.SaysLemmas.{says_send}
 pub use Rattle.gtp_match.proofs.SoundLemmas.{maker_is_up}
 -- What holds while a move is to be taken back, and where nothing is; and what a side that goes down leaves.
-pub use Rattle.gtp_match.proofs.SoundLemmas.{TakingBack, taken_at, their_take_back, nothing_pending, downed_by}
+pub use Rattle.gtp_match.proofs.SoundLemmas.{TakingBack, taken_at, their_take_back, nothing_pending}
+pub use Rattle.gtp_match.proofs.DownLemmas.{downed_by}
 -- The game without its last move: it is a game, and its script is shorter by one command.
 pub use Rattle.gtp_match.proofs.ShorterLemmas.{shorter_length, script_shorter, shorter_is_game, turn_after}
 -- What holds of all that a refused move may leave holds of what it leaves.

@@ -7,6 +7,7 @@ pub mod HearLemmas
 pub mod SaysLemmas
 pub mod ScriptLemmas
 pub mod SoundLemmas
+pub mod DownLemmas
 pub mod TurnLemmas
 pub mod RetakeLemmas
 pub mod ShorterLemmas

@@ -1,29 +1,11 @@
 use crate::equal::assert_equal;
-use crate::test_steps::{answer, black_answered, bring, ended, send, send_and_wait, up};
+use crate::test_steps::{
+    answer, black_answered, bring, ended, refused, send, send_and_wait, stands, start_both_again,
+    undo_sent, up,
+};
 use crate::{Action, ForfeitCause, Match, Status, Verdict};
 use go_base::Side;
 use std::process::Abort;
-
-/// Black moved at A1, and White, which was sent that as its command 4, refused it.
-fn refused(rt: &impl Abort) -> Match {
-    let mut played = black_answered(rt, b"=4 A1\n\n");
-    send_and_wait(rt, &mut played, Side::White, b"4 play b A1\n");
-    answer(rt, &mut played, Side::White, b"?4 no\n\n");
-    played
-}
-
-/// The same, and Black was sent `undo`.
-fn undo_sent(rt: &impl Abort) -> Match {
-    let mut played = refused(rt);
-    send_and_wait(rt, &mut played, Side::Black, b"5 undo\n");
-    played
-}
-
-/// So many moves are in the record, and so many of the first move were refused.
-fn stands(rt: &impl Abort, played: &Match, moves: usize, retakes: u32) {
-    assert_equal(rt, played.game().moves().len(), moves);
-    assert_equal(rt, played.retakes(1), retakes);
-}
 
 #[test]
 fn a_refused_move_is_taken_back_at_its_maker(rt: HostRuntime) {
@@ -105,6 +87,47 @@ fn the_fourth_refusal_of_a_number_forfeits(rt: HostRuntime) {
 }
 
 #[test]
+fn the_count_outlives_the_starts_of_both_sides(rt: HostRuntime) {
+    let mut played = refused(&rt);
+    start_both_again(&rt, &mut played);
+    stands(&rt, &played, 0, 1);
+    bring(&rt, &mut played, Side::Black);
+    bring(&rt, &mut played, Side::White);
+    refused_again(
+        &rt,
+        &mut played,
+        [
+            b"4 genmove b\n",
+            b"=4 A1\n\n",
+            b"4 play b A1\n",
+            b"?4\n\n",
+            b"5 undo\n",
+            b"=5\n\n",
+        ],
+    );
+    refused_again(
+        &rt,
+        &mut played,
+        [
+            b"6 genmove b\n",
+            b"=6 A1\n\n",
+            b"5 play b A1\n",
+            b"?5\n\n",
+            b"7 undo\n",
+            b"=7\n\n",
+        ],
+    );
+    stands(&rt, &played, 0, 3);
+    send(&rt, &mut played, Side::Black, b"8 genmove b\n");
+    answer(&rt, &mut played, Side::Black, b"=8 A1\n\n");
+    send(&rt, &mut played, Side::White, b"6 play b A1\n");
+    answer(&rt, &mut played, Side::White, b"?6\n\n");
+    let text = b"game 1: B+F(refused play) moves 1 restarts 1 1";
+    let verdict = Verdict::Forfeit(Side::White, ForfeitCause::RefusedPlay);
+    ended(&rt, &played, verdict, text.as_slice());
+}
+
+#[test]
 fn who_refused_a_move_that_its_maker_keeps_forfeits(rt: HostRuntime) {
     let mut played = undo_sent(&rt);
     answer(&rt, &mut played, Side::Black, b"?5 cannot undo\n\n");
@@ -131,20 +154,6 @@ fn the_move_of_a_maker_that_goes_down_leaves_the_record(rt: HostRuntime) {
     bring(&rt, &mut played, Side::Black);
     stands(&rt, &played, 0, 1);
     send(&rt, &mut played, Side::Black, b"4 genmove b\n");
-    answer(&rt, &mut played, Side::Black, b"=4 A1\n\n");
-    send(&rt, &mut played, Side::White, b"5 play b A1\n");
-    answer(&rt, &mut played, Side::White, b"?5 no\n\n");
-    // The maker has no start left: its move leaves the record, and then it is given up.
-    stands(&rt, &played, 1, 2);
-    played.lost(Side::Black);
-    let text = b"game 1: abandoned black moves 0 restarts 1 0";
-    ended(
-        &rt,
-        &played,
-        Verdict::Abandoned(Side::Black),
-        text.as_slice(),
-    );
-    assert!(rt; played.in_step(Side::White));
 }
 
 #[test]
@@ -203,7 +212,8 @@ fn answer_undo(rt: &impl Abort, played: &mut Match) {
 
 #[test]
 fn a_maker_without_the_move_is_sent_no_undo(rt: HostRuntime) {
-    // Black goes down after its move: White's refusal takes the move off the record, and Black gets the script without it.
+    // Black goes down after its move. White's refusal takes the move off the record, and Black gets the script without
+    // it.
     let mut played = black_answered(&rt, b"=4 A1\n\n");
     send(&rt, &mut played, Side::White, b"4 play b A1\n");
     played.lost(Side::Black);

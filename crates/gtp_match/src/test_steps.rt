@@ -132,3 +132,34 @@ pub(crate) fn up(confirmed: u32, unanswered: u32) -> Status {
         asked: false,
     }
 }
+
+/// Black moved at A1, and White, which was sent that as its command 4, refused it.
+pub(crate) fn refused(rt: &impl Abort) -> Match {
+    let mut played = black_answered(rt, b"=4 A1\n\n");
+    send_and_wait(rt, &mut played, Side::White, b"4 play b A1\n");
+    answer(rt, &mut played, Side::White, b"?4 no\n\n");
+    played
+}
+
+/// The same, and Black was sent `undo`.
+pub(crate) fn undo_sent(rt: &impl Abort) -> Match {
+    let mut played = refused(rt);
+    send_and_wait(rt, &mut played, Side::Black, b"5 undo\n");
+    played
+}
+
+/// So many moves are in the record, and so many of the first move were refused.
+pub(crate) fn stands(rt: &impl Abort, played: &Match, moves: usize, retakes: u32) {
+    assert_equal(rt, played.game().moves().len(), moves);
+    assert_equal(rt, played.retakes(1), retakes);
+}
+
+/// Both sides go down and are started again, Black first.
+pub(crate) fn start_both_again(rt: &impl Abort, played: &mut Match) {
+    played.lost(Side::Black);
+    played.lost(Side::White);
+    assert_eq!(rt; played.next(), Action::Start(Side::Black));
+    played.started(Side::Black);
+    assert_eq!(rt; played.next(), Action::Start(Side::White));
+    played.started(Side::White);
+}

@@ -1,9 +1,10 @@
 //! Commands that are sent before earlier ones are answered.
 use crate::equal::assert_equal;
 use crate::test_steps::{
-    answer, both_in_step, both_started, first_sent, hear, send, send_and_wait, setup_with, up,
+    answer, both_in_step, both_started, ended, first_sent, hear, send, send_and_wait, setup_with,
+    up,
 };
-use crate::{Action, Match, SideFault, Status};
+use crate::{Action, ForfeitCause, Match, SideFault, Status, Verdict};
 use go_base::{Point, Side, Vertex};
 use gtp_wire::{ReplyText, write_reply_into};
 use std::process::Abort;
@@ -178,4 +179,50 @@ fn a_game_of_200_moves_is_replayed_in_26_round_trips(rt: HostRuntime) {
 #[test]
 fn one_answer_at_a_time_makes_a_round_trip_of_each_command(rt: HostRuntime) {
     assert_equal(&rt, trips_after_200_moves(&rt, 1), 203);
+}
+
+/// A game of 8 moves, the last by White. Black is started again, has the empty board, and was sent all moves at once.
+fn eight_moves_unanswered(rt: &impl Abort) -> Match {
+    let mut played = both_started(rt, setup_with(rt, 19, 0, 0, 300, 1));
+    for side in [Side::Black, Side::White] {
+        assert_equal(rt, round_trip(rt, &mut played, side, 8, 0), 3);
+    }
+    fill(rt, &mut played, 4);
+    start_again(rt, &mut played, Side::Black);
+    assert_equal(rt, round_trip(rt, &mut played, Side::Black, 3, 0), 3);
+    for _ in 0..8 {
+        assert_eq!(rt; played.next(), Action::Send(Side::Black));
+        played.send(Side::Black);
+    }
+    assert_equal(rt, played.status(Side::Black), up(3, 8));
+    assert_equal(rt, played.next(), Action::Wait(Side::Black));
+    played
+}
+
+#[test]
+fn who_refuses_the_first_of_eight_moves_forfeits(rt: HostRuntime) {
+    let mut played = eight_moves_unanswered(&rt);
+    answer(&rt, &mut played, Side::Black, b"?4 no\n\n");
+    let text = b"game 1: W+F(refused play) moves 8 restarts 1 0";
+    let verdict = Verdict::Forfeit(Side::Black, ForfeitCause::RefusedPlay);
+    ended(&rt, &played, verdict, text.as_slice());
+    assert_equal(&rt, played.status(Side::Black), up(3, 8));
+    assert_equal(&rt, played.retakes(1), 0);
+    assert_equal(&rt, played.retakes(8), 0);
+}
+
+#[test]
+fn the_last_of_eight_moves_is_taken_back_where_it_is_refused(rt: HostRuntime) {
+    let mut played = eight_moves_unanswered(&rt);
+    let bytes = b"=4\n\n=5\n\n=6\n\n=7\n\n=8\n\n=9\n\n=10\n\n?11 no\n\n";
+    assert_equal(&rt, played.hear_all(Side::Black, bytes.as_slice()), None);
+    assert_equal(&rt, played.taking_back(), Some(Side::White));
+    assert_equal(&rt, played.retakes(8), 1);
+    assert_equal(&rt, played.status(Side::Black), up(10, 0));
+    send_and_wait(&rt, &mut played, Side::White, b"12 undo\n");
+    answer(&rt, &mut played, Side::White, b"=12\n\n");
+    assert_equal(&rt, played.game().moves().len(), 7);
+    assert!(rt; played.in_step(Side::Black));
+    assert!(rt; played.in_step(Side::White));
+    send(&rt, &mut played, Side::White, b"13 genmove w\n");
 }

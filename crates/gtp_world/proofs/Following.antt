@@ -29,7 +29,7 @@ use Rattle.gtp_world.specs.Exchange.{replayed, Answered, Owes, AllMayBeSent}
 use Rattle.gtp_world.specs.Joined.{ruled, IsPlayable}
 use Rattle.gtp_world.proofs.Invariant.{simple_game}
 use Rattle.gtp_world.proofs.Exchange.{owes_idle}
-use Rattle.gtp_world.proofs.Heard.{scripted_game}
+use Rattle.gtp_world.proofs.Replying.{scripted_game}
 use Rattle.gtp_world.proofs.Replay.{after_one_more, replayed_all, EndsWith, Place, place}
 
 -- the game after one command more of the script

@@ -46,7 +46,7 @@ use Rattle.gtp_world.proofs.OrderAnswers.{answered_is_reply, succeeds_with}
 use Rattle.gtp_world.proofs.Replay.{GoesWellOn, script_well, well_at}
 use Rattle.gtp_world.proofs.Agreement.{reply_length}
 use Rattle.gtp_world.proofs.Sides.{quiet_or_first}
-use Rattle.gtp_world.proofs.Heard.{scripted_outcome}
+use Rattle.gtp_world.proofs.Replying.{scripted_outcome}
 use Rattle.gtp_world.proofs.Happenings.{send_keeps, fed_keeps}
 use Rattle.gtp_world.proofs.Settle.{idle_lists_empty, no_orders_left, no_replies_left}
 use Rattle.gtp_world.specs.Exchange.{Answered, reply_with_id, reply_bytes, replayed, Owes, all_reply_bytes}

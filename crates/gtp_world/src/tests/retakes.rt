@@ -111,31 +111,73 @@ fn a_refused_move_is_taken_back_and_the_match_goes_on(rt: HostRuntime) {
     assert_equal(&rt, world.controller().retakes(8), 0);
 }
 
-#[test]
-fn a_crash_after_the_undo_was_read_takes_the_move_back(rt: HostRuntime) {
-    let mut world = refused_world(&rt);
+/// Black's engine has read the `undo`, and the controller has not heard its answer.
+fn undo_read(rt: &impl Abort) -> World<Onces, Firsts> {
+    let mut world = refused_world(rt);
     world.step(Event::Act);
     world.step(Event::ToEngine(Side::Black, 100));
-    world.step(Event::Crash(Side::Black, 100));
-    assert_equal(&rt, world.controller().game().moves().len(), 7);
-    world.step(Event::End(Side::Black));
-    assert_equal(&rt, world.controller().taking_back(), None);
-    assert_equal(&rt, world.controller().game().moves().len(), 6);
+    assert_equal(rt, world.to_controller(Side::Black), b"=11\n\n".as_slice());
+    let game = world.running(Side::Black).expect(rt, "an engine");
+    assert_equal(rt, game.moves().len(), 6);
+    assert_equal(rt, world.controller().game().moves().len(), 7);
+    assert_equal(rt, world.controller().taking_back(), Some(Side::Black));
+    world
+}
+
+/// Black, which lost its engine, is started again, and both get in step without the move. Black's new policy is asked
+/// for it.
+fn is_asked_again(rt: &impl Abort, world: &mut World<Onces, Firsts>) {
+    assert_equal(rt, world.controller().taking_back(), None);
+    assert_equal(rt, world.controller().game().moves().len(), 6);
+    assert!(rt; world.controller().in_step(Side::White));
     for _ in 0..60 {
         if !(world.controller().in_step(Side::Black) && world.controller().in_step(Side::White)) {
-            go_on(&mut world);
+            go_on(world);
         }
     }
-    assert_equal(&rt, world.controller().restarts(Side::Black), 1);
-    assert_equal(&rt, world.controller().next(), Action::Send(Side::Black));
+    assert_equal(rt, world.controller().restarts(Side::Black), 1);
+    assert_equal(rt, world.controller().next(), Action::Send(Side::Black));
     world.step(Event::Act);
     assert_equal(
-        &rt,
+        rt,
         world.to_engine(Side::Black),
         b"10 genmove b\n".as_slice(),
     );
-    go_on(&mut world);
+}
+
+/// The new policy makes the same move, which is refused again and taken back. Then both pass.
+fn is_refused_again(rt: &impl Abort, world: &mut World<Onces, Firsts>) {
+    go_on(world);
+    assert_equal(rt, world.controller().game().moves().len(), 7);
+    for _ in 0..20 {
+        go_on(world);
+    }
+    assert_equal(
+        rt,
+        world.controller().next(),
+        Action::Done(Verdict::Score(-8)),
+    );
+    assert_equal(rt, world.controller().game().moves().len(), 8);
+    assert_equal(rt, world.controller().retakes(7), 2);
+}
+
+#[test]
+fn a_crash_after_the_undo_was_read_takes_the_move_back(rt: HostRuntime) {
+    let mut world = undo_read(&rt);
+    world.step(Event::Crash(Side::Black, 100));
     assert_equal(&rt, world.controller().game().moves().len(), 7);
+    world.step(Event::End(Side::Black));
+    is_asked_again(&rt, &mut world);
+    is_refused_again(&rt, &mut world);
+}
+
+#[test]
+fn the_end_of_a_stream_with_the_answer_to_undo_unheard_takes_the_move_back(rt: HostRuntime) {
+    let mut world = undo_read(&rt);
+    world.step(Event::End(Side::Black));
+    assert_equal(&rt, world.to_controller(Side::Black), b"".as_slice());
+    is_asked_again(&rt, &mut world);
+    is_refused_again(&rt, &mut world);
 }
 
 #[test]
