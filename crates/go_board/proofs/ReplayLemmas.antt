@@ -1,12 +1,11 @@
 -- A record played again on another board, by the stones that its moves took.
 use Rattle.std.proofs.Common.{◌≡◌, ℕ, zero, suc, ◌+◌, ◌-◌, ◌<◌, ◌≤◌, List, [], ◌∷◌, ◌++◌, length, refl, sym, ◌∙◌, ap, subst, arith}
-use Rattle.std.proofs.Common.{inl, inr, Bool, true, false, cond, Contains, take, drop, get_or, get_or-set_same, get_or-set_other}
+use Rattle.std.proofs.Common.{inl, inr, Bool, true, false, cond, take, drop, get_or, get_or-set_same, get_or-set_other}
 use Rattle.std.specs.Prelude.{◌⊎◌, ◌≢◌, ◌==◌, ◌↔◌, IsTrue, Some, slice_get}
-use Rattle.std.specs.List.{range_with_len, filter, fold, AllByRecursion}
+use Rattle.std.specs.List.{range_with_len, AllByRecursion}
 use Rattle.std.proofs.lemmas.Bool.Decides.{nat_tests}
-use Rattle.std.proofs.lemmas.List.{ext_get_or, length_push, length-take-le}
+use Rattle.std.proofs.lemmas.List.{ext_get_or, length-take-le}
 use Rattle.std.proofs.lemmas.Option.{slice_get_within}
-use Rattle.std.proofs.lemmas.List.Elements.{Contains-append_left, Contains-append_right}
 use Rattle.std.proofs.lemmas.List.Sums.{count_by-le-length}
 use Rattle.std.proofs.lemmas.List.FromFn.{length-range_with_len, length-map-range_with_len}
 use Rattle.std.proofs.Math.ListN.{set, length-set}
@@ -24,19 +23,17 @@ use Rattle.go_board.specs.Laws.{under}
 use Rattle.go_board.specs.declared.rules.KoRule.{KoRule}
 use Rattle.go_board.specs.declared.rules.KoRule.TheVariants.{Simple, Positional}
 use Rattle.go_board.specs.Put.{is_captured, left_at, without_captured, put, captured_count, captures}
-use Rattle.go_board.specs.decisions.Chain.{captured?}
 use Rattle.go_board.specs.contracts.board.CellPartialEq.TheImpl.{eq-value}
-use Rattle.go_board.specs.private.Frame.{HasSize, SameEdge}
-use Rattle.go_board.specs.private.Removed.{ArePoints, AreTakenBy, HasTaken, IsOpen, cleared, later_than, captured_places}
+use Rattle.go_board.specs.private.Frame.{HasSize}
+use Rattle.go_board.specs.private.Removed.{ArePoints, AreTakenBy, IsOpen, cleared, later_than, captured_places}
 use Rattle.go_board.specs.private.Removed.{removed_by, removed_from, removed_of, taken_at, with_stones}
 use Rattle.go_board.specs.declared.board.Cell.{Cell}
 use Rattle.go_board.specs.declared.board.Cell.TheVariants.{Edge, Empty, Black, White}
 use Rattle.go_board.specs.declared.removed.Taken.{Taken}
-use Rattle.go_board.proofs.BoardLemmas.{same_or_other, stone-point, stone-filled}
-use Rattle.go_board.proofs.CaptureLemmas.{at-without_captured, SameEdge-put, holds-yes, in_list}
-use Rattle.go_board.proofs.KoLemmas.{IsAfter, taken as gone, left as stays, after-put, taken-empty}
-use Rattle.go_board.proofs.GameLemmas.{board-push, by_moves, IsBeforeMove, first_moves-with_move, first_moves-all}
-use Rattle.go_board.proofs.LegalLemmas.{new-stone}
+use Rattle.go_board.proofs.BoardLemmas.{same_or_other}
+use Rattle.go_board.proofs.CaptureLemmas.{at-without_captured, SameEdge-put}
+use Rattle.go_board.proofs.KoLemmas.{taken-empty}
+use Rattle.go_board.proofs.GameLemmas.{board-push, by_moves}
 use Rattle.go_board.proofs.NextLemmas.{empty-point}
 use Rattle.go_board.proofs.OrderLemmas.{legal-open, board-with_move, removed-start, IsOrderly-game}
 use Rattle.go_board.proofs.PutBackLemmas.{length-with_stones, filled-in, filled-out}
@@ -191,7 +188,7 @@ again-play b c p n ts h =
 
 -- ---- the whole record
 
-numbers-from : (b : List Cell) (n : ℕ) (ms : List Move) (k : ℕ) → k ≤ n
+pub numbers-from : (b : List Cell) (n : ℕ) (ms : List Move) (k : ℕ) → k ≤ n
     → AllByRecursion (λ (t : Taken). k ≤ t.number) (removed_from b n ms)
 numbers-from b n [] k h = tt
 numbers-from b n (m ∷ ms) k h =
@@ -227,7 +224,7 @@ take-suc [] k m e = cc
 take-suc (x ∷ xs) zero m e = cc
 take-suc (x ∷ xs) (suc k) m e = ap (λ (ms : List Move). x ∷ ms) (take-suc xs k m e)
 
-take-step : (ms : List Move) (k : ℕ) (m : Move) → slice_get ms k ≡ Some m → take (k + 1) ms ≡ take k ms ++ m ∷ []
+pub take-step : (ms : List Move) (k : ℕ) (m : Move) → slice_get ms k ≡ Some m → take (k + 1) ms ≡ take k ms ++ m ∷ []
 take-step ms k m e = let same : k + 1 ≡ suc k = omega arith in
     ap (λ (n : ℕ). take n ms) same ∙ take-suc ms k m e
 
@@ -361,141 +358,6 @@ repeats-last game wanted now k stones b r all test = (
     by_order j same (inl below) = absurd (r.none j below same)
     by_order j same (inr last) =
         test.1 (r.board_is ∙ ap (λ (i : ℕ). board_of (first_moves i game)) (sym last) ∙ sym same)
-
--- ---- where no stone was taken from a point, none was on it before
-
-taken-picked : (test : ℕ → Bool) (number a n q : ℕ) → a ≤ q → q < a + n → test q ≡ true
-    → Contains (taken_at number (filter test (range_with_len a n))) (record { place = q; number = number })
-taken-picked test number a zero q least most passes = absurd (omega (arith, least, most))
-taken-picked test number a (suc n) q least most passes =
-    by_test (test a) refl (λ later. taken-picked test number (a + 1) n q later (omega (arith, most)) passes)
-  where
-    ps : List ℕ
-    ps = filter test (range_with_len (a + 1) n)
-
-    sought : Taken
-    sought = record { place = q; number = number }
-
-    apart : q ≢ a → a + 1 ≤ q
-    apart another = grind (arith, another, least)
-
-    differs : false ≡ true → ⊥
-    differs e = cc
-
-    behind : (t : Taken) (ts : List Taken) → Contains ts sought → Contains (t ∷ ts) sought
-    behind t ts h = let below = h.1 in (suc h.0, omega (arith, below), h.2)
-
-    by_test : (t : Bool) → test a ≡ t
-        → (a + 1 ≤ q → Contains (taken_at number (filter test (range_with_len (a + 1) n))) sought)
-        → Contains (taken_at number (cond t (a ∷ ps) ps)) sought
-    by_test true e go = elim (same_or_other q a) [
-      | inl same ↦
-          (0, omega arith, ap (λ (p : ℕ). let t : Taken = record { place = p; number = number } in t) (sym same))
-      | inr another ↦ behind (record { place = a; number = number }) (taken_at number ps) (go (apart another))
-    ]
-    by_test false e go = go (apart (λ same. differs (sym e ∙ ap test (sym same) ∙ passes)))
-
--- a stone stays where it is, or the move takes it
-stays-more : (b : List Cell) (c : Colour) (v : Vertex) (n q : ℕ) (d : Colour) → IsOpen b v → at b q ≡ stone d
-    → (at (after_vertex b c v) q ≡ stone d) ⊎ HasTaken (taken_at n (removed_by b c v)) q
-stays-more b c Pass n q d empty h = inl h
-stays-more b c (At p) n q d empty h = by_case (after-put b c p q)
-  where
-    cells : List Cell
-    cells = set b p (stone c)
-
-    another : q ≢ p
-    another same = stone-filled d (sym h ∙ ap (at b) same ∙ empty)
-
-    by_case : IsAfter b c p q
-        → (at (put b c p) q ≡ stone d)
-        ⊎ HasTaken (taken_at n (captured_places (set b p (stone c)) (other c))) q
-    by_case (gone captured e) = inr (record {
-      number = n;
-      there =
-          let inside : q < length cells = in_list cells q (λ e. stone-point (other c) (sym captured.0 ∙ e)) in
-          taken-picked (is_captured cells (other c)) n 0 (length cells) q (omega arith) (omega (arith, inside))
-          (holds-yes (captured? cells (other c) q) captured);
-    })
-    by_case (stays k e) = inl (e ∙ get_or-set_other b p q (stone c) Edge another ∙ h)
-
--- what stood on a place after some of the moves stands there still, or was taken
-abbrev StaysOrGone : GameRecord → Type 0
-StaysOrGone game = (k q : ℕ) (d : Colour) → k ≤ length game.moves → at (board_of (first_moves k game)) q ≡ stone d
-    → (at (board_of game) q ≡ stone d) ⊎ HasTaken (removed_of game) q
-
-HasTaken-first : (ts us : List Taken) (q : ℕ) → HasTaken ts q → HasTaken (ts ++ us) q
-HasTaken-first ts us q h = record {
-  number = h.number;
-  there = Contains-append_left ts us (record { place = q; number = h.number }) h.there;
-}
-
-HasTaken-second : (ts us : List Taken) (q : ℕ) → HasTaken us q → HasTaken (ts ++ us) q
-HasTaken-second ts us q h = record {
-  number = h.number;
-  there = Contains-append_right ts us (record { place = q; number = h.number }) h.there;
-}
-
-whole : (game : GameRecord) → first_moves (length game.moves) game ≡ game
-whole game = ap (λ (ms : List Move). let g : GameRecord = record game { moves = ms } in g) (take_all game.moves)
-  where
-    take_all : (ms : List Move) → take (length ms) ms ≡ ms
-    take_all [] = refl
-    take_all (m ∷ ms) = ap (λ (xs : List Move). m ∷ xs) (take_all ms)
-
-stays-with_move : (game : GameRecord) (c : Colour) (v : Vertex) → IsBeforeMove game c v → StaysOrGone game
-    → StaysOrGone (with_move game c v)
-stays-with_move game c v b known k q d within h =
-    let long : length (with_move game c v).moves ≡ length game.moves + 1 =
-    length_push game.moves (record { colour = c; vertex = v }) in
-    by_order (grind (arith, within, long))
-  where
-    after_is : after_vertex (board_of game) c v ≡ board_of (with_move game c v)
-    after_is = sym (board-with_move game c v)
-
-    from : (at (after_vertex (board_of game) c v) q ≡ stone d)
-        ⊎ HasTaken (taken_at (length game.moves) (removed_by (board_of game) c v)) q
-        → (at (board_of (with_move game c v)) q ≡ stone d) ⊎ HasTaken (removed_of (with_move game c v)) q
-    from (inl there) = inl (ap (λ (cs : List Cell). at cs q) (sym after_is) ∙ there)
-    from (inr taken) =
-        inr (subst (λ (ts : List Taken). HasTaken ts q) (sym (removed_of-with_move game c v))
-        (HasTaken-second (removed_of game) (taken_at (length game.moves) (removed_by (board_of game) c v)) q taken))
-
-    before : (at (board_of game) q ≡ stone d) ⊎ HasTaken (removed_of game) q
-        → (at (board_of (with_move game c v)) q ≡ stone d) ⊎ HasTaken (removed_of (with_move game c v)) q
-    before (inl there) =
-        from (stays-more (board_of game) c v (length game.moves) q d (legal-open game c v b.legal) there)
-    before (inr taken) =
-        inr (subst (λ (ts : List Taken). HasTaken ts q) (sym (removed_of-with_move game c v))
-        (HasTaken-first (removed_of game) (taken_at (length game.moves) (removed_by (board_of game) c v)) q taken))
-
-    by_order : (k ≤ length game.moves) ⊎ (k ≡ length (with_move game c v).moves)
-        → (at (board_of (with_move game c v)) q ≡ stone d) ⊎ HasTaken (removed_of (with_move game c v)) q
-    by_order (inl few) =
-        before (known k q d few
-        (ap (λ (g : GameRecord). at (board_of g) q) (sym (first_moves-with_move game c v k few)) ∙ h))
-    by_order (inr all) =
-        inl (ap (λ (g : GameRecord). at (board_of g) q) (sym (ap (λ (n : ℕ). first_moves n (with_move game c v)) all
-        ∙ whole (with_move game c v))) ∙ h)
-
-stays-start : (game : GameRecord) → IsGame game → game.moves ≡ [] → StaysOrGone game
-stays-start game g none k q d within h =
-    let no_more : k ≡ length game.moves = let long = ap length none in omega (arith, within, long) in
-    inl (ap (λ (x : GameRecord). at (board_of x) q) (sym (ap (λ (n : ℕ). first_moves n game) no_more ∙ whole game)) ∙ h)
-
-stays_or_gone : (game : GameRecord) → IsGame game → StaysOrGone game
-stays_or_gone = by_moves StaysOrGone stays-start stays-with_move
-
--- where no stone was taken from an empty point, a play there brings back no board
-pub never-taken : (game : GameRecord) (c : Colour) (p : ℕ) → IsGame game → at (board_of game) p ≡ Empty
-    → ¬ HasTaken (removed_of game) p → ¬ RepeatsAny game (put (board_of game) c p)
-never-taken game c p g empty none r =
-    by_case (stays_or_gone game g r.number p c r.within
-    (ap (λ (b : List Cell). at b p) (sym r.same) ∙ new-stone (board_of game) c p empty))
-  where
-    by_case : (at (board_of game) p ≡ stone c) ⊎ HasTaken (removed_of game) p → ⊥
-    by_case (inl there) = stone-filled c (sym there ∙ empty)
-    by_case (inr taken) = none taken
 
 -- ---- the board after a play
 

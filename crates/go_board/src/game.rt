@@ -22,6 +22,9 @@ use std::marker::Model;
 /// How many moves a record has room for.
 pub const MOST_MOVES: usize = 2000;
 
+/// How many of the last moves are looked at for a stone that earlier boards hadn't.
+const LAST_MOVES: usize = 32;
+
 /// A game of Go: its size, komi and handicap, and the moves made so far.
 ///
 /// Each move of the record was legal when it was made. The two colours may move in any order.
@@ -64,6 +67,7 @@ impl Game {
     ghost use Rattle.go_board.specs.Area.{score};
     ghost use Rattle.go_board.specs.Refusals.{RefusesPoint, RefusesVertex, Refuses, IsTouched, RefusesHandicap};
     ghost use Rattle.go_base.specs.declared.vertices.Vertex.TheVariants.{At};
+    ghost use Rattle.go_board.specs.private.Removed.{StoodBelow, RepeatsBelow, IsAlsoBelow};
 
     /// A game under simple ko, without handicap and moves.
     pub fn new(size: Size, komi: Komi) -> Self
@@ -244,15 +248,60 @@ impl Game {
         }
     }
 
-    /// Whether it would bring back any board of the record. A stone that was on the point before isn't there any more:
-    /// so where none was taken from it, no board of the record has one there.
+    /// Whether it would bring back any board of the record.
     #[inline(never)]
     fn repeats_any(&self, colour: Colour, point: Point) -> bool
         requires { at (board_of self.now) point ≡ Empty }
         ensures { IsTrue result ↔ RepeatsAny self.now (put (board_of self.now) colour point) }
     {
-        self.removed.has(place_of(point))
+        self.boards_like(colour, point) > 0
             && self.was(&self.board_after(colour, point), place_of(point))
+    }
+
+    /// How many boards of the record, from the first on, may be the one that a play on an empty point leaves. They had a
+    /// stone of the colour on the point, and one on each point where the colour's last moves put one.
+    fn boards_like(&self, colour: Colour, point: Point) -> usize
+        requires { at (board_of self.now) point ≡ Empty }
+        ensures { RepeatsBelow self.now colour point result }
+    {
+        let mut few = self.boards_with(colour, place_of(point));
+        let mut number = self.moves.len();
+        let end = self.moves.len().saturating_sub(LAST_MOVES);
+        while 0 < few && few <= number && end < number {
+            number -= 1;
+            let made = self.moves[number];
+            few = self.boards_also(colour, made.colour, made.vertex, few);
+        }
+        few
+    }
+
+    /// How many are left of so many boards that came before a move, if the move's stone has to stand on them where it is
+    /// of this colour.
+    fn boards_also(&self, colour: Colour, mover: Colour, vertex: Vertex, few: usize) -> usize
+        ensures { IsAlsoBelow self.now colour mover vertex few result }
+    {
+        match vertex {
+            Vertex::At(point) if mover == colour => {
+                self.boards_with(colour, place_of(point)).min(few)
+            }
+            _ => few,
+        }
+    }
+
+    /// How many boards of the record, from the first on, may have had a stone of this colour on a place that was taken
+    /// since: those up to the last move of the other colour that took one there.
+    fn boards_with(&self, colour: Colour, place: usize) -> usize
+        ensures { StoodBelow self.now colour place result }
+    {
+        let mut left = self.removed.stones();
+        while let Some((last, earlier)) = left.split_last() {
+            let number = usize::from(last.number);
+            if usize::from(last.place) == place && self.moves[number].colour != colour {
+                return number + 1;
+            }
+            left = earlier;
+        }
+        0
     }
 
     /// The board after a play on an empty point.
