@@ -384,6 +384,20 @@ stricter game c (At p) l = record {
       l.no_ko (record { number = length game.moves - 1; within = omega arith; same = r.same });
 }
 
+pub allowed-new : (game : GameRecord) (c : Colour) (v : Vertex) → IsLegal (under Simple game) c v
+    → ((j : ℕ) → j ≤ length game.moves → board_of (with_move game c v) ≢ board_of (first_moves j game))
+    → IsLegal (under Positional game) c v
+allowed-new game c Pass l fresh = l
+allowed-new game c (At p) l fresh = record {
+  on_board = l.on_board;
+  empty = l.empty;
+  free = l.free;
+  no_ko = λ r. fresh r.number r.within (board-push game.size game.handicap game.moves move ∙ r.same);
+}
+  where
+    move : Move
+    move = record { colour = c; vertex = At p }
+
 take-take : (ms : List Move) (j k : ℕ) → j ≤ k → take j (take k ms) ≡ take j ms
 take-take ms zero k h = refl
 take-take ms (suc j) zero h = absurd (omega (arith, h))

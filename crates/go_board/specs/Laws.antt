@@ -80,8 +80,14 @@ abbrev pub PositionalIsStricter : Type 0
 PositionalIsStricter = (game : GameRecord) (c : Colour) (v : Vertex) → IsLegal (under Positional game) c v
     → IsLegal (under Simple game) c v
 
+-- what is legal under simple ko, and leaves a board that the game had at no time, is legal under positional ko
+abbrev pub NewBoardsAreAllowed : Type 0
+NewBoardsAreAllowed = (game : GameRecord) (c : Colour) (v : Vertex) → IsLegal (under Simple game) c v
+    → ((j : ℕ) → j ≤ length game.moves → board_of (with_move game c v) ≢ board_of (first_moves j game))
+    → IsLegal (under Positional game) c v
+
 -- Under positional ko no play leaves a board that the game had before: neither that before the first move nor one after
--- any other.
+-- any earlier move.
 abbrev pub NoBoardComesBack : Type 0
 NoBoardComesBack = (game : GameRecord) (j k p : ℕ) (c : Colour) → IsGame game → game.rule ≡ Positional → j ≤ k
     → slice_get game.moves k ≡ Some (record { colour = c; vertex = At p })

@@ -2,7 +2,7 @@
 //!
 //! Each function does nothing: that it is proved is the law in its contract.
 ghost use Rattle.go_board.specs.Laws.{FirstBoardsAreJustThese, BoardsLeftAreJustThese, StonesAreOnTheBoard};
-ghost use Rattle.go_board.specs.Laws.{PositionalIsStricter, NoBoardComesBack};
+ghost use Rattle.go_board.specs.Laws.{PositionalIsStricter, NewBoardsAreAllowed, NoBoardComesBack};
 ghost use Rattle.go_board.specs.Laws.{NoneIsTakenFirst, MovesAddWhatTheyTake};
 ghost use Rattle.go_board.specs.Laws.{WhatBelongsCounts, PointsBelongToOne, ScoresAreThese};
 
@@ -24,9 +24,11 @@ pub fn stones_on_the_board()
     ensures { StonesAreOnTheBoard }
 {}
 
-/// Positional ko allows no move that simple ko forbids, and under it no play brings back a board of the game.
+/// Positional ko allows no move that simple ko forbids, and each that simple ko allows where the board is new. Under it no
+/// play brings back a board of the game.
 pub fn ko_rules()
     ensures stricter { PositionalIsStricter }
+    ensures new { NewBoardsAreAllowed }
     ensures never { NoBoardComesBack }
 {}
 
