@@ -143,7 +143,7 @@ fn games_of_legal_moves_go_as_plain_ones(rt: HostRuntime) {
     };
     for number in 0..GAMES {
         let lines = number % 9 + 1;
-        // Half of the games of each size are under each rule.
+        // Nine games, one of each size, are under one rule, and the next nine under the other.
         let rule = if number % 18 < 9 {
             KoRule::Simple
         } else {

@@ -49,7 +49,8 @@ fn earlier_boards_have_their_handicap(rt: HostRuntime) {
     );
 }
 
-/// White takes the handicap stone on C3. No move of Black put a stone there, and Black may not take back nevertheless.
+/// White takes the handicap stone on C3. No move of Black put a stone there, and still Black may
+/// not take back.
 #[test]
 fn a_handicap_stone_comes_back_as_any_other(rt: HostRuntime) {
     for (rule, wanted) in [
