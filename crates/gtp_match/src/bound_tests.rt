@@ -20,14 +20,24 @@ impl Counted {
     fn exchange(&mut self, rt: &impl Abort, side: Side, ok: bool, text: &[u8]) {
         assert_eq!(rt; self.played.next(), Action::Send(side));
         self.played.send(side);
-        let count = match side {
-            Side::Black => &mut self.black,
-            Side::White => &mut self.white,
-        };
-        *count = count.saturating_add(1);
+        let id = self.count_up(side);
         let mut reply = ReplyText::new();
-        write_reply_into(&mut reply, ok, Some(*count), text);
+        write_reply_into(&mut reply, ok, Some(id), text);
         answer(rt, &mut self.played, side, reply.as_slice());
+    }
+
+    /// The side was sent one command more, whose id this is.
+    fn count_up(&mut self, side: Side) -> u32 {
+        match side {
+            Side::Black => {
+                self.black = self.black.saturating_add(1);
+                self.black
+            }
+            Side::White => {
+                self.white = self.white.saturating_add(1);
+                self.white
+            }
+        }
     }
 
     /// The side confirms so many script commands.
