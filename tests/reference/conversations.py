@@ -392,11 +392,30 @@ def returning_handicaps(r, talk):
         talk.line(b"boardsize %d" % size)
         number = r.randint(2, 9 if size == 9 else 4)
         talk.line(b"fixed_handicap %d" % number)
+        if r.random() < 0.3:
+            start_comes_back(r, talk, size, values.handicap_points(size, number))
+            continue
         for _ in range(r.choice([1, 1, 2])):
             taken_and_returned(r, talk, size, r.choice(values.handicap_points(size, number)))
             talk.line(b"showboard")
         if r.random() < 0.3:
             talk.line(b"clear_board")
+
+
+def start_comes_back(r, talk, size, stones):
+    """White takes each stone of a handicap and fills the board but for one of their points; Black takes all of White's there, and
+    plays the others again: the last one leaves the board before the first move."""
+    stones = r.sample(stones, len(stones))
+    free = [point for point in rules.points(size) if point not in stones]
+    r.shuffle(free)
+    free.sort(key=lambda point: not any(abs(point[0] - x) + abs(point[1] - y) == 1 for x, y in stones))
+    for point in free + stones[1:]:
+        talk.line(b"play w " + values.write_vertex(point))
+    for point in stones:
+        talk.line(b"play b " + values.write_vertex(point))
+        if r.random() < 0.5:
+            talk.line(b"play w pass")
+    talk.line(b"showboard")
 
 
 def taken_and_returned(r, talk, size, stone):

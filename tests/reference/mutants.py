@@ -59,6 +59,10 @@ def handicap_forgotten(game, board):
     return board in earlier
 
 
+def start_forgotten(game, board):
+    return board in game.boards[1:] if game.rule == POSITIONAL else right_is_ko(game, board)
+
+
 def nine_boards_alone(game, board):
     return board in game.boards[-9:] if game.rule == POSITIONAL else right_is_ko(game, board)
 
@@ -307,6 +311,7 @@ MUTANTS = [
     ("no earlier board may come back, by simple ko either", Game, "after", no_board_comes_back),
     ("positional ko is simple ko", Game, "is_ko", simple_whatever_is_asked),
     ("earlier boards are without the handicap", Game, "is_ko", handicap_forgotten),
+    ("the board before the first move is not compared", Game, "is_ko", start_forgotten),
     ("the last nine boards alone are compared", Game, "is_ko", nine_boards_alone),
     ("boards before the last pass are not compared", Game, "is_ko", boards_since_the_last_pass),
     ("boards with as many stones of each colour are the same", Game, "is_ko", boards_by_count),
