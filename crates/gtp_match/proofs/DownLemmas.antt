@@ -255,7 +255,7 @@ lacking_side c new t state h none some setup_is game_is more lacks side = record
           sent = omega (arith, e.sent, ap (λ (p : SetupRecord). p.max_moves) setup_is);
           quiet = e.quiet;
           under_way = λ _. idle_way new.game new.pending (all_retakes new) t engine l.0 (omega (arith, l.1, shorter))
-              (omega (arith, way.counted, ap length l.0, more));
+              (omega (arith, way.all_sent)) (omega (arith, way.counted, ap length l.0, more));
         }
 
 pub lacks_at_most : (c : Controller) (up : Option Incarnation) → IfSome up (LacksLast c.game)

@@ -87,7 +87,12 @@ quiet_sound c s engine text kept_text h none up quiet is =
 
     same_way : IsUnderWay c.game c.pending (all_retakes c) s engine
         → IsUnderWay c.game c.pending (all_retakes c) s (record engine { rest = kept_text })
-    same_way way = record { plan = way.plan; few_unanswered = way.few_unanswered; counted = way.counted }
+    same_way way = record {
+      plan = way.plan;
+      few_unanswered = way.few_unanswered;
+      all_sent = way.all_sent;
+      counted = way.counted;
+    }
 
     by_one : IsIdle (side_of c.sides s).up ⊎ IsIdle (side_of c.sides (other s)).up
         → IsIdle (Some (record engine { rest = kept_text })) ⊎ IsIdle (side_of c.sides (other s)).up
