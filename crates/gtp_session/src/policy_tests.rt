@@ -383,11 +383,11 @@ fn four_points_under(rule: KoRule) -> Result<Game, Fail> {
 #[test]
 fn each_policy_takes_the_last_point_under_simple_ko(rt: HostRuntime) -> Result<(), Fail> {
     let game = four_points_under(KoRule::Simple)?;
-    let last = play(b"A1")?;
+    let mut random = Random::new(1);
     let mut book = Book::read(b",,,,,,A1").ok_or("book")?;
-    assert_equal(&rt, First.choose(&game, Colour::Black), last);
-    assert_equal(&rt, Random::new(1).choose(&game, Colour::Black), last);
-    assert_equal(&rt, book.choose(&game, Colour::Black), last);
+    assert_equal(&rt, First.choose(&game, Colour::Black), play(b"A1")?);
+    assert_equal(&rt, random.choose(&game, Colour::Black), play(b"A1")?);
+    assert_equal(&rt, book.choose(&game, Colour::Black), play(b"A1")?);
     Ok(())
 }
 
