@@ -1,4 +1,4 @@
-"""The match program: what README.md says of `twogtp`, with engines in memory."""
+"""The match program: what README.md and docs/controller.md say of `twogtp`, with engines in memory."""
 from collections import namedtuple
 
 from reference import values
