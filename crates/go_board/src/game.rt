@@ -1,6 +1,6 @@
 //! A game: the record of its moves, and the board that the record makes.
 ghost use Rattle.std.specs.Prelude.{◌≡◌, ◌<◌, ◌≤◌, ◌↔◌, ◌⊎◌, ◌+◌, ◌-◌, [], ◌∷◌, ◌++◌, if◌then◌else◌, IsTrue, IsErr};
-ghost use Rattle.std.specs.Prelude.{IfOk, OnOk, OnErr, MatchResult};
+ghost use Rattle.std.specs.Prelude.{IfOk, OnOk, OnErr, MatchOption, MatchResult};
 ghost use Rattle.go_base.specs.Decide.{holds};
 ghost use Rattle.go_base.specs.Handicap.{AllowsHandicap, handicap_points};
 ghost use Rattle.go_base.specs.Point.{IsOn};
@@ -166,6 +166,19 @@ impl Game {
         ensures game { IsGame self.now }
     {
         self.test(colour, vertex).is_ok()
+    }
+
+    /// Why a colour may not make a move next: the first cause that `play` would tell of it, a full record aside. `None`
+    /// where the move is legal, as a pass always is.
+    pub fn refusal(&self, colour: Colour, vertex: Vertex) -> Option<PlayFault>
+        ensures { MatchOption result
+            (IsLegal self.now colour vertex)
+            (RefusesVertex self.now colour vertex) }
+    {
+        match self.test(colour, vertex) {
+            Ok(()) => None,
+            Err(fault) => Some(fault),
+        }
     }
 
     /// Makes a move, and adds it to the record.

@@ -28,3 +28,5 @@ pub mod ReplyReasons
 pub mod ReplyingLemmas
 pub mod CauseLemmas
 pub mod CountLemmas
+pub mod LosingLemmas
+pub mod TellingLemmas

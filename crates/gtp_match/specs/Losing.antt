@@ -1,0 +1,134 @@
+-- Why a side is lost by what it writes: it goes down, is unfit or forfeits. (Own.)
+use Rattle.std.specs.Prelude.{◌≡◌, ◌⊎◌, ◌<◌, ℕ, List, [], ◌++◌, length, take, drop, Option, None, Some, IfSome}
+use Rattle.std.specs.Prelude.{Ok, Err, option_map, if◌then◌else◌}
+use Rattle.go_base.specs.declared.choices.Choice.{Choice}
+use Rattle.go_base.specs.declared.choices.Choice.TheVariants as choice
+use Rattle.go_base.specs.declared.colours.Colour.{Colour}
+use Rattle.go_board.specs.declared.faults.PlayFault.{PlayFault}
+use Rattle.go_board.specs.Game.{GameRecord, IsLegal}
+use Rattle.go_board.specs.Refusals.{RefusesVertex}
+use Rattle.gtp_wire.specs.declared.replies.Reply.{Reply}
+use Rattle.gtp_wire.specs.declared.replies.ReplyFault.{ReplyFault}
+use Rattle.gtp_wire.specs.Commands.{IsWritable}
+use Rattle.gtp_wire.specs.Replies.{TellsNothing, IsFirst}
+use Rattle.gtp_match.specs.declared.controller.Controller.{Controller}
+use Rattle.gtp_match.specs.declared.losses.Loss.{Loss}
+use Rattle.gtp_match.specs.declared.losses.LossCause.{LossCause}
+use Rattle.gtp_match.specs.declared.losses.LossCause.TheVariants.{Shows, Unfit, RefusesPlay, KeepsMove, NoMove}
+use Rattle.gtp_match.specs.declared.losses.LossCause.TheVariants.{NoVertex, Illegal}
+use Rattle.gtp_match.specs.declared.losses.Owed.{Owed}
+use Rattle.gtp_match.specs.declared.sides.Incarnation.{Incarnation}
+use Rattle.gtp_match.specs.declared.table.Outcome.{Outcome}
+use Rattle.gtp_match.specs.declared.table.Outcome.TheVariants as made
+use Rattle.gtp_match.specs.declared.verdicts.ForfeitCause.TheVariants as forfeit
+use Rattle.gtp_match.specs.declared.verdicts.SideFault.{SideFault}
+use Rattle.gtp_match.specs.declared.verdicts.Verdict.{Verdict}
+use Rattle.gtp_match.specs.Hearing.{HearsExactly, side_fault}
+use Rattle.gtp_match.specs.ReplyTable.{outcome}
+use Rattle.gtp_match.specs.ReplyWords.{choice_of_text}
+use Rattle.gtp_match.specs.Sides.{side_of}
+use Rattle.gtp_match.specs.Taking.{may_retake}
+use Rattle.gtp_match.specs.Unanswered.{oldest}
+
+-- ---- what a side owes
+
+-- how many bytes of an answer are kept to be shown
+abbrev pub most_shown : ℕ
+most_shown = 80
+
+-- What an engine owes that wrote this text since its last whole reply: how many commands it hasn't answered, the oldest
+-- of them, and the beginning of the text.
+abbrev pub owed_of : Incarnation → List ℕ → Owed
+owed_of engine text = record {
+  unanswered = length engine.unanswered;
+  oldest = oldest engine.unanswered;
+  bytes = record { items = take most_shown text };
+}
+
+-- what a side owes in a match that goes on: nothing is told of one that is down, or once a verdict was given
+abbrev pub owed_where : Option Verdict → Option Incarnation → Option Owed
+owed_where None None = None
+owed_where None (Some engine) = Some (owed_of engine engine.rest)
+owed_where (Some verdict) up = None
+
+abbrev pub owed : Controller → Colour → Option Owed
+owed c side = owed_where c.verdict (side_of c.sides side).up
+
+-- the oldest command can be written as a line
+abbrev pub CanBeShown : Owed → Type 0
+CanBeShown o = IfSome o.oldest (λ entry. IsWritable entry.command)
+
+-- ---- the cause
+
+-- The rule that a chosen vertex breaks: the first cause for which a play is refused, a full record aside.
+abbrev pub BreaksRule : GameRecord → Colour → Option Choice → Option LossCause → Type 0
+BreaksRule game side None cause = cause ≡ None
+BreaksRule game side (Some choice.Resign) cause = cause ≡ None
+BreaksRule game side (Some (choice.Play v)) cause =
+    ((cause ≡ None) × IsLegal game side v)
+    ⊎ ((fault : PlayFault) × (cause ≡ Some (Illegal fault)) × RefusesVertex game side v fault)
+
+-- Why a reply with this outcome loses its side, if it does. A refused play does where it may not be retaken.
+abbrev pub HasCause : Controller → Colour → Incarnation → Reply → Outcome → Option LossCause → Type 0
+HasCause c side engine reply (made.Down fault) cause = cause ≡ Some (Shows fault)
+HasCause c side engine reply made.Unfit cause = cause ≡ Some Unfit
+HasCause c side engine reply (made.Forfeits forfeit.RefusedPlay) cause = cause ≡ Some RefusesPlay
+HasCause c side engine reply (made.Forfeits forfeit.NoMove) cause = cause ≡ Some NoMove
+HasCause c side engine reply (made.Forfeits forfeit.NoVertex) cause = cause ≡ Some NoVertex
+HasCause c side engine reply (made.Forfeits forfeit.IllegalMove) cause =
+    BreaksRule c.game side (choice_of_text reply.text.items) cause
+HasCause c side engine reply made.Confirms cause = cause ≡ None
+HasCause c side engine reply made.Resigns cause = cause ≡ None
+HasCause c side engine reply (made.Moves v) cause = cause ≡ None
+HasCause c side engine reply made.Refuses cause = cause ≡ (if may_retake c side engine then None else Some RefusesPlay)
+HasCause c side engine reply made.TakesBack cause = cause ≡ None
+HasCause c side engine reply made.Keeps cause = cause ≡ Some KeepsMove
+
+-- ---- bytes that are heard once
+
+-- a loss by this text, which is a reply or shows a fault
+abbrev pub loss_of : Incarnation → List ℕ → LossCause → Loss
+loss_of engine text cause = record { cause = cause; owed = owed_of engine text }
+
+-- What hearing the bytes once loses, of a side that is up and before any verdict: by the reply that they end, if its
+-- outcome has a cause; by the fault that they show; and nothing where they do neither.
+pub data LosesUp (c : Controller) (side : Colour) (engine : Incarnation) (bytes : List ℕ) : Option Loss → Type 0 where
+  by_reply : {count : ℕ} {value : Reply} (cause : Option LossCause) → IsFirst (engine.rest ++ bytes) count (Ok value)
+      → HasCause c side engine value (outcome c.game side (oldest engine.unanswered) value) cause
+      → LosesUp c side engine bytes (option_map (loss_of engine (take count (engine.rest ++ bytes))) cause)
+  by_fault : {count : ℕ} {shown : ReplyFault} → IsFirst (engine.rest ++ bytes) count (Err shown)
+      → LosesUp c side engine bytes
+      (Some (loss_of engine (take count (engine.rest ++ bytes)) (Shows (side_fault shown))))
+  nothing_yet : TellsNothing (engine.rest ++ bytes) → LosesUp c side engine bytes None
+
+-- a side that is down loses nothing, nor does any side after a verdict
+abbrev pub LosesWhere : Controller → Colour → List ℕ → Option Verdict → Option Incarnation → Option Loss → Type 0
+LosesWhere c side bytes None None loss = loss ≡ None
+LosesWhere c side bytes None (Some engine) loss = LosesUp c side engine bytes loss
+LosesWhere c side bytes (Some verdict) up loss = loss ≡ None
+
+abbrev pub Loses : Controller → Colour → List ℕ → Option Loss → Type 0
+Loses c side bytes loss = LosesWhere c side bytes c.verdict (side_of c.sides side).up loss
+
+-- ---- all bytes
+
+-- the first of two losses
+abbrev pub first_of : Option Loss → Option Loss → Option Loss
+first_of None later = later
+first_of (Some loss) later = Some loss
+
+-- Bytes are heard until they are used up or show a fault, each time some of those that are left; and the first loss by
+-- them is told, if there is any.
+pub data HearsTelling (side : Colour) : Controller → List ℕ → Option SideFault → Option Loss → Controller → Type 0 where
+  used_up : {c : Controller} → HearsTelling side c [] None None c
+  faulty : {c new : Controller} {bytes : List ℕ} {shown : SideFault} {loss : Option Loss} (used : ℕ)
+      → 0 < length bytes → HearsExactly c side bytes used (Some shown) new → Loses c side bytes loss
+      → HearsTelling side c bytes (Some shown) loss new
+  goes_on : {c mid new : Controller} {bytes : List ℕ} {shown : Option SideFault} {later : Option Loss} (used : ℕ)
+      (loss : Option Loss) → 0 < length bytes → HearsExactly c side bytes used None mid → Loses c side bytes loss
+      → HearsTelling side mid (drop used bytes) shown later new
+      → HearsTelling side c bytes shown (first_of loss later) new
+
+-- all bytes are heard, and the first loss by them, if any, is this one
+abbrev pub HearsAllTelling : Colour → Controller → List ℕ → Option Loss → Controller → Type 0
+HearsAllTelling side c bytes loss new = (shown : Option SideFault) × HearsTelling side c bytes shown loss new

@@ -1,0 +1,115 @@
+//! Why a side is lost by what it writes: it goes down, is unfit or forfeits.
+ghost use Rattle.std.specs.Prelude.{◌≡◌, ◌+◌, ◌≤◌, ◌++◌, length, take};
+ghost use Rattle.arrayvec.specs.ArrayVec.{array_vec_len};
+ghost use Rattle.gtp_match.specs.Losing.{most_shown, owed_of, BreaksRule, first_of};
+
+use crate::sides::Incarnation;
+use crate::table::{Outcome, judge};
+use crate::unanswered::SentCommand;
+use crate::verdicts::{ForfeitCause, SideFault};
+use arrayvec::ArrayVec;
+use go_base::{Choice, Side};
+use go_board::{Game, PlayFault};
+use gtp_wire::Reply;
+
+/// How many bytes of an answer are kept to be shown.
+pub const MOST_SHOWN: usize = 80;
+
+/// The beginning of an answer.
+pub type ShownBytes = ArrayVec<u8, MOST_SHOWN>;
+
+/// Why a side is lost by what it writes.
+#[derive(Clone, Copy, Debug, PartialEq, Eq)]
+pub enum LossCause {
+    /// Its bytes show this fault. It goes down.
+    Shows(SideFault),
+    /// It failed at a command of the script other than `play`, or its answer to `fixed_handicap` isn't the handicap's
+    /// points. It is unfit.
+    Unfit,
+    /// It refused a `play` that isn't retaken. It forfeits.
+    RefusesPlay,
+    /// It failed to take back its last move, which the other side refused. The other side forfeits.
+    KeepsMove,
+    /// It failed at a `genmove`. It forfeits.
+    NoMove,
+    /// Its answer to a `genmove` is neither a vertex nor a resignation. It forfeits.
+    NoVertex,
+    /// Its move is refused for this cause. It forfeits.
+    Illegal(PlayFault),
+}
+
+/// What a side owes.
+#[derive(Drop)]
+pub struct Owed {
+    /// How many commands it hasn't answered.
+    pub unanswered: u32,
+    /// The oldest of them, if any.
+    pub oldest: Option<SentCommand>,
+    /// The first 80 bytes of what it wrote since its last whole reply, as they came.
+    pub bytes: ShownBytes,
+}
+
+/// That a side is lost by what it wrote.
+#[derive(Drop)]
+pub struct Loss {
+    /// Why.
+    pub cause: LossCause,
+    /// What it owed when its bytes ended the reply, or showed the fault, that loses it. The bytes are those of this
+    /// reply, or those up to the fault.
+    pub owed: Owed,
+}
+
+/// The first of two losses.
+pub(crate) fn first_of(loss: Option<Loss>, later: Option<Loss>) -> Option<Loss>
+    ensures { result ≡ first_of loss later }
+{
+    match loss {
+        None => later,
+        Some(loss) => Some(loss),
+    }
+}
+
+/// What an engine owes that wrote these bytes more since its last whole reply.
+pub(crate) fn owed_with(engine: &Incarnation, more: &[u8]) -> Owed
+    ensures { result ≡ owed_of engine.now (engine.now.rest ++ more.now) }
+{
+    Owed {
+        unanswered: engine.unanswered.len() as u32,
+        oldest: engine.unanswered.oldest(),
+        bytes: first_bytes(engine.rest.bytes(), more),
+    }
+}
+
+/// The first bytes of two texts, joined.
+
+fn first_bytes(text: &[u8], more: &[u8]) -> ShownBytes
+    ensures { result.items ≡ take most_shown (text.now ++ more.now) }
+{
+    let mut bytes = ArrayVec::new();
+    append(&mut bytes, &text[..MOST_SHOWN.min(text.len())]);
+    let room = MOST_SHOWN - bytes.len();
+    append(&mut bytes, &more[..room.min(more.len())]);
+    bytes
+}
+
+/// Appends bytes.
+fn append(bytes: &mut ShownBytes, more: &[u8])
+    requires { array_vec_len bytes.old + length more.now ≤ MOST_SHOWN }
+    ensures { bytes.new.items ≡ bytes.old.items ++ more.now }
+{
+    let _ = bytes.try_extend_from_slice(more);
+}
+
+/// The rule that a chosen vertex breaks, if any.
+pub(crate) fn broken_rule(game: &Game, side: Side, choice: Option<Choice>) -> Option<LossCause>
+    ensures { BreaksRule game.now side choice result }
+{
+    match choice {
+        None => None,
+        Some(Choice::Resign) => None,
+        Some(Choice::Play(vertex)) => match game.refusal(side, vertex) {
+            None => None,
+            Some(fault) => Some(LossCause::Illegal(fault)),
+        },
+    }
+}
