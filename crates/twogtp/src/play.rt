@@ -49,7 +49,15 @@ pub fn play_game<O: Write, S: Starter>(
 {
     let mut game = Match::new(task.setup);
     let mut buffer = [0u8; READ_ROOM];
-    let told = play_and_tell(task, number, &mut game, &mut buffer, commands, output, starter)?;
+    let told = play_and_tell(
+        task,
+        number,
+        &mut game,
+        &mut buffer,
+        commands,
+        output,
+        starter,
+    )?;
     Ok(told.close(&game, &mut buffer))
 }
 
