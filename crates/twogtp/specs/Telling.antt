@@ -10,6 +10,7 @@ use Rattle.gtp_match.specs.declared.verdicts.Verdict.{Verdict}
 use Rattle.gtp_match.specs.Controller.{new}
 use Rattle.gtp_match.specs.ResultLine.{result_text, record_text}
 use Rattle.twogtp.specs.declared.fault.Fault.{Fault}
+use Rattle.twogtp.specs.declared.fault.Fault.TheVariants.{Write}
 use Rattle.twogtp.specs.declared.options.Options.{Options}
 use Rattle.twogtp.specs.declared.starter.Conversation.{Ghosts}
 use Rattle.twogtp.specs.declared.task.Commands.{Commands}
@@ -40,6 +41,25 @@ result_part number c (Some verdict) = result_text number c verdict ++ newline �
 -- what is told of a game: its result line, and then the record and the board where they are asked for
 abbrev pub game_lines : Task → ℕ → Controller → List ℕ
 game_lines task number c = result_part number c c.verdict ++ (record_part task.record c ++ board_part task.show c)
+
+-- A game was played to its end, and a writer took what is told of it under this number, all of it.
+pub record IsTold {P : Type 0} (known : Ghosts P) (commands : Commands) (task : Task) (number : ℕ) (verdict : Verdict)
+    (held holds : Option (List ℕ)) (had has : Attempts P) : Type 0 where
+  pub c : Controller
+  pub played : IsPlayed known commands task.setup had has c verdict
+  pub taken : Appends held holds (game_lines task number c)
+
+-- Why a game isn't told whole. It stopped before its end, and the writer stayed as it was. Or it was played to its end,
+-- and the writer took a beginning of what is told of it and broke.
+pub data IsUntold {P O : Type 0} (known : Ghosts P) (contents : O → Option (List ℕ)) (commands : Commands) (task : Task)
+    (number : ℕ) (before after : O) (had has : Attempts P) : Fault → Type 0 where
+  stopped : {last : Controller} {fault : Fault}
+      → HasStopped known commands (new task.setup) no_processes had has last fault → after ≡ before
+      → IsUntold known contents commands task number before after had has fault
+  broke : {c : Controller} {verdict : Verdict}
+      → IsPlayed known commands task.setup had has c verdict
+      → TakesPart (game_lines task number c) (contents before) (contents after)
+      → IsUntold known contents commands task number before after had has Write
 
 -- The status of so many games, their text, and what was asked for in them: each was played to its end, and is told in
 -- its turn.

@@ -60,13 +60,14 @@ impl Write for Full {
     }
 }
 
-/// A stream with room for so many bytes, which keeps how many it had taken at each flush; a write into it when it is
-/// full fails.
+/// A stream with room for so many bytes, which keeps how many it had taken at each flush, and notes it in the log; a
+/// write into it when it is full fails.
 #[derive(Drop)]
 pub struct Narrow {
     pub taken: Vec<u8>,
     pub flushed: Vec<usize>,
     pub room: usize,
+    pub log: Log,
 }
 
 impl Write for Narrow {
@@ -81,6 +82,7 @@ impl Write for Narrow {
     }
 
     fn flush(&mut self) -> io::Result<()> {
+        self.log.flushed.set(self.taken.len());
         Ok(self.flushed.push(self.taken.len())?)
     }
 }
@@ -191,6 +193,7 @@ impl Conversation for Talk {
         if text == b"quit\n".as_slice() {
             add_one(&self.log.quits);
             self.log.ended_by_quit.set(self.log.ended.get());
+            add(&self.log.flushed_by_quits, self.log.flushed.get());
         }
         let taken = match &mut self.engine {
             Engine::First(session) | Engine::Interrupted(session, _) => {
@@ -244,6 +247,10 @@ pub struct Log {
     pub quits: Rc<Cell<u32>>,
     /// How many had been ended when the last `quit` was sent.
     pub ended_by_quit: Rc<Cell<u32>>,
+    /// How many bytes the output had taken when it was last flushed.
+    pub flushed: Rc<Cell<usize>>,
+    /// The sum of these numbers at each `quit`.
+    pub flushed_by_quits: Rc<Cell<usize>>,
     /// How many writes went through.
     pub writes: Rc<Cell<u32>>,
     /// How often one was let run before it was read.
@@ -260,6 +267,8 @@ impl Log {
             ended: Rc::new(alloc, Cell::new(0))?,
             quits: Rc::new(alloc, Cell::new(0))?,
             ended_by_quit: Rc::new(alloc, Cell::new(0))?,
+            flushed: Rc::new(alloc, Cell::new(0))?,
+            flushed_by_quits: Rc::new(alloc, Cell::new(0))?,
             writes: Rc::new(alloc, Cell::new(0))?,
             let_run: Rc::new(alloc, Cell::new(0))?,
             interrupted: Rc::new(alloc, Cell::new(0))?,
@@ -270,6 +279,11 @@ impl Log {
 /// Counts one more.
 fn add_one(count: &Cell<u32>) {
     count.set(count.get().saturating_add(1));
+}
+
+/// Counts so many more.
+fn add(count: &Cell<usize>, more: usize) {
+    count.set(count.get().saturating_add(more));
 }
 
 /// Starts engines in memory, by the name and the options that the program has, and some that misbehave.

@@ -13,6 +13,28 @@ use clap::{Arg, ArgAction, ArgMatches, Command, Error, value_parser};
 use std::alloc::{AllocError, Global};
 use std::convert::AsStr;
 
+/// What the help says below the options: a game's line, the verdicts, and the statuses.
+const AFTER_OPTIONS: &str = "\
+A game writes one line: game N: VERDICT moves M restarts RB RW
+M counts its moves, RB and RW the restarts of Black and of White.
+
+Verdicts:
+  B+4.5, W+0.5, 0       two passes; the score by area, every stone alive
+  B+R, W+R              the other side resigned
+  limit                 the game had as many moves as are allowed
+  B+F(CAUSE), W+F(..)   the other side forfeited; CAUSE is illegal move,
+                        no vertex, no move or refused play
+  unfit black, ..       this side refused the size, komi, the empty board
+                        or the handicap
+  abandoned black, ..   this side could not be started, ended, broke, or
+                        wrote what is no reply, more often than allowed
+
+Status:
+  0  each game ended by a score, a resignation, the limit or a forfeit
+  1  some game was unfit or abandoned; the others were played all the same
+  2  the arguments have a mistake; nothing was started
+  3  the program could not go on: write fault, out of memory, too many turns";
+
 /// What the command line asks for.
 #[derive(Clone, Copy, Debug, PartialEq, Eq)]
 pub struct Options<'a> {
@@ -103,9 +125,8 @@ fn with_engines<'a>(alloc: Global) -> Result<Command<'a>, AllocError>
     Command::new(alloc, "twogtp")
         .bin_name("twogtp")?
         .version("1.0")
-        .about(
-            "Plays two Go engines that speak the Go Text Protocol, version 2, against each other",
-        )
+        .about("Plays two engines of the Go Text Protocol, version 2, against each other")
+        .after_help(AFTER_OPTIONS)
         .arg(engine(alloc, "black", "Command of Black's engine, split at spaces"))?
         .arg(engine(alloc, "white", "Command of White's engine, split at spaces"))
 }
@@ -168,7 +189,7 @@ fn with_rest<'a>(alloc: Global, command: Command<'a>) -> Result<Command<'a>, All
             "restarts",
             restarts_parser(),
             "2",
-            "How often an engine is started again in a game, 0 to 1000",
+            "Restarts of a side in a game, 0 to 1000",
         ))?
         .arg(flag(alloc, "record", "Write the moves of each game"))?
         .arg(flag(alloc, "show", "Write the last board of each game"))
@@ -230,7 +251,7 @@ fn komi<'a>(alloc: Global) -> Arg<'a>
         .long("komi")
         .value_name("K")
         .default_value("6.5")
-        .help("Komi in points, a multiple of a half; one below zero is written --komi=-3.5")
+        .help("Komi by halves; below zero --komi=-3.5")
 }
 
 /// An option that takes a whole number.

@@ -1,52 +1,97 @@
 //! A game between two processes.
 ghost use Rattle.std.specs.Prelude.{◌≡◌, IfOk, IfErr, OnOk, OnErr};
+ghost use Rattle.std.specs.Io.KnownBytes.{Appends};
 ghost use Rattle.gtp_match.specs.declared.verdicts.Action.TheVariants as action;
+ghost use Rattle.gtp_match.specs.Controller.{new};
 ghost use Rattle.gtp_match.specs.Next.{next};
 ghost use Rattle.gtp_match.specs.Sound.{IsSound};
 ghost use Rattle.twogtp.specs.Processes.{OtherStays, no_processes};
 ghost use Rattle.twogtp.specs.Speaking.{AreSent, Hears, IsHeard, Sends};
 ghost use Rattle.twogtp.specs.Status.{own_fault, status_of};
-ghost use Rattle.twogtp.specs.Turns.{HasPlayed, HasStopped, HasTaken, IsRefused, Turn};
+ghost use Rattle.twogtp.specs.Telling.{IsTold, IsUntold, game_lines};
+ghost use Rattle.twogtp.specs.Turns.{HasPlayed, HasStopped, IsRefused, Turn};
 
+use crate::closing::{Told, tell_game};
 use crate::fault::Fault;
 use crate::pipes::{CutOff, READ_ROOM, read_once, write_whole};
 use crate::sending::take_commands;
 use crate::sides::{Sides, end};
 use crate::starter::{Conversation, StartFault, Starter};
-use crate::task::Commands;
+use crate::task::{Commands, Task};
 use go_base::Side;
 use gtp_match::{Action, Match, Status, Verdict};
+use std::io::Write;
 
 /// How many turns a game has at most. No match within the limits has as many.
 const MOST_TURNS: u64 = 1_000_000_000_000;
 
-/// Plays a match to its end, and answers how it ended. Each process that is started is ended, also after a fault.
+/// Plays a game of a task, tells it, and answers how it ended. The processes are closed once the text is written and
+/// flushed: only then is one told to `quit`. Each process that is started is ended, also after a fault.
 ///
 /// # Errors
 ///
-/// `OutOfMemory` where the start of a process was refused memory, `TooManyTurns`.
-pub fn play_game<S: Starter>(
-    game: &mut Match,
+/// `OutOfMemory` where the start of a process was refused memory, `TooManyTurns`, `Write`.
+pub fn play_game<O: Write, S: Starter>(
+    task: &Task,
+    number: u32,
     commands: &Commands<'_>,
+    output: &mut O,
     starter: &mut S,
 ) -> Result<Verdict, Fault>
-    ensures plays { OnOk result (HasTaken S.Process.Conversation commands.now game.old
-        (S.asked starter.old) (S.asked starter.new) game.new) }
-    ensures over { IfOk result (λ verdict. next game.new ≡ action.Done verdict) }
-    ensures sound { IfOk result (λ verdict. IsSound game.new) }
-    ensures stopped { IfErr result (HasStopped S.Process.Conversation commands.now game.old
-        no_processes (S.asked starter.old) (S.asked starter.new) game.new) }
+    ensures told { IfOk result (λ verdict.
+        IsTold S.Process.Conversation commands.now task.now number verdict
+        (O.contents output.old) (O.contents output.new)
+        (S.asked starter.old) (S.asked starter.new)) }
+    ensures untold { IfErr result
+        (IsUntold S.Process.Conversation O.contents commands.now task.now number
+        output.old output.new (S.asked starter.old) (S.asked starter.new)) }
+    ensures fault { IfErr result (λ fault. status_of fault ≡ own_fault) }
+{
+    let mut game = Match::new(task.setup);
+    let mut buffer = [0u8; READ_ROOM];
+    let told = play_and_tell(
+        task,
+        number,
+        &mut game,
+        &mut buffer,
+        commands,
+        output,
+        starter,
+    )?;
+    Ok(told.close(&game, &mut buffer))
+}
+
+/// Plays a match to its end, and tells it. What it answers has the processes as the last turn left them.
+fn play_and_tell<O: Write, S: Starter>(
+    task: &Task,
+    number: u32,
+    game: &mut Match,
+    buffer: &mut [u8; READ_ROOM],
+    commands: &Commands<'_>,
+    output: &mut O,
+    starter: &mut S,
+) -> Result<Told<S::Process>, Fault>
+    requires { game.old ≡ new task.now.setup }
+    ensures plays { IfOk result (λ told.
+        HasPlayed S.Process.Conversation commands.now game.old no_processes
+        (S.asked starter.old) game.new told.sides (S.asked starter.new)) }
+    ensures over { IfOk result (λ told. next game.new ≡ action.Done told.verdict) }
+    ensures sound { OnOk result (IsSound game.new) }
+    ensures text { OnOk result (Appends (O.contents output.old) (O.contents output.new)
+        (game_lines task.now number game.new)) }
+    ensures untold { IfErr result
+        (IsUntold S.Process.Conversation O.contents commands.now task.now number
+        output.old output.new (S.asked starter.old) (S.asked starter.new)) }
     ensures fault { IfErr result (λ fault. status_of fault ≡ own_fault) }
 {
     let mut sides = Sides::none();
-    let mut buffer = [0u8; READ_ROOM];
-    let played = take_turns(game, &mut sides, &mut buffer, commands, starter);
-    if played.is_ok() {
-        sides.close(game, &mut buffer);
-    } else {
-        sides.end();
+    match take_turns(game, &mut sides, buffer, commands, starter) {
+        Ok(verdict) => tell_game(task, number, game, verdict, sides, output),
+        Err(fault) => {
+            sides.end();
+            Err(fault)
+        }
     }
-    played
 }
 
 /// Takes turns until the match is over.

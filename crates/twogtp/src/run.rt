@@ -12,9 +12,9 @@ use crate::plan::plan_of;
 use crate::play::play_game;
 use crate::starter::Starter;
 use crate::task::{Commands, Task};
-use crate::telling::{game_text, write_text};
+use crate::telling::write_text;
 use clap::error::ErrorKind;
-use gtp_match::{Match, Verdict};
+use gtp_match::Verdict;
 use std::alloc::Global;
 use std::convert::AsStr;
 use std::fmt::Display;
@@ -94,13 +94,7 @@ fn play_games<O: Write, S: Starter>(
 {
     let mut status = 0;
     for index in 0..task.games {
-        let mut game = Match::new(task.setup);
-        let verdict = play_game(&mut game, commands, starter)?;
-        let text = game_text(task, index + 1, &game);
-        match write_text(output, text.as_slice()) {
-            Ok(()) => {}
-            Err(_) => return Err(Fault::Write),
-        }
+        let verdict = play_game(task, index + 1, commands, output, starter)?;
         status = with_verdict(status, verdict);
     }
     Ok(status)
