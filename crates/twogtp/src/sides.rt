@@ -7,8 +7,7 @@ use crate::starter::Conversation;
 use go_base::Side;
 use gtp_match::{Match, Status};
 
-/// The process of each side that has one. It is not `Drop`: `end` ends them all, or `close` of a
-/// `Told` that has them.
+/// The process of each side that has one. It is not `Drop`: `end` ends them all, or `close` of a `Told` that has them.
 pub struct Sides<P> {
     /// Black's.
     pub black: Option<P>,
