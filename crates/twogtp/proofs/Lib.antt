@@ -3,3 +3,4 @@ mod PipeLemmas
 mod PlanLemmas
 mod SendingLemmas
 mod TellingLemmas
+mod WhyLemmas

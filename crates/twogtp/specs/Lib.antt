@@ -7,3 +7,4 @@ pub mod Status
 pub mod Tasks
 pub mod Telling
 pub mod Turns
+pub mod Why

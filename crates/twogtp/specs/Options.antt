@@ -49,12 +49,13 @@ with_games app = with_rule app (number_rule (codes "games") (pos 1) (pos 1000) (
 abbrev pub with_moves : App → App
 with_moves app = with_rule app (number_rule (codes "max-moves") (pos 1) (pos 2000) (codes "1000"))
 
--- `[--restarts N] [--record] [--show]`
+-- `[--restarts N] [--record] [--show] [--why]`
 abbrev pub with_rest : App → App
-with_rest app = with_rule (with_rule (with_rule app
+with_rest app = with_rule (with_rule (with_rule (with_rule app
     (number_rule (codes "restarts") (pos 0) (pos 1000) (codes "2")))
     (flag_rule (codes "record")))
-    (flag_rule (codes "show"))
+    (flag_rule (codes "show")))
+    (flag_rule (codes "why"))
 
 -- the program, which has a version
 abbrev pub program : App
@@ -94,11 +95,16 @@ pub record Ask (rows : List Row) (options : Options) : Type 0 where
   pub restarts : HasNumber (codes "restarts") rows options.restarts
   pub record_flag : HasFlag (codes "record") rows options.record
   pub show_flag : HasFlag (codes "show") rows options.show
+  pub why_flag : HasFlag (codes "why") rows options.why
 
 -- the words of a command line have no mistake, and ask for these options
 pub record AsksFor (words : List Text) (options : Options) : Type 0 where
   pub no_fault : fault_of command_line words ≡ []
   pub asked : Ask (matches_of command_line words) options
+
+-- whatever options the words ask for, `--why` is not among them
+abbrev pub AsksForNoWhy : List Text → Type 0
+AsksForNoWhy words = (options : Options) → AsksFor words options → options.why ≡ false
 
 -- the words have a mistake of this kind, or ask for the help or the version
 abbrev pub HasFault : List Text → ErrorKind → Type 0

@@ -37,10 +37,20 @@ pub data IsUnbroken {P : Type 0} (fails : Fails P) (succeeds : Succeeds P) (befo
   went : {mid after : P} → IsUnbroken fails succeeds before mid → succeeds mid after
       → IsUnbroken fails succeeds before after
 
--- A process was cut off by calls that led from the one to the other: the last call, and none before it, broke (or told
--- the end of its stream); or none broke, and the last ones were all interrupted, as many as are tried.
+-- A process was cut off by calls that led from the one to the other: the last call, and none before it, broke; or
+-- none broke, and the last ones were all interrupted, as many as are tried.
 pub data IsCutOff {P : Type 0} (fails : Fails P) (succeeds : Succeeds P) (before after : P) : Type 0 where
   broke : {mid : P} → IsUnbroken fails succeeds before mid → fails mid Broken after
       → IsCutOff fails succeeds before after
   interrupted : {mid : P} → IsUnbroken fails succeeds before mid → AreInterrupted fails mid most_tries after
       → IsCutOff fails succeeds before after
+
+-- calls by which a process's output told its end, by the process before and after
+abbrev pub RunsOut : Type 0 → Type 1
+RunsOut P = P → P → Type 0
+
+-- A process's output ended: calls led from the one to the other, none of which broke, and the last one told the end.
+pub data HasEnded {P : Type 0} (fails : Fails P) (succeeds : Succeeds P) (runs_out : RunsOut P) (before after : P)
+    : Type 0 where
+  ran_out : {mid : P} → IsUnbroken fails succeeds before mid → runs_out mid after
+      → HasEnded fails succeeds runs_out before after

@@ -6,7 +6,11 @@ use Rattle.gtp_match.specs.declared.controller.Controller.{Controller}
 use Rattle.gtp_match.specs.declared.sides.Status.{Status}
 use Rattle.gtp_match.specs.declared.sides.Status.TheVariants.{Down, Up}
 use Rattle.gtp_match.specs.Sides.{side_of, status_of}
+use Rattle.twogtp.specs.declared.sides.Endings.{Endings}
 use Rattle.twogtp.specs.declared.sides.Sides.{Sides}
+use Rattle.twogtp.specs.declared.starter.Conversation.{Ghosts}
+use Rattle.twogtp.specs.declared.starter.Ending.{Ending}
+use Rattle.twogtp.specs.declared.starter.Ending.TheVariants.{Unknown}
 
 -- no side has a process
 abbrev pub no_processes : {P : Type 0} → Sides P
@@ -30,6 +34,27 @@ while_up (Up confirmed unanswered asked) process = process
 -- the process that a side keeps in a match
 abbrev pub kept_by : {P : Type 0} → Controller → Colour → Option P → Option P
 kept_by c side process = while_up (status_of (side_of c.sides side).up) process
+
+-- A side that is down has no process any more: the one that it had ended so. Of any other nothing is known.
+abbrev pub EndsWhere : {P : Type 0} → Ghosts P → Status → Option P → Ending → Type 0
+EndsWhere known Down (Some process) ending = known.leaves process ending
+EndsWhere known Down None ending = ending ≡ Unknown
+EndsWhere known (Up confirmed unanswered asked) process ending = ending ≡ Unknown
+
+-- how the process of a side ended in a match, if it did
+abbrev pub Ends : {P : Type 0} → Ghosts P → Controller → Colour → Option P → Ending → Type 0
+Ends known c side process ending = EndsWhere known (status_of (side_of c.sides side).up) process ending
+
+-- the ending of a side's process
+abbrev pub ending_for : Endings → Colour → Ending
+ending_for endings Black = endings.black
+ending_for endings White = endings.white
+
+-- how the processes of both sides ended
+pub record AreEndings {P : Type 0} (known : Ghosts P) (c : Controller) (sides : Sides P) (endings : Endings)
+    : Type 0 where
+  pub black : Ends known c Black sides.black endings.black
+  pub white : Ends known c White sides.white endings.white
 
 -- Where there is a process, before and after, this was done with it; where there is none, that was done.
 abbrev pub WithProcess : {P : Type 0} → Option P → Option P → (P → P → Type 0) → Type 0 → Type 0

@@ -1,5 +1,6 @@
 -- What is said with the process of a side in a turn.
-use Rattle.std.specs.Prelude.{◌≡◌, ◌≢◌, ◌<◌, ◌+◌, ℕ, List, [], ◌++◌, length, Option, Some, None}
+use Rattle.std.specs.Prelude.{◌≡◌, ◌≢◌, ◌<◌, ◌+◌, ℕ, Bool, true, false, List, [], ◌++◌, length, Option, Some, None}
+use Rattle.std.specs.Prelude.{option_map}
 use Rattle.std.specs.Io.KnownBytes.{Appends, Keeps}
 use Rattle.go_base.specs.declared.colours.Colour.{Colour}
 use Rattle.gtp_match.specs.declared.controller.Controller.{Controller}
@@ -8,10 +9,16 @@ use Rattle.gtp_match.specs.declared.verdicts.Action.TheVariants.{Send}
 use Rattle.gtp_match.specs.declared.verdicts.SideFault.{SideFault}
 use Rattle.gtp_match.specs.Controller.{next_text, sent, lost}
 use Rattle.gtp_match.specs.Hearing.{HearsAllExactly}
+use Rattle.gtp_match.specs.Losing.{HearsAllTelling, owed}
 use Rattle.gtp_match.specs.Next.{next}
+use Rattle.gtp_match.specs.declared.losses.Loss.{Loss}
 use Rattle.gtp_match.specs.Sides.{side_of}
 use Rattle.twogtp.specs.declared.starter.Conversation.{Ghosts}
-use Rattle.twogtp.specs.Pipes.{IsCutOff, IsUnbroken, TakesPart}
+use Rattle.twogtp.specs.declared.why.Lost.{Lost}
+use Rattle.twogtp.specs.declared.why.Lost.TheVariants.{CutOff, Wrote}
+use Rattle.twogtp.specs.declared.why.PipeCause.{PipeCause}
+use Rattle.twogtp.specs.declared.why.PipeCause.TheVariants.{Writing, Reading, Ended}
+use Rattle.twogtp.specs.Pipes.{HasEnded, IsCutOff, IsUnbroken, TakesPart}
 use Rattle.twogtp.specs.Processes.{WithProcess}
 
 -- The bytes of the command that a side is sent next; none where it is down.
@@ -35,43 +42,62 @@ pub record TakesAll (c : Controller) (side : Colour) (text : List ℕ) (new : Co
   pub takes : Takes c side number text new
   pub all : next new ≢ Send side
 
+-- A side is cut off so, and owes what it owes in this match.
+abbrev pub cut_off : PipeCause → Controller → Colour → Option Lost
+cut_off cause c side = option_map (CutOff cause) (owed c side)
+
 -- A side was to be sent its commands: all that come next for it, in one text. Its process took the whole text, no call
 -- broke, and nothing waits to go out: they count as sent. Or it took the beginning of it and was cut off: the side is
--- lost. It gave nothing.
+-- lost, and the commands are among what it owed. It gave nothing.
 pub data AreSent {P : Type 0} (known : Ghosts P) (c : Controller) (side : Colour) (before after : P)
-    : Controller → Type 0 where
+    : Controller → Option Lost → Type 0 where
   taken : {text : List ℕ} {new : Controller} → TakesAll c side text new
       → Appends (known.taken before) (known.taken after) text
       → IsUnbroken known.fails known.succeeds before after → known.flushed after
       → Keeps (known.given before) (known.given after)
-      → AreSent known c side before after new
+      → AreSent known c side before after new None
   failed : {text : List ℕ} {new : Controller} → TakesAll c side text new
       → TakesPart text (known.taken before) (known.taken after)
       → IsCutOff known.fails known.succeeds before after
       → Keeps (known.given before) (known.given after)
-      → AreSent known c side before after (lost new side)
+      → AreSent known c side before after (lost new side) (cut_off Writing new side)
 
--- A side was waited for. What its process gave, a byte at least, was heard, all of it, and no call broke. Or the
--- process was cut off, and gave nothing: the side is lost. It was sent nothing.
-pub data IsHeard {P : Type 0} (known : Ghosts P) (c : Controller) (side : Colour) (before after : P)
-    : Controller → Type 0 where
-  heard : {new : Controller} (bytes : List ℕ) (fault : Option SideFault)
+-- Why a side was lost by bytes, all of which were heard: the first loss by them, if any. It is looked for where it is
+-- to be told.
+abbrev pub LostBy : Bool → Colour → Controller → List ℕ → Controller → Option Lost → Type 0
+LostBy false side c bytes new why = why ≡ None
+LostBy true side c bytes new why =
+    (loss : Option Loss) × HearsAllTelling side c bytes loss new × (why ≡ option_map Wrote loss)
+
+-- A side was waited for. What its process gave, a byte at least, was heard, all of it, and no call broke. Or its output
+-- ended, or the process was cut off, and it gave nothing: the side is lost. It was sent nothing.
+pub data IsHeard {P : Type 0} (known : Ghosts P) (telling : Bool) (c : Controller) (side : Colour) (before after : P)
+    : Controller → Option Lost → Type 0 where
+  heard : {new : Controller} {why : Option Lost} (bytes : List ℕ) (fault : Option SideFault)
       → 0 < length bytes → Appends (known.given before) (known.given after) bytes
-      → HearsAllExactly side c bytes fault new
+      → HearsAllExactly side c bytes fault new → LostBy telling side c bytes new why
       → IsUnbroken known.fails known.succeeds before after
       → Keeps (known.taken before) (known.taken after)
-      → IsHeard known c side before after new
-  ended : IsCutOff known.fails known.succeeds before after
+      → IsHeard known telling c side before after new why
+  ended : HasEnded known.fails known.succeeds known.runs_out before after
       → Keeps (known.given before) (known.given after)
       → Keeps (known.taken before) (known.taken after)
-      → IsHeard known c side before after (lost c side)
+      → IsHeard known telling c side before after (lost c side) (cut_off Ended c side)
+  broke : IsCutOff known.fails known.succeeds before after
+      → Keeps (known.given before) (known.given after)
+      → Keeps (known.taken before) (known.taken after)
+      → IsHeard known telling c side before after (lost c side) (cut_off Reading c side)
 
 -- a side was to be sent its commands, and one that has no process is lost
-abbrev pub Sends : {P : Type 0} → Ghosts P → Controller → Colour → Option P → Option P → Controller → Type 0
-Sends {P} known c side before after new =
-    WithProcess before after (λ (old now : P). AreSent known c side old now new) (new ≡ lost (sent c side) side)
+abbrev pub Sends : {P : Type 0} → Ghosts P → Controller → Colour → Option P → Option P → Controller → Option Lost
+    → Type 0
+Sends {P} known c side before after new why =
+    WithProcess before after (λ (old now : P). AreSent known c side old now new why)
+    ((new ≡ lost (sent c side) side) × (why ≡ cut_off Writing (sent c side) side))
 
 -- a side was waited for, and one that has no process is lost
-abbrev pub Hears : {P : Type 0} → Ghosts P → Controller → Colour → Option P → Option P → Controller → Type 0
-Hears {P} known c side before after new =
-    WithProcess before after (λ (old now : P). IsHeard known c side old now new) (new ≡ lost c side)
+abbrev pub Hears : {P : Type 0} → Ghosts P → Bool → Controller → Colour → Option P → Option P → Controller
+    → Option Lost → Type 0
+Hears {P} known telling c side before after new why =
+    WithProcess before after (λ (old now : P). IsHeard known telling c side old now new why)
+    ((new ≡ lost c side) × (why ≡ cut_off Reading c side))

@@ -4,7 +4,12 @@ use Rattle.std.specs.Borrow.{Bor}
 use Rattle.clap.specs.Words.{Text}
 use Rattle.go_base.specs.declared.colours.Colour.{Colour}
 use Rattle.go_base.specs.declared.colours.Colour.TheVariants.{Black, White}
+use Rattle.std.specs.declared.io.ErrorKind.{ErrorKind}
+use Rattle.std.specs.declared.io.ErrorKind.TheVariants.{NotFound, PermissionDenied, NotADirectory, ExecutableFileBusy}
+use Rattle.std.specs.declared.io.ErrorKind.TheVariants.{ArgumentListTooLong, InvalidFilename, Uncategorized}
 use Rattle.twogtp.specs.declared.starter.StartFault.{StartFault}
+use Rattle.twogtp.specs.declared.starter.StartReason.{StartReason}
+use Rattle.twogtp.specs.declared.starter.StartReason.TheVariants as reason
 use Rattle.twogtp.specs.declared.task.Commands.{Commands}
 
 -- a command line: the name of a program, and its arguments
@@ -15,6 +20,17 @@ line_of words = map (λ word. word.now) words
 abbrev pub line_for : Commands → Colour → List Text
 line_for commands Black = line_of commands.black.items
 line_for commands White = line_of commands.white.items
+
+-- why the system doesn't start a program, by the kind of its error
+abbrev pub reason_of : ErrorKind → StartReason
+reason_of NotFound = reason.NotFound
+reason_of PermissionDenied = reason.NotAllowed
+reason_of NotADirectory = reason.NotADirectory
+reason_of ExecutableFileBusy = reason.Busy
+reason_of ArgumentListTooLong = reason.TooLong
+reason_of InvalidFilename = reason.TooLong
+reason_of Uncategorized = reason.NoProgram
+reason_of _ = reason.Other
 
 -- an attempt to start a program: its command line, and the answer, the process that was started or why none was
 pub record Attempt (P : Type 0) : Type 0 where

@@ -37,6 +37,7 @@ pub record IsTaskOf (options : Options) (task : Task) : Type 0 where
   pub games : task.games ≡ options.games
   pub record_flag : task.record ≡ options.record
   pub show_flag : task.show ≡ options.show
+  pub why_flag : task.why ≡ options.why
 
 -- what the options come to
 pub record IsPlanOf (options : Options) (commands : Commands) (task : Task) : Type 0 where

@@ -18,10 +18,10 @@ use Rattle.twogtp.specs.declared.task.Task.{Task}
 use Rattle.twogtp.specs.Options.{AsksFor, AsksForText, HasFault}
 use Rattle.twogtp.specs.Pipes.{TakesPart}
 use Rattle.twogtp.specs.Processes.{no_processes}
-use Rattle.twogtp.specs.Starts.{Attempts}
 use Rattle.twogtp.specs.Status.{IsRequest, done, own_fault, status_with}
 use Rattle.twogtp.specs.Tasks.{IsMistake, IsPlanOf}
-use Rattle.twogtp.specs.Turns.{HasStopped, IsPlayed}
+use Rattle.twogtp.specs.Turns.{HasStopped, IsPlayed, Seen, seen, told_as}
+use Rattle.twogtp.specs.Starts.{Attempts}
 
 -- the record's line, where it is asked for
 abbrev pub record_part : Bool → Controller → List ℕ
@@ -44,63 +44,65 @@ game_lines task number c = result_part number c c.verdict ++ (record_part task.r
 
 -- A game was played to its end, and a writer took what is told of it under this number, all of it.
 pub record IsTold {P : Type 0} (known : Ghosts P) (commands : Commands) (task : Task) (number : ℕ) (verdict : Verdict)
-    (held holds : Option (List ℕ)) (had has : Attempts P) : Type 0 where
+    (held holds : Option (List ℕ)) (had has : Seen P) : Type 0 where
   pub c : Controller
-  pub played : IsPlayed known commands task.setup had has c verdict
+  pub played : IsPlayed known commands (told_as task.why number) task.setup had has c verdict
   pub taken : Appends held holds (game_lines task number c)
 
 -- Why a game isn't told whole. It stopped before its end, and the writer stayed as it was. Or it was played to its end,
 -- and the writer took a beginning of what is told of it and broke.
 pub data IsUntold {P O : Type 0} (known : Ghosts P) (contents : O → Option (List ℕ)) (commands : Commands) (task : Task)
-    (number : ℕ) (before after : O) (had has : Attempts P) : Fault → Type 0 where
+    (number : ℕ) (before after : O) (had has : Seen P) : Fault → Type 0 where
   stopped : {last : Controller} {fault : Fault}
-      → HasStopped known commands (new task.setup) no_processes had has last fault → after ≡ before
+      → HasStopped known commands (told_as task.why number) (new task.setup) no_processes had has last fault
+      → after ≡ before
       → IsUntold known contents commands task number before after had has fault
   broke : {c : Controller} {verdict : Verdict}
-      → IsPlayed known commands task.setup had has c verdict
+      → IsPlayed known commands (told_as task.why number) task.setup had has c verdict
       → TakesPart (game_lines task number c) (contents before) (contents after)
       → IsUntold known contents commands task number before after had has Write
 
 -- The status of so many games, their text, and what was asked for in them: each was played to its end, and is told in
 -- its turn.
-pub data Tells {P : Type 0} (known : Ghosts P) (commands : Commands) (task : Task) (had : Attempts P)
-    : ℕ → ℕ → List ℕ → Attempts P → Type 0 where
+pub data Tells {P : Type 0} (known : Ghosts P) (commands : Commands) (task : Task) (had : Seen P)
+    : ℕ → ℕ → List ℕ → Seen P → Type 0 where
   no_game : Tells known commands task had 0 done [] had
-  game : {number status : ℕ} {text : List ℕ} {between has : Attempts P} {c : Controller} {verdict : Verdict}
+  game : {number status : ℕ} {text : List ℕ} {between has : Seen P} {c : Controller} {verdict : Verdict}
       → Tells known commands task had number status text between
-      → IsPlayed known commands task.setup between has c verdict
+      → IsPlayed known commands (told_as task.why (number + 1)) task.setup between has c verdict
       → Tells known commands task had (number + 1) (status_with status verdict)
       (text ++ game_lines task (number + 1) c) has
 
 -- So many games were played, and a writer took what is told of them.
 pub record HasToldSome {P : Type 0} (known : Ghosts P) (commands : Commands) (task : Task) (number status : ℕ)
-    (held holds : Option (List ℕ)) (had has : Attempts P) : Type 0 where
+    (held holds : Option (List ℕ)) (had has : Seen P) : Type 0 where
   pub text : List ℕ
   pub tells : Tells known commands task had number status text has
   pub taken : Appends held holds text
 
 -- all games were played, a writer took what is told of them, and nothing else was asked for than they ask for
 abbrev pub HasTold : {P : Type 0} → Ghosts P → Commands → Task → ℕ → Option (List ℕ) → Option (List ℕ)
-    → Attempts P → Attempts P → Type 0
+    → Seen P → Seen P → Type 0
 HasTold known commands task status held holds had has =
     HasToldSome known commands task task.games status held holds had has
 
 -- After so many games nothing more was asked for, or the next one was begun, and stopped before its end.
-pub data GoesOn {P : Type 0} (known : Ghosts P) (commands : Commands) (task : Task) (number : ℕ) (had : Attempts P)
-    : Attempts P → Type 0 where
+pub data GoesOn {P : Type 0} (known : Ghosts P) (commands : Commands) (task : Task) (number : ℕ) (had : Seen P)
+    : Seen P → Type 0 where
   no_game_more : GoesOn known commands task number had had
-  begins : {has : Attempts P} {last : Controller} {fault : Fault}
-      → number + 1 ≤ task.games → HasStopped known commands (new task.setup) no_processes had has last fault
+  begins : {has : Seen P} {last : Controller} {fault : Fault}
+      → number + 1 ≤ task.games
+      → HasStopped known commands (told_as task.why (number + 1)) (new task.setup) no_processes had has last fault
       → GoesOn known commands task number had has
 
 -- Some games were played, a writer took the beginning of what is told of them, and nothing else was asked for than
 -- they ask for, and the beginning of the next one.
 pub record HasBegunToTell {P : Type 0} (known : Ghosts P) (commands : Commands) (task : Task)
-    (held holds : Option (List ℕ)) (had has : Attempts P) : Type 0 where
+    (held holds : Option (List ℕ)) (had has : Seen P) : Type 0 where
   pub number : ℕ
   pub status : ℕ
   pub text : List ℕ
-  pub between : Attempts P
+  pub between : Seen P
   pub within : number ≤ task.games
   pub tells : Tells known commands task had number status text between
   pub taken : TakesPart text held holds
@@ -117,17 +119,19 @@ pub record AsksForTask (words : List Text) (task : Task) : Type 0 where
 
 -- all games of the task that the words ask for were played and told, with this status
 pub record HasDone {P : Type 0} (known : Ghosts P) (words : List Text) (status : ℕ) (held holds : Option (List ℕ))
-    (had has : Attempts P) : Type 0 where
+    (had has : Seen P) : Type 0 where
   pub task : Task
   pub asks : AsksForTask words task
   pub told : HasTold known asks.commands task status held holds had has
 
--- some games of the task that the words ask for were played, and what is told of them was begun
+-- Some games of the task that the words ask for were played, and what is told of them was begun. The faults of the
+-- program's own are told behind what was told of lost sides.
 pub record HasBegun {P : Type 0} (known : Ghosts P) (words : List Text) (held holds : Option (List ℕ))
-    (had has : Attempts P) : Type 0 where
+    (had : Attempts P) (told : Option (List ℕ)) (has : Attempts P) : Type 0 where
   pub task : Task
   pub asks : AsksForTask words task
-  pub begun : HasBegunToTell known asks.commands task held holds had has
+  pub tells : Option (List ℕ)
+  pub begun : HasBegunToTell known asks.commands task held holds (seen had told) (seen has tells)
 
 -- ---- texts that were asked for, and mistakes
 

@@ -1,5 +1,6 @@
 -- What the program does with a match and the processes of its sides, turn by turn.
-use Rattle.std.specs.Prelude.{◌≡◌, ℕ, ◌+◌, Some, Ok, Err}
+use Rattle.std.specs.Prelude.{◌≡◌, ℕ, ◌+◌, Bool, true, false, List, [], Option, None, Some, is_some, Ok, Err}
+use Rattle.std.specs.Io.KnownBytes.{Appends}
 use Rattle.go_base.specs.declared.colours.Colour.{Colour}
 use Rattle.go_base.specs.declared.colours.Colour.TheVariants.{Black, White}
 use Rattle.gtp_match.specs.declared.controller.Controller.{Controller}
@@ -11,18 +12,57 @@ use Rattle.gtp_match.specs.Next.{next}
 use Rattle.gtp_match.specs.Setup.{SetupRecord}
 use Rattle.gtp_match.specs.Sound.{IsSound}
 use Rattle.twogtp.specs.declared.fault.Fault.{Fault}
-use Rattle.twogtp.specs.declared.fault.Fault.TheVariants.{OutOfMemory, TooManyTurns}
+use Rattle.twogtp.specs.declared.fault.Fault.TheVariants.{OutOfMemory, TooManyTurns, Write}
+use Rattle.twogtp.specs.declared.sides.Endings.{Endings}
 use Rattle.twogtp.specs.declared.sides.Sides.{Sides}
 use Rattle.twogtp.specs.declared.starter.Conversation.{Ghosts}
 use Rattle.twogtp.specs.declared.starter.StartFault.TheVariants as start_fault
+use Rattle.twogtp.specs.declared.starter.StartReason.{StartReason}
+use Rattle.twogtp.specs.declared.why.Lost.{Lost}
+use Rattle.twogtp.specs.declared.why.Lost.TheVariants.{NotStarted}
 use Rattle.twogtp.specs.declared.task.Commands.{Commands}
-use Rattle.twogtp.specs.Processes.{OtherStays, kept_by, no_processes, process_of}
+use Rattle.twogtp.specs.Pipes.{TakesPart}
+use Rattle.twogtp.specs.Processes.{OtherStays, kept_by, no_processes, process_of, AreEndings, ending_for}
 use Rattle.twogtp.specs.Speaking.{Hears, Sends}
 use Rattle.twogtp.specs.Starts.{Attempts, Tries, line_for}
+use Rattle.twogtp.specs.Why.{lost_line}
 
 -- how many turns a match has at most; none within the limits has as many
 abbrev pub most_turns : ℕ
 most_turns = 1000000000000
+
+-- ---- what was asked for and told
+
+-- the starts that were asked for, and what was told of lost sides, each where it is known
+pub record Seen (P : Type 0) : Type 0 where
+  pub asked : Attempts P
+  pub told : Option (List ℕ)
+
+abbrev pub seen : {P : Type 0} → Attempts P → Option (List ℕ) → Seen P
+seen asked told = record { asked = asked; told = told }
+
+-- the number under which a game's lost sides are told, where they are
+abbrev pub told_as : Bool → ℕ → Option ℕ
+told_as false number = None
+told_as true number = Some number
+
+-- the side whose turn it is
+abbrev pub turn_side : Action → Option Colour
+turn_side (Start side) = Some side
+turn_side (Send side) = Some side
+turn_side (Wait side) = Some side
+turn_side (Done verdict) = None
+
+-- the line of a side that was lost, if there is one and it is told
+abbrev pub line_where : Option ℕ → Option Colour → Option Lost → Endings → List ℕ
+line_where None side why endings = []
+line_where (Some number) None why endings = []
+line_where (Some number) (Some side) None endings = []
+line_where (Some number) (Some side) (Some why) endings = lost_line number side why (ending_for endings side)
+
+-- What is told in a turn, in which a side was lost or not: one line at most, of the side whose turn it was.
+abbrev pub turn_line : Option ℕ → Action → Option Lost → Endings → List ℕ
+turn_line telling action why endings = line_where telling (turn_side action) why endings
 
 -- ---- one turn
 
@@ -30,28 +70,30 @@ most_turns = 1000000000000
 -- that was started is its process from then on. Or it couldn't be: the side counts as started and lost, and what
 -- process it had stays.
 pub data Begins {P : Type 0} (commands : Commands) (c : Controller) (side : Colour) (before after : Sides P)
-    (had has : Attempts P) : Controller → Type 0 where
+    (had has : Attempts P) : Controller → Option Lost → Type 0 where
   starts : (process : P) → Tries had has (line_for commands side) (Ok process)
       → process_of after side ≡ Some process
-      → Begins commands c side before after had has (started c side)
-  fails_to_start : Tries had has (line_for commands side) (Err start_fault.NotStarted)
+      → Begins commands c side before after had has (started c side) None
+  fails_to_start : (reason : StartReason) → Tries had has (line_for commands side) (Err (start_fault.NotStarted reason))
       → process_of after side ≡ process_of before side
-      → Begins commands c side before after had has (lost (started c side) side)
+      → Begins commands c side before after had has (lost (started c side) side) (Some (NotStarted reason))
 
 -- One turn does what comes next, with the process of the side whose turn it is, and nothing with the other's: its
 -- program is asked for, or it is sent its commands, all that come next for it, or it is waited for. Once the match is
--- over nothing is done. Only a start asks for a program.
-abbrev pub Turn : {P : Type 0} → Ghosts P → Commands → Controller → Action → Sides P → Attempts P
-    → Controller → Sides P → Attempts P → Type 0
-Turn known commands c (Start side) before had new after has =
-    Begins commands c side before after had has new × OtherStays side before after
-Turn known commands c (Send side) before had new after has =
-    Sends known c side (process_of before side) (process_of after side) new
+-- over nothing is done. Only a start asks for a program. And why the side was lost, if it was; of what it wrote that is
+-- looked for where it is to be told.
+abbrev pub Turn : {P : Type 0} → Ghosts P → Commands → Bool → Controller → Action → Sides P → Attempts P
+    → Controller → Sides P → Attempts P → Option Lost → Type 0
+Turn known commands telling c (Start side) before had new after has why =
+    Begins commands c side before after had has new why × OtherStays side before after
+Turn known commands telling c (Send side) before had new after has why =
+    Sends known c side (process_of before side) (process_of after side) new why
     × OtherStays side before after × (has ≡ had)
-Turn known commands c (Wait side) before had new after has =
-    Hears known c side (process_of before side) (process_of after side) new
+Turn known commands telling c (Wait side) before had new after has why =
+    Hears known telling c side (process_of before side) (process_of after side) new why
     × OtherStays side before after × (has ≡ had)
-Turn known commands c (Done verdict) before had new after has = (new ≡ c) × (after ≡ before) × (has ≡ had)
+Turn known commands telling c (Done verdict) before had new after has why =
+    (new ≡ c) × (after ≡ before) × (has ≡ had) × (why ≡ None)
 
 -- a side is to be started, and its program was asked for, and memory refused for it
 pub record IsRefused {P : Type 0} (commands : Commands) (c : Controller) (had has : Attempts P) : Type 0 where
@@ -61,48 +103,63 @@ pub record IsRefused {P : Type 0} (commands : Commands) (c : Controller) (had ha
 
 -- ---- turns, one after another
 
--- So many turns, from the opening on: each did what the controller said with the processes that the sides had then, and
--- a side that is down has no process after its turn.
-pub data Plays {P : Type 0} (known : Ghosts P) (commands : Commands) (first : Controller) (opening : Sides P)
-    (had : Attempts P) : ℕ → Controller → Sides P → Attempts P → Type 0 where
-  not_yet : Plays known commands first opening had 0 first opening had
-  turns : {number : ℕ} {mid last : Controller} {before closing : Sides P} {between has : Attempts P} (after : Sides P)
-      → Plays known commands first opening had number mid before between
-      → Turn known commands mid (next mid) before between last after has
-      → closing.black ≡ kept_by last Black after.black
-      → closing.white ≡ kept_by last White after.white
-      → Plays known commands first opening had (number + 1) last closing has
+-- One turn did what the controller said with the processes that the sides had then. A side that is down has no process
+-- after it, and how that ended is known.
+pub record IsTurn {P : Type 0} (known : Ghosts P) (commands : Commands) (telling : Bool) (c : Controller)
+    (before : Sides P) (had : Attempts P) (new : Controller) (closing : Sides P) (has : Attempts P)
+    (why : Option Lost) (endings : Endings) : Type 0 where
+  pub after : Sides P
+  pub turn : Turn known commands telling c (next c) before had new after has why
+  pub black : closing.black ≡ kept_by new Black after.black
+  pub white : closing.white ≡ kept_by new White after.white
+  pub ended : AreEndings known new after endings
+
+-- So many turns, from the opening on. After each of them a writer took what is told of it.
+pub data Plays {P : Type 0} (known : Ghosts P) (commands : Commands) (telling : Option ℕ) (first : Controller)
+    (opening : Sides P) (had : Seen P) : ℕ → Controller → Sides P → Seen P → Type 0 where
+  not_yet : Plays known commands telling first opening had 0 first opening had
+  turns : {number : ℕ} {mid last : Controller} {before closing : Sides P} {between has : Seen P}
+      (why : Option Lost) (endings : Endings)
+      → Plays known commands telling first opening had number mid before between
+      → IsTurn known commands (is_some telling) mid before between.asked last closing has.asked why endings
+      → Appends between.told has.told (turn_line telling (next mid) why endings)
+      → Plays known commands telling first opening had (number + 1) last closing has
 
 -- turns were taken
-abbrev pub HasPlayed : {P : Type 0} → Ghosts P → Commands → Controller → Sides P → Attempts P
-    → Controller → Sides P → Attempts P → Type 0
-HasPlayed known commands first opening had last closing has =
-    (number : ℕ) × Plays known commands first opening had number last closing has
+abbrev pub HasPlayed : {P : Type 0} → Ghosts P → Commands → Option ℕ → Controller → Sides P → Seen P
+    → Controller → Sides P → Seen P → Type 0
+HasPlayed known commands telling first opening had last closing has =
+    (number : ℕ) × Plays known commands telling first opening had number last closing has
 
 -- A game stopped before its end, where its turns had led: turns were taken, and then memory was refused for a start; or
--- there were too many.
-pub data HasStopped {P : Type 0} (known : Ghosts P) (commands : Commands) (first : Controller) (opening : Sides P)
-    (had has : Attempts P) : Controller → Fault → Type 0 where
-  out_of_memory : {last : Controller} {closing : Sides P} {between : Attempts P}
-      → HasPlayed known commands first opening had last closing between
-      → IsRefused commands last between has
-      → HasStopped known commands first opening had has last OutOfMemory
+-- a side was lost, and the writer broke at its line; or there were too many turns.
+pub data HasStopped {P : Type 0} (known : Ghosts P) (commands : Commands) (telling : Option ℕ) (first : Controller)
+    (opening : Sides P) (had has : Seen P) : Controller → Fault → Type 0 where
+  out_of_memory : {last : Controller} {closing : Sides P} {between : Seen P}
+      → HasPlayed known commands telling first opening had last closing between
+      → IsRefused commands last between.asked has.asked → has.told ≡ between.told
+      → HasStopped known commands telling first opening had has last OutOfMemory
+  untold : {mid last : Controller} {before closing : Sides P} {between : Seen P} (why : Option Lost) (endings : Endings)
+      → HasPlayed known commands telling first opening had mid before between
+      → IsTurn known commands (is_some telling) mid before between.asked last closing has.asked why endings
+      → TakesPart (turn_line telling (next mid) why endings) between.told has.told
+      → HasStopped known commands telling first opening had has last Write
   too_many_turns : {last : Controller} {closing : Sides P}
-      → Plays known commands first opening had most_turns last closing has
-      → HasStopped known commands first opening had has last TooManyTurns
+      → Plays known commands telling first opening had most_turns last closing has
+      → HasStopped known commands telling first opening had has last TooManyTurns
 
 -- ---- whole games
 
 -- turns were taken of a game that began without processes
-pub record HasTaken {P : Type 0} (known : Ghosts P) (commands : Commands) (first : Controller) (had has : Attempts P)
-    (last : Controller) : Type 0 where
+pub record HasTaken {P : Type 0} (known : Ghosts P) (commands : Commands) (telling : Option ℕ) (first : Controller)
+    (had has : Seen P) (last : Controller) : Type 0 where
   pub closing : Sides P
-  pub plays : HasPlayed known commands first no_processes had last closing has
+  pub plays : HasPlayed known commands telling first no_processes had last closing has
 
 -- a match of this setup was played to its end, from its beginning without processes
-pub record IsPlayed {P : Type 0} (known : Ghosts P) (commands : Commands) (setup : SetupRecord) (had has : Attempts P)
-    (c : Controller) (verdict : Verdict) : Type 0 where
-  pub plays : HasTaken known commands (new setup) had has c
+pub record IsPlayed {P : Type 0} (known : Ghosts P) (commands : Commands) (telling : Option ℕ) (setup : SetupRecord)
+    (had has : Seen P) (c : Controller) (verdict : Verdict) : Type 0 where
+  pub plays : HasTaken known commands telling (new setup) had has c
   pub over : next c ≡ Done verdict
   -- what holds of each match: its record is a game of the setup, and its verdict is right
   pub sound : IsSound c

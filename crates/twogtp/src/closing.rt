@@ -93,7 +93,7 @@ fn has_answered_all(game: &Match, side: Side) -> bool {
 fn quit_and_end<P: Conversation>(process: Option<P>, buffer: &mut [u8; READ_ROOM]) {
     if let Some(mut process) = process {
         quit(&mut process, buffer);
-        process.end();
+        let _ = process.end();
     }
 }
 

@@ -1,7 +1,7 @@
 //! Engines in memory, in place of processes, and writers that fail.
 ghost use Rattle.std.specs.Prelude.{⊤, None};
 
-use crate::starter::{Conversation, PipeFault, StartFault, Starter};
+use crate::starter::{Conversation, Ending, PipeFault, StartFault, StartReason, Starter};
 use gtp_session::book::Book;
 use gtp_session::first::First;
 use gtp_session::policy::Policy;
@@ -165,6 +165,10 @@ impl Conversation for Talk {
 
     ghost succeeds = { λ _ _. ⊤ };
 
+    ghost runs_out = { λ _ _. ⊤ };
+
+    ghost leaves = { λ _ _. ⊤ };
+
     ghost flushed = { λ _. ⊤ };
 
     fn read(&mut self, buffer: &mut [u8]) -> Result<usize, PipeFault> {
@@ -221,7 +225,7 @@ impl Conversation for Talk {
         add_one(&self.log.let_run);
     }
 
-    fn end(self) {
+    fn end(self) -> Ending {
         let Talk {
             engine,
             written,
@@ -233,6 +237,7 @@ impl Conversation for Talk {
         drop(engine);
         drop(written);
         drop(log);
+        Ending::Status(7)
     }
 }
 
@@ -312,7 +317,7 @@ impl Starter for InMemory {
             ["broken"] => Engine::Broken,
             ["interrupted", "once"] => Engine::Interrupted(Session::new(First), 1),
             ["interrupted", "often"] => Engine::Interrupted(Session::new(First), 1000),
-            _ => return Err(StartFault::NotStarted),
+            _ => return Err(StartFault::NotStarted(StartReason::NotFound)),
         };
         add_one(&self.log.started);
         if self.log.started.get() == self.refused {
@@ -347,6 +352,6 @@ fn make_talk(alloc: Global, engine: Engine, text: &[u8], log: &Log) -> Result<Ta
 fn book_engine(text: &str) -> Result<Engine, StartFault> {
     match Book::read(text.as_bytes()) {
         Some(book) => Ok(Engine::Book(Session::new(book))),
-        None => Err(StartFault::NotStarted),
+        None => Err(StartFault::NotStarted(StartReason::NoProgram)),
     }
 }

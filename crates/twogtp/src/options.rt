@@ -58,6 +58,8 @@ pub struct Options<'a> {
     pub record: bool,
     /// Whether the board is told.
     pub show: bool,
+    /// Whether it is told why a side is lost.
+    pub why: bool,
 }
 
 /// Reads the words of a command line, of which the first is the program's name. The error is a mistake in the words, a
@@ -86,6 +88,7 @@ fn options_of<'a>(matches: &ArgMatches<'a>) -> Options<'a>
         restarts: number_at(matches, "restarts"),
         record: flag_at(matches, "record"),
         show: flag_at(matches, "show"),
+        why: flag_at(matches, "why"),
     }
 }
 
@@ -192,7 +195,8 @@ fn with_rest<'a>(alloc: Global, command: Command<'a>) -> Result<Command<'a>, All
             "Restarts of a side in a game, 0 to 1000",
         ))?
         .arg(flag(alloc, "record", "Write the moves of each game"))?
-        .arg(flag(alloc, "show", "Write the last board of each game"))
+        .arg(flag(alloc, "show", "Write the last board of each game"))?
+        .arg(flag(alloc, "why", "Tell on standard error why an engine is lost"))
 }
 
 /// The numbers of `--size`.

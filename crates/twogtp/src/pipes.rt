@@ -1,7 +1,7 @@
 //! Calls of a process's pipes, which are tried again where they are interrupted.
 ghost use Rattle.std.specs.Prelude.{◌≡◌, ◌≤◌, ◌<◌, length, IfOk, OnOk, OnErr};
 ghost use Rattle.std.specs.Io.KnownBytes.{Appends, WriteAppends, Keeps};
-ghost use Rattle.twogtp.specs.Pipes.{IsCutOff, IsUnbroken, TakesPart};
+ghost use Rattle.twogtp.specs.Pipes.{HasEnded, IsCutOff, IsUnbroken, TakesPart};
 
 use crate::starter::{Conversation, PipeFault};
 
@@ -29,7 +29,7 @@ pub fn read_once<P: Conversation>(process: &mut P, buffer: &mut [u8]) -> Result<
     ensures unbroken { IfOk result (λ n. 0 < n →
         IsUnbroken P.fails P.succeeds process.old process.new) }
     ensures ended { IfOk result (λ n. n ≡ 0 → 0 < length buffer.new →
-        IsCutOff P.fails P.succeeds process.old process.new) }
+        HasEnded P.fails P.succeeds P.runs_out process.old process.new) }
     ensures failed { OnErr result (IsCutOff P.fails P.succeeds process.old process.new) }
 {
     for _try in 0..MOST_TRIES {

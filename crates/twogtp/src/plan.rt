@@ -79,6 +79,7 @@ fn task_of(options: &Options<'_>) -> Result<Task, Fault>
             games: options.games,
             record: options.record,
             show: options.show,
+            why: options.why,
         }),
         Err(_) => Err(Fault::BadHandicap),
     }

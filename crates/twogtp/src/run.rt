@@ -5,6 +5,8 @@ ghost use Rattle.twogtp.specs.Status.{IsStatus, IsRequest, done, some_given_up, 
 ghost use Rattle.twogtp.specs.Status.{own_fault, status_of, status_with};
 ghost use Rattle.twogtp.specs.Telling.{HasBegun, HasBegunToTell, HasDone, HasMistake, HasShown};
 ghost use Rattle.twogtp.specs.Telling.{HasTold, IsDisplayed};
+ghost use Rattle.twogtp.specs.Options.{AsksForNoWhy};
+ghost use Rattle.twogtp.specs.Turns.{seen};
 
 use crate::fault::{Fault, tell};
 use crate::options::read_options;
@@ -41,7 +43,9 @@ pub fn run<A: AsStr, O: Write, E: Write, S: Starter>(
     // After a mistake in the words nothing was started, and nothing written to the output.
     ensures usage { result ≡ usage_fault → HasMistake (map A.text words.now)
         × (output.new ≡ output.old) × (starter.new ≡ starter.old) }
-    ensures quiet { (result ≡ done) ⊎ (result ≡ some_given_up) → errors.new ≡ errors.old }
+    // Where it isn't asked why engines are lost, nothing is told on standard error.
+    ensures quiet { (result ≡ done) ⊎ (result ≡ some_given_up) → AsksForNoWhy (map A.text words.now)
+        → errors.new ≡ errors.old }
     // All games of the task that the words ask for were played and told; or they ask for help or
     // the version, that was written, and nothing was started.
     ensures played { (result ≡ done) ⊎ (result ≡ some_given_up) →
@@ -49,7 +53,8 @@ pub fn run<A: AsStr, O: Write, E: Write, S: Starter>(
         (O.contents output.old) (O.contents output.new))
         ⊎ HasDone S.Process.Conversation (map A.text words.now) result
         (O.contents output.old) (O.contents output.new)
-        (S.asked starter.old) (S.asked starter.new) }
+        (seen (S.asked starter.old) (E.contents errors.old))
+        (seen (S.asked starter.new) (E.contents errors.new)) }
     // What was written before the program had to stop is the beginning of what is told, or of the
     // help or the version.
     ensures stopped { result ≡ own_fault →
@@ -58,7 +63,7 @@ pub fn run<A: AsStr, O: Write, E: Write, S: Starter>(
         (O.contents output.old) (O.contents output.new))
         ⊎ HasBegun S.Process.Conversation (map A.text words.now)
         (O.contents output.old) (O.contents output.new)
-        (S.asked starter.old) (S.asked starter.new) }
+        (S.asked starter.old) (E.contents errors.old) (S.asked starter.new) }
 {
     let options = match read_options(alloc, words) {
         Ok(options) => options,
@@ -68,33 +73,37 @@ pub fn run<A: AsStr, O: Write, E: Write, S: Starter>(
         Ok(plan) => plan,
         Err(fault) => return tell(fault, errors),
     };
-    match play_games(&plan.task, &plan.commands, output, starter) {
+    match play_games(&plan.task, &plan.commands, output, errors, starter) {
         Ok(status) => status,
         Err(fault) => tell(fault, errors),
     }
 }
 
 /// Plays the games of a task, and tells each.
-fn play_games<O: Write, S: Starter>(
+fn play_games<O: Write, E: Write, S: Starter>(
     task: &Task,
     commands: &Commands<'_>,
     output: &mut O,
+    errors: &mut E,
     starter: &mut S,
 ) -> Result<u8, Fault>
     ensures told { IfOk result (λ status.
         HasTold S.Process.Conversation commands.now task.now status
         (O.contents output.old) (O.contents output.new)
-        (S.asked starter.old) (S.asked starter.new)) }
+        (seen (S.asked starter.old) (E.contents errors.old))
+        (seen (S.asked starter.new) (E.contents errors.new))) }
+    ensures quiet { task.now.why ≡ false → errors.new ≡ errors.old }
     ensures range { IfOk result (λ status. (status ≡ done) ⊎ (status ≡ some_given_up)) }
     ensures begun { OnErr result
         (HasBegunToTell S.Process.Conversation commands.now task.now
         (O.contents output.old) (O.contents output.new)
-        (S.asked starter.old) (S.asked starter.new)) }
+        (seen (S.asked starter.old) (E.contents errors.old))
+        (seen (S.asked starter.new) (E.contents errors.new))) }
     ensures fault { IfErr result (λ fault. status_of fault ≡ own_fault) }
 {
     let mut status = 0;
     for index in 0..task.games {
-        let verdict = play_game(task, index + 1, commands, output, starter)?;
+        let verdict = play_game(task, index + 1, commands, output, errors, starter)?;
         status = with_verdict(status, verdict);
     }
     Ok(status)

@@ -1,9 +1,11 @@
 //! The processes of both sides.
 ghost use Rattle.std.specs.Prelude.{◌≡◌, Some};
 ghost use Rattle.go_base.specs.declared.colours.Colour.TheVariants.{Black, White};
-ghost use Rattle.twogtp.specs.Processes.{OtherStays, kept_by, no_processes, process_of};
+ghost use Rattle.gtp_match.specs.declared.sides.Status.TheVariants as status;
+ghost use Rattle.twogtp.specs.Processes.{OtherStays, kept_by, no_processes, process_of, AreEndings, Ends, EndsWhere};
+ghost use Rattle.twogtp.specs.Processes.{ending_for};
 
-use crate::starter::Conversation;
+use crate::starter::{Conversation, Ending};
 use go_base::Side;
 use gtp_match::{Match, Status};
 
@@ -38,13 +40,16 @@ impl<P: Conversation> Sides<P> {
         }
     }
 
-    /// Ends the processes of the sides that are down.
-    pub fn end_what_is_down(&mut self, game: &Match)
+    /// Ends the processes of the sides that are down, and returns how they ended.
+    pub fn end_what_is_down(&mut self, game: &Match) -> Endings
         ensures black { self.new.black ≡ kept_by game.now Black self.old.black }
         ensures white { self.new.white ≡ kept_by game.now White self.old.white }
+        ensures endings { AreEndings P.Conversation game.now self.old result }
     {
-        end_if_down(game, Side::Black, &mut self.black);
-        end_if_down(game, Side::White, &mut self.white);
+        Endings {
+            black: end_if_down(game, Side::Black, &mut self.black),
+            white: end_if_down(game, Side::White, &mut self.white),
+        }
     }
 
     /// Ends all processes at once.
@@ -55,19 +60,49 @@ impl<P: Conversation> Sides<P> {
     }
 }
 
-/// Ends the process of a side that is down.
-fn end_if_down<P: Conversation>(game: &Match, side: Side, process: &mut Option<P>)
-    ensures { process.new ≡ kept_by game.now side process.old }
+/// How the processes of both sides ended, in a turn.
+#[derive(Clone, Copy, Debug, PartialEq, Eq, Drop)]
+pub struct Endings {
+    /// Black's.
+    pub black: Ending,
+    /// White's.
+    pub white: Ending,
+}
+
+impl Endings {
+    /// A side's.
+    pub fn of(self, side: Side) -> Ending
+        ensures { result ≡ ending_for self side }
+    {
+        match side {
+            Side::Black => self.black,
+            Side::White => self.white,
+        }
+    }
+}
+
+/// Ends the process of a side that is down, and returns how it ended.
+fn end_if_down<P: Conversation>(game: &Match, side: Side, process: &mut Option<P>) -> Ending
+    ensures kept { process.new ≡ kept_by game.now side process.old }
+    ensures ended { Ends P.Conversation game.now side process.old result }
 {
     match game.status(side) {
-        Status::Down => end(process.take()),
-        Status::Up { .. } => {}
+        Status::Down => end_one(process.take()),
+        Status::Up { .. } => Ending::Unknown,
+    }
+}
+
+/// Ends a process, if there is one, and returns how it ended.
+fn end_one<P: Conversation>(process: Option<P>) -> Ending
+    ensures { EndsWhere P.Conversation status.Down process result }
+{
+    match process {
+        Some(process) => process.end(),
+        None => Ending::Unknown,
     }
 }
 
 /// Ends a process, if there is one.
 pub fn end<P: Conversation>(process: Option<P>) {
-    if let Some(process) = process {
-        process.end();
-    }
+    let _ = end_one(process);
 }

@@ -1,7 +1,7 @@
 use Rattle.std.proofs.Common.{refl, rules, ℕ, arith, subst}
 use Rattle.std.proofs.KnownBytes.{Keeps-refl, Keeps-trans}
 use Rattle.twogtp.specs.declared.starter.PipeFault.{PipeFault}
-use Rattle.twogtp.specs.Pipes.{AreInterrupted, broke, interrupted, no_call, one_more, untouched, went}
+use Rattle.twogtp.specs.Pipes.{AreInterrupted, broke, interrupted, ran_out, no_call, one_more, untouched, went}
 use Rattle.twogtp.proofs.PipeLemmas.{unbroken-tries}
 use Rattle.twogtp.proofs.pipes.read_once.Goals as goal
 
@@ -19,7 +19,7 @@ loop-try-preserved g c =
     }
 
 pub returns-in-Ok-clause-ended : goal.returns-in-Ok-clause-ended
-returns-in-Ok-clause-ended g c = λ zero room. broke (unbroken-tries c.loop-try.invariant.interrupted) (c.in-Ok.ensures.ended zero (search (room, rules)))
+returns-in-Ok-clause-ended g c = λ zero room. ran_out (unbroken-tries c.loop-try.invariant.interrupted) (c.in-Ok.ensures.ended zero (search (room, rules)))
 
 pub returns-in-Err-Broken-clause-failed : goal.returns-in-Err-Broken-clause-failed
 returns-in-Err-Broken-clause-failed g c = broke (unbroken-tries c.loop-try.invariant.interrupted) (subst (λ (fault : PipeFault). g.P.Conversation.fails c.loop-try.process fault c.read.new.self) c.in-Err-Broken.field-0-is c.in-Err-Broken.ensures.failed)

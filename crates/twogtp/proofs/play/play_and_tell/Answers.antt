@@ -10,7 +10,7 @@ returns-in-Ok-clause-untold g c =
     (record {
       plays = record {
         closing = c.take_turns.new.sides;
-        plays = rw (c.requires, c.none-sides.ensures) at c.in-Ok.ensures.plays;
+        plays = rw (c.requires, c.none-sides.ensures, c.told_as-telling.ensures) at c.in-Ok.ensures.plays;
       };
       over = c.in-Ok.ensures.over;
       sound = c.in-Ok.ensures.sound;
@@ -18,4 +18,5 @@ returns-in-Ok-clause-untold g c =
     c.tell_game.ensures.part c.tell_game.ensures.fault
 
 pub returns-in-Err-clause-untold : goal.returns-in-Err-clause-untold
-returns-in-Err-clause-untold g c = stopped (rw (c.requires, c.none-sides.ensures) at c.in-Err.ensures.stopped) refl
+returns-in-Err-clause-untold g c =
+    stopped (rw (c.requires, c.none-sides.ensures, c.told_as-telling.ensures) at c.in-Err.ensures.stopped) refl

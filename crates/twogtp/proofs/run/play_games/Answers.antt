@@ -1,4 +1,4 @@
-use Rattle.std.proofs.Common.{[], rules}
+use Rattle.std.proofs.Common.{◌∙◌, refl, [], rules}
 use Rattle.std.proofs.lemmas.Result.{err_from_is_err_and}
 use Rattle.std.proofs.KnownBytes.{Appends-nil}
 use Rattle.twogtp.specs.Telling.{no_game}
@@ -6,20 +6,28 @@ use Rattle.twogtp.proofs.TellingLemmas.{told_then, begun_then, status_range}
 use Rattle.twogtp.proofs.run.play_games.Goals as goal
 
 pub loop-index-init : goal.loop-index-init
-loop-index-init g c = record { text = []; tells = no_game; taken = Appends-nil _ }
+loop-index-init g c = record {
+  told = record { text = []; tells = no_game; taken = Appends-nil _ };
+  quiet = λ none. refl;
+}
 
 pub returns-in_err-verdict-clause-begun : goal.returns-in_err-verdict-clause-begun
 returns-in_err-verdict-clause-begun g c =
     let exit = c.from_residual in
     rw ((err_from_is_err_and exit.result exit.ensures.1).1)
     (begun_then g.S.Process.Conversation c.args.commands.now c.args.task.now c.loop-index.index c.loop-index.status
-    g.O.Write.contents _ _ _ _ _ _ _ c.loop-index.invariant (search rules) c.in_err-verdict.ensures.untold)
+    g.O.Write.contents _ _ _ _ _ _ _ c.loop-index.invariant.told (search rules) c.in_err-verdict.ensures.untold)
+
+pub returns-in_err-verdict-clause-quiet : goal.returns-in_err-verdict-clause-quiet
+returns-in_err-verdict-clause-quiet g c = λ none. c.play_game.ensures.quiet none ∙ c.loop-index.invariant.quiet none
 
 pub loop-index-preserved : goal.loop-index-preserved
-loop-index-preserved g c =
-    rw c.with_verdict-status.ensures
-    (told_then g.S.Process.Conversation c.args.commands.now c.args.task.now c.loop-index.index c.loop-index.status
-    _ _ _ _ _ _ _ c.loop-index.invariant c.in_ok-verdict.ensures.told)
+loop-index-preserved g c = record {
+  told = rw c.with_verdict-status.ensures
+      (told_then g.S.Process.Conversation c.args.commands.now c.args.task.now c.loop-index.index c.loop-index.status
+      _ _ _ _ _ _ _ c.loop-index.invariant.told c.in_ok-verdict.ensures.told);
+  quiet = λ none. c.play_game.ensures.quiet none ∙ c.loop-index.invariant.quiet none;
+}
 
 pub returns-clause-range : goal.returns-clause-range
-returns-clause-range g c = status_range g.S.Process.Conversation c.args.commands.now c.args.task.now _ _ c.loop-index.index c.loop-index.status _ c.loop-index.invariant.tells
+returns-clause-range g c = status_range g.S.Process.Conversation c.args.commands.now c.args.task.now _ _ c.loop-index.index c.loop-index.status _ c.loop-index.invariant.told.tells

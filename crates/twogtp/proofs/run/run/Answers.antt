@@ -6,7 +6,7 @@ returns-in-Err-clause-status g c =
     elim c.answer_error.ensures.status [ inl zero ↦ inl zero | inr (inl two) ↦ inr (inr (inl two)) | inr (inr three) ↦ inr (inr (inr three)) ]
 
 pub returns-in-Err-clause-quiet : goal.returns-in-Err-clause-quiet
-returns-in-Err-clause-quiet g c = elim [
+returns-in-Err-clause-quiet g c = λ range none. elim range [
   | inl zero ↦ c.answer_error.ensures.quiet zero
   | inr one ↦ absurd (elim c.answer_error.ensures.status [ inl zero ↦ omega (arith, one, zero) | inr (inl two) ↦ omega (arith, one, two) | inr (inr three) ↦ omega (arith, one, three) ])
 ]
@@ -77,6 +77,10 @@ returns-in-Ok-play_games-clause-status g c = elim c.in-Ok-play_games.ensures.ran
 pub returns-in-Ok-play_games-clause-usage : goal.returns-in-Ok-play_games-clause-usage
 returns-in-Ok-play_games-clause-usage g c = λ two. absurd (elim c.in-Ok-play_games.ensures.range [ inl e ↦ omega arith | inr e ↦ omega arith ])
 
+pub returns-in-Ok-play_games-clause-quiet : goal.returns-in-Ok-play_games-clause-quiet
+returns-in-Ok-play_games-clause-quiet g c = λ range none.
+    c.play_games.ensures.quiet (c.in-Ok-plan_of.ensures.plan.games.why_flag ∙ none c.in-Ok.options c.in-Ok.ensures.asked)
+
 pub returns-in-Ok-play_games-clause-played : goal.returns-in-Ok-play_games-clause-played
 returns-in-Ok-play_games-clause-played g c = λ range. inr (record {
   task = c.in-Ok-plan_of.plan.task;
@@ -98,5 +102,6 @@ returns-clause-stopped g c = λ three. inr (inr (record {
     commands = c.in-Ok-plan_of.plan.commands;
     plan = c.in-Ok-plan_of.ensures.plan;
   };
+  tells = g.E.Write.contents c.play_games.new.errors;
   begun = c.in-Err-play_games.ensures.begun;
 }))

@@ -1,0 +1,267 @@
+//! What is told of a side that is lost.
+ghost use Rattle.std.specs.Prelude.{◌≡◌, ◌+◌, ◌<◌, ◌≤◌, ◌++◌, length, IfSome};
+ghost use Rattle.arrayvec.specs.ArrayVec.{array_vec_len};
+ghost use Rattle.gtp_match.specs.Losing.{CanBeShown, most_shown};
+ghost use Rattle.gtp_match.specs.ResultLine.{side_name};
+ghost use Rattle.std.specs.Fmt.{decimal};
+ghost use Rattle.std.specs.List.{join_with_byte};
+ghost use Rattle.go_base.specs.Bytes.{space};
+ghost use Rattle.gtp_wire.specs.Commands.{IsWritable, words_of};
+ghost use Rattle.twogtp.specs.Why.{CanBeTold, reason_text, pipe_text, ending_text, rule_text, cause_text, hex_digit};
+ghost use Rattle.twogtp.specs.Why.{shown_byte, shown_bytes, sent_text, oldest_text, owed_text, wrote_text, lost_text};
+ghost use Rattle.twogtp.specs.Why.{lost_line};
+
+use crate::starter::{Ending, StartReason};
+use crate::why::{Lost, PipeCause};
+use arrayvec::ArrayVec;
+use go_base::{Side, write_int};
+use go_board::PlayFault;
+use gtp_match::{LossCause, Owed, SentCommand, SideFault};
+use gtp_wire::{Command, CommandText, write_command};
+
+/// The room for a line: 320 bytes of what a side wrote, and less than 280 beside them.
+const LINE_ROOM: usize = 600;
+
+/// The line of a side that is lost.
+pub type LostLine = ArrayVec<u8, LINE_ROOM>;
+
+/// The line of a game's side that was lost, whose process ended so, with its newline.
+pub fn lost_line(number: u32, side: Side, lost: &Lost, ending: Ending) -> LostLine
+    requires { CanBeTold lost.now }
+    ensures { result.items ≡ lost_line number side lost.now ending }
+{
+    let mut line = ArrayVec::new();
+    push(&mut line, b"twogtp: game ");
+    push_number(&mut line, number);
+    push(&mut line, b": ");
+    push(&mut line, side_name(side));
+    push(&mut line, b": ");
+    push_lost(&mut line, lost, ending);
+    push(&mut line, b"\n");
+    line
+}
+
+/// Appends why a side was lost.
+fn push_lost(line: &mut LostLine, lost: &Lost, ending: Ending)
+    requires room { array_vec_len line.old ≤ 32 }
+    requires told { CanBeTold lost.now }
+    ensures bytes { line.new.items ≡ line.old.items ++ lost_text lost.now ending }
+    ensures len { array_vec_len line.new ≤ array_vec_len line.old + 560 }
+{
+    match lost {
+        Lost::NotStarted(reason) => {
+            push(line, b"not started: ");
+            push(line, reason_text(*reason));
+        }
+        Lost::CutOff(cause, owed) => {
+            push_owed(line, owed);
+            push(line, pipe_text(*cause));
+            push_ending(line, ending);
+            push_wrote(line, owed);
+        }
+        Lost::Wrote(loss) => {
+            push_owed(line, &loss.owed);
+            push(line, cause_text(loss.cause));
+            push_wrote(line, &loss.owed);
+        }
+    }
+}
+
+fn side_name(side: Side) -> &'static [u8]
+    ensures text { result.now ≡ side_name side }
+    ensures few { length result.now ≤ 5 }
+{
+    match side {
+        Side::Black => b"black",
+        Side::White => b"white",
+    }
+}
+
+fn reason_text(reason: StartReason) -> &'static [u8]
+    ensures text { result.now ≡ reason_text reason }
+    ensures few { length result.now ≤ 60 }
+{
+    match reason {
+        StartReason::NotFound => b"no such file",
+        StartReason::NotAllowed => b"not allowed",
+        StartReason::NotADirectory => b"a part of its path is no directory",
+        StartReason::Busy => b"the file is open for writing",
+        StartReason::TooLong => b"too long",
+        StartReason::NoProgram => b"not a program that the system can run",
+        StartReason::Other => b"the system refused it",
+    }
+}
+
+fn pipe_text(cause: PipeCause) -> &'static [u8]
+    ensures text { result.now ≡ pipe_text cause }
+    ensures few { length result.now ≤ 16 }
+{
+    match cause {
+        PipeCause::Writing => b"writing failed",
+        PipeCause::Reading => b"reading failed",
+        PipeCause::Ended => b"its output ended",
+    }
+}
+
+fn cause_text(cause: LossCause) -> &'static [u8]
+    ensures text { result.now ≡ cause_text cause }
+    ensures few { length result.now ≤ 60 }
+{
+    match cause {
+        LossCause::Shows(SideFault::NoStatus) => b"no reply: it begins with neither = nor ?",
+        LossCause::Shows(SideFault::Overlong) => b"no end of a reply in 8192 bytes",
+        LossCause::Shows(SideFault::WrongId) => b"a reply without the awaited id",
+        LossCause::Shows(SideFault::Unasked) => b"a reply to nothing that was asked",
+        LossCause::Unfit => b"unfit: the command failed, or was answered wrongly",
+        LossCause::RefusesPlay => b"the play was refused",
+        LossCause::KeepsMove => b"the refused move was not taken back",
+        LossCause::NoMove => b"no move: the genmove failed",
+        LossCause::NoVertex => b"neither a vertex nor resign",
+        LossCause::Illegal(fault) => rule_text(fault),
+    }
+}
+
+fn rule_text(fault: PlayFault) -> &'static [u8]
+    ensures text { result.now ≡ rule_text fault }
+    ensures few { length result.now ≤ 60 }
+{
+    match fault {
+        PlayFault::Full => b"an illegal move: the record is full",
+        PlayFault::OffBoard => b"an illegal move: off the board",
+        PlayFault::Occupied => b"an illegal move: the point is occupied",
+        PlayFault::Suicide => b"an illegal move: suicide",
+        PlayFault::Ko => b"an illegal move: ko",
+    }
+}
+
+/// Appends how a process ended.
+fn push_ending(line: &mut LostLine, ending: Ending)
+    requires { array_vec_len line.old ≤ 300 }
+    ensures bytes { line.new.items ≡ line.old.items ++ ending_text ending }
+    ensures len { array_vec_len line.new ≤ array_vec_len line.old + 30 }
+{
+    match ending {
+        Ending::Unknown => {}
+        Ending::Status(number) => {
+            push(line, b", exit status ");
+            push_number(line, number);
+        }
+        Ending::Signal(number) => {
+            push(line, b", signal ");
+            push_number(line, number);
+        }
+    }
+}
+
+/// Appends how many commands a side hasn't answered, and the oldest of them.
+fn push_owed(line: &mut LostLine, owed: &Owed)
+    requires room { array_vec_len line.old ≤ 100 }
+    requires shown { CanBeShown owed.now }
+    ensures bytes { line.new.items ≡ line.old.items ++ owed_text owed.now }
+    ensures len { array_vec_len line.new ≤ array_vec_len line.old + 110 }
+{
+    push_number(line, owed.unanswered);
+    push(line, b" unanswered");
+    push_oldest(line, owed.oldest);
+    push(line, b": ");
+}
+
+/// Appends a command as it was sent, in quotes, if there is one.
+fn push_oldest(line: &mut LostLine, oldest: Option<SentCommand>)
+    requires room { array_vec_len line.old ≤ 300 }
+    requires shown { IfSome oldest (λ entry. IsWritable entry.command) }
+    ensures bytes { line.new.items ≡ line.old.items ++ oldest_text oldest }
+    ensures len { array_vec_len line.new ≤ array_vec_len line.old + 83 }
+{
+    let Some(entry) = oldest else {
+        return;
+    };
+    push(line, b" from \"");
+    push_number(line, entry.id);
+    push(line, b" ");
+    push(line, &command_words(&entry.command));
+    push(line, b"\"");
+}
+
+/// The words of a command, with single spaces between them.
+fn command_words(command: &Command) -> CommandText
+    requires { IsWritable command.now }
+    ensures { result.items ≡ join_with_byte space (words_of command.now) }
+{
+    let mut text = write_command(None, command);
+    text.pop();
+    text
+}
+
+/// Appends the beginning of what a side wrote, in quotes.
+fn push_wrote(line: &mut LostLine, owed: &Owed)
+    requires { array_vec_len line.old ≤ 250 }
+    ensures bytes { line.new.items ≡ line.old.items ++ wrote_text owed.now }
+    ensures len { array_vec_len line.new ≤ array_vec_len line.old + 333 }
+{
+    push(line, b"; it wrote \"");
+    push_shown(line, &owed.bytes);
+    push(line, b"\"");
+}
+
+/// Appends bytes as they are shown.
+fn push_shown(line: &mut LostLine, bytes: &[u8])
+    requires few { length bytes.now ≤ most_shown }
+    requires room { array_vec_len line.old ≤ 270 }
+    ensures bytes { line.new.items ≡ line.old.items ++ shown_bytes bytes.now }
+    ensures len { array_vec_len line.new ≤ array_vec_len line.old + 320 }
+{
+    for byte in bytes {
+        push_byte(line, *byte);
+    }
+}
+
+/// Appends a byte as it is shown.
+fn push_byte(line: &mut LostLine, byte: u8)
+    requires { array_vec_len line.old + 4 ≤ LINE_ROOM }
+    ensures bytes { line.new.items ≡ line.old.items ++ shown_byte byte }
+    ensures len { array_vec_len line.new ≤ array_vec_len line.old + 4 }
+{
+    match byte {
+        b'"' => push(line, b"\\\""),
+        b'\\' => push(line, b"\\\\"),
+        b'\n' => push(line, b"\\n"),
+        b'\r' => push(line, b"\\r"),
+        b'\t' => push(line, b"\\t"),
+        b' '..=b'~' => push(line, &[byte]),
+        _ => {
+            push(line, b"\\x");
+            push(line, &[hex_digit(byte / 16), hex_digit(byte % 16)]);
+        }
+    }
+}
+
+/// A digit in base 16.
+fn hex_digit(number: u8) -> u8
+    requires { number < 16 }
+    ensures { result ≡ hex_digit number }
+{
+    if number >= 10 {
+        b'A' + (number - 10)
+    } else {
+        b'0' + number
+    }
+}
+
+/// Appends a number.
+fn push_number(line: &mut LostLine, number: u32)
+    requires { array_vec_len line.old + 10 ≤ LINE_ROOM }
+    ensures bytes { line.new.items ≡ line.old.items ++ decimal number }
+    ensures len { array_vec_len line.new ≤ array_vec_len line.old + 10 }
+{
+    push(line, &write_int(number));
+}
+
+/// Appends bytes.
+fn push(line: &mut LostLine, bytes: &[u8])
+    requires { array_vec_len line.old + length bytes.now ≤ LINE_ROOM }
+    ensures bytes { line.new.items ≡ line.old.items ++ bytes.now }
+    ensures len { array_vec_len line.new ≡ array_vec_len line.old + length bytes.now }
+{
+    let _ = line.try_extend_from_slice(bytes);
+}
