@@ -5,7 +5,7 @@ from reference.values import BLACK, WHITE
 
 from .controller import DONE, SEND, START, WAIT, Controller, Setup
 from .engines import Other, Ours, Planned
-from .matches import TIMINGS, Match, play
+from .matches import TIMINGS, Match, as_told, play
 
 FIRST = Ours("first")
 POSITIONAL_FIRST = Ours("first", rule=POSITIONAL)
@@ -50,9 +50,9 @@ def refusing(*places):
     return passing(",".join(f"{place}/{NO}/refuses" for place in places))
 
 
-def match(black, white, size=9, komi="6.5", handicap=0, games=1, most_moves=1000, restarts=1, record=False, show=False):
+def match(black, white, size=9, komi="6.5", handicap=0, games=1, most_moves=1000, restarts=1, record=False, show=False, why=False):
     """A match, with some of the values that the program takes where nothing is said."""
-    return Match(size, komi, handicap, games, most_moves, restarts, record, show, {BLACK: black, WHITE: white})
+    return Match(size, komi, handicap, games, most_moves, restarts, record, show, why, {BLACK: black, WHITE: white})
 
 
 def one(line, black, white, status=0, **values):
@@ -293,7 +293,7 @@ def failures():
     cases = [*whole_games(), *going_down(), *replies(), *refusals(), *undoes_that_are_not_heard(), *mistakes()]
     for number, (asked, status, output, errors) in enumerate(cases, 1):
         for timing in TIMINGS:
-            got = play(asked, timing)
+            got = as_told(play(asked, timing))
             if got[:3] != (status, output.encode(), errors.encode()):
                 found.append(f"{number}, {timing}: {status}, {output!r} and {errors!r} are wanted, not {got[:3]}")
     return found, len(cases)
