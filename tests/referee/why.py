@@ -3,8 +3,6 @@
     twogtp: game N: SIDE: OWED: CAUSE; it wrote "BYTES"
     twogtp: game N: SIDE: not started: REASON
 """
-import os
-import subprocess
 
 MOST_BYTES = 80
 
@@ -27,12 +25,6 @@ KO = "an illegal move: ko"
 
 # The bytes from 32 to 126 that don't stand for themselves, and the others that have a letter.
 NAMED = {ord('"'): '\\"', ord("\\"): "\\\\", ord("\n"): "\\n", ord("\r"): "\\r", ord("\t"): "\\t"}
-
-
-def is_known(programs):
-    """Does the program that is found in this environment have the option? Where it hasn't, `--why` is left out everywhere."""
-    done = subprocess.run(["twogtp", "--help"], capture_output=True, stdin=subprocess.DEVNULL, env=programs or os.environ)
-    return b"--why" in done.stdout
 
 
 def line(number, side, text):
