@@ -5,10 +5,10 @@ It is told what happened, and says what to do next. A side is named by the colou
 from collections import namedtuple
 
 from reference import values
-from reference.game import Game
+from reference.game import Game, has_liberty, is_on, joined, put
 from reference.values import BLACK, PASS, WHITE
 
-from . import replies
+from . import replies, why
 
 START, SEND, WAIT, DONE = "start", "send", "wait", "done"
 SIDES = [BLACK, WHITE]
@@ -17,6 +17,10 @@ MOST_RETAKES = 3  # of one move number in a match
 
 # A match's values: komi in half points, the other numbers as they are.
 Setup = namedtuple("Setup", "size komi handicap most_moves most_restarts")
+
+# Why a side is lost: the side, and the texts of which one is told. The first is told where all runs as it does here; there are others
+# where it is a question of time.
+Loss = namedtuple("Loss", "side texts")
 
 
 class Up:
@@ -27,6 +31,7 @@ class Up:
         self.unanswered = []  # pairs of an id and a command, the oldest first
         self.sent = 0  # commands
         self.rest = b""  # what came since the last whole reply
+        self.rests = []  # what that was after each call of `heard`, with how many commands were confirmed then
 
 
 class Controller:
@@ -45,6 +50,9 @@ class Controller:
         self.retakes = {}  # of each move number, from 1, where there were any
         self.pending = None  # the maker of the last move, where that move is to be taken back
         self.verdict = None
+        self.losses = []
+        self.piece = b""  # what was heard last: a whole reply with what stood before it, or all up to the byte that shows a fault
+        self.is_behind = False  # was it heard in one read with a reply before it?
 
     # ---- what the tables speak of
 
@@ -143,7 +151,7 @@ class Controller:
             command = (self.left(side) or [("genmove", letter(side))])[0]
         up.sent += 1
         up.unanswered.append((up.sent, command))
-        return b" ".join([b"%d" % up.sent, command[0].encode(), *command[1:]]) + b"\n"
+        return b"%d %s\n" % (up.sent, spelled(command).encode())
 
     def lost(self, side):
         """This side's engine is gone, or can't be understood any more. Where its move was to be taken back, that move leaves the
@@ -164,18 +172,26 @@ class Controller:
 
     def heard(self, side, data):
         """This side wrote these bytes. Those of a side that is down change nothing, and so do all bytes after a verdict."""
+        self.is_behind = False
         while self.verdict is None and not self.is_down(side):
             up = self.sides[side]
             told, used = replies.first(up.rest + data)
             if told is None:
                 up.rest += data
+                up.rests.append((up.confirmed, up.rest))
                 return
-            data = (up.rest + data)[used:]
+            self.piece, data = self.cut(up.rest + data, used)
             up.rest = b""
             if told in (replies.NO_STATUS, replies.OVERLONG):
+                self.tell(side, why.NO_STATUS if told == replies.NO_STATUS else why.OVERLONG)
                 self.lost(side)
             else:
                 self.judge(side, told)
+            self.is_behind = True
+
+    def cut(self, data, used):
+        """What was heard, and what is left to hear."""
+        return data[:used], data[used:]
 
     # ---- what a reply does
 
@@ -183,9 +199,11 @@ class Controller:
         """A whole reply of a side that is up, before a verdict."""
         up = self.sides[side]
         if not up.unanswered:
+            self.tell(side, why.UNASKED)
             return self.lost(side)
         number, command = up.unanswered[0]
         if not self.answers(reply, number):
+            self.tell(side, why.WRONG_ID)
             return self.lost(side)
         if command[0] == "genmove":
             return self.judge_move(side, reply)
@@ -203,6 +221,7 @@ class Controller:
         if not reply.ok and command[0] == "play":
             self.judge_refusal(side)
         elif not reply.ok or (command[0] == "fixed_handicap" and not self.names_handicap(reply.text)):
+            self.tell(side, why.UNFIT)
             self.verdict = f"unfit {side}"
         else:
             up.unanswered.pop(0)
@@ -213,6 +232,7 @@ class Controller:
         side that made it doesn't have the whole game, it leaves the record at once."""
         number = len(self.game.moves)
         if not self.is_last_of_the_other(side) or self.retakes.get(number, 0) >= MOST_RETAKES:
+            self.tell(side, why.REFUSED_PLAY)
             return self.forfeit(side, "refused play")
         self.sides[side].unanswered.pop(0)
         self.retakes[number] = self.retakes.get(number, 0) + 1
@@ -225,6 +245,7 @@ class Controller:
     def judge_undo(self, side, reply):
         """A reply to an undo: the move is taken back, or the other side, which refused it, forfeits."""
         if not reply.ok:
+            self.tell(side, why.KEPT_MOVE)
             return self.forfeit(values.other(side), "refused play")
         self.sides[side].unanswered.pop(0)
         self.sides[side].confirmed -= 1
@@ -238,6 +259,7 @@ class Controller:
     def judge_move(self, side, reply):
         """A reply to a genmove: a move, a resignation, or none of both."""
         if not reply.ok:
+            self.tell(side, why.NO_MOVE)
             return self.forfeit(side, "no move")
         words = replies.words(reply.text)
         word = words[0] if len(words) == 1 else b""
@@ -247,8 +269,10 @@ class Controller:
             return None
         vertex = values.read_vertex(word)
         if vertex is None:
+            self.tell(side, why.NO_VERTEX)
             return self.forfeit(side, "no vertex")
         if not self.game.play(side, vertex):
+            self.tell(side, self.what_is_illegal(side, vertex))
             return self.forfeit(side, "illegal move")
         self.sides[side].unanswered.pop(0)
         self.sides[side].confirmed += 1
@@ -273,6 +297,58 @@ class Controller:
         """This side loses by what it replied. Its command still counts as unanswered."""
         self.verdict = f"{winner_over(side)}+F({cause})"
 
+    # ---- why a side is lost
+
+    def tell(self, side, cause):
+        """A side is lost by what was heard, of which nothing has come yet."""
+        texts = []
+        for unanswered in [self.unanswered(side), *self.others_unanswered(side)]:
+            is_strange = cause in (why.UNASKED, why.WRONG_ID)
+            texts.append(why.lost(unanswered, (why.WRONG_ID if unanswered else why.UNASKED) if is_strange else cause, self.piece))
+        self.losses.append(Loss(side, texts))
+
+    def unanswered(self, side):
+        """The unanswered commands of this side, which is up: pairs of an id and a text."""
+        return [(number, spelled(command)) for number, command in self.sides[side].unanswered]
+
+    def others_unanswered(self, side):
+        """Other commands that may be unanswered where this side has written what loses it. While an engine is told a script of more
+        than eight commands, that is a question of time: as many are sent as replies came with the read before. To what is heard now
+        all of them up to that command were sent, and those that could be sent when the reply before was read, unless both came in one
+        read."""
+        confirmed, length = self.sides[side].confirmed, len(self.script())
+        if length - confirmed <= 1:
+            return []
+        least = max(self.most, confirmed + (0 if self.is_behind else 1))
+        most = confirmed + self.most - (1 if self.is_behind else 0)
+        return [self.of_script(confirmed, sent) for sent in range(min(least, length), min(most, length) + 1)]
+
+    def of_script(self, confirmed, sent):
+        """The unanswered commands of an engine that was started, was sent so many commands of the script and has confirmed so many."""
+        return [(number, spelled(command)) for number, command in enumerate(self.script(), 1)][confirmed:sent]
+
+    def writes(self, side):
+        """The last write to this side, or each that may be the first that fails, where its engine has ended: what is unanswered then,
+        and what came since the last whole reply. While an engine is told a script of more than eight commands, there may be a write
+        after each reply; the command at which it ended was sent before."""
+        up = self.sides[side]
+        length = len(self.script())
+        told = [(self.unanswered(side), up.rest)]
+        if length > max(self.most, up.confirmed + 1):
+            first = max(1, up.confirmed + 2 - self.most)
+            told += [(self.of_script(heard, min(length, heard + self.most)), rest) for heard, rest in up.rests if heard >= first]
+        return told
+
+    def what_is_illegal(self, side, point):
+        """Why this play isn't legal."""
+        board = self.game.board()
+        if not is_on(self.game.size, point):
+            return why.OFF_THE_BOARD
+        if point in board:
+            return why.OCCUPIED
+        after = put(board, self.game.size, side, point)
+        return why.KO if has_liberty(after, self.game.size, joined(after, self.game.size, point)) else why.SUICIDE
+
     # ---- what is told
 
     def result_line(self, number):
@@ -283,6 +359,11 @@ class Controller:
     def record_line(self):
         """The vertices of the record."""
         return b" ".join(values.write_vertex(vertex) for _, vertex in self.game.moves).decode()
+
+
+def spelled(command):
+    """A command without its id."""
+    return b" ".join([command[0].encode(), *command[1:]]).decode()
 
 
 def letter(colour):

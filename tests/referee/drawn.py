@@ -40,6 +40,8 @@ REFUSES_ONE = [(1, ["p1", "p1", "p2"], REFUSAL, REFUSES)]
 ONCE_MORE = (["g1"], "<reply><reply>", "on")  # it makes a move, and goes down
 ANYWHERE = ["c1", "c2", "c3", "c5", "g1", "p1", "u1"]
 
+WHY = 0.8  # how often a match is played with `--why`
+
 # A match between two of our engines, of which one or both know the positional rule of ko, and how many of them there are.
 KO = "ko"
 KO_TURNS = 16
@@ -95,7 +97,9 @@ def match_of(seed, number):
     as EARLY is long have each of these once; all else is drawn."""
     r = random.Random(f"{seed} {number}")
     turn = EARLY[number % len(EARLY)]
-    return match_of_ko(r) if turn == KO else match_with(r, turn)
+    match = match_of_ko(r) if turn == KO else match_with(r, turn)
+    # From draws of its own: with it or without, a match is the same.
+    return match._replace(why=random.Random(f"{seed} {number} why").random() < WHY)
 
 
 def match_with(r, turn):
@@ -117,7 +121,7 @@ def match_with(r, turn):
     moves_first = r.random() < 0.5 if turn.moves_first is None else turn.moves_first
     sides = [BLACK, WHITE] if moves_first == (handicap == 0) else [WHITE, BLACK]
     most_moves = max(r.choice(MOST_MOVES), turn.moves)
-    return Match(size, komi, handicap, games, most_moves, restarts, r.random() < 0.8, r.random() < 0.5, dict(zip(sides, engines)))
+    return Match(size, komi, handicap, games, most_moves, restarts, r.random() < 0.8, r.random() < 0.5, False, dict(zip(sides, engines)))
 
 
 def plan_of(r, faults_of_it):
@@ -131,7 +135,9 @@ def match_of_ko(r):
     rules = r.choice([[SIMPLE, POSITIONAL]] * 6 + [[POSITIONAL, SIMPLE], [POSITIONAL, POSITIONAL]])
     size, restarts = r.choice([2, 2, 2, 2, 2, 2, 3, 3, 4]), r.choice(RESTARTS)
     engines = [our_engine(r, size, rule, r.choice(["first", "random", "random", "random"])) for rule in rules]
-    return Match(size, r.choice(KOMIS), 0, 1, r.choice([12, 20, 30, 40, 60]), restarts, True, True, dict(zip([BLACK, WHITE], engines)))
+    komi = r.choice(KOMIS)
+    most_moves = r.choice([12, 20, 30, 40, 60])
+    return Match(size, komi, 0, 1, most_moves, restarts, True, True, False, dict(zip([BLACK, WHITE], engines)))
 
 
 def handicap_of(r, size, is_wanted, wrong):

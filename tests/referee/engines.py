@@ -1,7 +1,8 @@
 """The engines of a match: the command by which `twogtp` starts one, and the same engine in memory.
 
 An engine in memory has `begins()`, what it writes before its first command, and `answers(line)`, what it writes when it is told this;
-each with what it does then, as faulty.py has it: it goes `on`, it `ends`, and so on.
+each with what it does then, as faulty.py has it: it goes `on`, it `ends`, and so on. Its `status` is that with which it ends by itself
+before it is told to quit.
 """
 import sys
 from pathlib import Path
@@ -21,6 +22,8 @@ OTHERS = {
     "echo hello": (b"hello\n", ENDS),
     "cat": (b"", "on"),
 }
+# .. and why: there is no such file, or it is a folder.
+REASONS = {"no_such_program": "no such file", "/": "not allowed"}
 
 
 class Other:
@@ -28,9 +31,11 @@ class Other:
 
     takes_notes = False
     notes = False
+    status = 0
 
     def __init__(self, name):
         self.name = name
+        self.reason = REASONS.get(name)
 
     def command(self, notes):
         """The words of its command."""
@@ -97,6 +102,7 @@ class Remembering:
     """A process of our engine, which asks the reference only for what was never asked before."""
 
     notes = False
+    status = 4  # where its fault ends it
 
     def __init__(self, ours):
         self.ours = ours

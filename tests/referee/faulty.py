@@ -68,6 +68,8 @@ def drawn_order(size, seed):
 class Faulty:
     """One life of the engine."""
 
+    status = 0  # with which it ends
+
     def __init__(self, seed, passes, style, plan, life):
         self.seed, self.passes, self.style, self.life = seed, passes, style, life
         self.plan = read_plan(plan)

@@ -4,25 +4,29 @@ from collections import namedtuple
 from reference import values
 from reference.values import BLACK, WHITE
 
-from . import replies
-from .controller import DONE, MOST_UNANSWERED, SEND, SIDES, START, Controller, Setup
+from . import replies, why
+from .controller import DONE, MOST_UNANSWERED, SEND, SIDES, START, Controller, Loss, Setup
 from .faulty import CLOSES, ENDS, SHUTS
 
 # What is left to the controller, to the processes and to the pipes: how many script commands are unanswered at a time, whether an
 # engine answers as soon as it is told something or only when it is waited for, and whether a write to an engine that has ended
-# fails. What comes of a drawn match has to be the same for all of these.
+# fails. What comes of a drawn match has to be the same for all of these, but for the standard error under `--why`, which tells how many
+# commands are unanswered. There `twogtp` sends as many as it may, in one write. And where what it tells is a question of time, the
+# timing in which each read brings what was written at once finds out all that may be told.
 Timing = namedtuple("Timing", "most is_quick breaks")
+PATIENT = Timing(MOST_UNANSWERED, False, False)
 TIMINGS = [
     Timing(MOST_UNANSWERED, True, True),
-    Timing(MOST_UNANSWERED, False, False),
+    PATIENT,
     Timing(1, False, True),
 ]
 MOST_TURNS = 100_000
 
 # What a match is: the options of `twogtp`, komi as it is spelled, and the engine of each side.
-Match = namedtuple("Match", "size komi handicap games most_moves restarts record show engines")
+Match = namedtuple("Match", "size komi handicap games most_moves restarts record show why engines")
 
-# What comes of it: the status, the standard output, the standard error, and what the engines of each side noted.
+# What comes of it: the status, the standard output, the lines of the standard error, and what the engines of each side noted. By the
+# reference each of these lines is a list of texts: what is told in this timing, and what may be told in others.
 Result = namedtuple("Result", "status output errors notes")
 
 
@@ -40,21 +44,27 @@ class Process:
         self.has_ended = False
         self.has_closed = False  # its output
         self.has_shut = False  # its input
+        self.writes = 0  # to it
+        self.reading = 0  # the write of which it reads, or 0 before the first
+        self.last = 0  # the one of which it read when it ended
         self.does(*engine.begins())
 
     def does(self, text, then):
         """It writes this, and does what comes then."""
         if not self.has_closed:
             self.output += text
+        if then == ENDS and not self.has_ended:
+            self.last = self.reading
         self.has_ended = self.has_ended or then == ENDS
         self.has_closed = self.has_closed or then in (ENDS, CLOSES)
         self.has_shut = self.has_shut or then == SHUTS
 
-    def write(self, line):
-        """It is told this. False where the write fails."""
+    def write(self, lines):
+        """It is told these commands, in one write. False where the write fails."""
+        self.writes += 1
         if self.has_shut or (self.has_ended and self.timing.breaks):
             return False
-        self.told.append(line)
+        self.told += [(self.writes, line) for line in lines]
         if self.timing.is_quick:
             self.reads_all()
         return True
@@ -66,10 +76,21 @@ class Process:
 
     def reads_one(self):
         """It reads and answers one command."""
-        line = self.told.pop(0)
+        self.reading, line = self.told.pop(0)
         if self.engine.notes:
             self.notes.append(line)
         self.does(*self.engine.answers(line))
+
+    def may_have_broken(self):
+        """May a write to it have failed, since it had ended by then?"""
+        return self.has_ended and self.writes > self.last
+
+    def endings(self):
+        """How it may have ended when it is lost by its pipes. One that goes on is killed; where only its output ended, it may end before
+        that, since the end of its input comes first."""
+        if self.has_ended:
+            return [f"exit status {self.engine.status}"]
+        return ["signal 9"] if self.has_shut else ["signal 9", f"exit status {self.engine.status}"]
 
     def is_silent(self):
         """Does it go on, and has it written nothing that a controller would take for a reply, or for none?"""
@@ -103,22 +124,28 @@ class Starter:
             self.notes[side].append(b"start\n")
         return Process(engine, self.notes[side], self.timing)
 
+    def reason(self, side):
+        """Why no process of this side can be started."""
+        return self.engines[side].reason
+
 
 def play(match, timing=TIMINGS[0]):
     """What comes of a match."""
     wrong = mistake(match)
     if wrong:
-        return Result(2, b"", f"twogtp: {wrong}\n".encode(), {BLACK: b"", WHITE: b""})
+        return Result(2, b"", [[f"twogtp: {wrong}\n".encode()]], {BLACK: b"", WHITE: b""})
     komi = values.read_komi(match.komi.encode())
     setup = Setup(match.size, komi, match.handicap, match.most_moves, match.restarts)
     starter = Starter(match.engines, timing)
     output = b""
+    errors = []
     status = 0
     for number in range(1, match.games + 1):
         played = play_game(setup, starter)
         output += told(match, number, played)
+        errors += explained(number, played) if match.why else []
         status = max(status, status_of(played.verdict))
-    return Result(status, output, b"", {side: b"".join(starter.notes[side]) for side in SIDES})
+    return Result(status, output, errors, {side: b"".join(starter.notes[side]) for side in SIDES})
 
 
 def mistake(match):
@@ -149,23 +176,51 @@ def take_turn(referee, action, side, processes, starter):
         processes[side] = starter.start(side)
         referee.started(side)
         if processes[side] is None:
-            referee.lost(side)
+            lose(referee, side, [why.not_started(starter.reason(side))])
     elif action == SEND:
-        if not processes[side].write(referee.send(side)):
-            referee.lost(side)
+        if not processes[side].write(all_for(referee, side)):
+            lose(referee, side, broken(processes[side], why.WRITING_FAILED, referee.writes(side)[:1]))
     else:
-        text = processes[side].read()
-        if text:
-            referee.heard(side, text)
-        else:
-            referee.lost(side)
+        hear(referee, side, processes[side])
+
+
+def all_for(referee, side):
+    """All commands that this side is sent before anything else is done."""
+    commands = [referee.send(side)]
+    while referee.next() == (SEND, side):
+        commands.append(referee.send(side))
+    return commands
+
+
+def hear(referee, side, process):
+    """Reads what this side wrote. Where it loses the side, and the engine has ended, a write before may have failed."""
+    writes, losses = referee.writes(side), len(referee.losses)
+    text = process.read()
+    if text:
+        referee.heard(side, text)
+    else:
+        lose(referee, side, broken(process, why.OUTPUT_ENDED, writes[:1]))
+    if process.may_have_broken():
+        for loss in referee.losses[losses:]:
+            loss.texts.extend(broken(process, why.WRITING_FAILED, writes))
+
+
+def lose(referee, side, texts):
+    """This side is lost, and one of these texts is told."""
+    referee.losses.append(Loss(side, texts))
+    referee.lost(side)
+
+
+def broken(process, cause, writes):
+    """The texts of a pipe that is broken, with what was unanswered and what had come by then."""
+    return [why.lost(unanswered, f"{cause}, {ending}", rest) for unanswered, rest in writes for ending in process.endings()]
 
 
 def say_quit(referee, processes):
     """At the end each side that is up and has answered all is told to quit."""
     for side in SIDES:
         if not referee.is_down(side) and not referee.has_unanswered(side):
-            processes[side].write(b"quit\n")
+            processes[side].write([b"quit\n"])
             processes[side].reads_all()
             if processes[side].is_silent():
                 raise Undetermined("the engine is silent when it is told to quit")
@@ -177,6 +232,24 @@ def told(match, number, played):
     lines += [played.record_line()] if match.record else []
     lines += [played.game.show().decode(), ""] if match.show else []
     return "".join(line + "\n" for line in lines).encode()
+
+
+def explained(number, played):
+    """What `--why` tells of a game: for each line the texts of which one is told."""
+    return [[why.line(number, loss.side, text) for text in loss.texts] for loss in played.losses]
+
+
+def fits(result, wanted, may_owe_otherwise=False):
+    """Is this what the patient reference wants? Where `may_owe_otherwise`, the standard error isn't looked at."""
+    if not isinstance(wanted, Result) or result._replace(errors=b"") != wanted._replace(errors=b""):
+        return False
+    lines = result.errors.splitlines(keepends=True)
+    return may_owe_otherwise or (len(lines) == len(wanted.errors) and all(map(list.__contains__, wanted.errors, lines)))
+
+
+def as_told(result):
+    """What comes of a match in the timing of this result alone."""
+    return result._replace(errors=b"".join(texts[0] for texts in result.errors))
 
 
 def status_of(verdict):

@@ -2,10 +2,12 @@
 
 Each is put in the place of one function or value, and makes one mistake that a controller could make.
 """
+import re
+
 from reference import values
 from reference.values import BLACK, PASS, WHITE
 
-from . import controller, matches, replies
+from . import controller, matches, replies, why
 from .controller import MOST_RETAKES, SEND, START, Controller
 
 # The right bodies, which some of the wrong ones call.
@@ -21,6 +23,11 @@ right_next = Controller.next
 right_read_reply = replies.read_reply
 right_script = Controller.script
 right_started = Controller.started
+right_tell = Controller.tell
+right_broken = matches.broken
+right_escaped = why.escaped
+right_line = why.line
+right_owed = why.owed
 
 
 def first_start_counts(self, side):
@@ -386,6 +393,108 @@ def never_status_1(verdict):
     return 0
 
 
+# ---- what `--why` tells
+
+
+def unfit_is_not_told(self, side, cause):
+    if cause != why.UNFIT:
+        right_tell(self, side, cause)
+
+
+def forfeits_are_not_told(self, side, cause):
+    if cause not in (why.REFUSED_PLAY, why.KEPT_MOVE, why.NO_MOVE, why.NO_VERTEX):
+        right_tell(self, side, cause)
+
+
+def retaken_play_is_told(self, side):
+    if self.is_last_of_the_other(side) and self.retakes.get(len(self.game.moves), 0) < MOST_RETAKES:
+        right_tell(self, side, why.REFUSED_PLAY)
+    right_judge_refusal(self, side)
+
+
+def who_refused_is_told(self, side, cause):
+    right_tell(self, side, cause)
+    if cause == why.KEPT_MOVE:
+        self.losses[-1] = self.losses[-1]._replace(side=values.other(side))
+
+
+def other_side_is_told(number, side, text):
+    return right_line(number, values.other(side), text)
+
+
+def told_when_it_is_abandoned(self, side):
+    before = self.verdict
+    right_lost(self, side)
+    if self.verdict != before:
+        self.losses.append(controller.Loss(side, ["abandoned"]))
+
+
+def verdict_before_the_line(self, side, cause):
+    if self.starts[side] <= self.setup.most_restarts:
+        right_tell(self, side, cause)
+
+
+def games_from_0(number, side, text):
+    return right_line(number - 1, side, text)
+
+
+def one_is_owed_more(unanswered):
+    return right_owed([*unanswered[:1], *unanswered])
+
+
+def newest_is_owed(unanswered):
+    return right_owed(unanswered).partition(" from ")[0] + (f' from "{unanswered[-1][0]} {unanswered[-1][1]}"' if unanswered else "")
+
+
+def owed_without_an_id(unanswered):
+    return right_owed([("", command) for _, command in unanswered])
+
+
+def failed_write_is_not_owed(process, cause, writes):
+    return right_broken(process, cause, [([] if cause == why.WRITING_FAILED else owed, rest) for owed, rest in writes])
+
+
+def whole_piece_is_told(self, data, used):
+    return data, data[used:]
+
+
+def blank_lines_are_not_told(self, data, used):
+    return data[:used].lstrip(b" \t\r\n"), data[used:]
+
+
+def end_of_a_reply_is_not_told(self, data, used):
+    return data[:used].rstrip(b"\n"), data[used:]
+
+
+def control_characters_are_not_told(self, data, used):
+    return bytes_that_stay(data[:used]), data[used:]
+
+
+def fault_is_not_told(self, side, cause):
+    self.piece = self.piece[:-1] if cause in (why.NO_STATUS, why.OVERLONG) else self.piece
+    right_tell(self, side, cause)
+
+
+def front_is_not_told(process, cause, writes):
+    return right_broken(process, cause, [(unanswered, b"") for unanswered, rest in writes])
+
+
+def not_escaped(data):
+    return data.decode("latin-1")
+
+
+def in_small_letters(data):
+    return "".join(part if number % 2 == 0 else part.lower() for number, part in enumerate(re.split(r"(\\x..)", right_escaped(data))))
+
+
+def high_bytes_stand_as_they_are(data):
+    return "".join(chr(byte) if byte > 126 else right_escaped(bytes([byte])) for byte in data)
+
+
+def ended_by_force(self):
+    return ["signal 9"]
+
+
 # What is wrong, whose attribute it is, the attribute, and the wrong body.
 MUTANTS = [
     ("the first start is a restart", Controller, "restarts", first_start_counts),
@@ -459,4 +568,34 @@ MUTANTS = [
     ("ids have 32 bits", replies, "read_reply", id_of_32_bits),
     ("nobody is told to quit", matches, "say_quit", nobody_is_told_to_quit),
     ("the status is never 1", matches, "status_of", never_status_1),
+]
+
+# The same, of what `--why` tells.
+WHY_MUTANTS = [
+    ("a side that is unfit isn't told", Controller, "tell", unfit_is_not_told),
+    ("a forfeit isn't told", Controller, "tell", forfeits_are_not_told),
+    ("a play that is retaken is told", Controller, "judge_refusal", retaken_play_is_told),
+    ("who refused the move is told where it isn't taken back", Controller, "tell", who_refused_is_told),
+    ("the other side is told", why, "line", other_side_is_told),
+    ("a side that is abandoned is told once more", Controller, "lost", told_when_it_is_abandoned),
+    ("a side without a start left isn't told", Controller, "tell", verdict_before_the_line),
+    ("games count from 0", why, "line", games_from_0),
+    ("a command too many is owed", why, "owed", one_is_owed_more),
+    ("the newest command is named", why, "owed", newest_is_owed),
+    ("the command is named without its id", why, "owed", owed_without_an_id),
+    ("commands of a write that failed aren't owed", matches, "broken", failed_write_is_not_owed),
+    ("all that was read is told", Controller, "cut", whole_piece_is_told),
+    ("blank lines before a reply aren't told", Controller, "cut", blank_lines_are_not_told),
+    ("the end of a reply isn't told", Controller, "cut", end_of_a_reply_is_not_told),
+    ("control characters aren't told", Controller, "cut", control_characters_are_not_told),
+    ("the byte that shows a fault isn't told", Controller, "tell", fault_is_not_told),
+    ("the front of a reply isn't told", matches, "broken", front_is_not_told),
+    ("79 bytes are told", why, "MOST_BYTES", 79),
+    ("81 bytes are told", why, "MOST_BYTES", 81),
+    ("bytes aren't escaped", why, "escaped", not_escaped),
+    ("hex digits are small", why, "escaped", in_small_letters),
+    ("bytes above 126 aren't escaped", why, "escaped", high_bytes_stand_as_they_are),
+    ("a point off the board is told as one that is occupied", why, "OFF_THE_BOARD", why.OCCUPIED),
+    ("an end by itself is told as one by force", matches.Process, "endings", ended_by_force),
+    ("unfit is told as a refused play", why, "UNFIT", why.REFUSED_PLAY),
 ]

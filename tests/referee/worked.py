@@ -3,9 +3,9 @@ worked out by hand from docs/controller.md and README.md, and most of them stand
 from reference.game import POSITIONAL
 from reference.values import BLACK, WHITE
 
-from .controller import DONE, SEND, START, WAIT, Controller, Setup
+from .controller import DONE, MOST_UNANSWERED, SEND, START, WAIT, Controller, Setup
 from .engines import Other, Ours, Planned
-from .matches import TIMINGS, Match, play
+from .matches import PATIENT, TIMINGS, Match, as_told, play
 
 FIRST = Ours("first")
 POSITIONAL_FIRST = Ours("first", rule=POSITIONAL)
@@ -45,14 +45,19 @@ def passing(plan="-"):
     return Planned(1, 1, "<reply>", plan)
 
 
+def playing(vertices):
+    """An engine that plays these vertices."""
+    return passing(",".join(rf"1/g{number}/=<id>_{vertex}\n\n/on" for number, vertex in enumerate(vertices.split(), 1)))
+
+
 def refusing(*places):
     """An engine that always passes, and refuses the plays at these places of its lives."""
     return passing(",".join(f"{place}/{NO}/refuses" for place in places))
 
 
-def match(black, white, size=9, komi="6.5", handicap=0, games=1, most_moves=1000, restarts=1, record=False, show=False):
+def match(black, white, size=9, komi="6.5", handicap=0, games=1, most_moves=1000, restarts=1, record=False, show=False, why=False):
     """A match, with some of the values that the program takes where nothing is said."""
-    return Match(size, komi, handicap, games, most_moves, restarts, record, show, {BLACK: black, WHITE: white})
+    return Match(size, komi, handicap, games, most_moves, restarts, record, show, why, {BLACK: black, WHITE: white})
 
 
 def one(line, black, white, status=0, **values):
@@ -189,6 +194,89 @@ def undoes_that_are_not_heard():
     yield one("B+F(refused play) moves 1 restarts 4 0", black, refusing("1/p1-4"), **{**small, "restarts": 4})
 
 
+def explained(line, black, white, *texts, status=0, **values):
+    """A match of one game with `--why` that ends with this line, and tells these texts."""
+    errors = "".join(f"twogtp: game 1: {text}\n" for text in texts)
+    return match(black, white, why=True, **values), status, f"game 1: {line}\n", errors
+
+
+def explanations():
+    """Why sides are lost. A script has three commands, which are sent at once, so the first genmove to Black has the id 4."""
+    small = {"size": 2, "komi": "0", "most_moves": 10}
+    yield explained("W+6.5 moves 2 restarts 0 0", FIRST, FIRST, size=1)
+    # The start. Black is started first, so White isn't asked for where neither can be.
+    for name, reason in (("no_such_program", "no such file"), ("/", "not allowed")):
+        for white in (FIRST, Other(name)):
+            told = f"black: not started: {reason}"
+            yield explained("abandoned black moves 0 restarts 1 0", Other(name), white, told, told, status=1)
+        yield explained("abandoned white moves 0 restarts 0 0", FIRST, Other(name), f"white: not started: {reason}", status=1, restarts=0)
+    # What is no move.
+    asked = 'black: 1 unanswered from "4 genmove b"'
+    for told, verdict, cause, wrote in [
+        ("?<id>_no", "no move", "no move: the genmove failed", "?4 no"),
+        ("=<id>_A1_B2", "no vertex", "neither a vertex nor resign", "=4 A1 B2"),
+        (r"\r\n_=04\t\x22\x5c\x7f\xff\x80~", "no vertex", "neither a vertex nor resign", r"\r\n =04\t\"\\\x7F\xFF\x80~"),
+        ("=<id>_C1", "illegal move", "an illegal move: off the board", "=4 C1"),
+    ]:
+        black = passing(rf"1/g1/{told}\n\n/on")
+        yield explained(f"W+F({verdict}) moves 0 restarts 0 0", black, FIRST, rf'{asked}: {cause}; it wrote "{wrote}\n\n"', **small)
+    yield explained("W+R moves 0 restarts 0 0", passing(r"1/g1/=<id>_resign\n\n/on"), FIRST, **small)
+    told = f'{asked}: neither a vertex nor resign; it wrote "=4 {77 * "x"}"'  # 80 bytes
+    yield explained("W+F(no vertex) moves 0 restarts 0 0", passing(r"1/g1/=<id>_<90*x>\n\n/on"), FIRST, told, **small)
+    told = r'white: 1 unanswered from "5 genmove w": an illegal move: the point is occupied; it wrote "=5 A1\n\n"'
+    yield explained("B+F(illegal move) moves 1 restarts 0 0", FIRST, passing(r"1/g1/=<id>_A1\n\n/on"), told, **small)
+    told = r'black: 1 unanswered from "10 genmove b": an illegal move: suicide; it wrote "=10 B2\n\n"'
+    yield explained("W+F(illegal move) moves 6 restarts 0 0", playing("A1 B1 A2 B2"), passing(), told, **small)
+    # White's A1 takes B1.
+    told = r'black: 1 unanswered from "10 genmove b": an illegal move: ko; it wrote "=10 B1\n\n"'
+    yield explained("W+F(illegal move) moves 6 restarts 0 0", playing("A2 B1 pass B1"), playing("B2 C1 A1"), told, size=3)
+    # What is no reply, or none to what was asked. Bytes behind a whole reply count for the next one.
+    for plan, owes, cause, wrote in [
+        ("c1/hello", '3 unanswered from "1 boardsize 2"', "no reply: it begins with neither = nor ?", "h"),
+        (r"c2/<reply>\n\x01!<reply>", '1 unanswered from "3 clear_board"', "no reply: it begins with neither = nor ?", r"\n\x01!"),
+        (r"c1/<8193*\n>", '3 unanswered from "1 boardsize 2"', "no end of a reply in 8192 bytes", r"\n" * 80),
+        (r"c1/=\n\n", '3 unanswered from "1 boardsize 2"', "a reply without the awaited id", r"=\n\n"),
+        ("c1/<reply><reply>", '2 unanswered from "2 komi 0"', "a reply without the awaited id", r"=1\n\n"),
+        (r"c3/<reply>_\n=_x\n", '1 unanswered from "4 genmove b"', "a reply without the awaited id", r" \n= x\n=4 pass\n\n"),
+        ("c3/<reply><reply>", "0 unanswered", "a reply to nothing that was asked", r"=3\n\n"),
+    ]:
+        told = f'black: {owes}: {cause}; it wrote "{wrote}"'
+        yield explained("0 moves 2 restarts 1 0", passing(f"1/{plan}/on"), passing(), told, **small)
+        yield explained("abandoned black moves 0 restarts 1 0", passing(f"*/{plan}/on"), passing(), told, told, status=1, **small)
+    # A command of the script that fails.
+    told = r'black: 3 unanswered from "1 boardsize 2": unfit: the command failed, or was answered wrongly; it wrote "?1 no\n\n"'
+    yield explained("unfit black moves 0 restarts 0 0", passing(f"1/c1/{NO}/on"), passing(), told, status=1, **small)
+    told = r'white: 1 unanswered from "4 fixed_handicap 2": unfit: the command failed, or was answered wrongly; it wrote "=4\n\n"'
+    yield explained("unfit white moves 0 restarts 0 0", passing(), passing(r"1/h/=<id>\n\n/on"), told, status=1, handicap=2)
+    # Refusals that are met by a retake tell nothing. White's fourth is of its seventh command.
+    yield explained("B+4 moves 7 restarts 0 0", FIRST, refusing("1/p1-3"), **small)
+    told = r'white: 1 unanswered from "7 play b A1": the play was refused; it wrote "?7 no\n\n"'
+    yield explained("B+F(refused play) moves 1 restarts 0 0", FIRST, refusing("1/p1-4"), told, **small)
+    told = r'black: 1 unanswered from "5 undo": the refused move was not taken back; it wrote "?5 no\n\n"'
+    yield explained("B+F(refused play) moves 1 restarts 0 0", passing(f"1/u1/{NO}/on"), refusing("1/p1"), told, **small)
+    # A pipe that is broken. White's second engine is told of three moves, and refuses the first.
+    told = 'white: 1 unanswered from "7 genmove w": its output ended, exit status 0; it wrote ""'
+    more = r'white: 3 unanswered from "4 play b A1": the play was refused; it wrote "?4 no\n\n"'
+    white = passing(f"1/g2//ends,2/p1/{NO}/on")
+    yield explained("B+F(refused play) moves 3 restarts 0 1", FIRST, white, told, more, **small)
+    for plan, wrote in (("c2//ends", ""), ("c2/<reply:2>/ends", "=2"), (r"c1/<reply>\n/on,1/c2//ends", r"\n")):
+        told = f'black: 2 unanswered from "2 komi 0": its output ended, exit status 0; it wrote "{wrote}"'
+        yield explained("0 moves 2 restarts 1 0", passing(f"1/{plan}"), passing(), told, **small)
+    told = 'black: 3 unanswered from "1 boardsize 2": its output ended, signal 9; it wrote "=1"'
+    yield explained("0 moves 2 restarts 1 0", passing("1/c1/<reply:2>/closes"), passing(), told, **small)
+    for fault, wrote in (("stop:1", ""), ("cut:1:3", "=4 ")):
+        told = f'{asked}: its output ended, exit status 4; it wrote "{wrote}"'
+        black = Ours("first", fault=fault)
+        yield explained("abandoned black moves 0 restarts 0 0", black, FIRST, told, status=1, restarts=0, **small)
+    told = 'black: 1 unanswered from "5 play w A1": writing failed, signal 9; it wrote ""'
+    black = passing("*/g1/<reply>/shuts")
+    yield explained("abandoned black moves 2 restarts 0 0", black, FIRST, told, status=1, restarts=0, **small)
+    # The second process is that of the second game.
+    told = 'twogtp: game 2: black: 3 unanswered from "1 boardsize 9": its output ended, exit status 0; it wrote ""\n'
+    games = "game 1: W+6.5 moves 2 restarts 0 0\ngame 2: W+6.5 moves 2 restarts 1 0\n"
+    yield match(passing("2/c1//ends"), passing(), games=2, why=True), 0, games, told
+
+
 def mistakes():
     """Mistakes in the options."""
     for komi, handicap, said in (("6.7", 0, "bad komi"), ("6.5", 1, "bad handicap"), ("6.7", 1, "bad komi")):
@@ -287,13 +375,34 @@ def calls():
     yield (played.has_unanswered(BLACK), played.has_unanswered(WHITE)), (True, False)
 
 
+def questions_of_time():
+    """Pairs of what the reference tells of the last side that is lost, and what has to be. Black is started again after 10 moves: its
+    script has 13 commands, of which eight are sent at once, and then as many as there were replies in the read before."""
+    for plan, counts, told in [
+        ("c3/hello/on", (6, 7, 8), r'{} unanswered from "3 clear_board": no reply: it begins with neither = nor ?; it wrote "h"'),
+        ("c13/hello/on", (1,), r'{} unanswered from "13 play w pass": no reply: it begins with neither = nor ?; it wrote "h"'),
+        ("c1//ends", (8,), '{} unanswered from "1 boardsize 9": its output ended, exit status 0; it wrote ""'),
+    ]:
+        black = Planned(1, 0, "<reply>", f"1/g6//ends,2/{plan}")
+        lost = play(match(black, passing(), why=True, most_moves=11), PATIENT).errors[-1]
+        yield set(lost), {f"twogtp: game 1: black: {told.format(count)}\n".encode() for count in counts}
+    # The first read that brings a reply may be followed by a write, which may fail; or that write goes through.
+    black = Planned(1, 0, "<reply>", "1/g6//ends,2/c2//ends")
+    lost = play(match(black, passing(), why=True, most_moves=11), PATIENT).errors[-1]
+    told = 'twogtp: game 1: black: 8 unanswered from "2 komi 6.5": {}, exit status 0; it wrote ""\n'
+    yield set(lost), {told.format(cause).encode() for cause in ("its output ended", "writing failed")}
+
+
 def failures():
     """What the reference gets wrong, a text each, and how many worked matches there are."""
-    found = [f"the calls, answer {number}: not {got!r} but {due!r}" for number, (got, due) in enumerate(calls(), 1) if got != due]
-    cases = [*whole_games(), *going_down(), *replies(), *refusals(), *undoes_that_are_not_heard(), *mistakes()]
+    answers = enumerate([*calls(), *questions_of_time()], 1)
+    found = [f"the calls, answer {number}: not {got!r} but {due!r}" for number, (got, due) in answers if got != due]
+    cases = [*whole_games(), *going_down(), *replies(), *refusals(), *undoes_that_are_not_heard(), *explanations(), *mistakes()]
     for number, (asked, status, output, errors) in enumerate(cases, 1):
         for timing in TIMINGS:
-            got = play(asked, timing)
-            if got[:3] != (status, output.encode(), errors.encode()):
-                found.append(f"{number}, {timing}: {status}, {output!r} and {errors!r} are wanted, not {got[:3]}")
+            wanted = (status, output.encode(), errors.encode())
+            got = as_told(play(asked, timing))[:3]
+            owes_fewer = asked.why and timing.most < MOST_UNANSWERED  # than are told
+            if got[:2] != wanted[:2] or (got != wanted and not owes_fewer):
+                found.append(f"{number}, {timing}: {wanted} is wanted, not {got}")
     return found, len(cases)

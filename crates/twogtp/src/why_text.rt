@@ -265,3 +265,13 @@ fn push(line: &mut LostLine, bytes: &[u8])
 {
     let _ = line.try_extend_from_slice(bytes);
 }
+
+/// A line that has these bytes, as they are shown, and nothing else.
+#[cfg(test)]
+pub fn shown_for_test(bytes: &[u8]) -> LostLine
+    requires { length bytes.now ≤ most_shown }
+{
+    let mut line = ArrayVec::new();
+    push_shown(&mut line, bytes);
+    line
+}
