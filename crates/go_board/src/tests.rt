@@ -323,6 +323,65 @@ fn each_refusal_of_a_play(rt: HostRuntime) {
     }
 }
 
+/// Why a colour may not play there next, and `play` is refused for the same cause.
+fn refused_for(rt: &impl Abort, game: &mut Game, colour: Colour, name: &str, fault: PlayFault) {
+    let refusal = game.refusal(colour, vertex(rt, name));
+    assert_equal_for(rt, name, refusal, Some(fault));
+    assert_equal_for(rt, name, play(rt, game, colour, name), Err(fault));
+}
+
+#[test]
+fn a_refusal_is_told_before_the_play(rt: HostRuntime) {
+    let mut game = new_game(&rt, 3);
+    // White takes the stone on B1 by A1.
+    play_all(
+        &rt,
+        &mut game,
+        &[
+            (Colour::Black, "A2"),
+            (Colour::White, "C1"),
+            (Colour::Black, "B1"),
+            (Colour::White, "B2"),
+            (Colour::Black, "C3"),
+            (Colour::White, "A1"),
+        ],
+    );
+    refused_for(&rt, &mut game, Colour::Black, "D1", PlayFault::OffBoard);
+    refused_for(&rt, &mut game, Colour::Black, "A1", PlayFault::Occupied);
+    refused_for(&rt, &mut game, Colour::Black, "B1", PlayFault::Ko);
+    assert_equal(&rt, game.refusal(Colour::White, vertex(&rt, "B1")), None);
+    assert_equal(&rt, game.refusal(Colour::Black, vertex(&rt, "B3")), None);
+    assert_equal(&rt, game.refusal(Colour::Black, Vertex::Pass), None);
+    play_all(
+        &rt,
+        &mut game,
+        &[(Colour::Black, "B3"), (Colour::White, "C2")],
+    );
+    assert_equal(&rt, game.refusal(Colour::Black, vertex(&rt, "B1")), None);
+    let mut game = new_game(&rt, 2);
+    play_all(
+        &rt,
+        &mut game,
+        &[(Colour::Black, "B1"), (Colour::Black, "A2")],
+    );
+    refused_for(&rt, &mut game, Colour::White, "A1", PlayFault::Suicide);
+    assert_equal(&rt, game.refusal(Colour::Black, vertex(&rt, "A1")), None);
+}
+
+#[test]
+fn a_full_record_is_no_refusal(rt: HostRuntime) {
+    let mut game = new_game(&rt, 2);
+    for _ in 0..2000 {
+        assert_equal(&rt, game.play(Colour::Black, Vertex::Pass), Ok(()));
+    }
+    let pass = game.play(Colour::White, Vertex::Pass);
+    assert_equal(&rt, pass, Err(PlayFault::Full));
+    assert_equal(&rt, game.refusal(Colour::White, Vertex::Pass), None);
+    assert_equal(&rt, game.refusal(Colour::White, vertex(&rt, "A1")), None);
+    let refusal = game.refusal(Colour::White, vertex(&rt, "C1"));
+    assert_equal(&rt, refusal, Some(PlayFault::OffBoard));
+}
+
 #[test]
 fn handicap_stones_stay(rt: HostRuntime) -> Result<(), Fail> {
     let mut game = new_game(&rt, 19);

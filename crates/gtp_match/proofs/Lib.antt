@@ -29,4 +29,5 @@ pub mod ReplyingLemmas
 pub mod CauseLemmas
 pub mod CountLemmas
 pub mod LosingLemmas
+pub mod LostLemmas
 pub mod TellingLemmas

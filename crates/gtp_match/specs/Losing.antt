@@ -1,6 +1,6 @@
 -- Why a side is lost by what it writes: it goes down, is unfit or forfeits. (Own.)
-use Rattle.std.specs.Prelude.{◌≡◌, ◌⊎◌, ◌<◌, ℕ, List, [], ◌++◌, length, take, drop, Option, None, Some, IfSome}
-use Rattle.std.specs.Prelude.{Ok, Err, option_map, if◌then◌else◌}
+use Rattle.std.specs.Prelude.{◌≡◌, ◌⊎◌, ◌<◌, ◌↔◌, ℕ, List, [], ◌++◌, length, take, drop, Option, None, Some, IfSome}
+use Rattle.std.specs.Prelude.{IsSome, Ok, Err, option_map, if◌then◌else◌}
 use Rattle.go_base.specs.declared.choices.Choice.{Choice}
 use Rattle.go_base.specs.declared.choices.Choice.TheVariants as choice
 use Rattle.go_base.specs.declared.colours.Colour.{Colour}
@@ -20,9 +20,11 @@ use Rattle.gtp_match.specs.declared.losses.Owed.{Owed}
 use Rattle.gtp_match.specs.declared.sides.Incarnation.{Incarnation}
 use Rattle.gtp_match.specs.declared.table.Outcome.{Outcome}
 use Rattle.gtp_match.specs.declared.table.Outcome.TheVariants as made
+use Rattle.gtp_match.specs.declared.verdicts.ForfeitCause.{ForfeitCause}
 use Rattle.gtp_match.specs.declared.verdicts.ForfeitCause.TheVariants as forfeit
 use Rattle.gtp_match.specs.declared.verdicts.SideFault.{SideFault}
 use Rattle.gtp_match.specs.declared.verdicts.Verdict.{Verdict}
+use Rattle.gtp_match.specs.declared.verdicts.Verdict.TheVariants as verdict
 use Rattle.gtp_match.specs.Hearing.{HearsExactly, side_fault}
 use Rattle.gtp_match.specs.ReplyTable.{outcome}
 use Rattle.gtp_match.specs.ReplyWords.{choice_of_text}
@@ -132,3 +134,20 @@ pub data HearsTelling (side : Colour) : Controller → List ℕ → Option SideF
 -- all bytes are heard, and the first loss by them, if any, is this one
 abbrev pub HearsAllTelling : Colour → Controller → List ℕ → Option Loss → Controller → Type 0
 HearsAllTelling side c bytes loss new = (shown : Option SideFault) × HearsTelling side c bytes shown loss new
+
+-- ---- what loses a side
+
+-- Bytes that were heard lose a side: they show a fault, which puts it down; or there was no verdict, and by them a side
+-- forfeits or is unfit.
+pub data LosesSide (c new : Controller) (fault : Option SideFault) : Type 0 where
+  goes_down : IsSome fault → LosesSide c new fault
+  forfeits : {loser : Colour} {cause : ForfeitCause} → c.verdict ≡ None → new.verdict ≡ Some (verdict.Forfeit loser cause)
+      → LosesSide c new fault
+  is_unfit : {loser : Colour} → c.verdict ≡ None → new.verdict ≡ Some (verdict.Unfit loser) → LosesSide c new fault
+
+-- Of bytes that are heard once, a loss is told exactly where they lose a side.
+abbrev pub LossesAreTold : Type 0
+LossesAreTold =
+    (c new : Controller) (side : Colour) (bytes : List ℕ) (used : ℕ) (fault : Option SideFault) (loss : Option Loss)
+    → HearsExactly c side bytes used fault new → Loses c side bytes loss
+    → IsSome loss ↔ LosesSide c new fault

@@ -1,7 +1,8 @@
 //! The steps that the tests of matches share.
 use crate::equal::assert_equal;
 use crate::{Action, Heard, Match, ResultText, Setup, SideFault, Status, Verdict, result_line};
-use go_base::{Komi, Side, Size};
+use go_base::{Komi, Side, Size, Vertex};
+use gtp_wire::{ReplyText, write_reply_into};
 use std::process::Abort;
 
 /// A setup of this size, komi and handicap.
@@ -99,8 +100,8 @@ pub(crate) fn first_sent(rt: &impl Abort, max_restarts: u32) -> Match {
     played
 }
 
-/// A match of size 9 with two handicap stones, in which Black answered `fixed_handicap` with these bytes.
-pub(crate) fn handicap_answered(rt: &impl Abort, bytes: &[u8]) -> Match {
+/// A match of size 9 with two handicap stones, in which Black was sent `fixed_handicap`.
+pub(crate) fn handicap_sent(rt: &impl Abort) -> Match {
     let mut played = both_started(rt, setup_with(rt, 9, -7, 2, 10, 0));
     send(rt, &mut played, Side::Black, b"1 boardsize 9\n");
     answer(rt, &mut played, Side::Black, b"=1\n\n");
@@ -109,6 +110,12 @@ pub(crate) fn handicap_answered(rt: &impl Abort, bytes: &[u8]) -> Match {
     send(rt, &mut played, Side::Black, b"3 clear_board\n");
     answer(rt, &mut played, Side::Black, b"=3\n\n");
     send(rt, &mut played, Side::Black, b"4 fixed_handicap 2\n");
+    played
+}
+
+/// The same, in which Black answered it with these bytes.
+pub(crate) fn handicap_answered(rt: &impl Abort, bytes: &[u8]) -> Match {
+    let mut played = handicap_sent(rt);
     answer(rt, &mut played, Side::Black, bytes);
     played
 }
@@ -162,4 +169,25 @@ pub(crate) fn start_both_again(rt: &impl Abort, played: &mut Match) {
     played.started(Side::Black);
     assert_eq!(rt; played.next(), Action::Start(Side::White));
     played.started(Side::White);
+}
+
+/// A success of this id and text.
+pub(crate) fn success(id: u32, text: &[u8]) -> ReplyText {
+    let mut reply = ReplyText::new();
+    write_reply_into(&mut reply, true, Some(id), text);
+    reply
+}
+
+/// A side is sent a command, which it has to answer, and answers it by this id and text.
+fn send_and_answer(rt: &impl Abort, played: &mut Match, side: Side, id: u32, text: &[u8]) {
+    assert_eq!(rt; played.next(), Action::Send(side));
+    played.send(side);
+    assert_equal(rt, played.next(), Action::Wait(side));
+    answer(rt, played, side, success(id, text).as_slice());
+}
+
+/// A side makes this move by its command of this id, and the other side is told of it.
+pub(crate) fn make_move(rt: &impl Abort, played: &mut Match, side: Side, id: u32, vertex: Vertex) {
+    send_and_answer(rt, played, side, id, vertex.write().as_slice());
+    send_and_answer(rt, played, side.other(), id, b"");
 }

@@ -1,12 +1,11 @@
 //! Commands that are sent before earlier ones are answered.
 use crate::equal::assert_equal;
 use crate::test_steps::{
-    answer, both_in_step, both_started, ended, first_sent, hear, send, send_and_wait, setup_with,
-    up,
+    answer, both_in_step, both_started, ended, first_sent, hear, make_move, send, send_and_wait,
+    setup_with, success, up,
 };
 use crate::{Action, ForfeitCause, Match, SideFault, Status, Verdict};
 use go_base::{Point, Side, Vertex};
-use gtp_wire::{ReplyText, write_reply_into};
 use std::process::Abort;
 
 #[test]
@@ -58,27 +57,6 @@ fn the_oldest_command_is_answered_first(rt: HostRuntime) {
         played.hear_all(Side::Black, b"=1\n\n=1\n\n"),
         Some(SideFault::WrongId),
     );
-}
-
-/// A success of this id and text.
-fn success(id: u32, text: &[u8]) -> ReplyText {
-    let mut reply = ReplyText::new();
-    write_reply_into(&mut reply, true, Some(id), text);
-    reply
-}
-
-/// A side is sent a command, which it has to answer, and answers it by this id and text.
-fn send_and_answer(rt: &impl Abort, played: &mut Match, side: Side, id: u32, text: &[u8]) {
-    assert_eq!(rt; played.next(), Action::Send(side));
-    played.send(side);
-    assert_equal(rt, played.next(), Action::Wait(side));
-    answer(rt, played, side, success(id, text).as_slice());
-}
-
-/// A side makes this move by its command of this id, and the other side is told of it.
-fn make_move(rt: &impl Abort, played: &mut Match, side: Side, id: u32, vertex: Vertex) {
-    send_and_answer(rt, played, side, id, vertex.write().as_slice());
-    send_and_answer(rt, played, side.other(), id, b"");
 }
 
 /// Black and White make so many moves each: Black fills the lines from the first on, and White passes.
