@@ -1,4 +1,3 @@
-use Rattle.std.proofs.Common.{subst}
 use Rattle.gtp_match.proofs.TellingLemmas.{owed_shown}
 use Rattle.gtp_match.proofs.matches.Match.owed.Goals as goal
 
