@@ -81,7 +81,6 @@ pub(crate) fn owed_with(engine: &Incarnation, more: &[u8]) -> Owed
 }
 
 /// The first bytes of two texts, joined.
-
 fn first_bytes(text: &[u8], more: &[u8]) -> ShownBytes
     ensures { result.items ≡ take most_shown (text.now ++ more.now) }
 {
