@@ -70,7 +70,8 @@ BreaksRule game side (Some (choice.Play v)) cause =
     ((cause ≡ None) × IsLegal game side v)
     ⊎ ((fault : PlayFault) × (cause ≡ Some (Illegal fault)) × RefusesVertex game side v fault)
 
--- Why a reply with this outcome loses its side, if it does. A refused play does where it may not be retaken.
+-- Why a reply with this outcome loses a side, if it does: its own, and the other one where it kept a move that the other
+-- one refused. A refused play does where it may not be retaken.
 abbrev pub HasCause : Controller → Colour → Incarnation → Reply → Outcome → Option LossCause → Type 0
 HasCause c side engine reply (made.Down fault) cause = cause ≡ Some (Shows fault)
 HasCause c side engine reply made.Unfit cause = cause ≡ Some Unfit

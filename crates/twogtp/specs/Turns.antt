@@ -1,5 +1,5 @@
 -- What the program does with a match and the processes of its sides, turn by turn.
-use Rattle.std.specs.Prelude.{◌≡◌, ℕ, ◌+◌, Bool, true, false, List, [], Option, None, Some, is_some, Ok, Err}
+use Rattle.std.specs.Prelude.{◌≡◌, ℕ, ◌+◌, Bool, true, false, List, [], Option, None, Some, is_some, IsSome, Ok, Err}
 use Rattle.std.specs.Io.KnownBytes.{Appends}
 use Rattle.go_base.specs.declared.colours.Colour.{Colour}
 use Rattle.go_base.specs.declared.colours.Colour.TheVariants.{Black, White}
@@ -53,7 +53,7 @@ turn_side (Send side) = Some side
 turn_side (Wait side) = Some side
 turn_side (Done verdict) = None
 
--- the line of a side that was lost, if there is one and it is told
+-- the line of a turn's side, where a side was lost in it and that is told
 abbrev pub line_where : Option ℕ → Option Colour → Option Lost → Endings → List ℕ
 line_where None side why endings = []
 line_where (Some number) None why endings = []
@@ -132,7 +132,7 @@ HasPlayed known commands telling first opening had last closing has =
     (number : ℕ) × Plays known commands telling first opening had number last closing has
 
 -- A game stopped before its end, where its turns had led: turns were taken, and then memory was refused for a start; or
--- a side was lost, and the writer broke at its line; or there were too many turns.
+-- lost sides are told, a side was lost, and the writer broke at its line; or there were too many turns.
 pub data HasStopped {P : Type 0} (known : Ghosts P) (commands : Commands) (telling : Option ℕ) (first : Controller)
     (opening : Sides P) (had has : Seen P) : Controller → Fault → Type 0 where
   out_of_memory : {last : Controller} {closing : Sides P} {between : Seen P}
@@ -140,6 +140,7 @@ pub data HasStopped {P : Type 0} (known : Ghosts P) (commands : Commands) (telli
       → IsRefused commands last between.asked has.asked → has.told ≡ between.told
       → HasStopped known commands telling first opening had has last OutOfMemory
   untold : {mid last : Controller} {before closing : Sides P} {between : Seen P} (why : Option Lost) (endings : Endings)
+      → IsSome telling → IsSome why
       → HasPlayed known commands telling first opening had mid before between
       → IsTurn known commands (is_some telling) mid before between.asked last closing has.asked why endings
       → TakesPart (turn_line telling (next mid) why endings) between.told has.told

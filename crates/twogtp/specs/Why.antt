@@ -124,7 +124,7 @@ lost_text (CutOff cause owed) ending =
     owed_text owed ++ (pipe_text cause ++ (ending_text ending ++ wrote_text owed))
 lost_text (Wrote loss) ending = owed_text loss.owed ++ (cause_text loss.cause ++ wrote_text loss.owed)
 
--- the line of a game's side that was lost: `twogtp: game N: SIDE: ..`
+-- the line of a game, of the side whose turn lost a side: `twogtp: game N: SIDE: ..`
 abbrev pub lost_line : ℕ → Colour → Lost → Ending → List ℕ
 lost_line number side lost ending =
     concat (codes "twogtp: game " ∷ decimal number ∷ codes ": " ∷ side_name side ∷ codes ": " ∷ lost_text lost ending

@@ -1,5 +1,5 @@
 //! A game between two processes.
-ghost use Rattle.std.specs.Prelude.{◌≡◌, false, Option, None, IfSome, IfOk, IfErr, OnOk, OnErr};
+ghost use Rattle.std.specs.Prelude.{◌≡◌, false, Option, None, IfSome, IsSome, IfOk, IfErr, OnOk, OnErr};
 ghost use Rattle.std.specs.Io.KnownBytes.{Appends};
 ghost use Rattle.gtp_match.specs.declared.verdicts.Action.TheVariants as action;
 ghost use Rattle.gtp_match.specs.Controller.{new};
@@ -232,6 +232,8 @@ fn tell_lost<E: Write>(
     ensures part { OnErr result (TakesPart (turn_line telling action why endings)
         (E.contents errors.old) (E.contents errors.new)) }
     ensures quiet { telling ≡ None → errors.new ≡ errors.old }
+    // It fails only at a line that is to be told.
+    ensures lost { OnErr result (IsSome telling × IsSome why) }
     ensures fault { IfErr result (λ fault. fault ≡ Fault.Write) }
 {
     match (telling, turn_side(action), why) {

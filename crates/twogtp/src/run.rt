@@ -29,7 +29,7 @@ use std::io::Write;
 /// - 0 where each game ended by the rules, and where the words ask for help or the version, which goes to `output`;
 /// - 1 where in some game a side was unfit or given up;
 /// - 2 where the words have a mistake;
-/// - 3 where the output can't be written, memory was refused, or a game had too many turns.
+/// - 3 where the output or a line of a lost side can't be written, memory was refused, or a game had too many turns.
 ///
 /// What a status of 2 or 3 means is told on `errors`, and whether that can be written changes nothing.
 pub fn run<A: AsStr, O: Write, E: Write, S: Starter>(
