@@ -1,0 +1,7 @@
+use Rattle.std.proofs.Common.{refl}
+use Rattle.gtp_match.specs.Next.{next}
+use Rattle.twogtp.proofs.LossLemmas.{losses_have_lines}
+use Rattle.twogtp.proofs.laws.losses_have_lines.Goals as goal
+
+pub returns : goal.returns
+returns g c = losses_have_lines g.P.Conversation
