@@ -94,14 +94,14 @@ abbrev pub loss_of : Incarnation → List ℕ → LossCause → Loss
 loss_of engine text cause = record { cause = cause; owed = owed_of engine text }
 
 -- What hearing the bytes once loses, of a side that is up and before any verdict: by the reply that they end, if its
--- outcome has a cause; by the fault that they show; and nothing where they do neither.
+-- outcome has a cause; by the fault that they show; and nothing where they do neither. A reply is shown alone, without
+-- what stands behind it. Of a text that is no reply all is shown that was heard: what was kept, and all of these bytes.
 pub data LosesUp (c : Controller) (side : Colour) (engine : Incarnation) (bytes : List ℕ) : Option Loss → Type 0 where
   by_reply : {count : ℕ} {value : Reply} (cause : Option LossCause) → IsFirst (engine.rest ++ bytes) count (Ok value)
       → HasCause c side engine value (outcome c.game side (oldest engine.unanswered) value) cause
       → LosesUp c side engine bytes (option_map (loss_of engine (take count (engine.rest ++ bytes))) cause)
   by_fault : {count : ℕ} {shown : ReplyFault} → IsFirst (engine.rest ++ bytes) count (Err shown)
-      → LosesUp c side engine bytes
-      (Some (loss_of engine (take count (engine.rest ++ bytes)) (Shows (side_fault shown))))
+      → LosesUp c side engine bytes (Some (loss_of engine (engine.rest ++ bytes) (Shows (side_fault shown))))
   nothing_yet : TellsNothing (engine.rest ++ bytes) → LosesUp c side engine bytes None
 
 -- a side that is down loses nothing, nor does any side after a verdict
