@@ -1,5 +1,5 @@
 -- A turn has a line exactly where it loses a side.
-use Rattle.std.proofs.Common.{◌≡◌, ◌∙◌, ℕ, List, [], ◌∷◌, ◌++◌, Bool, true, false, Option, Some, None, refl, sym, ap, subst}
+use Rattle.std.proofs.Common.{◌≡◌, ◌∙◌, ℕ, List, [], true, false, Option, Some, None, refl, sym, ap, subst}
 use Rattle.std.specs.Prelude.{◌≢◌, ◌↔◌, IsSome, is_some, option_map}
 use Rattle.go_base.specs.declared.colours.Colour.{Colour}
 use Rattle.go_base.specs.declared.colours.Colour.TheVariants.{Black, White}
@@ -10,10 +10,10 @@ use Rattle.gtp_match.specs.declared.verdicts.Action.{Action}
 use Rattle.gtp_match.specs.declared.verdicts.Action.TheVariants.{Start, Send, Wait, Done}
 use Rattle.gtp_match.specs.declared.verdicts.Verdict.{Verdict}
 use Rattle.gtp_match.specs.Controller.{started, sent, sent_to, downed, lost, lost_engine}
-use Rattle.gtp_match.specs.Losing.{HearsAllTelling, LosesSide, goes_down, forfeits, is_unfit, owed_where}
+use Rattle.gtp_match.specs.Losing.{LosesSide, goes_down, forfeits, is_unfit, owed_where}
 use Rattle.gtp_match.specs.Next.{next, next_where}
 use Rattle.gtp_match.specs.Sides.{side_of}
-use Rattle.gtp_match.proofs.LostLemmas.{losses_are_told}
+use Rattle.gtp_match.proofs.ToldLemmas.{all_told}
 use Rattle.twogtp.specs.declared.sides.Endings.{Endings}
 use Rattle.twogtp.specs.declared.sides.Sides.{Sides}
 use Rattle.twogtp.specs.declared.starter.Conversation.{Ghosts}
@@ -24,7 +24,7 @@ use Rattle.twogtp.specs.declared.why.PipeCause.{PipeCause}
 use Rattle.twogtp.specs.declared.why.PipeCause.TheVariants.{Writing, Reading, Ended}
 use Rattle.twogtp.specs.Losses.{LossesHaveLines, TurnLosesSide, is_not_started, is_lost}
 use Rattle.twogtp.specs.Processes.{WithProcess, process_of}
-use Rattle.twogtp.specs.Speaking.{AreSent, IsHeard, LostBy, Takes, cut_off}
+use Rattle.twogtp.specs.Speaking.{AreSent, IsHeard, Takes, cut_off}
 use Rattle.twogtp.specs.Starts.{Attempts}
 use Rattle.twogtp.specs.Turns.{Begins, Turn, line_where, turn_side}
 
@@ -61,11 +61,11 @@ sent_keeps c side = record {
   up = λ s. sent_up c side s (up_in c side) refl;
 }
 
-takes_keep : (c new : Controller) (side : Colour) (number : ℕ) (text : List ℕ) → Takes c side number text new
-    → KeepsSides c new
-takes_keep c _ side _ _ Takes.none = keeps_itself c
-takes_keep c _ side _ _ (Takes.one_more {number = n} {text = text} {mid = mid} takes more) =
-    let before = takes_keep c mid side n text takes in
+takes_keep : (c : Controller) (side : Colour) (new : Controller) (number : ℕ) (text : List ℕ)
+    → Takes c side number text new → KeepsSides c new
+takes_keep c side _ _ _ Takes.none = keeps_itself c
+takes_keep c side _ _ _ (Takes.one_more {number = n} {text = text} {mid = mid} takes more) =
+    let before = takes_keep c side mid n text takes in
     let then = sent_keeps mid side in
     record { verdict = then.verdict ∙ before.verdict; up = λ s. then.up s ∙ before.up s }
 
@@ -73,7 +73,7 @@ takes_keep c _ side _ _ (Takes.one_more {number = n} {text = text} {mid = mid} t
 
 loses_none : (c m : Controller) → KeepsSides c m → LosesSide c m → ⊥
 unfolding up_in
-loses_none c m keeps (goes_down {side = s} down) =
+loses_none c m keeps (goes_down s down) =
     let still : is_some (up_in m s) ≡ true = keeps.up s ∙ down.0 in
     let gone : is_some (up_in m s) ≡ false = ap (λ (u : Option Incarnation). is_some u) down.1 in absurd (cc)
 loses_none c m keeps (forfeits was is) = let same = keeps.verdict in absurd (cc)
@@ -93,11 +93,11 @@ downed_up c White = refl
 cut_cases : (c m : Controller) (side : Colour) (cause : PipeCause) (u : Option Incarnation) → KeepsSides c m
     → up_in m side ≡ u
     → IsSome (option_map (CutOff cause) (owed_where None u)) ↔ LosesSide c (lost_engine m side u)
-cut_cases c m side cause None keeps is = neither None _ refl (loses_none c m keeps)
 unfolding up_in
+cut_cases c m side cause None keeps is = neither None _ refl (loses_none c m keeps)
 cut_cases c m side cause (Some engine) keeps is =
     let was : is_some (up_in c side) ≡ true = sym (keeps.up side) ∙ ap (λ (u : Option Incarnation). is_some u) is in
-    ((λ some. goes_down {side = side} (was, downed_up m side)), (λ loses. refl))
+    ((λ some. goes_down side (was, downed_up m side)), (λ loses. refl))
 
 cut_is_loss : (c m : Controller) (side : Colour) (cause : PipeCause) → KeepsSides c m → c.verdict ≡ None
     → IsSome (cut_off cause m side) ↔ LosesSide c (lost m side)
@@ -153,7 +153,7 @@ starts_loses_none c side next_is (is_not_started {side = s} starts down) =
     let none : is_some (up_in (started c side) side) ≡ false =
     subst (λ (t : Colour). is_some (up_in (started c side) t) ≡ false) same (ap (λ (u : Option Incarnation). is_some u) down) in
     absurd (cc)
-starts_loses_none c side next_is (is_lost (goes_down {side = s} down)) =
+starts_loses_none c side next_is (is_lost (goes_down s down)) =
     let still = started_keeps c side s down.0 in
     let gone : is_some (up_in (started c side) s) ≡ false = ap (λ (u : Option Incarnation). is_some u) down.1 in absurd (cc)
 starts_loses_none c side next_is (is_lost (forfeits was is)) = absurd (cc)
@@ -163,6 +163,7 @@ module _ {P : Type 0} (known : Ghosts P) where
   begin_told : (commands : Commands) (c new : Controller) (side : Colour) (before after : Sides P) (had has : Attempts P)
       (why : Option Lost) → next c ≡ Start side → Begins commands c side before after had has new why
       → IsSome why ↔ TurnLosesSide c new
+  unfolding up_in
   begin_told commands c _ side before after had has _ e (Begins.starts process tried is) =
       neither None _ refl (starts_loses_none c side e)
   begin_told commands c _ side before after had has _ e (Begins.fails_to_start reason tried is) =
@@ -171,14 +172,14 @@ module _ {P : Type 0} (known : Ghosts P) where
   sends_told : (c new : Controller) (side : Colour) (old now : P) (why : Option Lost) → c.verdict ≡ None
       → AreSent known c side old now new why → IsSome why ↔ LosesSide c new
   sends_told c new side old now _ live (AreSent.taken all taken unbroken flushed given) =
-      neither None _ refl (loses_none c new (takes_keep c new side all.number _ all.takes))
+      neither None _ refl (loses_none c new (takes_keep c side new all.number _ all.takes))
   sends_told c _ side old now _ live (AreSent.failed {new = new} all part cut given) =
-      cut_is_loss c new side Writing (takes_keep c new side all.number _ all.takes) live
+      cut_is_loss c new side Writing (takes_keep c side new all.number _ all.takes) live
 
   hears_told : (c new : Controller) (side : Colour) (old now : P) (why : Option Lost) → c.verdict ≡ None
       → IsHeard known true c side old now new why → IsSome why ↔ LosesSide c new
   hears_told c new side old now why live (IsHeard.heard bytes fault some given heard lost_by unbroken taken) =
-      let told = (losses_are_told.all c new side bytes lost_by.1.0 lost_by.0 lost_by.1.1).exact in
+      let told = (all_told c new side bytes lost_by.1.0 lost_by.0 lost_by.1.1).exact in
       subst (λ (w : Option Lost). IsSome w ↔ LosesSide c new) (sym lost_by.2) (wrote lost_by.0 told)
     where
       wrote : (loss : Option Loss) → IsSome loss ↔ LosesSide c new → IsSome (option_map Wrote loss) ↔ LosesSide c new
@@ -226,9 +227,11 @@ module _ {P : Type 0} (known : Ghosts P) where
 -- a line is told where it is known why, of the side whose turn it is
 pub line_told : (number : ℕ) (side : Option Colour) (why : Option Lost) (endings : Endings) (X : Type 0)
     → (IsSome why → IsSome side) → IsSome why ↔ X → (line_where (Some number) side why endings ≢ []) ↔ X
-line_told number None None endings X has told = ((λ some. absurd (some refl)), (λ x. absurd (told.1 x)))
-line_told number None (Some why) endings X has told = absurd (has refl)
-line_told number (Some side) None endings X has told = ((λ some. absurd (some refl)), (λ x. absurd (told.1 x)))
+line_told number None None endings X has told =
+    ((λ some. absurd (some refl)), (λ x. absurd (let none : false ≡ true = told.1 x in cc)))
+line_told number None (Some why) endings X has told = absurd (let none : false ≡ true = has refl in cc)
+line_told number (Some side) None endings X has told =
+    ((λ some. absurd (some refl)), (λ x. absurd (let none : false ≡ true = told.1 x in cc)))
 line_told number (Some side) (Some why) endings X has told = ((λ some. told.0 refl), (λ x is. cc))
 
 pub losses_have_lines : {P : Type 0} (known : Ghosts P) → LossesHaveLines known

@@ -1,5 +1,3 @@
-use Rattle.std.proofs.Common.{refl}
-use Rattle.gtp_match.specs.Next.{next}
 use Rattle.twogtp.proofs.LossLemmas.{losses_have_lines}
 use Rattle.twogtp.proofs.laws.losses_have_lines.Goals as goal
 

@@ -78,11 +78,11 @@ returns-in-Err-clause-stopped g c = λ three.
 pub returns-in-Err-plan_of-clause-stopped : goal.returns-in-Err-plan_of-clause-stopped
 returns-in-Err-plan_of-clause-stopped g c = λ three. elim c.in-Err-plan_of.ensures.fault [
   | inl refused ↦ inl (
-      refl,
-      refl,
-      subst (λ (fault : Fault). TellsFault fault (g.E.Write.contents c.args.errors.now) (g.E.Write.contents c.tell.new.errors))
-      refused c.tell.ensures.told,
-    )
+    refl,
+    refl,
+    subst (λ (fault : Fault). TellsFault fault (g.E.Write.contents c.args.errors.now) (g.E.Write.contents c.tell.new.errors))
+        refused c.tell.ensures.told,
+  )
   | inr mistake ↦
       let two = c.tell.ensures.status ∙ mistake_is_usage c.in-Ok.options c.in-Err-plan_of.fault mistake in
       absurd (omega (arith, two, three))
