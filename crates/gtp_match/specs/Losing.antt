@@ -150,10 +150,23 @@ pub data LosesSide (c new : Controller) : Type 0 where
       → LosesSide c new
   is_unfit : {loser : Colour} → c.verdict ≡ None → new.verdict ≡ Some (verdict.Unfit loser) → LosesSide c new
 
+-- A loss's cause is the fault that was shown, or fits the new verdict: the side is unfit, or forfeits for this; or the
+-- other one does, whose refused move this side kept.
+abbrev pub CauseFits : Controller → Colour → Option SideFault → LossCause → Type 0
+CauseFits new side fault (Shows shown) = fault ≡ Some shown
+CauseFits new side fault Unfit = new.verdict ≡ Some (verdict.Unfit side)
+CauseFits new side fault RefusesPlay = new.verdict ≡ Some (verdict.Forfeit side forfeit.RefusedPlay)
+CauseFits new side fault KeepsMove = new.verdict ≡ Some (verdict.Forfeit (other side) forfeit.RefusedPlay)
+CauseFits new side fault NoMove = new.verdict ≡ Some (verdict.Forfeit side forfeit.NoMove)
+CauseFits new side fault NoVertex = new.verdict ≡ Some (verdict.Forfeit side forfeit.NoVertex)
+CauseFits new side fault (Illegal rule) = new.verdict ≡ Some (verdict.Forfeit side forfeit.IllegalMove)
+
 -- what a match tells of bytes of this side that were heard
 pub record IsTold (side : Colour) (c new : Controller) (fault : Option SideFault) (loss : Option Loss) : Type 0 where
   -- a loss is told exactly where a side is lost
   pub exact : IsSome loss ↔ LosesSide c new
+  -- its cause is the fault that is shown, or fits the new verdict
+  pub cause : IfSome loss (λ l. CauseFits new side fault l.cause)
   -- a fault is shown exactly where this side goes down
   pub down : IsSome fault ↔ GoesDown c new side
   -- the other side stays as it is, so that one never goes down
