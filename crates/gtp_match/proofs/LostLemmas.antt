@@ -44,7 +44,8 @@ use Rattle.gtp_match.specs.declared.verdicts.Verdict.TheVariants as verdict
 -- Bytes show a fault; or there was no verdict, and by the new one a side forfeits or is unfit.
 pub data LosesBy (c new : Controller) (fault : Option SideFault) : Type 0 where
   shows : IsSome fault → LosesBy c new fault
-  forfeits : {loser : Colour} {cause : ForfeitCause} → c.verdict ≡ None → new.verdict ≡ Some (verdict.Forfeit loser cause)
+  forfeits : {loser : Colour} {cause : ForfeitCause} → c.verdict ≡ None
+      → new.verdict ≡ Some (verdict.Forfeit loser cause)
       → LosesBy c new fault
   is_unfit : {loser : Colour} → c.verdict ≡ None → new.verdict ≡ Some (verdict.Unfit loser) → LosesBy c new fault
 

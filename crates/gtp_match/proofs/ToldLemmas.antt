@@ -101,8 +101,9 @@ leaves_outcome c side engine Confirms = Leaves.keeps_up (confirmed engine) refl 
 leaves_outcome c side engine Resigns = Leaves.keeps_up (answered engine) refl refl
 leaves_outcome c side engine (Moves v) = Leaves.keeps_up (confirmed engine) refl refl
 leaves_outcome c side engine Refuses =
-    refused_all (Leaves side c None) c side engine (Leaves.keeps_up engine refl refl) (Leaves.keeps_up (answered engine) refl refl)
-    (Leaves.keeps_up (answered engine) refl refl) (may_retake c side engine)
+    refused_all (Leaves side c None) c side engine (Leaves.keeps_up engine refl refl)
+    (Leaves.keeps_up (answered engine) refl refl) (Leaves.keeps_up (answered engine) refl refl)
+    (may_retake c side engine)
 leaves_outcome c side engine TakesBack = Leaves.keeps_up (taken_back engine) refl refl
 leaves_outcome c side engine Keeps = Leaves.keeps_up engine refl refl
 

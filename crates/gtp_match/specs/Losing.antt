@@ -146,7 +146,8 @@ GoesDown c new side = IsSome (side_of c.sides side).up × ((side_of new.sides si
 -- A side is lost: it goes down; or there was no verdict, and by the new one a side forfeits or is unfit.
 pub data LosesSide (c new : Controller) : Type 0 where
   goes_down : (side : Colour) → GoesDown c new side → LosesSide c new
-  forfeits : {loser : Colour} {cause : ForfeitCause} → c.verdict ≡ None → new.verdict ≡ Some (verdict.Forfeit loser cause)
+  forfeits : {loser : Colour} {cause : ForfeitCause} → c.verdict ≡ None
+      → new.verdict ≡ Some (verdict.Forfeit loser cause)
       → LosesSide c new
   is_unfit : {loser : Colour} → c.verdict ≡ None → new.verdict ≡ Some (verdict.Unfit loser) → LosesSide c new
 
