@@ -1,7 +1,7 @@
 -- Of bytes that are heard once, a loss is told exactly where they show a fault or a side is blamed.
 use Rattle.std.proofs.Common.{◌≡◌, ℕ, ◌+◌, List, ◌++◌, length, take, Option, Some, None, Ok, Err, Bool, true, false}
-use Rattle.std.proofs.Common.{refl, sym, subst, cond, inl, inr}
-use Rattle.std.specs.Prelude.{◌↔◌, ◌==◌, ℤ, IsSome, option_map}
+use Rattle.std.proofs.Common.{refl, sym, ap, subst, cond, inl, inr}
+use Rattle.std.specs.Prelude.{◌↔◌, ◌==◌, ℤ, IsSome, IfSome, option_map}
 use Rattle.go_base.specs.Colour.{other}
 use Rattle.go_base.specs.Decide.{holds}
 use Rattle.go_base.specs.declared.choices.Choice.{Choice}
@@ -15,8 +15,9 @@ use Rattle.gtp_wire.proofs.ReplyLaws.{one_first}
 use Rattle.gtp_wire.specs.declared.commands.Command.{Command}
 use Rattle.gtp_wire.specs.declared.commands.Command.TheVariants as command
 use Rattle.gtp_wire.specs.declared.replies.Reply.{Reply}
-use Rattle.gtp_match.specs.Hearing.{KeepsAll, HearsUp}
-use Rattle.gtp_match.specs.Losing.{HasCause, BreaksRule, loss_of, LosesUp, by_reply, by_fault, nothing_yet}
+use Rattle.gtp_wire.specs.declared.replies.ReplyFault.{ReplyFault}
+use Rattle.gtp_match.specs.Hearing.{KeepsAll, HearsUp, side_fault}
+use Rattle.gtp_match.specs.Losing.{HasCause, BreaksRule, CauseFits, loss_of, LosesUp, by_reply, by_fault, nothing_yet}
 use Rattle.gtp_match.specs.ReplyTable.{outcome, outcome_of, genmove_outcome, choice_outcome, script_outcome, play_outcome}
 use Rattle.gtp_match.specs.ReplyTable.{undo_outcome, has_id, after_outcome, fault_of, refused, retaken_at}
 use Rattle.gtp_match.specs.ReplyWords.{choice_of_text}
@@ -26,7 +27,8 @@ use Rattle.gtp_match.specs.Unanswered.{oldest}
 use Rattle.gtp_match.specs.declared.controller.Controller.{Controller}
 use Rattle.gtp_match.specs.declared.losses.Loss.{Loss}
 use Rattle.gtp_match.specs.declared.losses.LossCause.{LossCause}
-use Rattle.gtp_match.specs.declared.losses.LossCause.TheVariants.{RefusesPlay}
+use Rattle.gtp_match.specs.declared.losses.LossCause.TheVariants.{Shows, RefusesPlay, KeepsMove, Illegal}
+use Rattle.gtp_match.specs.declared.losses.LossCause.TheVariants as why
 use Rattle.gtp_match.specs.declared.sides.Incarnation.{Incarnation}
 use Rattle.gtp_match.specs.declared.table.Outcome.{Outcome}
 use Rattle.gtp_match.specs.declared.table.Outcome.TheVariants.{Down, Unfit, Forfeits, Confirms, Resigns, Moves}
@@ -42,7 +44,8 @@ use Rattle.gtp_match.specs.declared.verdicts.Verdict.TheVariants as verdict
 -- Bytes show a fault; or there was no verdict, and by the new one a side forfeits or is unfit.
 pub data LosesBy (c new : Controller) (fault : Option SideFault) : Type 0 where
   shows : IsSome fault → LosesBy c new fault
-  forfeits : {loser : Colour} {cause : ForfeitCause} → c.verdict ≡ None → new.verdict ≡ Some (verdict.Forfeit loser cause)
+  forfeits : {loser : Colour} {cause : ForfeitCause} → c.verdict ≡ None
+      → new.verdict ≡ Some (verdict.Forfeit loser cause)
       → LosesBy c new fault
   is_unfit : {loser : Colour} → c.verdict ≡ None → new.verdict ≡ Some (verdict.Unfit loser) → LosesBy c new fault
 
@@ -209,6 +212,52 @@ cause_is_loss c side engine reply TakesBack cause none e is =
 cause_is_loss c side engine reply Keeps cause none e is =
     both cause c _ None (is_told cause _ is) (LosesBy.forfeits none refl)
 
+-- ---- the cause of a reply fits what it leaves
+
+fits_none : (P : LossCause → Type 0) (cause : Option LossCause) → cause ≡ None → IfSome cause P
+fits_none P cause e = subst (λ (o : Option LossCause). IfSome o P) (sym e) tt
+
+fits_one : (P : LossCause → Type 0) (cause : Option LossCause) (x : LossCause) → cause ≡ Some x → P x → IfSome cause P
+fits_one P cause x e fits = subst (λ (o : Option LossCause). IfSome o P) (sym e) fits
+
+abbrev Fits : Controller → Colour → Incarnation → Outcome → LossCause → Type 0
+Fits c side engine o = CauseFits (after_outcome c side (heard_reply engine) o) side (fault_of o)
+
+refused_fits : (c : Controller) (side : Colour) (engine : Incarnation) (cause : Option LossCause) (may : Bool)
+    → cause ≡ cond may None (Some RefusesPlay)
+    → IfSome cause (CauseFits (refused c side (heard_reply engine) may) side None)
+refused_fits c side engine cause false e = fits_one _ cause RefusesPlay e refl
+refused_fits c side engine cause true e = fits_none _ cause e
+
+rule_fits : (c : Controller) (side : Colour) (engine : Incarnation) (x : Option Choice) (cause : Option LossCause)
+    → BreaksRule c.game side x cause → IfSome cause (Fits c side engine (Forfeits IllegalMove))
+rule_fits c side engine None cause is = fits_none _ cause is
+rule_fits c side engine (Some choice.Resign) cause is = fits_none _ cause is
+rule_fits c side engine (Some (choice.Play v)) cause (inl legal) = fits_none _ cause legal.0
+rule_fits c side engine (Some (choice.Play v)) cause (inr (fault, is, breaks)) =
+    fits_one (Fits c side engine (Forfeits IllegalMove)) cause (Illegal fault) is refl
+
+cause_fits : (c : Controller) (side : Colour) (engine : Incarnation) (reply : Reply) (o : Outcome)
+    (cause : Option LossCause) → HasCause c side engine reply o cause → IfSome cause (Fits c side engine o)
+cause_fits c side engine reply (Down fault) cause is =
+    fits_one (Fits c side engine (Down fault)) cause (Shows fault) is refl
+cause_fits c side engine reply Unfit cause is =
+    fits_one (Fits c side engine Unfit) cause why.Unfit is refl
+cause_fits c side engine reply (Forfeits RefusedPlay) cause is =
+    fits_one (Fits c side engine (Forfeits RefusedPlay)) cause RefusesPlay is refl
+cause_fits c side engine reply (Forfeits NoMove) cause is =
+    fits_one (Fits c side engine (Forfeits NoMove)) cause why.NoMove is refl
+cause_fits c side engine reply (Forfeits NoVertex) cause is =
+    fits_one (Fits c side engine (Forfeits NoVertex)) cause why.NoVertex is refl
+cause_fits c side engine reply (Forfeits IllegalMove) cause is =
+    rule_fits c side engine (choice_of_text reply.text.items) cause is
+cause_fits c side engine reply Confirms cause is = fits_none _ cause is
+cause_fits c side engine reply Resigns cause is = fits_none _ cause is
+cause_fits c side engine reply (Moves v) cause is = fits_none _ cause is
+cause_fits c side engine reply Refuses cause is = refused_fits c side engine cause (may_retake c side engine) is
+cause_fits c side engine reply TakesBack cause is = fits_none _ cause is
+cause_fits c side engine reply Keeps cause is = fits_one (Fits c side engine Keeps) cause KeepsMove is refl
+
 -- ---- an engine that is up
 
 -- a cause is told of where there is one
@@ -217,24 +266,35 @@ told_with : (engine : Incarnation) (text : List ℕ) (cause : Option LossCause) 
 told_with engine text None X h = h
 told_with engine text (Some x) X h = h
 
+fits_with : (engine : Incarnation) (text : List ℕ) (cause : Option LossCause) (P : LossCause → Type 0)
+    → IfSome cause P → IfSome (option_map (loss_of engine text) cause) (λ l. P l.cause)
+fits_with engine text None P fits = tt
+fits_with engine text (Some x) P fits = fits
+
 pub up_told : (c new : Controller) (side : Colour) (engine : Incarnation) (bytes : List ℕ) (used : ℕ)
     (fault : Option SideFault) (loss : Option Loss) → c.verdict ≡ None
     → HearsUp KeepsAll c side engine bytes used fault new → LosesUp c side engine bytes loss
-    → IsSome loss ↔ LosesBy c new fault
+    → (IsSome loss ↔ LosesBy c new fault) × IfSome loss (λ l. CauseFits new side fault l.cause)
 up_told c new side engine bytes used fault loss none (HearsUp.replied {value = x} p) (by_reply {count = n} {value = y} cause q has) =
     let e = one_first (engine.rest ++ bytes) (length engine.rest + used) n (Ok x) (Ok y) p q in
     let same : y ≡ x = cc in
-    told_with engine (take n (engine.rest ++ bytes)) cause (LosesBy c new fault)
-    (cause_is_loss c side engine x (outcome c.game side (oldest engine.unanswered) x) cause none refl
-    (subst (λ (r : Reply). HasCause c side engine r (outcome c.game side (oldest engine.unanswered) r) cause) same has))
+    let text = take n (engine.rest ++ bytes) in
+    let o = outcome c.game side (oldest engine.unanswered) x in
+    let is : HasCause c side engine x o cause =
+    subst (λ (r : Reply). HasCause c side engine r (outcome c.game side (oldest engine.unanswered) r) cause) same has in (
+      told_with engine text cause (LosesBy c new fault) (cause_is_loss c side engine x o cause none refl is),
+      fits_with engine text cause (Fits c side engine o) (cause_fits c side engine x o cause is),
+    )
 up_told c new side engine bytes used fault loss none (HearsUp.replied {value = x} p) (by_fault {count = n} {shown = y} q) =
     let e = one_first (engine.rest ++ bytes) (length engine.rest + used) n (Ok x) (Err y) p q in absurd (cc)
 up_told c new side engine bytes used fault loss none (HearsUp.replied {value = x} p) (nothing_yet nothing) =
     absurd (nothing (length engine.rest + used) (Ok x) p.inside p.told)
 up_told c new side engine bytes used fault loss none (HearsUp.faulted {shown = x} p) (by_reply {count = n} {value = y} cause q has) =
     let e = one_first (engine.rest ++ bytes) (length engine.rest + used) n (Err x) (Ok y) p q in absurd (cc)
-up_told c new side engine bytes used fault loss none (HearsUp.faulted {shown = x} p) (by_fault q) =
-    both loss c new fault refl (LosesBy.shows refl)
+up_told c new side engine bytes used fault loss none (HearsUp.faulted {shown = x} p) (by_fault {count = n} {shown = y} q) =
+    let e = one_first (engine.rest ++ bytes) (length engine.rest + used) n (Err x) (Err y) p q in
+    let same : x ≡ y = cc in
+    (both loss c new fault refl (LosesBy.shows refl), ap (λ (f : ReplyFault). Some (side_fault f)) same)
 up_told c new side engine bytes used fault loss none (HearsUp.faulted {shown = x} p) (nothing_yet nothing) =
     absurd (nothing (length engine.rest + used) (Err x) p.inside p.told)
 up_told c new side engine bytes used fault loss none (HearsUp.nothing_yet nothing is) (by_reply {count = n} {value = y} cause q has) =
@@ -242,4 +302,4 @@ up_told c new side engine bytes used fault loss none (HearsUp.nothing_yet nothin
 up_told c new side engine bytes used fault loss none (HearsUp.nothing_yet nothing is) (by_fault {count = n} {shown = y} q) =
     absurd (nothing n (Err y) q.inside q.told)
 up_told c new side engine bytes used fault loss none (HearsUp.nothing_yet nothing is) (nothing_yet also) =
-    neither loss c new fault refl refl (λ x. subst IsNoBlame (sym none) no_verdict)
+    (neither loss c new fault refl refl (λ x. subst IsNoBlame (sym none) no_verdict), tt)

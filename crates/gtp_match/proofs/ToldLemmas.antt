@@ -1,20 +1,22 @@
 -- Of bytes that are heard, once or all, a loss is told exactly where a side is lost.
 use Rattle.std.proofs.Common.{◌≡◌, ℕ, List, drop, Option, Some, None}
 use Rattle.std.proofs.Common.{refl, sym, ◌∙◌, ap, subst, inl, inr}
-use Rattle.std.specs.Prelude.{◌↔◌, ◌⊎◌, IsSome}
+use Rattle.std.specs.Prelude.{◌↔◌, ◌⊎◌, IsSome, IfSome}
 use Rattle.go_base.specs.Colour.{other}
 use Rattle.go_base.specs.declared.colours.Colour.{Colour}
 use Rattle.go_base.specs.declared.colours.Colour.TheVariants.{Black, White}
 use Rattle.gtp_match.specs.Controller.{downed}
 use Rattle.gtp_match.specs.Hearing.{KeepsAll, HearsUp, IsIgnored, HearsWhere, HearsExactly}
 use Rattle.gtp_match.specs.Losing.{Loses, LosesUp, LosesWhere, first_of, HearsTelling, used_up, faulty, goes_on}
-use Rattle.gtp_match.specs.Losing.{GoesDown, LosesSide, IsTold}
+use Rattle.gtp_match.specs.Losing.{GoesDown, LosesSide, CauseFits, IsTold}
 use Rattle.gtp_match.specs.ReplyTable.{outcome, after_outcome, fault_of}
 use Rattle.gtp_match.specs.Sides.{side_of, with_engine_of, heard_reply, answered, confirmed, taken_back}
 use Rattle.gtp_match.specs.Taking.{may_retake}
 use Rattle.gtp_match.specs.Unanswered.{oldest}
 use Rattle.gtp_match.specs.declared.controller.Controller.{Controller}
 use Rattle.gtp_match.specs.declared.losses.Loss.{Loss}
+use Rattle.gtp_match.specs.declared.losses.LossCause.{LossCause}
+use Rattle.gtp_match.specs.declared.losses.LossCause.TheVariants as why
 use Rattle.gtp_match.specs.declared.sides.Incarnation.{Incarnation}
 use Rattle.gtp_match.specs.declared.sides.Sides.{Sides}
 use Rattle.gtp_match.specs.declared.table.Outcome.{Outcome}
@@ -99,8 +101,9 @@ leaves_outcome c side engine Confirms = Leaves.keeps_up (confirmed engine) refl 
 leaves_outcome c side engine Resigns = Leaves.keeps_up (answered engine) refl refl
 leaves_outcome c side engine (Moves v) = Leaves.keeps_up (confirmed engine) refl refl
 leaves_outcome c side engine Refuses =
-    refused_all (Leaves side c None) c side engine (Leaves.keeps_up engine refl refl) (Leaves.keeps_up (answered engine) refl refl)
-    (Leaves.keeps_up (answered engine) refl refl) (may_retake c side engine)
+    refused_all (Leaves side c None) c side engine (Leaves.keeps_up engine refl refl)
+    (Leaves.keeps_up (answered engine) refl refl) (Leaves.keeps_up (answered engine) refl refl)
+    (may_retake c side engine)
 leaves_outcome c side engine TakesBack = Leaves.keeps_up (taken_back engine) refl refl
 leaves_outcome c side engine Keeps = Leaves.keeps_up engine refl refl
 
@@ -168,6 +171,7 @@ no_step : (side : Colour) (c : Controller) → Step side c c None None
 no_step side c = record {
   told = record {
     exact = ((λ some. absurd (none_told Loss some)), (λ lost. absurd (none_lost c lost)));
+    cause = tt;
     down = (
       (λ some. absurd (none_told SideFault some)),
       (λ gone. absurd (no_some (side_of c.sides side).up gone.1 gone.0)),
@@ -194,9 +198,11 @@ up_step side c new engine bytes used fault loss none up hears loses =
     let was : IsSome (side_of c.sides side).up = subst (λ (o : Option Incarnation). IsSome o) (sym up) refl in
     let down = down_by_fault c new side fault was leaves in
     let stays = leaves_other c new side fault leaves in
+    let law = up_told c new side engine bytes used fault loss none hears loses in
     record {
       told = record {
-        exact = lost_by c new side fault loss down stays (up_told c new side engine bytes used fault loss none hears loses);
+        exact = lost_by c new side fault loss down stays law.0;
+        cause = law.1;
         down = down;
         other_stays = stays;
       };
@@ -225,6 +231,7 @@ two_steps : (side : Colour) (c mid new : Controller) (shown : Option SideFault) 
 two_steps side c mid new shown loss later one more = record {
   told = record {
     exact = ((λ some. by_one (told_by_one loss later some)), told_of);
+    cause = cause_of loss later one.told.cause more.told.cause;
     down = (
       (λ some. from_start (more.told.down.0 some)),
       (λ gone. more.told.down.1 (from_mid gone)),
@@ -237,6 +244,22 @@ two_steps side c mid new shown loss later one more = record {
   where
     stays : other_stays side c.sides new.sides
     stays = more.told.other_stays ∙ one.told.other_stays
+
+    -- a cause that fits a step without a fault is of a verdict, which stays
+    fits_later : (x : LossCause) → CauseFits mid side None x → CauseFits new side shown x
+    fits_later (why.Shows fault) fits = absurd (cc)
+    fits_later why.Unfit fits = more.stays_over _ fits
+    fits_later why.RefusesPlay fits = more.stays_over _ fits
+    fits_later why.KeepsMove fits = more.stays_over _ fits
+    fits_later why.NoMove fits = more.stays_over _ fits
+    fits_later why.NoVertex fits = more.stays_over _ fits
+    fits_later (why.Illegal rule) fits = more.stays_over _ fits
+
+    cause_of : (a b : Option Loss) → IfSome a (λ l. CauseFits mid side None l.cause)
+        → IfSome b (λ l. CauseFits new side shown l.cause)
+        → IfSome (first_of a b) (λ l. CauseFits new side shown l.cause)
+    cause_of None b first last = last
+    cause_of (Some l) b first last = fits_later l.cause first
 
     from_start : GoesDown mid new side → GoesDown c new side
     from_start gone = (

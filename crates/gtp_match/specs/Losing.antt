@@ -146,14 +146,28 @@ GoesDown c new side = IsSome (side_of c.sides side).up × ((side_of new.sides si
 -- A side is lost: it goes down; or there was no verdict, and by the new one a side forfeits or is unfit.
 pub data LosesSide (c new : Controller) : Type 0 where
   goes_down : (side : Colour) → GoesDown c new side → LosesSide c new
-  forfeits : {loser : Colour} {cause : ForfeitCause} → c.verdict ≡ None → new.verdict ≡ Some (verdict.Forfeit loser cause)
+  forfeits : {loser : Colour} {cause : ForfeitCause} → c.verdict ≡ None
+      → new.verdict ≡ Some (verdict.Forfeit loser cause)
       → LosesSide c new
   is_unfit : {loser : Colour} → c.verdict ≡ None → new.verdict ≡ Some (verdict.Unfit loser) → LosesSide c new
+
+-- A loss's cause is the fault that was shown, or fits the new verdict: the side is unfit, or forfeits for this; or the
+-- other one does, whose refused move this side kept.
+abbrev pub CauseFits : Controller → Colour → Option SideFault → LossCause → Type 0
+CauseFits new side fault (Shows shown) = fault ≡ Some shown
+CauseFits new side fault Unfit = new.verdict ≡ Some (verdict.Unfit side)
+CauseFits new side fault RefusesPlay = new.verdict ≡ Some (verdict.Forfeit side forfeit.RefusedPlay)
+CauseFits new side fault KeepsMove = new.verdict ≡ Some (verdict.Forfeit (other side) forfeit.RefusedPlay)
+CauseFits new side fault NoMove = new.verdict ≡ Some (verdict.Forfeit side forfeit.NoMove)
+CauseFits new side fault NoVertex = new.verdict ≡ Some (verdict.Forfeit side forfeit.NoVertex)
+CauseFits new side fault (Illegal rule) = new.verdict ≡ Some (verdict.Forfeit side forfeit.IllegalMove)
 
 -- what a match tells of bytes of this side that were heard
 pub record IsTold (side : Colour) (c new : Controller) (fault : Option SideFault) (loss : Option Loss) : Type 0 where
   -- a loss is told exactly where a side is lost
   pub exact : IsSome loss ↔ LosesSide c new
+  -- its cause is the fault that is shown, or fits the new verdict
+  pub cause : IfSome loss (λ l. CauseFits new side fault l.cause)
   -- a fault is shown exactly where this side goes down
   pub down : IsSome fault ↔ GoesDown c new side
   -- the other side stays as it is, so that one never goes down
