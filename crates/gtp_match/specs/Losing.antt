@@ -71,7 +71,7 @@ BreaksRule game side (Some (choice.Play v)) cause =
     ((cause ≡ None) × IsLegal game side v)
     ⊎ ((fault : PlayFault) × (cause ≡ Some (Illegal fault)) × RefusesVertex game side v fault)
 
--- Why a reply with this outcome loses a side, if it does: its own, and the other one where it kept a move that the other
+-- Why a reply with this outcome loses a side, if it does: its own, or the other one where it kept a move that the other
 -- one refused. A refused play does where it may not be retaken.
 abbrev pub HasCause : Controller → Colour → Incarnation → Reply → Outcome → Option LossCause → Type 0
 HasCause c side engine reply (made.Down fault) cause = cause ≡ Some (Shows fault)
@@ -173,8 +173,8 @@ pub record IsTold (side : Colour) (c new : Controller) (fault : Option SideFault
   -- the other side stays as it is, so that one never goes down
   pub other_stays : side_of new.sides (other side) ≡ side_of c.sides (other side)
 
--- This holds of bytes that are heard once, and of all bytes of a piece, which are heard reply by reply. It has no
--- premise: once a verdict was given no side is lost by what is heard, and nothing is told.
+-- This holds of bytes that are heard once, and of all bytes of a piece, which are heard reply by reply. Of the match
+-- nothing is asked. Once a verdict was given no side is lost by what is heard, and nothing is told.
 pub record LossesAreTold : Type 0 where
   pub once : (c new : Controller) (side : Colour) (bytes : List ℕ) (used : ℕ) (fault : Option SideFault)
       (loss : Option Loss) → HearsExactly c side bytes used fault new → Loses c side bytes loss

@@ -12,10 +12,10 @@ use go_base::{Choice, Side};
 use go_board::{Game, PlayFault};
 use gtp_wire::Reply;
 
-/// How many bytes of an answer are kept to be shown.
+/// How many bytes of what a side wrote are kept to be shown.
 pub const MOST_SHOWN: usize = 80;
 
-/// The beginning of an answer.
+/// The beginning of what a side wrote.
 pub type ShownBytes = ArrayVec<u8, MOST_SHOWN>;
 
 /// Why a side is lost by what it writes.
@@ -55,8 +55,8 @@ pub struct Loss {
     /// Why.
     pub cause: LossCause,
     /// What it owed when its bytes ended the reply, or showed the fault, that loses it. The bytes are those of this
-    /// reply, without what stands behind it. Where they are no reply, they are all that was heard since the last whole
-    /// reply, also what stands behind the fault.
+    /// reply, without what stands behind it. Where they are no reply, they are the first 80 of all that was heard since
+    /// the last whole reply, also of what stands behind the fault.
     pub owed: Owed,
 }
 

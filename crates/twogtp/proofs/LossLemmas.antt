@@ -185,8 +185,8 @@ module _ {P : Type 0} (known : Ghosts P) where
       wrote : (loss : Option Loss) → IsSome loss ↔ LosesSide c new → IsSome (option_map Wrote loss) ↔ LosesSide c new
       wrote None told = told
       wrote (Some loss) told = told
-  hears_told c _ side old now _ live (IsHeard.ended ended given taken) = cut_is_loss c c side Ended (keeps_itself c) live
-  hears_told c _ side old now _ live (IsHeard.broke broke given taken) = cut_is_loss c c side Reading (keeps_itself c) live
+  hears_told c _ side old now _ live (IsHeard.ended over given taken) = cut_is_loss c c side Ended (keeps_itself c) live
+  hears_told c _ side old now _ live (IsHeard.broke cut given taken) = cut_is_loss c c side Reading (keeps_itself c) live
 
   send_told : (c new : Controller) (side : Colour) (before after : Option P) (why : Option Lost) → c.verdict ≡ None
       → WithProcess before after (λ (old now : P). AreSent known c side old now new why)

@@ -14,8 +14,8 @@ use Rattle.twogtp.specs.declared.why.Lost.{Lost}
 use Rattle.twogtp.specs.Starts.{Attempts}
 use Rattle.twogtp.specs.Turns.{IsTurn, turn_line}
 
--- A turn loses a side. A side was to be started, and is down after it; or a side that was up is down, forfeits or is
--- unfit.
+-- A turn loses a side. A side that was to be started is down after it; or a side that was up is down; or by a new
+-- verdict a side forfeits or is unfit.
 pub data TurnLosesSide (c new : Controller) : Type 0 where
   is_not_started : {side : Colour} → next c ≡ Start side → (side_of new.sides side).up ≡ None → TurnLosesSide c new
   is_lost : LosesSide c new → TurnLosesSide c new

@@ -85,28 +85,17 @@ abbrev pub HasTold : {P : Type 0} → Ghosts P → Commands → Task → ℕ →
 HasTold known commands task status held holds had has =
     HasToldSome known commands task task.games status held holds had has
 
--- Why no more is told after so many games. The writer broke at them, and nothing more was asked for; or the next one was
--- begun, and stopped before its end.
-pub data GoesOn {P : Type 0} (known : Ghosts P) (commands : Commands) (task : Task) (number : ℕ) (had : Seen P)
-    : Seen P → Fault → Type 0 where
-  no_game_more : GoesOn known commands task number had had Write
-  begins : {has : Seen P} {last : Controller} {fault : Fault}
-      → number + 1 ≤ task.games
-      → HasStopped known commands (told_as task.why (number + 1)) (new task.setup) no_processes had has last fault
-      → GoesOn known commands task number had has fault
-
--- Some games were played, a writer took the beginning of what is told of them, and nothing else was asked for than
--- they ask for, and the beginning of the next one. Then this fault was met.
+-- Some games were played, and a writer took all that is told of them. The next one isn't told whole: it stopped before
+-- its end, or it was played to its end and the writer broke at it. The fault says which, and nothing else was asked for.
 pub record HasBegunToTell {P : Type 0} (known : Ghosts P) (commands : Commands) (task : Task)
     (held holds : Option (List ℕ)) (had has : Seen P) (fault : Fault) : Type 0 where
   pub number : ℕ
   pub status : ℕ
-  pub text : List ℕ
+  pub within : number + 1 ≤ task.games
+  pub mid : Option (List ℕ)
   pub between : Seen P
-  pub within : number ≤ task.games
-  pub tells : Tells known commands task had number status text between
-  pub taken : TakesPart text held holds
-  pub goes_on : GoesOn known commands task number between has fault
+  pub told : HasToldSome known commands task number status held mid had between
+  pub untold : IsUntold known (λ (bytes : Option (List ℕ)). bytes) commands task (number + 1) mid holds between has fault
 
 -- ---- what the words ask for was done
 
@@ -162,7 +151,7 @@ pub record AsksWrongly (words : List Text) (held holds : Option (List ℕ)) : Ty
   pub mistake : IsMistake options fault
   pub told : TellsFault fault held holds
 
--- The words have a mistake, or what they ask for has one.
+-- The words have a mistake, or what they ask for has one. What is told of a mistake in the words is not said here.
 abbrev pub HasMistake : List Text → Option (List ℕ) → Option (List ℕ) → Type 0
 HasMistake words held holds =
     ((kind : ErrorKind) × (¬ IsRequest kind) × HasFault words kind) ⊎ AsksWrongly words held holds

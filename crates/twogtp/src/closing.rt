@@ -59,7 +59,7 @@ pub fn tell_game<P: Conversation, O: Write>(
 }
 
 impl<P: Conversation> Told<P> {
-    /// Ends all processes, and answers the verdict: at once those of the sides that are down or still owe an answer;
+    /// Ends all processes, and returns the verdict: at once those of the sides that are down or still owe an answer;
     /// then the others, each after it was told to `quit` and has answered.
     pub fn close(self, game: &Match, buffer: &mut [u8; READ_ROOM]) -> Verdict
         ensures { result ≡ self.verdict }

@@ -34,7 +34,7 @@ use std::io::Write;
 /// How many turns a game has at most. No match within the limits has as many.
 const MOST_TURNS: u64 = 1_000_000_000_000;
 
-/// Plays a game of a task, tells it, and answers how it ended. The processes are closed once the text is written and
+/// Plays a game of a task, tells it, and returns how it ended. The processes are closed once the text is written and
 /// flushed: only then is one told to `quit`. Each process that is started is ended, also after a fault.
 ///
 /// # Errors
@@ -76,7 +76,7 @@ pub fn play_game<O: Write, E: Write, S: Starter>(
     Ok(told.close(&game, &mut buffer))
 }
 
-/// Plays a match to its end, and tells it. What it answers has the processes as the last turn left them.
+/// Plays a match to its end, and tells it. What it returns has the processes as the last turn left them.
 fn play_and_tell<O: Write, E: Write, S: Starter>(
     task: &Task,
     number: u32,

@@ -40,7 +40,8 @@ pub fn run<A: AsStr, O: Write, E: Write, S: Starter>(
     starter: &mut S,
 ) -> u8
     ensures status { IsStatus result }
-    // After a mistake in the words nothing was started, and nothing written to the output.
+    // After a mistake in the words nothing was started, and nothing was written to the output. Of
+    // the options the first mistake is told on standard error.
     ensures usage { result ≡ usage_fault → HasMistake (map A.text words.now)
         (E.contents errors.old) (E.contents errors.new)
         × (output.new ≡ output.old) × (starter.new ≡ starter.old) }
@@ -58,7 +59,8 @@ pub fn run<A: AsStr, O: Write, E: Write, S: Starter>(
         (seen (S.asked starter.old) (E.contents errors.old))
         (seen (S.asked starter.new) (E.contents errors.new)) }
     // What was written before the program had to stop is the beginning of what is told, or of the
-    // help or the version. Why it stopped is told last on standard error.
+    // help or the version. Why it stopped is told last on standard error, in a line or a beginning
+    // of it.
     ensures stopped { result ≡ own_fault →
         ((starter.new ≡ starter.old) × (output.new ≡ output.old)
         × TellsFault Fault.OutOfMemory (E.contents errors.old) (E.contents errors.new))
@@ -124,7 +126,7 @@ fn with_verdict(status: u8, verdict: Verdict) -> u8
     }
 }
 
-/// Tells what `clap` answers in place of options, an error of this kind with this text, and returns the status.
+/// Tells what `clap` returns in place of options, an error of this kind with this text, and returns the status.
 fn answer_error<T: Display, W: Write, E: Write>(
     alloc: Global,
     kind: ErrorKind,

@@ -18,7 +18,7 @@ const TEXT_ROOM: usize = MOST_UNANSWERED * MOST_COMMAND_BYTES;
 /// The bytes of commands, joined.
 pub type CommandsText = ArrayVec<u8, TEXT_ROOM>;
 
-/// Counts as sent each command that comes next for a side, until something else comes next, and answers their bytes.
+/// Counts as sent each command that comes next for a side, until something else comes next, and returns their bytes.
 pub fn take_commands(game: &mut Match, side: Side) -> CommandsText
     ensures { TakesAll game.old side result.items game.new }
 {

@@ -28,7 +28,7 @@ impl<P: Conversation> Sides<P> {
         }
     }
 
-    /// Puts a side's process, and answers the one that it had.
+    /// Puts a side's process, and returns the one that it had.
     pub fn replace(&mut self, side: Side, process: P) -> Option<P>
         ensures put { process_of self.new side ≡ Some process }
         ensures had { result ≡ process_of self.old side }

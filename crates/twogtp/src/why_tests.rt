@@ -1,6 +1,7 @@
 //! Why a side is lost, as it is told on standard error.
 use crate::equal::{assert_equal, assert_equal_for};
-use crate::fakes::{Full, InMemory, Log, Narrow};
+use crate::fakes::{Full, InMemory, Log, Narrow, Talk};
+use crate::laws;
 use crate::run::run;
 use crate::why_text::shown_for_test;
 use std::alloc::Global;
@@ -234,4 +235,9 @@ fn bytes_that_are_not_printable_are_escaped(rt: HostRuntime) -> Result<(), Fail>
     let text = " A~\\\"\\\\\\n\\r\\t\\x00\\x1B\\x7F\\xFF";
     assert_equal(&rt, str::from_utf8(shown.as_slice())?, text);
     Ok(())
+}
+
+#[test]
+fn the_law_of_lines_can_be_cited(_rt: HostRuntime) {
+    laws::losses_have_lines::<Talk>();
 }
