@@ -68,6 +68,7 @@ def drawn_order(size, seed):
 class Faulty:
     """One life of the engine."""
 
+    takes_all = False  # of what it is told
     status = 0  # with which it ends
 
     def __init__(self, seed, passes, style, plan, life):
