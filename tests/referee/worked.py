@@ -420,9 +420,10 @@ def questions_of_time():
     # Black is started again after 10 moves: its script has 13 commands, of which eight are sent at once, and then as many as there were
     # replies in the read before. There are answers behind to no more commands than were sent.
     again = "1/g6//ends,2/"
+    third = 'unanswered from "3 clear_board"'
     ended = "its output ended, exit status 0"
     for plan, told in [
-        ("c3/hello/on", [losses(f'{last - 2} unanswered from "3 clear_board"', NO_REPLY, answering("hello", 4, last)) for last in (8, 9, 10)]),
+        ("c3/hello/on", [losses(f'{sent - 2} {third}', NO_REPLY, answering("hello", 4, sent)) for sent in (8, 9, 10)]),
         ("c13/hello/on", [losses('1 unanswered from "13 play w pass"', NO_REPLY, ["hello"])]),
         (r"0/hello\n/on", [losses('8 unanswered from "1 boardsize 9"', NO_REPLY, answering(r"hello\n", 1, 8))]),
         ("c1//ends", [losses('8 unanswered from "1 boardsize 9"', ended, [""])]),
