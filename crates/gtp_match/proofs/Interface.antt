@@ -35,3 +35,7 @@ pub use Rattle.gtp_match.proofs.ScriptLemmas.{script_longer, past_length}
 pub use Rattle.gtp_match.proofs.OpeningLemmas.{untouched}
 -- A command that a sound match sends can be written, and is one line.
 pub use Rattle.gtp_match.proofs.LimitLemmas.{next_written, sent_line}
+-- Of bytes that are heard, a loss is told exactly where a side is lost: of one call, and of all of a read.
+pub use Rattle.gtp_match.proofs.ToldLemmas.{once_told, all_told}
+-- Of all bytes of a piece, a loss is told exactly where a side is lost.
+pub use Rattle.gtp_match.proofs.ToldLemmas.{all_told}

@@ -30,4 +30,5 @@ pub mod CauseLemmas
 pub mod CountLemmas
 pub mod LosingLemmas
 pub mod LostLemmas
+pub mod ToldLemmas
 pub mod TellingLemmas

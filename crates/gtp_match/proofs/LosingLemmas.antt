@@ -4,7 +4,7 @@ use Rattle.std.proofs.Common.{refl, ap, sym, subst, arith}
 use Rattle.std.specs.Prelude.{option_map, IfSome}
 use Rattle.std.proofs.Math.Seq.{take-append-add}
 use Rattle.go_base.specs.declared.colours.Colour.{Colour}
-use Rattle.gtp_wire.specs.Replies.{ReadsFirst, with_reply}
+use Rattle.gtp_wire.specs.Replies.{ReadsFirst}
 use Rattle.gtp_wire.specs.declared.replies.Reply.{Reply}
 use Rattle.gtp_wire.specs.declared.replies.ReplyFault.{ReplyFault}
 use Rattle.gtp_match.specs.declared.controller.Controller.{Controller}
@@ -15,8 +15,8 @@ use Rattle.gtp_match.specs.Hearing.{side_fault}
 use Rattle.gtp_match.specs.declared.sides.Incarnation.{Incarnation}
 use Rattle.gtp_match.specs.declared.verdicts.Verdict.{Verdict}
 use Rattle.gtp_match.specs.Conditions.{MayHear, MayReply, MayBeAnswered}
-use Rattle.gtp_match.specs.Feeding.{CauseTold}
-use Rattle.gtp_match.specs.Losing.{Loses, LosesUp, LosesWhere, by_reply, by_fault, nothing_yet, loss_of}
+use Rattle.gtp_match.specs.Losing.{HasCause, Loses, LosesUp, LosesWhere, by_reply, by_fault, nothing_yet, loss_of}
+use Rattle.gtp_match.specs.ReplyTable.{outcome}
 use Rattle.gtp_match.specs.Sides.{side_of}
 use Rattle.gtp_match.specs.Unanswered.{oldest}
 
@@ -53,20 +53,6 @@ loses_over c side bytes v over =
     let Q : Option Verdict → Type 0 = λ o. LosesWhere c side bytes o (side_of c.sides side).up None in
     subst Q (sym over) refl
 
--- what was told of the bytes has a cause, or none
-pub loses_told : (c : Controller) (side : Colour) (engine : Incarnation) (bytes : List ℕ) (used : ℕ) (reply : Reply)
-    (got : Option (Result (Unit {0}) ReplyFault)) (new : List ℕ) (cause : Option LossCause)
-    → ReadsFirst engine.rest bytes used (option_map (with_reply reply) got) new
-    → CauseTold c side engine reply got cause
-    → LosesUp c side engine bytes (option_map (loss_of engine (engine.rest ++ take used bytes)) cause)
-loses_told c side engine bytes used reply None new cause reads told = rw told (nothing_yet reads.nothing)
-loses_told c side engine bytes used reply (Some (Ok written)) new cause reads told =
-    subst (λ (text : List ℕ). LosesUp c side engine bytes (option_map (loss_of engine text) cause))
-    (take-append-add engine.rest bytes used) (by_reply cause reads.first told)
-loses_told c side engine bytes used reply (Some (Err fault)) new cause reads told =
-    rw told (subst (λ (text : List ℕ). LosesUp c side engine bytes (Some (loss_of engine text (Shows (side_fault fault)))))
-    (take-append-add engine.rest bytes used) (by_fault reads.first))
-
 -- so an engine that is up may be answered
 pub may_answer : (c : Controller) (side : Colour) (engine : Incarnation) → MayHear c side
     → (side_of c.sides side).up ≡ Some engine
@@ -76,14 +62,39 @@ may_answer c side engine may up =
     subst (λ (u : Option Incarnation). IfSome u (MayReply c.game)) up may.engine in
     reply.answered
 
--- the same of a side, before any verdict
-pub loses_with : (c : Controller) (side : Colour) (engine : Incarnation) (held bytes : List ℕ) (used : ℕ) (reply : Reply)
-    (got : Option (Result (Unit {0}) ReplyFault)) (new : List ℕ) (cause : Option LossCause)
+-- ---- what a reader told, of an engine that is up and before any verdict
+
+-- a reply loses its side by the cause of its outcome, if that has one
+pub reply_loses : (c : Controller) (side : Colour) (engine : Incarnation) (held bytes : List ℕ) (used : ℕ)
+    (told : Option (Result Reply ReplyFault)) (new : List ℕ) (reply : Reply) (cause : Option LossCause)
     → c.verdict ≡ None → (side_of c.sides side).up ≡ Some engine → held ≡ engine.rest
-    → ReadsFirst held bytes used (option_map (with_reply reply) got) new
-    → CauseTold c side engine reply got cause
+    → ReadsFirst held bytes used told new → told ≡ Some (Ok reply)
+    → HasCause c side engine reply (outcome c.game side (oldest engine.unanswered) reply) cause
     → Loses c side bytes (option_map (loss_of engine (engine.rest ++ take used bytes)) cause)
-loses_with c side engine held bytes used reply got new cause none up same reads told =
+reply_loses c side engine held bytes used told new reply cause none up same reads is has =
+    let R : List ℕ → Option (Result Reply ReplyFault) → Type 0 = λ text answer. ReadsFirst text bytes used answer new in
+    let mine : R engine.rest (Some (Ok reply)) = subst (R engine.rest) is (subst (λ text. R text told) same reads) in
     loses_up c side engine bytes _ none up
-    (loses_told c side engine bytes used reply got new cause
-    (subst (λ (text : List ℕ). ReadsFirst text bytes used (option_map (with_reply reply) got) new) same reads) told)
+    (subst (λ (text : List ℕ). LosesUp c side engine bytes (option_map (loss_of engine text) cause))
+    (take-append-add engine.rest bytes used) (by_reply cause mine.first has))
+
+-- a fault loses its side, and all that was heard is shown
+pub fault_loses : (c : Controller) (side : Colour) (engine : Incarnation) (held bytes : List ℕ) (used : ℕ)
+    (told : Option (Result Reply ReplyFault)) (new : List ℕ) (fault : ReplyFault)
+    → c.verdict ≡ None → (side_of c.sides side).up ≡ Some engine → held ≡ engine.rest
+    → ReadsFirst held bytes used told new → told ≡ Some (Err fault)
+    → Loses c side bytes (Some (loss_of engine (engine.rest ++ bytes) (Shows (side_fault fault))))
+fault_loses c side engine held bytes used told new fault none up same reads is =
+    let R : List ℕ → Option (Result Reply ReplyFault) → Type 0 = λ text answer. ReadsFirst text bytes used answer new in
+    let mine : R engine.rest (Some (Err fault)) = subst (R engine.rest) is (subst (λ text. R text told) same reads) in
+    loses_up c side engine bytes _ none up (by_fault mine.first)
+
+-- where nothing is told yet, nothing is lost
+pub quiet_loses : (c : Controller) (side : Colour) (engine : Incarnation) (held bytes : List ℕ) (used : ℕ)
+    (told : Option (Result Reply ReplyFault)) (new : List ℕ)
+    → c.verdict ≡ None → (side_of c.sides side).up ≡ Some engine → held ≡ engine.rest
+    → ReadsFirst held bytes used told new → told ≡ None → Loses c side bytes None
+quiet_loses c side engine held bytes used told new none up same reads is =
+    let R : List ℕ → Option (Result Reply ReplyFault) → Type 0 = λ text answer. ReadsFirst text bytes used answer new in
+    let mine : R engine.rest None = subst (R engine.rest) is (subst (λ text. R text told) same reads) in
+    loses_up c side engine bytes _ none up (nothing_yet mine.nothing)

@@ -1,6 +1,6 @@
--- A loss is told exactly where a side is lost.
+-- Of bytes that are heard once, a loss is told exactly where they show a fault or a side is blamed.
 use Rattle.std.proofs.Common.{◌≡◌, ℕ, ◌+◌, List, ◌++◌, length, take, Option, Some, None, Ok, Err, Bool, true, false}
-use Rattle.std.proofs.Common.{refl, sym, ◌∙◌, ap, subst, cond, inl, inr}
+use Rattle.std.proofs.Common.{refl, sym, subst, cond, inl, inr}
 use Rattle.std.specs.Prelude.{◌↔◌, ◌==◌, ℤ, IsSome, option_map}
 use Rattle.go_base.specs.Colour.{other}
 use Rattle.go_base.specs.Decide.{holds}
@@ -15,9 +15,8 @@ use Rattle.gtp_wire.proofs.ReplyLaws.{one_first}
 use Rattle.gtp_wire.specs.declared.commands.Command.{Command}
 use Rattle.gtp_wire.specs.declared.commands.Command.TheVariants as command
 use Rattle.gtp_wire.specs.declared.replies.Reply.{Reply}
-use Rattle.gtp_match.specs.Hearing.{KeepsAll, HearsUp, IsIgnored, HearsWhere, HearsExactly}
-use Rattle.gtp_match.specs.Losing.{HasCause, BreaksRule, loss_of, Loses, LosesUp, LosesWhere, by_reply, by_fault, nothing_yet}
-use Rattle.gtp_match.specs.Losing.{LosesSide}
+use Rattle.gtp_match.specs.Hearing.{KeepsAll, HearsUp}
+use Rattle.gtp_match.specs.Losing.{HasCause, BreaksRule, loss_of, LosesUp, by_reply, by_fault, nothing_yet}
 use Rattle.gtp_match.specs.ReplyTable.{outcome, outcome_of, genmove_outcome, choice_outcome, script_outcome, play_outcome}
 use Rattle.gtp_match.specs.ReplyTable.{undo_outcome, has_id, after_outcome, fault_of, refused, retaken_at}
 use Rattle.gtp_match.specs.ReplyWords.{choice_of_text}
@@ -39,6 +38,13 @@ use Rattle.gtp_match.specs.declared.verdicts.SideFault.{SideFault}
 use Rattle.gtp_match.specs.declared.verdicts.SideFault.TheVariants.{WrongId}
 use Rattle.gtp_match.specs.declared.verdicts.Verdict.{Verdict}
 use Rattle.gtp_match.specs.declared.verdicts.Verdict.TheVariants as verdict
+
+-- Bytes show a fault; or there was no verdict, and by the new one a side forfeits or is unfit.
+pub data LosesBy (c new : Controller) (fault : Option SideFault) : Type 0 where
+  shows : IsSome fault → LosesBy c new fault
+  forfeits : {loser : Colour} {cause : ForfeitCause} → c.verdict ≡ None → new.verdict ≡ Some (verdict.Forfeit loser cause)
+      → LosesBy c new fault
+  is_unfit : {loser : Colour} → c.verdict ≡ None → new.verdict ≡ Some (verdict.Unfit loser) → LosesBy c new fault
 
 -- ---- an illegal move
 
@@ -129,16 +135,16 @@ end_of_moves false true n = ((λ s cause e. cc), (λ s e. cc))
 end_of_moves false false n = ((λ s cause e. cc), (λ s e. cc))
 
 none_lost : (c new : Controller) (fault : Option SideFault) → fault ≡ None
-    → (c.verdict ≡ None → IsNoBlame new.verdict) → LosesSide c new fault → ⊥
-none_lost c new fault none blame (LosesSide.goes_down some) =
+    → (c.verdict ≡ None → IsNoBlame new.verdict) → LosesBy c new fault → ⊥
+none_lost c new fault none blame (LosesBy.shows some) =
     let no : IsSome {T = SideFault} None = subst (λ (f : Option SideFault). IsSome f) none some in absurd (cc)
-none_lost c new fault none blame (LosesSide.forfeits {loser = s} {cause = cause} before given) =
+none_lost c new fault none blame (LosesBy.forfeits {loser = s} {cause = cause} before given) =
     (blame before).0 s cause given
-none_lost c new fault none blame (LosesSide.is_unfit {loser = s} before given) = (blame before).1 s given
+none_lost c new fault none blame (LosesBy.is_unfit {loser = s} before given) = (blame before).1 s given
 
 -- nothing is told, and no side is lost
 neither : {A : Type 0} (told : Option A) (c new : Controller) (fault : Option SideFault) → told ≡ None → fault ≡ None
-    → (c.verdict ≡ None → IsNoBlame new.verdict) → IsSome told ↔ LosesSide c new fault
+    → (c.verdict ≡ None → IsNoBlame new.verdict) → IsSome told ↔ LosesBy c new fault
 neither {A} told c new fault nothing none blame = (
   (λ some. let no : IsSome {T = A} None = subst (λ (o : Option A). IsSome o) nothing some in absurd (cc)),
   (λ lost. absurd (none_lost c new fault none blame lost)),
@@ -146,7 +152,7 @@ neither {A} told c new fault nothing none blame = (
 
 -- something is told, and a side is lost
 both : {A : Type 0} (told : Option A) (c new : Controller) (fault : Option SideFault) → IsSome told
-    → LosesSide c new fault → IsSome told ↔ LosesSide c new fault
+    → LosesBy c new fault → IsSome told ↔ LosesBy c new fault
 both told c new fault some lost = ((λ x. lost), (λ x. some))
 
 is_told : {A : Type 0} (told : Option A) (x : A) → told ≡ Some x → IsSome told
@@ -156,19 +162,19 @@ is_told {A} told x e = subst (λ (o : Option A). IsSome o) (sym e) refl
 
 abbrev CauseIsLoss : Controller → Colour → Incarnation → Outcome → Option LossCause → Type 0
 CauseIsLoss c side engine o cause =
-    IsSome cause ↔ LosesSide c (after_outcome c side (heard_reply engine) o) (fault_of o)
+    IsSome cause ↔ LosesBy c (after_outcome c side (heard_reply engine) o) (fault_of o)
 
 refused_is : (c : Controller) (side : Colour) (engine : Incarnation) (cause : Option LossCause) (may : Bool)
     → c.verdict ≡ None → cause ≡ cond may None (Some RefusesPlay)
-    → IsSome cause ↔ LosesSide c (refused c side (heard_reply engine) may) None
+    → IsSome cause ↔ LosesBy c (refused c side (heard_reply engine) may) None
 refused_is c side engine cause false none e =
-    both cause c _ None (is_told cause RefusesPlay e) (LosesSide.forfeits none refl)
+    both cause c _ None (is_told cause RefusesPlay e) (LosesBy.forfeits none refl)
 refused_is c side engine cause true none e = by_held (has_all c.game (side_of c.sides (other side)).up)
   where
     stays : IsNoBlame c.verdict
     stays = subst IsNoBlame (sym none) no_verdict
 
-    by_held : (held : Bool) → IsSome cause ↔ LosesSide c (retaken_at c side (heard_reply engine) held) None
+    by_held : (held : Bool) → IsSome cause ↔ LosesBy c (retaken_at c side (heard_reply engine) held) None
     by_held true = neither cause c _ None e refl (λ x. stays)
     by_held false = neither cause c _ None e refl (λ x. stays)
 
@@ -176,20 +182,20 @@ cause_is_loss : (c : Controller) (side : Colour) (engine : Incarnation) (reply :
     (cause : Option LossCause) → c.verdict ≡ None → outcome c.game side (oldest engine.unanswered) reply ≡ o
     → HasCause c side engine reply o cause → CauseIsLoss c side engine o cause
 cause_is_loss c side engine reply (Down fault) cause none e is =
-    both cause c _ (Some fault) (is_told cause _ is) (LosesSide.goes_down refl)
+    both cause c _ (Some fault) (is_told cause _ is) (LosesBy.shows refl)
 cause_is_loss c side engine reply Unfit cause none e is =
-    both cause c _ None (is_told cause _ is) (LosesSide.is_unfit none refl)
+    both cause c _ None (is_told cause _ is) (LosesBy.is_unfit none refl)
 cause_is_loss c side engine reply (Forfeits RefusedPlay) cause none e is =
-    both cause c _ None (is_told cause _ is) (LosesSide.forfeits none refl)
+    both cause c _ None (is_told cause _ is) (LosesBy.forfeits none refl)
 cause_is_loss c side engine reply (Forfeits NoMove) cause none e is =
-    both cause c _ None (is_told cause _ is) (LosesSide.forfeits none refl)
+    both cause c _ None (is_told cause _ is) (LosesBy.forfeits none refl)
 cause_is_loss c side engine reply (Forfeits NoVertex) cause none e is =
-    both cause c _ None (is_told cause _ is) (LosesSide.forfeits none refl)
+    both cause c _ None (is_told cause _ is) (LosesBy.forfeits none refl)
 cause_is_loss c side engine reply (Forfeits IllegalMove) cause none e is =
     both cause c _ None
     (rule_broken c.game side (choice_of_text reply.text.items) cause
     (move_illegal c.game side (oldest engine.unanswered) reply e) is)
-    (LosesSide.forfeits none refl)
+    (LosesBy.forfeits none refl)
 cause_is_loss c side engine reply Confirms cause none e is =
     neither cause c _ None is refl (λ x. subst IsNoBlame (sym none) no_verdict)
 cause_is_loss c side engine reply Resigns cause none e is = neither cause c _ None is refl (λ x. resigned side)
@@ -201,9 +207,9 @@ cause_is_loss c side engine reply Refuses cause none e is =
 cause_is_loss c side engine reply TakesBack cause none e is =
     neither cause c _ None is refl (λ x. subst IsNoBlame (sym none) no_verdict)
 cause_is_loss c side engine reply Keeps cause none e is =
-    both cause c _ None (is_told cause _ is) (LosesSide.forfeits none refl)
+    both cause c _ None (is_told cause _ is) (LosesBy.forfeits none refl)
 
--- ---- all bytes
+-- ---- an engine that is up
 
 -- a cause is told of where there is one
 told_with : (engine : Incarnation) (text : List ℕ) (cause : Option LossCause) (X : Type 0) → IsSome cause ↔ X
@@ -211,14 +217,14 @@ told_with : (engine : Incarnation) (text : List ℕ) (cause : Option LossCause) 
 told_with engine text None X h = h
 told_with engine text (Some x) X h = h
 
-up_told : (c new : Controller) (side : Colour) (engine : Incarnation) (bytes : List ℕ) (used : ℕ)
+pub up_told : (c new : Controller) (side : Colour) (engine : Incarnation) (bytes : List ℕ) (used : ℕ)
     (fault : Option SideFault) (loss : Option Loss) → c.verdict ≡ None
     → HearsUp KeepsAll c side engine bytes used fault new → LosesUp c side engine bytes loss
-    → IsSome loss ↔ LosesSide c new fault
+    → IsSome loss ↔ LosesBy c new fault
 up_told c new side engine bytes used fault loss none (HearsUp.replied {value = x} p) (by_reply {count = n} {value = y} cause q has) =
     let e = one_first (engine.rest ++ bytes) (length engine.rest + used) n (Ok x) (Ok y) p q in
     let same : y ≡ x = cc in
-    told_with engine (take n (engine.rest ++ bytes)) cause (LosesSide c new fault)
+    told_with engine (take n (engine.rest ++ bytes)) cause (LosesBy c new fault)
     (cause_is_loss c side engine x (outcome c.game side (oldest engine.unanswered) x) cause none refl
     (subst (λ (r : Reply). HasCause c side engine r (outcome c.game side (oldest engine.unanswered) r) cause) same has))
 up_told c new side engine bytes used fault loss none (HearsUp.replied {value = x} p) (by_fault {count = n} {shown = y} q) =
@@ -228,7 +234,7 @@ up_told c new side engine bytes used fault loss none (HearsUp.replied {value = x
 up_told c new side engine bytes used fault loss none (HearsUp.faulted {shown = x} p) (by_reply {count = n} {value = y} cause q has) =
     let e = one_first (engine.rest ++ bytes) (length engine.rest + used) n (Err x) (Ok y) p q in absurd (cc)
 up_told c new side engine bytes used fault loss none (HearsUp.faulted {shown = x} p) (by_fault q) =
-    both loss c new fault refl (LosesSide.goes_down refl)
+    both loss c new fault refl (LosesBy.shows refl)
 up_told c new side engine bytes used fault loss none (HearsUp.faulted {shown = x} p) (nothing_yet nothing) =
     absurd (nothing (length engine.rest + used) (Err x) p.inside p.told)
 up_told c new side engine bytes used fault loss none (HearsUp.nothing_yet nothing is) (by_reply {count = n} {value = y} cause q has) =
@@ -237,23 +243,3 @@ up_told c new side engine bytes used fault loss none (HearsUp.nothing_yet nothin
     absurd (nothing n (Err y) q.inside q.told)
 up_told c new side engine bytes used fault loss none (HearsUp.nothing_yet nothing is) (nothing_yet also) =
     neither loss c new fault refl refl (λ x. subst IsNoBlame (sym none) no_verdict)
-
--- what is ignored loses nobody
-deaf_told : (c new : Controller) (bytes : List ℕ) (used : ℕ) (fault : Option SideFault) (loss : Option Loss)
-    → loss ≡ None → IsIgnored KeepsAll c bytes used fault new → IsSome loss ↔ LosesSide c new fault
-deaf_told c new bytes used fault loss nothing ignored =
-    neither loss c new fault nothing ignored.no_fault
-    (λ none. subst IsNoBlame (sym none ∙ sym (ap (λ (x : Controller). x.verdict) ignored.same)) no_verdict)
-
-pub losses_are_told : (c new : Controller) (side : Colour) (bytes : List ℕ) (used : ℕ) (fault : Option SideFault)
-    (loss : Option Loss) → HearsExactly c side bytes used fault new → Loses c side bytes loss
-    → IsSome loss ↔ LosesSide c new fault
-losses_are_told c new side bytes used fault loss hears loses =
-    by_state c.verdict (side_of c.sides side).up refl hears loses
-  where
-    by_state : (v : Option Verdict) (up : Option Incarnation) → c.verdict ≡ v
-        → HearsWhere KeepsAll c side bytes v up used fault new → LosesWhere c side bytes v up loss
-        → IsSome loss ↔ LosesSide c new fault
-    by_state (Some v) up is h l = deaf_told c new bytes used fault loss l h
-    by_state None None is h l = deaf_told c new bytes used fault loss l h
-    by_state None (Some engine) is h l = up_told c new side engine bytes used fault loss is h l

@@ -75,7 +75,7 @@ pub up_there : (sides : Sides) (s : Colour) (engine : Incarnation)
 up_there sides Black engine = refl
 up_there sides White engine = refl
 
-down_there : (c : Controller) (s : Colour) → (side_of (downed c s).sides s).up ≡ None
+pub down_there : (c : Controller) (s : Colour) → (side_of (downed c s).sides s).up ≡ None
 down_there c Black = refl
 down_there c White = refl
 

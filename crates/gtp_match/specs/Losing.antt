@@ -1,6 +1,7 @@
 -- Why a side is lost by what it writes: it goes down, is unfit or forfeits. (Own.)
 use Rattle.std.specs.Prelude.{◌≡◌, ◌⊎◌, ◌<◌, ◌↔◌, ℕ, List, [], ◌++◌, length, take, drop, Option, None, Some, IfSome}
 use Rattle.std.specs.Prelude.{IsSome, Ok, Err, option_map, if◌then◌else◌}
+use Rattle.go_base.specs.Colour.{other}
 use Rattle.go_base.specs.declared.choices.Choice.{Choice}
 use Rattle.go_base.specs.declared.choices.Choice.TheVariants as choice
 use Rattle.go_base.specs.declared.colours.Colour.{Colour}
@@ -94,14 +95,14 @@ abbrev pub loss_of : Incarnation → List ℕ → LossCause → Loss
 loss_of engine text cause = record { cause = cause; owed = owed_of engine text }
 
 -- What hearing the bytes once loses, of a side that is up and before any verdict: by the reply that they end, if its
--- outcome has a cause; by the fault that they show; and nothing where they do neither.
+-- outcome has a cause; by the fault that they show; and nothing where they do neither. A reply is shown alone, without
+-- what stands behind it. Of a text that is no reply all is shown that was heard: what was kept, and all of these bytes.
 pub data LosesUp (c : Controller) (side : Colour) (engine : Incarnation) (bytes : List ℕ) : Option Loss → Type 0 where
   by_reply : {count : ℕ} {value : Reply} (cause : Option LossCause) → IsFirst (engine.rest ++ bytes) count (Ok value)
       → HasCause c side engine value (outcome c.game side (oldest engine.unanswered) value) cause
       → LosesUp c side engine bytes (option_map (loss_of engine (take count (engine.rest ++ bytes))) cause)
   by_fault : {count : ℕ} {shown : ReplyFault} → IsFirst (engine.rest ++ bytes) count (Err shown)
-      → LosesUp c side engine bytes
-      (Some (loss_of engine (take count (engine.rest ++ bytes)) (Shows (side_fault shown))))
+      → LosesUp c side engine bytes (Some (loss_of engine (engine.rest ++ bytes) (Shows (side_fault shown))))
   nothing_yet : TellsNothing (engine.rest ++ bytes) → LosesUp c side engine bytes None
 
 -- a side that is down loses nothing, nor does any side after a verdict
@@ -138,17 +139,31 @@ HearsAllTelling side c bytes loss new = (shown : Option SideFault) × HearsTelli
 
 -- ---- what loses a side
 
--- Bytes that were heard lose a side: they show a fault, which puts it down; or there was no verdict, and by them a side
--- forfeits or is unfit.
-pub data LosesSide (c new : Controller) (fault : Option SideFault) : Type 0 where
-  goes_down : IsSome fault → LosesSide c new fault
-  forfeits : {loser : Colour} {cause : ForfeitCause} → c.verdict ≡ None → new.verdict ≡ Some (verdict.Forfeit loser cause)
-      → LosesSide c new fault
-  is_unfit : {loser : Colour} → c.verdict ≡ None → new.verdict ≡ Some (verdict.Unfit loser) → LosesSide c new fault
+-- the side was up, and is down
+abbrev pub GoesDown : Controller → Controller → Colour → Type 0
+GoesDown c new side = IsSome (side_of c.sides side).up × ((side_of new.sides side).up ≡ None)
 
--- Of bytes that are heard once, a loss is told exactly where they lose a side.
-abbrev pub LossesAreTold : Type 0
-LossesAreTold =
-    (c new : Controller) (side : Colour) (bytes : List ℕ) (used : ℕ) (fault : Option SideFault) (loss : Option Loss)
-    → HearsExactly c side bytes used fault new → Loses c side bytes loss
-    → IsSome loss ↔ LosesSide c new fault
+-- A side is lost: it goes down; or there was no verdict, and by the new one a side forfeits or is unfit.
+pub data LosesSide (c new : Controller) : Type 0 where
+  goes_down : (side : Colour) → GoesDown c new side → LosesSide c new
+  forfeits : {loser : Colour} {cause : ForfeitCause} → c.verdict ≡ None → new.verdict ≡ Some (verdict.Forfeit loser cause)
+      → LosesSide c new
+  is_unfit : {loser : Colour} → c.verdict ≡ None → new.verdict ≡ Some (verdict.Unfit loser) → LosesSide c new
+
+-- what a match tells of bytes of this side that were heard
+pub record IsTold (side : Colour) (c new : Controller) (fault : Option SideFault) (loss : Option Loss) : Type 0 where
+  -- a loss is told exactly where a side is lost
+  pub exact : IsSome loss ↔ LosesSide c new
+  -- a fault is shown exactly where this side goes down
+  pub down : IsSome fault ↔ GoesDown c new side
+  -- the other side stays as it is, so that one never goes down
+  pub other_stays : side_of new.sides (other side) ≡ side_of c.sides (other side)
+
+-- This holds of bytes that are heard once, and of all bytes of a piece, which are heard reply by reply. It has no
+-- premise: once a verdict was given no side is lost by what is heard, and nothing is told.
+pub record LossesAreTold : Type 0 where
+  pub once : (c new : Controller) (side : Colour) (bytes : List ℕ) (used : ℕ) (fault : Option SideFault)
+      (loss : Option Loss) → HearsExactly c side bytes used fault new → Loses c side bytes loss
+      → IsTold side c new fault loss
+  pub all : (c new : Controller) (side : Colour) (bytes : List ℕ) (fault : Option SideFault) (loss : Option Loss)
+      → HearsTelling side c bytes fault loss new → IsTold side c new fault loss

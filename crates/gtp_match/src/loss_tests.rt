@@ -136,11 +136,64 @@ fn is_illegal(rt: &impl Abort, moves: &[&[u8]], line: &[u8], bytes: &[u8], fault
 }
 
 #[test]
-fn a_fault_is_told_with_the_bytes_that_show_it(rt: HostRuntime) {
+fn of_a_text_that_is_no_reply_all_is_shown(rt: HostRuntime) {
     let cause = LossCause::Shows(SideFault::NoStatus);
-    first_loses(&rt, b"hello", cause, b"h");
-    first_loses(&rt, b"\n\r\nhello", cause, b"\n\r\nh");
-    first_loses(&rt, b"\xe4\x00", cause, b"\xe4");
+    first_loses(&rt, b"h", cause, b"h");
+    first_loses(&rt, b"hello", cause, b"hello");
+    first_loses(&rt, b"\n\r\nhello", cause, b"\n\r\nhello");
+    first_loses(&rt, b"\xe4\x00", cause, b"\xe4\x00");
+    let greeting = b"Welcome to MyGo 1.0\n";
+    first_loses(&rt, greeting, cause, greeting);
+    // Also what would be a reply, behind it.
+    let both = b"MyGo 1.0\n=1\n\n";
+    first_loses(&rt, both, cause, both);
+}
+
+#[test]
+fn of_a_long_greeting_the_first_80_bytes_are_kept(rt: HostRuntime) {
+    let cause = LossCause::Shows(SideFault::NoStatus);
+    first_loses(&rt, &[b'W'; 80], cause, &[b'W'; 80]);
+    first_loses(&rt, &[b'W'; 81], cause, &[b'W'; 80]);
+    first_loses(&rt, &[b'W'; 9000], cause, &[b'W'; 80]);
+    // 76 newlines were heard before, so four letters are left of the 80 bytes.
+    let mut played = first_sent(&rt, 1);
+    goes_on(&rt, &mut played, Side::Black, &[b'\n'; 76]);
+    let mut shown = [b'\n'; 80];
+    for (place, byte) in shown.iter_mut().skip(76).zip(b"hell") {
+        *place = *byte;
+    }
+    loses(
+        &rt,
+        &mut played,
+        Side::Black,
+        b"hello",
+        cause,
+        (1, b"1 boardsize 2\n", shown.as_slice()),
+    );
+}
+
+#[test]
+fn of_a_greeting_behind_a_reply_all_is_shown_but_the_reply(rt: HostRuntime) {
+    let mut played = first_sent(&rt, 1);
+    loses(
+        &rt,
+        &mut played,
+        Side::Black,
+        b"=1\n\nWelcome to MyGo 1.0\n",
+        LossCause::Shows(SideFault::NoStatus),
+        (0, b"", b"Welcome to MyGo 1.0\n"),
+    );
+    let mut played = first_sent(&rt, 1);
+    send(&rt, &mut played, Side::Black, b"2 komi 0\n");
+    goes_on(&rt, &mut played, Side::Black, b"=1 a");
+    loses(
+        &rt,
+        &mut played,
+        Side::Black,
+        b" size\n\n\nWelcome",
+        LossCause::Shows(SideFault::NoStatus),
+        (1, b"2 komi 0\n", b"\nWelcome"),
+    );
 }
 
 #[test]
@@ -314,7 +367,7 @@ fn of_two_replies_in_one_piece_the_one_that_loses_is_told(rt: HostRuntime) {
 }
 
 #[test]
-fn a_reply_in_two_pieces_is_told_with_the_bytes_of_both(rt: HostRuntime) {
+fn a_text_in_two_pieces_is_told_with_the_bytes_of_both(rt: HostRuntime) {
     let mut played = first_sent(&rt, 1);
     goes_on(&rt, &mut played, Side::Black, b"?1 n");
     loses(
@@ -333,7 +386,7 @@ fn a_reply_in_two_pieces_is_told_with_the_bytes_of_both(rt: HostRuntime) {
         Side::Black,
         b"\nhello",
         LossCause::Shows(SideFault::NoStatus),
-        (1, b"1 boardsize 2\n", b"\n \nh"),
+        (1, b"1 boardsize 2\n", b"\n \nhello"),
     );
 }
 
@@ -388,7 +441,7 @@ fn what_comes_after_a_loss_is_not_told(rt: HostRuntime) {
         Side::Black,
         b"hello\n?1 no\n\n",
         LossCause::Shows(SideFault::NoStatus),
-        (1, b"1 boardsize 2\n", b"h"),
+        (1, b"1 boardsize 2\n", b"hello\n?1 no\n\n"),
     );
     goes_on(&rt, &mut played, Side::Black, b"?1 no\n\n");
 }

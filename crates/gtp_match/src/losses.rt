@@ -55,7 +55,8 @@ pub struct Loss {
     /// Why.
     pub cause: LossCause,
     /// What it owed when its bytes ended the reply, or showed the fault, that loses it. The bytes are those of this
-    /// reply, or those up to the fault.
+    /// reply, without what stands behind it. Where they are no reply, they are all that was heard since the last whole
+    /// reply, also what stands behind the fault.
     pub owed: Owed,
 }
 

@@ -1,3 +1,4 @@
+mod LossLemmas
 mod OptionLemmas
 mod PipeLemmas
 mod PlanLemmas

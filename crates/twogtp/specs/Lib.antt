@@ -1,3 +1,4 @@
+pub mod Losses
 pub mod Options
 pub mod Pipes
 pub mod Processes

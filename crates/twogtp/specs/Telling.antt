@@ -18,10 +18,9 @@ use Rattle.twogtp.specs.declared.task.Task.{Task}
 use Rattle.twogtp.specs.Options.{AsksFor, AsksForText, HasFault}
 use Rattle.twogtp.specs.Pipes.{TakesPart}
 use Rattle.twogtp.specs.Processes.{no_processes}
-use Rattle.twogtp.specs.Status.{IsRequest, done, own_fault, status_with}
+use Rattle.twogtp.specs.Status.{IsRequest, TellsFault, done, own_fault, status_with}
 use Rattle.twogtp.specs.Tasks.{IsMistake, IsPlanOf}
 use Rattle.twogtp.specs.Turns.{HasStopped, IsPlayed, Seen, seen, told_as}
-use Rattle.twogtp.specs.Starts.{Attempts}
 
 -- the record's line, where it is asked for
 abbrev pub record_part : Bool → Controller → List ℕ
@@ -86,19 +85,20 @@ abbrev pub HasTold : {P : Type 0} → Ghosts P → Commands → Task → ℕ →
 HasTold known commands task status held holds had has =
     HasToldSome known commands task task.games status held holds had has
 
--- After so many games nothing more was asked for, or the next one was begun, and stopped before its end.
+-- Why no more is told after so many games. The writer broke at them, and nothing more was asked for; or the next one was
+-- begun, and stopped before its end.
 pub data GoesOn {P : Type 0} (known : Ghosts P) (commands : Commands) (task : Task) (number : ℕ) (had : Seen P)
-    : Seen P → Type 0 where
-  no_game_more : GoesOn known commands task number had had
+    : Seen P → Fault → Type 0 where
+  no_game_more : GoesOn known commands task number had had Write
   begins : {has : Seen P} {last : Controller} {fault : Fault}
       → number + 1 ≤ task.games
       → HasStopped known commands (told_as task.why (number + 1)) (new task.setup) no_processes had has last fault
-      → GoesOn known commands task number had has
+      → GoesOn known commands task number had has fault
 
 -- Some games were played, a writer took the beginning of what is told of them, and nothing else was asked for than
--- they ask for, and the beginning of the next one.
+-- they ask for, and the beginning of the next one. Then this fault was met.
 pub record HasBegunToTell {P : Type 0} (known : Ghosts P) (commands : Commands) (task : Task)
-    (held holds : Option (List ℕ)) (had has : Seen P) : Type 0 where
+    (held holds : Option (List ℕ)) (had has : Seen P) (fault : Fault) : Type 0 where
   pub number : ℕ
   pub status : ℕ
   pub text : List ℕ
@@ -106,7 +106,7 @@ pub record HasBegunToTell {P : Type 0} (known : Ghosts P) (commands : Commands) 
   pub within : number ≤ task.games
   pub tells : Tells known commands task had number status text between
   pub taken : TakesPart text held holds
-  pub goes_on : GoesOn known commands task number between has
+  pub goes_on : GoesOn known commands task number between has fault
 
 -- ---- what the words ask for was done
 
@@ -124,14 +124,16 @@ pub record HasDone {P : Type 0} (known : Ghosts P) (words : List Text) (status :
   pub asks : AsksForTask words task
   pub told : HasTold known asks.commands task status held holds had has
 
--- Some games of the task that the words ask for were played, and what is told of them was begun. The faults of the
--- program's own are told behind what was told of lost sides.
+-- Some games of the task that the words ask for were played, and what is told of them was begun, until a fault. The
+-- fault is told behind what was told of lost sides.
 pub record HasBegun {P : Type 0} (known : Ghosts P) (words : List Text) (held holds : Option (List ℕ))
-    (had : Attempts P) (told : Option (List ℕ)) (has : Attempts P) : Type 0 where
+    (had has : Seen P) : Type 0 where
   pub task : Task
   pub asks : AsksForTask words task
-  pub tells : Option (List ℕ)
-  pub begun : HasBegunToTell known asks.commands task held holds (seen had told) (seen has tells)
+  pub losses : Option (List ℕ)
+  pub fault : Fault
+  pub begun : HasBegunToTell known asks.commands task held holds had (seen has.asked losses) fault
+  pub told : TellsFault fault losses has.told
 
 -- ---- texts that were asked for, and mistakes
 
@@ -152,13 +154,15 @@ pub record HasShown (words : List Text) (status : ℕ) (held holds : Option (Lis
   pub text : List ℕ
   pub shown : IsShown text status held holds
 
--- the options that the words ask for have a mistake
-pub record AsksWrongly (words : List Text) : Type 0 where
+-- The options that the words ask for have a mistake. The first one is told.
+pub record AsksWrongly (words : List Text) (held holds : Option (List ℕ)) : Type 0 where
   pub options : Options
   pub asked : AsksFor words options
   pub fault : Fault
   pub mistake : IsMistake options fault
+  pub told : TellsFault fault held holds
 
--- the words have a mistake, or what they ask for has one
-abbrev pub HasMistake : List Text → Type 0
-HasMistake words = ((kind : ErrorKind) × (¬ IsRequest kind) × HasFault words kind) ⊎ AsksWrongly words
+-- The words have a mistake, or what they ask for has one.
+abbrev pub HasMistake : List Text → Option (List ℕ) → Option (List ℕ) → Type 0
+HasMistake words held holds =
+    ((kind : ErrorKind) × (¬ IsRequest kind) × HasFault words kind) ⊎ AsksWrongly words held holds

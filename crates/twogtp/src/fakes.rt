@@ -252,10 +252,12 @@ pub struct Log {
     pub quits: Rc<Cell<u32>>,
     /// How many had been ended when the last `quit` was sent.
     pub ended_by_quit: Rc<Cell<u32>>,
-    /// How many bytes the output had taken when it was last flushed.
+    /// How many bytes a stream with this log had taken when it was last flushed.
     pub flushed: Rc<Cell<usize>>,
     /// The sum of these numbers at each `quit`.
     pub flushed_by_quits: Rc<Cell<usize>>,
+    /// The sum of these numbers at each start.
+    pub flushed_by_starts: Rc<Cell<usize>>,
     /// How many writes went through.
     pub writes: Rc<Cell<u32>>,
     /// How often one was let run before it was read.
@@ -274,6 +276,7 @@ impl Log {
             ended_by_quit: Rc::new(alloc, Cell::new(0))?,
             flushed: Rc::new(alloc, Cell::new(0))?,
             flushed_by_quits: Rc::new(alloc, Cell::new(0))?,
+            flushed_by_starts: Rc::new(alloc, Cell::new(0))?,
             writes: Rc::new(alloc, Cell::new(0))?,
             let_run: Rc::new(alloc, Cell::new(0))?,
             interrupted: Rc::new(alloc, Cell::new(0))?,
@@ -320,6 +323,7 @@ impl Starter for InMemory {
             _ => return Err(StartFault::NotStarted(StartReason::NotFound)),
         };
         add_one(&self.log.started);
+        add(&self.log.flushed_by_starts, self.log.flushed.get());
         if self.log.started.get() == self.refused {
             return Err(StartFault::OutOfMemory);
         }

@@ -1,7 +1,7 @@
 //! The program, over any writers and any means to start processes.
 ghost use Rattle.std.specs.Prelude.{◌≡◌, ◌⊎◌, ◌≢◌, map, true, false, IfOk, IfErr, OnErr};
 ghost use Rattle.clap.specs.Words.{kind_of};
-ghost use Rattle.twogtp.specs.Status.{IsStatus, IsRequest, done, some_given_up, usage_fault};
+ghost use Rattle.twogtp.specs.Status.{IsStatus, IsRequest, TellsFault, done, some_given_up, usage_fault};
 ghost use Rattle.twogtp.specs.Status.{own_fault, status_of, status_with};
 ghost use Rattle.twogtp.specs.Telling.{HasBegun, HasBegunToTell, HasDone, HasMistake, HasShown};
 ghost use Rattle.twogtp.specs.Telling.{HasTold, IsDisplayed};
@@ -24,7 +24,7 @@ use std::io;
 use std::io::Write;
 
 /// Plays the games that the words of the command line ask for, the first of which is the program's name, tells each on
-/// `output`, and answers the status that the program ends with:
+/// `output`, and returns the status that the program ends with:
 ///
 /// - 0 where each game ended by the rules, and where the words ask for help or the version, which goes to `output`;
 /// - 1 where in some game a side was unfit or given up;
@@ -42,8 +42,10 @@ pub fn run<A: AsStr, O: Write, E: Write, S: Starter>(
     ensures status { IsStatus result }
     // After a mistake in the words nothing was started, and nothing written to the output.
     ensures usage { result ≡ usage_fault → HasMistake (map A.text words.now)
+        (E.contents errors.old) (E.contents errors.new)
         × (output.new ≡ output.old) × (starter.new ≡ starter.old) }
-    // Where it isn't asked why engines are lost, nothing is told on standard error.
+    // Where the status is 0 or 1 and it isn't asked why engines are lost, nothing is told on
+    // standard error.
     ensures quiet { (result ≡ done) ⊎ (result ≡ some_given_up) → AsksForNoWhy (map A.text words.now)
         → errors.new ≡ errors.old }
     // All games of the task that the words ask for were played and told; or they ask for help or
@@ -56,14 +58,17 @@ pub fn run<A: AsStr, O: Write, E: Write, S: Starter>(
         (seen (S.asked starter.old) (E.contents errors.old))
         (seen (S.asked starter.new) (E.contents errors.new)) }
     // What was written before the program had to stop is the beginning of what is told, or of the
-    // help or the version.
+    // help or the version. Why it stopped is told last on standard error.
     ensures stopped { result ≡ own_fault →
-        ((starter.new ≡ starter.old) × (output.new ≡ output.old))
+        ((starter.new ≡ starter.old) × (output.new ≡ output.old)
+        × TellsFault Fault.OutOfMemory (E.contents errors.old) (E.contents errors.new))
         ⊎ ((starter.new ≡ starter.old) × HasShown (map A.text words.now) result
-        (O.contents output.old) (O.contents output.new))
+        (O.contents output.old) (O.contents output.new)
+        × TellsFault Fault.Write (E.contents errors.old) (E.contents errors.new))
         ⊎ HasBegun S.Process.Conversation (map A.text words.now)
         (O.contents output.old) (O.contents output.new)
-        (S.asked starter.old) (E.contents errors.old) (S.asked starter.new) }
+        (seen (S.asked starter.old) (E.contents errors.old))
+        (seen (S.asked starter.new) (E.contents errors.new)) }
 {
     let options = match read_options(alloc, words) {
         Ok(options) => options,
@@ -94,7 +99,7 @@ fn play_games<O: Write, E: Write, S: Starter>(
         (seen (S.asked starter.new) (E.contents errors.new))) }
     ensures quiet { task.now.why ≡ false → errors.new ≡ errors.old }
     ensures range { IfOk result (λ status. (status ≡ done) ⊎ (status ≡ some_given_up)) }
-    ensures begun { OnErr result
+    ensures begun { IfErr result
         (HasBegunToTell S.Process.Conversation commands.now task.now
         (O.contents output.old) (O.contents output.new)
         (seen (S.asked starter.old) (E.contents errors.old))
@@ -119,7 +124,7 @@ fn with_verdict(status: u8, verdict: Verdict) -> u8
     }
 }
 
-/// Tells what `clap` answers in place of options, an error of this kind with this text, and answers the status.
+/// Tells what `clap` answers in place of options, an error of this kind with this text, and returns the status.
 fn answer_error<T: Display, W: Write, E: Write>(
     alloc: Global,
     kind: ErrorKind,
@@ -137,9 +142,11 @@ fn answer_error<T: Display, W: Write, E: Write>(
         (W.contents output.old) (W.contents output.new) }
     // A mistake in the words is no fault of the program's own.
     ensures own { result ≡ own_fault →
-        (((kind ≡ ErrorKind.OutOfMemory) ⊎ IsRequest kind) × (output.new ≡ output.old))
+        (((kind ≡ ErrorKind.OutOfMemory) ⊎ IsRequest kind) × (output.new ≡ output.old)
+        × TellsFault Fault.OutOfMemory (E.contents errors.old) (E.contents errors.new))
         ⊎ (IsRequest kind × IsDisplayed (T.output text.now) result
-        (W.contents output.old) (W.contents output.new)) }
+        (W.contents output.old) (W.contents output.new)
+        × TellsFault Fault.Write (E.contents errors.old) (E.contents errors.new)) }
 {
     if kind == ErrorKind::OutOfMemory {
         return tell(Fault::OutOfMemory, errors);

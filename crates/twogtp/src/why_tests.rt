@@ -1,6 +1,6 @@
 //! Why a side is lost, as it is told on standard error.
 use crate::equal::{assert_equal, assert_equal_for};
-use crate::fakes::{Full, InMemory, Log};
+use crate::fakes::{Full, InMemory, Log, Narrow};
 use crate::run::run;
 use crate::why_text::shown_for_test;
 use std::alloc::Global;
@@ -94,7 +94,7 @@ fn a_write_that_fails(rt: HostRuntime) -> Result<(), Fail> {
 fn bytes_that_are_no_reply(rt: HostRuntime) -> Result<(), Fail> {
     let line =
         "twogtp: game 1: black: 3 unanswered from \"1 boardsize 5\": no reply: it begins with neither = \
-                nor ?; it wrote \"h\"\n";
+                nor ?; it wrote \"hello\"\n";
     assert_lost(&rt, "says hello", line)
 }
 
@@ -173,6 +173,58 @@ fn a_line_that_can_not_be_written_ends_the_program(rt: HostRuntime) -> Result<()
     assert_equal(&rt, output.len(), 0);
     assert_equal(&rt, log.ended.get(), log.started.get());
     assert_equal(&rt, log.quits.get(), 0);
+    Ok(())
+}
+
+#[test]
+fn each_line_is_flushed_before_the_next_start(rt: HostRuntime) -> Result<(), Fail> {
+    let alloc = rt.alloc();
+    let log = Log::new(alloc)?;
+    let mut output = Vec::new(alloc);
+    let mut errors = Narrow {
+        taken: Vec::new(alloc),
+        flushed: Vec::new(alloc),
+        room: 1000,
+        log: log.clone()?,
+    };
+    let mut starter = InMemory {
+        alloc,
+        log: log.clone()?,
+        refused: 0,
+    };
+    let words = [
+        "twogtp",
+        "--why",
+        "--size",
+        "5",
+        "--black",
+        "broken",
+        "--white",
+        "gtp_engine",
+    ];
+    let status = run(
+        alloc,
+        words.as_slice(),
+        &mut output,
+        &mut errors,
+        &mut starter,
+    );
+    let line =
+        "twogtp: game 1: black: 3 unanswered from \"1 boardsize 5\": writing failed, exit status 7; \
+                it wrote \"\"\n";
+    let len = line.len();
+    assert_equal(&rt, status, 1);
+    // Black is started three times, and lost each time. One line tells of each loss, and is flushed by itself.
+    assert_equal(&rt, log.started.get(), 4);
+    assert_equal(
+        &rt,
+        errors.flushed.as_slice(),
+        [len, 2 * len, 3 * len].as_slice(),
+    );
+    let text = str::from_utf8(errors.taken.as_slice())?;
+    assert!(rt; text.lines().all(|told| told == line.trim_end()), "{text}");
+    // Both are started before anything is told, Black again behind the first line, and behind the second one.
+    assert_equal(&rt, log.flushed_by_starts.get(), len + 2 * len);
     Ok(())
 }
 

@@ -114,7 +114,7 @@ fn cause_text(cause: LossCause) -> &'static [u8]
         LossCause::Shows(SideFault::Unasked) => b"a reply to nothing that was asked",
         LossCause::Unfit => b"unfit: the command failed, or was answered wrongly",
         LossCause::RefusesPlay => b"the play was refused",
-        LossCause::KeepsMove => b"the refused move was not taken back",
+        LossCause::KeepsMove => b"the refused move was not taken back: the other side forfeits",
         LossCause::NoMove => b"no move: the genmove failed",
         LossCause::NoVertex => b"neither a vertex nor resign",
         LossCause::Illegal(fault) => rule_text(fault),

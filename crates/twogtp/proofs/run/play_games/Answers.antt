@@ -14,7 +14,8 @@ loop-index-init g c = record {
 pub returns-in_err-verdict-clause-begun : goal.returns-in_err-verdict-clause-begun
 returns-in_err-verdict-clause-begun g c =
     let exit = c.from_residual in
-    rw ((err_from_is_err_and exit.result exit.ensures.1).1)
+    let told = err_from_is_err_and exit.result exit.ensures.1 in
+    rw (told.1, told.2)
     (begun_then g.S.Process.Conversation c.args.commands.now c.args.task.now c.loop-index.index c.loop-index.status
     g.O.Write.contents _ _ _ _ _ _ _ c.loop-index.invariant.told (search rules) c.in_err-verdict.ensures.untold)
 

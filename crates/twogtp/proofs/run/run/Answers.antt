@@ -1,4 +1,7 @@
-use Rattle.std.proofs.Common.{◌∙◌, inl, inr, arith, refl}
+use Rattle.std.proofs.Common.{◌∙◌, inl, inr, arith, refl, subst}
+use Rattle.twogtp.specs.declared.fault.Fault.{Fault}
+use Rattle.twogtp.specs.Status.{TellsFault}
+use Rattle.twogtp.proofs.PlanLemmas.{mistake_is_usage}
 use Rattle.twogtp.proofs.run.run.Goals as goal
 
 pub returns-in-Err-clause-status : goal.returns-in-Err-clause-status
@@ -53,7 +56,7 @@ pub returns-in-Err-clause-stopped : goal.returns-in-Err-clause-stopped
 returns-in-Err-clause-stopped g c = λ three.
     let is = c.kind.ensures in
     elim (c.answer_error.ensures.own three) [
-      | inl same ↦ inl (refl, same.1)
+      | inl same ↦ inl (refl, same.1, same.2)
       | inr broke ↦ inr (inl (
         refl,
         record {
@@ -68,8 +71,22 @@ returns-in-Err-clause-stopped g c = λ three.
           text = broke.1.text;
           shown = broke.1.shown;
         },
+        broke.2,
       ))
     ]
+
+pub returns-in-Err-plan_of-clause-stopped : goal.returns-in-Err-plan_of-clause-stopped
+returns-in-Err-plan_of-clause-stopped g c = λ three. elim c.in-Err-plan_of.ensures.fault [
+  | inl refused ↦ inl (
+    refl,
+    refl,
+    subst (λ (fault : Fault). TellsFault fault (g.E.Write.contents c.args.errors.now) (g.E.Write.contents c.tell.new.errors))
+        refused c.tell.ensures.told,
+  )
+  | inr mistake ↦
+      let two = c.tell.ensures.status ∙ mistake_is_usage c.in-Ok.options c.in-Err-plan_of.fault mistake in
+      absurd (omega (arith, two, three))
+]
 
 pub returns-in-Ok-play_games-clause-status : goal.returns-in-Ok-play_games-clause-status
 returns-in-Ok-play_games-clause-status g c = elim c.in-Ok-play_games.ensures.range [ inl e ↦ inl e | inr e ↦ inr (inl e) ]
@@ -102,6 +119,8 @@ returns-clause-stopped g c = λ three. inr (inr (record {
     commands = c.in-Ok-plan_of.plan.commands;
     plan = c.in-Ok-plan_of.ensures.plan;
   };
-  tells = g.E.Write.contents c.play_games.new.errors;
+  losses = g.E.Write.contents c.play_games.new.errors;
+  fault = c.in-Err-play_games.fault;
   begun = c.in-Err-play_games.ensures.begun;
+  told = c.tell-in-Err-play_games.ensures.told;
 }))

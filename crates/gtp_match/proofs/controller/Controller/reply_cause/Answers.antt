@@ -1,5 +1,5 @@
 use Rattle.gtp_match.proofs.LosingLemmas.{may_answer}
-use Rattle.gtp_match.proofs.controller.Controller.cause_told.Goals as goal
+use Rattle.gtp_match.proofs.controller.Controller.reply_cause.Goals as goal
 
 pub judge-outcome-requires : goal.judge-outcome-requires
 judge-outcome-requires c =
