@@ -51,7 +51,7 @@ class Controller:
         self.pending = None  # the maker of the last move, where that move is to be taken back
         self.verdict = None
         self.losses = []
-        self.piece = b""  # what was heard last: a whole reply with what stood before it, or all up to the byte that shows a fault
+        self.pieces = []  # what was heard last: a whole reply with what stood before it; or each text that may be told of no reply
         self.is_behind = False  # was it heard in one read with a reply before it?
 
     # ---- what the tables speak of
@@ -170,8 +170,10 @@ class Controller:
         self.game.undo()
         self.pending = None
 
-    def heard(self, side, data):
-        """This side wrote these bytes. Those of a side that is down change nothing, and so do all bytes after a verdict."""
+    def heard(self, side, data, behind=lambda: [b""]):
+        """This side wrote these bytes, which came in one read. Those of a side that is down change nothing, and so do all bytes after a
+        verdict. `behind` answers what that read might have brought besides, had it come later: nothing, and then what stands there
+        with the answer to one command more each time, up to those to all commands that were sent."""
         self.is_behind = False
         while self.verdict is None and not self.is_down(side):
             up = self.sides[side]
@@ -180,18 +182,24 @@ class Controller:
                 up.rest += data
                 up.rests.append((up.confirmed, up.rest))
                 return
-            self.piece, data = self.cut(up.rest + data, used)
-            up.rest = b""
             if told in (replies.NO_STATUS, replies.OVERLONG):
+                self.pieces = self.no_reply(up.rest, data, used, behind())
                 self.tell(side, why.NO_STATUS if told == replies.NO_STATUS else why.OVERLONG)
-                self.lost(side)
-            else:
-                self.judge(side, told)
+                return self.lost(side)
+            piece, data = self.cut(up.rest + data, used)
+            self.pieces = [piece]
+            up.rest = b""
+            self.judge(side, told)
             self.is_behind = True
 
     def cut(self, data, used):
         """What was heard, and what is left to hear."""
         return data[:used], data[used:]
+
+    def no_reply(self, rest, data, used, behind):
+        """What may be told of bytes that are no reply: all that was read since the last whole reply. That is more than the `used` bytes
+        up to the one that shows the fault: what stands behind it in this read is told too."""
+        return [rest + data + more for more in behind]
 
     # ---- what a reply does
 
@@ -300,11 +308,15 @@ class Controller:
     # ---- why a side is lost
 
     def tell(self, side, cause):
-        """A side is lost by what was heard, of which nothing has come yet."""
+        """A side is lost by what was heard, of which nothing has come yet. Where it was sent fewer commands by then, there are as many
+        answers fewer that may stand behind what is no reply."""
         texts = []
-        for unanswered in [self.unanswered(side), *self.others_unanswered(side)]:
+        sent = self.unanswered(side)
+        for unanswered in [sent, *self.others_unanswered(side)]:
             is_strange = cause in (why.UNASKED, why.WRONG_ID)
-            texts.append(why.lost(unanswered, (why.WRONG_ID if unanswered else why.UNASKED) if is_strange else cause, self.piece))
+            told = (why.WRONG_ID if unanswered else why.UNASKED) if is_strange else cause
+            fewer = len(sent) - len(unanswered)
+            texts += [why.lost(unanswered, told, piece) for piece in self.pieces[: max(1, len(self.pieces) - fewer)]]
         self.losses.append(Loss(side, texts))
 
     def unanswered(self, side):

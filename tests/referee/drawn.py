@@ -62,7 +62,7 @@ EARLY = [
     *(at(ANYWHERE, template, then) for template, then in faults.ENDINGS),
     *(at(ANYWHERE, template) for kind in faults.ANY for template in kind),
     *(at(["g1", "g1", "g2"], template) for template in faults.MOVES),
-    at(["g1", "g1", "g2"], *faults.SHUT),
+    Turn([(1, ["g1", "g1", "g2"], *faults.SHUT)], [], moves=8),  # the game goes on, so it is written to
     *(at(["h"], template) for template in faults.STONES),
     *(at(["q"], *quit) for quit in faults.QUITS),
     *(at(["0"], *greeting) for greeting in faults.GREETINGS),

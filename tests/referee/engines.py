@@ -2,7 +2,7 @@
 
 An engine in memory has `begins()`, what it writes before its first command, and `answers(line)`, what it writes when it is told this;
 each with what it does then, as faulty.py has it: it goes `on`, it `ends`, and so on. Its `status` is that with which it ends by itself
-before it is told to quit.
+before it is told to quit. Each answer is one write; where it `takes_all`, there is one to all that it was told at a time.
 """
 import sys
 from pathlib import Path
@@ -31,6 +31,7 @@ class Other:
 
     takes_notes = False
     notes = False
+    takes_all = True
     status = 0
 
     def __init__(self, name):
@@ -49,9 +50,9 @@ class Other:
         """What it writes, whatever it is told."""
         return OTHERS[self.name]
 
-    def answers(self, line):
+    def answers(self, text):
         """One that goes on repeats what it is told."""
-        return line, "on"
+        return text, "on"
 
 
 class Planned:
@@ -102,6 +103,7 @@ class Remembering:
     """A process of our engine, which asks the reference only for what was never asked before."""
 
     notes = False
+    takes_all = False
     status = 4  # where its fault ends it
 
     def __init__(self, ours):

@@ -39,7 +39,7 @@ HARMLESS = [
 ]
 # Words behind those that are due.
 WORDY = [r"=<id>_<text>_more_words\n\n", r"=<id>_<text>\nmore_lines\nof_it\n\n", r"=<id>_<text>_#_a_comment\n\n"]
-# Ids that are missing, or strange.
+# Ids that are missing, or strange; now and then with more behind, which is of no account.
 STRANGE_IDS = [
     r"=<id+1>_<text>\n\n",
     r"=<id-1>_<text>\n\n",
@@ -49,13 +49,13 @@ STRANGE_IDS = [
     r"=<id+4294967296>_<text>\n\n",
     r"=_<id>_<text>\n\n",
     r"=\t<id>_<text>\n\n",
-    r"=-<id>_<text>\n\n",
+    r"=-<id>_<text>\n\nhello\n",
     r"=+<id>_<text>\n\n",
     r"=_<text>\n\n",
     r"=\n\n",
     r"?<id+1>_no\n\n",
     r"?<id+4294967296>_no\n\n",
-    r"?_no\n\n",
+    r"?_no\n\n\n!",
 ]
 # Failures. A play that fails is one that the engine refuses.
 REFUSALS = [r"?<id>_no\n\n", r"?<id>\n\n", r"?<id>_<text>\n\n", r"?00<id>no\n\n"]

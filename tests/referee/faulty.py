@@ -68,6 +68,7 @@ def drawn_order(size, seed):
 class Faulty:
     """One life of the engine."""
 
+    takes_all = False  # of what it is told
     status = 0  # with which it ends
 
     def __init__(self, seed, passes, style, plan, life):
@@ -195,10 +196,11 @@ def literal(text):
 
 
 def handicap(size, number):
-    """The handicap's vertices. Only here the reference's table is needed."""
+    """The handicap's vertices; none where the size, which the engine may have forgotten, doesn't allow it. Only here the reference's table
+    is needed."""
     from reference import values
 
-    return [values.write_vertex(point) for point in values.handicap_points(size, number)]
+    return [values.write_vertex(point) for point in values.handicap_points(size, number) or []]
 
 
 # ---- as a process

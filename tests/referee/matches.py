@@ -1,5 +1,6 @@
 """The match program: what README.md and docs/controller.md say of `twogtp`, with engines in memory."""
-from collections import namedtuple
+import re
+from collections import Counter, namedtuple
 
 from reference import values
 from reference.values import BLACK, WHITE
@@ -21,6 +22,10 @@ TIMINGS = [
     Timing(1, False, True),
 ]
 MOST_TURNS = 100_000
+
+# The number of the game in its own line, with the restarts of both sides, and in a line of `--why`.
+GAME_LINE = re.compile(rb"^game (\d+): .* restarts (\d+) (\d+)$", re.MULTILINE)
+WHY_LINE = re.compile(rb"^twogtp: game (\d+): ", re.MULTILINE)
 
 # What a match is: the options of `twogtp`, komi as it is spelled, and the engine of each side.
 Match = namedtuple("Match", "size komi handicap games most_moves restarts record show why engines")
@@ -72,14 +77,17 @@ class Process:
     def reads_all(self):
         """It reads and answers all that it was told."""
         while self.told and not self.has_ended:
-            self.reads_one()
+            self.reads_on()
 
-    def reads_one(self):
-        """It reads and answers one command."""
-        self.reading, line = self.told.pop(0)
+    def reads_on(self):
+        """It reads and answers one command, or all that it was told where it doesn't cut that into lines."""
+        taken = self.told if self.engine.takes_all else self.told[:1]
+        self.told = self.told[len(taken) :]
+        self.reading, _ = taken[-1]
+        text = b"".join(line for _, line in taken)
         if self.engine.notes:
-            self.notes.append(line)
-        self.does(*self.engine.answers(line))
+            self.notes.append(text)
+        self.does(*self.engine.answers(text))
 
     def may_have_broken(self):
         """May a write to it have failed, since it had ended by then?"""
@@ -96,10 +104,19 @@ class Process:
         """Does it go on, and has it written nothing that a controller would take for a reply, or for none?"""
         return not self.has_closed and not self.has_shut and replies.first(self.output)[0] is None
 
+    def behind(self):
+        """What may stand behind all that was read, in the same read: nothing, and then what it has written when it has read one command
+        more each time, up to all that it was told. It is gone then."""
+        texts = [self.output]
+        while self.told:
+            self.reads_on()
+            texts.append(self.output)
+        return texts
+
     def read(self):
         """What it wrote; nothing at the end of its output."""
         while self.told and not self.output and not self.has_ended:
-            self.reads_one()
+            self.reads_on()
         if not self.output and not self.has_closed:
             raise Undetermined("the engine is silent")
         text, self.output = self.output, b""
@@ -197,7 +214,7 @@ def hear(referee, side, process):
     writes, losses = referee.writes(side), len(referee.losses)
     text = process.read()
     if text:
-        referee.heard(side, text)
+        referee.heard(side, text, process.behind)
     else:
         lose(referee, side, broken(process, why.OUTPUT_ENDED, writes[:1]))
     if process.may_have_broken():
@@ -245,6 +262,14 @@ def fits(result, wanted, may_owe_otherwise=False):
         return False
     lines = result.errors.splitlines(keepends=True)
     return may_owe_otherwise or (len(lines) == len(wanted.errors) and all(map(list.__contains__, wanted.errors, lines)))
+
+
+def has_too_many_lines(result):
+    """Does `--why` tell more lines of a game than engines were started in it? Those are the restarts of both sides and two more, which
+    the game's own line has."""
+    starts = {number: int(black) + int(white) + 2 for number, black, white in GAME_LINE.findall(result.output)}
+    lines = Counter(WHY_LINE.findall(result.errors))
+    return any(count > starts.get(number, 0) for number, count in lines.items())
 
 
 def as_told(result):

@@ -25,6 +25,7 @@ right_script = Controller.script
 right_started = Controller.started
 right_tell = Controller.tell
 right_broken = matches.broken
+right_explained = matches.explained
 right_escaped = why.escaped
 right_line = why.line
 right_owed = why.owed
@@ -78,10 +79,10 @@ def white_is_told_first(self):
     return (SEND, WHITE) if (action, side) == (SEND, BLACK) and self.left(BLACK) and self.left(WHITE) else (action, side)
 
 
-def one_reply_of_a_read(self, side, data):
+def one_reply_of_a_read(self, side, data, behind):
     rest = self.sides[side].rest
     told, used = right_first(rest + data)
-    right_heard(self, side, data if told is None else data[: used - len(rest)])
+    right_heard(self, side, data if told is None else data[: used - len(rest)], behind)
 
 
 def any_id(self, reply, number):
@@ -470,9 +471,38 @@ def control_characters_are_not_told(self, data, used):
     return bytes_that_stay(data[:used]), data[used:]
 
 
-def fault_is_not_told(self, side, cause):
-    self.piece = self.piece[:-1] if cause in (why.NO_STATUS, why.OVERLONG) else self.piece
-    right_tell(self, side, cause)
+def first_letter_alone_is_told(self, rest, data, used, behind):
+    return [(rest + data)[:used]]
+
+
+def fault_is_not_told(self, rest, data, used, behind):
+    return [(rest + data)[: used - 1]]
+
+
+def blank_lines_before_a_fault_are_not_told(self, rest, data, used, behind):
+    return [(rest + data + more)[used - 1 :] for more in behind]
+
+
+def earlier_reads_are_not_told(self, rest, data, used, behind):
+    return [data + more for more in behind]
+
+
+def last_byte_is_not_told(self, rest, data, used, behind):
+    return [(rest + data + more)[:-1] for more in behind]
+
+
+def first_line_alone_is_told(self, rest, data, used, behind):
+    before, letter = (rest + data)[: used - 1], (rest + data)[used - 1 :]
+    return [before + letter.split(b"\n")[0] + b"\n"]
+
+
+def each_line_is_told_twice(number, played):
+    return [texts for texts in right_explained(number, played) for _ in range(2)]
+
+
+def last_line_is_told_twice(number, played):
+    lines = right_explained(number, played)
+    return lines + lines[-1:]
 
 
 def front_is_not_told(process, cause, writes):
@@ -580,15 +610,22 @@ WHY_MUTANTS = [
     ("a side that is abandoned is told once more", Controller, "lost", told_when_it_is_abandoned),
     ("a side without a start left isn't told", Controller, "tell", verdict_before_the_line),
     ("games count from 0", why, "line", games_from_0),
+    ("each line is told twice", matches, "explained", each_line_is_told_twice),
+    ("the last line of a game is told twice", matches, "explained", last_line_is_told_twice),
     ("a command too many is owed", why, "owed", one_is_owed_more),
     ("the newest command is named", why, "owed", newest_is_owed),
     ("the command is named without its id", why, "owed", owed_without_an_id),
     ("commands of a write that failed aren't owed", matches, "broken", failed_write_is_not_owed),
-    ("all that was read is told", Controller, "cut", whole_piece_is_told),
+    ("all that was read is told of a reply", Controller, "cut", whole_piece_is_told),
     ("blank lines before a reply aren't told", Controller, "cut", blank_lines_are_not_told),
     ("the end of a reply isn't told", Controller, "cut", end_of_a_reply_is_not_told),
     ("control characters aren't told", Controller, "cut", control_characters_are_not_told),
-    ("the byte that shows a fault isn't told", Controller, "tell", fault_is_not_told),
+    ("of what is no reply the first letter is all that is told", Controller, "no_reply", first_letter_alone_is_told),
+    ("the byte that shows a fault isn't told", Controller, "no_reply", fault_is_not_told),
+    ("what stands before such a byte isn't told", Controller, "no_reply", blank_lines_before_a_fault_are_not_told),
+    ("of what is no reply the last read is all that is told", Controller, "no_reply", earlier_reads_are_not_told),
+    ("of what is no reply the last byte isn't told", Controller, "no_reply", last_byte_is_not_told),
+    ("of what is no reply the first line is all that is told", Controller, "no_reply", first_line_alone_is_told),
     ("the front of a reply isn't told", matches, "broken", front_is_not_told),
     ("79 bytes are told", why, "MOST_BYTES", 79),
     ("81 bytes are told", why, "MOST_BYTES", 81),
@@ -598,4 +635,5 @@ WHY_MUTANTS = [
     ("a point off the board is told as one that is occupied", why, "OFF_THE_BOARD", why.OCCUPIED),
     ("an end by itself is told as one by force", matches.Process, "endings", ended_by_force),
     ("unfit is told as a refused play", why, "UNFIT", why.REFUSED_PLAY),
+    ("who forfeits by an undo that fails isn't told", why, "KEPT_MOVE", why.KEPT_MOVE.partition(":")[0]),
 ]

@@ -5,11 +5,12 @@ from reference.values import BLACK, WHITE
 
 from .controller import DONE, MOST_UNANSWERED, SEND, START, WAIT, Controller, Setup
 from .engines import Other, Ours, Planned
-from .matches import PATIENT, TIMINGS, Match, as_told, play
+from .matches import PATIENT, TIMINGS, Match, Result, as_told, has_too_many_lines, play
 
 FIRST = Ours("first")
 POSITIONAL_FIRST = Ours("first", rule=POSITIONAL)
 NO = r"?<id>_no\n\n"
+NO_REPLY = "no reply: it begins with neither = nor ?"
 DEMO = "C3,D3,C2,D2,C4,D4,C1,A1,B1,D1,A2,D5,C5"
 DEMO_GAME = """C3 D3 C2 D2 C4 D4 C1 A1 B1 D1 A2 D5 C5 pass pass
 . . X O . 5
@@ -230,11 +231,16 @@ def explanations():
     # White's A1 takes B1.
     told = r'black: 1 unanswered from "10 genmove b": an illegal move: ko; it wrote "=10 B1\n\n"'
     yield explained("W+F(illegal move) moves 6 restarts 0 0", playing("A2 B1 pass B1"), playing("B2 C1 A1"), told, size=3)
-    # What is no reply, or none to what was asked. Bytes behind a whole reply count for the next one.
+    # What is no reply, or none to what was asked. Bytes behind a whole reply count for the next one. Of what is no reply all is told
+    # that was read; so here it comes in answer to the last command that was sent, behind which nothing is written.
     for plan, owes, cause, wrote in [
-        ("c1/hello", '3 unanswered from "1 boardsize 2"', "no reply: it begins with neither = nor ?", "h"),
-        (r"c2/<reply>\n\x01!<reply>", '1 unanswered from "3 clear_board"', "no reply: it begins with neither = nor ?", r"\n\x01!"),
+        ("c3/hello", '1 unanswered from "3 clear_board"', NO_REPLY, "hello"),
+        (r"c3/Welcome_to\tMyGo_1.0\r\n\n", '1 unanswered from "3 clear_board"', NO_REPLY, r"Welcome to\tMyGo 1.0\r\n\n"),
+        (r"c3/\xff<reply>", '1 unanswered from "3 clear_board"', NO_REPLY, r"\xFF=3\n\n"),
+        (r"g1/\n\n_<90*x>", '1 unanswered from "4 genmove b"', NO_REPLY, rf"\n\n {77 * 'x'}"),  # 80 bytes
+        (r"c3/<reply>\n\x01!<reply>", "0 unanswered", NO_REPLY, r"\n\x01!=3\n\n"),
         (r"c1/<8193*\n>", '3 unanswered from "1 boardsize 2"', "no end of a reply in 8192 bytes", r"\n" * 80),
+        (r"c3/=<id>_<9000*a>", '1 unanswered from "3 clear_board"', "no end of a reply in 8192 bytes", f"=3 {77 * 'a'}"),
         (r"c1/=\n\n", '3 unanswered from "1 boardsize 2"', "a reply without the awaited id", r"=\n\n"),
         ("c1/<reply><reply>", '2 unanswered from "2 komi 0"', "a reply without the awaited id", r"=1\n\n"),
         (r"c3/<reply>_\n=_x\n", '1 unanswered from "4 genmove b"', "a reply without the awaited id", r" \n= x\n=4 pass\n\n"),
@@ -243,6 +249,15 @@ def explanations():
         told = f'black: {owes}: {cause}; it wrote "{wrote}"'
         yield explained("0 moves 2 restarts 1 0", passing(f"1/{plan}/on"), passing(), told, **small)
         yield explained("abandoned black moves 0 restarts 1 0", passing(f"*/{plan}/on"), passing(), told, told, status=1, **small)
+    # What came in reads before it, since the last whole reply, is told too.
+    told = rf'black: 1 unanswered from "3 clear_board": {NO_REPLY}; it wrote " \x07\nhello\n\n"'
+    black = passing(r"1/c2/<reply>_\x07\n/on,1/c3/hello\n\n/on")
+    yield explained("0 moves 2 restarts 1 0", black, passing(), told, **small)
+    # Our engine's junk, and a program that repeats in one write what it was told in one.
+    told = rf'{asked}: {NO_REPLY}; it wrote "hello\n\n"'
+    yield explained("abandoned black moves 0 restarts 0 0", Ours("first", fault="junk:1"), FIRST, told, status=1, restarts=0, **small)
+    told = rf'black: 3 unanswered from "1 boardsize 2": {NO_REPLY}; it wrote "1 boardsize 2\n2 komi 0\n3 clear_board\n"'
+    yield explained("abandoned black moves 0 restarts 0 0", Other("cat"), FIRST, told, status=1, restarts=0, **small)
     # A command of the script that fails.
     told = r'black: 3 unanswered from "1 boardsize 2": unfit: the command failed, or was answered wrongly; it wrote "?1 no\n\n"'
     yield explained("unfit black moves 0 restarts 0 0", passing(f"1/c1/{NO}/on"), passing(), told, status=1, **small)
@@ -252,7 +267,7 @@ def explanations():
     yield explained("B+4 moves 7 restarts 0 0", FIRST, refusing("1/p1-3"), **small)
     told = r'white: 1 unanswered from "7 play b A1": the play was refused; it wrote "?7 no\n\n"'
     yield explained("B+F(refused play) moves 1 restarts 0 0", FIRST, refusing("1/p1-4"), told, **small)
-    told = r'black: 1 unanswered from "5 undo": the refused move was not taken back; it wrote "?5 no\n\n"'
+    told = r'black: 1 unanswered from "5 undo": the refused move was not taken back: the other side forfeits; it wrote "?5 no\n\n"'
     yield explained("B+F(refused play) moves 1 restarts 0 0", passing(f"1/u1/{NO}/on"), refusing("1/p1"), told, **small)
     # A pipe that is broken. White's second engine is told of three moves, and refuses the first.
     told = 'white: 1 unanswered from "7 genmove w": its output ended, exit status 0; it wrote ""'
@@ -375,27 +390,72 @@ def calls():
     yield (played.has_unanswered(BLACK), played.has_unanswered(WHITE)), (True, False)
 
 
+def told_last(black):
+    """What may be told of the last loss in this match, a line each."""
+    return set(play(match(black, passing(), why=True, most_moves=11), PATIENT).errors[-1])
+
+
+def losses(owed, cause, wrote):
+    """The lines of Black's losses that owe this, for this cause, by each of these."""
+    return {f'twogtp: game 1: black: {owed}: {cause}; it wrote "{text}"\n'.encode() for text in wrote}
+
+
+def answering(text, first, last):
+    """This text alone, and with the answers behind it to as many as one likes of the commands with these ids, the first ones first."""
+    return [text + "".join(rf"={number}\n\n" for number in range(first, behind)) for behind in range(first, last + 2)]
+
+
 def questions_of_time():
-    """Pairs of what the reference tells of the last side that is lost, and what has to be. Black is started again after 10 moves: its
-    script has 13 commands, of which eight are sent at once, and then as many as there were replies in the read before."""
-    for plan, counts, told in [
-        ("c3/hello/on", (6, 7, 8), r'{} unanswered from "3 clear_board": no reply: it begins with neither = nor ?; it wrote "h"'),
-        ("c13/hello/on", (1,), r'{} unanswered from "13 play w pass": no reply: it begins with neither = nor ?; it wrote "h"'),
-        ("c1//ends", (8,), '{} unanswered from "1 boardsize 9": its output ended, exit status 0; it wrote ""'),
+    """Pairs of what the reference tells of the last side that is lost, and what has to be."""
+    # A script of three commands is sent at once. When what is no reply is read, there may be answers behind it.
+    for plan, owed, wrote in [
+        ("c1/hello", '3 unanswered from "1 boardsize 9"', answering("hello", 2, 3)),
+        ("c2/hello", '2 unanswered from "2 komi 6.5"', answering("hello", 3, 3)),
+        (r"c1/<reply>\n\x01!_", '2 unanswered from "2 komi 6.5"', answering(r"\n\x01! ", 2, 3)),
+        (r"0/hello\n", '3 unanswered from "1 boardsize 9"', answering(r"hello\n", 1, 3)),
+        (r"c1/<76*x>", '3 unanswered from "1 boardsize 9"', [76 * "x", 76 * "x" + r"=2\n\n"]),  # 80 bytes
+        (r"c1/<77*x>", '3 unanswered from "1 boardsize 9"', [77 * "x", 77 * "x" + r"=2\n"]),
     ]:
-        black = Planned(1, 0, "<reply>", f"1/g6//ends,2/{plan}")
-        lost = play(match(black, passing(), why=True, most_moves=11), PATIENT).errors[-1]
-        yield set(lost), {f"twogtp: game 1: black: {told.format(count)}\n".encode() for count in counts}
-    # The first read that brings a reply may be followed by a write, which may fail; or that write goes through.
-    black = Planned(1, 0, "<reply>", "1/g6//ends,2/c2//ends")
-    lost = play(match(black, passing(), why=True, most_moves=11), PATIENT).errors[-1]
-    told = 'twogtp: game 1: black: 8 unanswered from "2 komi 6.5": {}, exit status 0; it wrote ""\n'
-    yield set(lost), {told.format(cause).encode() for cause in ("its output ended", "writing failed")}
+        yield told_last(passing(f"1/{plan}/on")), losses(owed, NO_REPLY, wrote)
+    # Black is started again after 10 moves: its script has 13 commands, of which eight are sent at once, and then as many as there were
+    # replies in the read before. There are answers behind to no more commands than were sent.
+    again = "1/g6//ends,2/"
+    third = 'unanswered from "3 clear_board"'
+    ended = "its output ended, exit status 0"
+    for plan, told in [
+        ("c3/hello/on", [losses(f'{sent - 2} {third}', NO_REPLY, answering("hello", 4, sent)) for sent in (8, 9, 10)]),
+        ("c13/hello/on", [losses('1 unanswered from "13 play w pass"', NO_REPLY, ["hello"])]),
+        (r"0/hello\n/on", [losses('8 unanswered from "1 boardsize 9"', NO_REPLY, answering(r"hello\n", 1, 8))]),
+        ("c1//ends", [losses('8 unanswered from "1 boardsize 9"', ended, [""])]),
+        # The first read that brings a reply may be followed by a write, which may fail; or that write goes through.
+        ("c2//ends", [losses('8 unanswered from "2 komi 6.5"', cause, [""]) for cause in (ended, "writing failed, exit status 0")]),
+    ]:
+        yield told_last(Planned(1, 0, "<reply>", again + plan)), set.union(*told)
+    # It has ended when it is told something, or a moment later.
+    said = losses('3 unanswered from "1 boardsize 9"', NO_REPLY, [r"hello\n"])
+    silent = losses('3 unanswered from "1 boardsize 9"', "writing failed, exit status 0", [""])
+    yield told_last(Other("echo hello")), said | silent
+
+
+def counted_lines():
+    """Pairs of whether more lines are told of a game than it has starts, and whether that is so."""
+    output = b"game 1: abandoned black moves 0 restarts 1 0\nA1 B1\ngame 2: W+6.5 moves 2 restarts 0 0\n"
+    first, second, others = (b"twogtp: game 1: black: hello\n", b"twogtp: game 2: white: hello\n", b"game 2: hello\ntwogtp: bad komi\n")
+    for errors, is_more in [
+        (b"", False),
+        (others * 9, False),
+        (first * 2 + second, False),
+        (first * 3 + others + second * 2, False),
+        (first * 4, True),
+        (first + second * 3, True),
+        (b"twogtp: game 3: black: hello\n", True),
+    ]:
+        yield has_too_many_lines(Result(1, output, errors, {})), is_more
 
 
 def failures():
     """What the reference gets wrong, a text each, and how many worked matches there are."""
-    answers = enumerate([*calls(), *questions_of_time()], 1)
+    answers = enumerate([*calls(), *questions_of_time(), *counted_lines()], 1)
     found = [f"the calls, answer {number}: not {got!r} but {due!r}" for number, (got, due) in answers if got != due]
     cases = [*whole_games(), *going_down(), *replies(), *refusals(), *undoes_that_are_not_heard(), *explanations(), *mistakes()]
     for number, (asked, status, output, errors) in enumerate(cases, 1):
