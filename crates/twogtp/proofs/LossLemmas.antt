@@ -1,16 +1,18 @@
 -- A turn has a line exactly where it loses a side.
 use Rattle.std.proofs.Common.{◌≡◌, ◌∙◌, ℕ, List, [], true, false, Option, Some, None, refl, sym, ap, subst}
 use Rattle.std.specs.Prelude.{◌≢◌, ◌↔◌, IsSome, is_some, option_map}
+use Rattle.go_base.specs.Colour.{other}
 use Rattle.go_base.specs.declared.colours.Colour.{Colour}
 use Rattle.go_base.specs.declared.colours.Colour.TheVariants.{Black, White}
 use Rattle.gtp_match.specs.declared.controller.Controller.{Controller}
 use Rattle.gtp_match.specs.declared.losses.Loss.{Loss}
 use Rattle.gtp_match.specs.declared.sides.Incarnation.{Incarnation}
+use Rattle.gtp_match.specs.declared.sides.SideState.{SideState}
 use Rattle.gtp_match.specs.declared.verdicts.Action.{Action}
 use Rattle.gtp_match.specs.declared.verdicts.Action.TheVariants.{Start, Send, Wait, Done}
 use Rattle.gtp_match.specs.declared.verdicts.Verdict.{Verdict}
 use Rattle.gtp_match.specs.Controller.{started, sent, sent_to, downed, lost, lost_engine}
-use Rattle.gtp_match.specs.Losing.{LosesSide, goes_down, forfeits, is_unfit, owed_where}
+use Rattle.gtp_match.specs.Losing.{GoesDown, LosesSide, goes_down, forfeits, is_unfit, owed_where}
 use Rattle.gtp_match.specs.Next.{next, next_where}
 use Rattle.gtp_match.specs.Sides.{side_of}
 use Rattle.gtp_match.proofs.ToldLemmas.{all_told}
@@ -24,7 +26,7 @@ use Rattle.twogtp.specs.declared.why.PipeCause.{PipeCause}
 use Rattle.twogtp.specs.declared.why.PipeCause.TheVariants.{Writing, Reading, Ended}
 use Rattle.twogtp.specs.Losses.{LossesHaveLines, TurnLosesSide, is_not_started, is_lost}
 use Rattle.twogtp.specs.Processes.{WithProcess, process_of}
-use Rattle.twogtp.specs.Speaking.{AreSent, IsHeard, Takes, cut_off}
+use Rattle.twogtp.specs.Speaking.{AreSent, Hears, IsHeard, Sends, Takes, cut_off}
 use Rattle.twogtp.specs.Starts.{Attempts}
 use Rattle.twogtp.specs.Turns.{Begins, Turn, line_where, turn_side}
 
@@ -224,7 +226,97 @@ module _ {P : Type 0} (known : Ghosts P) where
       not_start c new why (λ s starts. cc)
       (rw turn.0 (neither why _ turn.3 (loses_none c c (keeps_itself c))))
 
--- a line is told where it is known why, of the side whose turn it is
+-- ---- which side goes down
+
+-- of the other side the same is up as before
+abbrev OtherStaysUp : Controller → Controller → Colour → Type 0
+OtherStaysUp c new side = is_some (up_in new (other side)) ≡ is_some (up_in c (other side))
+
+down_is : (c new : Controller) (side s : Colour) → OtherStaysUp c new side → GoesDown c new s → s ≡ side
+unfolding up_in
+down_is c new Black Black stays down = refl
+down_is c new White White stays down = refl
+down_is c new Black White stays down =
+    let gone : is_some (up_in new White) ≡ false = ap (λ (u : Option Incarnation). is_some u) down.1 in
+    let was = down.0 in absurd (cc)
+down_is c new White Black stays down =
+    let gone : is_some (up_in new Black) ≡ false = ap (λ (u : Option Incarnation). is_some u) down.1 in
+    let was = down.0 in absurd (cc)
+
+lost_leaves : (m : Controller) (side : Colour) (u : Option Incarnation)
+    → is_some (up_in (lost_engine m side u) (other side)) ≡ is_some (up_in m (other side))
+unfolding up_in
+lost_leaves m side None = refl
+lost_leaves m Black (Some engine) = refl
+lost_leaves m White (Some engine) = refl
+
+started_leaves : (c : Controller) (side : Colour) → OtherStaysUp c (started c side) side
+unfolding up_in
+started_leaves c Black = refl
+started_leaves c White = refl
+
+cut_leaves : (c m : Controller) (side : Colour) → KeepsSides c m → OtherStaysUp c (lost m side) side
+unfolding up_in
+cut_leaves c m side keeps = lost_leaves m side (up_in m side) ∙ keeps.up (other side)
+
+module _ {P : Type 0} (known : Ghosts P) where
+  begin_leaves : (commands : Commands) (c new : Controller) (side : Colour) (before after : Sides P)
+      (had has : Attempts P) (why : Option Lost) → Begins commands c side before after had has new why
+      → OtherStaysUp c new side
+  unfolding up_in
+  begin_leaves commands c _ side before after had has _ (Begins.starts process tried is) = started_leaves c side
+  begin_leaves commands c _ side before after had has _ (Begins.fails_to_start reason tried is) =
+      lost_leaves (started c side) side (up_in (started c side) side) ∙ started_leaves c side
+
+  sent_leaves : (c new : Controller) (side : Colour) (old now : P) (why : Option Lost)
+      → AreSent known c side old now new why → OtherStaysUp c new side
+  sent_leaves c new side old now _ (AreSent.taken all taken unbroken flushed given) =
+      (takes_keep c side new all.number _ all.takes).up (other side)
+  sent_leaves c _ side old now _ (AreSent.failed {new = mid} all part cut given) =
+      cut_leaves c mid side (takes_keep c side mid all.number _ all.takes)
+
+  heard_leaves : (c new : Controller) (side : Colour) (old now : P) (why : Option Lost)
+      → IsHeard known true c side old now new why → OtherStaysUp c new side
+  unfolding up_in
+  heard_leaves c new side old now why (IsHeard.heard bytes fault some given heard lost_by unbroken taken) =
+      ap (λ (s : SideState). is_some s.up)
+      (all_told c new side bytes lost_by.1.0 lost_by.0 lost_by.1.1).other_stays
+  heard_leaves c _ side old now _ (IsHeard.ended over given taken) = cut_leaves c c side (keeps_itself c)
+  heard_leaves c _ side old now _ (IsHeard.broke cut given taken) = cut_leaves c c side (keeps_itself c)
+
+  send_leaves : (c new : Controller) (side : Colour) (before after : Option P) (why : Option Lost)
+      → Sends known c side before after new why → OtherStaysUp c new side
+  send_leaves c new side None None why done = rw done.0 (cut_leaves c (sent c side) side (sent_keeps c side))
+  send_leaves c new side (Some old) (Some now) why done = sent_leaves c new side old now why done
+  send_leaves c new side None (Some now) why done = absurd done
+  send_leaves c new side (Some old) None why done = absurd done
+
+  wait_leaves : (c new : Controller) (side : Colour) (before after : Option P) (why : Option Lost)
+      → Hears known true c side before after new why → OtherStaysUp c new side
+  wait_leaves c new side None None why done = rw done.0 (cut_leaves c c side (keeps_itself c))
+  wait_leaves c new side (Some old) (Some now) why done = heard_leaves c new side old now why done
+  wait_leaves c new side None (Some now) why done = absurd done
+  wait_leaves c new side (Some old) None why done = absurd done
+
+  -- a side that goes down is the one whose turn it was
+  turn_names : (commands : Commands) (c new : Controller) (a : Action) (before after : Sides P) (had has : Attempts P)
+      (why : Option Lost) (s : Colour) → Turn known commands true c a before had new after has why
+      → GoesDown c new s → turn_side a ≡ Some s
+  turn_names commands c new (Start side) before after had has why s turn down =
+      ap (λ (t : Colour). Some t)
+      (sym (down_is c new side s (begin_leaves commands c new side before after had has why turn.0) down))
+  turn_names commands c new (Send side) before after had has why s turn down =
+      ap (λ (t : Colour). Some t)
+      (sym (down_is c new side s (send_leaves c new side (process_of before side) (process_of after side) why turn.0) down))
+  turn_names commands c new (Wait side) before after had has why s turn down =
+      ap (λ (t : Colour). Some t)
+      (sym (down_is c new side s (wait_leaves c new side (process_of before side) (process_of after side) why turn.0) down))
+  turn_names commands c new (Done verdict) before after had has why s turn down =
+      absurd (loses_none c new (rw turn.0 (keeps_itself c)) (goes_down s down))
+
+-- ---- lines
+
+-- a line is told where it is known why, of the side whose turn it was
 pub line_told : (number : ℕ) (side : Option Colour) (why : Option Lost) (endings : Endings) (X : Type 0)
     → (IsSome why → IsSome side) → IsSome why ↔ X → (line_where (Some number) side why endings ≢ []) ↔ X
 line_told number None None endings X has told =
@@ -237,7 +329,10 @@ line_told number (Some side) (Some why) endings X has told = ((λ some. told.0 r
 pub losses_have_lines : {P : Type 0} (known : Ghosts P) → LossesHaveLines known
 losses_have_lines known commands number c new before closing had has why endings turn =
     let told = turn_told known commands c new (next c) before turn.after had has why refl turn.turn in
-    line_told number (turn_side (next c)) why endings (TurnLosesSide c new) (has_side (next c) turn.turn) told
+    record {
+      exact = line_told number (turn_side (next c)) why endings (TurnLosesSide c new) (has_side (next c) turn.turn) told;
+      named = λ s. turn_names known commands c new (next c) before turn.after had has why s turn.turn;
+    }
   where
     has_side : (a : Action) → Turn known commands true c a before had new turn.after has why → IsSome why
         → IsSome (turn_side a)
