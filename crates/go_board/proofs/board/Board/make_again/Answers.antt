@@ -1,4 +1,4 @@
-use Rattle.std.proofs.Common.{◌≡◌, subst, sym, ◌∙◌, ap, List, ℕ}
+use Rattle.std.proofs.Common.{subst, sym, ◌∙◌, ap, List, ℕ}
 use Rattle.std.proofs.Math.ListN.{set}
 use Rattle.go_base.specs.declared.vertices.Vertex.{Vertex}
 use Rattle.go_board.specs.Board.{at}
