@@ -16,8 +16,8 @@ use Rattle.gtp_wire.proofs.NewlineLemmas.{or_parts}
 use Rattle.gtp_wire.proofs.ReplyLemmas.{no_status_begun}
 use Rattle.gtp_wire.proofs.ReplyLaws.{one_first, prepared-append, past_blanks_behind}
 use Rattle.gtp_wire.proofs.ReplyReadingLemmas.{read_nothing, no_status_blank, no_reply_blank, first_byte, past_copy}
-use Rattle.gtp_wire.proofs.AnyReplyLemmas.{first_of_front, passed, faults_have_places}
-use Rattle.gtp_wire.proofs.OnlyReading.{control_byte}
+use Rattle.gtp_wire.proofs.ReplyFaults.{first_of_front, passed, faults_have_places}
+use Rattle.gtp_wire.proofs.Controls.{control_byte}
 
 -- ---- a reply
 
@@ -122,10 +122,10 @@ ends_with_two raw value reply =
 -- ---- a fault
 
 -- a byte that is not passed over
-record IsBegun (b : ℕ) : Type 0 where
-  kept : is_kept b ≡ true
-  tab : eqb b 9 ≡ false
-  blank : is_blank b ≡ false
+pub record IsBegun (b : ℕ) : Type 0 where
+  pub kept : is_kept b ≡ true
+  pub tab : eqb b 9 ≡ false
+  pub blank : is_blank b ≡ false
 
 byte_cases : (b : ℕ) → IsPassedOver b ⊎ IsBegun b
 byte_cases b = elim (test_cases (is_kept b)) [
@@ -143,13 +143,13 @@ byte_cases b = elim (test_cases (is_kept b)) [
 ]
 
 -- the first byte that is not passed over
-record HasBegun (raw : List ℕ) : Type 0 where
-  front : List ℕ
-  byte : ℕ
-  end : List ℕ
-  shape : raw ≡ front ++ byte ∷ end
-  over : AllByRecursion IsPassedOver front
-  begun : IsBegun byte
+pub record HasBegun (raw : List ℕ) : Type 0 where
+  pub front : List ℕ
+  pub byte : ℕ
+  pub end : List ℕ
+  pub shape : raw ≡ front ++ byte ∷ end
+  pub over : AllByRecursion IsPassedOver front
+  pub begun : IsBegun byte
 
 first_begun : (raw : List ℕ) → AllByRecursion IsPassedOver raw ⊎ HasBegun raw
 first_begun [] = inl tt
@@ -185,7 +185,7 @@ begins_none b begun other =
     )
 
 -- what is left behind the first byte that is not passed over
-begun_shape : (raw : List ℕ) → length raw ≤ 8192 → (found : HasBegun raw)
+pub begun_shape : (raw : List ℕ) → length raw ≤ 8192 → (found : HasBegun raw)
     → past_blanks raw ≡ found.byte ∷ prepared found.end
 begun_shape raw fits found =
     let long : length raw ≡ length found.front + 1 + length found.end =
@@ -219,7 +219,8 @@ strange_end raw first fault = elim (first_begun raw) [
               let P : List ℕ → Type 0 = λ t. IsFirst t (length found.front + 1) (Err NoStatus) in
               let there : P raw = subst P (sym found.shape)
               (faults_have_places.no_status found.front found.byte found.end over (omega (arith, fault.fits)) none) in
-              let count = one_first raw (length raw) (length found.front + 1) (Err NoStatus) (Err NoStatus) first there in
+              let count =
+              one_first raw (length raw) (length found.front + 1) (Err NoStatus) (Err NoStatus) first there in
               let empty : length found.end ≡ 0 = omega (arith, count.0) in
               record {
                 front = found.front;
@@ -231,7 +232,7 @@ strange_end raw first fault = elim (first_begun raw) [
               }
         ]
 
-status_cases : (b : ℕ) → is_status b ≡ true → (b ≡ 61) ⊎ (b ≡ 63)
+pub status_cases : (b : ℕ) → is_status b ≡ true → (b ≡ 61) ⊎ (b ≡ 63)
 status_cases b known = elim (test_cases (eqb b 61)) [
   | inl e ↦ inl (eqb-true b 61 e)
   | inr other ↦ let rest : eqb b 63 ≡ true = rw other at known in inr (eqb-true b 63 rest)

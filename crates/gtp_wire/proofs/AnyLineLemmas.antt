@@ -1,5 +1,5 @@
 -- What a byte does to the lines of a text, wherever it stands.
-use Rattle.std.proofs.Common.{◌≡◌, ◌≢◌, ℕ, ◌<◌, ◌≤◌, List, [], ◌∷◌, ◌++◌, Some, None, true, false, refl}
+use Rattle.std.proofs.Common.{◌≡◌, ◌≢◌, ℕ, ◌≤◌, List, [], ◌∷◌, ◌++◌, Some, None, true, false, refl}
 use Rattle.std.proofs.Common.{sym, ◌∙◌, ap, arith, eqb, ◌⊎◌, inl, inr, append_assoc, append-nil, filter}
 use Rattle.std.proofs.lemmas.Bool.Decides.{nat_tests}
 use Rattle.std.proofs.lemmas.List.Elements.{filter-append, recursion_from_All}
@@ -12,24 +12,14 @@ use Rattle.gtp_wire.specs.declared.lines.Stage.TheVariants.{Word}
 use Rattle.gtp_wire.specs.Bytes.{is_kept, is_space, space_for_tab}
 use Rattle.gtp_wire.specs.Words.{words}
 use Rattle.gtp_wire.specs.Lines.{lines, line_of, line_of_words}
-use Rattle.gtp_wire.specs.LineReading.{is_plain, IsJoined}
-use Rattle.gtp_wire.specs.AnyText.{IsControl, IsPrinted, IsLineWord, SpacesSeparate, WordsAreALine}
+use Rattle.gtp_wire.specs.private.LineReading.{is_plain, IsJoined}
+use Rattle.gtp_wire.specs.AnyText.{IsPrinted, IsLineWord, SpacesSeparate, WordsAreALine}
 use Rattle.gtp_wire.proofs.LineLemmas.{AllByRecursion-append, NoNewline, test_cases, cut_lines, cut_lines_same}
 use Rattle.gtp_wire.proofs.LineLemmas.{cut_lines_newline, lines_front, lines_same, lines_newline, lines_nothing}
 use Rattle.gtp_wire.proofs.WordLemmas.{cleaned, words_space, words_two_spaces}
 use Rattle.gtp_wire.proofs.StepLemmas.{end_long, front_skips}
 use Rattle.gtp_wire.proofs.ReadingLemmas.{AllKept, tail_of, tail_is_kept, tail_is_open, no_newlines, lines_more}
 use Rattle.gtp_wire.proofs.WrittenLines.{IsWord, AreWords, written_line, are_joined}
-
--- a control character is removed
-pub control_removed : (b : ℕ) → IsControl b → is_kept b ≡ false
-control_removed b control =
-    elim control.0 [
-      | inl low ↦ let small : b < 32 = low in
-          let no_tab : b ≢ 9 = control.1 in
-          let no_newline : b ≢ 10 = control.2 in grind (arith, nat_tests)
-      | inr e ↦ rw e refl
-    ]
 
 -- Texts that read as one line alike behind whatever stands on the line read alike behind every text.
 lines_alike : (u v : List ℕ) → AllKept u → AllKept v → NoNewline u → NoNewline v
@@ -38,7 +28,8 @@ lines_alike : (u v : List ℕ) → AllKept u → AllKept v → NoNewline u → N
 lines_alike u v ku kv nu nv same text later =
     lines_more text (u ++ later) ∙ ap (λ ls. lines text ++ ls) behind ∙ sym (lines_more text (v ++ later))
   where
-    front : (w : List ℕ) → AllKept w → lines (tail_of text ++ (w ++ later)) ≡ cut_lines ((tail_of text ++ w) ++ filter is_kept later)
+    front : (w : List ℕ) → AllKept w
+        → lines (tail_of text ++ (w ++ later)) ≡ cut_lines ((tail_of text ++ w) ++ filter is_kept later)
     front w kw =
         ap lines (sym (append_assoc (tail_of text) w later))
         ∙ lines_front (tail_of text ++ w) later
@@ -58,7 +49,8 @@ end_alike : (u : List ℕ) → NoNewline (filter is_kept u)
     → ((t : List ℕ) → line_of (t ++ filter is_kept u) ≡ line_of t)
     → (text later : List ℕ) → lines (text ++ (u ++ 10 ∷ later)) ≡ lines (text ++ 10 ∷ later)
 end_alike u nu same text later =
-    lines_more text (u ++ 10 ∷ later) ∙ ap (λ ls. lines text ++ ls) (long ∙ sym short) ∙ sym (lines_more text (10 ∷ later))
+    lines_more text (u ++ 10 ∷ later) ∙ ap (λ ls. lines text ++ ls) (long ∙ sym short)
+    ∙ sym (lines_more text (10 ∷ later))
   where
     kept : filter is_kept (u ++ 10 ∷ later) ≡ filter is_kept u ++ 10 ∷ filter is_kept later
     kept = filter-append is_kept u (10 ∷ later)

@@ -11,13 +11,14 @@ use Rattle.go_base.proofs.IntLemmas.{spells_int_of, int_of_spelled, option_cases
 use Rattle.gtp_wire.specs.declared.lines.Line.{Line}
 use Rattle.gtp_wire.specs.Bytes.{is_kept, is_newline, is_space}
 use Rattle.gtp_wire.specs.Lines.{lines}
-use Rattle.gtp_wire.specs.LineReading.{is_plain, IsJoined}
-use Rattle.gtp_wire.specs.AnyText.{IsControl, IsPrinted, IsLineWord, ReadsLines, LinesAreTheOnlyReading}
+use Rattle.gtp_wire.specs.private.LineReading.{is_plain, IsJoined}
+use Rattle.gtp_wire.specs.AnyText.{IsPrinted, IsLineWord, ReadsLines, LinesAreTheOnlyReading}
 use Rattle.gtp_wire.proofs.LineLemmas.{test_cases, lines_removed, lines_nothing}
 use Rattle.gtp_wire.proofs.WordLemmas.{plain_byte, words_joined, join_words, some_word}
 use Rattle.gtp_wire.proofs.StepLemmas.{joined_push, joined_push_gap}
 use Rattle.gtp_wire.proofs.ReadingLemmas.{lines_without_newline, lines_anew}
-use Rattle.gtp_wire.proofs.AnyLineLemmas.{control_removed, tab_is_space, comment_is_nothing, spaces_separate}
+use Rattle.gtp_wire.proofs.Controls.{control_removed, control_byte}
+use Rattle.gtp_wire.proofs.AnyLineLemmas.{tab_is_space, comment_is_nothing, spaces_separate}
 use Rattle.gtp_wire.proofs.AnyLineLemmas.{words_are_a_line}
 
 lines_read : ReadsLines lines
@@ -140,18 +141,6 @@ goes_on : (text other : List ℕ) → ((read : List ℕ → List Line) → Reads
 goes_on text other same rest =
     (rest.0, record { joined = rest.1.joined; same = λ read reads. same read reads ∙ rest.1.same read reads })
 
-pub control_byte : (b : ℕ) → is_kept b ≡ false → IsControl b
-control_byte b removed = elim (cases_lt b 32) [
-  | inl low ↦ (inl low, no_tab, no_newline)
-  | inr high ↦ (inr (grind (arith, nat_tests)), no_tab, no_newline)
-]
-  where
-    no_tab : b ≢ 9
-    no_tab e = let kept : is_kept 9 ≡ false = rw e at removed in cc
-
-    no_newline : b ≢ 10
-    no_newline e = let kept : is_kept 10 ≡ false = rw e at removed in cc
-
 -- the end of the line
 at_end : (held : List ℕ) (gap : Bool) → IsJoined held → ReadAs (held ++ (space_if gap ++ 10 ∷ []))
 at_end held true joined = (held, record { joined = joined; same = λ read reads. reads.spaces.end held [] })
@@ -180,7 +169,8 @@ read_plain b c held true joined some plain other more =
     (append_assoc (held ++ 32 ∷ []) (b ∷ []) (c ++ 10 ∷ []) ∙ append_assoc held (32 ∷ []) (b ∷ (c ++ 10 ∷ [])))
     (more ((held ++ 32 ∷ []) ++ b ∷ []) (joined_push_gap held b joined (some refl) plain other))
 read_plain b c held false joined some plain other more =
-    subst ReadAs (append_assoc held (b ∷ []) (c ++ 10 ∷ [])) (more (held ++ b ∷ []) (joined_push held b joined plain other))
+    subst ReadAs (append_assoc held (b ∷ []) (c ++ 10 ∷ []))
+    (more (held ++ b ∷ []) (joined_push held b joined plain other))
 
 read_as : (c held : List ℕ) (gap : Bool) → IsJoined held → (gap ≡ true → 0 < length held) → NoneEnds c
     → ReadAs (held ++ (space_if gap ++ (c ++ 10 ∷ [])))

@@ -1,6 +1,6 @@
 -- Laws of any text: what a byte does wherever it stands, and what words, replies and faults are. They stand in the
 -- numbers of the bytes, as the standard has them, and in none of the tests and constants of the definitions.
-use Rattle.std.specs.Prelude.{◌≡◌, ◌≢◌, ℕ, ◌+◌, ◌<◌, ◌≤◌, ◌⊎◌, Bool, if◌then◌else◌, List, [], ◌∷◌, ◌++◌, length, take}
+use Rattle.std.specs.Prelude.{◌≡◌, ◌≢◌, ℕ, ◌+◌, ◌<◌, ◌≤◌, ◌⊎◌, ◌↔◌, Bool, if◌then◌else◌, List, [], ◌∷◌, ◌++◌, length, take}
 use Rattle.std.specs.Prelude.{All, Option, Some, None, IfSome, Result, Ok, Err}
 use Rattle.std.specs.List.{concat, join_with_byte}
 use Rattle.std.specs.Str.Parse.{AllDigits}
@@ -197,6 +197,61 @@ RepliesSay = (ok : Bool) (id : Option ℕ) (body bytes : List ℕ) (value : Repl
     → length body + 3 ≤ 8192
     → HasId body id bytes → IsAround value.text.items bytes → value.ok ≡ ok → value.id ≡ id
     → IsReply ((if ok then 61 else 63) ∷ (body ++ 10 ∷ 10 ∷ [])) value
+
+-- ---- what a text tells first: how many of its bytes tell it, and what they tell
+
+-- What is told is told within the text, and stays told whatever follows.
+pub record TellsForGood (tells : List ℕ → ℕ → Result Reply ReplyFault → Type 0) : Type 0 where
+  pub inside : (text : List ℕ) (count : ℕ) (answer : Result Reply ReplyFault)
+      → tells text count answer → count ≤ length text
+  pub stays : (text later : List ℕ) (count : ℕ) (answer : Result Reply ReplyFault)
+      → tells text count answer → tells (text ++ later) count answer
+
+-- A reply and `NoStatus` are told where the law of shapes has them, and faults where the law of faults has them.
+pub record TellsInPlace (tells : List ℕ → ℕ → Result Reply ReplyFault → Type 0) : Type 0 where
+  pub begin : (text : List ℕ) (count : ℕ) (value : Reply) → tells text count (Ok value)
+      → BeginsWithStatus (take count text)
+  pub end : (text : List ℕ) (count : ℕ) (value : Reply) → tells text count (Ok value)
+      → EndsWithTwoNewlines (take count text)
+  pub strange : (text : List ℕ) (count : ℕ) → tells text count (Err NoStatus) → EndsStrangely (take count text)
+  pub no_status : (front : List ℕ) (b : ℕ) → All IsPassedOver front → length front < 8192 → BeginsNone b
+      → tells (front ++ b ∷ []) (length front + 1) (Err NoStatus)
+  pub late : (text : List ℕ) (count : ℕ) → tells text count (Err Overlong) → count ≡ 8193
+  pub overlong : (text : List ℕ) (b : ℕ) → length text ≡ 8192
+      → ((count : ℕ) (answer : Result Reply ReplyFault) → tells text count answer → ⊥)
+      → tells (text ++ b ∷ []) 8193 (Err Overlong)
+
+-- What a reply says is told at its end, and the bytes that change nothing change nothing of it.
+pub record TellsReplies (tells : List ℕ → ℕ → Result Reply ReplyFault → Type 0) : Type 0 where
+  pub says : (ok : Bool) (id : Option ℕ) (body bytes : List ℕ) (value : Reply)
+      → All (λ b. (b ≡ 10) ⊎ IsPrinted b) body
+      → ((a c : List ℕ) → body ++ 10 ∷ [] ≡ a ++ 10 ∷ 10 ∷ c → ⊥)
+      → length body + 3 ≤ 8192
+      → HasId body id bytes → IsAround value.text.items bytes → value.ok ≡ ok → value.id ≡ id
+      → tells ((if ok then 61 else 63) ∷ (body ++ 10 ∷ 10 ∷ [])) (length body + 3) (Ok value)
+  pub control : (front : List ℕ) (b c : ℕ) (later : List ℕ) (value : Reply) → IsControl b
+      → length (front ++ b ∷ c ∷ later) ≤ 8192
+      → tells (front ++ c ∷ later) (length (front ++ c ∷ later)) (Ok value)
+      → tells (front ++ b ∷ c ∷ later) (length (front ++ b ∷ c ∷ later)) (Ok value)
+  pub tab : (front later : List ℕ) (value : Reply)
+      → tells (front ++ 32 ∷ later) (length (front ++ 32 ∷ later)) (Ok value)
+      → tells (front ++ 9 ∷ later) (length (front ++ 9 ∷ later)) (Ok value)
+  pub blank : (b : ℕ) (raw : List ℕ) (value : Reply) → (b ≡ 32) ⊎ (b ≡ 10) → length raw < 8192
+      → tells raw (length raw) (Ok value) → tells (b ∷ raw) (length (b ∷ raw)) (Ok value)
+
+-- all of this holds of a way to tell
+pub record ReadsReplies (tells : List ℕ → ℕ → Result Reply ReplyFault → Type 0) : Type 0 where
+  pub good : TellsForGood tells
+  pub place : TellsInPlace tells
+  pub replies : TellsReplies tells
+
+-- All of this holds of what a text tells first, and every function of texts of which it holds tells just that.
+pub record RepliesAreTheOnlyReading : Type 0 where
+  pub holds : ReadsReplies IsFirst
+  pub only : (told : List ℕ → Option (ℕ × Result Reply ReplyFault))
+      → ReadsReplies (λ text count answer. told text ≡ Some (count, answer))
+      → (text : List ℕ) (count : ℕ) (answer : Result Reply ReplyFault)
+      → (told text ≡ Some (count, answer)) ↔ IsFirst text count answer
 
 -- ---- what is written (the standard, command and response structure)
 

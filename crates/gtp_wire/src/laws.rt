@@ -9,7 +9,7 @@ ghost use Rattle.gtp_wire.specs.Laws.{RepliesAreToldFirst, WrittenRepliesAreRepl
 ghost use Rattle.gtp_wire.specs.Laws.{ToldStaysTold, WrittenRepliesAreToldFirst, RepliesAreShort};
 ghost use Rattle.gtp_wire.specs.Laws.{AnyPiecesTellAlike};
 ghost use Rattle.gtp_wire.specs.AnyText.{LinesAreTheOnlyReading, BytesChangeNothing, FaultsHavePlaces, FaultsStay};
-ghost use Rattle.gtp_wire.specs.AnyText.{RepliesLeaveNothing, AnswersHaveShapes, RepliesSay};
+ghost use Rattle.gtp_wire.specs.AnyText.{RepliesLeaveNothing, AnswersHaveShapes, RepliesSay, RepliesAreTheOnlyReading};
 ghost use Rattle.gtp_wire.specs.AnyText.{CommandsHaveNoByteToSpare, RepliesHaveNoByteToSpare, LimitsAreThese};
 
 /// The lines of a text begin those of every longer text.
@@ -141,6 +141,12 @@ pub fn answers_have_shapes()
 /// What a reply says: its id, and its text without the spaces around it, up to the first two newlines in a row.
 pub fn replies_say()
     ensures { RepliesSay }
+{}
+
+/// What a text tells first is as the laws of shapes, of faults and of what replies say have it. Every function of texts
+/// that tells as they have it tells just that.
+pub fn replies_are_the_only_reading()
+    ensures { RepliesAreTheOnlyReading }
 {}
 
 /// A fault stays: no byte is used after it, and the same is told again.

@@ -1,4 +1,4 @@
-use Rattle.gtp_wire.proofs.AnyReplyLemmas.{bytes_change_nothing}
+use Rattle.gtp_wire.proofs.ReplyBytes.{bytes_change_nothing}
 use Rattle.gtp_wire.proofs.laws.bytes_change_nothing.Goals as goal
 
 pub returns : goal.returns

@@ -1,4 +1,4 @@
-use Rattle.gtp_wire.proofs.AnyReplyLemmas.{faults_have_places}
+use Rattle.gtp_wire.proofs.ReplyFaults.{faults_have_places}
 use Rattle.gtp_wire.proofs.laws.faults_have_places.Goals as goal
 
 pub returns : goal.returns
