@@ -1,5 +1,5 @@
 use Rattle.gtp_world.specs.Worlds.{policies_by}
-use Rattle.gtp_world.proofs.WordLaws.{acts_are_done, does_nothing, none_waits}
+use Rattle.gtp_world.proofs.Applying.{acts_are_done, does_nothing, none_waits}
 use Rattle.gtp_world.proofs.laws.events_do_what_they_say.Goals as goal
 
 pub returns-clause-acts : goal.returns-clause-acts
