@@ -41,7 +41,7 @@ use Rattle.gtp_world.proofs.CatchUp.{settles}
 use Rattle.gtp_world.proofs.Downs.{starts_are_left}
 use Rattle.gtp_world.proofs.Happenings.{opening_has, opening_under, runs_keep}
 use Rattle.gtp_world.proofs.Invariant.{flipped}
-use Rattle.gtp_world.proofs.Reaching.{game_some, reached_inv}
+use Rattle.gtp_world.proofs.Reaching.{game_some, game_in_step, reached_inv}
 
 -- ---- words
 
@@ -58,26 +58,9 @@ holding_is one two rule h =
     ∙ ap (λ (n : ℕ). game_of_parts two.size two.komi rule n one.moves) h.handicap
     ∙ ap (λ (m : List Move). game_of_parts two.size two.komi rule two.handicap m) h.moves
 
-agreeing_black : {B W : Type 0} (v : World B W) (game : GameRecord) → Agrees v → game_in v.black.engine ≡ Some game
-    → in_step v.controller Black ≡ true → Holds game v.controller.game
-agreeing_black v game a is step =
-    let x = game_some v.black.engine game is in
-    subst (λ (g : GameRecord). Holds g v.controller.game) x.2 (a.black x.0 x.1 step)
-
-agreeing_white : {B W : Type 0} (v : World B W) (game : GameRecord) → Agrees v → game_in v.white.engine ≡ Some game
-    → in_step v.controller White ≡ true → Holds game v.controller.game
-agreeing_white v game a is step =
-    let x = game_some v.white.engine game is in
-    subst (λ (g : GameRecord). Holds g v.controller.game) x.2 (a.white x.0 x.1 step)
-
-agreeing : {B W : Type 0} (v : World B W) (s : Colour) (game : GameRecord) → Agrees v → game_at v s ≡ Some game
-    → in_step v.controller s ≡ true → Holds game v.controller.game
-agreeing v Black game a is step = agreeing_black v game a is step
-agreeing v White game a is step = agreeing_white v game a is step
-
 pub agreeing_is : {B W : Type 0} → AgreeingIsBeingThere B W
 agreeing_is = record {
-  agrees = λ v s game rule a is step. holding_is game v.controller.game rule (agreeing v s game a is step);
+  agrees = λ v s game rule a is step. holding_is game v.controller.game rule (game_in_step v a s game is step);
   shown = λ c s game rule h step. holding_is game c.game rule (h step);
   same = λ v s game others rule h black white is. holding_is game others rule (h black white s others is);
 }
