@@ -22,7 +22,7 @@ use Rattle.gtp_world.specs.Worlds.{game_in}
 use Rattle.gtp_world.specs.Joined.{ruled, IsJoined, IsJoinedSide, BareLane, EngineBody, bare, body_of}
 use Rattle.gtp_world.specs.Joined.{WillReadWhereRunning}
 use Rattle.gtp_world.specs.Laws.{rules_of}
-use Rattle.gtp_world.specs.EventLaws.{Applies, IsStarted, IsSent, WhatDoesNotApplyIsNothing, ActsAreDone}
+use Rattle.gtp_world.specs.EventLaws.{Applies, own_rule, IsStarted, IsSent, WhatDoesNotApplyIsNothing, ActsAreDone}
 use Rattle.gtp_world.specs.EventLaws.{NothingWaitsForNoEngine}
 use Rattle.gtp_world.proofs.Agreement.{settled_of}
 use Rattle.gtp_world.proofs.Happenings.{opening_has, runs_keep}
@@ -142,7 +142,7 @@ module _ {B W : Type 0} (mb : SidePolicies B) (mw : SidePolicies W) where
       let same = loses_none White old.controller new.controller old.white new.white un h.0 in
       world_is old new same.0 h.1 same.1
 
-  started_is : (s : Colour) (old new : World B W) → Acts mb mw old (Start s) new → IsStarted (rules_of mb mw) old s new
+  started_is : (s : Colour) (old new : World B W) → Acts mb mw old (Start s) new → IsStarted (own_rule mb mw s) old s new
   started_is Black old new h =
       let lane = h.0.fresh_lane.lane in
       record {

@@ -5,7 +5,7 @@ use Rattle.go_base.specs.Colour.{other}
 use Rattle.go_base.specs.declared.colours.Colour.{Colour}
 use Rattle.go_base.specs.declared.colours.Colour.TheVariants.{Black, White}
 use Rattle.go_base.specs.declared.moves.Move.{Move}
-use Rattle.go_board.specs.Game.{GameRecord}
+use Rattle.go_board.specs.Game.{GameRecord, IsGame}
 use Rattle.go_board.specs.Taken.{same_colour}
 use Rattle.go_board.specs.declared.rules.KoRule.{KoRule}
 use Rattle.gtp_session.proofs.Policies.{AllowsLawful}
@@ -26,7 +26,7 @@ use Rattle.gtp_match.specs.Sound.{IsIdle}
 use Rattle.gtp_match.specs.Taking.{is_by, unless_over}
 use Rattle.gtp_world.specs.declared.events.Event.{Event}
 use Rattle.gtp_world.specs.declared.events.Event.TheVariants.{Act, BrokenWrite, ToEngine, ToController, Crash, End}
-use Rattle.gtp_world.specs.EventLaws.{IsUp, IsRunning}
+use Rattle.gtp_world.specs.EventLaws.{IsUp, IsRunning, own_rule}
 use Rattle.gtp_world.specs.Lane.{Lane, SidePolicies}
 use Rattle.gtp_world.specs.World.{World, opening, Holds, Agrees, Runs}
 use Rattle.gtp_world.specs.Worlds.{MadeWorld, game_in, game_at, rule_at}
@@ -219,7 +219,7 @@ runs_if None e h = tt
 runs_if (Some u) e h = is_there e (h u refl)
 
 -- where nothing is going on, a world may settle
-may_settle : {B W : Type 0} (rules : Rules) (v : World B W) → IsQuiet rules v → MaySettle rules v
+may_settle : {B W : Type 0} (rules : Rules) (v : World B W) → IsQuiet (rule_of rules) v → MaySettle rules v
 may_settle rules v quiet = record {
   verdict = no_verdict v.controller quiet.not_done;
   nothing =
@@ -238,20 +238,20 @@ opening_down : (setup : SetupRecord) (s : Colour) → (side_of (new setup).sides
 opening_down setup Black = refl
 opening_down setup White = refl
 
-opening_quiet : {B W : Type 0} (rules : Rules) (setup : SetupRecord) → IsSetup setup
-    → IsQuiet rules (opening {B = B} {W = W} setup)
-opening_quiet rules setup is = record {
+opening_quiet : {B W : Type 0} (rule : Colour → KoRule) (setup : SetupRecord) → IsSetup setup
+    → IsQuiet rule (opening {B = B} {W = W} setup)
+opening_quiet rule setup is = record {
   not_done = λ verdict done. let start = opening_starts setup in cc;
   running = λ s up. let e = sym (opening_down setup s) ∙ up.1 in absurd (cc e);
   answered = λ s engine up. let e = sym (opening_down setup s) ∙ up in absurd (cc e);
   none_taken_back = refl;
-  games = λ s. opening_under (rule_of rules s) setup is;
+  games = λ s. opening_under (rule s) setup is;
 }
 
 pub openings_settle : {B W : Type 0} → OpeningsMaySettle B W
 openings_settle = record {
   quiet = opening_quiet;
-  may = λ rules setup is. may_settle rules (opening setup) (opening_quiet rules setup is);
+  may = λ rules setup is. may_settle rules (opening setup) (opening_quiet (rule_of rules) setup is);
 }
 
 module _ {B W : Type 0} (mb : SidePolicies B) (mw : SidePolicies W) (law_b : AllowsLawful mb.may)
@@ -260,14 +260,27 @@ module _ {B W : Type 0} (mb : SidePolicies B) (mw : SidePolicies W) (law_b : All
   abbrev rules : Rules
   rules = rules_of mb mw
 
-  caught_up : (old new : World B W) (s : Colour) → IsJoined rules new → IsSettled old new → IsCaughtUp rules old s new
+  own_is : (s : Colour) → rule_of rules s ≡ own_rule mb mw s
+  own_is Black = refl
+  own_is White = refl
+
+  -- a quiet world in the words of both sides' rules
+  ruled_quiet : (v : World B W) → IsQuiet (own_rule mb mw) v → IsQuiet (rule_of rules) v
+  ruled_quiet v quiet =
+      record quiet {
+        games = λ s. subst (λ (rule : KoRule). IsGame (ruled rule v.controller.game)) (sym (own_is s)) (quiet.games s)
+      }
+
+  caught_up : (old new : World B W) (s : Colour) → IsJoined rules new → IsSettled old new
+      → IsCaughtUp (own_rule mb mw s) old s new
   caught_up old new s joined settled =
       let x = runs_at old new settled s in
       record {
         in_step = settled.in_step s;
         engine =
             x.1 ∙ ap (λ (g : GameRecord). Some g)
-            (there rules new s x.0 joined x.1 (settled.in_step s) ∙ ap (ruled (rule_of rules s)) settled.record_stays);
+            (there rules new s x.0 joined x.1 (settled.in_step s) ∙ ap (ruled (rule_of rules s)) settled.record_stays
+            ∙ ap (λ (rule : KoRule). ruled rule old.controller.game) (own_is s));
         controller = settled.record_stays;
       }
 
@@ -284,7 +297,7 @@ module _ {B W : Type 0} (mb : SidePolicies B) (mw : SidePolicies W) (law_b : All
   quiet_catches_up setup events old new s is runs quiet more =
       caught_up old new s
       (runs_keep mb mw law_b law_w old (settle old.controller) new more (reached_is setup events old is runs))
-      (settles mb mw law_b law_w setup events old new is runs (may_settle rules old quiet) more)
+      (settles mb mw law_b law_w setup events old new is runs (may_settle rules old (ruled_quiet old quiet)) more)
 
   pub last_starts_are_up : LastStartsAreUp mb mw
   last_starts_are_up setup events v s is runs open spent = by_up (side_of v.controller.sides s).up refl

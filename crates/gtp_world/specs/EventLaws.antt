@@ -5,6 +5,7 @@ use Rattle.go_base.specs.Colour.{other}
 use Rattle.go_base.specs.declared.colours.Colour.{Colour}
 use Rattle.go_base.specs.declared.colours.Colour.TheVariants.{Black, White}
 use Rattle.go_board.specs.Game.{GameRecord}
+use Rattle.go_board.specs.declared.rules.KoRule.{KoRule}
 use Rattle.gtp_session.specs.Engine.{fresh_game_under}
 use Rattle.gtp_match.specs.declared.sides.Incarnation.{Incarnation}
 use Rattle.gtp_match.specs.declared.verdicts.Action.{Action}
@@ -19,8 +20,6 @@ use Rattle.gtp_world.specs.declared.events.Event.TheVariants.{Act, BrokenWrite, 
 use Rattle.gtp_world.specs.Lane.{SidePolicies}
 use Rattle.gtp_world.specs.World.{World, opening, Happens, Runs, to_engine_of, to_controller_of}
 use Rattle.gtp_world.specs.Worlds.{game_at}
-use Rattle.gtp_world.specs.Joined.{Rules, rule_of}
-use Rattle.gtp_world.specs.Laws.{rules_of}
 
 -- ---- one side of a world
 
@@ -73,10 +72,15 @@ pub record IsTakenToController {B W : Type 0} (old : World B W) (side : Colour) 
   pub to_controller : to_controller_of new side ≡ drop count (to_controller_of old side)
   pub others : SameLane (other side) old new
 
--- an engine of the side runs that was given nothing, under the side's ko rule, and nothing is on its way to it or from
--- it; the controller counts it as started
-pub record IsStarted {B W : Type 0} (rules : Rules) (old : World B W) (side : Colour) (new : World B W) : Type 0 where
-  pub engine : game_at new side ≡ Some (fresh_game_under (rule_of rules side))
+-- the ko rule of a side's engines
+abbrev pub own_rule : {B W : Type 0} → SidePolicies B → SidePolicies W → Colour → KoRule
+own_rule policies_black policies_white Black = policies_black.rule
+own_rule policies_black policies_white White = policies_white.rule
+
+-- an engine of the side runs that was given nothing, under this ko rule, and nothing is on its way to it or from it; the
+-- controller counts it as started
+pub record IsStarted {B W : Type 0} (rule : KoRule) (old : World B W) (side : Colour) (new : World B W) : Type 0 where
+  pub engine : game_at new side ≡ Some (fresh_game_under rule)
   pub to_engine : to_engine_of new side ≡ []
   pub to_controller : to_controller_of new side ≡ []
   pub controller : new.controller ≡ started old.controller side
@@ -193,7 +197,7 @@ module _ {B W : Type 0} (policies_black : SidePolicies B) (policies_white : Side
   pub record ActsAreDone : Type 0 where
     pub starts : (side : Colour) (old new : World B W) → next old.controller ≡ Start side
         → Happens policies_black policies_white old Act new
-        → IsStarted (rules_of policies_black policies_white) old side new
+        → IsStarted (own_rule policies_black policies_white side) old side new
     pub sends : (side : Colour) (up : Incarnation) (old new : World B W) → next old.controller ≡ Send side
         → (side_of old.controller.sides side).up ≡ Some up
         → Happens policies_black policies_white old Act new → IsSent old side up new

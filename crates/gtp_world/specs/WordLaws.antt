@@ -22,12 +22,12 @@ use Rattle.gtp_match.specs.Setup.{SetupRecord, IsSetup}
 use Rattle.gtp_match.specs.Sides.{side_of}
 use Rattle.gtp_world.specs.declared.events.Event.{Event}
 use Rattle.gtp_world.specs.declared.events.Event.TheVariants.{BrokenWrite, End}
-use Rattle.gtp_world.specs.EventLaws.{IsUp, IsRunning}
+use Rattle.gtp_world.specs.EventLaws.{IsUp, IsRunning, own_rule}
 use Rattle.gtp_world.specs.Lane.{SidePolicies}
 use Rattle.gtp_world.specs.World.{World, opening, Runs, Holds, Agrees}
 use Rattle.gtp_world.specs.Worlds.{MadeWorld, MadeReached, game_at, rule_at, HoldsInStep, SameInStep}
 use Rattle.gtp_world.specs.Joined.{Rules, rule_of, ruled, IsFair}
-use Rattle.gtp_world.specs.Laws.{rules_of, PutsDown}
+use Rattle.gtp_world.specs.Laws.{PutsDown}
 use Rattle.gtp_world.specs.Settle.{MaySettle, IsSettled, settle}
 
 -- ---- holding, agreeing
@@ -94,26 +94,27 @@ module _ {M N B W : Type 0} (may_b : May B) (may_w : May W) (made_b : M → B �
 -- ---- settling
 
 -- Nothing is going on: the controller isn't done, each side that is up has a running engine and has answered all that
--- it was sent, and no move is to be taken back. And the controller's game is one under the ko rule of each side.
-pub record IsQuiet {B W : Type 0} (rules : Rules) (world : World B W) : Type 0 where
+-- it was sent, and no move is to be taken back. And the controller's game is one under each side's ko rule.
+pub record IsQuiet {B W : Type 0} (rule : Colour → KoRule) (world : World B W) : Type 0 where
   pub not_done : (verdict : Verdict) → next world.controller ≢ Done verdict
   pub running : (side : Colour) → IsUp world side → IsRunning world side
   pub answered : (side : Colour) (engine : Incarnation) → (side_of world.controller.sides side).up ≡ Some engine
       → engine.unanswered ≡ []
   pub none_taken_back : world.controller.pending ≡ None
-  pub games : (side : Colour) → IsGame (ruled (rule_of rules side) world.controller.game)
+  pub games : (side : Colour) → IsGame (ruled (rule side) world.controller.game)
 
--- the side is in step, and its engine runs at the game that the old world's controller had, under the side's own ko
--- rule; the controller has that game still
-pub record IsCaughtUp {B W : Type 0} (rules : Rules) (old : World B W) (side : Colour) (new : World B W)
+-- the side is in step, and its engine runs at the game that the old world's controller had, under this ko rule; the
+-- controller has that game still
+pub record IsCaughtUp {B W : Type 0} (rule : KoRule) (old : World B W) (side : Colour) (new : World B W)
     : Type 0 where
   pub in_step : in_step new.controller side ≡ true
-  pub engine : game_at new side ≡ Some (ruled (rule_of rules side) old.controller.game)
+  pub engine : game_at new side ≡ Some (ruled rule old.controller.game)
   pub controller : new.controller.game ≡ old.controller.game
 
 -- in the opening of every setup nothing is going on, whatever the ko rules, and it may settle
 pub record OpeningsMaySettle (B W : Type 0) : Type 0 where
-  pub quiet : (rules : Rules) (setup : SetupRecord) → IsSetup setup → IsQuiet rules (opening {B = B} {W = W} setup)
+  pub quiet : (rule : Colour → KoRule) (setup : SetupRecord) → IsSetup setup
+      → IsQuiet rule (opening {B = B} {W = W} setup)
   pub may : (rules : Rules) (setup : SetupRecord) → IsSetup setup → MaySettle rules (opening {B = B} {W = W} setup)
 
 module _ {B W : Type 0} (policies_black : SidePolicies B) (policies_white : SidePolicies W) where
@@ -121,16 +122,16 @@ module _ {B W : Type 0} (policies_black : SidePolicies B) (policies_white : Side
   abbrev pub SettledIsCaughtUp : Type 0
   SettledIsCaughtUp = (setup : SetupRecord) (events : List Event) (old new : World B W) (side : Colour) → IsSetup setup
       → Runs policies_black policies_white (opening setup) events new → IsSettled old new
-      → IsCaughtUp (rules_of policies_black policies_white) old side new
+      → IsCaughtUp (own_rule policies_black policies_white side) old side new
 
   -- from a reached world in which nothing is going on, the events that settle it make both sides catch up
   abbrev pub QuietWorldsCatchUp : Type 0
   QuietWorldsCatchUp =
       (setup : SetupRecord) (events : List Event) (old new : World B W) (side : Colour) → IsSetup setup
       → Runs policies_black policies_white (opening setup) events old
-      → IsQuiet (rules_of policies_black policies_white) old
+      → IsQuiet (own_rule policies_black policies_white) old
       → Runs policies_black policies_white old (settle old.controller) new
-      → IsCaughtUp (rules_of policies_black policies_white) old side new
+      → IsCaughtUp (own_rule policies_black policies_white side) old side new
 
   -- over every list of events from the opening: a side that was started more often than it may be restarted is up, as
   -- long as the controller isn't done
