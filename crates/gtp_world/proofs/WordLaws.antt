@@ -63,6 +63,7 @@ agreeing_is = record {
   agrees = λ v s game rule a is step. holding_is game v.controller.game rule (game_in_step v a s game is step);
   shown = λ c s game rule h step. holding_is game c.game rule (h step);
   same = λ v s game others rule h black white is. holding_is game others rule (h black white s others is);
+  room = λ v s a. a.room s;
 }
 
 -- ---- being fair
@@ -267,8 +268,12 @@ module _ {B W : Type 0} (mb : SidePolicies B) (mw : SidePolicies W) (law_b : All
   -- a quiet world in the words of both sides' rules
   ruled_quiet : (v : World B W) → IsQuiet (own_rule mb mw) v → IsQuiet (rule_of rules) v
   ruled_quiet v quiet =
-      record quiet {
-        games = λ s. subst (λ (rule : KoRule). IsGame (ruled rule v.controller.game)) (sym (own_is s)) (quiet.games s)
+      record {
+        not_done = quiet.not_done;
+        running = quiet.running;
+        answered = quiet.answered;
+        none_taken_back = quiet.none_taken_back;
+        games = λ s. subst (λ (rule : KoRule). IsGame (ruled rule v.controller.game)) (sym (own_is s)) (quiet.games s);
       }
 
   caught_up : (old new : World B W) (s : Colour) → IsJoined rules new → IsSettled old new

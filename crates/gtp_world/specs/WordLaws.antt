@@ -1,5 +1,5 @@
 -- Laws of the words that the headline is said with: no word says less than it is taken to say.
-use Rattle.std.specs.Prelude.{◌≡◌, ◌≢◌, ◌⊎◌, ◌<◌, ◌-◌, ℕ, true, List, [], length, slice_get, None, Some}
+use Rattle.std.specs.Prelude.{◌≡◌, ◌≢◌, ◌⊎◌, ◌<◌, ◌≤◌, ◌-◌, ℕ, true, List, [], length, slice_get, None, Some}
 use Rattle.go_base.specs.Colour.{other}
 use Rattle.go_base.specs.declared.colours.Colour.{Colour}
 use Rattle.go_base.specs.declared.colours.Colour.TheVariants.{Black, White}
@@ -24,7 +24,7 @@ use Rattle.gtp_world.specs.declared.events.Event.{Event}
 use Rattle.gtp_world.specs.declared.events.Event.TheVariants.{BrokenWrite, End}
 use Rattle.gtp_world.specs.EventLaws.{IsUp, IsRunning, own_rule}
 use Rattle.gtp_world.specs.Lane.{SidePolicies}
-use Rattle.gtp_world.specs.World.{World, opening, Runs, Holds, Agrees}
+use Rattle.gtp_world.specs.World.{World, opening, Runs, Holds, Agrees, to_engine_of, to_controller_of}
 use Rattle.gtp_world.specs.Worlds.{MadeWorld, MadeReached, game_at, rule_at, HoldsInStep, SameInStep}
 use Rattle.gtp_world.specs.Joined.{Rules, rule_of, ruled, IsFair}
 use Rattle.gtp_world.specs.Laws.{PutsDown}
@@ -36,8 +36,8 @@ use Rattle.gtp_world.specs.Settle.{MaySettle, IsSettled, settle}
 abbrev pub HoldingIsBeingIt : Type 0
 HoldingIsBeingIt = (one two : GameRecord) (rule : KoRule) → Holds one two → ruled rule one ≡ ruled rule two
 
--- In a world that agrees, an engine that runs and is in step is at the controller's game, but for the ko rule. The two
--- words in which the program says so say no less.
+-- In a world that agrees, an engine that runs and is in step is at the controller's game, but for the ko rule, and the
+-- lists have at most 512 and 16,384 bytes. The two words in which the program says so of games say no less.
 pub record AgreeingIsBeingThere (B W : Type 0) : Type 0 where
   pub agrees : (world : World B W) (side : Colour) (game : GameRecord) (rule : KoRule) → Agrees world
       → game_at world side ≡ Some game → in_step world.controller side ≡ true
@@ -47,6 +47,8 @@ pub record AgreeingIsBeingThere (B W : Type 0) : Type 0 where
   pub same : (world : World B W) (side : Colour) (game others : GameRecord) (rule : KoRule) → SameInStep world game
       → in_step world.controller Black ≡ true → in_step world.controller White ≡ true
       → game_at world side ≡ Some others → ruled rule game ≡ ruled rule others
+  pub room : (world : World B W) (side : Colour) → Agrees world
+      → (length (to_engine_of world side) ≤ 512) × (length (to_controller_of world side) ≤ 16384)
 
 -- ---- being fair
 
