@@ -1,6 +1,6 @@
 -- What the words say that the headline is said with.
 use Rattle.std.proofs.Common.{◌≡◌, ℕ, List, Option, Some, None, Bool, true, false, refl, sym, ◌∙◌, ap, subst, inl, inr, arith}
-use Rattle.std.specs.Prelude.{◌≢◌, ◌⊎◌, ◌<◌, [], ℤ, IsSome}
+use Rattle.std.specs.Prelude.{◌≢◌, ◌⊎◌, ◌<◌, [], ℤ, IsSome, IfSome, MatchOption}
 use Rattle.go_base.specs.Colour.{other}
 use Rattle.go_base.specs.declared.colours.Colour.{Colour}
 use Rattle.go_base.specs.declared.colours.Colour.TheVariants.{Black, White}
@@ -29,7 +29,7 @@ use Rattle.gtp_world.specs.declared.events.Event.TheVariants.{Act, BrokenWrite, 
 use Rattle.gtp_world.specs.EventLaws.{IsUp, IsRunning, own_rule}
 use Rattle.gtp_world.specs.Lane.{Lane, SidePolicies}
 use Rattle.gtp_world.specs.World.{World, opening, Holds, Agrees, Runs}
-use Rattle.gtp_world.specs.Worlds.{MadeWorld, game_in, game_at, rule_at}
+use Rattle.gtp_world.specs.Worlds.{MadeWorld, game_in, game_at, rule_at, IsThereInStep}
 use Rattle.gtp_world.specs.Joined.{Rules, rule_of, ruled, IsFair, IsRefusal, IsJoined, bare, body, body_of}
 use Rattle.gtp_world.specs.Laws.{rules_of, PutsDown}
 use Rattle.gtp_world.specs.Settle.{settle, MaySettle, IsSettled, RunsWhereUp}
@@ -181,6 +181,15 @@ pub engines_are_there : {M N B W : Type 0} (may_b : May B) (may_w : May W) (made
 engines_are_there may_b may_w made_b made_w law_b law_w w s game reached is step =
     there (rules_at w) w.world s game (reached_inv may_b may_w made_b made_w law_b law_w w reached) is step
     ∙ ap (λ (rule : KoRule). ruled rule w.world.controller.game) (rule_is w s)
+
+pub shown_there : {M N B W G : Type 0} (w : MadeWorld M N B W)
+    → ((s : Colour) (game : GameRecord) → game_at w.world s ≡ Some game → IsThereInStep w s game)
+    → (s t : Colour) → s ≡ t → (now : G → GameRecord) (r : Option G)
+    → MatchOption r (game_at w.world t ≡ None) (λ g. game_at w.world t ≡ Some (now g))
+    → IfSome r (λ g. IsThereInStep w s (now g))
+shown_there w there s t e now None m = tt
+shown_there w there s t e now (Some g) m =
+    there s (now g) (subst (λ (x : Colour). game_at w.world x ≡ Some (now g)) (sym e) m)
 
 runs_some : {P : Type 0} (e : Option (Engine P)) → IsSome e → (game : GameRecord) × (game_in e ≡ Some game)
 runs_some None h = absurd (cc h)
