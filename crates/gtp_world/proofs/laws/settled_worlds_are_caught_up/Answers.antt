@@ -1,5 +1,5 @@
 use Rattle.gtp_world.specs.Worlds.{policies_by}
-use Rattle.gtp_world.proofs.WordLaws.{openings_settle, quiet_catches_up, settled_is}
+use Rattle.gtp_world.proofs.CaughtUp.{openings_settle, quiet_catches_up, settled_is}
 use Rattle.gtp_world.proofs.laws.settled_worlds_are_caught_up.Goals as goal
 
 pub returns-clause-openings : goal.returns-clause-openings

@@ -1,4 +1,4 @@
-use Rattle.gtp_world.proofs.WordLaws.{holding_is, agreeing_is, fair_is, putting_down_is}
+use Rattle.gtp_world.proofs.Words.{holding_is, agreeing_is, fair_is, putting_down_is}
 use Rattle.gtp_world.proofs.laws.the_words_say_no_less.Goals as goal
 
 pub returns-clause-holds : goal.returns-clause-holds

@@ -1,5 +1,5 @@
 use Rattle.gtp_world.specs.Worlds.{policies_by}
-use Rattle.gtp_world.proofs.WordLaws.{last_starts_are_up}
+use Rattle.gtp_world.proofs.Spent.{last_starts_are_up}
 use Rattle.gtp_world.proofs.laws.who_has_no_start_left_is_up.Goals as goal
 
 pub returns : goal.returns
