@@ -47,10 +47,10 @@ use Rattle.gtp_world.proofs.Settle.{no_verdict}
 module _ {B W : Type 0} (mb : SidePolicies B) (mw : SidePolicies W) (law_b : AllowsLawful mb.may)
     (law_w : AllowsLawful mw.may) where
   pub last_starts_are_up : LastStartsAreUp mb mw
-  last_starts_are_up setup events v s is runs open spent = by_up (side_of v.controller.sides s).up refl
+  last_starts_are_up setup events v s is runs going spent = by_up (side_of v.controller.sides s).up refl
     where
       by_up : (up : Option Incarnation) → (side_of v.controller.sides s).up ≡ up → IsUp v s
       by_up (Some engine) up = (engine, up)
       by_up None down =
-          let left = starts_are_left mb mw law_b law_w setup events v s is runs (no_verdict v.controller open) down in
+          let left = starts_are_left mb mw law_b law_w setup events v s is runs (no_verdict v.controller going) down in
           absurd (omega (arith, left, spent))
