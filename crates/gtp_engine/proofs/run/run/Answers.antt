@@ -17,7 +17,11 @@ returns-in-Ok-clause-usage g c = λ two.
 
 pub returns-in-Ok-clause-served : goal.returns-in-Ok-clause-served
 returns-in-Ok-clause-served g c = λ other.
-    inl (record { options = c.in-Ok.options; asked = c.in-Ok.ensures.asked; conversed = c.serve_options.ensures.served other })
+    inl (record {
+      options = c.in-Ok.options;
+      asked = c.in-Ok.ensures.asked;
+      conversed = c.serve_options.ensures.served other;
+    })
 
 pub returns-in-Err-clause-usage : goal.returns-in-Err-clause-usage
 returns-in-Err-clause-usage g c = λ two.
@@ -25,7 +29,8 @@ returns-in-Err-clause-usage g c = λ two.
       inl (
         c.kind.result,
         c.answer_error.ensures.mistake two,
-        rw is (c.in-Err.ensures.fault (λ refused. let three = c.answer_error.ensures.memory (is ∙ refused) in omega (arith, two, three))),
+        rw is (c.in-Err.ensures.fault (λ refused.
+            let three = c.answer_error.ensures.memory (is ∙ refused) in omega (arith, two, three))),
       ),
       refl,
       c.answer_error.ensures.usage two,
@@ -43,7 +48,8 @@ returns-in-Err-clause-served g c = λ other.
               asked = (
                 c.kind.result,
                 shown.0,
-                rw is (c.in-Err.ensures.fault (λ refused. let three = c.answer_error.ensures.memory (is ∙ refused) in omega (arith, zero, three))),
+                rw is (c.in-Err.ensures.fault (λ refused.
+                    let three = c.answer_error.ensures.memory (is ∙ refused) in omega (arith, zero, three))),
               );
               text = shown.1.text;
               shown = shown.1.shown;
