@@ -52,7 +52,7 @@ points_with_centre size =
     with_centre_cases (λ n. take (n - 1) (handicap_points size 8) ++ centre_of size ∷ [] ≡ handicap_points size n) refl
     refl refl
 
--- the other numbers have the first so many points
+-- the other numbers have the first of the points of eight stones
 pub points_without_centre : (size n : ℕ) → 2 ≤ n → n ≤ 9 → (5 ≤ n → n % 2 ≡ 1 → ⊥)
     → take n (handicap_points size 8) ≡ handicap_points size n
 unfolding handicap_points
@@ -101,7 +101,7 @@ AllPairs-from_apart [] apart = λ i j d below inside. absurd (omega arith)
 AllPairs-from_apart (p ∷ ps) apart =
     AllPairs-cons (λ p q. p ≢ q) p ps (All-from_recursion (λ q. p ≢ q) ps apart.0) (AllPairs-from_apart ps apart.1)
 
--- what holds of a list of points and of its fronts holds of the first so many
+-- what holds of a list of points and of its fronts holds of the first points of eight stones
 AllPairs-take : (R : ℕ → ℕ → Type 0) (n : ℕ) (ps : List ℕ) → AllPairs R ps → AllPairs R (take n ps)
 AllPairs-take R n ps all i j d below inside =
     let short : length (take n ps) ≡ min n (length ps) = length-take n ps in

@@ -75,7 +75,7 @@ value_of_digits (b ∷ whole) digits few =
 -- ---- a fraction
 
 -- the digits behind the point
-abbrev fraction_decimals : Fraction → List ℕ
+abbrev pub fraction_decimals : Fraction → List ℕ
 fraction_decimals no_point = []
 fraction_decimals (zeros n) = replicate n 48
 fraction_decimals (half n) = 53 ∷ replicate n 48
@@ -108,7 +108,7 @@ behind_of_fraction no_point = refl
 behind_of_fraction (zeros n) = refl
 behind_of_fraction (half n) = refl
 
-length_of_fraction : (fraction : Fraction) → length (fraction_decimals fraction) ≡ fraction_digits fraction
+pub length_of_fraction : (fraction : Fraction) → length (fraction_decimals fraction) ≡ fraction_digits fraction
 length_of_fraction no_point = refl
 length_of_fraction (zeros n) = length-replicate {A = ℕ} n 48
 length_of_fraction (half n) = omega (arith, length-replicate {A = ℕ} n 48)

@@ -43,7 +43,7 @@ with_sign no_sign n = pos n
 with_sign plus n = pos n
 with_sign minus n = neg_ℤ (pos n)
 
--- what stands behind the whole part: nothing; a point and so many zeros; or a point, a 5 and so many zeros
+-- what stands behind the whole part: nothing; a point and zeros, by their number; or a point, a 5 and zeros
 pub data Fraction : Type 0 where
   no_point : Fraction
   zeros : ℕ → Fraction
@@ -65,8 +65,8 @@ fraction_value no_point = 0
 fraction_value (zeros n) = 0
 fraction_value (half n) = 1
 
--- The text spells that many half points: a sign or none, at most nine digits, and a fraction or none with at most nine
--- digits; there is at least one digit in all.
+-- The text spells the number of half points: a sign or none, at most nine digits, and a fraction or none with at most
+-- nine digits; there is at least one digit in all.
 pub record SpellsKomi (half_points : ℤ) (text : List ℕ) : Type 0 where
   pub sign : Sign
   pub whole : List ℕ

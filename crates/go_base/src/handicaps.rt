@@ -8,7 +8,7 @@ use crate::points::Point;
 use crate::sizes::Size;
 use arrayvec::ArrayVec;
 
-/// The points of that many handicap stones, in the order in which they are put, or `None` where the size doesn't allow
+/// The points of `stones` handicap stones, in the order in which they are put, or `None` where the size doesn't allow
 /// that number: 2 to 9 stones are allowed on odd sizes from 9 up, 2 to 4 on size 7 and on even sizes from 8 up, and
 /// none on sizes below 7.
 ///
@@ -64,7 +64,7 @@ fn stone_points(size: Size, stones: u32) -> ArrayVec<Point, 9>
     }
 }
 
-/// The first so many points of eight stones.
+/// The first `stones` of the points of eight stones.
 fn first_points(size: Size, stones: u32) -> ArrayVec<Point, 9>
     requires large { 7 ≤ size }
     requires few { stones ≤ 8 }

@@ -54,7 +54,7 @@ impl Komi {
         })
     }
 
-    /// The komi of that many half points, from -1,999,999,999 to 1,999,999,999. `None` for every other number.
+    /// The komi of `half_points` half points, from -1,999,999,999 to 1,999,999,999. `None` for every other number.
     pub fn from_half_points(half_points: i32) -> Option<Komi>
         ensures limits { IsSome result ↔ IsKomi half_points }
         ensures value { IfSome result (λ komi. komi ≡ half_points) }
@@ -84,6 +84,7 @@ impl Komi {
         }
         let mut text = ArrayVec::new();
         text.push(b'-');
+        // There is room: a komi has at most nine digits before its point.
         let _ = text.try_extend_from_slice(&points);
         text
     }
@@ -128,8 +129,8 @@ fn read_unsigned(text: &[u8]) -> Option<u32>
     Some(2 * points + half)
 }
 
-/// Whether so many digits may stand before the point and behind it: at least one in all, and at most nine on either
-/// side.
+/// Whether `before` digits may stand before the point and `behind` digits behind it: at least one in all, and at most
+/// nine on either side.
 fn may_stand(before: usize, behind: usize) -> bool
     ensures { IsTrue result ↔ ((0 < before + behind) × (before ≤ 9) × (behind ≤ 9)) }
 {

@@ -7,6 +7,7 @@ ghost use Rattle.go_base.specs.Vertex.{VertexOfTells, VerticesReadBack, SpellsOn
 ghost use Rattle.go_base.specs.Choice.{ChoiceOfTells, SpellsOneChoice};
 ghost use Rattle.go_base.specs.Komi.{KomiOfTells, KomisReadBack, SpellsOneKomi};
 ghost use Rattle.go_base.specs.Point.{NeighboursAreBeside};
+ghost use Rattle.go_base.specs.Decimal.{IntsAreCounted, KomisAreTwiceTheirValue};
 
 /// A written int is read back, and a text spells at most one int.
 pub fn int_laws()
@@ -40,6 +41,13 @@ pub fn komi_laws()
     ensures function { KomiOfTells }
     ensures read_back { KomisReadBack }
     ensures one { SpellsOneKomi }
+{}
+
+/// A text spells an int exactly where its digits count one that is at most 2,147,483,647, and a komi exactly where the
+/// number of half points is twice its decimal value.
+pub fn decimal_laws()
+    ensures ints { IntsAreCounted }
+    ensures komis { KomisAreTwiceTheirValue }
 {}
 
 /// Two points of the largest board are neighbours on the mailbox board exactly where they share a column or a row and

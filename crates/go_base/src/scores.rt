@@ -10,6 +10,7 @@ pub fn write_half_points(half_points: u32) -> ArrayVec<u8, 12>
     ensures { result.items ≡ written_half_points (pos half_points) }
 {
     let mut text = ArrayVec::new();
+    // There is room for ten digits, a point and a 5.
     let _ = text.try_extend_from_slice(&write_int(half_points / 2));
     if half_points % 2 == 1 {
         let _ = text.try_extend_from_slice(b".5");
@@ -17,12 +18,13 @@ pub fn write_half_points(half_points: u32) -> ArrayVec<u8, 12>
     text
 }
 
-/// Writes a score of so many half points, positive where Black leads: `B+` or `W+` and the points by which that colour
+/// Writes a score in half points, which is positive where Black leads: `B+` or `W+` and the points by which that colour
 /// leads, or `0`.
 pub fn write_score(half_points: i32) -> ArrayVec<u8, 14>
     ensures { result.items ≡ score_text half_points }
 {
     let mut text = ArrayVec::new();
+    // There is room for a letter, a plus and the points.
     let _ = text.try_extend_from_slice(leader(half_points));
     let _ = text.try_extend_from_slice(&write_half_points(half_points.unsigned_abs()));
     text

@@ -87,6 +87,7 @@ fn write_point(point: Point) -> ArrayVec<u8, 4>
 {
     let mut text = ArrayVec::new();
     text.push(point.letter());
+    // There is room: a row has at most two digits.
     let _ = text.try_extend_from_slice(&write_int(point.row()));
     text
 }

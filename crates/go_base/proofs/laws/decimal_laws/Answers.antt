@@ -1,0 +1,8 @@
+use Rattle.go_base.proofs.DecimalLemmas.{ints_are_counted, komis_are_twice_their_value}
+use Rattle.go_base.proofs.laws.decimal_laws.Goals as goal
+
+pub returns-clause-ints : goal.returns-clause-ints
+returns-clause-ints c = ints_are_counted
+
+pub returns-clause-komis : goal.returns-clause-komis
+returns-clause-komis c = komis_are_twice_their_value

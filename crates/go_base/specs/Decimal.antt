@@ -1,0 +1,40 @@
+-- Laws of ints and komi by their decimal value: what their texts spell, counted digit by digit, in the numbers of the
+-- bytes and without the definitions' own limits.
+use Rattle.std.specs.Prelude.{◌≡◌, ℕ, ◌+◌, ◌*◌, ◌≤◌, ◌⊎◌, ◌↔◌, ℤ, pos, neg_ℤ, List, [], ◌∷◌, ◌++◌, length}
+use Rattle.std.proofs.Common.{◌^◌}
+use Rattle.go_base.specs.Int.{SpellsInt}
+use Rattle.go_base.specs.Komi.{SpellsKomi}
+
+-- The text is one digit (48 to 57) or more, and each further digit makes ten times the number and itself.
+pub data Counts : ℕ → List ℕ → Type 0 where
+  digit : (d : ℕ) → d ≤ 9 → Counts d ((48 + d) ∷ [])
+  more : (n d : ℕ) (text : List ℕ) → Counts n text → d ≤ 9 → Counts (10 * n + d) (text ++ (48 + d) ∷ [])
+
+-- A text spells an int exactly where it counts its number and this is at most 2,147,483,647. (The standard's simple
+-- entities: int.)
+abbrev pub IntsAreCounted : Type 0
+IntsAreCounted = (n : ℕ) (text : List ℕ) → SpellsInt n text ↔ (Counts n text × (n ≤ 2147483647))
+
+-- The text is a decimal number, and the number of half points is twice its value: a sign, `+` (43) or `-` (45), or none;
+-- at most nine digits; and then nothing, or a point (46) and at most nine digits. The digits on both sides of the point
+-- count a number together, which is ten times too large for each of them behind the point.
+pub record SpellsTwice (half_points : ℤ) (text : List ℕ) : Type 0 where
+  pub sign : List ℕ
+  pub whole : List ℕ
+  pub point : List ℕ
+  pub behind : List ℕ
+  pub shape : text ≡ sign ++ (whole ++ (point ++ behind))
+  pub pointed : (point ≡ 46 ∷ []) ⊎ ((point ≡ []) × (behind ≡ []))
+  pub few_before : length whole ≤ 9
+  pub few_behind : length behind ≤ 9
+  pub number : ℕ
+  pub counts : Counts number (whole ++ behind)
+  pub size : ℕ
+  pub twice : size * 10 ^ length behind ≡ 2 * number
+  pub signed : (((sign ≡ []) ⊎ (sign ≡ 43 ∷ [])) × (half_points ≡ pos size))
+      ⊎ ((sign ≡ 45 ∷ []) × (half_points ≡ neg_ℤ (pos size)))
+
+-- A text spells a komi exactly where the number of half points is twice its decimal value. (Own.)
+abbrev pub KomisAreTwiceTheirValue : Type 0
+KomisAreTwiceTheirValue = (half_points : ℤ) (text : List ℕ)
+    → SpellsKomi half_points text ↔ SpellsTwice half_points text
