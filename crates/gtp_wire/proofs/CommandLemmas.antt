@@ -7,7 +7,7 @@ use Rattle.std.proofs.lemmas.List.Splits.{length-slice_split}
 use Rattle.std.proofs.lemmas.List.Sums.{count_by-le-length}
 use Rattle.gtp_wire.specs.Bytes.{is_space}
 use Rattle.gtp_wire.specs.Words.{words}
-use Rattle.gtp_wire.specs.LineReading.{IsJoined}
+use Rattle.gtp_wire.specs.private.LineReading.{IsJoined}
 use Rattle.gtp_wire.proofs.WordLemmas.{words_joined}
 
 pub word_without_id : (id : Option ℕ) (text : List ℕ) (number : ℕ) → IsJoined text → 0 < length text

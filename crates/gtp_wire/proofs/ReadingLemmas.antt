@@ -20,7 +20,7 @@ tail_from : List ℕ → List ℕ → List ℕ
 tail_from held [] = held
 tail_from held (b ∷ t) = cond (is_newline b) (tail_from [] t) (tail_from (held ++ b ∷ []) t)
 
-abbrev AllKept : List ℕ → Type 0
+abbrev pub AllKept : List ℕ → Type 0
 AllKept t = AllByRecursion (λ b. is_kept b ≡ true) t
 
 tail_kept : (held t : List ℕ) → AllKept held → AllKept t → AllKept (tail_from held t)
@@ -81,6 +81,15 @@ lines_more text later =
     ∙ ap (λ ls. lines text ++ ls)
     (sym (lines_front (tail_of text) later (tail_kept [] (filter is_kept text) tt (all_kept text))))
 
+-- what a text leaves unfinished is kept, and has no newline
+pub tail_is_kept : (text : List ℕ) → AllKept (tail_of text)
+unfolding tail_of
+tail_is_kept text = tail_kept [] (filter is_kept text) tt (all_kept text)
+
+pub tail_is_open : (text : List ℕ) → NoNewline (tail_of text)
+unfolding tail_of
+tail_is_open text = tail_open [] (filter is_kept text) tt
+
 pub no_line_in_tail : (text : List ℕ) → lines (tail_of text) ≡ []
 unfolding tail_of
 no_line_in_tail text =
@@ -95,7 +104,7 @@ Finds-all old text = record {
 }
 
 -- bytes without a newline end no line
-no_newlines : (later : List ℕ) → AllByRecursion (λ b. b ≢ 10) later → NoNewline (filter is_kept later)
+pub no_newlines : (later : List ℕ) → AllByRecursion (λ b. b ≢ 10) later → NoNewline (filter is_kept later)
 no_newlines [] none = tt
 no_newlines (b ∷ later) none = elim (test_cases (is_kept b)) [
   | inl e ↦ rw e (ne_eqb b 10 none.0, no_newlines later none.1)

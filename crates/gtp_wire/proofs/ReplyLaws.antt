@@ -53,12 +53,12 @@ one_first text n m a b x y = elim (cases_lt n m) [
 ]
 
 -- no reply is a proper front of another
-prepared-append : (a b : List ℕ) → prepared (a ++ b) ≡ prepared a ++ prepared b
+pub prepared-append : (a b : List ℕ) → prepared (a ++ b) ≡ prepared a ++ prepared b
 prepared-append a b =
     ap (map space_for_tab) (filter-append is_kept a b)
     ∙ map-append space_for_tab (filter is_kept a) (filter is_kept b)
 
-past_blanks_behind : (raw more : List ℕ) (x : ℕ) (xs : List ℕ) → past_blanks raw ≡ x ∷ xs
+pub past_blanks_behind : (raw more : List ℕ) (x : ℕ) (xs : List ℕ) → past_blanks raw ≡ x ∷ xs
     → past_blanks (raw ++ more) ≡ x ∷ (xs ++ prepared more)
 unfolding past_blanks
 past_blanks_behind raw more x xs shape =

@@ -11,7 +11,7 @@ use Rattle.gtp_wire.specs.declared.lines.Stage.TheVariants.{Word, Gap, Comment}
 use Rattle.gtp_wire.specs.Bytes.{is_kept, is_newline, is_space, space_for_tab}
 use Rattle.gtp_wire.specs.Words.{words, command_of}
 use Rattle.gtp_wire.specs.Lines.{lines, line_of, line_of_words}
-use Rattle.gtp_wire.specs.LineReading.{is_plain, IsJoined, HoldsLine, IsKind, ending}
+use Rattle.gtp_wire.specs.private.LineReading.{is_plain, IsJoined, HoldsLine, IsKind, ending}
 use Rattle.gtp_wire.specs.declared.lines.Kind.TheVariants.{Space}
 use Rattle.gtp_wire.proofs.LineLemmas.{AllByRecursion-append, NoNewline, lines_same, lines_newline, lines_open}
 use Rattle.gtp_wire.proofs.WordLemmas.{cleaned, cleaned_plain, plain_byte, words_space, words_two_spaces, join_words}

@@ -10,7 +10,7 @@ use Rattle.gtp_wire.specs.declared.lines.Line.TheVariants.{TooLong}
 use Rattle.gtp_wire.specs.Bytes.{is_kept, is_newline, is_space, before_hash, space_for_tab}
 use Rattle.gtp_wire.specs.Words.{words}
 use Rattle.gtp_wire.specs.Lines.{line_of, line_of_words}
-use Rattle.gtp_wire.specs.LineReading.{is_plain, IsJoined}
+use Rattle.gtp_wire.specs.private.LineReading.{is_plain, IsJoined}
 use Rattle.gtp_wire.proofs.LineLemmas.{split_parts, test_cases}
 
 abbrev pub some_bytes : List ℕ → Bool

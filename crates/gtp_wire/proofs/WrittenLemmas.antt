@@ -82,12 +82,12 @@ digit_test c digit = let low : 48 ≤ c = digit.0 in let high : c ≤ 57 = digit
 digit_no_newline : (c : ℕ) → IsDigit c → is_newline c ≡ false
 digit_no_newline c digit = let low : 48 ≤ c = digit.0 in grind (arith, nat_tests)
 
-front_of_digits : (ds s : List ℕ) → AllByRecursion IsDigit ds
+pub front_of_digits : (ds s : List ℕ) → AllByRecursion IsDigit ds
     → front_of is_ascii_digit (ds ++ s) ≡ ds ++ front_of is_ascii_digit s
 front_of_digits [] s all = refl
 front_of_digits (d ∷ ds) s all = rw (digit_test d all.0) (ap (λ t. d ∷ t) (front_of_digits ds s all.1))
 
-behind_digits : (ds s : List ℕ) → AllByRecursion IsDigit ds
+pub behind_digits : (ds s : List ℕ) → AllByRecursion IsDigit ds
     → behind is_ascii_digit (ds ++ s) ≡ behind is_ascii_digit s
 behind_digits [] s all = refl
 behind_digits (d ∷ ds) s all = rw (digit_test d all.0) (behind_digits ds s all.1)

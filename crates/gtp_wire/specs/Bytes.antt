@@ -1,5 +1,5 @@
 -- What both ends do to single bytes before they parse. (The standard, preprocessing.)
-use Rattle.std.specs.Prelude.{ℕ, Bool, List, [], ◌∷◌, ◌&&◌, ◌||◌, ◌==◌, not, if◌then◌else◌}
+use Rattle.std.specs.Prelude.{ℕ, Bool, List, [], ◌∷◌, ◌||◌, ◌==◌, not, if◌then◌else◌}
 use Rattle.std.specs.Char.{is_ascii_control}
 use Rattle.go_base.specs.Bytes.{tab, newline, space, hash}
 
@@ -11,10 +11,6 @@ is_kept b = b == tab || (b == newline || not (is_ascii_control b))
 -- HT becomes a space
 abbrev pub space_for_tab : ℕ → ℕ
 space_for_tab b = if b == tab then space else b
-
--- whether a byte is parsed as it came: it is kept, and no HT
-abbrev pub stays : ℕ → Bool
-stays b = is_kept b && not (b == tab)
 
 -- LF, the newline that ends a line
 abbrev pub is_newline : ℕ → Bool

@@ -145,7 +145,8 @@ RepliesAreShort = (ok : Bool) (id : Option ℕ) (text : List ℕ)
     → length (written_reply ok id text) ≤ most_written_bytes
 
 -- Pieces are read one after the other, each behind what the one before it left, up to and with the first of them that
--- tells something. So many bytes of them are used in all, and this is told.
+-- tells something. The number counts the bytes of them that are used, in all; behind it stands what is told, if
+-- anything, and what is held then.
 pub data AreRead : List ℕ → List (List ℕ) → ℕ → Option (Result Reply ReplyFault) → List ℕ → Type 0 where
   all_read : {old : List ℕ} → AreRead old [] 0 None old
   quiet : {old mid new : List ℕ} {more : ℕ} {got : Option (Result Reply ReplyFault)}

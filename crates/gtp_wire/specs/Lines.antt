@@ -54,7 +54,7 @@ pub record Finds (old text : List ℕ) (found : List Line) (new : List ℕ) : Ty
   pub rest : (later : List ℕ) → lines (old ++ (text ++ later)) ≡ found ++ lines (new ++ later)
   pub no_line : lines new ≡ []
 
--- A reader that held this reads a piece: it uses so many bytes of it, and finds this line or none; then it holds this.
+-- A reader that held `old` reads a piece: it uses `used` bytes of it, and finds `line`, or none; then it holds `new`.
 pub record ReadsLine (old input : List ℕ) (used : ℕ) (line : Option Line) (new : List ℕ) : Type 0 where
   -- no whole line was held back
   pub held : lines old ≡ []

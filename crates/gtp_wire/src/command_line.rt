@@ -4,7 +4,7 @@ ghost use Rattle.std.specs.List.{slice_split};
 ghost use Rattle.std.specs.Option.{option_copied};
 ghost use Rattle.go_base.specs.Int.{most_int};
 ghost use Rattle.gtp_wire.specs.Bytes.{is_space};
-ghost use Rattle.gtp_wire.specs.LineReading.{IsLineText, id_of_words};
+ghost use Rattle.gtp_wire.specs.private.LineReading.{IsLineText, id_of_words};
 ghost use Rattle.gtp_wire.specs.Words.{words, command_of};
 
 use arrayvec::ArrayVec;
@@ -15,7 +15,7 @@ use std::marker::Model;
 pub(crate) const MOST_LINE_BYTES: usize = 1000;
 
 /// The room for the words of a line, and for a space and a byte that show that it is longer.
-pub(crate) const LINE_ROOM: usize = 1002;
+pub(crate) const LINE_ROOM: usize = MOST_LINE_BYTES + 2;
 
 /// A command line: an id where its first word is an int, and the words after it, the command's name first.
 ///
@@ -28,7 +28,7 @@ pub struct CommandLine {
 
 impl Model for CommandLine {
     ghost use Rattle.std.specs.Prelude.{drop, is_some, if◌then◌else◌};
-    ghost use Rattle.gtp_wire.specs.LineReading.{HoldsCommand};
+    ghost use Rattle.gtp_wire.specs.private.LineReading.{HoldsCommand};
     ghost use Rattle.gtp_wire.specs.Words.{CommandWords, words};
 
     ghost Value = { CommandWords };
@@ -46,6 +46,7 @@ impl CommandLine {
         ensures { result ≡ command_of (words line.now) }
     {
         let mut text = ArrayVec::new();
+        // There is room: the text of a line has at most 1,000 bytes.
         let _ = text.try_extend_from_slice(line);
         CommandLine {
             id: first_int(line),
@@ -60,6 +61,7 @@ impl CommandLine {
     {
         self.id = first_int(text);
         self.text.clear();
+        // There is room: the text of a line has at most 1,000 bytes.
         let _ = self.text.try_extend_from_slice(text);
     }
 

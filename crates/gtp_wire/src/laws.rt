@@ -8,6 +8,9 @@ ghost use Rattle.gtp_wire.specs.Laws.{RepliesHaveOneValue, OneThingIsToldFirst, 
 ghost use Rattle.gtp_wire.specs.Laws.{RepliesAreToldFirst, WrittenRepliesAreReplies, FrontsTellNothing};
 ghost use Rattle.gtp_wire.specs.Laws.{ToldStaysTold, WrittenRepliesAreToldFirst, RepliesAreShort};
 ghost use Rattle.gtp_wire.specs.Laws.{AnyPiecesTellAlike};
+ghost use Rattle.gtp_wire.specs.AnyText.{LinesAreTheOnlyReading, BytesChangeNothing, FaultsHavePlaces, FaultsStay};
+ghost use Rattle.gtp_wire.specs.AnyText.{RepliesLeaveNothing, AnswersHaveShapes, RepliesSay, RepliesAreTheOnlyReading};
+ghost use Rattle.gtp_wire.specs.AnyText.{CommandsHaveNoByteToSpare, RepliesHaveNoByteToSpare, LimitsAreThese};
 
 /// The lines of a text begin those of every longer text.
 pub fn lines_go_on()
@@ -112,4 +115,61 @@ pub fn replies_are_short()
 /// In whatever pieces a text is read, the same thing is told first.
 pub fn any_pieces_tell_alike()
     ensures { AnyPiecesTellAlike }
+{}
+
+/// Control characters and comments are nothing, HT is a space, spaces only separate, newlines end lines, and words are
+/// a line of an id and words or one that is too long. The lines of a text are the only reading that does all of this.
+pub fn lines_are_the_only_reading()
+    ensures { LinesAreTheOnlyReading }
+{}
+
+/// A control character, HT for a space, or a blank in front changes nothing of a reply but the count of its bytes.
+pub fn bytes_change_nothing()
+    ensures { BytesChangeNothing }
+{}
+
+/// `NoStatus` is told at the first byte that begins no reply, and `Overlong` at byte 8,193.
+pub fn faults_have_places()
+    ensures { FaultsHavePlaces }
+{}
+
+/// A reply that `=` or `?` began is told at two newlines, and `NoStatus` at the first byte that begins none.
+pub fn answers_have_shapes()
+    ensures { AnswersHaveShapes }
+{}
+
+/// What a reply says: its id, and its text without the spaces around it, up to the first two newlines in a row.
+pub fn replies_say()
+    ensures { RepliesSay }
+{}
+
+/// What a text tells first is as the laws of shapes, of faults and of what replies say have it. Every function of texts
+/// that tells as they have it tells just that.
+pub fn replies_are_the_only_reading()
+    ensures { RepliesAreTheOnlyReading }
+{}
+
+/// A fault stays: no byte is used after it, and the same is told again.
+pub fn faults_stay()
+    ensures { FaultsStay }
+{}
+
+/// A reply leaves nothing: what is read after it is read anew.
+pub fn replies_leave_nothing()
+    ensures { RepliesLeaveNothing }
+{}
+
+/// A command's line has no byte to spare.
+pub fn commands_have_no_byte_to_spare()
+    ensures { CommandsHaveNoByteToSpare }
+{}
+
+/// A reply that is written has no byte to spare.
+pub fn replies_have_no_byte_to_spare()
+    ensures { RepliesHaveNoByteToSpare }
+{}
+
+/// A text of at most 2,000 bytes may be written, a reply then has at most 2,048 and a command's line at most 64.
+pub fn limits_are_these()
+    ensures { LimitsAreThese }
 {}

@@ -4,7 +4,7 @@ ghost use Rattle.std.specs.Option.{option_to_list};
 ghost use Rattle.gtp_wire.specs.declared.lines.Line.TheVariants.{Command};
 ghost use Rattle.gtp_wire.specs.Words.{words, command_of};
 ghost use Rattle.go_base.specs.Bytes.{newline, hash};
-ghost use Rattle.gtp_wire.specs.LineReading.{IsKind, IsLineText};
+ghost use Rattle.gtp_wire.specs.private.LineReading.{IsKind, IsLineText};
 
 use super::command_line::{CommandLine, LINE_ROOM, MOST_LINE_BYTES};
 use arrayvec::ArrayVec;
@@ -98,7 +98,7 @@ pub struct LineReader {
 
 impl Model for LineReader {
     ghost use Rattle.std.specs.Prelude.{List, ℕ, ◌++◌};
-    ghost use Rattle.gtp_wire.specs.LineReading.{ending, HoldsLine};
+    ghost use Rattle.gtp_wire.specs.private.LineReading.{ending, HoldsLine};
 
     ghost Value = { List ℕ };
 
@@ -150,6 +150,7 @@ impl LineReader {
         // Where none is found, the line stays as it was.
         ensures unchanged { result.found ≡ false → line.new ≡ line.old }
     {
+        // This look brings what holds of every reader to the proof.
         let _ = &self.held;
         for (i, byte) in input.iter().enumerate() {
             if *byte != b'\n' {
@@ -187,6 +188,7 @@ impl LineReader {
         requires { IsKind byte Kind.Removed }
         ensures { Finds self.now (byte ∷ []) [] self.now }
     {
+        // This look brings what holds of every reader to the proof.
         let _ = &self.held;
     }
 
@@ -211,6 +213,7 @@ impl LineReader {
     fn take_hash(&mut self)
         ensures { Finds self.old (hash ∷ []) [] self.new }
     {
+        // This look brings what holds of every reader to the proof.
         let _ = &self.held;
         self.stage = Stage::Comment;
     }
@@ -234,7 +237,7 @@ impl LineReader {
         }
     }
 
-    /// Puts the line that is held, which a newline ends, in place of the one handed in. Answers whether there is one.
+    /// Puts the line that is held, which a newline ends, in place of the one handed in. Returns whether there is one.
     fn end_line(&mut self, line: &mut Line) -> bool
         ensures step { (z : List ℕ) → lines (self.old ++ newline ∷ z)
             ≡ option_to_list (line_if result line.new) ++ lines z }

@@ -8,6 +8,9 @@ ghost use Rattle.gtp_wire.specs.declared.replies.Reply.{Reply};
 use arrayvec::ArrayVec;
 use go_base::write_int;
 
+/// The most bytes of a reply that is read, what is removed and skipped included.
+pub(crate) const MOST_REPLY_BYTES: usize = 8192;
+
 /// What an engine answered to a command.
 #[derive(Debug, Drop)]
 pub struct Reply {
@@ -16,7 +19,7 @@ pub struct Reply {
     /// The id, an int, where the reply has one.
     pub id: Option<u32>,
     /// The text, without the spaces at its ends; rows are separated by single newlines.
-    pub text: ArrayVec<u8, 8192>,
+    pub text: ArrayVec<u8, MOST_REPLY_BYTES>,
 }
 
 impl Reply {
@@ -59,6 +62,9 @@ const MOST_TEXT_BYTES: usize = 2000;
 
 /// The room for a status, an id, a space, a text and two newlines.
 const REPLY_ROOM: usize = 2048;
+
+/// The most bytes of a status and an id.
+const MOST_FRONT_BYTES: usize = 11;
 
 /// Writes a reply: `=` for success or `?` for failure, the id where there is one, a space and the text where it isn't
 /// empty, and two newlines.
@@ -113,10 +119,11 @@ fn put_reply(out: &mut ReplyText, ok: bool, id: Option<u32>, text: &[u8])
 fn push_id(out: &mut ReplyText, id: Option<u32>)
     requires { array_vec_len out.old ≤ 1 }
     ensures bytes { out.new.items ≡ out.old.items ++ written_id id }
-    ensures len { array_vec_len out.new ≤ 11 }
+    ensures len { array_vec_len out.new ≤ MOST_FRONT_BYTES }
 {
     if let Some(id) = id {
         let digits = write_int(id);
+        // There is room for ten digits.
         let _ = out.try_extend_from_slice(&digits);
     }
 }
@@ -129,6 +136,7 @@ fn push_text(out: &mut ReplyText, text: &[u8])
 {
     if !text.is_empty() {
         out.push(b' ');
+        // There is room, as this function requires.
         let _ = out.try_extend_from_slice(text);
     }
 }

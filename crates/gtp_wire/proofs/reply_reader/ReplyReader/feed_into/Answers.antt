@@ -1,5 +1,5 @@
 use Rattle.std.proofs.Common.{◌++◌, take, subst, Ok, Err}
-use Rattle.gtp_wire.specs.ReplyReading.{Reaches}
+use Rattle.gtp_wire.specs.private.ReplyReading.{Reaches}
 use Rattle.gtp_wire.specs.declared.reply_reader.Step.{Step}
 use Rattle.gtp_wire.proofs.ReplyReadingLemmas.{told_in_piece, reply_told}
 use Rattle.gtp_wire.proofs.reply_reader.ReplyReader.feed_into.Goals as goal

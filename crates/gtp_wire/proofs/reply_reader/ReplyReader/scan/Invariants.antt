@@ -1,5 +1,5 @@
 use Rattle.std.proofs.Common.{◌++◌, take}
-use Rattle.gtp_wire.specs.ReplyReading.{IsReading}
+use Rattle.gtp_wire.specs.private.ReplyReading.{IsReading}
 use Rattle.gtp_wire.proofs.reply_reader.ReplyReader.scan.Given as goal
 
 -- the bytes so far are those of the phase
