@@ -88,8 +88,12 @@ cut_of : (first last : List ℕ) (number kept : ℕ) → SpellsBetween 1 2000 nu
     ≡ Some (Cut number kept)
 cut_of first last number kept spells_number spells_kept =
     let digits = spells_number.int.numeral.1 in
-    rw (before_digits first last digits, from_digits first last digits, within_of 1 2000 number first spells_number,
-    within_of 0 2048 kept last spells_kept)
+    rw (
+      before_digits first last digits,
+      from_digits first last digits,
+      within_of 1 2000 number first spells_number,
+      within_of 0 2048 kept last spells_kept,
+    )
     refl
 
 numbered_of : (make : ℕ → Fault) (number : ℕ) (digits : List ℕ) → SpellsBetween 1 2000 number digits

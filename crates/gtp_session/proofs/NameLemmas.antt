@@ -33,8 +33,7 @@ pub has_name-Decides : (named : Option CommandName) (d : CommandName)
     → Decides (has_name (spelled d) named) (named ≡ Some d)
 has_name-Decides None d = (λ e. cc, λ e. cc)
 has_name-Decides (Some c) d =
-    let test = bytes_eq-Decides (spelled c) (spelled d) in
-    (
+    let test = bytes_eq-Decides (spelled c) (spelled d) in (
       λ e. ap (λ (x : CommandName). Some x) (same_name c d (test.0 e)),
       λ e. let same : c ≡ d = cc in test.1 (ap spelled same),
     )

@@ -22,9 +22,11 @@ module _ {P : Type 0} (may : May P) where
   step_repeats : (old : State P) (l : Line) (reply : WrittenReply) (new : State P) → Step may old l reply new
       → RepeatsId l reply
   step_repeats old line.TooLong reply new step = (false, codes "syntax error", step.text)
-  step_repeats old (line.Command cl) reply new step =
-      ((answer old.game (line.Command cl) step.choice).ok, (answer old.game (line.Command cl) step.choice).text,
-      step.text)
+  step_repeats old (line.Command cl) reply new step = (
+    (answer old.game (line.Command cl) step.choice).ok,
+    (answer old.game (line.Command cl) step.choice).text,
+    step.text,
+  )
 
   answers_once : {old new : State P} {ls : List Line} {rs : List WrittenReply} → Answers may old ls rs new
       → old.ended ≡ false → HaveOneReplyEach ls rs

@@ -1,6 +1,5 @@
 -- Two lines of one command whose arguments spell the same values are answered alike.
 use Rattle.std.proofs.Common.{◌≡◌, ℕ, List, Option, Some, refl, sym, ap, ◌∙◌}
-use Rattle.std.specs.Prelude.{slice_get}
 use Rattle.go_base.specs.Int.{SpellsInt, int_of}
 use Rattle.go_base.specs.Komi.{SpellsKomi, komi_of}
 use Rattle.go_base.specs.Colour.{SpellsColour, colour_of}
@@ -14,7 +13,7 @@ use Rattle.go_board.specs.Game.{GameRecord}
 use Rattle.gtp_session.specs.declared.commands.CommandName.{CommandName}
 use Rattle.gtp_session.specs.declared.commands.CommandName.TheVariants.{ProtocolVersion, Name, Version, KnownCommand, ListCommands, Quit, Boardsize, ClearBoard, Komi, Play, Genmove, FixedHandicap, Undo, FinalScore, Showboard}
 use Rattle.gtp_session.specs.Commands.{argument, answer_to, answer_known, answer_boardsize, answer_komi, answer_play, answer_genmove, answer_handicap, asked_by_named, asked_by_command, asked_by_genmove}
-use Rattle.gtp_session.specs.TableLaws.{Names, SpellAlike, AskAlike, SpellingsDoNotCount}
+use Rattle.gtp_session.specs.TableLaws.{SpellAlike, AskAlike, SpellingsDoNotCount}
 use Rattle.gtp_session.proofs.LineLemmas.{of_argument, of_names, named_answer}
 
 -- arguments that spell one value are read alike
@@ -86,7 +85,7 @@ asks_alike game Showboard words others alike = refl
 pub spellings : SpellingsDoNotCount
 spellings = λ game a b words others ch c names named alike. (
   named_answer game a words ch c names ∙ answered_alike game c words others ch alike
-  ∙ sym (named_answer game b others ch c named),
+      ∙ sym (named_answer game b others ch c named),
   ap (λ o. asked_by_named game o words) (of_names words c names) ∙ asks_alike game c words others alike
-  ∙ ap (λ o. asked_by_named game o others) (sym (of_names others c named)),
+      ∙ ap (λ o. asked_by_named game o others) (sym (of_names others c named)),
 )

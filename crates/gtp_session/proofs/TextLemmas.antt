@@ -328,8 +328,11 @@ letter-ink column most = record { least = grind (arith, nat_tests); most = grind
 neat-each_letter : (first n : ℕ) → first + n ≤ 26
     → AllByRecursion IsNeat (map (λ k. letter_of k ∷ []) (range_with_len first n))
 neat-each_letter first zero most = tt
-neat-each_letter first (suc n) most = (last (letter-ink first (omega arith)), neat-each_letter (first + 1) n
-    (omega arith))
+neat-each_letter first (suc n) most = (
+  last (letter-ink first (omega arith)),
+  neat-each_letter (first + 1) n
+      (omega arith),
+)
 
 neat-letters : (size : ℕ) → 1 ≤ size → size ≤ 25 → IsNeat (shown_letters size)
 unfolding shown_letters
@@ -383,8 +386,11 @@ neat-vertex : (size p : ℕ) → size ≤ 25 → IsOn size p → IsNeat (written
 neat-vertex size p most on = ink (letter-ink (column_of p) (omega (arith, on.right))) (neat-written_int (row_of p))
 
 short-vertex : (size p : ℕ) → size ≤ 25 → IsOn size p → length (written_vertex (At p)) ≤ 3
-short-vertex size p most on = omega (arith, length-decimal-le 2 (row_of p) (omega arith) (omega (arith, on.top))
-    (omega (arith, on.top)))
+short-vertex size p most on = omega (
+  arith,
+  length-decimal-le 2 (row_of p) (omega arith) (omega (arith, on.top))
+      (omega (arith, on.top)),
+)
 
 -- a vertex that is legal may be the text of a reply
 pub vertex_fits : (game : GameRecord) (c : Colour) (v : Vertex) → game.size ≤ 25 → IsLegal game c v

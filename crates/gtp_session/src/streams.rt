@@ -114,15 +114,27 @@ impl<T> Model for Counted<T> {
     ghost Value = { Tally T };
 
     ghost view = { λ c.
-        record { inner = c.inner; reads = c.reads; ends = c.ends; failures = c.failures;
-            last = c.last; waiting = c.waiting } };
+        record {
+          inner = c.inner;
+          reads = c.reads;
+          ends = c.ends;
+          failures = c.failures;
+          last = c.last;
+          waiting = c.waiting;
+        } };
 }
 
 impl<T> Counted<T> {
     /// Begins to count, from 0, and not waiting.
     pub fn new(inner: T) -> Self
-        ensures { result ≡ record { inner = inner; reads = 0; ends = 0; failures = 0;
-            last = Some 0; waiting = false } }
+        ensures { result ≡ record {
+          inner = inner;
+          reads = 0;
+          ends = 0;
+          failures = 0;
+          last = Some 0;
+          waiting = false;
+        } }
     {
         Counted {
             inner,
@@ -147,8 +159,13 @@ impl<T> Counted<T> {
 
 impl<T: ReadOnce> Incoming for Counted<T> {
     ghost shown = { λ c.
-        record { gives = T.gives c.inner; reads = c.reads; ends = c.ends; failures = c.failures;
-            last = c.last } };
+        record {
+          gives = T.gives c.inner;
+          reads = c.reads;
+          ends = c.ends;
+          failures = c.failures;
+          last = c.last;
+        } };
 
     /// Reads the reader in it once, with the whole buffer, and fails exactly where that fails.
     fn read(&mut self, buffer: &mut [u8]) -> Result<usize, Broken>
@@ -180,8 +197,12 @@ impl<T: ReadOnce> Incoming for Counted<T> {
 
 impl<T: WriteOnce> Outgoing for Counted<T> {
     ghost shown = { λ c.
-        record { holds = T.holds c.inner; failures = c.failures; last = c.last;
-            waiting = c.waiting } };
+        record {
+          holds = T.holds c.inner;
+          failures = c.failures;
+          last = c.last;
+          waiting = c.waiting;
+        } };
 
     /// Writes to the writer in it once, with the whole text, and fails exactly where that fails or takes no byte of a
     /// text that is not empty.

@@ -16,8 +16,7 @@ write_outcome-requires-in-Command g c =
 
 pub returns-in-TooLong-clause-executes : goal.returns-in-TooLong-clause-executes
 returns-in-TooLong-clause-executes g c =
-    rw c.in-TooLong.is
-    (
+    rw c.in-TooLong.is (
       syntax_error c.args.game.now,
       (record { game_is = refl; reply_is = c.write_outcome.ensures }, (refl, λ choice. refl)),
     )

@@ -72,14 +72,21 @@ returns-then-not-is_too_many-clause-came_out g c =
       breaks = λ h. off-BrokenConversation g.P.Policy.may
           (BrokenConversation-after g.P.Policy.may c.loop-turn.invariant.conversation
           (BrokenConversation-off g.P.Policy.may (done.breaks h)));
-      reads = (c.loop-turn._turn + made.0, omega (arith, made.1), rw (made.2, c.loop-turn.invariant.reads)
-          (raised-then _ _ _));
+      reads = (
+        c.loop-turn._turn + made.0,
+        omega (arith, made.1),
+        rw (made.2, c.loop-turn.invariant.reads)
+            (raised-then _ _ _),
+      );
       too_many = λ h. absurd (c.is_too_many.ensures.no c.if-not-is_too_many.true h);
       gave = λ h. absurd (c.is_too_many.ensures.no c.if-not-is_too_many.true h);
       gave_before = λ h.
-          let before = done.gave_before h in
-          (c.loop-turn._turn + before.0, rw (before.1, c.loop-turn.invariant.reads) (raised-then _ _ _
-          ∙ ap (raised _) (omega arith)), GivesAtLeast-both c.loop-turn.invariant.gave before.2);
+          let before = done.gave_before h in (
+            c.loop-turn._turn + before.0,
+            rw (before.1, c.loop-turn.invariant.reads) (raised-then _ _ _
+                ∙ ap (raised _) (omega arith)),
+            GivesAtLeast-both c.loop-turn.invariant.gave before.2,
+          );
       read_failed = λ h. done.read_failed h ∙ ap (λ n. raised n 1) c.loop-turn.invariant.read_held;
       read_last = done.read_last;
       read_held = λ h. done.read_held h ∙ c.loop-turn.invariant.read_held;
