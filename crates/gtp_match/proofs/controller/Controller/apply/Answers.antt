@@ -1,5 +1,5 @@
 use Rattle.std.proofs.Common.{subst}
-use Rattle.gtp_match.specs.Conditions.{MayBe}
+use Rattle.gtp_match.specs.private.Conditions.{MayBe}
 use Rattle.gtp_match.specs.declared.table.Outcome.{Outcome}
 use Rattle.gtp_match.specs.declared.table.Outcome.TheVariants.{Moves}
 use Rattle.gtp_match.proofs.ApplyLemmas.{is_played, applied_move}

@@ -1,5 +1,5 @@
+use super::steps::{answer, black_asked, ended, first_sent, hear, up};
 use crate::equal::assert_equal;
-use crate::test_steps::{answer, black_asked, ended, first_sent, hear, up};
 use crate::{Action, Match, SideFault, Status, Verdict, result_line};
 use go_base::Side;
 use std::process::Abort;
@@ -104,7 +104,7 @@ fn given_up(rt: &impl Abort, played: &Match, side: Side) {
     ended(rt, played, Verdict::Abandoned(side), text);
 }
 
-/// So many bytes of a side show this fault, and it is given up.
+/// The first `used` of these bytes of a side show this fault, and it is given up.
 fn gives_up(rt: &impl Abort, side: Side, bytes: &[u8], used: usize, fault: SideFault) {
     let mut played = first_sent(rt, 0);
     assert!(rt; result_line(1, &played).is_none());

@@ -1,6 +1,6 @@
 //! How many commands a match takes in which moves are taken back.
+use super::steps::{answer, both_started, ended, setup_with, start_both_again};
 use crate::equal::assert_equal;
-use crate::test_steps::{answer, both_started, ended, setup_with, start_both_again};
 use crate::{Action, Match, Verdict};
 use go_base::Side;
 use gtp_wire::{ReplyText, write_reply_into};
@@ -40,7 +40,7 @@ impl Counted {
         }
     }
 
-    /// The side confirms so many script commands.
+    /// The side confirms `commands` commands of its script.
     fn confirm(&mut self, rt: &impl Abort, side: Side, commands: u32) {
         for _ in 0..commands {
             self.exchange(rt, side, true, b"");

@@ -1,4 +1,4 @@
--- What must hold before a step. No public clause speaks of it.
+-- What must hold before a step.
 use Rattle.std.specs.Prelude.{◌<◌, length, IfSome, IsSome}
 use Rattle.go_base.specs.Handicap.{AllowsHandicap}
 use Rattle.go_base.specs.Int.{most_int}

@@ -1,9 +1,9 @@
 //! Refusals of sides that are sent the game again, and commands to take a move back that go wrong.
-use crate::equal::assert_equal;
-use crate::test_steps::{
+use super::steps::{
     answer, black_answered, both_in_step, bring, ended, hear, send, send_and_wait, stands,
     start_both_again, undo_sent, up,
 };
+use crate::equal::assert_equal;
 use crate::{Action, ForfeitCause, Match, SideFault, Status, Verdict};
 use go_base::Side;
 use std::process::Abort;

@@ -1,6 +1,6 @@
 //! Refusals and answers to `undo`, heard whole and in two pieces.
+use super::steps::{black_answered, send, send_and_wait, stands, undo_sent};
 use crate::equal::assert_equal;
-use crate::test_steps::{black_answered, send, send_and_wait, stands, undo_sent};
 use crate::{Action, Match, SideFault, Status};
 use go_base::Side;
 use std::process::Abort;

@@ -1,8 +1,8 @@
-use crate::equal::assert_equal;
-use crate::test_steps::{
+use super::steps::{
     answer, black_answered, bring, ended, refused, send, send_and_wait, stands, start_both_again,
     undo_sent, up,
 };
+use crate::equal::assert_equal;
 use crate::{Action, ForfeitCause, Match, Status, Verdict};
 use go_base::Side;
 use std::process::Abort;

@@ -1,9 +1,9 @@
 //! Commands that are sent before earlier ones are answered.
-use crate::equal::assert_equal;
-use crate::test_steps::{
+use super::steps::{
     answer, both_in_step, both_started, ended, first_sent, hear, make_move, send, send_and_wait,
     setup_with, success, up,
 };
+use crate::equal::assert_equal;
 use crate::{Action, ForfeitCause, Match, SideFault, Status, Verdict};
 use go_base::{Point, Side, Vertex};
 use std::process::Abort;
@@ -59,7 +59,7 @@ fn the_oldest_command_is_answered_first(rt: HostRuntime) {
     );
 }
 
-/// Black and White make so many moves each: Black fills the lines from the first on, and White passes.
+/// Black and White make `moves` moves each: Black fills the lines from the first on, and White passes.
 fn fill(rt: &impl Abort, played: &mut Match, moves: u32) {
     let lines = played.setup().size().get();
     for number in 0..moves {
@@ -106,8 +106,8 @@ fn a_side_started_again_is_sent_eight_commands_before_it_has_to_answer(rt: HostR
     send_and_wait(&rt, &mut played, Side::Black, b"10 genmove b\n");
 }
 
-/// Sends a side commands while `next` says so, at most so many, and hears the answer to each. Of a side that has
-/// answered so many before, it tells how many those are then.
+/// Sends a side commands while `next` says so, `most` of them at most, and hears the answer to each. The side has
+/// answered `answered` commands before. Returns how many it has answered then.
 fn round_trip(rt: &impl Abort, played: &mut Match, side: Side, most: u32, answered: u32) -> u32 {
     let mut sent = answered;
     for _ in 0..most {
@@ -124,8 +124,8 @@ fn round_trip(rt: &impl Abort, played: &mut Match, side: Side, most: u32, answer
     sent
 }
 
-/// By how many round trips Black catches up that is started again in a game of 200 moves, where at most so many
-/// commands are sent before their answers are heard.
+/// By how many round trips Black catches up that is started again in a game of 200 moves, where at most
+/// `most` commands are sent before their answers are heard.
 fn trips_after_200_moves(rt: &impl Abort, most: u32) -> u32 {
     let mut played = both_started(rt, setup_with(rt, 19, 0, 0, 300, 1));
     for side in [Side::Black, Side::White] {

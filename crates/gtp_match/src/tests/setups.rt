@@ -1,5 +1,5 @@
+use super::steps::setup_with;
 use crate::equal::assert_equal;
-use crate::test_steps::setup_with;
 use crate::{Setup, SetupFault};
 use go_base::{Colour, Komi, Move, Size, Vertex};
 use gtp_wire::Command;

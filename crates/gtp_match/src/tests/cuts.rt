@@ -1,6 +1,6 @@
 //! Bytes that show a fault, heard whole and in two pieces.
+use super::steps::{black_asked, first_sent, hear, up};
 use crate::equal::assert_equal;
-use crate::test_steps::{black_asked, first_sent, hear, up};
 use crate::{Action, Match, SideFault, Status};
 use go_base::Side;
 use std::process::Abort;

@@ -1,9 +1,10 @@
-use crate::equal::assert_equal;
-use crate::test_steps::{
-    answer, black_asked, both_started, bring, ended, first_sent, hear, line, send, send_and_wait,
+use super::steps::{
+    answer, black_answered, black_asked, both_started, bring, ended, first_sent, hear, line, send, send_and_wait,
     setup_with, up,
 };
+use crate::equal::assert_equal;
 use crate::{Action, Match, Status, Verdict, record_line, result_line};
+use arrayvec::ArrayVec;
 use go_base::Side;
 use std::process::Abort;
 
@@ -105,6 +106,15 @@ fn the_last_move_that_is_allowed_ends_by_the_limit(rt: HostRuntime) {
     let text = b"game 1: limit moves 2 restarts 0 0";
     ended(&rt, &played, Verdict::Limit, text.as_slice());
     assert_equal(&rt, record_line(&played).as_slice(), b"pass B2".as_slice());
+}
+
+#[test]
+fn a_result_line_has_room_for_96_bytes_and_a_record_line_for_10_000(rt: HostRuntime) {
+    let played = black_answered(&rt, b"=4 resign\n\n");
+    let told: Option<ArrayVec<u8, 96>> = result_line(1, &played);
+    let record: ArrayVec<u8, 10_000> = record_line(&played);
+    assert_equal(&rt, told.expect(&rt, "an end").as_slice(), b"game 1: W+R moves 0 restarts 0 0".as_slice());
+    assert_equal(&rt, record.as_slice(), b"".as_slice());
 }
 
 #[test]

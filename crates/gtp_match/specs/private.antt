@@ -1,0 +1,4 @@
+-- Definitions that the contracts of private functions use, and no public clause.
+pub mod Conditions
+pub mod Feeding
+pub mod Words
