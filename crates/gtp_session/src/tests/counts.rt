@@ -1,10 +1,10 @@
 //! What the counts are after calls that fail once, and after many reads.
-use super::{Broken, Counted, Incoming, Outgoing};
 use crate::equal::assert_equal;
 use crate::first::First;
-use crate::memory::{Balky, Drip, Pieces};
 use crate::serve::{ServeFault, Served, serve, serve_within};
 use crate::session::Session;
+use crate::streams::{Broken, Counted, Incoming, Outgoing};
+use crate::tests::memory::{Balky, Drip, Pieces};
 use std::alloc::Global;
 
 /// A writer that balks so once.
@@ -110,7 +110,7 @@ fn the_next_call_goes_on_after_a_flush_that_failed(rt: HostRuntime) {
     );
 }
 
-/// A reader that gives this byte so often, one a read, and then the end.
+/// A reader that gives this byte `left` times, one a read, and then the end.
 fn drip(byte: u8, left: u32) -> Counted<Drip> {
     Counted::new(Drip {
         byte,

@@ -421,4 +421,7 @@ fn the_laws_hold_of_each_policy(_rt: HostRuntime) {
     laws::each_reply_is_one::<First>();
     laws::each_reply_is_one::<Random>();
     laws::each_reply_is_one::<Book>();
+    laws::each_line_is_answered_once::<First>();
+    laws::each_line_is_answered_once::<Random>();
+    laws::each_line_is_answered_once::<Book>();
 }

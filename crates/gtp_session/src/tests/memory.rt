@@ -156,7 +156,7 @@ impl Write for Stuck {
     }
 }
 
-/// Takes all, and fails each flush after so many.
+/// Takes all, and fails each flush after the first `flushes`.
 #[derive(Drop)]
 pub struct Unflushed<'a> {
     pub taken: &'a mut Vec<u8>,
@@ -206,7 +206,7 @@ impl Write for Balky {
     }
 }
 
-/// Gives one byte so often, one a read, and then the end; and counts its reads.
+/// Gives one byte `left` times, one a read, and then the end; and counts its reads.
 #[derive(Drop)]
 pub struct Drip {
     pub byte: u8,

@@ -2,10 +2,10 @@
 use crate::book::Book;
 use crate::equal::assert_equal;
 use crate::first::First;
-use crate::memory::Pieces;
 use crate::serve::{Served, serve};
 use crate::session::Session;
 use crate::streams::Counted;
+use crate::tests::memory::Pieces;
 use crate::tests::{assert_policy_serves, assert_serves_in_any_cuts};
 use std::alloc::{Allocator, Global};
 use std::process::Abort;
@@ -103,6 +103,29 @@ fn spellings_and_refusals_of_play(rt: HostRuntime) -> Result<(), Fail> {
         (b"boardsize nine", b"? syntax error"),
     ];
     assert_answers(&rt, rt.alloc(), &lines)
+}
+
+#[test]
+fn further_words_are_ignored(rt: HostRuntime) -> Result<(), Fail> {
+    let lines: [Answered; 11] = [
+        (b"protocol_version 1", b"= 2"),
+        (b"version 9", b"= 1.0"),
+        (b"boardsize 9 19", b"="),
+        (b"komi 5 6.7", b"="),
+        (b"play b A1 A2", b"="),
+        (b"genmove w b", b"= B1"),
+        (b"undo 2", b"="),
+        (b"version", b"= 1.0"),
+        (b"final_score now", b"= B+76"),
+        (b"clear_board 9", b"="),
+        (b"fixed_handicap 2 3", b"= C3 G7"),
+    ];
+    assert_answers(&rt, rt.alloc(), &lines)
+}
+
+#[test]
+fn a_quit_with_further_words_ends_the_session(rt: HostRuntime) {
+    assert_serves_in_any_cuts(&rt, b"quit now\nname\n", b"=\n\n", Served::Quit);
 }
 
 #[test]

@@ -2,10 +2,10 @@
 use crate::equal::assert_equal;
 use crate::fault::Fault;
 use crate::first::First;
-use crate::memory::{Limited, Pieces, Stuck, Telling, Unflushed, Waiting};
 use crate::serve::{ServeFault, Served, serve, serve_with, serve_within};
 use crate::session::Session;
 use crate::streams::Counted;
+use crate::tests::memory::{Limited, Pieces, Stuck, Telling, Unflushed, Waiting};
 use arrayvec::ArrayVec;
 use std::alloc::Global;
 use std::cell::Cell;
@@ -51,7 +51,7 @@ fn sizes(alloc: Global) -> Result<Vec<usize>, Fail> {
     Ok(sizes)
 }
 
-/// The replies to so many lines, joined.
+/// The replies to the first `lines` lines, joined.
 fn replies(alloc: Global, lines: usize) -> Result<Vec<u8>, Fail> {
     let mut text = Vec::new(alloc);
     for (index, (_line, reply, _moves)) in KO.iter().enumerate() {
@@ -62,7 +62,7 @@ fn replies(alloc: Global, lines: usize) -> Result<Vec<u8>, Fail> {
     Ok(text)
 }
 
-/// How many moves the record has after so many lines.
+/// How many moves the record has after the first `lines` lines.
 fn moves_after(lines: usize) -> usize {
     let mut moves = 0;
     for (index, (_line, _reply, after)) in KO.iter().enumerate() {
@@ -73,7 +73,7 @@ fn moves_after(lines: usize) -> usize {
     moves
 }
 
-/// How many replies are whole in so many bytes of the output.
+/// How many replies are whole in the first `bytes` bytes of the output.
 fn whole_replies(bytes: usize) -> usize {
     let mut end = 0usize;
     let mut whole = 0usize;
