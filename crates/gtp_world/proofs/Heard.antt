@@ -580,8 +580,8 @@ module _ (rules : Rules) (c : Controller) (s : Colour) (u : Incarnation) (e : Op
 -- bytes that are no whole reply yet
 part_keeps : (game : GameRecord) (u : Incarnation) (e : Option EngineBody) (te x y kept : List ℕ)
     → (h : IsJoinedInPlay game u (record { engine = e; to_engine = te; to_controller = x ++ y }))
-    → TellsNothing (h.begun ++ x) → MayKeep kept (u.rest ++ x)
-    → IsJoinedInPlay game (record u { rest = kept }) (record { engine = e; to_engine = te; to_controller = y })
+    → TellsNothing (h.begun ++ x) → MayKeep kept (u.reader ++ x)
+    → IsJoinedInPlay game (record u { reader = kept }) (record { engine = e; to_engine = te; to_controller = y })
 part_keeps game u e te x y kept h quiet keeps = record {
   few = h.few;
   replies = h.replies;
@@ -593,7 +593,7 @@ part_keeps game u e te x y kept h quiet keeps = record {
   begun = h.begun ++ x;
   cut = h.cut;
   begun_quiet = quiet;
-  kept = kept_longer kept u.rest h.begun x keeps h.kept;
+  kept = kept_longer kept u.reader h.begun x keeps h.kept;
   arriving = ap (λ (w : List ℕ). w ++ h.cut) (append_assoc h.begun x y) ∙ h.arriving;
   runs = h.runs;
   uncut = h.uncut;
@@ -634,22 +634,22 @@ module _ (rules : Rules) (c : Controller) (s : Colour) (u : Incarnation) (e : Op
       × AreJoined rules c2 s (record { engine = e; to_engine = te; to_controller = drop used (b ∷ x) ++ y }) lo
 
   -- what the bytes heard so far tell, by what the reader's text tells
-  as_begun : (place : ℕ) (answer : Result Reply ReplyFault) → IsFirst (u.rest ++ b ∷ x) place answer
+  as_begun : (place : ℕ) (answer : Result Reply ReplyFault) → IsFirst (u.reader ++ b ∷ x) place answer
       → IsFirst (mine.begun ++ b ∷ x) place answer
   as_begun place answer first =
       let F : List ℕ → Type 0 = λ t. IsFirst t place answer in
       (mine.kept.1 (b ∷ x) place answer).0 first
 
   as_reader : (place : ℕ) (answer : Result Reply ReplyFault) → IsFirst (mine.begun ++ b ∷ x) place answer
-      → IsFirst (u.rest ++ b ∷ x) place answer
+      → IsFirst (u.reader ++ b ∷ x) place answer
   as_reader place answer first = (mine.kept.1 (b ∷ x) place answer).1 first
 
   -- no reply ends within the bytes
-  quiet_keeps : (kept : List ℕ) → TellsNothing (mine.begun ++ b ∷ x) → MayKeep kept (u.rest ++ b ∷ x)
-      → Keeps (length (b ∷ x)) None (with_side_up c s (record u { rest = kept }))
+  quiet_keeps : (kept : List ℕ) → TellsNothing (mine.begun ++ b ∷ x) → MayKeep kept (u.reader ++ b ∷ x)
+      → Keeps (length (b ∷ x)) None (with_side_up c s (record u { reader = kept }))
   quiet_keeps kept quiet keeps =
-      let next : Incarnation = record u { rest = kept } in
-      let longer : MayKeep kept (mine.begun ++ b ∷ x) = kept_longer kept u.rest mine.begun (b ∷ x) keeps mine.kept in
+      let next : Incarnation = record u { reader = kept } in
+      let longer : MayKeep kept (mine.begun ++ b ∷ x) = kept_longer kept u.reader mine.begun (b ∷ x) keeps mine.kept in
       let next_sound : IsSound (with_side_up c s next) =
       quiet_sound c s u (mine.begun ++ b ∷ x) kept sound none up quiet longer in
       let live : IsJoinedInPlay own next (record { engine = e; to_engine = te; to_controller = y }) =
@@ -710,19 +710,19 @@ module _ (rules : Rules) (c : Controller) (s : Colour) (u : Incarnation) (e : Op
           → HearsUp MayKeep c s u (b ∷ x) used fault c2 → Keeps used fault c2
       by_bytes used fault c2 (inl quiet) (HearsUp.nothing_yet {kept = kept} tells keeps) = quiet_keeps kept quiet keeps
       by_bytes used fault c2 (inl quiet) (HearsUp.replied {value = value} first) =
-          absurd (quiet_or_first _ _ _ quiet (as_begun (length u.rest + used) (Ok value) first))
+          absurd (quiet_or_first _ _ _ quiet (as_begun (length u.reader + used) (Ok value) first))
       by_bytes used fault c2 (inl quiet) (HearsUp.faulted {shown = shown} first) =
-          absurd (quiet_or_first _ _ _ quiet (as_begun (length u.rest + used) (Err shown) first))
+          absurd (quiet_or_first _ _ _ quiet (as_begun (length u.reader + used) (Err shown) first))
       by_bytes used fault c2 (inr k) (HearsUp.nothing_yet {kept = kept} tells keeps) =
           absurd (quiet_or_first _ _ _ tells (as_reader (length (reply_bytes k.reply)) (Ok k.reply) k.first))
       by_bytes used fault c2 (inr k) (HearsUp.faulted {shown = shown} first) =
-          absurd (let same = one_first (mine.begun ++ b ∷ x) (length u.rest + used) (length (reply_bytes k.reply))
-          (Err shown) (Ok k.reply) (as_begun (length u.rest + used) (Err shown) first) k.first in
+          absurd (let same = one_first (mine.begun ++ b ∷ x) (length u.reader + used) (length (reply_bytes k.reply))
+          (Err shown) (Ok k.reply) (as_begun (length u.reader + used) (Err shown) first) k.first in
           let bad : Err shown ≡ Ok k.reply = same.1 in cc bad)
       by_bytes used fault c2 (inr k) (HearsUp.replied {value = value} first) =
           let same =
-          one_first (mine.begun ++ b ∷ x) (length u.rest + used) (length (reply_bytes k.reply)) (Ok value) (Ok k.reply)
-          (as_begun (length u.rest + used) (Ok value) first) k.first in
+          one_first (mine.begun ++ b ∷ x) (length u.reader + used) (length (reply_bytes k.reply)) (Ok value) (Ok k.reply)
+          (as_begun (length u.reader + used) (Ok value) first) k.first in
           let value_is : value ≡ k.reply = let both : Ok value ≡ Ok k.reply = same.1 in cc both in
           let used_is : used ≡ k.used = omega (arith, same.0, k.place, mine.kept.0) in
           subst (λ (r : Reply). Keeps used (fault_of (outcome c.game s (oldest u.unanswered) r))

@@ -98,7 +98,7 @@ next_live : (game : GameRecord) (n sent : ℕ) (us : List SentCommand) (more : L
     → length us ≤ most_unanswered → Owes (replayed game n) us more waiting ahead → AllByRecursion CanBeWritten waiting
     → AllMayBeSent ahead waiting
     → tc ++ cut ≡ all_reply_bytes more → WillReadWhereRunning e te ahead waiting → CutByCrash e cut
-    → IsJoinedInPlay game (record { confirmed = n; sent = sent; unanswered = us; rest = [] })
+    → IsJoinedInPlay game (record { confirmed = n; sent = sent; unanswered = us; reader = [] })
     (record { engine = e; to_engine = te; to_controller = tc })
 next_live game n sent us more waiting ahead e te tc cut few owes fit may arriving runs uncut = record {
   few = few;
@@ -352,7 +352,7 @@ pub record Left (game : GameRecord) (n : ℕ) (us : List SentCommand) (e : Optio
 
 pub left_live : (game : GameRecord) (n sent : ℕ) (us : List SentCommand) (e : Option EngineBody) (te tc : List ℕ)
     → Left game n us e te tc
-    → IsJoinedInPlay game (record { confirmed = n; sent = sent; unanswered = us; rest = [] })
+    → IsJoinedInPlay game (record { confirmed = n; sent = sent; unanswered = us; reader = [] })
     (record { engine = e; to_engine = te; to_controller = tc })
 left_live game n sent us e te tc h =
     next_live game n sent us h.more h.waiting h.ahead e te tc h.cut h.few h.owes h.fit h.may h.arriving h.runs h.uncut

@@ -149,7 +149,7 @@ module _ (rules : Rules) (c : Controller) (s : Colour) (u : Incarnation) (o : Se
       ap (λ (os : List SentCommand). outcome c.game s (oldest os) owed.reply) one
       ∙ scripted_outcome c.game s o owed.reply (replayed g u.confirmed) owed.game_after owed.answered well
 
-  first : IsFirst (u.rest ++ tc) (length (reply_bytes owed.reply)) (Ok owed.reply)
+  first : IsFirst (u.reader ++ tc) (length (reply_bytes owed.reply)) (Ok owed.reply)
   first =
       (mine.kept.1 tc (length (reply_bytes owed.reply)) (Ok owed.reply)).1
       (subst (λ (t : List ℕ). IsFirst t (length (reply_bytes owed.reply)) (Ok owed.reply))
@@ -164,7 +164,7 @@ module _ (rules : Rules) (c : Controller) (s : Colour) (u : Incarnation) (o : Se
       → Confirmed used fault c2
   up_confirms used fault c2 (HearsUp.replied {value = value} told) =
       let same =
-      one_first (u.rest ++ tc) (length u.rest + used) (length (reply_bytes owed.reply)) (Ok value)
+      one_first (u.reader ++ tc) (length u.reader + used) (length (reply_bytes owed.reply)) (Ok value)
       (Ok owed.reply) told first in
       let value_is : value ≡ owed.reply = let both : Ok value ≡ Ok owed.reply = same.1 in cc both in
       let outcome_is : outcome c.game s (oldest u.unanswered) value ≡ Confirms =
@@ -174,10 +174,10 @@ module _ (rules : Rules) (c : Controller) (s : Colour) (u : Incarnation) (o : Se
         ap (after_outcome c s (heard_reply u)) outcome_is,
       )
   up_confirms used fault c2 (HearsUp.faulted {shown = shown} told) =
-      absurd (let same = one_first (u.rest ++ tc) (length u.rest + used) (length (reply_bytes owed.reply)) (Err shown)
+      absurd (let same = one_first (u.reader ++ tc) (length u.reader + used) (length (reply_bytes owed.reply)) (Err shown)
       (Ok owed.reply) told first in let bad : Err shown ≡ Ok owed.reply = same.1 in cc bad)
   up_confirms used fault c2 (HearsUp.nothing_yet quiet keeps) =
-      absurd (quiet_or_first (u.rest ++ tc) (length (reply_bytes owed.reply)) (Ok owed.reply) quiet first)
+      absurd (quiet_or_first (u.reader ++ tc) (length (reply_bytes owed.reply)) (Ok owed.reply) quiet first)
 
   one_confirms : (used : ℕ) (fault : Option SideFault) (c2 : Controller) → Hears c s tc used fault c2
       → Confirmed used fault c2
