@@ -46,7 +46,7 @@ abbrev pub SameLane : {B W : Type 0} → Colour → World B W → World B W → 
 SameLane Black old new = new.black ≡ old.black
 SameLane White old new = new.white ≡ old.white
 
--- the side's engine is gone, with what was on its way to it; of what it wrote the first bytes are left, so many or all
+-- the side's engine is gone, with what was on its way to it; of what it wrote the first `count` bytes are left, or all
 -- where there are fewer
 pub record IsCrashed {B W : Type 0} (old : World B W) (side : Colour) (count : ℕ) (new : World B W) : Type 0 where
   pub engine : game_at new side ≡ None
@@ -55,7 +55,7 @@ pub record IsCrashed {B W : Type 0} (old : World B W) (side : Colour) (count : �
   -- the controller knows nothing of it
   pub controller : new.controller ≡ old.controller
 
--- Of the bytes on their way to the side's engine the first are taken off, so many or all where there are fewer. The
+-- Of the bytes on their way to the side's engine the first `count` are taken off, or all where there are fewer. The
 -- controller stays, and so does the other side.
 pub record IsTakenToEngine {B W : Type 0} (old : World B W) (side : Colour) (count : ℕ) (new : World B W)
     : Type 0 where
@@ -63,8 +63,8 @@ pub record IsTakenToEngine {B W : Type 0} (old : World B W) (side : Colour) (cou
   pub controller : new.controller ≡ old.controller
   pub others : SameLane (other side) old new
 
--- Of the bytes on their way to the controller the first are taken off, so many or all where there are fewer. The
--- side's engine stays with what is on its way to it, and so does the other side.
+-- Of the bytes on their way to the controller the first `count` are taken off, or all where there are fewer. The side's
+-- engine stays with what is on its way to it, and so does the other side.
 pub record IsTakenToController {B W : Type 0} (old : World B W) (side : Colour) (count : ℕ) (new : World B W)
     : Type 0 where
   pub engine : game_at new side ≡ game_at old side

@@ -84,6 +84,7 @@ abbrev pub after_commands : GameRecord → List Command → GameRecord
 after_commands game [] = game
 after_commands game (command ∷ later) = after_commands (after_command game command) later
 
--- the game of a new engine under this game's ko rule after so many commands of the script that brings it to this game
+-- the game of a new engine under this game's ko rule, after the first `count` commands of the script that brings it to
+-- this game
 abbrev pub replayed : GameRecord → ℕ → GameRecord
 replayed game count = after_commands (fresh_game_under game.rule) (take count (script game))

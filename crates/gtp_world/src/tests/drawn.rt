@@ -1,7 +1,9 @@
 //! Drawn lists of events, in worlds of drawn setups, policies and ko rules.
 ghost use Rattle.gtp_session.specs.Policy.{IsLawful};
 
-use super::{Events, SIDES, assert_same_game, assert_same_world};
+use super::SIDES;
+use super::same::{assert_same_game, assert_same_world};
+use super::told::Events;
 use crate::equal::assert_equal;
 use crate::{Event, Maker, World};
 use go_base::{Colour, Komi, Side, Size, Vertex};
