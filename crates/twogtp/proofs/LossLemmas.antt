@@ -16,9 +16,9 @@ use Rattle.gtp_match.specs.Losing.{GoesDown, LosesSide, goes_down, forfeits, is_
 use Rattle.gtp_match.specs.Next.{next, next_where}
 use Rattle.gtp_match.specs.Sides.{side_of}
 use Rattle.gtp_match.proofs.ToldLemmas.{all_told}
-use Rattle.twogtp.specs.declared.sides.Endings.{Endings}
-use Rattle.twogtp.specs.declared.sides.Sides.{Sides}
-use Rattle.twogtp.specs.declared.starter.Conversation.{Ghosts}
+use Rattle.twogtp.specs.declared.processes.Endings.{Endings}
+use Rattle.twogtp.specs.declared.processes.Processes.{Processes}
+use Rattle.twogtp.specs.declared.starter.Process.{Ghosts}
 use Rattle.twogtp.specs.declared.task.Commands.{Commands}
 use Rattle.twogtp.specs.declared.why.Lost.{Lost}
 use Rattle.twogtp.specs.declared.why.Lost.TheVariants.{CutOff, Wrote}
@@ -26,7 +26,7 @@ use Rattle.twogtp.specs.declared.why.PipeCause.{PipeCause}
 use Rattle.twogtp.specs.declared.why.PipeCause.TheVariants.{Writing, Reading, Ended}
 use Rattle.twogtp.specs.Losses.{LossesHaveLines, TurnLosesSide, is_not_started, is_lost}
 use Rattle.twogtp.specs.Processes.{WithProcess, process_of}
-use Rattle.twogtp.specs.Speaking.{AreSent, Hears, IsHeard, Sends, Takes, cut_off}
+use Rattle.twogtp.specs.Speaking.{AreSent, HearsFromSide, IsHeard, SendsToSide, TakesCommands, cut_off}
 use Rattle.twogtp.specs.Starts.{Attempts}
 use Rattle.twogtp.specs.Turns.{Begins, Turn, line_where, turn_side}
 
@@ -64,9 +64,9 @@ sent_keeps c side = record {
 }
 
 takes_keep : (c : Controller) (side : Colour) (new : Controller) (number : ℕ) (text : List ℕ)
-    → Takes c side number text new → KeepsSides c new
-takes_keep c side _ _ _ Takes.none = keeps_itself c
-takes_keep c side _ _ _ (Takes.one_more {number = n} {text = text} {mid = mid} takes more) =
+    → TakesCommands c side number text new → KeepsSides c new
+takes_keep c side _ _ _ TakesCommands.none = keeps_itself c
+takes_keep c side _ _ _ (TakesCommands.one_more {number = n} {text = text} {mid = mid} takes more) =
     let before = takes_keep c side mid n text takes in
     let then = sent_keeps mid side in
     record { verdict = then.verdict ∙ before.verdict; up = λ s. then.up s ∙ before.up s }
@@ -162,7 +162,7 @@ starts_loses_none c side next_is (is_lost (forfeits was is)) = absurd (cc)
 starts_loses_none c side next_is (is_lost (is_unfit was is)) = absurd (cc)
 
 module _ {P : Type 0} (known : Ghosts P) where
-  begin_told : (commands : Commands) (c new : Controller) (side : Colour) (before after : Sides P) (had has : Attempts P)
+  begin_told : (commands : Commands) (c new : Controller) (side : Colour) (before after : Processes P) (had has : Attempts P)
       (why : Option Lost) → next c ≡ Start side → Begins commands c side before after had has new why
       → IsSome why ↔ TurnLosesSide c new
   unfolding up_in
@@ -211,7 +211,7 @@ module _ {P : Type 0} (known : Ghosts P) where
   wait_told c new side (Some old) None why live done = absurd done
 
   -- why a side was lost is known exactly where one was
-  turn_told : (commands : Commands) (c new : Controller) (a : Action) (before after : Sides P) (had has : Attempts P)
+  turn_told : (commands : Commands) (c new : Controller) (a : Action) (before after : Processes P) (had has : Attempts P)
       (why : Option Lost) → next c ≡ a → Turn known commands true c a before had new after has why
       → IsSome why ↔ TurnLosesSide c new
   turn_told commands c new (Start side) before after had has why e turn =
@@ -260,7 +260,7 @@ unfolding up_in
 cut_leaves c m side keeps = lost_leaves m side (up_in m side) ∙ keeps.up (other side)
 
 module _ {P : Type 0} (known : Ghosts P) where
-  begin_leaves : (commands : Commands) (c new : Controller) (side : Colour) (before after : Sides P)
+  begin_leaves : (commands : Commands) (c new : Controller) (side : Colour) (before after : Processes P)
       (had has : Attempts P) (why : Option Lost) → Begins commands c side before after had has new why
       → OtherStaysUp c new side
   unfolding up_in
@@ -285,21 +285,21 @@ module _ {P : Type 0} (known : Ghosts P) where
   heard_leaves c _ side old now _ (IsHeard.broke cut given taken) = cut_leaves c c side (keeps_itself c)
 
   send_leaves : (c new : Controller) (side : Colour) (before after : Option P) (why : Option Lost)
-      → Sends known c side before after new why → OtherStaysUp c new side
+      → SendsToSide known c side before after new why → OtherStaysUp c new side
   send_leaves c new side None None why done = rw done.0 (cut_leaves c (sent c side) side (sent_keeps c side))
   send_leaves c new side (Some old) (Some now) why done = sent_leaves c new side old now why done
   send_leaves c new side None (Some now) why done = absurd done
   send_leaves c new side (Some old) None why done = absurd done
 
   wait_leaves : (c new : Controller) (side : Colour) (before after : Option P) (why : Option Lost)
-      → Hears known true c side before after new why → OtherStaysUp c new side
+      → HearsFromSide known true c side before after new why → OtherStaysUp c new side
   wait_leaves c new side None None why done = rw done.0 (cut_leaves c c side (keeps_itself c))
   wait_leaves c new side (Some old) (Some now) why done = heard_leaves c new side old now why done
   wait_leaves c new side None (Some now) why done = absurd done
   wait_leaves c new side (Some old) None why done = absurd done
 
   -- a side that goes down is the one whose turn it was
-  turn_names : (commands : Commands) (c new : Controller) (a : Action) (before after : Sides P) (had has : Attempts P)
+  turn_names : (commands : Commands) (c new : Controller) (a : Action) (before after : Processes P) (had has : Attempts P)
       (why : Option Lost) (s : Colour) → Turn known commands true c a before had new after has why
       → GoesDown c new s → turn_side a ≡ Some s
   turn_names commands c new (Start side) before after had has why s turn down =

@@ -13,13 +13,13 @@ use Rattle.twogtp.specs.declared.starter.StartReason.TheVariants as reason
 use Rattle.twogtp.specs.declared.task.Commands.{Commands}
 
 -- a command line: the name of a program, and its arguments
-abbrev pub line_of : List (Bor Text) → List Text
-line_of words = map (λ word. word.now) words
+abbrev pub program_line : List (Bor Text) → List Text
+program_line words = map (λ word. word.now) words
 
 -- the command line of a side's engine
-abbrev pub line_for : Commands → Colour → List Text
-line_for commands Black = line_of commands.black.items
-line_for commands White = line_of commands.white.items
+abbrev pub program_line_for : Commands → Colour → List Text
+program_line_for commands Black = program_line commands.black.items
+program_line_for commands White = program_line commands.white.items
 
 -- why the system doesn't start a program, by the kind of its error
 abbrev pub reason_of : ErrorKind → StartReason

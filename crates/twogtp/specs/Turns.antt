@@ -11,11 +11,11 @@ use Rattle.gtp_match.specs.Controller.{new, started, lost}
 use Rattle.gtp_match.specs.Next.{next}
 use Rattle.gtp_match.specs.Setup.{SetupRecord}
 use Rattle.gtp_match.specs.Sound.{IsSound}
-use Rattle.twogtp.specs.declared.fault.Fault.{Fault}
-use Rattle.twogtp.specs.declared.fault.Fault.TheVariants.{OutOfMemory, TooManyTurns, Write}
-use Rattle.twogtp.specs.declared.sides.Endings.{Endings}
-use Rattle.twogtp.specs.declared.sides.Sides.{Sides}
-use Rattle.twogtp.specs.declared.starter.Conversation.{Ghosts}
+use Rattle.twogtp.specs.declared.failure.Failure.{Failure}
+use Rattle.twogtp.specs.declared.failure.Failure.TheVariants.{OutOfMemory, TooManyTurns, Write}
+use Rattle.twogtp.specs.declared.processes.Endings.{Endings}
+use Rattle.twogtp.specs.declared.processes.Processes.{Processes}
+use Rattle.twogtp.specs.declared.starter.Process.{Ghosts}
 use Rattle.twogtp.specs.declared.starter.StartFault.TheVariants as start_fault
 use Rattle.twogtp.specs.declared.starter.StartReason.{StartReason}
 use Rattle.twogtp.specs.declared.why.Lost.{Lost}
@@ -23,8 +23,8 @@ use Rattle.twogtp.specs.declared.why.Lost.TheVariants.{NotStarted}
 use Rattle.twogtp.specs.declared.task.Commands.{Commands}
 use Rattle.twogtp.specs.Pipes.{TakesPart}
 use Rattle.twogtp.specs.Processes.{OtherStays, kept_by, no_processes, process_of, AreEndings, ending_for}
-use Rattle.twogtp.specs.Speaking.{Hears, Sends}
-use Rattle.twogtp.specs.Starts.{Attempts, Tries, line_for}
+use Rattle.twogtp.specs.Speaking.{HearsFromSide, SendsToSide}
+use Rattle.twogtp.specs.Starts.{Attempts, Tries, program_line_for}
 use Rattle.twogtp.specs.Why.{lost_line}
 
 -- how many turns a match has at most; none within the limits has as many
@@ -69,12 +69,12 @@ turn_line telling action why endings = line_where telling (turn_side action) why
 -- A side's program was asked for, by that side's command line. It was started: so is the side, and the very process
 -- that was started is its process from then on. Or it couldn't be: the side counts as started and lost, and what
 -- process it had stays.
-pub data Begins {P : Type 0} (commands : Commands) (c : Controller) (side : Colour) (before after : Sides P)
+pub data Begins {P : Type 0} (commands : Commands) (c : Controller) (side : Colour) (before after : Processes P)
     (had has : Attempts P) : Controller → Option Lost → Type 0 where
-  starts : (process : P) → Tries had has (line_for commands side) (Ok process)
+  starts : (process : P) → Tries had has (program_line_for commands side) (Ok process)
       → process_of after side ≡ Some process
       → Begins commands c side before after had has (started c side) None
-  fails_to_start : (reason : StartReason) → Tries had has (line_for commands side) (Err (start_fault.NotStarted reason))
+  fails_to_start : (reason : StartReason) → Tries had has (program_line_for commands side) (Err (start_fault.NotStarted reason))
       → process_of after side ≡ process_of before side
       → Begins commands c side before after had has (lost (started c side) side) (Some (NotStarted reason))
 
@@ -82,15 +82,15 @@ pub data Begins {P : Type 0} (commands : Commands) (c : Controller) (side : Colo
 -- program is asked for, or it is sent its commands, all that come next for it, or it is waited for. Once the match is
 -- over nothing is done. Only a start asks for a program. And why the side was lost, if it was; of what it wrote that is
 -- looked for where it is to be told.
-abbrev pub Turn : {P : Type 0} → Ghosts P → Commands → Bool → Controller → Action → Sides P → Attempts P
-    → Controller → Sides P → Attempts P → Option Lost → Type 0
+abbrev pub Turn : {P : Type 0} → Ghosts P → Commands → Bool → Controller → Action → Processes P → Attempts P
+    → Controller → Processes P → Attempts P → Option Lost → Type 0
 Turn known commands telling c (Start side) before had new after has why =
     Begins commands c side before after had has new why × OtherStays side before after
 Turn known commands telling c (Send side) before had new after has why =
-    Sends known c side (process_of before side) (process_of after side) new why
+    SendsToSide known c side (process_of before side) (process_of after side) new why
     × OtherStays side before after × (has ≡ had)
 Turn known commands telling c (Wait side) before had new after has why =
-    Hears known telling c side (process_of before side) (process_of after side) new why
+    HearsFromSide known telling c side (process_of before side) (process_of after side) new why
     × OtherStays side before after × (has ≡ had)
 Turn known commands telling c (Done verdict) before had new after has why =
     (new ≡ c) × (after ≡ before) × (has ≡ had) × (why ≡ None)
@@ -99,16 +99,16 @@ Turn known commands telling c (Done verdict) before had new after has why =
 pub record IsRefused {P : Type 0} (commands : Commands) (c : Controller) (had has : Attempts P) : Type 0 where
   pub side : Colour
   pub next : next c ≡ Start side
-  pub asked : Tries had has (line_for commands side) (Err start_fault.OutOfMemory)
+  pub asked : Tries had has (program_line_for commands side) (Err start_fault.OutOfMemory)
 
 -- ---- turns, one after another
 
 -- One turn did what the controller said with the processes that the sides had then. A side that is down has no process
 -- after it, and how that ended is known.
 pub record IsTurn {P : Type 0} (known : Ghosts P) (commands : Commands) (telling : Bool) (c : Controller)
-    (before : Sides P) (had : Attempts P) (new : Controller) (closing : Sides P) (has : Attempts P)
+    (before : Processes P) (had : Attempts P) (new : Controller) (closing : Processes P) (has : Attempts P)
     (why : Option Lost) (endings : Endings) : Type 0 where
-  pub after : Sides P
+  pub after : Processes P
   pub turn : Turn known commands telling c (next c) before had new after has why
   pub black : closing.black ≡ kept_by new Black after.black
   pub white : closing.white ≡ kept_by new White after.white
@@ -116,9 +116,9 @@ pub record IsTurn {P : Type 0} (known : Ghosts P) (commands : Commands) (telling
 
 -- So many turns, from the opening on. After each of them a writer took what is told of it.
 pub data Plays {P : Type 0} (known : Ghosts P) (commands : Commands) (telling : Option ℕ) (first : Controller)
-    (opening : Sides P) (had : Seen P) : ℕ → Controller → Sides P → Seen P → Type 0 where
+    (opening : Processes P) (had : Seen P) : ℕ → Controller → Processes P → Seen P → Type 0 where
   not_yet : Plays known commands telling first opening had 0 first opening had
-  turns : {number : ℕ} {mid last : Controller} {before closing : Sides P} {between has : Seen P}
+  turns : {number : ℕ} {mid last : Controller} {before closing : Processes P} {between has : Seen P}
       (why : Option Lost) (endings : Endings)
       → Plays known commands telling first opening had number mid before between
       → IsTurn known commands (is_some telling) mid before between.asked last closing has.asked why endings
@@ -126,26 +126,26 @@ pub data Plays {P : Type 0} (known : Ghosts P) (commands : Commands) (telling : 
       → Plays known commands telling first opening had (number + 1) last closing has
 
 -- turns were taken
-abbrev pub HasPlayed : {P : Type 0} → Ghosts P → Commands → Option ℕ → Controller → Sides P → Seen P
-    → Controller → Sides P → Seen P → Type 0
+abbrev pub HasPlayed : {P : Type 0} → Ghosts P → Commands → Option ℕ → Controller → Processes P → Seen P
+    → Controller → Processes P → Seen P → Type 0
 HasPlayed known commands telling first opening had last closing has =
     (number : ℕ) × Plays known commands telling first opening had number last closing has
 
 -- A game stopped before its end, where its turns had led: turns were taken, and then memory was refused for a start; or
 -- lost sides are told, a side was lost, and the writer broke at its line; or there were too many turns.
 pub data HasStopped {P : Type 0} (known : Ghosts P) (commands : Commands) (telling : Option ℕ) (first : Controller)
-    (opening : Sides P) (had has : Seen P) : Controller → Fault → Type 0 where
-  out_of_memory : {last : Controller} {closing : Sides P} {between : Seen P}
+    (opening : Processes P) (had has : Seen P) : Controller → Failure → Type 0 where
+  out_of_memory : {last : Controller} {closing : Processes P} {between : Seen P}
       → HasPlayed known commands telling first opening had last closing between
       → IsRefused commands last between.asked has.asked → has.told ≡ between.told
       → HasStopped known commands telling first opening had has last OutOfMemory
-  untold : {mid last : Controller} {before closing : Sides P} {between : Seen P} (why : Option Lost) (endings : Endings)
+  untold : {mid last : Controller} {before closing : Processes P} {between : Seen P} (why : Option Lost) (endings : Endings)
       → IsSome telling → IsSome why
       → HasPlayed known commands telling first opening had mid before between
       → IsTurn known commands (is_some telling) mid before between.asked last closing has.asked why endings
       → TakesPart (turn_line telling (next mid) why endings) between.told has.told
       → HasStopped known commands telling first opening had has last Write
-  too_many_turns : {last : Controller} {closing : Sides P}
+  too_many_turns : {last : Controller} {closing : Processes P}
       → Plays known commands telling first opening had most_turns last closing has
       → HasStopped known commands telling first opening had has last TooManyTurns
 
@@ -154,7 +154,7 @@ pub data HasStopped {P : Type 0} (known : Ghosts P) (commands : Commands) (telli
 -- turns were taken of a game that began without processes
 pub record HasTaken {P : Type 0} (known : Ghosts P) (commands : Commands) (telling : Option ℕ) (first : Controller)
     (had has : Seen P) (last : Controller) : Type 0 where
-  pub closing : Sides P
+  pub closing : Processes P
   pub plays : HasPlayed known commands telling first no_processes had last closing has
 
 -- a match of this setup was played to its end, from its beginning without processes

@@ -4,10 +4,10 @@ ghost use Rattle.std.specs.Io.KnownBytes.{Appends};
 ghost use Rattle.twogtp.specs.Pipes.{TakesPart};
 ghost use Rattle.twogtp.specs.Telling.{game_lines};
 
-use crate::fault::Fault;
+use crate::failure::Failure;
 use crate::pipes::{READ_ROOM, read_once, write_whole};
-use crate::sides::{Sides, end};
-use crate::starter::Conversation;
+use crate::processes::{Processes, end};
+use crate::starter::Process;
 use crate::task::Task;
 use crate::telling::{game_text, write_text};
 use go_base::Side;
@@ -23,7 +23,7 @@ const MOST_QUIT_READS: u32 = 8193;
 /// written and flushed. Only `close` says `quit`, and it takes one. So no process is told to `quit` before that.
 pub struct Told<P> {
     verdict: Verdict,
-    sides: Sides<P>,
+    processes: Processes<P>,
 }
 
 /// Tells a match that is over and has this verdict. To its processes nothing is said. Where the text can't be written,
@@ -32,43 +32,43 @@ pub struct Told<P> {
 /// # Errors
 ///
 /// `Write`.
-pub fn tell_game<P: Conversation, O: Write>(
+pub fn tell_game<P: Process, O: Write>(
     task: &Task,
     number: u32,
     game: &Match,
     verdict: Verdict,
-    sides: Sides<P>,
+    processes: Processes<P>,
     output: &mut O,
-) -> Result<Told<P>, Fault>
+) -> Result<Told<P>, Failure>
     ensures whole { OnOk result (Appends (O.contents output.old) (O.contents output.new)
         (game_lines task.now number game.now)) }
-    ensures sides { IfOk result (λ told. told.sides ≡ sides) }
+    ensures processes { IfOk result (λ told. told.processes ≡ processes) }
     ensures verdict { IfOk result (λ told. told.verdict ≡ verdict) }
     ensures part { OnErr result (TakesPart (game_lines task.now number game.now)
         (O.contents output.old) (O.contents output.new)) }
-    ensures fault { IfErr result (λ fault. fault ≡ Fault.Write) }
+    ensures failure { IfErr result (λ failure. failure ≡ Failure.Write) }
 {
     let text = game_text(task, number, game);
     match write_text(output, text.as_slice()) {
-        Ok(()) => Ok(Told { verdict, sides }),
+        Ok(()) => Ok(Told { verdict, processes }),
         Err(_) => {
-            sides.end();
-            Err(Fault::Write)
+            processes.end();
+            Err(Failure::Write)
         }
     }
 }
 
-impl<P: Conversation> Told<P> {
+impl<P: Process> Told<P> {
     /// Ends all processes, and returns the verdict: at once those of the sides that are down or still owe an answer;
     /// then the others, each after it was told to `quit` and has answered.
     pub fn close(self, game: &Match, buffer: &mut [u8; READ_ROOM]) -> Verdict
         ensures { result ≡ self.verdict }
     {
-        let Told { verdict, sides } = self;
-        let Sides {
+        let Told { verdict, processes } = self;
+        let Processes {
             mut black,
             mut white,
-        } = sides;
+        } = processes;
         if !has_answered_all(game, Side::Black) {
             end(black.take());
         }
@@ -90,7 +90,7 @@ fn has_answered_all(game: &Match, side: Side) -> bool {
 }
 
 /// Tells a process to `quit`, waits for its answer, and ends it.
-fn quit_and_end<P: Conversation>(process: Option<P>, buffer: &mut [u8; READ_ROOM]) {
+fn quit_and_end<P: Process>(process: Option<P>, buffer: &mut [u8; READ_ROOM]) {
     if let Some(mut process) = process {
         quit(&mut process, buffer);
         let _ = process.end();
@@ -98,7 +98,7 @@ fn quit_and_end<P: Conversation>(process: Option<P>, buffer: &mut [u8; READ_ROOM
 }
 
 /// Says `quit`, and waits for a reply, a fault of the reply, or the end of the stream.
-fn quit<P: Conversation>(process: &mut P, buffer: &mut [u8; READ_ROOM]) {
+fn quit<P: Process>(process: &mut P, buffer: &mut [u8; READ_ROOM]) {
     let text = write_command(None, &Command::Quit);
     if write_whole(process, text.as_slice()).is_err() {
         return;

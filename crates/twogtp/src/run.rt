@@ -1,17 +1,17 @@
 //! The program, over any writers and any means to start processes.
 ghost use Rattle.std.specs.Prelude.{◌≡◌, ◌⊎◌, ◌≢◌, map, true, false, IfOk, IfErr, OnErr};
 ghost use Rattle.clap.specs.Words.{kind_of};
-ghost use Rattle.twogtp.specs.Status.{IsStatus, IsRequest, TellsFault, done, some_given_up, usage_fault};
-ghost use Rattle.twogtp.specs.Status.{own_fault, status_of, status_with};
+ghost use Rattle.twogtp.specs.Status.{IsStatus, IsRequest, TellsFailure, done, some_given_up, usage_fault};
+ghost use Rattle.twogtp.specs.Status.{exit_status, own_fault, status_with};
 ghost use Rattle.twogtp.specs.Telling.{HasBegun, HasBegunToTell, HasDone, HasMistake, HasShown};
 ghost use Rattle.twogtp.specs.Telling.{HasTold, IsDisplayed};
 ghost use Rattle.twogtp.specs.Options.{AsksForNoWhy};
 ghost use Rattle.twogtp.specs.Turns.{seen};
 
-use crate::fault::{Fault, tell};
+use crate::failure::{Failure, tell};
 use crate::options::read_options;
 use crate::plan::plan_of;
-use crate::play::play_game;
+use crate::turns::play_game;
 use crate::starter::Starter;
 use crate::task::{Commands, Task};
 use crate::telling::write_text;
@@ -54,7 +54,7 @@ pub fn run<A: AsStr, O: Write, E: Write, S: Starter>(
     ensures played { (result ≡ done) ⊎ (result ≡ some_given_up) →
         ((starter.new ≡ starter.old) × HasShown (map A.text words.now) result
         (O.contents output.old) (O.contents output.new))
-        ⊎ HasDone S.Process.Conversation (map A.text words.now) result
+        ⊎ HasDone S.Process.Process (map A.text words.now) result
         (O.contents output.old) (O.contents output.new)
         (seen (S.asked starter.old) (E.contents errors.old))
         (seen (S.asked starter.new) (E.contents errors.new)) }
@@ -63,11 +63,11 @@ pub fn run<A: AsStr, O: Write, E: Write, S: Starter>(
     // of it.
     ensures stopped { result ≡ own_fault →
         ((starter.new ≡ starter.old) × (output.new ≡ output.old)
-        × TellsFault Fault.OutOfMemory (E.contents errors.old) (E.contents errors.new))
+        × TellsFailure Failure.OutOfMemory (E.contents errors.old) (E.contents errors.new))
         ⊎ ((starter.new ≡ starter.old) × HasShown (map A.text words.now) result
         (O.contents output.old) (O.contents output.new)
-        × TellsFault Fault.Write (E.contents errors.old) (E.contents errors.new))
-        ⊎ HasBegun S.Process.Conversation (map A.text words.now)
+        × TellsFailure Failure.Write (E.contents errors.old) (E.contents errors.new))
+        ⊎ HasBegun S.Process.Process (map A.text words.now)
         (O.contents output.old) (O.contents output.new)
         (seen (S.asked starter.old) (E.contents errors.old))
         (seen (S.asked starter.new) (E.contents errors.new)) }
@@ -78,11 +78,11 @@ pub fn run<A: AsStr, O: Write, E: Write, S: Starter>(
     };
     let plan = match plan_of(alloc, &options) {
         Ok(plan) => plan,
-        Err(fault) => return tell(fault, errors),
+        Err(failure) => return tell(failure, errors),
     };
     match play_games(&plan.task, &plan.commands, output, errors, starter) {
         Ok(status) => status,
-        Err(fault) => tell(fault, errors),
+        Err(failure) => tell(failure, errors),
     }
 }
 
@@ -93,20 +93,20 @@ fn play_games<O: Write, E: Write, S: Starter>(
     output: &mut O,
     errors: &mut E,
     starter: &mut S,
-) -> Result<u8, Fault>
+) -> Result<u8, Failure>
     ensures told { IfOk result (λ status.
-        HasTold S.Process.Conversation commands.now task.now status
+        HasTold S.Process.Process commands.now task.now status
         (O.contents output.old) (O.contents output.new)
         (seen (S.asked starter.old) (E.contents errors.old))
         (seen (S.asked starter.new) (E.contents errors.new))) }
     ensures quiet { task.now.why ≡ false → errors.new ≡ errors.old }
     ensures range { IfOk result (λ status. (status ≡ done) ⊎ (status ≡ some_given_up)) }
     ensures begun { IfErr result
-        (HasBegunToTell S.Process.Conversation commands.now task.now
+        (HasBegunToTell S.Process.Process commands.now task.now
         (O.contents output.old) (O.contents output.new)
         (seen (S.asked starter.old) (E.contents errors.old))
         (seen (S.asked starter.new) (E.contents errors.new))) }
-    ensures fault { IfErr result (λ fault. status_of fault ≡ own_fault) }
+    ensures failure { IfErr result (λ failure. exit_status failure ≡ own_fault) }
 {
     let mut status = 0;
     for index in 0..task.games {
@@ -142,27 +142,27 @@ fn answer_error<T: Display, W: Write, E: Write>(
     // A text that was asked for was written once.
     ensures shown { result ≡ done → IsRequest kind × IsDisplayed (T.output text.now) result
         (W.contents output.old) (W.contents output.new) }
-    // A mistake in the words is no fault of the program's own.
+    // A mistake in the words is no failure of the program's own.
     ensures own { result ≡ own_fault →
         (((kind ≡ ErrorKind.OutOfMemory) ⊎ IsRequest kind) × (output.new ≡ output.old)
-        × TellsFault Fault.OutOfMemory (E.contents errors.old) (E.contents errors.new))
+        × TellsFailure Failure.OutOfMemory (E.contents errors.old) (E.contents errors.new))
         ⊎ (IsRequest kind × IsDisplayed (T.output text.now) result
         (W.contents output.old) (W.contents output.new)
-        × TellsFault Fault.Write (E.contents errors.old) (E.contents errors.new)) }
+        × TellsFailure Failure.Write (E.contents errors.old) (E.contents errors.new)) }
 {
     if kind == ErrorKind::OutOfMemory {
-        return tell(Fault::OutOfMemory, errors);
+        return tell(Failure::OutOfMemory, errors);
     }
     if !is_request(kind) {
         let _ = print(text, errors);
         return 2;
     }
     let Ok(text) = text.to_string(alloc) else {
-        return tell(Fault::OutOfMemory, errors);
+        return tell(Failure::OutOfMemory, errors);
     };
     match write_text(output, text.as_bytes()) {
         Ok(()) => 0,
-        Err(_) => tell(Fault::Write, errors),
+        Err(_) => tell(Failure::Write, errors),
     }
 }
 

@@ -5,7 +5,7 @@ ghost use Rattle.gtp_match.specs.declared.verdicts.Action.TheVariants as action;
 ghost use Rattle.gtp_match.specs.Controller.{sent};
 ghost use Rattle.gtp_match.specs.Next.{next};
 ghost use Rattle.gtp_match.specs.Sound.{IsSound};
-ghost use Rattle.twogtp.specs.Speaking.{TakesAll, command_text};
+ghost use Rattle.twogtp.specs.Speaking.{TakesAllCommands, command_text};
 
 use arrayvec::ArrayVec;
 use go_base::Side;
@@ -20,7 +20,7 @@ pub type CommandsText = ArrayVec<u8, TEXT_ROOM>;
 
 /// Counts as sent each command that comes next for a side, until something else comes next, and returns their bytes.
 pub fn take_commands(game: &mut Match, side: Side) -> CommandsText
-    ensures { TakesAll game.old side result.items game.new }
+    ensures { TakesAllCommands game.old side result.items game.new }
 {
     let mut text = ArrayVec::new();
     for _number in 0..MOST_UNANSWERED {

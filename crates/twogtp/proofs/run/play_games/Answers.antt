@@ -16,7 +16,7 @@ returns-in_err-verdict-clause-begun g c =
     let exit = c.from_residual in
     let told = err_from_is_err_and exit.result exit.ensures.1 in
     rw (told.1, told.2)
-    (begun_then g.S.Process.Conversation c.args.commands.now c.args.task.now c.loop-index.index c.loop-index.status
+    (begun_then g.S.Process.Process c.args.commands.now c.args.task.now c.loop-index.index c.loop-index.status
     g.O.Write.contents _ _ _ _ _ _ _ c.loop-index.invariant.told (search rules) c.in_err-verdict.ensures.untold)
 
 pub returns-in_err-verdict-clause-quiet : goal.returns-in_err-verdict-clause-quiet
@@ -25,10 +25,10 @@ returns-in_err-verdict-clause-quiet g c = λ none. c.play_game.ensures.quiet non
 pub loop-index-preserved : goal.loop-index-preserved
 loop-index-preserved g c = record {
   told = rw c.with_verdict-status.ensures
-      (told_then g.S.Process.Conversation c.args.commands.now c.args.task.now c.loop-index.index c.loop-index.status
+      (told_then g.S.Process.Process c.args.commands.now c.args.task.now c.loop-index.index c.loop-index.status
       _ _ _ _ _ _ _ c.loop-index.invariant.told c.in_ok-verdict.ensures.told);
   quiet = λ none. c.play_game.ensures.quiet none ∙ c.loop-index.invariant.quiet none;
 }
 
 pub returns-clause-range : goal.returns-clause-range
-returns-clause-range g c = status_range g.S.Process.Conversation c.args.commands.now c.args.task.now _ _ c.loop-index.index c.loop-index.status _ c.loop-index.invariant.told.tells
+returns-clause-range g c = status_range g.S.Process.Process c.args.commands.now c.args.task.now _ _ c.loop-index.index c.loop-index.status _ c.loop-index.invariant.told.tells

@@ -1,6 +1,6 @@
 use Rattle.std.proofs.Common.{◌∙◌, inl, inr, arith, refl, subst}
-use Rattle.twogtp.specs.declared.fault.Fault.{Fault}
-use Rattle.twogtp.specs.Status.{TellsFault}
+use Rattle.twogtp.specs.declared.failure.Failure.{Failure}
+use Rattle.twogtp.specs.Status.{TellsFailure}
 use Rattle.twogtp.proofs.PlanLemmas.{mistake_is_usage}
 use Rattle.twogtp.proofs.run.run.Goals as goal
 
@@ -76,15 +76,15 @@ returns-in-Err-clause-stopped g c = λ three.
     ]
 
 pub returns-in-Err-plan_of-clause-stopped : goal.returns-in-Err-plan_of-clause-stopped
-returns-in-Err-plan_of-clause-stopped g c = λ three. elim c.in-Err-plan_of.ensures.fault [
+returns-in-Err-plan_of-clause-stopped g c = λ three. elim c.in-Err-plan_of.ensures.failure [
   | inl refused ↦ inl (
     refl,
     refl,
-    subst (λ (fault : Fault). TellsFault fault (g.E.Write.contents c.args.errors.now) (g.E.Write.contents c.tell.new.errors))
+    subst (λ (failure : Failure). TellsFailure failure (g.E.Write.contents c.args.errors.now) (g.E.Write.contents c.tell.new.errors))
         refused c.tell.ensures.told,
   )
   | inr mistake ↦
-      let two = c.tell.ensures.status ∙ mistake_is_usage c.in-Ok.options c.in-Err-plan_of.fault mistake in
+      let two = c.tell.ensures.status ∙ mistake_is_usage c.in-Ok.options c.in-Err-plan_of.failure mistake in
       absurd (omega (arith, two, three))
 ]
 
@@ -120,7 +120,7 @@ returns-clause-stopped g c = λ three. inr (inr (record {
     plan = c.in-Ok-plan_of.ensures.plan;
   };
   losses = g.E.Write.contents c.play_games.new.errors;
-  fault = c.in-Err-play_games.fault;
+  failure = c.in-Err-play_games.failure;
   begun = c.in-Err-play_games.ensures.begun;
   told = c.tell-in-Err-play_games.ensures.told;
 }))

@@ -1,6 +1,6 @@
 //! Why a side is lost, as it is told on standard error.
+use super::fakes::{Full, InMemory, Log, Narrow, Talk};
 use crate::equal::{assert_equal, assert_equal_for};
-use crate::fakes::{Full, InMemory, Log, Narrow, Talk};
 use crate::laws;
 use crate::run::run;
 use crate::why_text::shown_for_test;

@@ -1,7 +1,7 @@
 //! Engines in memory, in place of processes, and writers that fail.
 ghost use Rattle.std.specs.Prelude.{⊤, None};
 
-use crate::starter::{Conversation, Ending, PipeFault, StartFault, StartReason, Starter};
+use crate::starter::{Ending, PipeFault, Process, StartFault, StartReason, Starter};
 use gtp_session::book::Book;
 use gtp_session::first::First;
 use gtp_session::policy::Policy;
@@ -156,7 +156,7 @@ fn answer<P: Policy>(
     Ok(())
 }
 
-impl Conversation for Talk {
+impl Process for Talk {
     ghost taken = { λ _. None };
 
     ghost given = { λ _. None };

@@ -5,24 +5,24 @@ ghost use Rattle.gtp_match.specs.declared.sides.Status.TheVariants as status;
 ghost use Rattle.twogtp.specs.Processes.{OtherStays, kept_by, no_processes, process_of, AreEndings, Ends, EndsWhere};
 ghost use Rattle.twogtp.specs.Processes.{ending_for};
 
-use crate::starter::{Conversation, Ending};
+use crate::starter::{Ending, Process};
 use go_base::Side;
 use gtp_match::{Match, Status};
 
 /// The process of each side that has one. It is not `Drop`: `end` ends them all, or `close` of a `Told` that has them.
-pub struct Sides<P> {
+pub struct Processes<P> {
     /// Black's.
     pub black: Option<P>,
     /// White's.
     pub white: Option<P>,
 }
 
-impl<P: Conversation> Sides<P> {
+impl<P: Process> Processes<P> {
     /// No process.
     pub fn none() -> Self
         ensures { result ≡ no_processes }
     {
-        Sides {
+        Processes {
             black: None,
             white: None,
         }
@@ -44,7 +44,7 @@ impl<P: Conversation> Sides<P> {
     pub fn end_what_is_down(&mut self, game: &Match) -> Endings
         ensures black { self.new.black ≡ kept_by game.now Black self.old.black }
         ensures white { self.new.white ≡ kept_by game.now White self.old.white }
-        ensures endings { AreEndings P.Conversation game.now self.old result }
+        ensures endings { AreEndings P.Process game.now self.old result }
     {
         Endings {
             black: end_if_down(game, Side::Black, &mut self.black),
@@ -54,7 +54,7 @@ impl<P: Conversation> Sides<P> {
 
     /// Ends all processes at once.
     pub fn end(self) {
-        let Sides { black, white } = self;
+        let Processes { black, white } = self;
         end(black);
         end(white);
     }
@@ -82,9 +82,9 @@ impl Endings {
 }
 
 /// Ends the process of a side that is down, and returns how it ended.
-fn end_if_down<P: Conversation>(game: &Match, side: Side, process: &mut Option<P>) -> Ending
+fn end_if_down<P: Process>(game: &Match, side: Side, process: &mut Option<P>) -> Ending
     ensures kept { process.new ≡ kept_by game.now side process.old }
-    ensures ended { Ends P.Conversation game.now side process.old result }
+    ensures ended { Ends P.Process game.now side process.old result }
 {
     match game.status(side) {
         Status::Down => end_one(process.take()),
@@ -93,8 +93,8 @@ fn end_if_down<P: Conversation>(game: &Match, side: Side, process: &mut Option<P
 }
 
 /// Ends a process, if there is one, and returns how it ended.
-fn end_one<P: Conversation>(process: Option<P>) -> Ending
-    ensures { EndsWhere P.Conversation status.Down process result }
+fn end_one<P: Process>(process: Option<P>) -> Ending
+    ensures { EndsWhere P.Process status.Down process result }
 {
     match process {
         Some(process) => process.end(),
@@ -103,6 +103,6 @@ fn end_one<P: Conversation>(process: Option<P>) -> Ending
 }
 
 /// Ends a process, if there is one.
-pub fn end<P: Conversation>(process: Option<P>) {
+pub fn end<P: Process>(process: Option<P>) {
     let _ = end_one(process);
 }

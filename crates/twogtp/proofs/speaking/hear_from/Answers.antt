@@ -1,7 +1,7 @@
 use Rattle.std.proofs.Common.{arith, rules}
 use Rattle.std.proofs.lemmas.Grind.{common_steps}
 use Rattle.twogtp.specs.Speaking.{broke, ended, heard}
-use Rattle.twogtp.proofs.play.hear_from.Goals as goal
+use Rattle.twogtp.proofs.speaking.hear_from.Goals as goal
 
 pub returns-in-Ok-clause-heard : goal.returns-in-Ok-clause-heard
 returns-in-Ok-clause-heard g c =
