@@ -163,10 +163,10 @@ starts_loses_none c side next_is (is_lost (is_unfit was is)) = absurd (cc)
 
 module _ {P : Type 0} (known : Ghosts P) where
   begin_told : (commands : Commands) (c new : Controller) (side : Colour) (before after : Processes P) (had has : Attempts P)
-      (why : Option Lost) → next c ≡ Start side → Begins commands c side before after had has new why
+      (why : Option Lost) → next c ≡ Start side → Begins known commands c side before after had has new why
       → IsSome why ↔ TurnLosesSide c new
   unfolding up_in
-  begin_told commands c _ side before after had has _ e (Begins.starts process tried is) =
+  begin_told commands c _ side before after had has _ e (Begins.starts process tried is ended) =
       neither None _ refl (starts_loses_none c side e)
   begin_told commands c _ side before after had has _ e (Begins.fails_to_start reason tried is) =
       ((λ some. is_not_started {side = side} e (failed_down c side)), (λ loses. refl))
@@ -261,10 +261,10 @@ cut_leaves c m side keeps = lost_leaves m side (up_in m side) ∙ keeps.up (othe
 
 module _ {P : Type 0} (known : Ghosts P) where
   begin_leaves : (commands : Commands) (c new : Controller) (side : Colour) (before after : Processes P)
-      (had has : Attempts P) (why : Option Lost) → Begins commands c side before after had has new why
+      (had has : Attempts P) (why : Option Lost) → Begins known commands c side before after had has new why
       → OtherStaysUp c new side
   unfolding up_in
-  begin_leaves commands c _ side before after had has _ (Begins.starts process tried is) = started_leaves c side
+  begin_leaves commands c _ side before after had has _ (Begins.starts process tried is ended) = started_leaves c side
   begin_leaves commands c _ side before after had has _ (Begins.fails_to_start reason tried is) =
       lost_leaves (started c side) side (up_in (started c side) side) ∙ started_leaves c side
 

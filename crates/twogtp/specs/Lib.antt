@@ -1,5 +1,7 @@
+pub mod Closing
 pub mod Losses
 pub mod Options
+pub mod Output
 pub mod Pipes
 pub mod Processes
 pub mod Speaking
@@ -9,3 +11,4 @@ pub mod Tasks
 pub mod Telling
 pub mod Turns
 pub mod Why
+pub mod private

@@ -4,7 +4,7 @@ use Rattle.std.specs.Io.KnownBytes.{Appends}
 use Rattle.twogtp.specs.declared.starter.PipeFault.{PipeFault}
 use Rattle.twogtp.specs.declared.starter.PipeFault.TheVariants.{Interrupted, Broken}
 
--- a writer or a process took the beginning of a text
+-- a stream or a process took a beginning of a text
 pub record TakesPart (text : List ℕ) (held holds : Option (List ℕ)) : Type 0 where
   pub part : List ℕ
   pub left : List ℕ
@@ -23,7 +23,7 @@ Fails P = P → PipeFault → P → Type 0
 abbrev pub GoesThrough : Type 0 → Type 1
 GoesThrough P = P → P → Type 0
 
--- So many calls in a row were interrupted, and led from the one to the other.
+-- This number of calls in a row were interrupted, and led from the one to the other.
 pub data AreInterrupted {P : Type 0} (fails : Fails P) (before : P) : ℕ → P → Type 0 where
   no_call : AreInterrupted fails before 0 before
   one_more : {n : ℕ} {mid after : P} → AreInterrupted fails before n mid → fails mid Interrupted after
@@ -37,8 +37,8 @@ pub data IsUnbroken {P : Type 0} (fails : Fails P) (succeeds : GoesThrough P) (b
   went : {mid after : P} → IsUnbroken fails succeeds before mid → succeeds mid after
       → IsUnbroken fails succeeds before after
 
--- A process was cut off by calls that led from the one to the other: the last call, and none before it, broke; or
--- none broke, and the last ones were all interrupted, as many as are tried.
+-- A process was cut off by calls that led from the one to the other. The last call, and none before it, broke. Or none
+-- broke, and the last `most_tries` of them were interrupted.
 pub data IsCutOff {P : Type 0} (fails : Fails P) (succeeds : GoesThrough P) (before after : P) : Type 0 where
   broke : {mid : P} → IsUnbroken fails succeeds before mid → fails mid Broken after
       → IsCutOff fails succeeds before after

@@ -56,6 +56,16 @@ pub record AreEndings {P : Type 0} (known : Ghosts P) (c : Controller) (processe
   pub black : Ends known c Black processes.black endings.black
   pub white : Ends known c White processes.white endings.white
 
+-- a process, if there is one, ended in some way
+abbrev pub IsEnded : {P : Type 0} → Ghosts P → Option P → Type 0
+IsEnded known None = Unit {0}
+IsEnded known (Some process) = (ending : Ending) × known.leaves process ending
+
+-- so did those of both sides
+pub record AreEnded {P : Type 0} (known : Ghosts P) (processes : Processes P) : Type 0 where
+  pub black : IsEnded known processes.black
+  pub white : IsEnded known processes.white
+
 -- Where there is a process, before and after, this was done with it; where there is none, that was done.
 abbrev pub WithProcess : {P : Type 0} → Option P → Option P → (P → P → Type 0) → Type 0 → Type 0
 WithProcess None None Did Without = Without

@@ -29,8 +29,8 @@ command_for c side (Some engine) = next_text c side engine
 abbrev pub command_text : Controller → Colour → List ℕ
 command_text c side = command_for c side (side_of c.sides side).up
 
--- Commands were taken for a side one after the other, each as it came next, and each counts as sent: so many, of these
--- bytes joined.
+-- This number of commands was taken for a side, one after the other, each as it came next. Each counts as sent, and
+-- their bytes are joined to this text.
 pub data TakesCommands (c : Controller) (side : Colour) : ℕ → List ℕ → Controller → Type 0 where
   none : TakesCommands c side 0 [] c
   one_more : {number : ℕ} {text : List ℕ} {mid : Controller} → TakesCommands c side number text mid → next mid ≡ Send side

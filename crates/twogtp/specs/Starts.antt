@@ -6,8 +6,9 @@ use Rattle.go_base.specs.declared.colours.Colour.{Colour}
 use Rattle.go_base.specs.declared.colours.Colour.TheVariants.{Black, White}
 use Rattle.std.specs.declared.io.ErrorKind.{ErrorKind}
 use Rattle.std.specs.declared.io.ErrorKind.TheVariants.{NotFound, PermissionDenied, NotADirectory, ExecutableFileBusy}
-use Rattle.std.specs.declared.io.ErrorKind.TheVariants.{ArgumentListTooLong, InvalidFilename, Uncategorized}
+use Rattle.std.specs.declared.io.ErrorKind.TheVariants.{ArgumentListTooLong, InvalidFilename, OutOfMemory, Uncategorized}
 use Rattle.twogtp.specs.declared.starter.StartFault.{StartFault}
+use Rattle.twogtp.specs.declared.starter.StartFault.TheVariants as start_fault
 use Rattle.twogtp.specs.declared.starter.StartReason.{StartReason}
 use Rattle.twogtp.specs.declared.starter.StartReason.TheVariants as reason
 use Rattle.twogtp.specs.declared.task.Commands.{Commands}
@@ -31,6 +32,11 @@ reason_of ArgumentListTooLong = reason.TooLong
 reason_of InvalidFilename = reason.TooLong
 reason_of Uncategorized = reason.NoProgram
 reason_of _ = reason.Other
+
+-- why no process was started, by the kind of the error
+abbrev pub start_fault_of : ErrorKind → StartFault
+start_fault_of OutOfMemory = start_fault.OutOfMemory
+start_fault_of kind = start_fault.NotStarted (reason_of kind)
 
 -- an attempt to start a program: its command line, and the answer, the process that was started or why none was
 pub record Attempt (P : Type 0) : Type 0 where

@@ -2,8 +2,8 @@
 ghost use Rattle.std.specs.Prelude.{◌≡◌, ◌≢◌};
 ghost use Rattle.twogtp.specs.Status.{TellsFailure, exit_status, failure_line};
 
-use crate::telling::write_text;
-use std::io::{ErrorKind, Write};
+use crate::output::{Output, write_or_break};
+use std::io::ErrorKind;
 
 /// Why the program ends before its games do, where `clap` has no text for it.
 #[derive(Clone, Copy, Debug, PartialEq, Eq, Drop)]
@@ -70,10 +70,10 @@ impl Failure {
 }
 
 /// Tells the failure in one line, and returns the status. A writer that fails doesn't change the status.
-pub fn tell<E: Write>(failure: Failure, errors: &mut E) -> u8
+pub fn tell<E: Output>(failure: Failure, errors: &mut E) -> u8
     ensures status { result ≡ exit_status failure }
-    ensures told { TellsFailure failure (E.contents errors.old) (E.contents errors.new) }
+    ensures told { TellsFailure E.Output failure errors.old errors.new }
 {
-    let _ = write_text(errors, failure.line());
+    write_or_break(errors, failure.line());
     failure.status()
 }

@@ -68,7 +68,7 @@ pub fn write_whole<P: Process>(process: &mut P, text: &[u8]) -> Result<(), CutOf
     flush(process)
 }
 
-/// Sends bytes from the front of the text, and answers how many.
+/// Sends bytes from the front of the text, and returns how many.
 fn write_once<P: Process>(process: &mut P, text: &[u8]) -> Result<usize, CutOff>
     ensures bound { IfOk result (λ n. n ≤ length text.now) }
     ensures takes { WriteAppends (P.taken process.old) (P.taken process.new) result text.now }

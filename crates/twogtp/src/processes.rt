@@ -2,8 +2,8 @@
 ghost use Rattle.std.specs.Prelude.{◌≡◌, Some};
 ghost use Rattle.go_base.specs.declared.colours.Colour.TheVariants.{Black, White};
 ghost use Rattle.gtp_match.specs.declared.sides.Status.TheVariants as status;
-ghost use Rattle.twogtp.specs.Processes.{OtherStays, kept_by, no_processes, process_of, AreEndings, Ends, EndsWhere};
-ghost use Rattle.twogtp.specs.Processes.{ending_for};
+ghost use Rattle.twogtp.specs.Processes.{AreEnded, AreEndings, Ends, EndsWhere, IsEnded, OtherStays, ending_for};
+ghost use Rattle.twogtp.specs.Processes.{kept_by, no_processes, process_of};
 
 use crate::starter::{Ending, Process};
 use go_base::Side;
@@ -53,7 +53,9 @@ impl<P: Process> Processes<P> {
     }
 
     /// Ends all processes at once.
-    pub fn end(self) {
+    pub fn end(self)
+        ensures { AreEnded P.Process self }
+    {
         let Processes { black, white } = self;
         end(black);
         end(white);
@@ -103,6 +105,8 @@ fn end_one<P: Process>(process: Option<P>) -> Ending
 }
 
 /// Ends a process, if there is one.
-pub fn end<P: Process>(process: Option<P>) {
+pub fn end<P: Process>(process: Option<P>)
+    ensures { IsEnded P.Process process }
+{
     let _ = end_one(process);
 }

@@ -12,7 +12,7 @@ use go_base::Side;
 use gtp_match::{Action, MOST_UNANSWERED, Match};
 use gtp_wire::MOST_COMMAND_BYTES;
 
-/// The room for the bytes of as many commands as a side may have unanswered.
+/// The room for the bytes of all commands that a side may have unanswered.
 const TEXT_ROOM: usize = MOST_UNANSWERED * MOST_COMMAND_BYTES;
 
 /// The bytes of commands, joined.
@@ -53,5 +53,6 @@ fn push_command(text: &mut CommandsText, game: &mut Match, side: Side)
     ensures few { array_vec_len text.new ≤ array_vec_len text.old + MOST_COMMAND_BYTES }
 {
     let command = game.send(side);
+    // There is room, so all is taken.
     let _ = text.try_extend_from_slice(&command);
 }

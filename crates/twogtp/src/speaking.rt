@@ -25,6 +25,7 @@ pub fn send<P: Process>(game: &mut Match, side: Side, process: &mut Option<P>) -
     match process {
         Some(process) => send_to(game, side, process),
         None => {
+            // Its bytes go nowhere: there is no process to take them.
             let _ = game.send(side);
             lose(game, side, PipeCause::Writing)
         }
@@ -94,6 +95,7 @@ fn hear_bytes(game: &mut Match, side: Side, bytes: &[u8], telling: bool) -> Opti
     ensures shown { IfSome result CanBeTold }
 {
     if !telling {
+        // A fault puts the side down; why it did isn't to be told.
         let _ = game.hear_all(side, bytes);
         return None;
     }

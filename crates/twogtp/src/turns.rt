@@ -1,6 +1,5 @@
 //! A game between two processes.
 ghost use Rattle.std.specs.Prelude.{◌≡◌, false, None, IfSome, IsSome, IfOk, IfErr, OnOk, OnErr};
-ghost use Rattle.std.specs.Io.KnownBytes.{Appends};
 ghost use Rattle.gtp_match.specs.declared.verdicts.Action.TheVariants as action;
 ghost use Rattle.gtp_match.specs.Controller.{new};
 ghost use Rattle.gtp_match.specs.Next.{next};
@@ -10,24 +9,23 @@ ghost use Rattle.twogtp.specs.Status.{exit_status, own_fault};
 ghost use Rattle.twogtp.specs.Telling.{GameIsTold, GameIsUntold, game_lines};
 ghost use Rattle.twogtp.specs.Turns.{Begins, HasPlayed, HasStopped, IsRefused, IsTurn, Turn, seen, told_as};
 ghost use Rattle.twogtp.specs.Turns.{turn_line, turn_side};
-ghost use Rattle.twogtp.specs.Pipes.{TakesPart};
+ghost use Rattle.twogtp.specs.Output.{BreaksAt, GoesOut, LineGoesOut};
 ghost use Rattle.twogtp.specs.Why.{CanBeTold};
 
 use crate::closing::{Told, tell_game};
 use crate::failure::Failure;
+use crate::output::{Output, write_text};
 use crate::pipes::READ_ROOM;
 use crate::processes::{Endings, Processes, end};
 use crate::speaking::{hear, send};
 use crate::starter::{StartFault, Starter};
 use crate::task::{Commands, Task};
-use crate::telling::write_text;
 use crate::why::Lost;
 use crate::why_text::{LostLine, lost_line};
 use go_base::Side;
 use gtp_match::{Action, Match, Verdict};
-use std::io::Write;
 
-/// How many turns a game has at most. No match within the limits has as many.
+/// How many turns a game has at most. No match within the limits has this number.
 const MOST_TURNS: u64 = 1_000_000_000_000;
 
 /// Plays a game of a task, tells it, and returns how it ended. The processes are closed once the text is written and
@@ -36,7 +34,7 @@ const MOST_TURNS: u64 = 1_000_000_000_000;
 /// # Errors
 ///
 /// `OutOfMemory` where the start of a process was refused memory, `TooManyTurns`, `Write`.
-pub fn play_game<O: Write, E: Write, S: Starter>(
+pub fn play_game<O: Output, E: Output, S: Starter>(
     task: &Task,
     number: u32,
     commands: &Commands<'_>,
@@ -45,15 +43,15 @@ pub fn play_game<O: Write, E: Write, S: Starter>(
     starter: &mut S,
 ) -> Result<Verdict, Failure>
     ensures told { IfOk result (λ verdict.
-        GameIsTold S.Process.Process commands.now task.now number verdict
-        (O.contents output.old) (O.contents output.new)
-        (seen (S.asked starter.old) (E.contents errors.old))
-        (seen (S.asked starter.new) (E.contents errors.new))) }
-    ensures untold { IfErr result
-        (GameIsUntold S.Process.Process O.contents commands.now task.now number
+        GameIsTold S.Process.Process O.Output E.Output commands.now task.now number verdict
         output.old output.new
-        (seen (S.asked starter.old) (E.contents errors.old))
-        (seen (S.asked starter.new) (E.contents errors.new))) }
+        (seen (S.asked starter.old) errors.old)
+        (seen (S.asked starter.new) errors.new)) }
+    ensures untold { IfErr result
+        (GameIsUntold S.Process.Process O.Output E.Output commands.now task.now number
+        output.old output.new
+        (seen (S.asked starter.old) errors.old)
+        (seen (S.asked starter.new) errors.new)) }
     ensures failure { IfErr result (λ failure. exit_status failure ≡ own_fault) }
     ensures quiet { task.now.why ≡ false → errors.new ≡ errors.old }
 {
@@ -73,7 +71,7 @@ pub fn play_game<O: Write, E: Write, S: Starter>(
 }
 
 /// Plays a match to its end, and tells it. What it returns has the processes as the last turn left them.
-fn play_and_tell<O: Write, E: Write, S: Starter>(
+fn play_and_tell<O: Output, E: Output, S: Starter>(
     task: &Task,
     number: u32,
     game: &mut Match,
@@ -85,18 +83,18 @@ fn play_and_tell<O: Write, E: Write, S: Starter>(
 ) -> Result<Told<S::Process>, Failure>
     requires { game.old ≡ new task.now.setup }
     ensures plays { IfOk result (λ told.
-        HasPlayed S.Process.Process commands.now (told_as task.now.why number) game.old
-        no_processes (seen (S.asked starter.old) (E.contents errors.old)) game.new told.processes
-        (seen (S.asked starter.new) (E.contents errors.new))) }
+        HasPlayed S.Process.Process E.Output commands.now (told_as task.now.why number) game.old
+        no_processes (seen (S.asked starter.old) errors.old) game.new told.processes
+        (seen (S.asked starter.new) errors.new)) }
     ensures over { IfOk result (λ told. next game.new ≡ action.Done told.verdict) }
     ensures sound { OnOk result (IsSound game.new) }
-    ensures text { OnOk result (Appends (O.contents output.old) (O.contents output.new)
-        (game_lines task.now number game.new)) }
+    ensures text { OnOk result
+        (GoesOut O.Output (game_lines task.now number game.new) output.old output.new) }
     ensures untold { IfErr result
-        (GameIsUntold S.Process.Process O.contents commands.now task.now number
+        (GameIsUntold S.Process.Process O.Output E.Output commands.now task.now number
         output.old output.new
-        (seen (S.asked starter.old) (E.contents errors.old))
-        (seen (S.asked starter.new) (E.contents errors.new))) }
+        (seen (S.asked starter.old) errors.old)
+        (seen (S.asked starter.new) errors.new)) }
     ensures failure { IfErr result (λ failure. exit_status failure ≡ own_fault) }
     ensures quiet { task.now.why ≡ false → errors.new ≡ errors.old }
 {
@@ -120,7 +118,7 @@ fn told_as(why: bool, number: u32) -> Option<u32>
 
 /// Takes turns until the match is over. Where a side is lost in a turn, that is told after it, under the game's number,
 /// if there is one.
-fn take_turns<E: Write, S: Starter>(
+fn take_turns<E: Output, S: Starter>(
     game: &mut Match,
     processes: &mut Processes<S::Process>,
     buffer: &mut [u8; READ_ROOM],
@@ -129,14 +127,14 @@ fn take_turns<E: Write, S: Starter>(
     errors: &mut E,
     starter: &mut S,
 ) -> Result<Verdict, Failure>
-    ensures plays { OnOk result (HasPlayed S.Process.Process commands.now telling game.old
-        processes.old (seen (S.asked starter.old) (E.contents errors.old))
-        game.new processes.new (seen (S.asked starter.new) (E.contents errors.new))) }
+    ensures plays { OnOk result (HasPlayed S.Process.Process E.Output commands.now telling
+        game.old processes.old (seen (S.asked starter.old) errors.old)
+        game.new processes.new (seen (S.asked starter.new) errors.new)) }
     ensures over { IfOk result (λ verdict. next game.new ≡ action.Done verdict) }
     ensures sound { IfOk result (λ verdict. IsSound game.new) }
-    ensures stopped { IfErr result (HasStopped S.Process.Process commands.now telling game.old
-        processes.old (seen (S.asked starter.old) (E.contents errors.old))
-        (seen (S.asked starter.new) (E.contents errors.new)) game.new) }
+    ensures stopped { IfErr result (HasStopped S.Process.Process E.Output commands.now telling
+        game.old processes.old (seen (S.asked starter.old) errors.old)
+        (seen (S.asked starter.new) errors.new) game.new processes.new) }
     ensures failure { IfErr result (λ failure. exit_status failure ≡ own_fault) }
     ensures quiet { telling ≡ None → errors.new ≡ errors.old }
 {
@@ -178,6 +176,7 @@ fn take_turn<S: Starter>(
     ensures refused { OnErr result (IsRefused commands.now game.old
         (S.asked starter.old) (S.asked starter.new)) }
     ensures unchanged { OnErr result (game.new ≡ game.old) }
+    ensures kept { OnErr result (processes.new ≡ processes.old) }
     ensures failure { IfErr result (λ failure. failure ≡ Failure.OutOfMemory) }
 {
     let why = act(game, action, processes, buffer, commands, telling, starter)?;
@@ -202,6 +201,7 @@ fn act<S: Starter>(
     ensures refused { OnErr result (IsRefused commands.now game.old
         (S.asked starter.old) (S.asked starter.new)) }
     ensures unchanged { OnErr result (game.new ≡ game.old) }
+    ensures kept { OnErr result (processes.new ≡ processes.old) }
     ensures failure { IfErr result (λ failure. failure ≡ Failure.OutOfMemory) }
 {
     match action {
@@ -215,7 +215,7 @@ fn act<S: Starter>(
 }
 
 /// Tells why a side was lost in its turn, if it was, where a game's number is given.
-fn tell_lost<E: Write>(
+fn tell_lost<E: Output>(
     telling: Option<u32>,
     action: Action,
     why: Option<Lost>,
@@ -223,10 +223,10 @@ fn tell_lost<E: Write>(
     errors: &mut E,
 ) -> Result<(), Failure>
     requires { IfSome why CanBeTold }
-    ensures whole { OnOk result (Appends (E.contents errors.old) (E.contents errors.new)
-        (turn_line telling action why endings)) }
-    ensures part { OnErr result (TakesPart (turn_line telling action why endings)
-        (E.contents errors.old) (E.contents errors.new)) }
+    ensures whole { OnOk result
+        (LineGoesOut E.Output (turn_line telling action why endings) errors.old errors.new) }
+    ensures broke { OnErr result
+        (BreaksAt E.Output (turn_line telling action why endings) errors.old errors.new) }
     ensures quiet { telling ≡ None → errors.new ≡ errors.old }
     // It fails only at a line that is to be told.
     ensures lost { OnErr result (IsSome telling × IsSome why) }
@@ -253,11 +253,9 @@ fn turn_side(action: Action) -> Option<Side>
 }
 
 /// Writes a line and flushes it.
-fn tell_line<E: Write>(line: &LostLine, errors: &mut E) -> Result<(), Failure>
-    ensures whole { OnOk result
-        (Appends (E.contents errors.old) (E.contents errors.new) line.now.items) }
-    ensures part { OnErr result
-        (TakesPart line.now.items (E.contents errors.old) (E.contents errors.new)) }
+fn tell_line<E: Output>(line: &LostLine, errors: &mut E) -> Result<(), Failure>
+    ensures whole { OnOk result (GoesOut E.Output line.now.items errors.old errors.new) }
+    ensures broke { OnErr result (BreaksAt E.Output line.now.items errors.old errors.new) }
     ensures failure { IfErr result (λ failure. failure ≡ Failure.Write) }
 {
     match write_text(errors, line.as_slice()) {
@@ -275,13 +273,14 @@ fn start<S: Starter>(
     starter: &mut S,
 ) -> Result<Option<Lost>, Failure>
     requires { next game.old ≡ action.Start side }
-    ensures turn { IfOk result (λ why. Begins commands.now game.old side processes.old processes.new
-        (S.asked starter.old) (S.asked starter.new) game.new why) }
+    ensures turn { IfOk result (λ why. Begins S.Process.Process commands.now game.old side
+        processes.old processes.new (S.asked starter.old) (S.asked starter.new) game.new why) }
     ensures shown { IfOk result (λ why. IfSome why CanBeTold) }
     ensures rests { OtherStays side processes.old processes.new }
     ensures refused { OnErr result (IsRefused commands.now game.old
         (S.asked starter.old) (S.asked starter.new)) }
     ensures unchanged { OnErr result (game.new ≡ game.old) }
+    ensures kept { OnErr result (processes.new ≡ processes.old) }
     ensures failure { IfErr result (λ failure. failure ≡ Failure.OutOfMemory) }
 {
     match starter.start(commands.of(side)) {

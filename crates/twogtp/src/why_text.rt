@@ -263,6 +263,7 @@ fn push(line: &mut LostLine, bytes: &[u8])
     ensures bytes { line.new.items ≡ line.old.items ++ bytes.now }
     ensures len { array_vec_len line.new ≡ array_vec_len line.old + length bytes.now }
 {
+    // There is room, so all is taken.
     let _ = line.try_extend_from_slice(bytes);
 }
 

@@ -13,7 +13,7 @@ use std::io::{ErrorKind, Read, Write};
 use std::rc::Rc;
 use std::time::{Clock, Duration};
 
-/// A clock that goes on by so many microseconds at each reading, and can't be read at all where it has no step.
+/// A clock that goes on by `step` microseconds at each reading. Where it has no step it can't be read at all.
 #[derive(Drop)]
 pub struct Ticking {
     now: Cell<u64>,
@@ -60,8 +60,8 @@ impl Write for Full {
     }
 }
 
-/// A stream with room for so many bytes, which keeps how many it had taken at each flush, and notes it in the log; a
-/// write into it when it is full fails.
+/// A stream that takes `room` bytes; a write into it fails when it is full. At each flush it keeps how many it has
+/// taken, and notes that in the log.
 #[derive(Drop)]
 pub struct Narrow {
     pub taken: Vec<u8>,
@@ -289,7 +289,7 @@ fn add_one(count: &Cell<u32>) {
     count.set(count.get().saturating_add(1));
 }
 
-/// Counts so many more.
+/// Counts `more`.
 fn add(count: &Cell<usize>, more: usize) {
     count.set(count.get().saturating_add(more));
 }

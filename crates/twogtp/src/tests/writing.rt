@@ -32,8 +32,8 @@ fn an_output_that_breaks_ends_the_program(rt: HostRuntime) -> Result<(), Fail> {
     Ok(())
 }
 
-/// Plays so many games on the smallest board, and tells them to an output with this room. Answers the status and the
-/// output, in whose log stands what was done with the engines.
+/// Plays games on the smallest board, and tells them to an output with this room. It returns the status and the output,
+/// in whose log stands what was done with the engines.
 fn play_into(alloc: Global, games: &str, room: usize) -> Result<(u8, Narrow), Fail> {
     let words = [
         "twogtp", "--black", FIRST, "--white", FIRST, "--size", "1", "--games", games,

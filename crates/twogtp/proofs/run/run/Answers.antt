@@ -1,6 +1,8 @@
-use Rattle.std.proofs.Common.{◌∙◌, inl, inr, arith, refl, subst}
+use Rattle.std.proofs.Common.{◌∙◌, ℕ, List, inl, inr, arith, refl, subst}
 use Rattle.twogtp.specs.declared.failure.Failure.{Failure}
-use Rattle.twogtp.specs.Status.{TellsFailure}
+use Rattle.twogtp.specs.declared.failure.Failure.TheVariants.{OutOfMemory}
+use Rattle.twogtp.specs.Output.{IsWritten}
+use Rattle.twogtp.specs.Status.{TellsFailure, failure_line}
 use Rattle.twogtp.proofs.PlanLemmas.{mistake_is_usage}
 use Rattle.twogtp.proofs.run.run.Goals as goal
 
@@ -16,15 +18,22 @@ returns-in-Err-clause-quiet g c = λ range none. elim range [
 
 pub returns-in-Err-clause-usage : goal.returns-in-Err-clause-usage
 returns-in-Err-clause-usage g c = λ two.
-    let is = c.kind.ensures in (
-      inl (
-        c.kind.result,
-        c.answer_error.ensures.mistake two,
-        elim c.in-Err.ensures.fault [
+    let is = c.kind.ensures in
+    let told : (text : List ℕ) × IsWritten g.E.Output text c.args.errors.now c.answer_error.new.errors =
+        elim (c.answer_error.ensures.told two) [
+          | inl shown ↦ (shown.0, shown.2)
+          | inr refused ↦ (failure_line OutOfMemory, refused)
+        ] in (
+      inl (record {
+        kind = c.kind.result;
+        mistake = c.answer_error.ensures.mistake two;
+        has = elim c.in-Err.ensures.fault [
           | inl refused ↦ let three = c.answer_error.ensures.memory (is ∙ refused) in absurd (omega (arith, two, three))
           | inr among ↦ rw is among
-        ],
-      ),
+        ];
+        text = told.0;
+        told = told.1;
+      }),
       c.answer_error.ensures.usage two,
       refl,
     )
@@ -45,8 +54,8 @@ returns-in-Err-clause-played g c = elim [
               | inr among ↦ rw is among
             ],
           );
-          text = shown.1.text;
-          shown = shown.1.shown;
+          text = shown.1.0;
+          shown = inl (zero, shown.1.2);
         },
       )
   | inr one ↦ absurd (elim c.answer_error.ensures.status [ inl zero ↦ omega (arith, one, zero) | inr (inl two) ↦ omega (arith, one, two) | inr (inr three) ↦ omega (arith, one, three) ])
@@ -68,8 +77,8 @@ returns-in-Err-clause-stopped g c = λ three.
               | inr among ↦ rw is among
             ],
           );
-          text = broke.1.text;
-          shown = broke.1.shown;
+          text = broke.1.0;
+          shown = inr (three, broke.1.2);
         },
         broke.2,
       ))
@@ -80,8 +89,8 @@ returns-in-Err-plan_of-clause-stopped g c = λ three. elim c.in-Err-plan_of.ensu
   | inl refused ↦ inl (
     refl,
     refl,
-    subst (λ (failure : Failure). TellsFailure failure (g.E.Write.contents c.args.errors.now) (g.E.Write.contents c.tell.new.errors))
-        refused c.tell.ensures.told,
+    subst (λ (failure : Failure). TellsFailure g.E.Output failure c.args.errors.now c.tell.new.errors) refused
+        c.tell.ensures.told,
   )
   | inr mistake ↦
       let two = c.tell.ensures.status ∙ mistake_is_usage c.in-Ok.options c.in-Err-plan_of.failure mistake in
@@ -119,7 +128,7 @@ returns-clause-stopped g c = λ three. inr (inr (record {
     commands = c.in-Ok-plan_of.plan.commands;
     plan = c.in-Ok-plan_of.ensures.plan;
   };
-  losses = g.E.Write.contents c.play_games.new.errors;
+  losses = c.play_games.new.errors;
   failure = c.in-Err-play_games.failure;
   begun = c.in-Err-play_games.ensures.begun;
   told = c.tell-in-Err-play_games.ensures.told;
