@@ -1,7 +1,6 @@
 pub mod Closing
 pub mod Losses
 pub mod Options
-pub mod Output
 pub mod Pipes
 pub mod Processes
 pub mod Speaking
@@ -11,4 +10,5 @@ pub mod Tasks
 pub mod Telling
 pub mod Turns
 pub mod Why
+pub mod Writing
 pub mod private

@@ -18,7 +18,7 @@ use Rattle.twogtp.specs.declared.task.Commands.{Commands}
 use Rattle.twogtp.specs.declared.task.Task.{Task}
 use Rattle.twogtp.specs.Closing.{AreClosed}
 use Rattle.twogtp.specs.Options.{AsksFor, AsksForText, HasFault}
-use Rattle.twogtp.specs.Output.{BreaksAt, GoesOut, IsWritten}
+use Rattle.twogtp.specs.Writing.{BreaksAt, GoesOut, IsWritten}
 use Rattle.twogtp.specs.Processes.{AreEnded, no_processes}
 use Rattle.twogtp.specs.Status.{IsRequest, TellsFailure, done, own_fault, status_with}
 use Rattle.twogtp.specs.Tasks.{IsMistake, IsPlanOf}

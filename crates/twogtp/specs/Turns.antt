@@ -21,7 +21,7 @@ use Rattle.twogtp.specs.declared.starter.StartReason.{StartReason}
 use Rattle.twogtp.specs.declared.why.Lost.{Lost}
 use Rattle.twogtp.specs.declared.why.Lost.TheVariants.{NotStarted}
 use Rattle.twogtp.specs.declared.task.Commands.{Commands}
-use Rattle.twogtp.specs.Output.{BreaksAt, LineGoesOut}
+use Rattle.twogtp.specs.Writing.{BreaksAt, LineGoesOut}
 use Rattle.twogtp.specs.Processes.{AreEndings, IsEnded, OtherStays, ending_for, kept_by, no_processes, process_of}
 use Rattle.twogtp.specs.Speaking.{HearsFromSide, SendsToSide}
 use Rattle.twogtp.specs.Starts.{Attempts, Tries, program_line_for}

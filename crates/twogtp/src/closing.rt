@@ -2,18 +2,19 @@
 ghost use Rattle.std.specs.Prelude.{◌≡◌, IfOk, IfErr, OnOk, OnErr};
 ghost use Rattle.gtp_match.specs.Sides.{side_of, status_of};
 ghost use Rattle.twogtp.specs.Closing.{AreClosed, IsAwaited, IsToldToQuit, QuitsIfAny, has_answered_all};
-ghost use Rattle.twogtp.specs.Output.{BreaksAt, GoesOut};
+ghost use Rattle.twogtp.specs.Writing.{BreaksAt, GoesOut};
 ghost use Rattle.twogtp.specs.Processes.{AreEnded};
 ghost use Rattle.twogtp.specs.Telling.{game_lines};
 ghost use Rattle.twogtp.specs.private.Leaving.{IsLeft};
 
 use crate::failure::Failure;
-use crate::output::{Output, write_text};
+use crate::output::Output;
 use crate::pipes::{CutOff, READ_ROOM, read_once, write_whole};
 use crate::processes::{Processes, end};
 use crate::starter::Process;
 use crate::task::Task;
 use crate::telling::game_text;
+use crate::writing::write_text;
 use go_base::Side;
 use gtp_match::{Match, Status, Verdict};
 use gtp_wire::{Command, Reply, ReplyReader, write_command};

@@ -2,7 +2,8 @@
 ghost use Rattle.std.specs.Prelude.{◌≡◌, ◌≢◌};
 ghost use Rattle.twogtp.specs.Status.{TellsFailure, exit_status, failure_line};
 
-use crate::output::{Output, write_or_break};
+use crate::output::Output;
+use crate::writing::write_or_break;
 use std::io::ErrorKind;
 
 /// Why the program ends before its games do, where `clap` has no text for it.

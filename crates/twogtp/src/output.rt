@@ -1,7 +1,6 @@
 //! What the program writes to: its standard output and its standard error.
 ghost use Rattle.std.specs.Prelude.{◌≡◌, ◌≤◌, ◌<◌, ℕ, List, length, ⊤, Option, IfOk, OnOk, OnErr};
 ghost use Rattle.std.specs.Io.KnownBytes.{WriteAppends, Keeps};
-ghost use Rattle.twogtp.specs.Output.{BreaksAt, GoesOut, IsWritten};
 
 use std::io::Write;
 
@@ -63,34 +62,5 @@ impl<W: Write> Output for W {
             Ok(()) => Ok(()),
             Err(_) => Err(NotWritten),
         }
-    }
-}
-
-/// Writes the whole text and flushes it.
-///
-/// # Errors
-///
-/// Where a write takes nothing or fails, or the flush fails.
-pub fn write_text<O: Output>(output: &mut O, text: &[u8]) -> Result<(), NotWritten>
-    ensures whole { OnOk result (GoesOut O.Output text.now output.old output.new) }
-    ensures broke { OnErr result (BreaksAt O.Output text.now output.old output.new) }
-{
-    let mut done = 0;
-    while done < text.len() {
-        let taken = output.write(&text[done..])?;
-        if taken == 0 {
-            return Err(NotWritten);
-        }
-        done += taken;
-    }
-    output.flush()
-}
-
-/// Writes the whole text and flushes it. A stream that breaks at it changes nothing else.
-pub fn write_or_break<O: Output>(output: &mut O, text: &[u8])
-    ensures { IsWritten O.Output text.now output.old output.new }
-{
-    match write_text(output, text) {
-        Ok(()) | Err(NotWritten) => {}
     }
 }

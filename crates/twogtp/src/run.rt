@@ -1,7 +1,7 @@
 //! The program, over any writers and any means to start processes.
 ghost use Rattle.std.specs.Prelude.{◌≡◌, ◌⊎◌, map, true, false, string_bytes, IfOk, IfErr, OnOk, OnErr};
 ghost use Rattle.twogtp.specs.Options.{AsksForNoWhy};
-ghost use Rattle.twogtp.specs.Output.{BreaksAt, GoesOut, IsWritten, OfDisplayed};
+ghost use Rattle.twogtp.specs.Writing.{BreaksAt, GoesOut, IsWritten, OfDisplayed};
 ghost use Rattle.twogtp.specs.Status.{IsRequest, IsStatus, TellsFailure, done, exit_status, own_fault};
 ghost use Rattle.twogtp.specs.Status.{some_given_up, status_with, usage_fault};
 ghost use Rattle.twogtp.specs.Telling.{HasBegun, HasBegunToTell, HasDone, HasMistake, HasShown, HasTold, IsShown};
@@ -9,11 +9,12 @@ ghost use Rattle.twogtp.specs.Turns.{seen};
 
 use crate::failure::{Failure, tell};
 use crate::options::read_options;
-use crate::output::{NotWritten, Output, write_or_break, write_text};
+use crate::output::{NotWritten, Output};
 use crate::plan::plan_of;
 use crate::starter::Starter;
 use crate::task::{Commands, Task};
 use crate::turns::play_game;
+use crate::writing::{write_or_break, write_text};
 use clap::error::ErrorKind;
 use gtp_match::Verdict;
 use std::alloc::{AllocError, Global};

@@ -9,12 +9,12 @@ ghost use Rattle.twogtp.specs.Status.{exit_status, own_fault};
 ghost use Rattle.twogtp.specs.Telling.{GameIsTold, GameIsUntold, game_lines};
 ghost use Rattle.twogtp.specs.Turns.{Begins, HasPlayed, HasStopped, IsRefused, IsTurn, Turn, seen, told_as};
 ghost use Rattle.twogtp.specs.Turns.{turn_line, turn_side};
-ghost use Rattle.twogtp.specs.Output.{BreaksAt, GoesOut, LineGoesOut};
+ghost use Rattle.twogtp.specs.Writing.{BreaksAt, GoesOut, LineGoesOut};
 ghost use Rattle.twogtp.specs.Why.{CanBeTold};
 
 use crate::closing::{Told, tell_game};
 use crate::failure::Failure;
-use crate::output::{Output, write_text};
+use crate::output::Output;
 use crate::pipes::READ_ROOM;
 use crate::processes::{Endings, Processes, end};
 use crate::speaking::{hear, send};
@@ -22,6 +22,7 @@ use crate::starter::{StartFault, Starter};
 use crate::task::{Commands, Task};
 use crate::why::Lost;
 use crate::why_text::{LostLine, lost_line};
+use crate::writing::write_text;
 use go_base::Side;
 use gtp_match::{Action, Match, Verdict};
 

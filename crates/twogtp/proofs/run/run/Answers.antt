@@ -1,7 +1,7 @@
 use Rattle.std.proofs.Common.{◌∙◌, ℕ, List, inl, inr, arith, refl, subst}
 use Rattle.twogtp.specs.declared.failure.Failure.{Failure}
 use Rattle.twogtp.specs.declared.failure.Failure.TheVariants.{OutOfMemory}
-use Rattle.twogtp.specs.Output.{IsWritten}
+use Rattle.twogtp.specs.Writing.{IsWritten}
 use Rattle.twogtp.specs.Status.{TellsFailure, failure_line}
 use Rattle.twogtp.proofs.PlanLemmas.{mistake_is_usage}
 use Rattle.twogtp.proofs.run.run.Goals as goal

@@ -1,10 +1,10 @@
 use Rattle.std.proofs.Common.{arith}
 use Rattle.std.proofs.lemmas.Result.{err_from_is_err_and}
 use Rattle.std.proofs.KnownBytes.{Appends-nil}
-use Rattle.twogtp.specs.Output.{no_call, one_more}
+use Rattle.twogtp.specs.Writing.{no_call, one_more}
 use Rattle.twogtp.proofs.TellingLemmas.{tail-some, tail-within, Appends-take, TakesPart-kept, TakesPart-more, flush_breaks}
 use Rattle.twogtp.proofs.TellingLemmas.{flush_goes_out}
-use Rattle.twogtp.proofs.output.write_text.Goals as goal
+use Rattle.twogtp.proofs.writing.write_text.Goals as goal
 
 pub loop-done-init : goal.loop-done-init
 loop-done-init g c = record { within = omega arith; taken = Appends-nil _; went = no_call }
