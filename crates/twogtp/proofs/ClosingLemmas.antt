@@ -1,6 +1,6 @@
 -- How the processes of a match that is over are closed.
-use Rattle.std.proofs.Common.{◌≡◌, ℕ, ◌+◌, ◌≤◌, Bool, true, false, List, ◌++◌, length, take, Option, None, Some, arith, refl, sym}
-use Rattle.std.proofs.Common.{Result, Ok, Err, ◌∙◌, ap, subst}
+use Rattle.std.proofs.Common.{◌≡◌, ℕ, ◌+◌, ◌≤◌, Bool, true, false, List, ◌++◌, length, Option, None, Some, arith}
+use Rattle.std.proofs.Common.{Result, Err, ◌∙◌, ap, subst, sym}
 use Rattle.std.specs.Prelude.{is_some, option_map}
 use Rattle.std.proofs.lemmas.List.{length-take-le, take_all}
 use Rattle.gtp_wire.specs.declared.replies.Reply.{Reply}

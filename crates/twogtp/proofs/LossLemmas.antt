@@ -83,7 +83,8 @@ loses_none c m keeps (is_unfit was is) = let same = keeps.verdict in absurd (cc)
 
 neither : (why : Option Lost) (X : Type 0) → why ≡ None → (X → ⊥) → IsSome why ↔ X
 neither why X none never =
-    ((λ some. absurd (let no : is_some why ≡ false = ap (λ (w : Option Lost). is_some w) none in cc)), (λ x. absurd (never x)))
+    ((λ some. absurd (let no : is_some why ≡ false = ap (λ (w : Option Lost). is_some w) none in cc)),
+    (λ x. absurd (never x)))
 
 -- ---- a side that is cut off
 
@@ -105,7 +106,8 @@ cut_is_loss : (c m : Controller) (side : Colour) (cause : PipeCause) → KeepsSi
     → IsSome (cut_off cause m side) ↔ LosesSide c (lost m side)
 unfolding up_in
 cut_is_loss c m side cause keeps live =
-    subst (λ (v : Option Verdict). IsSome (option_map (CutOff cause) (owed_where v (up_in m side))) ↔ LosesSide c (lost m side))
+    subst (λ (v : Option Verdict).
+    IsSome (option_map (CutOff cause) (owed_where v (up_in m side))) ↔ LosesSide c (lost m side))
     (sym (keeps.verdict ∙ live)) (cut_cases c m side cause (up_in m side) keeps refl)
 
 -- ---- what comes next
@@ -153,16 +155,19 @@ starts_loses_none c side next_is (is_not_started {side = s} starts down) =
     let same : s ≡ side = cc in
     let up = started_up c side in
     let none : is_some (up_in (started c side) side) ≡ false =
-    subst (λ (t : Colour). is_some (up_in (started c side) t) ≡ false) same (ap (λ (u : Option Incarnation). is_some u) down) in
+    subst (λ (t : Colour). is_some (up_in (started c side) t) ≡ false) same
+    (ap (λ (u : Option Incarnation). is_some u) down) in
     absurd (cc)
 starts_loses_none c side next_is (is_lost (goes_down s down)) =
     let still = started_keeps c side s down.0 in
-    let gone : is_some (up_in (started c side) s) ≡ false = ap (λ (u : Option Incarnation). is_some u) down.1 in absurd (cc)
+    let gone : is_some (up_in (started c side) s) ≡ false = ap (λ (u : Option Incarnation). is_some u) down.1 in
+    absurd (cc)
 starts_loses_none c side next_is (is_lost (forfeits was is)) = absurd (cc)
 starts_loses_none c side next_is (is_lost (is_unfit was is)) = absurd (cc)
 
 module _ {P : Type 0} (known : Ghosts P) where
-  begin_told : (commands : Commands) (c new : Controller) (side : Colour) (before after : Processes P) (had has : Attempts P)
+  begin_told : (commands : Commands) (c new : Controller) (side : Colour) (before after : Processes P)
+      (had has : Attempts P)
       (why : Option Lost) → next c ≡ Start side → Begins known commands c side before after had has new why
       → IsSome why ↔ TurnLosesSide c new
   unfolding up_in
@@ -188,7 +193,8 @@ module _ {P : Type 0} (known : Ghosts P) where
       wrote None told = told
       wrote (Some loss) told = told
   hears_told c _ side old now _ live (IsHeard.ended over given taken) = cut_is_loss c c side Ended (keeps_itself c) live
-  hears_told c _ side old now _ live (IsHeard.broke cut given taken) = cut_is_loss c c side Reading (keeps_itself c) live
+  hears_told c _ side old now _ live (IsHeard.broke cut given taken) =
+      cut_is_loss c c side Reading (keeps_itself c) live
 
   send_told : (c new : Controller) (side : Colour) (before after : Option P) (why : Option Lost) → c.verdict ≡ None
       → WithProcess before after (λ (old now : P). AreSent known c side old now new why)
@@ -211,17 +217,20 @@ module _ {P : Type 0} (known : Ghosts P) where
   wait_told c new side (Some old) None why live done = absurd done
 
   -- why a side was lost is known exactly where one was
-  turn_told : (commands : Commands) (c new : Controller) (a : Action) (before after : Processes P) (had has : Attempts P)
+  turn_told : (commands : Commands) (c new : Controller) (a : Action) (before after : Processes P)
+      (had has : Attempts P)
       (why : Option Lost) → next c ≡ a → Turn known commands true c a before had new after has why
       → IsSome why ↔ TurnLosesSide c new
   turn_told commands c new (Start side) before after had has why e turn =
       begin_told commands c new side before after had has why e turn.0
   turn_told commands c new (Send side) before after had has why e turn =
       not_start c new why (λ s starts. cc)
-      (send_told c new side (process_of before side) (process_of after side) why (goes_on c (Send side) e (λ v is. cc)) turn.0)
+      (send_told c new side (process_of before side) (process_of after side) why (goes_on c (Send side) e (λ v is. cc))
+      turn.0)
   turn_told commands c new (Wait side) before after had has why e turn =
       not_start c new why (λ s starts. cc)
-      (wait_told c new side (process_of before side) (process_of after side) why (goes_on c (Wait side) e (λ v is. cc)) turn.0)
+      (wait_told c new side (process_of before side) (process_of after side) why (goes_on c (Wait side) e (λ v is. cc))
+      turn.0)
   turn_told commands c new (Done verdict) before after had has why e turn =
       not_start c new why (λ s starts. cc)
       (rw turn.0 (neither why _ turn.3 (loses_none c c (keeps_itself c))))
@@ -299,7 +308,8 @@ module _ {P : Type 0} (known : Ghosts P) where
   wait_leaves c new side (Some old) None why done = absurd done
 
   -- a side that goes down is the one whose turn it was
-  turn_names : (commands : Commands) (c new : Controller) (a : Action) (before after : Processes P) (had has : Attempts P)
+  turn_names : (commands : Commands) (c new : Controller) (a : Action) (before after : Processes P)
+      (had has : Attempts P)
       (why : Option Lost) (s : Colour) → Turn known commands true c a before had new after has why
       → GoesDown c new s → turn_side a ≡ Some s
   turn_names commands c new (Start side) before after had has why s turn down =
@@ -307,10 +317,12 @@ module _ {P : Type 0} (known : Ghosts P) where
       (sym (down_is c new side s (begin_leaves commands c new side before after had has why turn.0) down))
   turn_names commands c new (Send side) before after had has why s turn down =
       ap (λ (t : Colour). Some t)
-      (sym (down_is c new side s (send_leaves c new side (process_of before side) (process_of after side) why turn.0) down))
+      (sym (down_is c new side s (send_leaves c new side (process_of before side) (process_of after side) why turn.0)
+      down))
   turn_names commands c new (Wait side) before after had has why s turn down =
       ap (λ (t : Colour). Some t)
-      (sym (down_is c new side s (wait_leaves c new side (process_of before side) (process_of after side) why turn.0) down))
+      (sym (down_is c new side s (wait_leaves c new side (process_of before side) (process_of after side) why turn.0)
+      down))
   turn_names commands c new (Done verdict) before after had has why s turn down =
       absurd (loses_none c new (rw turn.0 (keeps_itself c)) (goes_down s down))
 
@@ -330,7 +342,8 @@ pub losses_have_lines : {P : Type 0} (known : Ghosts P) → LossesHaveLines know
 losses_have_lines known commands number c new before closing had has why endings turn =
     let told = turn_told known commands c new (next c) before turn.after had has why refl turn.turn in
     record {
-      exact = line_told number (turn_side (next c)) why endings (TurnLosesSide c new) (has_side (next c) turn.turn) told;
+      exact = line_told number (turn_side (next c)) why endings (TurnLosesSide c new) (has_side (next c) turn.turn)
+          told;
       named = λ s. turn_names known commands c new (next c) before turn.after had has why s turn.turn;
     }
   where
@@ -339,4 +352,5 @@ losses_have_lines known commands number c new before closing had has why endings
     has_side (Start side) is some = refl
     has_side (Send side) is some = refl
     has_side (Wait side) is some = refl
-    has_side (Done verdict) is some = absurd (let none : is_some why ≡ false = ap (λ (w : Option Lost). is_some w) is.3 in cc)
+    has_side (Done verdict) is some =
+        absurd (let none : is_some why ≡ false = ap (λ (w : Option Lost). is_some w) is.3 in cc)

@@ -6,7 +6,8 @@ use Rattle.twogtp.specs.Pipes.{interrupted, no_call, one_more, ran_out, tried, u
 
 -- calls and then more of them
 pub unbroken-then : {P : Type 0} {fails : Fails P} {succeeds : GoesThrough P} {before mid after : P}
-    → IsUnbroken fails succeeds before mid → IsUnbroken fails succeeds mid after → IsUnbroken fails succeeds before after
+    → IsUnbroken fails succeeds before mid → IsUnbroken fails succeeds mid after
+    → IsUnbroken fails succeeds before after
 unbroken-then p untouched = p
 unbroken-then p (tried q fault) = tried (unbroken-then p q) fault
 unbroken-then p (went q through) = went (unbroken-then p q) through

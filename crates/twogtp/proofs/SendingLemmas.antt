@@ -42,7 +42,8 @@ live c side e = by_verdict c.verdict e
 
 -- ---- a side that has all the unanswered commands that it may have is sent nothing
 
-black_waits : (side : Colour) (must : Bool) (later : Action) → must ≡ true → cond must (Wait Black) later ≡ Send side → ⊥
+black_waits : (side : Colour) (must : Bool) (later : Action) → must ≡ true
+    → cond must (Wait Black) later ≡ Send side → ⊥
 black_waits side true later is e = cc
 black_waits side false later is e = cc
 

@@ -64,8 +64,8 @@ abbrev pub has_answered_all : Status → Bool
 has_answered_all Down = false
 has_answered_all (Up confirmed unanswered asked) = unanswered == 0
 
--- The process of a side was closed. One of a side that is up and owes nothing was told to `quit`, and then it ended; any
--- other was told nothing, and it ended.
+-- The process of a side was closed. One of a side that is up and owes nothing was told to `quit`, and then it ended.
+-- Any other was told nothing, and it ended.
 abbrev pub IsClosedWhere : {P : Type 0} → Ghosts P → Bool → Option P → Type 0
 IsClosedWhere known true process = QuitsIfAny known process
 IsClosedWhere known false process = IsEnded known process

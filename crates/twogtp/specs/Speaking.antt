@@ -33,7 +33,8 @@ command_text c side = command_for c side (side_of c.sides side).up
 -- their bytes are joined to this text.
 pub data TakesCommands (c : Controller) (side : Colour) : ℕ → List ℕ → Controller → Type 0 where
   none : TakesCommands c side 0 [] c
-  one_more : {number : ℕ} {text : List ℕ} {mid : Controller} → TakesCommands c side number text mid → next mid ≡ Send side
+  one_more : {number : ℕ} {text : List ℕ} {mid : Controller} → TakesCommands c side number text mid
+      → next mid ≡ Send side
       → TakesCommands c side (number + 1) (text ++ command_text mid side) (sent mid side)
 
 -- All that come next for it were taken, until something else comes next.

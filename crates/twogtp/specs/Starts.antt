@@ -6,7 +6,8 @@ use Rattle.go_base.specs.declared.colours.Colour.{Colour}
 use Rattle.go_base.specs.declared.colours.Colour.TheVariants.{Black, White}
 use Rattle.std.specs.declared.io.ErrorKind.{ErrorKind}
 use Rattle.std.specs.declared.io.ErrorKind.TheVariants.{NotFound, PermissionDenied, NotADirectory, ExecutableFileBusy}
-use Rattle.std.specs.declared.io.ErrorKind.TheVariants.{ArgumentListTooLong, InvalidFilename, OutOfMemory, Uncategorized}
+use Rattle.std.specs.declared.io.ErrorKind.TheVariants.{ArgumentListTooLong, InvalidFilename, OutOfMemory}
+use Rattle.std.specs.declared.io.ErrorKind.TheVariants.{Uncategorized}
 use Rattle.twogtp.specs.declared.starter.StartFault.{StartFault}
 use Rattle.twogtp.specs.declared.starter.StartFault.TheVariants as start_fault
 use Rattle.twogtp.specs.declared.starter.StartReason.{StartReason}

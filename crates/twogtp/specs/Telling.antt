@@ -20,7 +20,7 @@ use Rattle.twogtp.specs.Closing.{AreClosed}
 use Rattle.twogtp.specs.Options.{AsksFor, AsksForText, HasFault}
 use Rattle.twogtp.specs.Writing.{BreaksAt, GoesOut, IsWritten}
 use Rattle.twogtp.specs.Processes.{AreEnded, no_processes}
-use Rattle.twogtp.specs.Status.{IsRequest, TellsFailure, done, own_fault, status_with}
+use Rattle.twogtp.specs.Status.{IsRequest, TellsFailure, done, own_failure, status_with}
 use Rattle.twogtp.specs.Tasks.{IsMistake, IsPlanOf}
 use Rattle.twogtp.specs.Turns.{HasStopped, IsPlayed, Seen, seen, told_as}
 
@@ -82,8 +82,8 @@ abbrev pub HasTold : {P O E : Type 0} → Ghosts P → OutputGhosts O → Output
 HasTold known outs errs commands task status before after had has =
     GamesAreTold known outs errs commands task before had task.games status after has
 
--- Some games were played and told. The next one isn't told whole: it stopped before its end, or it was played to its end
--- and the output broke at it. The failure says which, and nothing else was asked for.
+-- Some games were played and told. The next one isn't told whole: it stopped before its end, or it was played to its
+-- end and the output broke at it. The failure says which, and nothing else was asked for.
 pub record HasBegunToTell {P O E : Type 0} (known : Ghosts P) (outs : OutputGhosts O) (errs : OutputGhosts E)
     (commands : Commands) (task : Task) (before after : O) (had has : Seen P E) (failure : Failure) : Type 0 where
   pub number : ℕ
@@ -126,7 +126,7 @@ pub record HasBegun {P O E : Type 0} (known : Ghosts P) (outs : OutputGhosts O) 
 -- a text that was asked for went out with status 0, or the output broke at it with status 3
 abbrev pub IsShown : {O : Type 0} → OutputGhosts O → List ℕ → ℕ → O → O → Type 0
 IsShown outs text status before after =
-    ((status ≡ done) × GoesOut outs text before after) ⊎ ((status ≡ own_fault) × BreaksAt outs text before after)
+    ((status ≡ done) × GoesOut outs text before after) ⊎ ((status ≡ own_failure) × BreaksAt outs text before after)
 
 -- the words ask for the help or the version, and a text went out with status 0, or the output broke at it with 3
 pub record HasShown {O : Type 0} (outs : OutputGhosts O) (words : List Text) (status : ℕ) (before after : O)

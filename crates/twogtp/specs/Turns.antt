@@ -67,14 +67,15 @@ turn_line telling action why endings = line_where telling (turn_side action) why
 -- ---- one turn
 
 -- A side's program was asked for, by that side's command line. It was started: so is the side, and the very process
--- that was started is its process from then on; one that it had has ended. Or it couldn't be: the side counts as started
--- and lost, and what process it had stays.
+-- that was started is its process from then on. One that it had has ended. Or it couldn't be: the side counts as
+-- started and lost, and what process it had stays.
 pub data Begins {P : Type 0} (known : Ghosts P) (commands : Commands) (c : Controller) (side : Colour)
     (before after : Processes P) (had has : Attempts P) : Controller → Option Lost → Type 0 where
   starts : (process : P) → Tries had has (program_line_for commands side) (Ok process)
       → process_of after side ≡ Some process → IsEnded known (process_of before side)
       → Begins known commands c side before after had has (started c side) None
-  fails_to_start : (reason : StartReason) → Tries had has (program_line_for commands side) (Err (start_fault.NotStarted reason))
+  fails_to_start : (reason : StartReason) → Tries had has (program_line_for commands side)
+      (Err (start_fault.NotStarted reason))
       → process_of after side ≡ process_of before side
       → Begins known commands c side before after had has (lost (started c side) side) (Some (NotStarted reason))
 

@@ -2,8 +2,8 @@
 ghost use Rattle.std.specs.Prelude.{◌≡◌, ◌⊎◌, map, true, false, string_bytes, IfOk, IfErr, OnOk, OnErr};
 ghost use Rattle.twogtp.specs.Options.{AsksForNoWhy};
 ghost use Rattle.twogtp.specs.Writing.{BreaksAt, GoesOut, IsWritten, OfDisplayed};
-ghost use Rattle.twogtp.specs.Status.{IsRequest, IsStatus, TellsFailure, done, exit_status, own_fault};
-ghost use Rattle.twogtp.specs.Status.{some_given_up, status_with, usage_fault};
+ghost use Rattle.twogtp.specs.Status.{IsRequest, IsStatus, TellsFailure, done, exit_status, own_failure};
+ghost use Rattle.twogtp.specs.Status.{some_given_up, status_with, usage_failure};
 ghost use Rattle.twogtp.specs.Telling.{HasBegun, HasBegunToTell, HasDone, HasMistake, HasShown, HasTold, IsShown};
 ghost use Rattle.twogtp.specs.Turns.{seen};
 
@@ -40,7 +40,7 @@ pub fn run<A: AsStr, O: Output, E: Output, S: Starter>(
     ensures status { IsStatus result }
     // After a mistake in the words nothing was started, and nothing was written to the output. Of
     // the options the first mistake is told on standard error.
-    ensures usage { result ≡ usage_fault →
+    ensures usage { result ≡ usage_failure →
         HasMistake E.Output (map A.text words.now) errors.old errors.new
         × (output.new ≡ output.old) × (starter.new ≡ starter.old) }
     // Where the status is 0 or 1 and it isn't asked why engines are lost, nothing is told on
@@ -58,7 +58,7 @@ pub fn run<A: AsStr, O: Output, E: Output, S: Starter>(
     // What was written before the program had to stop is the beginning of what is told, or of the
     // help or the version: then the output broke at it. Why it stopped is told last on standard
     // error. Memory that was refused before any game is the one cause that isn't seen here.
-    ensures stopped { result ≡ own_fault →
+    ensures stopped { result ≡ own_failure →
         ((starter.new ≡ starter.old) × (output.new ≡ output.old)
         × TellsFailure E.Output Failure.OutOfMemory errors.old errors.new)
         ⊎ ((starter.new ≡ starter.old)
@@ -100,7 +100,7 @@ fn play_games<O: Output, E: Output, S: Starter>(
         (HasBegunToTell S.Process.Process O.Output E.Output commands.now task.now
         output.old output.new
         (seen (S.asked starter.old) errors.old) (seen (S.asked starter.new) errors.new)) }
-    ensures failure { IfErr result (λ failure. exit_status failure ≡ own_fault) }
+    ensures failure { IfErr result (λ failure. exit_status failure ≡ own_failure) }
 {
     let mut status = 0;
     for index in 0..task.games {
@@ -128,20 +128,20 @@ fn answer_error<T: Display, O: Output, E: Output>(
     output: &mut O,
     errors: &mut E,
 ) -> u8
-    ensures status { (result ≡ done) ⊎ (result ≡ usage_fault) ⊎ (result ≡ own_fault) }
-    ensures usage { result ≡ usage_fault → output.new ≡ output.old }
+    ensures status { (result ≡ done) ⊎ (result ≡ usage_failure) ⊎ (result ≡ own_failure) }
+    ensures usage { result ≡ usage_failure → output.new ≡ output.old }
     ensures quiet { result ≡ done → errors.new ≡ errors.old }
-    ensures mistake { result ≡ usage_fault → ¬ IsRequest kind }
-    ensures memory { kind ≡ ErrorKind.OutOfMemory → result ≡ own_fault }
+    ensures mistake { result ≡ usage_failure → ¬ IsRequest kind }
+    ensures memory { kind ≡ ErrorKind.OutOfMemory → result ≡ own_failure }
     // The text of a mistake is told, once, unless memory is refused for it.
-    ensures told { result ≡ usage_fault →
+    ensures told { result ≡ usage_failure →
         OfDisplayed (T.output text.now) (λ shown. IsWritten E.Output shown errors.old errors.new)
         ⊎ TellsFailure E.Output Failure.OutOfMemory errors.old errors.new }
     // A text that was asked for was written once.
     ensures shown { result ≡ done → IsRequest kind
         × OfDisplayed (T.output text.now) (λ shown. GoesOut O.Output shown output.old output.new) }
     // A mistake in the words is no failure of the program's own.
-    ensures own { result ≡ own_fault →
+    ensures own { result ≡ own_failure →
         (((kind ≡ ErrorKind.OutOfMemory) ⊎ IsRequest kind) × (output.new ≡ output.old)
         × TellsFailure E.Output Failure.OutOfMemory errors.old errors.new)
         ⊎ (IsRequest kind
@@ -177,8 +177,8 @@ fn show<O: Output, E: Output>(
         IsShown O.Output (string_bytes text) result output.old output.new) }
     ensures quiet { result ≡ done → errors.new ≡ errors.old }
     ensures broke { OnOk text
-        (result ≡ own_fault → TellsFailure E.Output Failure.Write errors.old errors.new) }
-    ensures refused { OnErr text ((result ≡ own_fault) × (output.new ≡ output.old)
+        (result ≡ own_failure → TellsFailure E.Output Failure.Write errors.old errors.new) }
+    ensures refused { OnErr text ((result ≡ own_failure) × (output.new ≡ output.old)
         × TellsFailure E.Output Failure.OutOfMemory errors.old errors.new) }
 {
     match text {

@@ -5,7 +5,7 @@ ghost use Rattle.gtp_match.specs.Controller.{new};
 ghost use Rattle.gtp_match.specs.Next.{next};
 ghost use Rattle.gtp_match.specs.Sound.{IsSound};
 ghost use Rattle.twogtp.specs.Processes.{OtherStays, no_processes};
-ghost use Rattle.twogtp.specs.Status.{exit_status, own_fault};
+ghost use Rattle.twogtp.specs.Status.{exit_status, own_failure};
 ghost use Rattle.twogtp.specs.Telling.{GameIsTold, GameIsUntold, game_lines};
 ghost use Rattle.twogtp.specs.Turns.{Begins, HasPlayed, HasStopped, IsRefused, IsTurn, Turn, seen, told_as};
 ghost use Rattle.twogtp.specs.Turns.{turn_line, turn_side};
@@ -53,7 +53,7 @@ pub fn play_game<O: Output, E: Output, S: Starter>(
         output.old output.new
         (seen (S.asked starter.old) errors.old)
         (seen (S.asked starter.new) errors.new)) }
-    ensures failure { IfErr result (λ failure. exit_status failure ≡ own_fault) }
+    ensures failure { IfErr result (λ failure. exit_status failure ≡ own_failure) }
     ensures quiet { task.now.why ≡ false → errors.new ≡ errors.old }
 {
     let mut game = Match::new(task.setup);
@@ -96,7 +96,7 @@ fn play_and_tell<O: Output, E: Output, S: Starter>(
         output.old output.new
         (seen (S.asked starter.old) errors.old)
         (seen (S.asked starter.new) errors.new)) }
-    ensures failure { IfErr result (λ failure. exit_status failure ≡ own_fault) }
+    ensures failure { IfErr result (λ failure. exit_status failure ≡ own_failure) }
     ensures quiet { task.now.why ≡ false → errors.new ≡ errors.old }
 {
     let mut processes = Processes::none();
@@ -136,7 +136,7 @@ fn take_turns<E: Output, S: Starter>(
     ensures stopped { IfErr result (HasStopped S.Process.Process E.Output commands.now telling
         game.old processes.old (seen (S.asked starter.old) errors.old)
         (seen (S.asked starter.new) errors.new) game.new processes.new) }
-    ensures failure { IfErr result (λ failure. exit_status failure ≡ own_fault) }
+    ensures failure { IfErr result (λ failure. exit_status failure ≡ own_failure) }
     ensures quiet { telling ≡ None → errors.new ≡ errors.old }
 {
     for _turn in 0..MOST_TURNS {

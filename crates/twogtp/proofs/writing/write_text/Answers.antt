@@ -2,8 +2,8 @@ use Rattle.std.proofs.Common.{arith}
 use Rattle.std.proofs.lemmas.Result.{err_from_is_err_and}
 use Rattle.std.proofs.KnownBytes.{Appends-nil}
 use Rattle.twogtp.specs.Writing.{no_call, one_more}
-use Rattle.twogtp.proofs.TellingLemmas.{tail-some, tail-within, Appends-take, TakesPart-kept, TakesPart-more, flush_breaks}
-use Rattle.twogtp.proofs.TellingLemmas.{flush_goes_out}
+use Rattle.twogtp.proofs.TellingLemmas.{tail-some, tail-within, Appends-take, TakesPart-kept, TakesPart-more}
+use Rattle.twogtp.proofs.TellingLemmas.{flush_breaks, flush_goes_out}
 use Rattle.twogtp.proofs.writing.write_text.Goals as goal
 
 pub loop-done-init : goal.loop-done-init
@@ -21,7 +21,8 @@ loop-done-preserved g c =
 
 pub returns-then-taken-eq0-clause-broke : goal.returns-then-taken-eq0-clause-broke
 returns-then-taken-eq0-clause-broke g c = record {
-  part = TakesPart-more _ _ _ c.args.text.now c.loop-done.done _ c.loop-done.invariant.taken c.in_ok-taken.ensures.takes;
+  part = TakesPart-more _ _ _ c.args.text.now c.loop-done.done _ c.loop-done.invariant.taken
+      c.in_ok-taken.ensures.takes;
   mid = c.loop-done.output;
   went = c.loop-done.invariant.went;
   failed = c.in_ok-taken.ensures.none (omega arith) (tail-some c.args.text.now c.loop-done.done c.loop-done-test.true);
@@ -32,7 +33,8 @@ returns-in_err-taken-clause-broke g c =
     let exit = c.from_residual in
     rw ((err_from_is_err_and exit.result exit.ensures.1).1)
     (record {
-      part = TakesPart-kept _ _ _ c.args.text.now c.loop-done.done c.loop-done.invariant.taken c.in_err-taken.ensures.takes;
+      part = TakesPart-kept _ _ _ c.args.text.now c.loop-done.done c.loop-done.invariant.taken
+          c.in_err-taken.ensures.takes;
       mid = c.loop-done.output;
       went = c.loop-done.invariant.went;
       failed = c.in_err-taken.ensures.failed;
