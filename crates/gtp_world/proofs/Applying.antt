@@ -52,7 +52,8 @@ written_to_controller {P} l t = by_engine l.engine
     by_engine None = refl
     by_engine (Some x) = refl
 
-reads_none : {P : Type 0} (may : May P) (l l2 : Lane P) (k : ℕ) → ¬ ((game : GameRecord) × (game_in l.engine ≡ Some game))
+reads_none : {P : Type 0} (may : May P) (l l2 : Lane P) (k : ℕ)
+    → ¬ ((game : GameRecord) × (game_in l.engine ≡ Some game))
     → LaneReads may l k l2 → l2 ≡ l
 reads_none {P} may l l2 k un h = by_engine l.engine refl h
   where
@@ -70,10 +71,12 @@ crash_none {P} l k un = by_engine l.engine refl
     by_engine (Some x) is = absurd (un (x.game, ap game_in is))
 
 hears_none : {P : Type 0} (s : Colour) (c c2 : Controller) (l l2 : Lane P) (k : ℕ)
-    → ¬ ((engine : Incarnation) × ((side_of c.sides s).up ≡ Some engine)) → SideHears s c l k c2 l2 → (c2 ≡ c) × (l2 ≡ l)
+    → ¬ ((engine : Incarnation) × ((side_of c.sides s).up ≡ Some engine)) → SideHears s c l k c2 l2
+        → (c2 ≡ c) × (l2 ≡ l)
 hears_none {P} s c c2 l l2 k un h = by_up (side_of c.sides s).up refl h
   where
-    by_up : (up : Option Incarnation) → (side_of c.sides s).up ≡ up → HearsWhereUp s c up l k c2 l2 → (c2 ≡ c) × (l2 ≡ l)
+    by_up : (up : Option Incarnation) → (side_of c.sides s).up ≡ up → HearsWhereUp s c up l k c2 l2
+        → (c2 ≡ c) × (l2 ≡ l)
     by_up None is h = h
     by_up (Some u) is h = absurd (un (u, is))
 
@@ -91,7 +94,8 @@ nothing_waits game None None l none h = ap (λ (x : BareLane). x.to_engine) h
 nothing_waits game (Some v) None l none h = ap (λ (x : BareLane). x.to_engine) h
 nothing_waits game v (Some u) l none h =
     let settled = settled_of game v u l h in
-    subst (λ (e : Option EngineBody). WillReadWhereRunning e l.to_engine settled.ahead settled.waiting) none settled.runs
+    subst (λ (e : Option EngineBody). WillReadWhereRunning e l.to_engine settled.ahead settled.waiting) none
+        settled.runs
 
 no_body : {P : Type 0} (e : Option (Engine P)) → game_in e ≡ None → body_of e ≡ None
 no_body None h = refl
@@ -105,7 +109,8 @@ module _ {B W : Type 0} (mb : SidePolicies B) (mw : SidePolicies W) where
       ∙ ap (λ (x : Lane B). record { controller = old.controller; black = x; white = new.white }) b
       ∙ ap (λ (x : Lane W). record { controller = old.controller; black = old.black; white = x }) w
 
-  idle_act : (a : Action) (old new : World B W) → next old.controller ≡ a → ¬ Applies old Act → Acts mb mw old a new → new ≡ old
+  idle_act : (a : Action) (old new : World B W) → next old.controller ≡ a → ¬ Applies old Act → Acts mb mw old a new
+      → new ≡ old
   idle_act (Start s) old new is un h = absurd (un (s, inl is))
   idle_act (Send s) old new is un h = absurd (un (s, inr is))
   idle_act (Wait s) old new is un h = h
@@ -142,7 +147,8 @@ module _ {B W : Type 0} (mb : SidePolicies B) (mw : SidePolicies W) where
       let same = loses_none White old.controller new.controller old.white new.white un h.0 in
       world_is old new same.0 h.1 same.1
 
-  started_is : (s : Colour) (old new : World B W) → Acts mb mw old (Start s) new → IsStarted (own_rule mb mw s) old s new
+  started_is : (s : Colour) (old new : World B W) → Acts mb mw old (Start s) new
+      → IsStarted (own_rule mb mw s) old s new
   started_is Black old new h =
       let lane = h.0.fresh_lane.lane in
       record {

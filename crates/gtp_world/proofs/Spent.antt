@@ -1,5 +1,6 @@
 -- A side that has no start left is up.
-use Rattle.std.proofs.Common.{◌≡◌, ℕ, List, Option, Some, None, Bool, true, false, refl, sym, ◌∙◌, ap, subst, inl, inr, arith}
+use Rattle.std.proofs.Common.{◌≡◌, ℕ, List, Option, Some, None, Bool, true, false, refl, sym, ◌∙◌, ap, subst, inl, inr}
+use Rattle.std.proofs.Common.{arith}
 use Rattle.std.specs.Prelude.{◌≢◌, ◌⊎◌, ◌<◌, [], ℤ, IsSome, IfSome, MatchOption}
 use Rattle.go_base.specs.Colour.{other}
 use Rattle.go_base.specs.declared.colours.Colour.{Colour}
@@ -33,7 +34,8 @@ use Rattle.gtp_world.specs.Worlds.{MadeWorld, game_in, game_at, rule_at, IsThere
 use Rattle.gtp_world.specs.Joined.{Rules, rule_of, ruled, IsFair, IsRefusal, IsJoined, bare, body, body_of}
 use Rattle.gtp_world.specs.Laws.{rules_of, PutsDown}
 use Rattle.gtp_world.specs.Settle.{settle, MaySettle, IsSettled, RunsWhereUp}
-use Rattle.gtp_world.specs.WordLaws.{AgreeingIsBeingThere, IsFourthRefusal, BlamesFewest, EnginesInStepAreThere, IsQuiet}
+use Rattle.gtp_world.specs.WordLaws.{AgreeingIsBeingThere, IsFourthRefusal, BlamesFewest, EnginesInStepAreThere}
+use Rattle.gtp_world.specs.WordLaws.{IsQuiet}
 use Rattle.gtp_world.specs.WordLaws.{IsCaughtUp}
 use Rattle.gtp_world.specs.WordLaws.{OpeningsMaySettle, SettledIsCaughtUp, QuietWorldsCatchUp, LastStartsAreUp}
 use Rattle.gtp_world.proofs.Agreement.{same_game}

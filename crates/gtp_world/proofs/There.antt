@@ -1,5 +1,6 @@
 -- A running engine in step is at the controller's game, under its own side's ko rule.
-use Rattle.std.proofs.Common.{◌≡◌, ℕ, List, Option, Some, None, Bool, true, false, refl, sym, ◌∙◌, ap, subst, inl, inr, arith}
+use Rattle.std.proofs.Common.{◌≡◌, ℕ, List, Option, Some, None, Bool, true, false, refl, sym, ◌∙◌, ap, subst, inl, inr}
+use Rattle.std.proofs.Common.{arith}
 use Rattle.std.specs.Prelude.{◌≢◌, ◌⊎◌, ◌<◌, [], ℤ, IsSome, IfSome, MatchOption}
 use Rattle.go_base.specs.Colour.{other}
 use Rattle.go_base.specs.declared.colours.Colour.{Colour}
@@ -33,7 +34,8 @@ use Rattle.gtp_world.specs.Worlds.{MadeWorld, game_in, game_at, rule_at, IsThere
 use Rattle.gtp_world.specs.Joined.{Rules, rule_of, ruled, IsFair, IsRefusal, IsJoined, bare, body, body_of}
 use Rattle.gtp_world.specs.Laws.{rules_of, PutsDown}
 use Rattle.gtp_world.specs.Settle.{settle, MaySettle, IsSettled, RunsWhereUp}
-use Rattle.gtp_world.specs.WordLaws.{AgreeingIsBeingThere, IsFourthRefusal, BlamesFewest, EnginesInStepAreThere, IsQuiet}
+use Rattle.gtp_world.specs.WordLaws.{AgreeingIsBeingThere, IsFourthRefusal, BlamesFewest, EnginesInStepAreThere}
+use Rattle.gtp_world.specs.WordLaws.{IsQuiet}
 use Rattle.gtp_world.specs.WordLaws.{IsCaughtUp}
 use Rattle.gtp_world.specs.WordLaws.{OpeningsMaySettle, SettledIsCaughtUp, QuietWorldsCatchUp, LastStartsAreUp}
 use Rattle.gtp_world.proofs.Agreement.{same_game}
@@ -47,13 +49,16 @@ body_some : {P : Type 0} (l : Lane P) (e : Engine P) → l.engine ≡ Some e →
 body_some l e h = ap body_of h
 
 black_there : {B W : Type 0} (rules : Rules) (v : World B W) (game : GameRecord) → IsJoined rules v
-    → game_in v.black.engine ≡ Some game → in_step v.controller Black ≡ true → game ≡ ruled rules.black v.controller.game
+    → game_in v.black.engine ≡ Some game → in_step v.controller Black ≡ true
+        → game ≡ ruled rules.black v.controller.game
 black_there rules v game j is step =
     let x = game_some v.black.engine game is in
-    sym x.2 ∙ same_game rules v.controller Black (bare v.black) (bare v.white) (body x.0) j step (body_some v.black x.0 x.1)
+    sym x.2 ∙ same_game rules v.controller Black (bare v.black) (bare v.white) (body x.0) j step
+        (body_some v.black x.0 x.1)
 
 white_there : {B W : Type 0} (rules : Rules) (v : World B W) (game : GameRecord) → IsJoined rules v
-    → game_in v.white.engine ≡ Some game → in_step v.controller White ≡ true → game ≡ ruled rules.white v.controller.game
+    → game_in v.white.engine ≡ Some game → in_step v.controller White ≡ true
+        → game ≡ ruled rules.white v.controller.game
 white_there rules v game j is step =
     let x = game_some v.white.engine game is in
     sym x.2
@@ -73,7 +78,8 @@ rule_is : {M N B W : Type 0} (w : MadeWorld M N B W) (s : Colour) → rule_of (r
 rule_is w Black = refl
 rule_is w White = refl
 
-pub engines_are_there : {M N B W : Type 0} (may_b : May B) (may_w : May W) (made_b : M → B → Type 0) (made_w : N → W → Type 0)
+pub engines_are_there : {M N B W : Type 0} (may_b : May B) (may_w : May W) (made_b : M → B → Type 0)
+    (made_w : N → W → Type 0)
     → AllowsLawful may_b → AllowsLawful may_w → EnginesInStepAreThere may_b may_w made_b made_w
 engines_are_there may_b may_w made_b made_w law_b law_w w s game reached is step =
     there (rules_at w) w.world s game (reached_inv may_b may_w made_b made_w law_b law_w w reached) is step

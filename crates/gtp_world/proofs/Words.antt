@@ -1,5 +1,6 @@
 -- What the words say that the headline is said with.
-use Rattle.std.proofs.Common.{◌≡◌, ℕ, List, Option, Some, None, Bool, true, false, refl, sym, ◌∙◌, ap, subst, inl, inr, arith}
+use Rattle.std.proofs.Common.{◌≡◌, ℕ, List, Option, Some, None, Bool, true, false, refl, sym, ◌∙◌, ap, subst, inl, inr}
+use Rattle.std.proofs.Common.{arith}
 use Rattle.std.specs.Prelude.{◌≢◌, ◌⊎◌, ◌<◌, [], ℤ, IsSome, IfSome, MatchOption}
 use Rattle.go_base.specs.Colour.{other}
 use Rattle.go_base.specs.declared.colours.Colour.{Colour}
@@ -33,7 +34,8 @@ use Rattle.gtp_world.specs.Worlds.{MadeWorld, game_in, game_at, rule_at, IsThere
 use Rattle.gtp_world.specs.Joined.{Rules, rule_of, ruled, IsFair, IsRefusal, IsJoined, bare, body, body_of}
 use Rattle.gtp_world.specs.Laws.{rules_of, PutsDown}
 use Rattle.gtp_world.specs.Settle.{settle, MaySettle, IsSettled, RunsWhereUp}
-use Rattle.gtp_world.specs.WordLaws.{AgreeingIsBeingThere, IsFourthRefusal, BlamesFewest, EnginesInStepAreThere, IsQuiet}
+use Rattle.gtp_world.specs.WordLaws.{AgreeingIsBeingThere, IsFourthRefusal, BlamesFewest, EnginesInStepAreThere}
+use Rattle.gtp_world.specs.WordLaws.{IsQuiet}
 use Rattle.gtp_world.specs.WordLaws.{IsCaughtUp}
 use Rattle.gtp_world.specs.WordLaws.{OpeningsMaySettle, SettledIsCaughtUp, QuietWorldsCatchUp, LastStartsAreUp}
 use Rattle.gtp_world.proofs.Agreement.{same_game}
@@ -75,11 +77,13 @@ same_is Black White h = absurd (cc h)
 same_is White Black h = absurd (cc h)
 
 -- who made the last move
-last_by : (last : Option Move) (c : Colour) → is_by last c ≡ true → (move : Move) × (last ≡ Some move) × (move.colour ≡ c)
+last_by : (last : Option Move) (c : Colour) → is_by last c ≡ true
+    → (move : Move) × (last ≡ Some move) × (move.colour ≡ c)
 last_by None c h = absurd (cc h)
 last_by (Some move) c h = (move, refl, same_is move.colour c h)
 
-fourth_refusal : (rules : Rules) (c : Controller) (s : Colour) → IsRefusal rules c s → IsFourthRefusal rules c s RefusedPlay
+fourth_refusal : (rules : Rules) (c : Controller) (s : Colour) → IsRefusal rules c s
+    → IsFourthRefusal rules c s RefusedPlay
 fourth_refusal rules c s h =
     let by = last_by _ (other s) h.by_other in
     record {
@@ -107,7 +111,8 @@ blames_none rules c verdict unfit given_up forfeit = record {
   forfeit = λ s cause is. absurd (forfeit s cause is);
 }
 
-forfeit_is : (rules : Rules) (c : Controller) (s : Colour) (cause : ForfeitCause) → IsFair rules c (Some (Forfeit s cause))
+forfeit_is : (rules : Rules) (c : Controller) (s : Colour) (cause : ForfeitCause)
+    → IsFair rules c (Some (Forfeit s cause))
     → IsFourthRefusal rules c s cause
 forfeit_is rules c s RefusedPlay h = fourth_refusal rules c s h
 forfeit_is rules c s NoMove h = absurd h
