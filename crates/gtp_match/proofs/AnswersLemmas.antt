@@ -70,14 +70,18 @@ answers_count c new s engine entry later reply bytes used fault hears none up en
       where
         by_held : (b : Bool) → new ≡ retaken_at c s (heard_reply engine) b
             → (fault ≡ None) × CountsFor c new s engine entry later reply
-        by_held true new_is =
-            (no_fault, CountsFor.retaken why.0 why.1 (stands (answered (heard_reply engine)) engine.confirmed
-            (ap (up_in s) new_is ∙ up_there c.sides s (answered (heard_reply engine))) refl refl)
-            (ap (λ (x : Controller). x.retakes) new_is))
-        by_held false new_is =
-            (no_fault, CountsFor.retaken why.0 why.1 (stands (answered (heard_reply engine)) engine.confirmed
-            (ap (up_in s) new_is ∙ up_there c.sides s (answered (heard_reply engine))) refl refl)
-            (ap (λ (x : Controller). x.retakes) new_is))
+        by_held true new_is = (
+          no_fault,
+          CountsFor.retaken why.0 why.1 (stands (answered (heard_reply engine)) engine.confirmed
+              (ap (up_in s) new_is ∙ up_there c.sides s (answered (heard_reply engine))) refl refl)
+              (ap (λ (x : Controller). x.retakes) new_is),
+        )
+        by_held false new_is = (
+          no_fault,
+          CountsFor.retaken why.0 why.1 (stands (answered (heard_reply engine)) engine.confirmed
+              (ap (up_in s) new_is ∙ up_there c.sides s (answered (heard_reply engine))) refl refl)
+              (ap (λ (x : Controller). x.retakes) new_is),
+        )
 
     confirms : (x : Controller) → new ≡ x → (side_of x.sides s).up ≡ Some (confirmed (heard_reply engine))
         → CountsFor c new s engine entry later reply
@@ -99,9 +103,11 @@ answers_count c new s engine entry later reply bytes used fault hears none up en
         by_refusal fault_is (subst (Reason c.game s entry.command reply) e (reason c.game s reply entry.command))
         (may_retake c s (heard_reply engine)) new_is
     by_outcome TakesBack e fault_is new_is =
-        let why = subst (Reason c.game s entry.command reply) e (reason c.game s reply entry.command) in
-        (fault_is, CountsFor.taken_back why.0 why.1 (stands (taken_back (heard_reply engine)) (engine.confirmed - 1)
-        (ap (up_in s) new_is ∙ up_there c.sides s (taken_back (heard_reply engine))) refl refl))
+        let why = subst (Reason c.game s entry.command reply) e (reason c.game s reply entry.command) in (
+          fault_is,
+          CountsFor.taken_back why.0 why.1 (stands (taken_back (heard_reply engine)) (engine.confirmed - 1)
+              (ap (up_in s) new_is ∙ up_there c.sides s (taken_back (heard_reply engine))) refl refl),
+        )
     by_outcome Keeps e fault_is new_is =
         (fault_is, over (verdict.Forfeit (other s) RefusedPlay) _ new_is refl)
 

@@ -67,9 +67,11 @@ genmove_next c s engine free r =
     let number = engine.confirmed + length engine.unanswered in
     let none = ap (λ (xs : List SentCommand). length xs) r.idle in
     let all = r.whole in
-    let beyond : length (script c.game) ≤ number = omega (arith, none, all) in
-    (s, ap (λ p. undo_or p (script_or_genmove s (slice_get (script c.game) number))) free
-    ∙ ap (script_or_genmove s) (past (script c.game) number beyond))
+    let beyond : length (script c.game) ≤ number = omega (arith, none, all) in (
+      s,
+      ap (λ p. undo_or p (script_or_genmove s (slice_get (script c.game) number))) free
+          ∙ ap (script_or_genmove s) (past (script c.game) number beyond),
+    )
 
 asked_next : (c : Controller) → c.verdict ≡ None → c.pending ≡ None → AreReady c
     → IsSentNext c (to_move c.game) IsGenmove

@@ -72,7 +72,7 @@ crash_none {P} l k un = by_engine l.engine refl
 
 hears_none : {P : Type 0} (s : Colour) (c c2 : Controller) (l l2 : Lane P) (k : ℕ)
     → ¬ ((engine : Incarnation) × ((side_of c.sides s).up ≡ Some engine)) → SideHears s c l k c2 l2
-        → (c2 ≡ c) × (l2 ≡ l)
+    → (c2 ≡ c) × (l2 ≡ l)
 hears_none {P} s c c2 l l2 k un h = by_up (side_of c.sides s).up refl h
   where
     by_up : (up : Option Incarnation) → (side_of c.sides s).up ≡ up → HearsWhereUp s c up l k c2 l2
@@ -95,7 +95,7 @@ nothing_waits game (Some v) None l none h = ap (λ (x : BareLane). x.to_engine) 
 nothing_waits game v (Some u) l none h =
     let settled = settled_of game v u l h in
     subst (λ (e : Option EngineBody). WillReadWhereRunning e l.to_engine settled.ahead settled.waiting) none
-        settled.runs
+    settled.runs
 
 no_body : {P : Type 0} (e : Option (Engine P)) → game_in e ≡ None → body_of e ≡ None
 no_body None h = refl

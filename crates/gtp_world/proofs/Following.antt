@@ -202,7 +202,7 @@ next_may rule c s sound says playable = by_kind says.kind
     by_script None e free (inl both) =
         let within : u.confirmed ≤ length (script c.game) =
         idle_plan c.game c.pending (all_retakes c) s u ((my_engine c s u sound says.up).under_way says.verdict)
-            both.idle in
+        both.idle in
         let past : length (script c.game) ≤ u.confirmed + length u.unanswered =
         past_length (script c.game) (u.confirmed + length u.unanswered) e in
         let at : replayed g u.confirmed ≡ g = whole (omega (arith, within, past, ap length both.idle)) in

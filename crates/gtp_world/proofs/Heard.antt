@@ -658,7 +658,7 @@ module _ (rules : Rules) (c : Controller) (s : Colour) (u : Incarnation) (e : Op
       let live : IsJoinedInPlay own next (record { engine = e; to_engine = te; to_controller = y }) =
       part_keeps own u e te (b ∷ x) y kept mine quiet keeps in
       let done : AreJoined rules (with_side_up c s next) s (record { engine = e; to_engine = te; to_controller = y })
-          lo =
+      lo =
       joint_put rules c s (with_engine next (side_of c.sides s)) c.game c.verdict c.pending c.retakes
       (record { engine = e; to_engine = te; to_controller = y }) lo next_sound (rw none tt)
       (record {
@@ -688,7 +688,7 @@ module _ (rules : Rules) (c : Controller) (s : Colour) (u : Incarnation) (e : Op
       replied_keeps rules c s u e te
       (drop k.used
       (b ∷ x) ++ y) lo sound none up idle playable theirs their_playable k.reply k.more mine.waiting mine.ahead
-          mine.cut mine.few owes mine.fit
+      mine.cut mine.few owes mine.fit
       mine.may k.left mine.runs mine.uncut in
       subst (λ (n : ℕ). Keeps n (fault_of (outcome c.game s (oldest u.unanswered) k.reply))
       (after_outcome c s (heard_reply u) (outcome c.game s (oldest u.unanswered) k.reply))) (sym is) r
@@ -727,7 +727,7 @@ module _ (rules : Rules) (c : Controller) (s : Colour) (u : Incarnation) (e : Op
       by_bytes used fault c2 (inr k) (HearsUp.replied {value = value} first) =
           let same =
           one_first (mine.begun ++ b ∷ x) (length u.reader + used) (length (reply_bytes k.reply)) (Ok value)
-              (Ok k.reply)
+          (Ok k.reply)
           (as_begun (length u.reader + used) (Ok value) first) k.first in
           let value_is : value ≡ k.reply = let both : Ok value ≡ Ok k.reply = same.1 in cc both in
           let used_is : used ≡ k.used = omega (arith, same.0, k.place, mine.kept.0) in
@@ -799,4 +799,4 @@ hears_keep rules s e te y lo c c2 (b ∷ xs) fault (HearsAllBy.faulty {shown = f
     absurd (let bad : Some f ≡ None = (heard_keeps rules c s e te b xs y lo used (Some f) c2 j h).0 in cc bad)
 hears_keep rules s e te y lo c c2 (b ∷ xs) fault (HearsAllBy.goes_on {mid = mid} used some h more) j =
     hears_keep rules s e te y lo mid c2 (drop used (b ∷ xs)) fault more
-        (heard_keeps rules c s e te b xs y lo used None mid j h).1
+    (heard_keeps rules c s e te b xs y lo used None mid j h).1

@@ -340,18 +340,18 @@ Replied rules c s u l lo o = (fault_of o ≡ None) × AreJoined rules (after_out
 
 -- what is left of a side once its oldest order is answered
 pub record Left (game : GameRecord) (n : ℕ) (us : List SentCommand) (e : Option EngineBody) (te tc : List ℕ) : Type 0
-    where
-  pub few : length us ≤ most_unanswered
-  pub more : List Reply
-  pub waiting : List SentCommand
-  pub ahead : GameRecord
-  pub owes : Owes (replayed game n) us more waiting ahead
-  pub fit : AllByRecursion CanBeWritten waiting
-  pub may : AllMayBeSent ahead waiting
-  pub cut : List ℕ
-  pub arriving : tc ++ cut ≡ all_reply_bytes more
-  pub runs : WillReadWhereRunning e te ahead waiting
-  pub uncut : CutByCrash e cut
+  where
+    pub few : length us ≤ most_unanswered
+    pub more : List Reply
+    pub waiting : List SentCommand
+    pub ahead : GameRecord
+    pub owes : Owes (replayed game n) us more waiting ahead
+    pub fit : AllByRecursion CanBeWritten waiting
+    pub may : AllMayBeSent ahead waiting
+    pub cut : List ℕ
+    pub arriving : tc ++ cut ≡ all_reply_bytes more
+    pub runs : WillReadWhereRunning e te ahead waiting
+    pub uncut : CutByCrash e cut
 
 pub left_live : (game : GameRecord) (n sent : ℕ) (us : List SentCommand) (e : Option EngineBody) (te tc : List ℕ)
     → Left game n us e te tc

@@ -176,7 +176,7 @@ module _ (rules : Rules) (c : Controller) (s : Colour) (u : Incarnation) (o : Se
       )
   up_confirms used fault c2 (HearsUp.faulted {shown = shown} told) =
       absurd (let same = one_first (u.reader ++ tc) (length u.reader + used) (length (reply_bytes owed.reply))
-          (Err shown)
+      (Err shown)
       (Ok owed.reply) told first in let bad : Err shown ≡ Ok owed.reply = same.1 in cc bad)
   up_confirms used fault c2 (HearsUp.nothing_yet quiet keeps) =
       absurd (quiet_or_first (u.reader ++ tc) (length (reply_bytes owed.reply)) (Ok owed.reply) quiet first)
@@ -250,7 +250,7 @@ lane_is_idle rules c s l lo u e j none up idle runs =
 module _ {P : Type 0} (may : May P) (lawful : AllowsLawful may) (rules : Rules) (s : Colour) (c : Controller)
     (l : Lane P) (lo : BareLane) (count : ℕ) (is : next c ≡ Send s) (j : AreJoined rules c s (bare l) lo)
     (legal : IsGame (ruled (rule_of rules s) c.game)) (free : c.pending ≡ None) (none : c.verdict ≡ None)
-        (ready : IsReady (side_of c.sides s).up l count) (k : Command)
+    (ready : IsReady (side_of c.sides s).up l count) (k : Command)
     (scripted : slice_get (script c.game) count ≡ Some k) where
   abbrev engine : Incarnation
   engine = ready.incarnation
@@ -305,7 +305,7 @@ module _ {P : Type 0} (may : May P) (lawful : AllowsLawful may) (rules : Rules) 
       subst (λ (t : List ℕ). HearsAll s sender t h.fault c3) (take_all 100 written fits) h.hears in
       let c3_is : c3 ≡ confirmed_by sender s (heard_reply asked) =
       all_confirm rules sender s asked order (body after) written lo j2 legal none asked_up one scripted_now h.fault
-          c3 hears in
+      c3 hears in
       let last : Incarnation = confirmed (heard_reply asked) in
       let last_up : (side_of c3.sides s).up ≡ Some last =
       ap (λ (d : Controller). (side_of d.sides s).up) c3_is

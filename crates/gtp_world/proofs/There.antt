@@ -50,15 +50,15 @@ body_some l e h = ap body_of h
 
 black_there : {B W : Type 0} (rules : Rules) (v : World B W) (game : GameRecord) → IsJoined rules v
     → game_in v.black.engine ≡ Some game → in_step v.controller Black ≡ true
-        → game ≡ ruled rules.black v.controller.game
+    → game ≡ ruled rules.black v.controller.game
 black_there rules v game j is step =
     let x = game_some v.black.engine game is in
     sym x.2 ∙ same_game rules v.controller Black (bare v.black) (bare v.white) (body x.0) j step
-        (body_some v.black x.0 x.1)
+    (body_some v.black x.0 x.1)
 
 white_there : {B W : Type 0} (rules : Rules) (v : World B W) (game : GameRecord) → IsJoined rules v
     → game_in v.white.engine ≡ Some game → in_step v.controller White ≡ true
-        → game ≡ ruled rules.white v.controller.game
+    → game ≡ ruled rules.white v.controller.game
 white_there rules v game j is step =
     let x = game_some v.white.engine game is in
     sym x.2

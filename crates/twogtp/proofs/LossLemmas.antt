@@ -82,9 +82,10 @@ loses_none c m keeps (forfeits was is) = let same = keeps.verdict in absurd (cc)
 loses_none c m keeps (is_unfit was is) = let same = keeps.verdict in absurd (cc)
 
 neither : (why : Option Lost) (X : Type 0) → why ≡ None → (X → ⊥) → IsSome why ↔ X
-neither why X none never =
-    ((λ some. absurd (let no : is_some why ≡ false = ap (λ (w : Option Lost). is_some w) none in cc)),
-    (λ x. absurd (never x)))
+neither why X none never = (
+  (λ some. absurd (let no : is_some why ≡ false = ap (λ (w : Option Lost). is_some w) none in cc)),
+  (λ x. absurd (never x)),
+)
 
 -- ---- a side that is cut off
 

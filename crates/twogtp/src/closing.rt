@@ -81,11 +81,7 @@ impl<P: Process> Told<P> {
 }
 
 /// Ends the process of a side that is down or still owes an answer, and hands back any other.
-fn end_unless_answered<P: Process>(
-    game: &Match,
-    side: Side,
-    process: Option<P>,
-) -> Option<P>
+fn end_unless_answered<P: Process>(game: &Match, side: Side, process: Option<P>) -> Option<P>
     ensures { IsLeft P.Process
         (has_answered_all (status_of (side_of game.now.sides side).up)) process result }
 {

@@ -101,7 +101,15 @@ fn play_and_tell<O: Output, E: Output, S: Starter>(
 {
     let mut processes = Processes::none();
     let telling = told_as(task.why, number);
-    match take_turns(game, &mut processes, buffer, commands, telling, errors, starter) {
+    match take_turns(
+        game,
+        &mut processes,
+        buffer,
+        commands,
+        telling,
+        errors,
+        starter,
+    ) {
         Ok(verdict) => tell_game(task, number, game, verdict, processes, output),
         Err(failure) => {
             processes.end();
@@ -209,8 +217,20 @@ fn act<S: Starter>(
         Action::Start(side) => start(game, processes, side, commands, starter),
         Action::Send(Side::Black) => Ok(send(game, Side::Black, &mut processes.black)),
         Action::Send(Side::White) => Ok(send(game, Side::White, &mut processes.white)),
-        Action::Wait(Side::Black) => Ok(hear(game, Side::Black, &mut processes.black, buffer, telling)),
-        Action::Wait(Side::White) => Ok(hear(game, Side::White, &mut processes.white, buffer, telling)),
+        Action::Wait(Side::Black) => Ok(hear(
+            game,
+            Side::Black,
+            &mut processes.black,
+            buffer,
+            telling,
+        )),
+        Action::Wait(Side::White) => Ok(hear(
+            game,
+            Side::White,
+            &mut processes.white,
+            buffer,
+            telling,
+        )),
         Action::Done(_) => Ok(None),
     }
 }

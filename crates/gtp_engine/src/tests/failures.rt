@@ -100,7 +100,11 @@ fn each_fault_of_a_conversation_is_told(rt: HostRuntime) -> Result<(), Fail> {
     ];
     for (fault, text) in cases {
         let mut errors = Vec::new(rt.alloc());
-        assert_equal(&rt, tell(Failure::Serve(fault), &mut Counted::new(&mut errors)), 3);
+        assert_equal(
+            &rt,
+            tell(Failure::Serve(fault), &mut Counted::new(&mut errors)),
+            3,
+        );
         assert_equal(&rt, errors.as_slice(), text.as_bytes());
     }
     Ok(())
@@ -113,7 +117,10 @@ fn what_is_wrong_is_handed_on_whole_and_once(rt: HostRuntime) -> Result<(), Fail
             &["gtp_engine", "--book", "C3,D44"],
             "gtp_engine: bad book\n",
         ),
-        (&["gtp_engine", "--fault", "stop"], "gtp_engine: bad fault\n"),
+        (
+            &["gtp_engine", "--fault", "stop"],
+            "gtp_engine: bad fault\n",
+        ),
         (&["gtp_engine"], "gtp_engine: read fault\n"),
     ];
     for (words, text) in cases {

@@ -1,6 +1,4 @@
-use super::steps::{
-    answer, black_answered, ended, first_sent, handicap_answered, send_and_wait,
-};
+use super::steps::{answer, black_answered, ended, first_sent, handicap_answered, send_and_wait};
 use crate::equal::assert_equal;
 use crate::{Action, ForfeitCause, Verdict, record_line};
 use go_base::{Colour, Point, Side};

@@ -1,6 +1,6 @@
 use super::steps::{
-    answer, black_answered, black_asked, both_started, bring, ended, first_sent, hear, line, send, send_and_wait,
-    setup_with, up,
+    answer, black_answered, black_asked, both_started, bring, ended, first_sent, hear, line, send,
+    send_and_wait, setup_with, up,
 };
 use crate::equal::assert_equal;
 use crate::{Action, Match, Status, Verdict, record_line, result_line};
@@ -113,7 +113,11 @@ fn a_result_line_has_room_for_96_bytes_and_a_record_line_for_10_000(rt: HostRunt
     let played = black_answered(&rt, b"=4 resign\n\n");
     let told: Option<ArrayVec<u8, 96>> = result_line(1, &played);
     let record: ArrayVec<u8, 10_000> = record_line(&played);
-    assert_equal(&rt, told.expect(&rt, "an end").as_slice(), b"game 1: W+R moves 0 restarts 0 0".as_slice());
+    assert_equal(
+        &rt,
+        told.expect(&rt, "an end").as_slice(),
+        b"game 1: W+R moves 0 restarts 0 0".as_slice(),
+    );
     assert_equal(&rt, record.as_slice(), b"".as_slice());
 }
 

@@ -26,7 +26,11 @@ pub fn assert_same_game(rt: &impl Abort, one: &Game, two: &Game) {
 }
 
 /// Two worlds show the same.
-pub fn assert_same_world<B: Maker, W: Maker>(rt: &impl Abort, one: &World<B, W>, two: &World<B, W>) {
+pub fn assert_same_world<B: Maker, W: Maker>(
+    rt: &impl Abort,
+    one: &World<B, W>,
+    two: &World<B, W>,
+) {
     assert_equal(rt, one.controller().next(), two.controller().next());
     assert_same_game(rt, one.controller().game(), two.controller().game());
     for side in SIDES {

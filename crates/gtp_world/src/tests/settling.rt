@@ -2,8 +2,8 @@
 use super::SIDES;
 use super::same::assert_same_game;
 use super::told::{Events, Told, black_lost};
-use crate::{Event, Maker, World};
 use crate::equal::assert_equal;
+use crate::{Event, Maker, World};
 use gtp_match::Status;
 use std::process::Abort;
 

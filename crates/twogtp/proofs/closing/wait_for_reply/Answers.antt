@@ -23,7 +23,7 @@ loop-read-init g c = rw c.new-reader.ensures (record {
 pub returns-in-Ok-eq0 : goal.returns-in-Ok-eq0
 returns-in-Ok-eq0 g c =
     let kept : Keeps (g.P.Process.given c.loop-read.process) (g.P.Process.given c.read_once.new.process) =
-        search rules in
+    search rules in
     ended c.loop-read.reader (Appends-kept _ _ _ _ c.loop-read.invariant.given kept) c.loop-read.invariant.quiet
     (ended-then c.loop-read.invariant.unbroken (c.in-Ok-eq0.ensures.ended (search rules) (search rules)))
     (Keeps-trans _ _ _ c.loop-read.invariant.taken c.in-Ok-eq0.ensures.taken)
@@ -38,7 +38,7 @@ returns-then-is_some g c =
 pub returns-in-Err : goal.returns-in-Err
 returns-in-Err g c =
     let kept : Keeps (g.P.Process.given c.loop-read.process) (g.P.Process.given c.read_once.new.process) =
-        search rules in
+    search rules in
     broke c.loop-read.reader (Appends-kept _ _ _ _ c.loop-read.invariant.given kept) c.loop-read.invariant.quiet
     (cut_off-then c.loop-read.invariant.unbroken c.in-Err.ensures.failed)
     (Keeps-trans _ _ _ c.loop-read.invariant.taken c.in-Err.ensures.taken)

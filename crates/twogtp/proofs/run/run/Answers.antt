@@ -31,10 +31,10 @@ pub returns-in-Err-clause-usage : goal.returns-in-Err-clause-usage
 returns-in-Err-clause-usage g c = λ two.
     let is = c.kind.ensures in
     let told : (text : List ℕ) × IsWritten g.E.Output text c.args.errors.now c.answer_error.new.errors =
-        elim (c.answer_error.ensures.told two) [
-          | inl shown ↦ (shown.0, shown.2)
-          | inr refused ↦ (failure_line OutOfMemory, refused)
-        ] in (
+    elim (c.answer_error.ensures.told two) [
+      | inl shown ↦ (shown.0, shown.2)
+      | inr refused ↦ (failure_line OutOfMemory, refused)
+    ] in (
       inl (record {
         kind = c.kind.result;
         mistake = c.answer_error.ensures.mistake two;

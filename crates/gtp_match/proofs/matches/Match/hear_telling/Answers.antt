@@ -28,9 +28,11 @@ returns-then-is_some-clause-told c = (
 
 pub returns-then-is_some-clause-exact : goal.returns-then-is_some-clause-exact
 returns-then-is_some-clause-exact c =
-    let told = returns-then-is_some-clause-told c in
-    (told.0, telling_hears c.args.side c.args.self.now c.heard-heard.new.self c.args.bytes.now told.0
-    c.first_of-loss.result told.1)
+    let told = returns-then-is_some-clause-told c in (
+      told.0,
+      telling_hears c.args.side c.args.self.now c.heard-heard.new.self c.args.bytes.now told.0
+          c.first_of-loss.result told.1,
+    )
 
 pub returns-then-is_some-clause-shown : goal.returns-then-is_some-clause-shown
 returns-then-is_some-clause-shown c =
