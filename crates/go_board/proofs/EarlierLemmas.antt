@@ -1,5 +1,6 @@
 -- Which boards of a record may have had a stone that stands no more.
-use Rattle.std.proofs.Common.{◌≡◌, ℕ, zero, suc, ◌+◌, ◌<◌, ◌≤◌, List, [], ◌∷◌, ◌++◌, length, refl, sym, ◌∙◌, ap, subst, arith}
+use Rattle.std.proofs.Common.{◌≡◌, ℕ, zero, suc, ◌+◌, ◌<◌, ◌≤◌, List, [], ◌∷◌, ◌++◌, length, refl, sym, ◌∙◌, ap}
+use Rattle.std.proofs.Common.{subst, arith}
 use Rattle.std.proofs.Common.{inl, inr, Bool, true, false, cond, Contains, take, get_or, get_or-set_other}
 use Rattle.std.specs.Prelude.{◌⊎◌, ◌≢◌, Some, slice_get}
 use Rattle.std.specs.List.{range_with_len, filter, AllByRecursion}
@@ -25,7 +26,8 @@ use Rattle.go_board.specs.declared.removed.Taken.{Taken}
 use Rattle.go_board.proofs.BoardLemmas.{same_or_other, stone-point, stone-filled, stone-differs}
 use Rattle.go_board.proofs.CaptureLemmas.{holds-yes, in_list}
 use Rattle.go_board.proofs.KoLemmas.{IsAfter, taken as gone, left as stays, after-put}
-use Rattle.go_board.proofs.GameLemmas.{board-push, by_moves, IsBeforeMove, first_moves-with_move, slice_get-longer, slice_get-end}
+use Rattle.go_board.proofs.GameLemmas.{board-push, by_moves, IsBeforeMove, first_moves-with_move, slice_get-longer}
+use Rattle.go_board.proofs.GameLemmas.{slice_get-end}
 use Rattle.go_board.proofs.LegalLemmas.{new-stone}
 use Rattle.go_board.proofs.OrderLemmas.{legal-open, board-with_move, IsOrderly-game}
 use Rattle.go_board.proofs.StackLemmas.{removed_of-with_move}
@@ -166,7 +168,8 @@ stays-with_move game c v b known k n q d order within h =
         → (at (board_of (first_moves n game)) q ≡ stone d) ⊎ WasTaken game (removed_of game) d q k
         → (at (board_of (first_moves n (with_move game c v))) q ≡ stone d)
         ⊎ WasTaken (with_move game c v) (removed_of (with_move game c v)) d q k
-    middle few (inl there) = inl (ap (λ (g : GameRecord). at (board_of g) q) (first_moves-with_move game c v n few) ∙ there)
+    middle few (inl there) =
+        inl (ap (λ (g : GameRecord). at (board_of g) q) (first_moves-with_move game c v n few) ∙ there)
     middle few (inr taken) = inr (taken-longer game c v d q k taken)
 
     last : n ≡ length (with_move game c v).moves
@@ -325,7 +328,8 @@ order-from b n (m ∷ ms) = front (removed_by b m.colour m.vertex) (order-from (
     rest : List Taken
     rest = removed_from (after b m) (n + 1) ms
 
-    least : (ps : List ℕ) → AllByRecursion (λ (u : Taken). n ≤ u.number) (taken_at n ps ++ removed_from (after b m) (n + 1) ms)
+    least : (ps : List ℕ)
+        → AllByRecursion (λ (u : Taken). n ≤ u.number) (taken_at n ps ++ removed_from (after b m) (n + 1) ms)
     least [] = numbers-from (after b m) (n + 1) ms n (omega arith)
     least (p ∷ ps) = (omega arith, least ps)
 
@@ -359,7 +363,8 @@ read-below game d q left earlier last r e =
 pub read-found : (game : GameRecord) (d : Colour) (q : ℕ) (left earlier : List Taken) (last : Taken)
     → IsReadDown game d q left → left ≡ earlier ++ last ∷ [] → StoodBelow game d q (last.number + 1)
 read-found game d q left earlier last r e k w = by_case (Contains-append_cases earlier (last ∷ [])
-    (record { place = q; number = x.number }) (subst (λ (ts : List Taken). Contains ts (record { place = q; number = x.number })) e x.there))
+    (record { place = q; number = x.number })
+    (subst (λ (ts : List Taken). Contains ts (record { place = q; number = x.number })) e x.there))
   where
     x : WasTaken game left d q k
     x = r.all k w

@@ -116,7 +116,8 @@ slice_get-below [] k m e = cc
 slice_get-below (x ∷ xs) zero m e = omega arith
 slice_get-below (x ∷ xs) (suc k) m e = let h = slice_get-below xs k m e in omega arith
 
-pub slice_get-longer : (ms : List Move) (m x : Move) (k : ℕ) → slice_get ms k ≡ Some x → slice_get (ms ++ m ∷ []) k ≡ Some x
+pub slice_get-longer : (ms : List Move) (m x : Move) (k : ℕ) → slice_get ms k ≡ Some x
+    → slice_get (ms ++ m ∷ []) k ≡ Some x
 slice_get-longer [] m x k e = cc
 slice_get-longer (y ∷ ms) m x zero e = e
 slice_get-longer (y ∷ ms) m x (suc k) e = slice_get-longer ms m x k e

@@ -16,7 +16,8 @@ use Rattle.go_board.specs.Chain.{IsFree}
 use Rattle.go_board.specs.declared.board.Cell.TheVariants.{Empty}
 use Rattle.go_board.proofs.NextLemmas.{empty-point}
 use Rattle.go_board.specs.private.Frame.{HasSize}
-use Rattle.go_board.specs.Game.{GameRecord, start, board_of, with_move, after_vertex, IsGame, IsLegal, RepeatsLast, Repeats}
+use Rattle.go_board.specs.Game.{GameRecord, start, board_of, with_move, after_vertex, IsGame, IsLegal, RepeatsLast}
+use Rattle.go_board.specs.Game.{Repeats}
 use Rattle.go_board.specs.private.Kept.{record_of, IsKept}
 use Rattle.go_board.specs.private.Ko.{IsKo, IsKoAfter, TakesOnly}
 use Rattle.go_board.specs.private.Label.{AreChains, AreFree}
@@ -64,7 +65,8 @@ none-taken : (game : GameRecord) (d : Colour) → game.moves ≡ [] → 0 ≡ ta
 unfolding taken
 none-taken game d none = sym (ap (λ (ms : List Move). taken_from (start game.size game.handicap) d ms) none)
 
-pub IsKept-start : (size : ℕ) (komi : ℤ) (rule : KoRule) (handicap : ℕ) (chains : Chains) (removed : List Taken) (moves : ArrayVec Move)
+pub IsKept-start : (size : ℕ) (komi : ℤ) (rule : KoRule) (handicap : ℕ) (chains : Chains) (removed : List Taken)
+    (moves : ArrayVec Move)
     → IsSize size → IsKomi komi
     → (handicap ≡ 0) ⊎ AllowsHandicap size handicap → chains.board ≡ start size handicap
     → AreChains chains.board chains.labels chains.counts → removed ≡ [] → moves.items ≡ []
@@ -81,7 +83,8 @@ pub IsKept-start : (size : ℕ) (komi : ℤ) (rule : KoRule) (handicap : ℕ) (c
       taken_by_white = 0;
     })
 IsKept-start size komi rule handicap chains removed moves is_size is_komi allowed board_is are gone none =
-    let game : GameRecord = record { size = size; komi = komi; rule = rule; handicap = handicap; moves = moves.items } in
+    let game : GameRecord =
+    record { size = size; komi = komi; rule = rule; handicap = handicap; moves = moves.items } in
     let g : IsGame game = record {
       size = is_size;
       komi = is_komi;
@@ -209,7 +212,8 @@ pub after-last : (f : Inside) (ms : List Move) (c : Colour) (v : Vertex) → IsK
     → IsAfterMove f.chains.board f.removed (record { colour = c; vertex = v }) (length ms)
 after-last f ms c v kept ends =
     let game = record_of f in
-    let shorter : GameRecord = record { size = f.size; komi = f.komi; rule = f.rule; handicap = f.handicap; moves = ms } in
+    let shorter : GameRecord =
+    record { size = f.size; komi = f.komi; rule = f.rule; handicap = f.handicap; moves = ms } in
     let same : with_move shorter c v ≡ game = with-last game ms (record { colour = c; vertex = v }) ends in
     let b = IsBeforeMove-from shorter c v (subst IsGame (sym same) kept.game) in
     let o = IsOrderly-game shorter b.game_is in
@@ -228,7 +232,8 @@ were-before : (f : Inside) (ms : List Move) (c : Colour) (v : Vertex) (chains : 
     (kept : IsKept f)
     → f.moves.items ≡ ms ++ record { colour = c; vertex = v } ∷ []
     → IsUnmade f.chains.board f.removed (record { colour = c; vertex = v }) (length ms) chains.board removed now
-    → (chains.board ≡ board_of (record { size = f.size; komi = f.komi; rule = f.rule; handicap = f.handicap; moves = ms }))
+    → (chains.board
+    ≡ board_of (record { size = f.size; komi = f.komi; rule = f.rule; handicap = f.handicap; moves = ms }))
     × (removed ≡ removed_of (record { size = f.size; komi = f.komi; rule = f.rule; handicap = f.handicap; moves = ms }))
     × (now ≡ captures_of_vertex
     (board_of (record { size = f.size; komi = f.komi; rule = f.rule; handicap = f.handicap; moves = ms })) c v)
@@ -242,7 +247,8 @@ pub enough-taken : (f : Inside) (ms : List Move) (c : Colour) (v : Vertex) (chai
     → t ≡ taken (record_of f) d
     → (if same_colour c d then now else 0) ≤ t
 enough-taken f ms c v chains removed now t d kept ends back is =
-    let shorter : GameRecord = record { size = f.size; komi = f.komi; rule = f.rule; handicap = f.handicap; moves = ms } in
+    let shorter : GameRecord =
+    record { size = f.size; komi = f.komi; rule = f.rule; handicap = f.handicap; moves = ms } in
     let same : with_move shorter c v ≡ record_of f =
     with-last (record_of f) ms (record { colour = c; vertex = v }) ends in
     let were = were-before f ms c v chains removed now kept ends back in
@@ -265,7 +271,8 @@ pub IsKept-undo : (f : Inside) (c : Colour) (v : Vertex) (chains : Chains) (ko :
       taken_by_white = white;
     })
 IsKept-undo f c v chains ko removed now black white moves kept ends back are black_is white_is ko_is =
-    let shorter : GameRecord = record { size = f.size; komi = f.komi; rule = f.rule; handicap = f.handicap; moves = moves.items } in
+    let shorter : GameRecord =
+    record { size = f.size; komi = f.komi; rule = f.rule; handicap = f.handicap; moves = moves.items } in
     let same : with_move shorter c v ≡ record_of f =
     with-last (record_of f) moves.items (record { colour = c; vertex = v }) ends in
     let b = IsBeforeMove-from shorter c v (subst IsGame (sym same) kept.game) in

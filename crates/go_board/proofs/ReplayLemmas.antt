@@ -1,5 +1,6 @@
 -- A record played again on another board, by the stones that its moves took.
-use Rattle.std.proofs.Common.{◌≡◌, ℕ, zero, suc, ◌+◌, ◌-◌, ◌<◌, ◌≤◌, List, [], ◌∷◌, ◌++◌, length, refl, sym, ◌∙◌, ap, subst, arith}
+use Rattle.std.proofs.Common.{◌≡◌, ℕ, zero, suc, ◌+◌, ◌-◌, ◌<◌, ◌≤◌, List, [], ◌∷◌, ◌++◌, length, refl, sym, ◌∙◌, ap}
+use Rattle.std.proofs.Common.{subst, arith}
 use Rattle.std.proofs.Common.{inl, inr, Bool, true, false, cond, take, drop, get_or, get_or-set_same, get_or-set_other}
 use Rattle.std.specs.Prelude.{◌⊎◌, ◌≢◌, ◌==◌, ◌↔◌, IsTrue, Some, slice_get}
 use Rattle.std.specs.List.{range_with_len, AllByRecursion}
@@ -77,7 +78,8 @@ cleared-same b n t ts e = ap (λ (x : Bool). cond x (cleared (set b t.place Empt
 pub later-other : (n : ℕ) (t : Taken) (ts : List Taken) → (t.number == n) ≡ false → later_than n (t ∷ ts) ≡ t ∷ ts
 later-other n t ts e = ap (λ (x : Bool). cond x (later_than n ts) (t ∷ ts)) e
 
-pub later-same : (n : ℕ) (t : Taken) (ts : List Taken) → (t.number == n) ≡ true → later_than n (t ∷ ts) ≡ later_than n ts
+pub later-same : (n : ℕ) (t : Taken) (ts : List Taken) → (t.number == n) ≡ true
+    → later_than n (t ∷ ts) ≡ later_than n ts
 later-same n t ts e = ap (λ (x : Bool). cond x (later_than n ts) (t ∷ ts)) e
 
 -- a place that is no edge stays one where a point is cleared
@@ -111,7 +113,8 @@ number-same n = grind (arith, nat_tests)
 number-later : (m n : ℕ) → n < m → (m == n) ≡ false
 number-later m n less = grind (arith, nat_tests, less)
 
-cleared-none : (b : List Cell) (n : ℕ) (ts : List Taken) → AllByRecursion (λ (t : Taken). n < t.number) ts → cleared b n ts ≡ b
+cleared-none : (b : List Cell) (n : ℕ) (ts : List Taken) → AllByRecursion (λ (t : Taken). n < t.number) ts
+    → cleared b n ts ≡ b
 cleared-none b n [] all = refl
 cleared-none b n (t ∷ ts) all = cleared-other b n t ts (number-later t.number n all.0)
 
@@ -139,7 +142,8 @@ set-swap (y ∷ ys) zero (suc q) x = refl
 set-swap (y ∷ ys) (suc p) zero x = refl
 set-swap (y ∷ ys) (suc p) (suc q) x = ap (λ (b : List Cell). y ∷ b) (set-swap ys p q x)
 
-all_cleared-first : (b : List Cell) (p : ℕ) (ps : List ℕ) → all_cleared (set b p Empty) ps ≡ set (all_cleared b ps) p Empty
+all_cleared-first : (b : List Cell) (p : ℕ) (ps : List ℕ)
+    → all_cleared (set b p Empty) ps ≡ set (all_cleared b ps) p Empty
 all_cleared-first b p [] = refl
 all_cleared-first b p (q ∷ ps) =
     ap (λ (cs : List Cell). all_cleared cs ps) (set-swap b p q Empty) ∙ all_cleared-first (set b q Empty) p ps
@@ -230,7 +234,8 @@ take-step ms k m e = let same : k + 1 ≡ suc k = omega arith in
 
 -- The record was played again up to a move: the board is that of the moves before it, the stones are those that it and
 -- the later ones took, and no earlier board was the one that is sought.
-pub record IsReplayed (game : GameRecord) (wanted : List Cell) (k : ℕ) (now : List Cell) (stones : List Taken) : Type 0 where
+pub record IsReplayed (game : GameRecord) (wanted : List Cell) (k : ℕ) (now : List Cell)
+    (stones : List Taken) : Type 0 where
   pub board_is : now ≡ board_of (first_moves k game)
   pub stones_are : stones ≡ removed_from now k (drop k game.moves)
   pub points : ArePoints now stones
@@ -335,7 +340,9 @@ IsReplayed-start game wanted now g is has =
     record {
       board_is = is;
       stones_are = ap (λ (b : List Cell). removed_from b 0 game.moves) (sym is);
-      points = points-where (board_of game) now (removed_of game) (λ q k. (has q).1 ((o.has_size q).0 k)) (points-game game g);
+      points =
+          points-where (board_of game) now (removed_of game) (λ q k. (has q).1 ((o.has_size q).0 k))
+          (points-game game g);
       none = λ j less. absurd (omega (arith, less));
     }
 

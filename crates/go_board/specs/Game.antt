@@ -34,7 +34,7 @@ most_moves = 2000
 abbrev pub HasRoom : GameRecord → Type 0
 HasRoom game = length game.moves < most_moves
 
--- the game of the first so many moves
+-- the game of its first `n` moves
 abbrev pub first_moves : ℕ → GameRecord → GameRecord
 first_moves n game = record game { moves = take n game.moves }
 

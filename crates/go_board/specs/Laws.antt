@@ -21,7 +21,7 @@ use Rattle.go_board.specs.declared.rules.KoRule.TheVariants.{Simple, Positional}
 use Rattle.go_board.specs.Taken.{taken}
 use Rattle.go_board.specs.Area.{score}
 
--- It is so of just that many numbers: of those of a list that has each of them once.
+-- P holds of `many` numbers: some list has each of them once, and no other.
 pub record IsOfSoMany (P : ℕ → Type 0) (many : ℕ) : Type 0 where
   pub list : List ℕ
   pub each : (q : ℕ) → Contains list q ↔ P q

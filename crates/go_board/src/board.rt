@@ -74,7 +74,8 @@ pub fn place_of(point: Point) -> usize
     ROW * point.row() as usize + point.column() as usize
 }
 
-/// What a place holds on a board with so many lines each way, and without a stone.
+/// What a place of an empty board holds: nothing where it is one of the points of `lines` lines each way, and edge
+/// elsewhere.
 #[inline]
 fn empty_cell(lines: u32, place: usize) -> Cell
     ensures { result ≡ (if is_point lines place then Cell.Empty else Cell.Edge) }
@@ -199,7 +200,8 @@ impl Board {
         self.cells[place] == other.cells[place] && self.cells == other.cells
     }
 
-    /// Clears the points of the stones at the front that a move took, and answers those of later moves.
+    /// Clears the points of the stones at the front that the move with this number took. Returns the stones that later
+    /// moves took.
     pub fn clear_taken<'a>(&mut self, number: usize, stones: &'a [Taken]) -> &'a [Taken]
         requires { ArePoints self.old stones.now }
         ensures board { self.new ≡ cleared self.old number stones.now }
@@ -217,7 +219,8 @@ impl Board {
         left
     }
 
-    /// Makes a move again, where these stones were taken by it and by later moves. Answers those of later moves.
+    /// Makes a move again, where these stones were taken by it and by later moves. Returns the stones that later moves
+    /// took.
     #[inline]
     pub fn make_again<'a>(
         &mut self,

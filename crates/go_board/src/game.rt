@@ -22,7 +22,8 @@ use std::marker::Model;
 /// How many moves a record has room for.
 pub const MOST_MOVES: usize = 2000;
 
-/// How many of the last moves are looked at for a stone that earlier boards hadn't.
+/// How many of the last moves are looked at for a stone that earlier boards hadn't. To look at more takes longer than
+/// it saves.
 const LAST_MOVES: usize = 32;
 
 /// A game of Go: its size, komi and handicap, and the moves made so far.
@@ -85,13 +86,13 @@ impl Game {
         Game::opening(size, komi, rule, 0)
     }
 
-    /// A game under a ko rule with so many handicap stones, or none, and without moves.
+    /// A game under a ko rule with `stones` handicap stones, or none, and without moves.
     fn opening(size: Size, komi: Komi, rule: KoRule, stones: u32) -> Self
         requires { (stones ≡ 0) ⊎ AllowsHandicap size stones }
         ensures { result
             ≡ record { size = size; komi = komi; rule = rule; handicap = stones; moves = [] } }
     {
-        // Its contract tells that komi is in its limits.
+        // For the proof alone: the contract of this call tells that komi is in its limits.
         let _ = komi.half_points();
         let chains = Chains::of(Board::start(size, stones));
         let removed = Removed::new();
@@ -120,7 +121,7 @@ impl Game {
     pub fn set_komi(&mut self, komi: Komi)
         ensures { self.new ≡ record self.old { komi = komi } }
     {
-        // Its contract tells that komi is in its limits.
+        // For the proof alone: the contract of this call tells that komi is in its limits.
         let _ = komi.half_points();
         self.komi = komi;
     }
@@ -132,7 +133,7 @@ impl Game {
         *self = Game::opening(self.size, self.komi, self.rule, 0);
     }
 
-    /// Puts that many of Black's handicap stones on the board, and answers their points in the order of the table.
+    /// Puts `stones` of Black's handicap stones on the board, and returns their points in the order of the table.
     ///
     /// # Errors
     ///
@@ -220,7 +221,7 @@ impl Game {
             (RefusesVertex self.now colour vertex) }
         ensures game { IsGame self.now }
     {
-        // Its invariant tells that this is a game.
+        // For the proof alone: looked at, it tells by its invariant that this is a game.
         let _ = &self.size;
         match vertex {
             Vertex::Pass => Ok(()),
@@ -271,8 +272,8 @@ impl Game {
             && self.was(&self.board_after(colour, point), place_of(point))
     }
 
-    /// How many boards of the record, from the first on, may be the one that a play on an empty point leaves. They had a
-    /// stone of the colour on the point, and one on each point where the colour's last moves put one.
+    /// How many boards of the record, from the first on, may be the one that a play on an empty point leaves. That
+    /// board has a stone of the colour on the point, and one on each point where the colour's last moves put one.
     fn boards_like(&self, colour: Colour, point: Point) -> usize
         requires { at (board_of self.now) point ≡ Empty }
         ensures { RepeatsBelow self.now colour point result }
@@ -288,8 +289,8 @@ impl Game {
         few
     }
 
-    /// How many are left of so many boards that came before a move, if the move's stone has to stand on them where it is
-    /// of this colour.
+    /// How many of the first `few` boards of the record may have had the stone of a move, where the move is of this
+    /// colour. A pass and a move of the other colour leave all.
     fn boards_also(&self, colour: Colour, mover: Colour, vertex: Vertex, few: usize) -> usize
         ensures { IsAlsoBelow self.now colour mover vertex few result }
     {
@@ -324,6 +325,7 @@ impl Game {
     {
         let mut chains = self.chains;
         let mut removed = Removed::new();
+        // How many stones it takes doesn't matter here.
         let _ = chains.put(colour, place_of(point), 0, &mut removed);
         *chains.board()
     }
@@ -446,6 +448,7 @@ impl Game {
     ///
     /// A point counts for the colour of its stone, and an empty one where the stones beside its region are of one
     /// colour alone, for that colour.
+    // No proof sees through the definition of the score unless it is named: others see it as one number.
     #[tactic(auto, unfolding(crate::specs::Area::score))]
     pub fn score(&self) -> i32
         ensures { result ≡ score self.now }
@@ -468,7 +471,7 @@ impl Game {
     }
 }
 
-/// What a colour has taken after a move of `mover` that took so many stones.
+/// What a colour has taken after a move of `mover` that took `taken` stones.
 #[inline]
 fn with_taken(had: u32, taken: u32, mover: Colour, colour: Colour) -> u32
     requires had { had ≤ most_removed }
@@ -478,7 +481,7 @@ fn with_taken(had: u32, taken: u32, mover: Colour, colour: Colour) -> u32
     if mover == colour { had + taken } else { had }
 }
 
-/// What a colour had taken before a move of `mover` that took so many stones.
+/// What a colour had taken before a move of `mover` that took `taken` stones.
 #[inline]
 fn without_taken(has: u32, taken: u32, mover: Colour, colour: Colour) -> u32
     requires { (if same_colour mover colour then taken else 0) ≤ has }

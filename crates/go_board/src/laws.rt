@@ -18,14 +18,13 @@ pub fn boards_left()
     ensures { BoardsLeftAreJustThese }
 {}
 
-/// Stones stand on the points of the game's size and nowhere else: for any other point `Game::at` answers that there is
-/// none.
+/// Stones stand on the points of the game's size and nowhere else: for any other point `Game::at` returns `None`.
 pub fn stones_on_the_board()
     ensures { StonesAreOnTheBoard }
 {}
 
-/// Positional ko allows no move that simple ko forbids, and each that simple ko allows where the board is new. Under it no
-/// play brings back a board of the game.
+/// Positional ko allows no move that simple ko forbids. It allows each that simple ko allows where the board is new.
+/// Under it no play brings back a board of the game.
 pub fn ko_rules()
     ensures stricter { PositionalIsStricter }
     ensures new { NewBoardsAreAllowed }

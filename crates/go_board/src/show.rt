@@ -11,7 +11,8 @@ use crate::game::Game;
 use arrayvec::ArrayVec;
 use go_base::{Colour, Point, write_int};
 
-/// The room for the text of a board.
+/// The room for the text of a board. A text has at most 1,409 bytes: 25 rows of 52 and a newline, 49 of letters and a
+/// newline, and 34 of captures.
 const TEXT_ROOM: usize = 2000;
 
 /// The most bytes of the points of a row: two for each of 25.
@@ -63,6 +64,7 @@ impl Game {
         ensures few { array_vec_len text.new ≤ array_vec_len text.old + MOST_ROW_BYTES }
     {
         self.push_points(text, row);
+        // There is room, so nothing is refused.
         let _ = text.try_extend_from_slice(&write_int(row));
     }
 
@@ -95,6 +97,7 @@ impl Game {
         requires { array_vec_len text.old + MOST_CAPTURE_BYTES ≤ TEXT_ROOM }
         ensures { text.new.items ≡ text.old.items ++ shown_captures self.now }
     {
+        // There is room, so nothing is refused.
         let _ = text.try_extend_from_slice(b"captures B ");
         let _ = text.try_extend_from_slice(&write_int(self.captured(Colour::Black)));
         let _ = text.try_extend_from_slice(b" W ");
@@ -136,66 +139,5 @@ fn push_letter(text: &mut BoardText, column: u32)
 {
     if let Some(point) = Point::new(column, 1) {
         text.push(point.letter());
-    }
-}
-
-#[cfg(test)]
-mod tests {
-    use super::*;
-    use crate::equal::assert_equal;
-    use go_base::{Komi, Size, Vertex};
-    use std::test::Fail;
-
-    /// A game of this size with these moves, Black's first and the colours in turn.
-    fn game(size: u32, vertices: &[&[u8]]) -> Result<Game, Fail> {
-        let komi = Komi::from_half_points(0).ok_or("komi")?;
-        let mut game = Game::new(Size::new(size).ok_or("size")?, komi);
-        let mut colour = Colour::Black;
-        for text in vertices {
-            game.play(colour, Vertex::read(text).ok_or("vertex")?)?;
-            colour = colour.other();
-        }
-        Ok(game)
-    }
-
-    #[test]
-    fn fresh_boards_have_no_stones_and_no_captures(rt: HostRuntime) -> Result<(), Fail> {
-        let smallest = b". 1\nA\ncaptures B 0 W 0";
-        assert_equal(&rt, game(1, &[])?.show().as_slice(), smallest.as_slice());
-        let next = b". . 2\n. . 1\nA B\ncaptures B 0 W 0";
-        assert_equal(&rt, game(2, &[])?.show().as_slice(), next.as_slice());
-        Ok(())
-    }
-
-    #[test]
-    fn captured_stones_are_gone_and_counted(rt: HostRuntime) -> Result<(), Fail> {
-        let by_white = game(2, &[b"A1", b"B1", b"A2", b"B2"])?.show();
-        let shown = b". O 2\n. O 1\nA B\ncaptures B 0 W 2";
-        assert_equal(&rt, by_white.as_slice(), shown.as_slice());
-        let moves: [&[u8]; 9] = [
-            b"A2", b"C1", b"B1", b"B2", b"D4", b"A1", b"pass", b"pass", b"B1",
-        ];
-        let by_both = game(4, &moves)?.show();
-        let shown = b". . . X 4\n. . . . 3\nX O . . 2\n. X O . 1\nA B C D\ncaptures B 1 W 1";
-        assert_equal(&rt, by_both.as_slice(), shown.as_slice());
-        Ok(())
-    }
-
-    #[test]
-    fn row_numbers_and_letters_are_not_padded(rt: HostRuntime) -> Result<(), Fail> {
-        let text = game(25, &[b"Z10", b"A9"])?.show();
-        let mut lines = text.split(|byte| *byte == b'\n');
-        let highest = b". . . . . . . . . . . . . . . . . . . . . . . . . 25";
-        assert_equal(&rt, lines.next().ok_or("row 25")?, highest.as_slice());
-        let tenth = b". . . . . . . . . . . . . . . . . . . . . . . . X 10";
-        assert_equal(&rt, lines.nth(14).ok_or("row 10")?, tenth.as_slice());
-        let ninth = b"O . . . . . . . . . . . . . . . . . . . . . . . . 9";
-        assert_equal(&rt, lines.next().ok_or("row 9")?, ninth.as_slice());
-        let letters = b"A B C D E F G H J K L M N O P Q R S T U V W X Y Z";
-        assert_equal(&rt, lines.nth(8).ok_or("letters")?, letters.as_slice());
-        let captures = b"captures B 0 W 0";
-        assert_equal(&rt, lines.next().ok_or("captures")?, captures.as_slice());
-        assert!(rt; lines.next().is_none());
-        Ok(())
     }
 }

@@ -3,13 +3,14 @@
 
 #[cfg(test)]
 mod equal;
-mod fault;
+mod failure;
 mod options;
+mod plain;
 pub mod run;
 #[cfg(test)]
 mod tests;
 
-use fault::{Fault, tell};
+use failure::{Failure, tell};
 use gtp_session::streams::Counted;
 use run::run;
 use std::process::ExitCode;
@@ -17,15 +18,16 @@ use std::{env, io};
 
 /// Runs the engine on the arguments and the standard streams, and ends with its status.
 fn main(rt: HostRuntime) -> ExitCode {
+    let errors = &mut Counted::new(rt.stderr());
     let status = match arguments(&rt) {
         Ok(words) => run(
             rt.alloc(),
             words.as_slice(),
             &mut Counted::new(rt.stdin()),
             &mut Counted::new(rt.stdout()),
-            &mut rt.stderr(),
+            errors,
         ),
-        Err(error) => tell(Fault::of_arguments(error.kind()), &mut rt.stderr()),
+        Err(error) => tell(Failure::of_arguments(error.kind()), errors),
     };
     ExitCode::from(status)
 }

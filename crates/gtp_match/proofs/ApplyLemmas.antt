@@ -1,5 +1,5 @@
 -- A legal move is played, and what is then left is what the table says.
-use Rattle.std.proofs.Common.{◌≡◌, Option, Some, None, Result, Ok, Err, sym, ◌∙◌, ap, arith}
+use Rattle.std.proofs.Common.{◌≡◌, Option, Some, None, Result, Ok, Err, sym, ◌∙◌, ap, subst, arith}
 use Rattle.std.specs.Prelude.{IfSome, OnOk, MatchResult}
 use Rattle.go_base.specs.declared.colours.Colour.{Colour}
 use Rattle.go_base.specs.declared.vertices.Vertex.{Vertex}
@@ -9,9 +9,10 @@ use Rattle.go_board.specs.declared.faults.PlayFault.{PlayFault}
 use Rattle.go_board.specs.declared.faults.PlayFault.TheVariants.{Full, OffBoard, Occupied, Suicide, Ko}
 use Rattle.go_board.proofs.GameLemmas.{legal-or_refused}
 use Rattle.gtp_match.specs.ReplyTable.{verdict_after, after_outcome}
-use Rattle.gtp_match.specs.Sides.{side_of, with_engine_of, confirmed}
+use Rattle.gtp_match.specs.Sides.{side_of, with_side, with_engine, with_engine_of, confirmed}
 use Rattle.gtp_match.specs.declared.controller.Controller.{Controller}
 use Rattle.gtp_match.specs.declared.sides.Incarnation.{Incarnation}
+use Rattle.gtp_match.specs.declared.sides.SideState.{SideState}
 use Rattle.gtp_match.specs.declared.sides.Sides.{Sides}
 use Rattle.gtp_match.specs.declared.table.Outcome.{Outcome}
 use Rattle.gtp_match.specs.declared.table.Outcome.TheVariants.{Moves}
@@ -50,3 +51,16 @@ applied_move c s v o game sides verdict is game_is confirms verdict_is = by_up (
         ∙ ap (λ g. made c g (verdict_after c.setup (with_move c.game s v)) sides) game_is
         ∙ ap (made c (with_move c.game s v) (verdict_after c.setup (with_move c.game s v))) h
         ∙ ap (after_outcome c s engine) (sym is)
+
+-- the engine of a side that was lent confirmed a command
+pub confirms_lent : (sides : Sides) (s : Colour) (lent new : SideState) → lent ≡ side_of sides s
+    → IfSome lent.up (λ engine. new ≡ with_engine (confirmed engine) lent)
+    → IfSome (side_of sides s).up (λ engine. with_side s new sides ≡ with_engine_of s (confirmed engine) sides)
+confirms_lent sides s lent new is confirms =
+    by_up (side_of sides s).up
+    (subst (λ (x : SideState). IfSome x.up (λ engine. new ≡ with_engine (confirmed engine) x)) is confirms)
+  where
+    by_up : (u : Option Incarnation) → IfSome u (λ engine. new ≡ with_engine (confirmed engine) (side_of sides s))
+        → IfSome u (λ engine. with_side s new sides ≡ with_engine_of s (confirmed engine) sides)
+    by_up None h = tt
+    by_up (Some engine) h = ap (λ (x : SideState). with_side s x sides) h

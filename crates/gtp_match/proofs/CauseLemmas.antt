@@ -171,7 +171,8 @@ others_leave_the_game c s = (refl, by_sent (side_of c.sides s).up, by_lost (side
     by_sent (Some engine) = refl
 
     by_lost : (up : Option Incarnation)
-        → ((lost_engine c s up).game ≡ c.game) ⊎ (taking_back c ≡ Some s) × ((lost_engine c s up).game ≡ without_last c.game)
+        → ((lost_engine c s up).game ≡ c.game)
+        ⊎ (taking_back c ≡ Some s) × ((lost_engine c s up).game ≡ without_last c.game)
     by_lost None = inl refl
     by_lost (Some engine) = down_game c s
 

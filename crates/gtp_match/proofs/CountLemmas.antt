@@ -85,7 +85,7 @@ hears_keeps c mid s t bytes used fault h = by_way (heard c s bytes used fault mi
         kept _ new_is (keeps_outcome c s t engine (outcome c.game s (oldest engine.unanswered) reply) up)
     by_way (Heard.faulted engine shown none up first fault_is new_is) = kept _ new_is (keeps_down s t c.sides)
     by_way (Heard.quiet engine text none up nothing fault_is new_is) =
-        kept _ new_is (keeps_up s t c.sides engine (record engine { rest = text }) up refl)
+        kept _ new_is (keeps_up s t c.sides engine (record engine { reader = text }) up refl)
     by_way (Heard.down up fault_is new_is) = kept c new_is (keeps_same t c.sides)
     by_way (Heard.over v e fault_is new_is) = kept c new_is (keeps_same t c.sides)
 

@@ -27,7 +27,8 @@ use Rattle.gtp_match.specs.Sound.{RefusedForGood, FailedToMove, Blames, all_reta
 use Rattle.gtp_match.specs.Sound.{IsSoundSide, IsSound}
 use Rattle.gtp_match.proofs.ShorterLemmas.{shorter_length, script_shorter, shorter_is_game, shorter_turns}
 use Rattle.gtp_match.proofs.ShorterLemmas.{shorter_went_on, same_is}
-use Rattle.gtp_match.proofs.SoundLemmas.{my_side, their_side, TakingBack, changed, kept, with_verdict, kept_game, taken_at, mine_or_theirs, taken_theirs, their_take_back, idle_way}
+use Rattle.gtp_match.proofs.SoundLemmas.{my_side, their_side, TakingBack, changed, kept, with_verdict, kept_game}
+use Rattle.gtp_match.proofs.SoundLemmas.{taken_at, mine_or_theirs, taken_theirs, their_take_back, idle_way}
 
 -- ---- a side goes down
 
@@ -190,7 +191,8 @@ down_sound c s h free =
             let U : Colour → Type 0 = λ y.
             TakingBack c.game (all_retakes c) (with_side s (downed_side (side_of c.sides s)) c.sides) y in
             let x = their_take_back c.game (all_retakes c) c.sides s (subst T same t) in
-            subst U (sym same) (taken_theirs c.game (all_retakes c) c.sides s (downed_side (side_of c.sides s)) (record {
+            subst U (sym same)
+            (taken_theirs c.game (all_retakes c) c.sides s (downed_side (side_of c.sides s)) (record {
               some = x.some;
               made = x.made;
               engine = x.engine;

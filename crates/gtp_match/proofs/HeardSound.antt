@@ -1,6 +1,6 @@
 -- Bytes that are heard keep what holds of every match.
-use Rattle.std.proofs.Common.{◌≡◌, ℕ, zero, suc, ◌+◌, ◌*◌, ◌<◌, ◌≤◌, List, [], ◌∷◌, ◌++◌, length, take, drop, Option, Some}
-use Rattle.std.proofs.Common.{None, Result, false, refl, sym, ◌∙◌, ap, subst, arith, inl, inr, append-nil}
+use Rattle.std.proofs.Common.{◌≡◌, ℕ, zero, suc, ◌+◌, ◌*◌, ◌<◌, ◌≤◌, List, [], ◌∷◌, ◌++◌, length, take, drop, Option}
+use Rattle.std.proofs.Common.{Some, None, Result, false, refl, sym, ◌∙◌, ap, subst, arith, inl, inr, append-nil}
 use Rattle.std.specs.Prelude.{◌⊎◌, IfSome, is_some}
 use Rattle.go_base.specs.Colour.{other}
 use Rattle.go_base.specs.declared.colours.Colour.{Colour}
@@ -14,7 +14,7 @@ use Rattle.gtp_match.specs.declared.sides.Incarnation.{Incarnation}
 use Rattle.gtp_match.specs.declared.unanswered.SentCommand.{SentCommand}
 use Rattle.gtp_match.specs.declared.verdicts.SideFault.{SideFault}
 use Rattle.gtp_match.specs.declared.verdicts.Verdict.{Verdict}
-use Rattle.gtp_match.specs.Conditions.{MayReply, MayHear, MayBeAnswered}
+use Rattle.gtp_match.specs.private.Conditions.{MayReply, MayHear, MayBeAnswered}
 use Rattle.gtp_match.specs.Controller.{with_side_up}
 use Rattle.gtp_match.specs.Hearing.{MayKeep, HearsUp, HearsWhere, Hears, HearsAll, HearsAllBy}
 use Rattle.gtp_match.specs.Script.{script}
@@ -59,7 +59,7 @@ quiet_kept text kept keep quiet n answer inside told =
 
 pub quiet_sound : (c : Controller) (s : Colour) (engine : Incarnation) (text kept_text : List ℕ) → IsSound c
     → c.verdict ≡ None → (side_of c.sides s).up ≡ Some engine → TellsNothing text → MayKeep kept_text text
-    → IsSound (with_side_up c s (record engine { rest = kept_text }))
+    → IsSound (with_side_up c s (record engine { reader = kept_text }))
 quiet_sound c s engine text kept_text h none up quiet is =
     let mine = my_side c s h in
     let e = my_engine c s engine h up in
@@ -83,10 +83,10 @@ quiet_sound c s engine text kept_text h none up quiet is =
     })
   where
     next : Incarnation
-    next = record engine { rest = kept_text }
+    next = record engine { reader = kept_text }
 
     same_way : IsUnderWay c.game c.pending (all_retakes c) s engine
-        → IsUnderWay c.game c.pending (all_retakes c) s (record engine { rest = kept_text })
+        → IsUnderWay c.game c.pending (all_retakes c) s (record engine { reader = kept_text })
     same_way way = record {
       plan = way.plan;
       few_unanswered = way.few_unanswered;
@@ -95,12 +95,12 @@ quiet_sound c s engine text kept_text h none up quiet is =
     }
 
     by_one : IsIdle (side_of c.sides s).up ⊎ IsIdle (side_of c.sides (other s)).up
-        → IsIdle (Some (record engine { rest = kept_text })) ⊎ IsIdle (side_of c.sides (other s)).up
+        → IsIdle (Some (record engine { reader = kept_text })) ⊎ IsIdle (side_of c.sides (other s)).up
     by_one (inl i) = inl (subst IsIdle up i)
     by_one (inr i) = inr i
 
     same_mine : IsTakingBack c.game (all_retakes c) s (side_of c.sides s).up (side_of c.sides (other s)).up
-        → IsTakingBack c.game (all_retakes c) s (Some (record engine { rest = kept_text }))
+        → IsTakingBack c.game (all_retakes c) s (Some (record engine { reader = kept_text }))
         (side_of c.sides (other s)).up
     same_mine t =
         let same : Some t.engine ≡ Some engine = sym t.up ∙ up in
@@ -112,7 +112,7 @@ quiet_sound c s engine text kept_text h none up quiet is =
         record {
           some = t.some;
           made = t.made;
-          engine = record engine { rest = kept_text };
+          engine = record engine { reader = kept_text };
           up = refl;
           all = now.0;
           told = now.1;
@@ -121,7 +121,7 @@ quiet_sound c s engine text kept_text h none up quiet is =
         }
 
     same_theirs : IfSome (side_of c.sides s).up (LacksLast c.game)
-        → IfSome (Some (record engine { rest = kept_text })) (LacksLast c.game)
+        → IfSome (Some (record engine { reader = kept_text })) (LacksLast c.game)
     same_theirs l =
         let x : LacksLast c.game engine = subst (λ (u : Option Incarnation). IfSome u (LacksLast c.game)) up l in
         record { idle = x.idle; lacks = x.lacks }
@@ -133,7 +133,7 @@ up_sound c s engine bytes used fault c2 h none up (HearsUp.replied {value = repl
     reply_sound c s engine reply h none up
 up_sound c s engine bytes used fault c2 h none up (HearsUp.faulted first) = downed_sound c s h
 up_sound c s engine bytes used fault c2 h none up (HearsUp.nothing_yet {kept = text} quiet is) =
-    quiet_sound c s engine (engine.rest ++ bytes) text h none up quiet is
+    quiet_sound c s engine (engine.reader ++ bytes) text h none up quiet is
 
 pub hears_sound : (c : Controller) (s : Colour) (bytes : List ℕ) (used : ℕ) (fault : Option SideFault)
     (c2 : Controller) → IsSound c → Hears c s bytes used fault c2 → IsSound c2

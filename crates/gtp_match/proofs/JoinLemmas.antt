@@ -39,7 +39,8 @@ one_up : (c : Controller) (s : Colour) (engine : Incarnation) (bytes : List ℕ)
     (f g : Option SideFault) (m n : Controller)
     → HearsUp KeepsAll c s engine bytes u f m → HearsUp KeepsAll c s engine bytes v g n → AreSame u v f g m n
 one_up c s engine bytes u v f g m n (HearsUp.replied {value = x} p) (HearsUp.replied {value = y} q) =
-    let e = one_first (engine.rest ++ bytes) (length engine.rest + u) (length engine.rest + v) (Ok x) (Ok y) p q in
+    let e =
+    one_first (engine.reader ++ bytes) (length engine.reader + u) (length engine.reader + v) (Ok x) (Ok y) p q in
     let same : x ≡ y = cc in
     record {
       used_is = omega (arith, e.0);
@@ -48,29 +49,31 @@ one_up c s engine bytes u v f g m n (HearsUp.replied {value = x} p) (HearsUp.rep
           (outcome c.game s (oldest engine.unanswered) r)) same;
     }
 one_up c s engine bytes u v f g m n (HearsUp.replied {value = x} p) (HearsUp.faulted {shown = y} q) =
-    let e = one_first (engine.rest ++ bytes) (length engine.rest + u) (length engine.rest + v) (Ok x)
+    let e = one_first (engine.reader ++ bytes) (length engine.reader + u) (length engine.reader + v) (Ok x)
     (Err y) p q in absurd (cc)
 one_up c s engine bytes u v f g m n (HearsUp.replied {value = x} p) (HearsUp.nothing_yet nothing is) =
-    absurd (nothing (length engine.rest + u) (Ok x) p.inside p.told)
+    absurd (nothing (length engine.reader + u) (Ok x) p.inside p.told)
 one_up c s engine bytes u v f g m n (HearsUp.faulted {shown = x} p) (HearsUp.replied {value = y} q) =
-    let e = one_first (engine.rest ++ bytes) (length engine.rest + u) (length engine.rest + v) (Err x) (Ok y) p q in
+    let e =
+    one_first (engine.reader ++ bytes) (length engine.reader + u) (length engine.reader + v) (Err x) (Ok y) p q in
     absurd (cc)
 one_up c s engine bytes u v f g m n (HearsUp.faulted {shown = x} p) (HearsUp.faulted {shown = y} q) =
-    let e = one_first (engine.rest ++ bytes) (length engine.rest + u) (length engine.rest + v) (Err x) (Err y) p q in
+    let e =
+    one_first (engine.reader ++ bytes) (length engine.reader + u) (length engine.reader + v) (Err x) (Err y) p q in
     let same : x ≡ y = cc in
     record { used_is = omega (arith, e.0); fault_is = ap (λ (r : ReplyFault). Some (side_fault r)) same; new_is = refl }
 one_up c s engine bytes u v f g m n (HearsUp.faulted {shown = x} p) (HearsUp.nothing_yet nothing is) =
-    absurd (nothing (length engine.rest + u) (Err x) p.inside p.told)
+    absurd (nothing (length engine.reader + u) (Err x) p.inside p.told)
 one_up c s engine bytes u v f g m n (HearsUp.nothing_yet nothing is) (HearsUp.replied {value = y} q) =
-    absurd (nothing (length engine.rest + v) (Ok y) q.inside q.told)
+    absurd (nothing (length engine.reader + v) (Ok y) q.inside q.told)
 one_up c s engine bytes u v f g m n (HearsUp.nothing_yet nothing is) (HearsUp.faulted {shown = y} q) =
-    absurd (nothing (length engine.rest + v) (Err y) q.inside q.told)
+    absurd (nothing (length engine.reader + v) (Err y) q.inside q.told)
 one_up c s engine bytes u v f g m n (HearsUp.nothing_yet {kept = k} nothing is)
     (HearsUp.nothing_yet {kept = l} nothing2 is2) =
     record {
       used_is = refl;
       fault_is = refl;
-      new_is = ap (λ (t : List ℕ). let e : Incarnation = record engine { rest = t } in
+      new_is = ap (λ (t : List ℕ). let e : Incarnation = record engine { reader = t } in
           with_side_up c s e) (is ∙ sym is2);
     }
 
@@ -213,25 +216,28 @@ moved_first rest kept a b u answer is first =
 -- an engine that took a piece in, and what it is then
 absorbed : (c : Controller) (s : Colour) (engine : Incarnation) (kept a b : List ℕ) (u : ℕ)
     (f : Option SideFault) (new : Controller)
-    → kept ≡ engine.rest ++ a
-    → HearsUp KeepsAll (with_side_up c s (record engine { rest = kept })) s (record engine { rest = kept }) b u f new
+    → kept ≡ engine.reader ++ a
+    → HearsUp KeepsAll (with_side_up c s (record engine { reader = kept })) s (record engine { reader = kept })
+    b u f new
     → HearsUp KeepsAll c s engine (a ++ b) (length a + u) f new
 absorbed c s engine kept a b u f new is (HearsUp.replied {value = v} p) =
     let o = outcome c.game s (oldest engine.unanswered) v in
-    let first = moved_first (engine.rest) kept a b u (Ok v) is p in
+    let first = moved_first (engine.reader) kept a b u (Ok v) is p in
     let H : Controller → Type 0 = λ x. HearsUp KeepsAll c s engine (a ++ b) (length a + u) (fault_of o) x in
-    subst H (sym (outcome_after_up c s (record engine { rest = kept }) (heard_reply engine) o)) (HearsUp.replied first)
+    subst H (sym (outcome_after_up c s (record engine { reader = kept }) (heard_reply engine) o))
+    (HearsUp.replied first)
 absorbed c s engine kept a b u f new is (HearsUp.faulted {shown = x} p) =
-    let first = moved_first (engine.rest) kept a b u (Err x) is p in
+    let first = moved_first (engine.reader) kept a b u (Err x) is p in
     let H : Controller → Type 0 = λ y. HearsUp KeepsAll c s engine (a ++ b) (length a + u) (Some (side_fault x)) y in
-    subst H (sym (down_after_up c s (record engine { rest = kept }))) (HearsUp.faulted first)
+    subst H (sym (down_after_up c s (record engine { reader = kept }))) (HearsUp.faulted first)
 absorbed c s engine kept a b u f new is (HearsUp.nothing_yet {kept = k} nothing same) =
-    let text : kept ++ b ≡ engine.rest ++ (a ++ b) = ap (λ (t : List ℕ). t ++ b) is ∙ append_assoc engine.rest a b in
+    let text : kept ++ b ≡ engine.reader ++ (a ++ b) =
+    ap (λ (t : List ℕ). t ++ b) is ∙ append_assoc engine.reader a b in
     let used : length (a ++ b) ≡ length a + length b = length-append a b in
     let H : ℕ → Controller → Type 0 = λ n x. HearsUp KeepsAll c s engine (a ++ b) n None x in
-    let quiet : TellsNothing (engine.rest ++ (a ++ b)) = subst TellsNothing text nothing in
+    let quiet : TellsNothing (engine.reader ++ (a ++ b)) = subst TellsNothing text nothing in
     subst (λ (n : ℕ). H n new) used
-    (subst (H (length (a ++ b))) (sym (up_twice c s (record engine { rest = kept }) (record engine { rest = k })))
+    (subst (H (length (a ++ b))) (sym (up_twice c s (record engine { reader = kept }) (record engine { reader = k })))
     (HearsUp.nothing_yet quiet (same ∙ text)))
 
 -- what is heard of a side that is up, and back
@@ -250,17 +256,17 @@ taken_up : (c : Controller) (s : Colour) (engine : Incarnation) (a : List ℕ) (
     → (side_of c.sides s).up ≡ Some engine → HearsUp KeepsAll c s engine a used fault mid → Taken c s a used fault mid
 taken_up c s engine a used fault mid none up (HearsUp.replied {value = v} p) =
     inl (
-      inside_piece engine.rest a used p.inside,
+      inside_piece engine.reader a used p.inside,
       λ b.
           hears_up c s engine (a ++ b) used _ _ none up
-          (HearsUp.replied (first_in_both engine.rest a b (length engine.rest + used) (Ok v) p)),
+          (HearsUp.replied (first_in_both engine.reader a b (length engine.reader + used) (Ok v) p)),
     )
 taken_up c s engine a used fault mid none up (HearsUp.faulted {shown = x} p) =
     inl (
-      inside_piece engine.rest a used p.inside,
+      inside_piece engine.reader a used p.inside,
       λ b.
           hears_up c s engine (a ++ b) used _ _ none up
-          (HearsUp.faulted (first_in_both engine.rest a b (length engine.rest + used) (Err x) p)),
+          (HearsUp.faulted (first_in_both engine.reader a b (length engine.reader + used) (Err x) p)),
     )
 taken_up c s engine a used fault mid none up (HearsUp.nothing_yet {kept = kept} nothing is) =
     inr (
@@ -270,8 +276,8 @@ taken_up c s engine a used fault mid none up (HearsUp.nothing_yet {kept = kept} 
         λ b u f new h.
             hears_up c s engine (a ++ b) (length a + u) f new none up
             (absorbed c s engine kept a b u f new is
-            (heard_up (with_side_up c s (record engine { rest = kept })) s (record engine { rest = kept }) b u f new
-            none (up_of c.sides s (record engine { rest = kept })) h)),
+            (heard_up (with_side_up c s (record engine { reader = kept })) s (record engine { reader = kept }) b u f new
+            none (up_of c.sides s (record engine { reader = kept })) h)),
       ),
     )
 

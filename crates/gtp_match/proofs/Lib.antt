@@ -32,3 +32,11 @@ pub mod LosingLemmas
 pub mod LostLemmas
 pub mod ToldLemmas
 pub mod TellingLemmas
+pub mod DueLemmas
+pub mod QuietLemmas
+pub mod AskedLemmas
+pub mod UndoLemmas
+pub mod NeverLemmas
+pub mod FaultLemmas
+pub mod AnswersLemmas
+pub mod MetLemmas

@@ -1,6 +1,6 @@
 -- What loses a side.
-use Rattle.std.proofs.Common.{◌≡◌, ℕ, zero, suc, ◌-◌, List, [], ◌∷◌, ◌++◌, length, take, Option, Some, None, Result, Ok, Err}
-use Rattle.std.proofs.Common.{refl, ap, sym, subst, arith}
+use Rattle.std.proofs.Common.{◌≡◌, ℕ, zero, suc, ◌-◌, List, [], ◌∷◌, ◌++◌, length, take, Option, Some, None, Result}
+use Rattle.std.proofs.Common.{Ok, Err, refl, ap, sym, subst, arith}
 use Rattle.std.specs.Prelude.{option_map, IfSome}
 use Rattle.std.proofs.Math.Seq.{take-append-add}
 use Rattle.go_base.specs.declared.colours.Colour.{Colour}
@@ -14,7 +14,7 @@ use Rattle.gtp_match.specs.declared.losses.LossCause.TheVariants.{Shows}
 use Rattle.gtp_match.specs.Hearing.{side_fault}
 use Rattle.gtp_match.specs.declared.sides.Incarnation.{Incarnation}
 use Rattle.gtp_match.specs.declared.verdicts.Verdict.{Verdict}
-use Rattle.gtp_match.specs.Conditions.{MayHear, MayReply, MayBeAnswered}
+use Rattle.gtp_match.specs.private.Conditions.{MayHear, MayReply, MayBeAnswered}
 use Rattle.gtp_match.specs.Losing.{HasCause, Loses, LosesUp, LosesWhere, by_reply, by_fault, nothing_yet, loss_of}
 use Rattle.gtp_match.specs.ReplyTable.{outcome}
 use Rattle.gtp_match.specs.Sides.{side_of}
@@ -67,34 +67,36 @@ may_answer c side engine may up =
 -- a reply loses its side by the cause of its outcome, if that has one
 pub reply_loses : (c : Controller) (side : Colour) (engine : Incarnation) (held bytes : List ℕ) (used : ℕ)
     (told : Option (Result Reply ReplyFault)) (new : List ℕ) (reply : Reply) (cause : Option LossCause)
-    → c.verdict ≡ None → (side_of c.sides side).up ≡ Some engine → held ≡ engine.rest
+    → c.verdict ≡ None → (side_of c.sides side).up ≡ Some engine → held ≡ engine.reader
     → ReadsFirst held bytes used told new → told ≡ Some (Ok reply)
     → HasCause c side engine reply (outcome c.game side (oldest engine.unanswered) reply) cause
-    → Loses c side bytes (option_map (loss_of engine (engine.rest ++ take used bytes)) cause)
+    → Loses c side bytes (option_map (loss_of engine (engine.reader ++ take used bytes)) cause)
 reply_loses c side engine held bytes used told new reply cause none up same reads is has =
     let R : List ℕ → Option (Result Reply ReplyFault) → Type 0 = λ text answer. ReadsFirst text bytes used answer new in
-    let mine : R engine.rest (Some (Ok reply)) = subst (R engine.rest) is (subst (λ text. R text told) same reads) in
+    let mine : R engine.reader (Some (Ok reply)) =
+    subst (R engine.reader) is (subst (λ text. R text told) same reads) in
     loses_up c side engine bytes _ none up
     (subst (λ (text : List ℕ). LosesUp c side engine bytes (option_map (loss_of engine text) cause))
-    (take-append-add engine.rest bytes used) (by_reply cause mine.first has))
+    (take-append-add engine.reader bytes used) (by_reply cause mine.first has))
 
 -- a fault loses its side, and all that was heard is shown
 pub fault_loses : (c : Controller) (side : Colour) (engine : Incarnation) (held bytes : List ℕ) (used : ℕ)
     (told : Option (Result Reply ReplyFault)) (new : List ℕ) (fault : ReplyFault)
-    → c.verdict ≡ None → (side_of c.sides side).up ≡ Some engine → held ≡ engine.rest
+    → c.verdict ≡ None → (side_of c.sides side).up ≡ Some engine → held ≡ engine.reader
     → ReadsFirst held bytes used told new → told ≡ Some (Err fault)
-    → Loses c side bytes (Some (loss_of engine (engine.rest ++ bytes) (Shows (side_fault fault))))
+    → Loses c side bytes (Some (loss_of engine (engine.reader ++ bytes) (Shows (side_fault fault))))
 fault_loses c side engine held bytes used told new fault none up same reads is =
     let R : List ℕ → Option (Result Reply ReplyFault) → Type 0 = λ text answer. ReadsFirst text bytes used answer new in
-    let mine : R engine.rest (Some (Err fault)) = subst (R engine.rest) is (subst (λ text. R text told) same reads) in
+    let mine : R engine.reader (Some (Err fault)) =
+    subst (R engine.reader) is (subst (λ text. R text told) same reads) in
     loses_up c side engine bytes _ none up (by_fault mine.first)
 
 -- where nothing is told yet, nothing is lost
 pub quiet_loses : (c : Controller) (side : Colour) (engine : Incarnation) (held bytes : List ℕ) (used : ℕ)
     (told : Option (Result Reply ReplyFault)) (new : List ℕ)
-    → c.verdict ≡ None → (side_of c.sides side).up ≡ Some engine → held ≡ engine.rest
+    → c.verdict ≡ None → (side_of c.sides side).up ≡ Some engine → held ≡ engine.reader
     → ReadsFirst held bytes used told new → told ≡ None → Loses c side bytes None
 quiet_loses c side engine held bytes used told new none up same reads is =
     let R : List ℕ → Option (Result Reply ReplyFault) → Type 0 = λ text answer. ReadsFirst text bytes used answer new in
-    let mine : R engine.rest None = subst (R engine.rest) is (subst (λ text. R text told) same reads) in
+    let mine : R engine.reader None = subst (R engine.reader) is (subst (λ text. R text told) same reads) in
     loses_up c side engine bytes _ none up (nothing_yet mine.nothing)

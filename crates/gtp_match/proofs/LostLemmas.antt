@@ -18,8 +18,8 @@ use Rattle.gtp_wire.specs.declared.replies.Reply.{Reply}
 use Rattle.gtp_wire.specs.declared.replies.ReplyFault.{ReplyFault}
 use Rattle.gtp_match.specs.Hearing.{KeepsAll, HearsUp, side_fault}
 use Rattle.gtp_match.specs.Losing.{HasCause, BreaksRule, CauseFits, loss_of, LosesUp, by_reply, by_fault, nothing_yet}
-use Rattle.gtp_match.specs.ReplyTable.{outcome, outcome_of, genmove_outcome, choice_outcome, script_outcome, play_outcome}
-use Rattle.gtp_match.specs.ReplyTable.{undo_outcome, has_id, after_outcome, fault_of, refused, retaken_at}
+use Rattle.gtp_match.specs.ReplyTable.{outcome, outcome_of, genmove_outcome, choice_outcome, script_outcome}
+use Rattle.gtp_match.specs.ReplyTable.{play_outcome, undo_outcome, has_id, after_outcome, fault_of, refused, retaken_at}
 use Rattle.gtp_match.specs.ReplyWords.{choice_of_text}
 use Rattle.gtp_match.specs.Sides.{side_of, heard_reply}
 use Rattle.gtp_match.specs.Taking.{may_retake, has_all}
@@ -275,31 +275,38 @@ pub up_told : (c new : Controller) (side : Colour) (engine : Incarnation) (bytes
     (fault : Option SideFault) (loss : Option Loss) → c.verdict ≡ None
     → HearsUp KeepsAll c side engine bytes used fault new → LosesUp c side engine bytes loss
     → (IsSome loss ↔ LosesBy c new fault) × IfSome loss (λ l. CauseFits new side fault l.cause)
-up_told c new side engine bytes used fault loss none (HearsUp.replied {value = x} p) (by_reply {count = n} {value = y} cause q has) =
-    let e = one_first (engine.rest ++ bytes) (length engine.rest + used) n (Ok x) (Ok y) p q in
+up_told c new side engine bytes used fault loss none (HearsUp.replied {value = x} p)
+    (by_reply {count = n} {value = y} cause q has) =
+    let e = one_first (engine.reader ++ bytes) (length engine.reader + used) n (Ok x) (Ok y) p q in
     let same : y ≡ x = cc in
-    let text = take n (engine.rest ++ bytes) in
+    let text = take n (engine.reader ++ bytes) in
     let o = outcome c.game side (oldest engine.unanswered) x in
     let is : HasCause c side engine x o cause =
-    subst (λ (r : Reply). HasCause c side engine r (outcome c.game side (oldest engine.unanswered) r) cause) same has in (
+    subst (λ (r : Reply). HasCause c side engine r (outcome c.game side (oldest engine.unanswered) r) cause) same has
+    in (
       told_with engine text cause (LosesBy c new fault) (cause_is_loss c side engine x o cause none refl is),
       fits_with engine text cause (Fits c side engine o) (cause_fits c side engine x o cause is),
     )
-up_told c new side engine bytes used fault loss none (HearsUp.replied {value = x} p) (by_fault {count = n} {shown = y} q) =
-    let e = one_first (engine.rest ++ bytes) (length engine.rest + used) n (Ok x) (Err y) p q in absurd (cc)
+up_told c new side engine bytes used fault loss none (HearsUp.replied {value = x} p)
+    (by_fault {count = n} {shown = y} q) =
+    let e = one_first (engine.reader ++ bytes) (length engine.reader + used) n (Ok x) (Err y) p q in absurd (cc)
 up_told c new side engine bytes used fault loss none (HearsUp.replied {value = x} p) (nothing_yet nothing) =
-    absurd (nothing (length engine.rest + used) (Ok x) p.inside p.told)
-up_told c new side engine bytes used fault loss none (HearsUp.faulted {shown = x} p) (by_reply {count = n} {value = y} cause q has) =
-    let e = one_first (engine.rest ++ bytes) (length engine.rest + used) n (Err x) (Ok y) p q in absurd (cc)
-up_told c new side engine bytes used fault loss none (HearsUp.faulted {shown = x} p) (by_fault {count = n} {shown = y} q) =
-    let e = one_first (engine.rest ++ bytes) (length engine.rest + used) n (Err x) (Err y) p q in
+    absurd (nothing (length engine.reader + used) (Ok x) p.inside p.told)
+up_told c new side engine bytes used fault loss none (HearsUp.faulted {shown = x} p)
+    (by_reply {count = n} {value = y} cause q has) =
+    let e = one_first (engine.reader ++ bytes) (length engine.reader + used) n (Err x) (Ok y) p q in absurd (cc)
+up_told c new side engine bytes used fault loss none (HearsUp.faulted {shown = x} p)
+    (by_fault {count = n} {shown = y} q) =
+    let e = one_first (engine.reader ++ bytes) (length engine.reader + used) n (Err x) (Err y) p q in
     let same : x ≡ y = cc in
     (both loss c new fault refl (LosesBy.shows refl), ap (λ (f : ReplyFault). Some (side_fault f)) same)
 up_told c new side engine bytes used fault loss none (HearsUp.faulted {shown = x} p) (nothing_yet nothing) =
-    absurd (nothing (length engine.rest + used) (Err x) p.inside p.told)
-up_told c new side engine bytes used fault loss none (HearsUp.nothing_yet nothing is) (by_reply {count = n} {value = y} cause q has) =
+    absurd (nothing (length engine.reader + used) (Err x) p.inside p.told)
+up_told c new side engine bytes used fault loss none (HearsUp.nothing_yet nothing is)
+    (by_reply {count = n} {value = y} cause q has) =
     absurd (nothing n (Ok y) q.inside q.told)
-up_told c new side engine bytes used fault loss none (HearsUp.nothing_yet nothing is) (by_fault {count = n} {shown = y} q) =
+up_told c new side engine bytes used fault loss none (HearsUp.nothing_yet nothing is)
+    (by_fault {count = n} {shown = y} q) =
     absurd (nothing n (Err y) q.inside q.told)
 up_told c new side engine bytes used fault loss none (HearsUp.nothing_yet nothing is) (nothing_yet also) =
     (neither loss c new fault refl refl (λ x. subst IsNoBlame (sym none) no_verdict), tt)

@@ -138,7 +138,8 @@ module _ (game : GameRecord) (pending : Option Colour) (s : Colour) (engine : In
   choice_fits asked k (Some choice.Resign) = asked
   choice_fits asked k (Some (choice.Play v)) = by_legal (legal? game s v)
     where
-      by_legal : (d : Dec (IsLegal game s v)) → Fits game pending s engine k (cond (holds d) (Moves v) (Forfeits IllegalMove))
+      by_legal : (d : Dec (IsLegal game s v))
+          → Fits game pending s engine k (cond (holds d) (Moves v) (Forfeits IllegalMove))
       by_legal (yes legal) = asked
       by_legal (no illegal) = asked
 
@@ -147,7 +148,8 @@ module _ (game : GameRecord) (pending : Option Colour) (s : Colour) (engine : In
   genmove_fits asked k x true = choice_fits asked k x
   genmove_fits asked k x false = asked
 
-  setup_fits : (k : Command) (reply : Reply) → IsSetupCommand k → Fits game pending s engine k (outcome_of game s k reply)
+  setup_fits : (k : Command) (reply : Reply) → IsSetupCommand k
+      → Fits game pending s engine k (outcome_of game s k reply)
   setup_fits (command.Boardsize size) reply is = script_fits (command.Boardsize size) is reply.ok
   setup_fits (command.Komi komi) reply is = script_fits (command.Komi komi) is reply.ok
   setup_fits command.ClearBoard reply is = script_fits command.ClearBoard is reply.ok
@@ -161,7 +163,8 @@ module _ (game : GameRecord) (pending : Option Colour) (s : Colour) (engine : In
       → Fits game pending s engine k (outcome_of game s k reply)
   answer_fits k reply (Planned.setup is) = setup_fits k reply is
   answer_fits k reply (Planned.play is) =
-      subst (λ (x : Command). Fits game pending s engine x (outcome_of game s x reply)) (sym is.1) (play_fits is.0 reply.ok)
+      subst (λ (x : Command). Fits game pending s engine x (outcome_of game s x reply)) (sym is.1)
+      (play_fits is.0 reply.ok)
   answer_fits k reply (Planned.genmove asked is) =
       subst (λ (x : Command). Fits game pending s engine x (outcome_of game s x reply)) (sym is)
       (genmove_fits asked (command.Genmove s) (choice_of_text reply.text.items) reply.ok)
@@ -179,7 +182,8 @@ pub record Answered (game : GameRecord) (pending : Option Colour) (s : Colour) (
   pub fits : Fits game pending s engine entry.command o
 
 -- what isn't a fault answers a command of the plan
-pub answered_by : (game : GameRecord) (pending : Option Colour) (s : Colour) (engine : Incarnation) (reply : Reply) (o : Outcome)
+pub answered_by : (game : GameRecord) (pending : Option Colour) (s : Colour) (engine : Incarnation) (reply : Reply)
+    (o : Outcome)
     → ((f : SideFault) → Down f ≡ o → ⊥)
     → HasPlan game pending s engine.confirmed engine.unanswered
     → outcome game s (oldest engine.unanswered) reply ≡ o → Answered game pending s engine o
@@ -198,6 +202,7 @@ answered_by game pending s engine reply o not_down plan e = by_list engine.unans
               more = more;
               entries_are = is;
               fits = subst (Fits game pending s engine entry.command) out
-                  (answer_fits game pending s engine entry.command reply (planned game pending s engine entry more is plan));
+                  (answer_fits game pending s engine entry.command reply
+                  (planned game pending s engine entry more is plan));
             }
         by_id false same = absurd (not_down WrongId (rw same at e))

@@ -71,7 +71,8 @@ module _ (game : GameRecord) (s : Colour) (reply : Reply) where
       → ¬ IsUndo (command.FixedHandicap stones)
       → Reason game s (command.FixedHandicap stones) reply (script_outcome (reply.ok && is_handicap game stones reply))
   handicap_reason stones no_play no_genmove no_undo =
-      script_reason (command.FixedHandicap stones) no_play no_genmove no_undo (reply.ok && is_handicap game stones reply)
+      script_reason (command.FixedHandicap stones) no_play no_genmove no_undo
+      (reply.ok && is_handicap game stones reply)
       (both_true reply.ok (is_handicap game stones reply))
       (λ e. by_case (not_both reply.ok (is_handicap game stones reply) e))
     where
@@ -151,19 +152,22 @@ module _ (game : GameRecord) (s : Colour) (reply : Reply) where
 
   pub reason : (k : Command) → Reason game s k reply (outcome_of game s k reply)
   reason (command.Boardsize size) =
-      script_reason (command.Boardsize size) (λ p. let e = p.1 in cc) (λ g. let e = g.1 in cc) (λ e. cc) reply.ok (λ x. x)
-      (λ x. inl x)
+      script_reason (command.Boardsize size) (λ p. let e = p.1 in cc) (λ g. let e = g.1 in cc) (λ e. cc) reply.ok
+      (λ x. x) (λ x. inl x)
   reason (command.Komi komi) =
-      script_reason (command.Komi komi) (λ p. let e = p.1 in cc) (λ g. let e = g.1 in cc) (λ e. cc) reply.ok (λ x. x) (λ x. inl x)
+      script_reason (command.Komi komi) (λ p. let e = p.1 in cc) (λ g. let e = g.1 in cc) (λ e. cc) reply.ok (λ x. x)
+      (λ x. inl x)
   reason command.ClearBoard =
-      script_reason command.ClearBoard (λ p. let e = p.1 in cc) (λ g. let e = g.1 in cc) (λ e. cc) reply.ok (λ x. x) (λ x. inl x)
+      script_reason command.ClearBoard (λ p. let e = p.1 in cc) (λ g. let e = g.1 in cc) (λ e. cc) reply.ok (λ x. x)
+      (λ x. inl x)
   reason (command.FixedHandicap stones) =
       handicap_reason stones (λ p. let e = p.1 in cc) (λ g. let e = g.1 in cc) (λ e. cc)
   reason (command.Play move) = play_reason (command.Play move) (move, refl) reply.ok refl
   reason (command.Genmove colour) = genmove_reason (command.Genmove colour) (colour, refl) reply.ok refl
   reason command.Undo = undo_reason command.Undo refl reply.ok refl
   reason command.Quit =
-      script_reason command.Quit (λ p. let e = p.1 in cc) (λ g. let e = g.1 in cc) (λ e. cc) reply.ok (λ x. x) (λ x. inl x)
+      script_reason command.Quit (λ p. let e = p.1 in cc) (λ g. let e = g.1 in cc) (λ e. cc) reply.ok (λ x. x)
+      (λ x. inl x)
 
 -- ---- the command that a reply answers
 

@@ -36,11 +36,11 @@ pub data Heard (c : Controller) (s : Colour) (bytes : List ℕ) (used : ℕ) (fa
       → new ≡ after_outcome c s (heard_reply engine) (outcome c.game s (oldest engine.unanswered) reply)
       → Heard c s bytes used fault new
   faulted : (engine : Incarnation) (shown : ReplyFault) → c.verdict ≡ None → (side_of c.sides s).up ≡ Some engine
-      → IsFirst (engine.rest ++ bytes) (length engine.rest + used) (Err shown)
+      → IsFirst (engine.reader ++ bytes) (length engine.reader + used) (Err shown)
       → fault ≡ Some (side_fault shown) → new ≡ downed c s → Heard c s bytes used fault new
   quiet : (engine : Incarnation) (kept : List ℕ) → c.verdict ≡ None → (side_of c.sides s).up ≡ Some engine
-      → TellsNothing (engine.rest ++ bytes) → fault ≡ None
-      → new ≡ with_side_up c s (record engine { rest = kept }) → Heard c s bytes used fault new
+      → TellsNothing (engine.reader ++ bytes) → fault ≡ None
+      → new ≡ with_side_up c s (record engine { reader = kept }) → Heard c s bytes used fault new
   down : (side_of c.sides s).up ≡ None → fault ≡ None → new ≡ c → Heard c s bytes used fault new
   over : (v : Verdict) → c.verdict ≡ Some v → fault ≡ None → new ≡ c → Heard c s bytes used fault new
 
@@ -201,7 +201,7 @@ confirmed_by_id c new s before after bytes used fault hears up_before up_after_i
     by_way (Heard.quiet engine kept none up nothing fault_is new_is) =
         let some : Some engine ≡ Some before = sym up ∙ up_before in
         let same : engine ≡ before = cc in
-        let next : Incarnation = record engine { rest = kept } in
+        let next : Incarnation = record engine { reader = kept } in
         absurd (no_more next before after
         (sym (up_there c.sides s next) ∙ sym (ap (up_in s) new_is) ∙ up_after_is)
         (ap (λ (y : Incarnation). y.confirmed) same) more)
@@ -278,7 +278,7 @@ unconfirmed_by_id c new s before after bytes used fault hears up_before up_after
     by_way (Heard.quiet engine kept none up nothing fault_is new_is) =
         let some : Some engine ≡ Some before = sym up ∙ up_before in
         let same : engine ≡ before = cc in
-        let next : Incarnation = record engine { rest = kept } in
+        let next : Incarnation = record engine { reader = kept } in
         no next (sym (up_there c.sides s next) ∙ sym (ap (up_in s) new_is) ∙ up_after_is)
         (omega (arith, ap (λ (y : Incarnation). y.confirmed) same))
     by_way (Heard.down up fault_is new_is) = unchanged new_is
@@ -356,8 +356,8 @@ strangers_put_down c new s engine reply bytes used fault hears none up ends stra
         let some : Some other ≡ Some engine = sym up2 ∙ up in
         let same : other ≡ engine = cc in
         let E : Incarnation → Type 0 = λ x. EndsReply x bytes used value in
-        let place = length engine.rest + used in
-        let one = one_first (engine.rest ++ bytes) place place (Ok value) (Ok reply) (subst E same ends2) ends in
+        let place = length engine.reader + used in
+        let one = one_first (engine.reader ++ bytes) place place (Ok value) (Ok reply) (subst E same ends2) ends in
         let value_is : value ≡ reply = let oks : Ok value ≡ Ok reply = one.1 in cc in
         let o_is : outcome c.game s (oldest other.unanswered) value
         ≡ outcome c.game s (oldest engine.unanswered) reply =
@@ -371,8 +371,8 @@ strangers_put_down c new s engine reply bytes used fault hears none up ends stra
     by_way (Heard.quiet other kept none2 up2 nothing fault_is new_is) =
         let some : Some other ≡ Some engine = sym up2 ∙ up in
         let same : other ≡ engine = cc in
-        let N : Incarnation → Type 0 = λ x. TellsNothing (x.rest ++ bytes) in
-        absurd (subst N same nothing (length engine.rest + used) (Ok reply) ends.inside ends.told)
+        let N : Incarnation → Type 0 = λ x. TellsNothing (x.reader ++ bytes) in
+        absurd (subst N same nothing (length engine.reader + used) (Ok reply) ends.inside ends.told)
     by_way (Heard.down up2 fault_is new_is) = let no : None ≡ Some engine = sym up2 ∙ up in absurd (cc)
     by_way (Heard.over v e fault_is new_is) = let no : None ≡ Some v = sym none ∙ e in absurd (cc)
 

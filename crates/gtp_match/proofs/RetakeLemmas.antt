@@ -1,6 +1,6 @@
 -- Counts of retakes: one more, and all of them together.
-use Rattle.std.proofs.Common.{◌≡◌, ℕ, zero, suc, ◌+◌, ◌-◌, ◌*◌, ◌<◌, ◌≤◌, List, [], ◌∷◌, length, take, replicate, get_or}
-use Rattle.std.proofs.Common.{slice_set, refl, ◌∙◌, arith}
+use Rattle.std.proofs.Common.{◌≡◌, ℕ, zero, suc, ◌+◌, ◌-◌, ◌*◌, ◌<◌, ◌≤◌, List, [], ◌∷◌, length, take, replicate}
+use Rattle.std.proofs.Common.{get_or, slice_set, refl, ◌∙◌, arith}
 use Rattle.gtp_match.specs.Retakes.{most_retakes, no_retakes, retakes_of, with_retake, total_of, retakes_within}
 use Rattle.gtp_match.specs.Retakes.{AreRetakes}
 

@@ -17,10 +17,10 @@ use Rattle.gtp_match.specs.declared.sides.Incarnation.{Incarnation}
 use Rattle.gtp_match.specs.declared.unanswered.SentCommand.{SentCommand}
 use Rattle.gtp_match.specs.declared.verdicts.SideFault.{SideFault}
 use Rattle.gtp_match.specs.declared.verdicts.Verdict.{Verdict}
-use Rattle.gtp_match.specs.Conditions.{MayBeAnswered, MayReply}
+use Rattle.gtp_match.specs.private.Conditions.{MayBeAnswered, MayReply}
 use Rattle.gtp_match.specs.Hearing.{HearsExactly, HearsAllExactly, HearsAllBy}
-use Rattle.gtp_match.specs.Losing.{Loses, LosesUp, LosesWhere, by_reply, by_fault, nothing_yet, loss_of, owed, owed_where, CanBeShown}
-use Rattle.gtp_match.specs.Losing.{HearsTelling, first_of, used_up, faulty, goes_on}
+use Rattle.gtp_match.specs.Losing.{Loses, LosesUp, LosesWhere, by_reply, by_fault, nothing_yet, loss_of, owed}
+use Rattle.gtp_match.specs.Losing.{owed_where, CanBeShown, HearsTelling, first_of, used_up, faulty, goes_on}
 use Rattle.gtp_match.specs.Sides.{side_of}
 use Rattle.gtp_match.specs.Sound.{IsSound}
 use Rattle.gtp_match.specs.Unanswered.{oldest}
@@ -102,7 +102,8 @@ loss_shown c side bytes loss sound = by_both c.verdict (side_of c.sides side).up
 -- ---- all bytes
 
 -- what is heard and told of is heard
-pub telling_hears : (side : Colour) (c new : Controller) (bytes : List ℕ) (shown : Option SideFault) (loss : Option Loss)
+pub telling_hears : (side : Colour) (c new : Controller) (bytes : List ℕ) (shown : Option SideFault)
+    (loss : Option Loss)
     → HearsTelling side c bytes shown loss new → HearsAllExactly side c bytes shown new
 telling_hears side c new bytes shown loss used_up = HearsAllBy.used_up
 telling_hears side c new bytes shown loss (faulty used some h loses) = HearsAllBy.faulty used some h

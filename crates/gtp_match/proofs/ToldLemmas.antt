@@ -113,7 +113,7 @@ leaves_heard c new side engine bytes used fault (HearsUp.replied {value = x} fir
     leaves_outcome c side (heard_reply engine) (outcome c.game side (oldest engine.unanswered) x)
 leaves_heard c new side engine bytes used fault (HearsUp.faulted first) = Leaves.puts_down refl refl
 leaves_heard c new side engine bytes used fault (HearsUp.nothing_yet {kept = kept} nothing is) =
-    Leaves.keeps_up (record engine { rest = kept }) refl refl
+    Leaves.keeps_up (record engine { reader = kept }) refl refl
 
 leaves_other : (c new : Controller) (side : Colour) (fault : Option SideFault) → Leaves side c fault new
     → other_stays side c.sides new.sides

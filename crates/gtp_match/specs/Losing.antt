@@ -51,7 +51,7 @@ owed_of engine text = record {
 -- what a side owes in a match that goes on: nothing is told of one that is down, or once a verdict was given
 abbrev pub owed_where : Option Verdict → Option Incarnation → Option Owed
 owed_where None None = None
-owed_where None (Some engine) = Some (owed_of engine engine.rest)
+owed_where None (Some engine) = Some (owed_of engine engine.reader)
 owed_where (Some verdict) up = None
 
 abbrev pub owed : Controller → Colour → Option Owed
@@ -98,12 +98,12 @@ loss_of engine text cause = record { cause = cause; owed = owed_of engine text }
 -- outcome has a cause; by the fault that they show; and nothing where they do neither. A reply is shown alone, without
 -- what stands behind it. Of a text that is no reply all is shown that was heard: what was kept, and all of these bytes.
 pub data LosesUp (c : Controller) (side : Colour) (engine : Incarnation) (bytes : List ℕ) : Option Loss → Type 0 where
-  by_reply : {count : ℕ} {value : Reply} (cause : Option LossCause) → IsFirst (engine.rest ++ bytes) count (Ok value)
+  by_reply : {count : ℕ} {value : Reply} (cause : Option LossCause) → IsFirst (engine.reader ++ bytes) count (Ok value)
       → HasCause c side engine value (outcome c.game side (oldest engine.unanswered) value) cause
-      → LosesUp c side engine bytes (option_map (loss_of engine (take count (engine.rest ++ bytes))) cause)
-  by_fault : {count : ℕ} {shown : ReplyFault} → IsFirst (engine.rest ++ bytes) count (Err shown)
-      → LosesUp c side engine bytes (Some (loss_of engine (engine.rest ++ bytes) (Shows (side_fault shown))))
-  nothing_yet : TellsNothing (engine.rest ++ bytes) → LosesUp c side engine bytes None
+      → LosesUp c side engine bytes (option_map (loss_of engine (take count (engine.reader ++ bytes))) cause)
+  by_fault : {count : ℕ} {shown : ReplyFault} → IsFirst (engine.reader ++ bytes) count (Err shown)
+      → LosesUp c side engine bytes (Some (loss_of engine (engine.reader ++ bytes) (Shows (side_fault shown))))
+  nothing_yet : TellsNothing (engine.reader ++ bytes) → LosesUp c side engine bytes None
 
 -- a side that is down loses nothing, nor does any side after a verdict
 abbrev pub LosesWhere : Controller → Colour → List ℕ → Option Verdict → Option Incarnation → Option Loss → Type 0

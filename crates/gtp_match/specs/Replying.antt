@@ -33,7 +33,7 @@ use Rattle.gtp_match.specs.declared.verdicts.Verdict.TheVariants.{Score, Resign,
 
 -- the bytes that were used end this reply of the engine
 abbrev pub EndsReply : Incarnation → List ℕ → ℕ → Reply → Type 0
-EndsReply engine bytes used reply = IsFirst (engine.rest ++ bytes) (length engine.rest + used) (Ok reply)
+EndsReply engine bytes used reply = IsFirst (engine.reader ++ bytes) (length engine.reader + used) (Ok reply)
 
 -- The bytes that were used end a reply that has the id of the engine's oldest unanswered command, and the command and
 -- the reply are so.

@@ -23,7 +23,7 @@ abbrev pub total_of : List ℕ → ℕ
 total_of [] = 0
 total_of (n ∷ ns) = n + total_of ns
 
--- the retakes of the first so many numbers
+-- the retakes of the first numbers, of this many of them
 abbrev pub retakes_within : ℕ → List ℕ → ℕ
 retakes_within numbers retakes = total_of (take numbers retakes)
 

@@ -72,12 +72,12 @@ pub(crate) fn first_of(loss: Option<Loss>, later: Option<Loss>) -> Option<Loss>
 
 /// What an engine owes that wrote these bytes more since its last whole reply.
 pub(crate) fn owed_with(engine: &Incarnation, more: &[u8]) -> Owed
-    ensures { result ≡ owed_of engine.now (engine.now.rest ++ more.now) }
+    ensures { result ≡ owed_of engine.now (engine.now.reader ++ more.now) }
 {
     Owed {
         unanswered: engine.unanswered.len() as u32,
         oldest: engine.unanswered.oldest(),
-        bytes: first_bytes(engine.rest.bytes(), more),
+        bytes: first_bytes(engine.reader.bytes(), more),
     }
 }
 
@@ -92,7 +92,7 @@ fn first_bytes(text: &[u8], more: &[u8]) -> ShownBytes
     bytes
 }
 
-/// Appends bytes.
+/// Appends bytes, for which there is room.
 fn append(bytes: &mut ShownBytes, more: &[u8])
     requires { array_vec_len bytes.old + length more.now ≤ MOST_SHOWN }
     ensures { bytes.new.items ≡ bytes.old.items ++ more.now }

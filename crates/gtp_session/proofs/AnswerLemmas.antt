@@ -15,13 +15,14 @@ use Rattle.go_base.specs.declared.choices.Choice.{Choice}
 use Rattle.go_base.specs.declared.choices.Choice.TheVariants as choice
 use Rattle.gtp_session.specs.declared.commands.CommandName.{CommandName}
 use Rattle.gtp_session.specs.declared.commands.CommandName.TheVariants.{ProtocolVersion, Name, Version, KnownCommand, ListCommands, Quit, Boardsize, ClearBoard, Komi, Play, Genmove, FixedHandicap, Undo, FinalScore, Showboard}
-use Rattle.gtp_session.specs.Commands.{Answer, answer, asked, id_of, argument, command_of, succeeds, fails, answer_move, answer_choice, answer_genmove, answer_to, answer_to_named, asked_by_command, asked_by_named, asked_by_genmove}
+use Rattle.gtp_session.specs.Commands.{Answer, answer, asked, id_of, argument, named_command, succeeds, fails, answer_move, answer_choice, answer_genmove, answer_to, answer_to_named, asked_by_command, asked_by_named, asked_by_genmove}
 use Rattle.gtp_session.specs.Engine.{State, WrittenReply, Step}
 use Rattle.gtp_session.proofs.Policies.{AllowsLawful}
 use Rattle.gtp_session.proofs.MoveLemmas.{room_test}
 use Rattle.gtp_session.proofs.NameLemmas.{asks_genmove}
 
-by_room_same : {A : Type 0} (x p q : A) (colour : Colour) (t : Bool) → cond t None (Some colour) ≡ None → cond t x p ≡ cond t x q
+by_room_same : {A : Type 0} (x p q : A) (colour : Colour) (t : Bool) → cond t None (Some colour) ≡ None
+    → cond t x p ≡ cond t x q
 by_room_same x p q colour true e = refl
 by_room_same x p q colour false e = cc
 
@@ -51,9 +52,10 @@ named_same game (Some Undo) words a b e = refl
 named_same game (Some FinalScore) words a b e = refl
 named_same game (Some Showboard) words a b e = refl
 
-pub answer-same : (game : GameRecord) (l : Line) (a b : Choice) → asked game l ≡ None → answer game l a ≡ answer game l b
+pub answer-same : (game : GameRecord) (l : Line) (a b : Choice) → asked game l ≡ None
+    → answer game l a ≡ answer game l b
 answer-same game line.TooLong a b e = refl
-answer-same game (line.Command cl) a b e = named_same game (command_of cl.words) cl.words a b e
+answer-same game (line.Command cl) a b e = named_same game (named_command cl.words) cl.words a b e
 
 by_room_asked : {A : Type 0} (x : A) (colour asked_for : Colour) (f : Colour → A) (t : Bool)
     → cond t None (Some colour) ≡ Some asked_for → cond t x (f colour) ≡ f asked_for
@@ -73,15 +75,17 @@ named_asked : (game : GameRecord) (named : Option CommandName) (words : List (Li
     → answer_to_named game named words choice ≡ answer_choice game colour choice
 named_asked game None words choice colour e = cc
 named_asked game (Some command) words choice colour e =
-    subst (λ (c : CommandName). asked_by_command game c words ≡ Some colour → answer_to game c words choice ≡ answer_choice game colour choice)
+    subst (λ (c : CommandName). asked_by_command game c words ≡ Some colour
+    → answer_to game c words choice ≡ answer_choice game colour choice)
     (sym (asks_genmove game command words colour e)) (genmove_asked game (argument colour_of words 1) choice colour) e
 
 answer-asked : (game : GameRecord) (l : Line) (choice : Choice) (colour : Colour) → asked game l ≡ Some colour
     → answer game l choice ≡ answer_choice game colour choice
 answer-asked game line.TooLong choice colour e = cc
-answer-asked game (line.Command cl) choice colour e = named_asked game (command_of cl.words) cl.words choice colour e
+answer-asked game (line.Command cl) choice colour e = named_asked game (named_command cl.words) cl.words choice colour e
 
-by_choice : (game new_game : GameRecord) (text : List ℕ) (id : Option ℕ) (colour : Colour) (choice : Choice) → IsLawful game colour choice
+by_choice : (game new_game : GameRecord) (text : List ℕ) (id : Option ℕ) (colour : Colour) (choice : Choice)
+    → IsLawful game colour choice
     → new_game ≡ (answer_choice game colour choice).game
     → text ≡ written_reply (answer_choice game colour choice).ok id (answer_choice game colour choice).text
     → ((new_game ≡ game) × (text ≡ written_reply true id (codes "resign")))
@@ -105,7 +109,8 @@ module _ {P : Type 0} (may : May P) where
       (step.text ∙ ap (λ (a : Answer). written_reply a.ok (id_of l) a.text) given)
 
 made : (game : GameRecord) (c : Colour) (v : Vertex) (d : Dec (IsLegal game c v)) → IsLegal game c v
-    → elim d [ yes _ ↦ succeeds (with_move game c v) [] | no _ ↦ fails game (codes "illegal move") ] ≡ succeeds (with_move game c v) []
+    → elim d [ yes _ ↦ succeeds (with_move game c v) [] | no _ ↦ fails game (codes "illegal move") ]
+    ≡ succeeds (with_move game c v) []
 made game c v (yes _) l = refl
 made game c v (no k) l = absurd (k l)
 

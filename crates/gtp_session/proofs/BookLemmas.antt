@@ -18,7 +18,8 @@ pub record HasRead {S : Type 0} (steps : S → Option (Bor (List ℕ)) → S →
   reads : all_entries (map entry_of all) ≡ onto entries (all_entries (map entry_of left))
   few : length entries ≤ most_entries
 
-pub HasRead-none : {S : Type 0} (steps : S → Option (Bor (List ℕ)) → S → Type 0) (s : S) (all : List (List ℕ)) (entries : List Entry)
+pub HasRead-none : {S : Type 0} (steps : S → Option (Bor (List ℕ)) → S → Type 0) (s : S) (all : List (List ℕ))
+    (entries : List Entry)
     → AlwaysYields steps (λ part. part.now) s all → entries ≡ [] → HasRead steps s all entries
 HasRead-none steps s all entries y none =
     subst (λ (l : List Entry). HasRead steps s all l) (sym none)
@@ -29,15 +30,19 @@ HasRead-none steps s all entries y none =
     nothing (Some more) = refl
 
 -- what the iterator gives next is the first of what it has left
-record Goes {S : Type 0} (steps : S → Option (Bor (List ℕ)) → S → Type 0) (t : S) (part : List ℕ) (left : List (List ℕ)) : Type 0 where
+record Goes {S : Type 0} (steps : S → Option (Bor (List ℕ)) → S → Type 0) (t : S) (part : List ℕ)
+    (left : List (List ℕ)) : Type 0 where
   others : List (List ℕ)
   is : left ≡ part ∷ others
   yields : AlwaysYields steps (λ part. part.now) t others
 
-goes : {S : Type 0} (steps : S → Option (Bor (List ℕ)) → S → Type 0) (s t : S) (part : Bor (List ℕ)) (left : List (List ℕ))
+goes : {S : Type 0} (steps : S → Option (Bor (List ℕ)) → S → Type 0) (s t : S) (part : Bor (List ℕ))
+    (left : List (List ℕ))
     → AlwaysYields steps (λ part. part.now) s left → steps s (Some part) t → Goes steps t part.now left
 goes steps s t part [] y step = absurd (y part t step)
-goes steps s t part (l ∷ ls) y step = let m = y.1 part t step in record { others = ls; is = ap (λ (k : List ℕ). k ∷ ls) (sym m.0); yields = m.1 }
+goes steps s t part (l ∷ ls) y step =
+    let m = y.1 part t step in
+    record { others = ls; is = ap (λ (k : List ℕ). k ∷ ls) (sym m.0); yields = m.1 }
 
 onto-more : (entries : List Entry) (entry : Entry) (more : Option (List Entry))
     → onto entries (one_more (Some entry) more) ≡ onto (entries ++ entry ∷ []) more
@@ -64,7 +69,8 @@ HasRead-more steps s t all entries new part entry h step is pushed room =
 -- a part that is no entry
 pub HasRead-bad : {S : Type 0} (steps : S → Option (Bor (List ℕ)) → S → Type 0) (s t : S) (all : List (List ℕ))
     (entries : List Entry) (part : Bor (List ℕ))
-    → HasRead steps s all entries → steps s (Some part) t → None ≡ entry_of part.now → where_few (all_entries (map entry_of all)) ≡ None
+    → HasRead steps s all entries → steps s (Some part) t → None ≡ entry_of part.now
+    → where_few (all_entries (map entry_of all)) ≡ None
 HasRead-bad steps s t all entries part h step is =
     let g = goes steps s t part h.left h.yields step in
     ap where_few
@@ -82,7 +88,8 @@ too_many entries many = by_test (nat_le (length entries) most_entries) refl
 -- an entry for which there is no room
 pub HasRead-full : {S : Type 0} (steps : S → Option (Bor (List ℕ)) → S → Type 0) (s t : S) (all : List (List ℕ))
     (entries : List Entry) (part : Bor (List ℕ)) (entry : Entry)
-    → HasRead steps s all entries → steps s (Some part) t → Some entry ≡ entry_of part.now → length entries ≡ most_entries
+    → HasRead steps s all entries → steps s (Some part) t → Some entry ≡ entry_of part.now
+    → length entries ≡ most_entries
     → where_few (all_entries (map entry_of all)) ≡ None
 HasRead-full steps s t all entries part entry h step is full =
     let g = goes steps s t part h.left h.yields step in
@@ -100,7 +107,8 @@ HasRead-full steps s t all entries part entry h step is full =
         (omega (arith, length-append (entries ++ entry ∷ []) more, length-append entries (entry ∷ [])))
 
 -- no part is left
-pub HasRead-all : {S : Type 0} (steps : S → Option (Bor (List ℕ)) → S → Type 0) (s t : S) (all : List (List ℕ)) (entries : List Entry)
+pub HasRead-all : {S : Type 0} (steps : S → Option (Bor (List ℕ)) → S → Type 0) (s t : S) (all : List (List ℕ))
+    (entries : List Entry)
     → HasRead steps s all entries → steps s None t → Some entries ≡ where_few (all_entries (map entry_of all))
 HasRead-all steps s t all entries h step =
     by_left h.left h.yields h.reads
@@ -108,9 +116,11 @@ HasRead-all steps s t all entries h step =
     fits : where_few (Some entries) ≡ Some entries
     fits = by_test (nat_le (length entries) most_entries) refl
       where
-        by_test : (b : Bool) → nat_le (length entries) most_entries ≡ b → (if b then Some entries else None) ≡ Some entries
+        by_test : (b : Bool) → nat_le (length entries) most_entries ≡ b
+            → (if b then Some entries else None) ≡ Some entries
         by_test true e = refl
-        by_test false e = absurd (let k : most_entries < length entries = grind (arith, nat_tests) in let f = h.few in omega arith)
+        by_test false e =
+            absurd (let k : most_entries < length entries = grind (arith, nat_tests) in let f = h.few in omega arith)
 
     by_left : (left : List (List ℕ)) → AlwaysYields steps (λ part. part.now) s left
         → all_entries (map entry_of all) ≡ onto entries (all_entries (map entry_of left))
@@ -122,5 +132,6 @@ HasRead-all steps s t all entries h step =
 pub full : (count : ℕ) (b : Bool) → b ≡ (count == most_entries) → b ≡ true → count ≡ most_entries
 full count b is t = let e : (count == most_entries) ≡ true = sym is ∙ t in grind (arith, nat_tests)
 
-pub has_room : (count : ℕ) (b : Bool) → b ≡ (count == most_entries) → count ≤ most_entries → b ≡ false → count < most_entries
+pub has_room : (count : ℕ) (b : Bool) → b ≡ (count == most_entries) → count ≤ most_entries → b ≡ false
+    → count < most_entries
 has_room count b is fits f = let e : (count == most_entries) ≡ false = sym is ∙ f in grind (arith, nat_tests)

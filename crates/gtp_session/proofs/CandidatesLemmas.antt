@@ -36,7 +36,8 @@ points_before-more row column points least =
 pub points_before-all : (row size column : ℕ) (points : List ℕ) → column ≡ size + 1
     → points ++ points_before row column ≡ points ++ row_points size row
 unfolding points_before
-points_before-all row size column points past = ap (λ n. points ++ row_points n row) (let e : column - 1 ≡ size = omega arith in e)
+points_before-all row size column points past = ap (λ n. points ++ row_points n row)
+    (let e : column - 1 ≡ size = omega arith in e)
 
 -- ---- the rows
 
@@ -49,10 +50,12 @@ range-more a zero = ap (λ k. k ∷ []) (omega arith)
 range-more a (suc n) =
     ap (range_with_len a) (add-one (suc n))
     ∙ ap (λ l. a ∷ l)
-    (ap (range_with_len (a + 1)) (sym (add-one n)) ∙ range-more (a + 1) n ∙ ap (λ k. range_with_len (a + 1) n ++ k ∷ []) (omega arith))
+    (ap (range_with_len (a + 1)) (sym (add-one n)) ∙ range-more (a + 1) n
+    ∙ ap (λ k. range_with_len (a + 1) n ++ k ∷ []) (omega arith))
 
 -- one row more
-pub rows_before-more : (size row : ℕ) → 1 ≤ row → rows_before size row ++ row_points size row ≡ rows_before size (row + 1)
+pub rows_before-more : (size row : ℕ) → 1 ≤ row
+    → rows_before size row ++ row_points size row ≡ rows_before size (row + 1)
 unfolding rows_before
 rows_before-more size row least =
     let m = row - 1 in
@@ -68,7 +71,8 @@ rows_before-first size = refl
 
 pub rows_before-all : (size row : ℕ) → row ≡ size + 1 → rows_before size row ≡ points_of size
 unfolding rows_before points_of
-rows_before-all size row past = ap (λ n. flat_map (row_points size) (range_with_len 1 n)) (let e : row - 1 ≡ size = omega arith in e)
+rows_before-all size row past = ap (λ n. flat_map (row_points size) (range_with_len 1 n))
+    (let e : row - 1 ≡ size = omega arith in e)
 
 -- ---- candidates
 
@@ -114,7 +118,8 @@ among-no game colour points i p inside here is_not =
     ∙ ap (λ b. filter test (take i points) ++ cond b (p ∷ []) []) (holds-no (candidate? game colour p) is_not)
     ∙ append-nil (filter test (take i points))
 
-pub among-all : (game : GameRecord) (colour : Colour) (points : List ℕ) (i : ℕ) → points ≡ points_of game.size → length points ≤ i
+pub among-all : (game : GameRecord) (colour : Colour) (points : List ℕ) (i : ℕ) → points ≡ points_of game.size
+    → length points ≤ i
     → among game colour (take i points) ≡ candidates game colour
 unfolding among candidates
 among-all game colour points i all past =
@@ -131,6 +136,8 @@ among-first game colour points i p all e =
     ∙ ap (λ l. slice_get l 0) (filter-append test (take i points) (drop i points))
     ∙ ap (λ l. slice_get (l ++ filter test (drop i points)) 0) e
 
-pub among-no_first : (game : GameRecord) (colour : Colour) (points : List ℕ) (i : ℕ) → points ≡ points_of game.size → length points ≤ i
+pub among-no_first : (game : GameRecord) (colour : Colour) (points : List ℕ) (i : ℕ) → points ≡ points_of game.size
+    → length points ≤ i
     → among game colour (take i points) ≡ [] → slice_get (candidates game colour) 0 ≡ None
-among-no_first game colour points i all past e = ap (λ l. slice_get l 0) (sym (among-all game colour points i all past) ∙ e)
+among-no_first game colour points i all past e = ap (λ l. slice_get l 0)
+    (sym (among-all game colour points i all past) ∙ e)

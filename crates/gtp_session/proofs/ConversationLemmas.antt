@@ -11,7 +11,8 @@ use Rattle.std.proofs.lemmas.List.{map-append}
 use Rattle.gtp_wire.specs.Lines.{lines}
 use Rattle.gtp_session.specs.Policy.{May}
 use Rattle.gtp_session.specs.Engine.{Engine, WrittenReply, output_of}
-use Rattle.gtp_session.specs.Conversation.{TakesPart, Delivered, Breaks, Conversation, BrokenConversation, GivesAtLeast, GivesBytes}
+use Rattle.gtp_session.specs.Conversation.{TakesPart, Delivered, Breaks, Conversation, BrokenConversation, ReadWhileOpen, GivesAtLeast}
+use Rattle.gtp_session.specs.private.Pieces.{GivesBytes}
 use Rattle.gtp_session.proofs.EngineLemmas.{Replies-nothing, Replies-then}
 
 -- the output of replies after others
@@ -27,7 +28,8 @@ tail text done = take (length text - done) (drop done text)
 pub tail-drop : (text : List ℕ) (done : ℕ) → tail text done ≡ drop done text
 tail-drop text done = take_all (length text - done) (drop done text) (omega (arith, length-drop done text))
 
-pub tail-within : (text : List ℕ) (done more : ℕ) → done ≤ length text → more ≤ length (tail text done) → done + more ≤ length text
+pub tail-within : (text : List ℕ) (done more : ℕ) → done ≤ length text → more ≤ length (tail text done)
+    → done + more ≤ length text
 tail-within text done more within p =
     let q = rw (tail-drop text done) at p in
     omega (arith, length-drop done text)
@@ -37,9 +39,11 @@ pub take-tail : (text : List ℕ) (done more : ℕ) → take (done + more) text 
 take-tail text done more = rw (tail-drop text done) (take-add done more text)
 
 -- a text is what comes first, what is used of its tail, and what is left
-pub split-at : (text : List ℕ) (done used : ℕ) → text ≡ take done text ++ (take used (tail text done) ++ drop (done + used) text)
+pub split-at : (text : List ℕ) (done used : ℕ)
+    → text ≡ take done text ++ (take used (tail text done) ++ drop (done + used) text)
 split-at text done used =
-    sym (take-append-drop (done + used) text) ∙ ap (λ (t : List ℕ). t ++ drop (done + used) text) (take-tail text done used)
+    sym (take-append-drop (done + used) text) ∙ ap (λ (t : List ℕ). t ++ drop (done + used) text)
+    (take-tail text done used)
     ∙ append_assoc (take done text) (take used (tail text done)) (drop (done + used) text)
 
 -- more of a text was taken
@@ -48,7 +52,8 @@ pub Appends-take : (a b c : Option (List ℕ)) (text : List ℕ) (done more : �
 Appends-take a b c text done more p q = rw (take-tail text done more) (Appends-trans a b c _ _ p q)
 
 -- a part was taken, and then nothing
-pub TakesPart-kept : (a b c : Option (List ℕ)) (text : List ℕ) (done : ℕ) → Appends a b (take done text) → Keeps b c → TakesPart text a c
+pub TakesPart-kept : (a b c : Option (List ℕ)) (text : List ℕ) (done : ℕ) → Appends a b (take done text) → Keeps b c
+    → TakesPart text a c
 TakesPart-kept a b c text done p q =
     record {
       part = take done text;
@@ -96,7 +101,8 @@ module _ {P : Type 0} (may : May P) where
       }
 
   -- nothing was read
-  pub Conversation-nothing : (a : Engine P) (gives held : Option (List ℕ)) → lines a.rest ≡ [] → Conversation may a a gives gives held held
+  pub Conversation-nothing : (a : Engine P) (gives held : Option (List ℕ)) → lines a.rest ≡ []
+      → Conversation may a a gives gives held held
   Conversation-nothing a gives held e =
       record { input = []; given = Consumes-nil gives; delivered = Delivered-nothing a held e }
 
@@ -110,13 +116,31 @@ module _ {P : Type 0} (may : May P) where
         delivered = Delivered-both p.delivered q.delivered;
       }
 
-  pub BrokenConversation-after : {a b c : Engine P} {g0 g1 g2 h0 h1 h2 : Option (List ℕ)}
-      → Conversation may a b g0 g1 h0 h1 → BrokenConversation may b c g1 g2 h1 h2 → BrokenConversation may a c g0 g2 h0 h2
+  pub BrokenConversation-after : {a b c : Engine P} {g0 g1 g2 h0 h1 h2 : Option (List ℕ)} {last : Option ℕ}
+      → Conversation may a b g0 g1 h0 h1 → BrokenConversation may b c g1 g2 last h1 h2
+      → BrokenConversation may a c g0 g2 last h0 h2
+  unfolding Breaks-after
   BrokenConversation-after {g0 = g0} {g1 = g1} {g2 = g2} p q =
       record {
         input = p.input ++ q.input;
         given = Consumes-trans g0 g1 g2 _ _ p.given q.given;
         breaks = Breaks-after p.delivered q.breaks;
+        in_last = q.in_last;
+      }
+
+  -- the session was open when the last read came, also of both together
+  pub ReadWhileOpen-after : {a b : Engine P} {g0 g1 g2 h0 h1 : Option (List ℕ)} {last : Option ℕ}
+      → Conversation may a b g0 g1 h0 h1 → ReadWhileOpen may b g1 g2 last → ReadWhileOpen may a g0 g2 last
+  ReadWhileOpen-after {g0 = g0} {g1 = g1} {g2 = g2} p q =
+      record {
+        before = p.input ++ q.before;
+        piece = q.piece;
+        given = rw (append_assoc p.input q.before q.piece) (Consumes-trans g0 g1 g2 _ _ p.given q.given);
+        last_is = q.last_is;
+        between = q.between;
+        replies = p.delivered.replies ++ q.replies;
+        engine = Replies-then may p.delivered.engine q.engine;
+        is_open = q.is_open;
       }
 
 -- a reader that was not read gave nothing
@@ -124,7 +148,8 @@ pub GivesAtLeast-nothing : (gives : Option (List ℕ)) → GivesAtLeast gives gi
 GivesAtLeast-nothing gives = record { input = []; given = Consumes-nil gives; enough = omega arith }
 
 -- what it gave first and then
-pub GivesAtLeast-both : {a b c : Option (List ℕ)} {m n : ℕ} → GivesAtLeast a b m → GivesAtLeast b c n → GivesAtLeast a c (m + n)
+pub GivesAtLeast-both : {a b c : Option (List ℕ)} {m n : ℕ} → GivesAtLeast a b m → GivesAtLeast b c n
+    → GivesAtLeast a c (m + n)
 GivesAtLeast-both {a = a} {b = b} {c = c} p q =
     record {
       input = p.input ++ q.input;

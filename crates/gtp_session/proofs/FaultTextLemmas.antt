@@ -10,7 +10,7 @@ use Rattle.go_base.specs.Int.{SpellsInt, int_of}
 use Rattle.go_base.proofs.IntLemmas.{int_of_spelled, spells_int_of}
 use Rattle.gtp_session.specs.declared.fault.Fault.{Fault}
 use Rattle.gtp_session.specs.declared.fault.Fault.TheVariants.{Off, Stop, Cut, Junk, Flood}
-use Rattle.gtp_session.specs.FaultTexts.{SpellsBetween, SpellsNumbered, SpellsFault, FaultOfTells, before_colon, from_colon, behind_first, where_between, genmove_of, kept_of, cut_where, fault_of_parts, fault_of}
+use Rattle.gtp_session.specs.FaultTexts.{SpellsBetween, SpellsNumbered, SpellsFault, FaultOfTells, before_colon, from_colon, behind_first, where_between, genmove_of, kept_of, cut_where, fault_spelled_by, fault_spelled}
 
 -- ---- colons
 
@@ -71,7 +71,8 @@ of_within least most n text (Some m) is e = by_tests (nat_le least m) (nat_le m 
     by_tests true true l h f =
         let same : m ≡ n = cc in
         let spelled : SpellsInt m text = spells_int_of m text is in
-        subst (λ (k : ℕ). SpellsBetween least most k text) same (record { int = spelled; low = leb-true _ _ l; high = leb-true _ _ h })
+        subst (λ (k : ℕ). SpellsBetween least most k text) same
+        (record { int = spelled; low = leb-true _ _ l; high = leb-true _ _ h })
     by_tests true false l h f = absurd (cc)
     by_tests false high l h f = absurd (cc)
 
@@ -82,24 +83,33 @@ within_spelled least most n text e = of_within least most n text (int_of text) r
 -- ---- a text that spells a fault has it
 
 cut_of : (first last : List ℕ) (number kept : ℕ) → SpellsBetween 1 2000 number first → SpellsBetween 0 2048 kept last
-    → cut_where (genmove_of (before_colon (first ++ 58 ∷ last))) (option_and_then kept_of (behind_first (from_colon (first ++ 58 ∷ last))))
+    → cut_where (genmove_of (before_colon (first ++ 58 ∷ last)))
+    (option_and_then kept_of (behind_first (from_colon (first ++ 58 ∷ last))))
     ≡ Some (Cut number kept)
 cut_of first last number kept spells_number spells_kept =
     let digits = spells_number.int.numeral.1 in
-    rw (before_digits first last digits, from_digits first last digits, within_of 1 2000 number first spells_number, within_of 0 2048 kept last spells_kept)
+    rw (
+      before_digits first last digits,
+      from_digits first last digits,
+      within_of 1 2000 number first spells_number,
+      within_of 0 2048 kept last spells_kept,
+    )
     refl
 
 numbered_of : (make : ℕ → Fault) (number : ℕ) (digits : List ℕ) → SpellsBetween 1 2000 number digits
     → option_map make (genmove_of digits) ≡ Some (make number)
 numbered_of make number digits spelled = ap (option_map make) (within_of 1 2000 number digits spelled)
 
-pub fault_of_spelled : (fault : Fault) (text : List ℕ) → SpellsFault fault text → fault_of text ≡ Some fault
-fault_of_spelled Off text spelled = ap fault_of spelled
-fault_of_spelled (Stop number) text spelled = ap fault_of spelled.shape ∙ numbered_of Stop number spelled.digits spelled.genmove
+pub fault_of_spelled : (fault : Fault) (text : List ℕ) → SpellsFault fault text → fault_spelled text ≡ Some fault
+fault_of_spelled Off text spelled = ap fault_spelled spelled
+fault_of_spelled (Stop number) text spelled = ap fault_spelled spelled.shape
+    ∙ numbered_of Stop number spelled.digits spelled.genmove
 fault_of_spelled (Cut number kept) text spelled =
-    ap fault_of spelled.shape ∙ cut_of spelled.first spelled.last number kept spelled.genmove spelled.bytes
-fault_of_spelled (Junk number) text spelled = ap fault_of spelled.shape ∙ numbered_of Junk number spelled.digits spelled.genmove
-fault_of_spelled (Flood number) text spelled = ap fault_of spelled.shape ∙ numbered_of Flood number spelled.digits spelled.genmove
+    ap fault_spelled spelled.shape ∙ cut_of spelled.first spelled.last number kept spelled.genmove spelled.bytes
+fault_of_spelled (Junk number) text spelled = ap fault_spelled spelled.shape
+    ∙ numbered_of Junk number spelled.digits spelled.genmove
+fault_of_spelled (Flood number) text spelled = ap fault_spelled spelled.shape
+    ∙ numbered_of Flood number spelled.digits spelled.genmove
 
 -- ---- a text that has a fault spells it
 
@@ -133,20 +143,25 @@ kind_spelled : (kind numbers text : List ℕ) → text ≡ kind ++ 58 ∷ number
     → (stop cut junk flood : Bool) → Decides stop (kind ≡ codes "stop") → Decides cut (kind ≡ codes "cut")
     → Decides junk (kind ≡ codes "junk") → Decides flood (kind ≡ codes "flood")
     → cond stop (option_map Stop (genmove_of numbers))
-    (cond cut (cut_where (genmove_of (before_colon numbers)) (option_and_then kept_of (behind_first (from_colon numbers))))
+    (cond cut (cut_where (genmove_of (before_colon numbers))
+    (option_and_then kept_of (behind_first (from_colon numbers))))
     (cond junk (option_map Junk (genmove_of numbers))
     (cond flood (option_map Flood (genmove_of numbers)) None)))
     ≡ Some fault → SpellsFault fault text
 kind_spelled kind numbers text shape fault true cut junk flood is_stop is_cut is_junk is_flood e =
-    let read = numbered (codes "stop:") Stop numbers text (genmove_of numbers) refl (shape ∙ ap (λ (k : List ℕ). k ++ 58 ∷ numbers) (is_stop.0 refl)) fault e in
+    let read = numbered (codes "stop:") Stop numbers text (genmove_of numbers) refl (shape
+    ∙ ap (λ (k : List ℕ). k ++ 58 ∷ numbers) (is_stop.0 refl)) fault e in
     subst (λ (f : Fault). SpellsFault f text) read.1 read.2
 kind_spelled kind numbers text shape fault false true junk flood is_stop is_cut is_junk is_flood e =
-    cut_spelled numbers text (shape ∙ ap (λ (k : List ℕ). k ++ 58 ∷ numbers) (is_cut.0 refl)) _ refl _ refl _ refl fault e
+    cut_spelled numbers text (shape ∙ ap (λ (k : List ℕ). k ++ 58 ∷ numbers) (is_cut.0 refl)) _ refl _ refl _ refl
+    fault e
 kind_spelled kind numbers text shape fault false false true flood is_stop is_cut is_junk is_flood e =
-    let read = numbered (codes "junk:") Junk numbers text (genmove_of numbers) refl (shape ∙ ap (λ (k : List ℕ). k ++ 58 ∷ numbers) (is_junk.0 refl)) fault e in
+    let read = numbered (codes "junk:") Junk numbers text (genmove_of numbers) refl (shape
+    ∙ ap (λ (k : List ℕ). k ++ 58 ∷ numbers) (is_junk.0 refl)) fault e in
     subst (λ (f : Fault). SpellsFault f text) read.1 read.2
 kind_spelled kind numbers text shape fault false false false true is_stop is_cut is_junk is_flood e =
-    let read = numbered (codes "flood:") Flood numbers text (genmove_of numbers) refl (shape ∙ ap (λ (k : List ℕ). k ++ 58 ∷ numbers) (is_flood.0 refl)) fault e in
+    let read = numbered (codes "flood:") Flood numbers text (genmove_of numbers) refl (shape
+    ∙ ap (λ (k : List ℕ). k ++ 58 ∷ numbers) (is_flood.0 refl)) fault e in
     subst (λ (f : Fault). SpellsFault f text) read.1 read.2
 kind_spelled kind numbers text shape fault false false false false is_stop is_cut is_junk is_flood e = absurd (cc)
 
@@ -159,15 +174,16 @@ none_spelled text whole true is_none fault e =
 none_spelled text whole false is_none fault e = absurd (cc)
 
 parts_spelled : (text : List ℕ) (behind : Option (List ℕ)) → behind_first (from_colon text) ≡ behind → (fault : Fault)
-    → fault_of_parts (before_colon text) behind ≡ Some fault → SpellsFault fault text
-parts_spelled text None is fault e = none_spelled text is _ (bytes_eq-Decides (before_colon text) (codes "none")) fault e
+    → fault_spelled_by (before_colon text) behind ≡ Some fault → SpellsFault fault text
+parts_spelled text None is fault e = none_spelled text is _ (bytes_eq-Decides (before_colon text) (codes "none"))
+    fault e
 parts_spelled text (Some numbers) is fault e =
     let kind = before_colon text in
     kind_spelled kind numbers text (rejoined text numbers is) fault _ _ _ _
     (bytes_eq-Decides kind (codes "stop")) (bytes_eq-Decides kind (codes "cut"))
     (bytes_eq-Decides kind (codes "junk")) (bytes_eq-Decides kind (codes "flood")) e
 
-pub spells_fault_of : (fault : Fault) (text : List ℕ) → fault_of text ≡ Some fault → SpellsFault fault text
+pub spells_fault_of : (fault : Fault) (text : List ℕ) → fault_spelled text ≡ Some fault → SpellsFault fault text
 spells_fault_of fault text e = parts_spelled text (behind_first (from_colon text)) refl fault e
 
 pub fault_of_tells : FaultOfTells

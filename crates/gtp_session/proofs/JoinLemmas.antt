@@ -26,7 +26,7 @@ joined-push {X} c f first xs last =
     map-push [] = refl
     map-push (y ∷ ys) = ap (λ (t : List (List ℕ)). f y ∷ t) (map-push ys)
 
--- the first of the points and so many more are written
+-- the first of the points and `count` more are written
 pub record AreWritten (points more : List ℕ) (count : ℕ) (text : List ℕ) : Type 0 where
   pub first : ℕ
   pub all : points ≡ first ∷ more
@@ -53,7 +53,7 @@ AreWritten-push points more count text new last so_far inside is longer appended
           ∙ ap (λ (t : List ℕ). written_vertices (so_far.first ∷ t)) (sym (take_more more count last inside));
     }
 
--- the names of the first command and of so many more are written
+-- the names of the first command and of `count` more are written
 pub record AreNamed (more : List CommandName) (count : ℕ) (text : List ℕ) : Type 0 where
   pub first : CommandName
   pub all : all_commands ≡ first ∷ more
@@ -75,5 +75,6 @@ AreNamed-push more count text new last so_far inside is longer appended =
           ∙ ap (λ (t : List ℕ). t ++ 10 ∷ spelled last) so_far.written
           ∙ sym (joined-push 10 spelled so_far.first (take count more) last)
           ∙ ap (λ (c : CommandName). join_with_byte 10 (map spelled (so_far.first ∷ (take count more ++ c ∷ [])))) is
-          ∙ ap (λ (t : List CommandName). join_with_byte 10 (map spelled (so_far.first ∷ t))) (sym (take_more more count last inside));
+          ∙ ap (λ (t : List CommandName). join_with_byte 10 (map spelled (so_far.first ∷ t)))
+          (sym (take_more more count last inside));
     }

@@ -19,7 +19,7 @@ use Rattle.gtp_wire.specs.declared.lines.Line.{Line}
 use Rattle.gtp_wire.specs.declared.lines.Line.TheVariants as line
 use Rattle.gtp_session.specs.declared.commands.CommandName.{CommandName}
 use Rattle.gtp_session.specs.declared.commands.CommandName.TheVariants.{ProtocolVersion, Name, Version, KnownCommand, ListCommands, Quit, Boardsize, ClearBoard, Komi, Play, Genmove, FixedHandicap, Undo, FinalScore, Showboard}
-use Rattle.gtp_session.specs.Commands.{Answer, answer, answer_to_named, answer_known, answer_boardsize, answer_komi, answer_play, answer_handicap, answer_undo, answer_genmove, answer_choice, argument, command_of, succeeds, fails, written_vertices}
+use Rattle.gtp_session.specs.Commands.{Answer, answer, answer_to_named, answer_known, answer_boardsize, answer_komi, answer_play, answer_handicap, answer_undo, answer_genmove, answer_choice, argument, named_command, succeeds, fails, written_vertices}
 
 -- where the answer is a failure, its game is this one
 Keeps : Answer → GameRecord → Type 0
@@ -119,4 +119,4 @@ pub failures_keep : (game : GameRecord) (l : Line) (chosen : Choice)
     → (answer game l chosen).ok ≡ false → (answer game l chosen).game ≡ game
 unfolding Keeps
 failures_keep game line.TooLong chosen = failure_keeps game (codes "syntax error")
-failures_keep game (line.Command cl) chosen = named_keeps game (command_of cl.words) cl.words chosen
+failures_keep game (line.Command cl) chosen = named_keeps game (named_command cl.words) cl.words chosen

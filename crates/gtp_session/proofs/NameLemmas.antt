@@ -8,7 +8,7 @@ use Rattle.gtp_session.specs.declared.commands.CommandName.{CommandName}
 use Rattle.gtp_session.specs.declared.commands.CommandName.TheVariants.{ProtocolVersion, Name, Version, KnownCommand, ListCommands, Quit, Boardsize, ClearBoard, Komi, Play, Genmove, FixedHandicap, Undo, FinalScore, Showboard}
 use Rattle.gtp_session.specs.Commands.{spelled, command_named, has_name, asked_by_command}
 
-named_by_name : (c : CommandName) → command_named (spelled c) ≡ Some c
+pub named_by_name : (c : CommandName) → command_named (spelled c) ≡ Some c
 named_by_name ProtocolVersion = refl
 named_by_name Name = refl
 named_by_name Version = refl
@@ -29,11 +29,14 @@ same_name : (c d : CommandName) → spelled c ≡ spelled d → c ≡ d
 same_name c d e = let both : Some c ≡ Some d = sym (named_by_name c) ∙ ap command_named e ∙ named_by_name d in cc
 
 -- a command has the name of one command exactly where it is that one
-pub has_name-Decides : (named : Option CommandName) (d : CommandName) → Decides (has_name (spelled d) named) (named ≡ Some d)
+pub has_name-Decides : (named : Option CommandName) (d : CommandName)
+    → Decides (has_name (spelled d) named) (named ≡ Some d)
 has_name-Decides None d = (λ e. cc, λ e. cc)
 has_name-Decides (Some c) d =
-    let test = bytes_eq-Decides (spelled c) (spelled d) in
-    (λ e. ap (λ (x : CommandName). Some x) (same_name c d (test.0 e)), λ e. let same : c ≡ d = cc in test.1 (ap spelled same))
+    let test = bytes_eq-Decides (spelled c) (spelled d) in (
+      λ e. ap (λ (x : CommandName). Some x) (same_name c d (test.0 e)),
+      λ e. let same : c ≡ d = cc in test.1 (ap spelled same),
+    )
 
 pub is_genmove : (c : CommandName) → has_name (codes "genmove") (Some c) ≡ true → c ≡ Genmove
 is_genmove c e = let same : Some c ≡ Some Genmove = (has_name-Decides (Some c) Genmove).0 e in cc

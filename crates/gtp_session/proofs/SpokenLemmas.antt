@@ -29,7 +29,7 @@ use Rattle.go_base.specs.declared.choices.Choice.{Choice}
 use Rattle.go_base.specs.declared.choices.Choice.TheVariants as choice
 use Rattle.gtp_session.specs.declared.commands.CommandName.{CommandName}
 use Rattle.gtp_session.specs.declared.commands.CommandName.TheVariants.{ProtocolVersion, Name, Version, KnownCommand, ListCommands, Quit, Boardsize, ClearBoard, Komi, Play, Genmove, FixedHandicap, Undo, FinalScore, Showboard}
-use Rattle.gtp_session.specs.Commands.{Answer, answer, answer_to_named, answer_known, answer_boardsize, answer_komi, answer_play, answer_handicap, answer_undo, answer_genmove, answer_choice, argument, asked, asked_by_genmove, asked_by_named, command_of, command_named, succeeds, fails, syntax_error, written_vertices, id_of}
+use Rattle.gtp_session.specs.Commands.{Answer, answer, answer_to_named, answer_known, answer_boardsize, answer_komi, answer_play, answer_handicap, answer_undo, answer_genmove, answer_choice, argument, asked, asked_by_genmove, asked_by_named, named_command, command_named, succeeds, fails, syntax_error, written_vertices, id_of}
 use Rattle.gtp_session.specs.private.Outcome.{Executes}
 use Rattle.gtp_session.specs.Engine.{Engine, State, WrittenReply, Step, Answers, Replies}
 use Rattle.gtp_session.specs.Engine.Answers.{none, over, more}
@@ -49,13 +49,19 @@ pub empty_fits : IsReplyText []
 empty_fits = record { fits = lit≤ tt; shown = refl; single = refl; front = refl; end = refl }
 
 syntax_good : (game : GameRecord) → IsSize game.size → IsGood (syntax_error game)
-syntax_good game is = record { text = record { fits = lit≤ tt; shown = refl; single = refl; front = refl; end = refl }; size = is }
+syntax_good game is = record {
+  text = record { fits = lit≤ tt; shown = refl; single = refl; front = refl; end = refl };
+  size = is;
+}
 
 empty_good : (game : GameRecord) → IsSize game.size → IsGood (succeeds game [])
 empty_good game is = record { text = empty_fits; size = is }
 
 full_good : (game : GameRecord) → IsSize game.size → IsGood (fails game (codes "record full"))
-full_good game is = record { text = record { fits = lit≤ tt; shown = refl; single = refl; front = refl; end = refl }; size = is }
+full_good game is = record {
+  text = record { fits = lit≤ tt; shown = refl; single = refl; front = refl; end = refl };
+  size = is;
+}
 
 either_good : (b : Bool) (s t : Answer) → (b ≡ true → IsGood s) → (b ≡ false → IsGood t) → IsGood (cond b s t)
 either_good true s t gs gt = gs refl
@@ -75,7 +81,8 @@ size_of_test size e = record { least = grind (arith, nat_tests); most = grind (a
 boardsize_good : (game : GameRecord) (size : Option ℕ) → IsSize game.size → IsGood (answer_boardsize game size)
 boardsize_good game None is = syntax_good game is
 boardsize_good game (Some size) is =
-    either_good (nat_le 1 size && nat_le size most_size) (succeeds (record game { size = size; handicap = 0; moves = [] }) [])
+    either_good (nat_le 1 size && nat_le size most_size)
+    (succeeds (record game { size = size; handicap = 0; moves = [] }) [])
     (fails game (codes "unacceptable size"))
     (λ e. empty_good (record game { size = size; handicap = 0; moves = [] }) (size_of_test size e))
     (λ e. record { text = record { fits = lit≤ tt; shown = refl; single = refl; front = refl; end = refl }; size = is })
@@ -90,7 +97,8 @@ legal_good game c v (yes _) is = empty_good (with_move game c v) is
 legal_good game c v (no _) is =
     record { text = record { fits = lit≤ tt; shown = refl; single = refl; front = refl; end = refl }; size = is }
 
-play_good : (game : GameRecord) (c : Option Colour) (v : Option Vertex) → IsSize game.size → IsGood (answer_play game c v)
+play_good : (game : GameRecord) (c : Option Colour) (v : Option Vertex) → IsSize game.size
+    → IsGood (answer_play game c v)
 play_good game None v is = syntax_good game is
 play_good game (Some c) None is = syntax_good game is
 play_good game (Some c) (Some v) is =
@@ -98,7 +106,8 @@ play_good game (Some c) (Some v) is =
     (elim (legal? game c v) [ yes _ ↦ succeeds (with_move game c v) [] | no _ ↦ fails game (codes "illegal move") ])
     (λ e. full_good game is) (λ e. legal_good game c v (legal? game c v) is)
 
-stones_good : (game : GameRecord) (stones : ℕ) (d : Dec (IsTouched game)) (e : Dec (AllowsHandicap game.size stones)) → IsSize game.size
+stones_good : (game : GameRecord) (stones : ℕ) (d : Dec (IsTouched game)) (e : Dec (AllowsHandicap game.size stones))
+    → IsSize game.size
     → IsGood (elim d [
       | yes _ ↦ fails game (codes "board not empty")
       | no _ ↦ elim e [
@@ -125,12 +134,16 @@ undo_good game is =
 -- what a lawful choice is answered by
 pub choice_fits : (game : GameRecord) (c : Colour) (ch : Choice) → game.size ≤ most_size → IsLawful game c ch
     → IsReplyText (answer_choice game c ch).text
-choice_fits game c choice.Resign most lawful = record { fits = lit≤ tt; shown = refl; single = refl; front = refl; end = refl }
+choice_fits game c choice.Resign most lawful =
+    record { fits = lit≤ tt; shown = refl; single = refl; front = refl; end = refl }
 choice_fits game c (choice.Play v) most lawful = vertex_fits game c v most lawful
 
-choice_good : (game : GameRecord) (c : Colour) (ch : Choice) → IsSize game.size → IsLawful game c ch → IsGood (answer_choice game c ch)
-choice_good game c choice.Resign is lawful = record { text = choice_fits game c choice.Resign is.most lawful; size = is }
-choice_good game c (choice.Play v) is lawful = record { text = choice_fits game c (choice.Play v) is.most lawful; size = is }
+choice_good : (game : GameRecord) (c : Colour) (ch : Choice) → IsSize game.size → IsLawful game c ch
+    → IsGood (answer_choice game c ch)
+choice_good game c choice.Resign is lawful =
+    record { text = choice_fits game c choice.Resign is.most lawful; size = is }
+choice_good game c (choice.Play v) is lawful =
+    record { text = choice_fits game c (choice.Play v) is.most lawful; size = is }
 
 room_good : (game : GameRecord) (c : Colour) (ch : Choice) (full : Bool) → IsSize game.size
     → IfSome (cond full None (Some c)) (λ d. IsLawful game d ch) → IsGood (cond full (fails game (codes "record full"))
@@ -144,7 +157,8 @@ genmove_good game None ch is lawful = syntax_good game is
 genmove_good game (Some c) ch is lawful = room_good game c ch (nat_le most_moves (length game.moves)) is lawful
 
 -- what was executed is answered as some lawful choice is
-lawful_choice : {P : Type 0} (may : May P) → AllowsLawful may → (old new : P) (game : GameRecord) (asked_for : Option Colour)
+lawful_choice : {P : Type 0} (may : May P) → AllowsLawful may
+    → (old new : P) (game : GameRecord) (asked_for : Option Colour)
     (given : Choice → Answer) (told : Answer) → Executes may game old asked_for given new told
     → (ch : Choice) × (IfSome asked_for (λ c. IsLawful game c ch) × (told ≡ given ch))
 lawful_choice may allows old new game None given told executes = (choice.Resign, (tt, executes.1 choice.Resign))
@@ -169,7 +183,8 @@ named_good game (Some Quit) words ch is lawful = empty_good game is
 named_good game (Some Boardsize) words ch is lawful = boardsize_good game (argument int_of words 1) is
 named_good game (Some ClearBoard) words ch is lawful = empty_good (record game { handicap = 0; moves = [] }) is
 named_good game (Some Komi) words ch is lawful = komi_good game (argument komi_of words 1) is
-named_good game (Some Play) words ch is lawful = play_good game (argument colour_of words 1) (argument vertex_of words 2) is
+named_good game (Some Play) words ch is lawful = play_good game (argument colour_of words 1)
+    (argument vertex_of words 2) is
 named_good game (Some Genmove) words ch is lawful = genmove_good game (argument colour_of words 1) ch is lawful
 named_good game (Some FixedHandicap) words ch is lawful = handicap_good game (argument int_of words 1) is
 named_good game (Some Undo) words ch is lawful = undo_good game is
@@ -177,12 +192,14 @@ named_good game (Some FinalScore) words ch is lawful = record { text = score_fit
 named_good game (Some Showboard) words ch is lawful = record { text = shown_fits game is; size = is }
 
 -- each line's answer
-pub answer_good : (game : GameRecord) (l : Line) (ch : Choice) → IsSize game.size → IsLawfulAt game l ch → IsGood (answer game l ch)
+pub answer_good : (game : GameRecord) (l : Line) (ch : Choice) → IsSize game.size → IsLawfulAt game l ch
+    → IsGood (answer game l ch)
 answer_good game line.TooLong ch is lawful = syntax_good game is
-answer_good game (line.Command cl) ch is lawful = named_good game (command_of cl.words) cl.words ch is lawful
+answer_good game (line.Command cl) ch is lawful = named_good game (named_command cl.words) cl.words ch is lawful
 
 -- what was executed is answered by a text that fits a reply
-pub executed_fits : {P : Type 0} (may : May P) → AllowsLawful may → (old new : P) (game : GameRecord) (named : Option CommandName)
+pub executed_fits : {P : Type 0} (may : May P) → AllowsLawful may
+    → (old new : P) (game : GameRecord) (named : Option CommandName)
     (words : List (List ℕ)) (told : Answer) → IsSize game.size
     → Executes may game old (asked_by_named game named words) (answer_to_named game named words) new told
     → length told.text ≤ most_text_bytes
@@ -210,9 +227,11 @@ line_id : (ws : List (List ℕ)) → IfSome (line_of_words ws) HasIntId
 unfolding line_of_words
 line_id [] = tt
 line_id (w ∷ ws) =
-    by_length (nat_lt most_line_bytes (length (join_with_byte 32 (w ∷ ws)))) _ (by_first (int_of w) w ws (int_of-few w (int_of w) refl))
+    by_length (nat_lt most_line_bytes (length (join_with_byte 32 (w ∷ ws)))) _
+    (by_first (int_of w) w ws (int_of-few w (int_of w) refl))
 
-consed : {Y : Type 0} (P : Y → Type 0) (o : Option Y) (ys : List Y) → IfSome o P → AllByRecursion P ys → AllByRecursion P (cons_option o ys)
+consed : {Y : Type 0} (P : Y → Type 0) (o : Option Y) (ys : List Y) → IfSome o P → AllByRecursion P ys
+    → AllByRecursion P (cons_option o ys)
 consed P None ys fits all = all
 consed P (Some y) ys fits all = (fits, all)
 
@@ -231,14 +250,17 @@ ids_fit text = filtered HasIntId line_of (but_last (slice_split is_newline (filt
 
 -- ---- replies
 
-pub answer_is_reply : (game : GameRecord) (l : Line) (ch : Choice) → IsSize game.size → HasIntId l → IsLawfulAt game l ch
-    → IsReply (written_reply (answer game l ch).ok (id_of l) (answer game l ch).text) (reply_of_answer (id_of l) (answer game l ch))
+pub answer_is_reply : (game : GameRecord) (l : Line) (ch : Choice) → IsSize game.size → HasIntId l
+    → IsLawfulAt game l ch
+    → IsReply (written_reply (answer game l ch).ok (id_of l) (answer game l ch).text)
+    (reply_of_answer (id_of l) (answer game l ch))
 answer_is_reply game l ch is fits lawful =
     let given = answer game l ch in
     written_is_read given.ok (id_of l) given.text (reply_of_answer (id_of l) given) fits
     (answer_good game l ch is lawful).text refl refl refl
 
-by_asked : {P : Type 0} (may : May P) → AllowsLawful may → (o : Option Colour) (old new : P) (game : GameRecord) (ch : Choice)
+by_asked : {P : Type 0} (may : May P) → AllowsLawful may
+    → (o : Option Colour) (old new : P) (game : GameRecord) (ch : Choice)
     → MatchOption o (new ≡ old) (λ c. may old game c ch new) → IfSome o (λ c. IsLawful game c ch)
 by_asked may lawful None old new game ch allowed = tt
 by_asked may lawful (Some c) old new game ch allowed = lawful old game c ch new allowed
@@ -262,17 +284,22 @@ module _ {P : Type 0} (may : May P) (lawful : AllowsLawful may) where
             (answer_is_reply old.game l step.choice is fits (step_lawful step));
       }
 
-  step_size : {old new : State P} {l : Line} {reply : WrittenReply} → IsSize old.game.size → Step may old l reply new → IsSize new.game.size
+  step_size : {old new : State P} {l : Line} {reply : WrittenReply} → IsSize old.game.size → Step may old l reply new
+      → IsSize new.game.size
   step_size {old} {new} {l} {reply} is step =
-      subst (λ (g : GameRecord). IsSize g.size) (sym step.game) (answer_good old.game l step.choice is (step_lawful step)).size
+      subst (λ (g : GameRecord). IsSize g.size) (sym step.game)
+      (answer_good old.game l step.choice is (step_lawful step)).size
 
-  answers_spoken : {old new : State P} {ls : List Line} {rs : List WrittenReply} → IsSize old.game.size → AllByRecursion HasIntId ls
+  answers_spoken : {old new : State P} {ls : List Line} {rs : List WrittenReply} → IsSize old.game.size
+      → AllByRecursion HasIntId ls
       → Answers may old ls rs new → AllByRecursion (λ reply. IsSpoken reply.text) rs
   answers_spoken is fits none = tt
   answers_spoken is fits (over e) = tt
-  answers_spoken is fits (more e step rest) = (step_spoken is fits.0 step, answers_spoken (step_size is step) fits.1 rest)
+  answers_spoken is fits (more e step rest) =
+      (step_spoken is fits.0 step, answers_spoken (step_size is step) fits.1 rest)
 
   -- each of the replies to a text is one reply
-  pub replies_spoken : (old new : Engine P) (text : List ℕ) (rs : List WrittenReply) → IsSize old.game.size → Replies may old text new rs
+  pub replies_spoken : (old new : Engine P) (text : List ℕ) (rs : List WrittenReply) → IsSize old.game.size
+      → Replies may old text new rs
       → AllByRecursion (λ reply. IsSpoken reply.text) rs
   replies_spoken old new text rs is replies = answers_spoken is (ids_fit (old.rest ++ text)) replies.answered

@@ -119,8 +119,12 @@ record HasLast (t : List ℕ) : Type 0 where
 neat-last : (t : List ℕ) → IsNeat t → HasLast t
 neat-last [] n = elim n [ ]
 neat-last (x ∷ []) (last i) = record { front = []; byte = x; is_ink = i; is = refl }
-neat-last (x ∷ t) (ink i n) = let e = neat-last t n in record { front = x ∷ e.front; byte = e.byte; is_ink = e.is_ink; is = ap (λ u. x ∷ u) e.is }
-neat-last (x ∷ g ∷ t) (gap i s n) = let e = neat-last t n in record { front = x ∷ g ∷ e.front; byte = e.byte; is_ink = e.is_ink; is = ap (λ u. x ∷ g ∷ u) e.is }
+neat-last (x ∷ t) (ink i n) =
+    let e = neat-last t n in
+    record { front = x ∷ e.front; byte = e.byte; is_ink = e.is_ink; is = ap (λ u. x ∷ u) e.is }
+neat-last (x ∷ g ∷ t) (gap i s n) =
+    let e = neat-last t n in
+    record { front = x ∷ g ∷ e.front; byte = e.byte; is_ink = e.is_ink; is = ap (λ u. x ∷ g ∷ u) e.is }
 
 neat-begins : (t : List ℕ) → IsNeat t → begins_blank t ≡ false
 neat-begins [] n = elim n [ ]
@@ -133,23 +137,32 @@ neat-ends t n =
 
 pub IsReplyText-neat : (t : List ℕ) → length t ≤ 2000 → IsNeat t → IsReplyText t
 IsReplyText-neat t few n =
-    record { fits = few; shown = neat-shown t n; single = neat-single t n; front = neat-begins t n; end = neat-ends t n }
+    record {
+      fits = few;
+      shown = neat-shown t n;
+      single = neat-single t n;
+      front = neat-begins t n;
+      end = neat-ends t n;
+    }
 
 -- ---- numbers
 
 digit-ink : (n : ℕ) → IsInk (digit_glyph false (n % 10))
 digit-ink n = record { least = grind (arith, nat_tests); most = grind (arith, nat_tests) }
 
-either_ink : (b : Bool) (s t : List ℕ) → AllByRecursion IsInk s → AllByRecursion IsInk t → AllByRecursion IsInk (cond b s t)
+either_ink : (b : Bool) (s t : List ℕ) → AllByRecursion IsInk s → AllByRecursion IsInk t
+    → AllByRecursion IsInk (cond b s t)
 either_ink true s t hs ht = hs
 either_ink false s t hs ht = ht
 
-digits_onto-ink : (k n : ℕ) (acc : List ℕ) → AllByRecursion IsInk acc → AllByRecursion IsInk (digits_onto k 10 false n acc)
+digits_onto-ink : (k n : ℕ) (acc : List ℕ) → AllByRecursion IsInk acc
+    → AllByRecursion IsInk (digits_onto k 10 false n acc)
 digits_onto-ink zero n acc all = all
 digits_onto-ink (suc k) n acc all =
     let d = digit_glyph false (n % 10) in
     let more : AllByRecursion IsInk (d ∷ acc) = (digit-ink n, all) in
-    either_ink (eqb (n / 10) 0) (d ∷ acc) (digits_onto k 10 false (n / 10) (d ∷ acc)) more (digits_onto-ink k (n / 10) (d ∷ acc) more)
+    either_ink (eqb (n / 10) 0) (d ∷ acc) (digits_onto k 10 false (n / 10) (d ∷ acc)) more
+    (digits_onto-ink k (n / 10) (d ∷ acc) more)
 
 either_some : (b : Bool) (s t : List ℕ) → 0 < length s → 0 < length t → 0 < length (cond b s t)
 either_some true s t hs ht = hs
@@ -160,7 +173,8 @@ digits_onto-some zero n acc some = some
 digits_onto-some (suc k) n acc some =
     let d = digit_glyph false (n % 10) in
     let more : 0 < length (d ∷ acc) = omega arith in
-    either_some (eqb (n / 10) 0) (d ∷ acc) (digits_onto k 10 false (n / 10) (d ∷ acc)) more (digits_onto-some k (n / 10) (d ∷ acc) more)
+    either_some (eqb (n / 10) 0) (d ∷ acc) (digits_onto k 10 false (n / 10) (d ∷ acc)) more
+    (digits_onto-some k (n / 10) (d ∷ acc) more)
 
 neat-ink : (w : List ℕ) → 0 < length w → AllByRecursion IsInk w → IsNeat w
 neat-ink [] some all = absurd (omega arith)
@@ -172,7 +186,8 @@ neat-written_int n =
     let d = digit_glyph false (n % 10) in
     let one : 0 < length (d ∷ []) = lit< tt in
     neat-ink (written_int n)
-    (either_some (eqb (n / 10) 0) (d ∷ []) (digits_onto 63 10 false (n / 10) (d ∷ [])) one (digits_onto-some 63 (n / 10) (d ∷ []) one))
+    (either_some (eqb (n / 10) 0) (d ∷ []) (digits_onto 63 10 false (n / 10) (d ∷ [])) one
+    (digits_onto-some 63 (n / 10) (d ∷ []) one))
     (digits_onto-ink 64 n [] tt)
 
 -- ---- how long texts are
@@ -225,7 +240,8 @@ short-row game row most top =
       length-decimal-le 2 row (omega arith) (omega (arith, top)) (omega (arith, top)),
     )
 
-short-rows : (game : GameRecord) (rows : List ℕ) (letters captures : List ℕ) → game.size ≤ 25 → AllByRecursion (λ row. row ≤ 25) rows
+short-rows : (game : GameRecord) (rows : List ℕ) (letters captures : List ℕ) → game.size ≤ 25
+    → AllByRecursion (λ row. row ≤ 25) rows
     → length (join_with_byte 10 (map (shown_row game) rows ++ letters ∷ captures ∷ []))
     ≤ 53 * length rows + (length letters + 1 + length captures)
 short-rows game [] letters captures most top = omega (arith, length-append letters (10 ∷ captures))
@@ -237,7 +253,8 @@ short-rows game (row ∷ rows) letters captures most top =
       short-rows game rows letters captures most top.1,
     )
 
-short-letters : (first n : ℕ) → length (join_with_byte 32 (map (λ k. letter_of k ∷ []) (range_with_len first n))) ≤ 2 * n
+short-letters : (first n : ℕ)
+    → length (join_with_byte 32 (map (λ k. letter_of k ∷ []) (range_with_len first n))) ≤ 2 * n
 short-letters first zero = omega arith
 short-letters first (suc n) =
     omega (
@@ -262,7 +279,8 @@ range_most first (suc n) most = (omega (arith, most), range_most (first + 1) n (
 all_reversed : (P : ℕ → Type 0) (xs : List ℕ) → AllByRecursion P xs → AllByRecursion P (reverse xs)
 all_reversed P [] all = tt
 all_reversed P (x ∷ xs) all =
-    rw (reverse-append (x ∷ []) xs) (AllByRecursion-append P (reverse xs) (x ∷ []) (all_reversed P xs all.1) (all.0, tt))
+    rw (reverse-append (x ∷ []) xs) (AllByRecursion-append P (reverse xs) (x ∷ []) (all_reversed P xs all.1)
+    (all.0, tt))
 
 -- a board's text of any game
 pub shown_short : (game : GameRecord) → game.size ≤ 25 → length (board_text game) ≤ 2000
@@ -280,7 +298,8 @@ shown_short game most =
 
 -- ---- a board's text
 
-neat-point : (stone : Option Colour) (points text : List ℕ) → IsNeat (points ++ text) → IsNeat ((shown_point stone ++ points) ++ text)
+neat-point : (stone : Option Colour) (points text : List ℕ) → IsNeat (points ++ text)
+    → IsNeat ((shown_point stone ++ points) ++ text)
 neat-point None points text n = gap (record { least = lit≤ tt; most = lit≤ tt }) space n
 neat-point (Some Black) points text n = gap (record { least = lit≤ tt; most = lit≤ tt }) space n
 neat-point (Some White) points text n = gap (record { least = lit≤ tt; most = lit≤ tt }) space n
@@ -289,7 +308,8 @@ neat-points : (stone_of : ℕ → Option Colour) (columns text : List ℕ) → I
     → IsNeat (flat_map (λ k. shown_point (stone_of k)) columns ++ text)
 neat-points stone_of [] text n = n
 neat-points stone_of (k ∷ columns) text n =
-    neat-point (stone_of k) (flat_map (λ j. shown_point (stone_of j)) columns) text (neat-points stone_of columns text n)
+    neat-point (stone_of k) (flat_map (λ j. shown_point (stone_of j)) columns) text
+    (neat-points stone_of columns text n)
 
 neat-row : (game : GameRecord) (row : ℕ) → IsNeat (shown_row game row)
 unfolding shown_points
@@ -305,9 +325,14 @@ neat-rows game (row ∷ rows) below all = (neat-row game row, neat-rows game row
 letter-ink : (column : ℕ) → column ≤ 25 → IsInk (letter_of column)
 letter-ink column most = record { least = grind (arith, nat_tests); most = grind (arith, nat_tests) }
 
-neat-each_letter : (first n : ℕ) → first + n ≤ 26 → AllByRecursion IsNeat (map (λ k. letter_of k ∷ []) (range_with_len first n))
+neat-each_letter : (first n : ℕ) → first + n ≤ 26
+    → AllByRecursion IsNeat (map (λ k. letter_of k ∷ []) (range_with_len first n))
 neat-each_letter first zero most = tt
-neat-each_letter first (suc n) most = (last (letter-ink first (omega arith)), neat-each_letter (first + 1) n (omega arith))
+neat-each_letter first (suc n) most = (
+  last (letter-ink first (omega arith)),
+  neat-each_letter (first + 1) n
+      (omega arith),
+)
 
 neat-letters : (size : ℕ) → 1 ≤ size → size ≤ 25 → IsNeat (shown_letters size)
 unfolding shown_letters
@@ -331,7 +356,8 @@ neat-captures : (game : GameRecord) → IsNeat (shown_captures game)
 neat-captures game =
     let white = neat-written_int (taken game White) in
     let black = neat-written_int (taken game Black) in
-    let letter : (b : ℕ) → 33 ≤ b → b ≤ 126 → IsNeat (b ∷ []) = λ b least most. last (record { least = least; most = most }) in
+    let letter : (b : ℕ) → 33 ≤ b → b ≤ 126 → IsNeat (b ∷ []) =
+    λ b least most. last (record { least = least; most = most }) in
     neat-apart (codes "captures") 32 _ neat_captures_word space
     (neat-apart (codes "B") 32 _ (letter 66 (lit≤ tt) (lit≤ tt)) space
     (neat-apart (written_int (taken game Black)) 32 _ black space
@@ -360,10 +386,15 @@ neat-vertex : (size p : ℕ) → size ≤ 25 → IsOn size p → IsNeat (written
 neat-vertex size p most on = ink (letter-ink (column_of p) (omega (arith, on.right))) (neat-written_int (row_of p))
 
 short-vertex : (size p : ℕ) → size ≤ 25 → IsOn size p → length (written_vertex (At p)) ≤ 3
-short-vertex size p most on = omega (arith, length-decimal-le 2 (row_of p) (omega arith) (omega (arith, on.top)) (omega (arith, on.top)))
+short-vertex size p most on = omega (
+  arith,
+  length-decimal-le 2 (row_of p) (omega arith) (omega (arith, on.top))
+      (omega (arith, on.top)),
+)
 
 -- a vertex that is legal may be the text of a reply
-pub vertex_fits : (game : GameRecord) (c : Colour) (v : Vertex) → game.size ≤ 25 → IsLegal game c v → IsReplyText (written_vertex v)
+pub vertex_fits : (game : GameRecord) (c : Colour) (v : Vertex) → game.size ≤ 25 → IsLegal game c v
+    → IsReplyText (written_vertex v)
 vertex_fits game c Pass most legal = record { fits = lit≤ tt; shown = refl; single = refl; front = refl; end = refl }
 vertex_fits game c (At p) most legal =
     IsReplyText-neat (written_vertex (At p)) (omega (arith, short-vertex game.size p most legal.on_board))
@@ -410,8 +441,10 @@ either_few false s t hs ht = ht
 pub few_handicap_points : (size stones : ℕ) → length (handicap_points size stones) ≤ 9
 unfolding handicap_points
 few_handicap_points size stones =
-    either_few (eqb stones 2) _ _ (lit≤ tt) (either_few (eqb stones 3) _ _ (lit≤ tt) (either_few (eqb stones 4) _ _ (lit≤ tt)
-    (either_few (eqb stones 5) _ _ (lit≤ tt) (either_few (eqb stones 6) _ _ (lit≤ tt) (either_few (eqb stones 7) _ _ (lit≤ tt)
+    either_few (eqb stones 2) _ _ (lit≤ tt) (either_few (eqb stones 3) _ _ (lit≤ tt)
+    (either_few (eqb stones 4) _ _ (lit≤ tt)
+    (either_few (eqb stones 5) _ _ (lit≤ tt) (either_few (eqb stones 6) _ _ (lit≤ tt)
+    (either_few (eqb stones 7) _ _ (lit≤ tt)
     (either_few (eqb stones 8) _ _ (lit≤ tt) (either_few (eqb stones 9) _ _ (lit≤ tt) (lit≤ tt))))))))
 
 -- the vertices of handicap stones may be the text of a reply
@@ -446,15 +479,18 @@ short-written_points n =
 black_score_fits : (n : ℕ) → IsReplyText (codes "B+" ++ written_points n)
 black_score_fits n =
     IsReplyText-neat (codes "B+" ++ written_points n) (omega (arith, short-written_points n))
-    (ink (record { least = lit≤ tt; most = lit≤ tt }) (ink (record { least = lit≤ tt; most = lit≤ tt }) (neat-written_points n)))
+    (ink (record { least = lit≤ tt; most = lit≤ tt })
+    (ink (record { least = lit≤ tt; most = lit≤ tt }) (neat-written_points n)))
 
 white_score_fits : (n : ℕ) → IsReplyText (codes "W+" ++ written_points n)
 white_score_fits n =
     IsReplyText-neat (codes "W+" ++ written_points n) (omega (arith, short-written_points n))
-    (ink (record { least = lit≤ tt; most = lit≤ tt }) (ink (record { least = lit≤ tt; most = lit≤ tt }) (neat-written_points n)))
+    (ink (record { least = lit≤ tt; most = lit≤ tt })
+    (ink (record { least = lit≤ tt; most = lit≤ tt }) (neat-written_points n)))
 
 -- a score may be the text of a reply
 pub score_fits : (half_points : ℤ) → IsReplyText (score_text half_points)
-score_fits (pos zero) = IsReplyText-neat (written_points 0) (omega (arith, short-written_points 0)) (neat-written_points 0)
+score_fits (pos zero) = IsReplyText-neat (written_points 0) (omega (arith, short-written_points 0))
+    (neat-written_points 0)
 score_fits (pos (suc n)) = black_score_fits (suc n)
 score_fits (negsuc n) = white_score_fits (n + 1)

@@ -13,8 +13,6 @@ use Rattle.go_base.specs.Handicap.{handicap_points}
 use Rattle.go_base.specs.declared.colours.Colour.{Colour}
 use Rattle.go_base.specs.declared.vertices.Vertex.{Vertex}
 use Rattle.go_base.specs.declared.vertices.Vertex.TheVariants.{At}
-use Rattle.go_board.specs.declared.faults.PlayFault.{PlayFault}
-use Rattle.go_board.specs.declared.faults.PlayFault.TheVariants.{Full, OffBoard, Occupied, Suicide, Ko}
 use Rattle.go_board.specs.Game.{GameRecord, most_moves, with_move, without_last}
 use Rattle.go_board.specs.decisions.Game.{legal?, touched?}
 use Rattle.go_base.specs.Decide.{allows?}
@@ -102,14 +100,6 @@ abbrev pub answer_komi : GameRecord → Option ℤ → Answer
 answer_komi game None = syntax_error game
 answer_komi game (Some komi) = succeeds (record game { komi = komi }) []
 
--- what is answered to a move that the game refuses
-abbrev pub refusal_text : PlayFault → List ℕ
-refusal_text Full = codes "record full"
-refusal_text OffBoard = codes "illegal move"
-refusal_text Occupied = codes "illegal move"
-refusal_text Suicide = codes "illegal move"
-refusal_text Ko = codes "illegal move"
-
 -- a move of a colour: the record has room, and the move is legal
 abbrev pub answer_move : GameRecord → Colour → Vertex → Answer
 answer_move game colour vertex =
@@ -187,12 +177,12 @@ answer_to_named game (Some command) words choice = answer_to game command words 
 answer_to_named game None words choice = fails game (codes "unknown command")
 
 -- the command that the words of a line name, where they name one
-abbrev pub command_of : List (List ℕ) → Option CommandName
-command_of words = argument command_named words 0
+abbrev pub named_command : List (List ℕ) → Option CommandName
+named_command words = argument command_named words 0
 
 -- the words of a line after its id; a line with an id alone is an unknown command (own)
 abbrev pub answer_to_words : GameRecord → List (List ℕ) → Choice → Answer
-answer_to_words game words choice = answer_to_named game (command_of words) words choice
+answer_to_words game words choice = answer_to_named game (named_command words) words choice
 
 -- a line; one that is too long is a syntax error (own)
 abbrev pub answer : GameRecord → Line → Choice → Answer
@@ -212,12 +202,12 @@ has_name name (Some command) = bytes_eq (spelled command) name
 -- whether the session ends with the line: it is a `quit`
 abbrev pub ends : Line → Bool
 ends line.TooLong = false
-ends (line.Command command_line) = has_name (codes "quit") (command_of command_line.words)
+ends (line.Command command_line) = has_name (codes "quit") (named_command command_line.words)
 
 -- whether the line is a `genmove`
 abbrev pub is_genmove_line : Line → Bool
 is_genmove_line line.TooLong = false
-is_genmove_line (line.Command command_line) = has_name (codes "genmove") (command_of command_line.words)
+is_genmove_line (line.Command command_line) = has_name (codes "genmove") (named_command command_line.words)
 
 -- the colour for which a command asks the policy, where it does: it is `genmove`
 abbrev pub asked_by_command : GameRecord → CommandName → List (List ℕ) → Option Colour
@@ -229,7 +219,7 @@ asked_by_named game (Some command) words = asked_by_command game command words
 asked_by_named game None words = None
 
 abbrev pub asked_by_words : GameRecord → List (List ℕ) → Option Colour
-asked_by_words game words = asked_by_named game (command_of words) words
+asked_by_words game words = asked_by_named game (named_command words) words
 
 -- The colour for which the line asks the policy: it is a `genmove` with a colour, and the record isn't full. No other
 -- line asks it.

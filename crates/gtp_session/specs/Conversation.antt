@@ -1,6 +1,6 @@
 -- What an engine, a reader and a writer did together.
-use Rattle.std.specs.Prelude.{◌≡◌, ℕ, ◌<◌, ◌≤◌, List, [], ◌∷◌, ◌++◌, length, take, Option, Some, None, Result, Ok, Err}
-use Rattle.std.specs.Io.KnownBytes.{Consumes, Appends, Keeps, IsAtEnd}
+use Rattle.std.specs.Prelude.{◌≡◌, ℕ, ◌<◌, ◌≤◌, false, List, [], ◌∷◌, ◌++◌, length, Option, Some}
+use Rattle.std.specs.Io.KnownBytes.{Consumes, Appends}
 use Rattle.go_base.specs.Bytes.{newline}
 use Rattle.gtp_session.specs.Policy.{May}
 use Rattle.gtp_session.specs.Engine.{Engine, WrittenReply, Replies, output_of}
@@ -37,12 +37,30 @@ pub record Conversation {P : Type 0} (may : May P) (old new : Engine P)
   pub given : Consumes gives gives_now input
   pub delivered : Delivered may old input new held holds
 
--- what the reader gave was read and answered up to a fault of the writer
+-- The last read gave the LF of a line: as many bytes as it gave reach back over those that stand behind the LF, which
+-- are not read as lines any more. So nothing was read after the line was executed.
+abbrev pub GaveLine : Option ℕ → List ℕ → Type 0
+GaveLine last unread = (count : ℕ) × (last ≡ Some count) × (length unread < count)
+
+-- What the reader gave was read and answered up to a fault of the writer. Nothing was read after that.
 pub record BrokenConversation {P : Type 0} (may : May P) (old new : Engine P)
-    (gives gives_now held holds : Option (List ℕ)) : Type 0 where
+    (gives gives_now : Option (List ℕ)) (last : Option ℕ) (held holds : Option (List ℕ)) : Type 0 where
   pub input : List ℕ
   pub given : Consumes gives gives_now input
   pub breaks : Breaks may old input new held holds
+  pub in_last : GaveLine last breaks.unread
+
+-- When the last read came, what was read before had not ended the session. (So it came before a `quit`.)
+pub record ReadWhileOpen {P : Type 0} (may : May P) (old : Engine P)
+    (gives gives_now : Option (List ℕ)) (last : Option ℕ) : Type 0 where
+  pub before : List ℕ
+  pub piece : List ℕ
+  pub given : Consumes gives gives_now (before ++ piece)
+  pub last_is : last ≡ Some (length piece)
+  pub between : Engine P
+  pub replies : List WrittenReply
+  pub engine : Replies may old before between replies
+  pub is_open : between.ended ≡ false
 
 -- the writer took the beginning of a text
 pub record TakesPart (text : List ℕ) (held holds : Option (List ℕ)) : Type 0 where
@@ -51,21 +69,8 @@ pub record TakesPart (text : List ℕ) (held holds : Option (List ℕ)) : Type 0
   pub cut : text ≡ part ++ left
   pub taken : Appends held holds part
 
--- the reader gave at least so many bytes
+-- the reader gave at least as many bytes
 pub record GivesAtLeast (gives gives_now : Option (List ℕ)) (least : ℕ) : Type 0 where
   pub input : List ℕ
   pub given : Consumes gives gives_now input
   pub enough : least ≤ length input
-
--- the reader gave these bytes, at least one, which stand at the front of the buffer
-pub record GivesBytes (gives gives_now : Option (List ℕ)) (count : ℕ) (buffer : List ℕ) : Type 0 where
-  pub some : 0 < count
-  pub within : count ≤ length buffer
-  pub given : Consumes gives gives_now (take count buffer)
-
-module _ {E : Type 0} where
-  -- What one read gave: bytes; or none, at the end of the input; or it failed, and gave nothing.
-  abbrev pub GivesPiece : Option (List ℕ) → Option (List ℕ) → Result (Option ℕ) E → List ℕ → Type 0
-  GivesPiece gives gives_now (Ok (Some count)) buffer = GivesBytes gives gives_now count buffer
-  GivesPiece gives gives_now (Ok None) buffer = Consumes gives gives_now [] × IsAtEnd gives_now
-  GivesPiece gives gives_now (Err _) buffer = Keeps gives gives_now

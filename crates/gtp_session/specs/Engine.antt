@@ -87,17 +87,15 @@ EngagesJoin {P} may =
     (a b c : Engine P) (text next out more : List ℕ)
     → Engages may a text b out → Engages may b next c more → Engages may a (text ++ next) c (out ++ more)
 
--- An engine with this ko rule that was given nothing: size 19, komi 0, no handicap and no moves.
+-- The game of an engine with this ko rule that was given nothing: size 19, komi 0, no handicap and no moves.
 abbrev pub fresh_game_under : KoRule → GameRecord
 fresh_game_under rule = record { size = 19; komi = pos 0; rule = rule; handicap = 0; moves = [] }
 
+-- the engine
 abbrev pub fresh_under : {P : Type 0} → KoRule → P → Engine P
 fresh_under rule policy = record { rest = []; game = fresh_game_under rule; policy = policy; ended = false }
 
 -- the same with simple ko
-abbrev pub fresh_game : GameRecord
-fresh_game = fresh_game_under Simple
-
 abbrev pub fresh : {P : Type 0} → P → Engine P
 fresh policy = fresh_under Simple policy
 

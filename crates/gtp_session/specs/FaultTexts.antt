@@ -83,14 +83,14 @@ fault_of_kind kind numbers =
     else None)))
 
 -- the fault of what stands before the first colon and of what stands behind it, where there is one
-abbrev pub fault_of_parts : List ℕ → Option (List ℕ) → Option Fault
-fault_of_parts kind None = if bytes_eq kind (codes "none") then Some Off else None
-fault_of_parts kind (Some numbers) = fault_of_kind kind numbers
+abbrev pub fault_spelled_by : List ℕ → Option (List ℕ) → Option Fault
+fault_spelled_by kind None = if bytes_eq kind (codes "none") then Some Off else None
+fault_spelled_by kind (Some numbers) = fault_of_kind kind numbers
 
 -- the fault that a text spells, where it spells one
-abbrev pub fault_of : List ℕ → Option Fault
-fault_of text = fault_of_parts (before_colon text) (behind_first (from_colon text))
+abbrev pub fault_spelled : List ℕ → Option Fault
+fault_spelled text = fault_spelled_by (before_colon text) (behind_first (from_colon text))
 
 -- the function tells what the relation says
 abbrev pub FaultOfTells : Type 0
-FaultOfTells = (fault : Fault) (text : List ℕ) → SpellsFault fault text ↔ (fault_of text ≡ Some fault)
+FaultOfTells = (fault : Fault) (text : List ℕ) → SpellsFault fault text ↔ (fault_spelled text ≡ Some fault)

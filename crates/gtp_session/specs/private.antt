@@ -2,3 +2,5 @@
 -- crate say of one another.
 pub mod Lawful
 pub mod Outcome
+pub mod Pieces
+pub mod Sent

@@ -51,7 +51,7 @@ impl Default for Entry {
     }
 }
 
-/// Chooses what its entry says whose number, counted from 0, is that of the record's moves.
+/// Chooses by the entry that has the number of the record's moves, counted from 0.
 ///
 /// Where that entry is missing, empty, or a vertex that isn't legal, it passes.
 #[derive(Drop)]

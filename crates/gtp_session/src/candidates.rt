@@ -12,7 +12,7 @@ use arrayvec::ArrayVec;
 use go_base::{Colour, Point, Size, Vertex};
 use go_board::Game;
 
-/// As many points as the largest board has.
+/// As many points as the largest board has, 25 to a row.
 pub(crate) const MOST_POINTS: usize = 625;
 
 /// Points of a board, at most all of them.

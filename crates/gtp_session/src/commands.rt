@@ -62,7 +62,7 @@ static COMMANDS: [CommandName; COMMAND_COUNT] = [
     CommandName::Showboard,
 ];
 
-/// The most bytes of a command's name.
+/// The most bytes of a command's name, which `protocol_version` has.
 const MOST_NAME_BYTES: usize = 16;
 
 /// The room for the names of all commands, each with a newline.
@@ -76,6 +76,7 @@ pub(crate) fn all_names() -> ArrayVec<u8, NAMES_ROOM>
     let [first, more @ ..] = COMMANDS.as_slice() else {
         unreachable!()
     };
+    // The text has room for all names.
     let _ = text.try_extend_from_slice(first.name());
     for command in more {
         push_row(&mut text, *command);
@@ -90,6 +91,7 @@ fn push_row(text: &mut ArrayVec<u8, NAMES_ROOM>, command: CommandName)
     ensures len { array_vec_len text.new ≤ array_vec_len text.old + MOST_NAME_BYTES + 1 }
 {
     text.push(b'\n');
+    // The text has room for the name: the caller sees to it.
     let _ = text.try_extend_from_slice(command.name());
 }
 

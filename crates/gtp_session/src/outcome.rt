@@ -1,4 +1,4 @@
-//! What a command answers, and how it is written.
+//! What a command comes to, and how it is written as a reply.
 ghost use Rattle.std.specs.Prelude.{◌≡◌, ◌+◌, ◌≤◌, ◌++◌, length, true};
 ghost use Rattle.arrayvec.specs.ArrayVec.{array_vec_len};
 ghost use Rattle.go_base.specs.Vertex.{written_vertex};
@@ -14,7 +14,7 @@ use go_base::{Point, Vertex, handicap, write_score};
 use go_board::Game;
 use gtp_wire::{ReplyText, write_reply_into};
 
-/// What a command answers: the text of its success, or that of its failure.
+/// What a command comes to: the text of its success, or that of its failure.
 pub(crate) type Outcome = Result<Text, &'static [u8]>;
 
 /// The text of a success.
@@ -36,7 +36,7 @@ pub(crate) enum Text {
     Board,
 }
 
-/// The room for nine vertices and the spaces between them.
+/// The room for nine vertices of at most four bytes, as any vertex may have, and the spaces between them.
 const VERTICES_ROOM: usize = 44;
 
 /// Puts the reply of a command that left this game in place of what `reply` holds.
@@ -117,5 +117,6 @@ fn push_vertex(text: &mut ArrayVec<u8, VERTICES_ROOM>, point: Point)
     ensures len { array_vec_len text.new ≤ array_vec_len text.old + 4 }
 {
     let vertex = Vertex::At(point).write();
+    // The text has room for the vertex: the caller sees to it.
     let _ = text.try_extend_from_slice(&vertex);
 }

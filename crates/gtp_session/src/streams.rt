@@ -1,47 +1,56 @@
 //! Readers and writers that count their calls.
-ghost use Rattle.std.specs.Prelude.{◌≡◌, ◌<◌, length, false, IfOk, OnOk, OnErr};
+ghost use Rattle.std.specs.Prelude.{◌≡◌, ◌<◌, ◌⊎◌, length, take, false, Some, None, IfOk, OnOk, OnErr};
 ghost use Rattle.std.specs.Io.{ReadsAtMost, WritesAtMost};
 ghost use Rattle.std.specs.Io.KnownBytes.{ReadConsumes, WriteAppends, Keeps};
 ghost use Rattle.gtp_session.specs.Streams.{Source, Sink, TookWhole, TookPart};
-ghost use Rattle.gtp_session.specs.Counts.{raised, failures_after, waiting_after_write, waiting_after_flush};
+ghost use Rattle.gtp_session.specs.Counts.{raised, failures_after, ends_after, moved, moved_by_flush, waiting_after_write, waiting_after_flush};
 
-use std::io::{Read, Write};
+use crate::once::{ReadOnce, WriteOnce};
 use std::marker::Model;
 use thiserror::Error;
-
-#[cfg(test)]
-mod tests;
 
 /// A read, a write or a flush failed.
 #[derive(Clone, Copy, Debug, PartialEq, Eq, Drop, Error)]
 #[error("broken stream")]
 pub struct Broken;
 
-/// A reader that counts its reads and those that failed. Each count stays at its greatest value, 2^64 - 1.
+/// A reader that counts its reads, those that found the end and those that failed, and tells what the last one gave. Each
+/// count stays at its greatest value, 2^64 - 1.
 pub trait Incoming {
-    // The bytes that reads will give from here on, where they are known, how many reads were made, and how many of them
-    // failed.
+    // The bytes that reads will give from here on, where they are known, how many reads were made, how many of them gave
+    // no byte and how many failed, and how many bytes the last one gave.
     ghost shown: { Self → Source };
 
-    /// Reads into the front of the buffer, and answers how many bytes. `Ok(0)` from a read into a buffer that has room
-    /// is the end of the input. Any failure of the reader is `Broken`.
+    /// Reads into the front of the buffer, and returns how many bytes it read. `Ok(0)` from a read into a buffer that has
+    /// room is the end of the input.
+    ///
+    /// # Errors
+    ///
+    /// `Broken` at any failure of the reader.
     fn read(&mut self, buffer: &mut [u8]) -> Result<usize, Broken>
         ensures bound { ReadsAtMost result buffer.new }
         ensures bytes { ReadConsumes (shown self.old).gives (shown self.new).gives
             result buffer.new }
         ensures reads { (shown self.new).reads ≡ raised (shown self.old).reads 1 }
+        ensures ends { (shown self.new).ends ≡ ends_after (shown self.old).ends result }
         ensures failures { (shown self.new).failures
-            ≡ failures_after (shown self.old).failures result };
+            ≡ failures_after (shown self.old).failures result }
+        ensures last { (shown self.new).last ≡ moved result };
 }
 
-/// A writer that counts the calls that failed, and tells whether what it took waits for a flush.
+/// A writer that counts the calls that failed, and tells whether the last one did and whether what it took waits for a
+/// flush.
 pub trait Outgoing {
-    // The bytes that the writer holds, where they are known, how many writes and flushes failed, and whether a byte
-    // that was taken waits for a flush.
+    // The bytes that the writer holds, where they are known, how many writes and flushes failed, how many bytes the last
+    // call took, and whether a byte that was taken waits for a flush.
     ghost shown: { Self → Sink };
 
-    /// Takes bytes from the front of the text, and answers how many: at least one of a text that is not empty, or it
+    /// Takes bytes from the front of the text, and returns how many: at least one of a text that is not empty, or it
     /// fails. What it took waits for a flush.
+    ///
+    /// # Errors
+    ///
+    /// `Broken` at any failure of the writer, and where it takes no byte of a text that is not empty.
     fn write(&mut self, text: &[u8]) -> Result<usize, Broken>
         ensures bound { WritesAtMost result text.now }
         ensures progress { IfOk result (λ count. 0 < length text.now → 0 < count) }
@@ -49,14 +58,20 @@ pub trait Outgoing {
             result text.now }
         ensures failures { (shown self.new).failures
             ≡ failures_after (shown self.old).failures result }
+        ensures last { (shown self.new).last ≡ moved result }
         ensures waiting { (shown self.new).waiting
             ≡ waiting_after_write (shown self.old).waiting result };
 
     /// Hands on what it took. A flush that fails leaves it waiting.
+    ///
+    /// # Errors
+    ///
+    /// `Broken` at any failure of the writer.
     fn flush(&mut self) -> Result<(), Broken>
         ensures bytes { Keeps (shown self.old).holds (shown self.new).holds }
         ensures failures { (shown self.new).failures
             ≡ failures_after (shown self.old).failures result }
+        ensures last { (shown self.new).last ≡ moved_by_flush result }
         ensures waiting { (shown self.new).waiting
             ≡ waiting_after_flush (shown self.old).waiting result };
 }
@@ -78,14 +93,19 @@ pub fn send<W: Outgoing>(writer: &mut W, text: &[u8]) -> Result<(), Broken>
     writer.flush()
 }
 
-/// Any reader or writer of the standard library, with its counts: its reads, its calls that failed, and whether what it
-/// took waits for a flush. A write that takes no byte of a text that isn't empty counts as failed.
+/// Any reader or writer of the standard library, with its counts: its reads, those that found the end, its calls that
+/// failed, what the last call did, and whether what it took waits for a flush. A write that takes no byte of a text that
+/// isn't empty counts as failed.
 #[derive(Drop)]
 pub struct Counted<T> {
-    inner: T,
-    reads: u64,
-    failures: u64,
-    waiting: bool,
+    pub(crate) inner: T,
+    pub(crate) reads: u64,
+    pub(crate) ends: u64,
+    pub(crate) failures: u64,
+    /// How many bytes the last call gave or took; `None` where it failed. No program looks at it: the contracts do, which
+    /// say by it that no call follows one that failed.
+    pub(crate) last: Option<usize>,
+    pub(crate) waiting: bool,
 }
 
 impl<T> Model for Counted<T> {
@@ -94,66 +114,137 @@ impl<T> Model for Counted<T> {
     ghost Value = { Tally T };
 
     ghost view = { λ c.
-        record { inner = c.inner; reads = c.reads; failures = c.failures; waiting = c.waiting } };
+        record {
+          inner = c.inner;
+          reads = c.reads;
+          ends = c.ends;
+          failures = c.failures;
+          last = c.last;
+          waiting = c.waiting;
+        } };
 }
 
 impl<T> Counted<T> {
     /// Begins to count, from 0, and not waiting.
     pub fn new(inner: T) -> Self
-        ensures { result ≡ record { inner = inner; reads = 0; failures = 0; waiting = false } }
+        ensures { result ≡ record {
+          inner = inner;
+          reads = 0;
+          ends = 0;
+          failures = 0;
+          last = Some 0;
+          waiting = false;
+        } }
     {
         Counted {
             inner,
             reads: 0,
+            ends: 0,
             failures: 0,
+            last: Some(0),
             waiting: false,
         }
     }
-}
 
-impl<T: Read> Incoming for Counted<T> {
-    ghost shown = { λ c.
-        record { gives = T.remaining c.inner; reads = c.reads; failures = c.failures } };
-
-    fn read(&mut self, buffer: &mut [u8]) -> Result<usize, Broken> {
-        self.reads = self.reads.saturating_add(1);
-        match self.inner.read(buffer) {
-            Ok(count) => Ok(count),
-            Err(_) => {
-                self.failures = self.failures.saturating_add(1);
-                Err(Broken)
-            }
-        }
+    /// Counts a call that failed.
+    fn fail(&mut self) -> Broken
+        ensures { self.new
+            ≡ record self.old { failures = raised self.old.failures 1; last = None } }
+    {
+        self.failures = self.failures.saturating_add(1);
+        self.last = None;
+        Broken
     }
 }
 
-impl<T: Write> Outgoing for Counted<T> {
+impl<T: ReadOnce> Incoming for Counted<T> {
     ghost shown = { λ c.
-        record { holds = T.contents c.inner; failures = c.failures; waiting = c.waiting } };
+        record {
+          gives = T.gives c.inner;
+          reads = c.reads;
+          ends = c.ends;
+          failures = c.failures;
+          last = c.last;
+        } };
 
-    fn write(&mut self, text: &[u8]) -> Result<usize, Broken> {
-        match self.inner.write(text) {
-            Ok(count) if count > 0 || text.is_empty() => {
-                self.waiting = self.waiting || count > 0;
+    /// Reads the reader in it once, with the whole buffer, and fails exactly where that fails.
+    fn read(&mut self, buffer: &mut [u8]) -> Result<usize, Broken>
+        ensures bound { ReadsAtMost result buffer.new }
+        ensures bytes { ReadConsumes (T.gives self.old.inner) (T.gives self.new.inner)
+            result buffer.new }
+        ensures reads { self.new.reads ≡ raised self.old.reads 1 }
+        ensures ends { self.new.ends ≡ ends_after self.old.ends result }
+        ensures failures { self.new.failures ≡ failures_after self.old.failures result }
+        ensures last { self.new.last ≡ moved result }
+        ensures gave { IfOk result (λ count. T.gave self.old.inner (length buffer.new)
+            (take count buffer.new) self.new.inner) }
+        ensures broke { OnErr result
+            (T.broke self.old.inner (length buffer.new) self.new.inner) }
+    {
+        self.reads = self.reads.saturating_add(1);
+        match self.inner.read_once(buffer) {
+            Ok(count) => {
+                if count == 0 {
+                    self.ends = self.ends.saturating_add(1);
+                }
+                self.last = Some(count);
                 Ok(count)
             }
-            _ => {
-                self.failures = self.failures.saturating_add(1);
-                Err(Broken)
+            Err(_) => Err(self.fail()),
+        }
+    }
+}
+
+impl<T: WriteOnce> Outgoing for Counted<T> {
+    ghost shown = { λ c.
+        record {
+          holds = T.holds c.inner;
+          failures = c.failures;
+          last = c.last;
+          waiting = c.waiting;
+        } };
+
+    /// Writes to the writer in it once, with the whole text, and fails exactly where that fails or takes no byte of a
+    /// text that is not empty.
+    fn write(&mut self, text: &[u8]) -> Result<usize, Broken>
+        ensures bound { WritesAtMost result text.now }
+        ensures progress { IfOk result (λ count. 0 < length text.now → 0 < count) }
+        ensures bytes { WriteAppends (T.holds self.old.inner) (T.holds self.new.inner)
+            result text.now }
+        ensures failures { self.new.failures ≡ failures_after self.old.failures result }
+        ensures last { self.new.last ≡ moved result }
+        ensures waiting { self.new.waiting ≡ waiting_after_write self.old.waiting result }
+        ensures took { IfOk result (λ count.
+            T.took self.old.inner text.now count self.new.inner) }
+        ensures broke { OnErr result (T.broke self.old.inner text.now self.new.inner
+            ⊎ ((0 < length text.now) × T.took self.old.inner text.now 0 self.new.inner)) }
+    {
+        match self.inner.write_once(text) {
+            Ok(count) if count > 0 || text.is_empty() => {
+                self.waiting = self.waiting || count > 0;
+                self.last = Some(count);
+                Ok(count)
             }
+            _ => Err(self.fail()),
         }
     }
 
-    fn flush(&mut self) -> Result<(), Broken> {
-        match self.inner.flush() {
+    /// Flushes the writer in it once, and fails exactly where that fails.
+    fn flush(&mut self) -> Result<(), Broken>
+        ensures bytes { Keeps (T.holds self.old.inner) (T.holds self.new.inner) }
+        ensures failures { self.new.failures ≡ failures_after self.old.failures result }
+        ensures last { self.new.last ≡ moved_by_flush result }
+        ensures waiting { self.new.waiting ≡ waiting_after_flush self.old.waiting result }
+        ensures flushed { OnOk result (T.flushed self.old.inner self.new.inner) }
+        ensures unflushed { OnErr result (T.unflushed self.old.inner self.new.inner) }
+    {
+        match self.inner.flush_once() {
             Ok(()) => {
                 self.waiting = false;
+                self.last = Some(0);
                 Ok(())
             }
-            Err(_) => {
-                self.failures = self.failures.saturating_add(1);
-                Err(Broken)
-            }
+            Err(_) => Err(self.fail()),
         }
     }
 }

@@ -1,21 +1,25 @@
-//! Conversations over memory.
+//! Conversations over memory, and what they compare by.
 use crate::equal::assert_equal;
 use crate::first::First;
-use crate::memory::{Limited, Pieces, Strict, Telling, Waiting};
 use crate::policy::Policy;
-use crate::serve::{ServeFault, Served, serve, serve_within};
+use crate::serve::{Served, serve};
 use crate::session::Session;
 use crate::streams::Counted;
 use arrayvec::ArrayVec;
-use go_base::{Colour, Point};
-use std::alloc::Global;
-use std::cell::Cell;
+use memory::{Limited, Pieces};
 use std::process::Abort;
-use std::rc::Rc;
-use std::test::Fail;
+
+mod breaks;
+mod commands;
+mod conversations;
+mod counts;
+mod faults;
+mod memory;
+mod policies;
+mod replies;
 
 /// A reader of this text in pieces of these sizes, which fails the read of one number.
-fn reader_of<'a>(
+pub fn reader_of<'a>(
     text: &'a [u8],
     sizes: &'a [usize],
     failing: Option<usize>,
@@ -28,8 +32,8 @@ fn reader_of<'a>(
     })
 }
 
-/// A writer that takes this many bytes, so many in a write, and then fails.
-fn writer_of<'a>(
+/// A writer that takes `room` bytes, at most `step` of them in a write, and then fails.
+pub fn writer_of<'a>(
     taken: &'a mut ArrayVec<u8, 4096>,
     room: usize,
     step: usize,
@@ -75,282 +79,4 @@ pub fn assert_serves_in_any_cuts(rt: &impl Abort, input: &[u8], output: &[u8], s
     for first in 1..input.len() {
         assert_serves(rt, input, &[first], output, served);
     }
-}
-
-#[test]
-fn the_first_conversation(rt: HostRuntime) {
-    assert_serves_in_any_cuts(
-        &rt,
-        b"1 protocol_version\n2 quit\n",
-        b"=1 2\n\n=2\n\n",
-        Served::Quit,
-    );
-}
-
-#[test]
-fn comments_and_control_characters_are_no_part_of_a_line(rt: HostRuntime) {
-    assert_serves_in_any_cuts(
-        &rt,
-        b"# a comment\n\t\n3\tna\x01me # x\r\n",
-        b"=3 stepgo\n\n",
-        Served::EndOfInput,
-    );
-}
-
-#[test]
-fn an_id_is_an_int_and_is_repeated_without_leading_zeros(rt: HostRuntime) {
-    assert_serves(
-        &rt,
-        b"99999999999 name\n",
-        &[],
-        b"? unknown command\n\n",
-        Served::EndOfInput,
-    );
-    assert_serves(
-        &rt,
-        b"5\n",
-        &[],
-        b"?5 unknown command\n\n",
-        Served::EndOfInput,
-    );
-    assert_serves(
-        &rt,
-        b"2147483647 name\n",
-        &[],
-        b"=2147483647 stepgo\n\n",
-        Served::EndOfInput,
-    );
-    assert_serves(
-        &rt,
-        b"2147483648 name\n",
-        &[],
-        b"? unknown command\n\n",
-        Served::EndOfInput,
-    );
-    assert_serves(
-        &rt,
-        b"007 version\n",
-        &[],
-        b"=7 1.0\n\n",
-        Served::EndOfInput,
-    );
-}
-
-#[test]
-fn the_words_of_a_line_have_at_most_1000_bytes(rt: HostRuntime) -> Result<(), Fail> {
-    let cases: [(&[u8], usize, &[u8]); 3] = [
-        (b"known_command ", 986, b"= false\n\n"),
-        (b"known_command ", 987, b"? syntax error\n\n"),
-        (b"7 known_command ", 985, b"? syntax error\n\n"),
-    ];
-    for (front, letters, output) in cases {
-        let mut input = Vec::new(rt.alloc());
-        input.extend_from_slice(front)?;
-        input.resize(front.len() + letters, b'x')?;
-        input.push(b'\n')?;
-        assert_serves(&rt, &input, &[], output, Served::EndOfInput);
-    }
-    let mut input = Vec::new(rt.alloc());
-    input.resize(5000, b' ')?;
-    input.extend_from_slice(b"name")?;
-    input.resize(10_004, b' ')?;
-    input.push(b'\n')?;
-    assert_serves(&rt, &input, &[], b"= stepgo\n\n", Served::EndOfInput);
-    Ok(())
-}
-
-#[test]
-fn an_unfinished_last_line_is_not_executed(rt: HostRuntime) {
-    assert_serves_in_any_cuts(&rt, b"name", b"", Served::EndOfInput);
-    assert_serves_in_any_cuts(&rt, b"name\nquit", b"= stepgo\n\n", Served::EndOfInput);
-}
-
-#[test]
-fn nothing_is_executed_after_quit(rt: HostRuntime) {
-    assert_serves_in_any_cuts(&rt, b"quit\nname\n", b"=\n\n", Served::Quit);
-}
-
-#[test]
-fn replies_go_out_in_as_many_writes_as_the_writer_wants(rt: HostRuntime) {
-    for step in [1, 2, 3, 100] {
-        let mut taken = ArrayVec::new();
-        let mut session = Session::new(First);
-        let mut reader = reader_of(b"1 name\n2 version\n", &[], None);
-        let mut writer = writer_of(&mut taken, 4096, step);
-        let answer = serve(&mut reader, &mut writer, &mut session);
-        assert_equal(&rt, answer, Ok(Served::EndOfInput));
-        assert_equal(&rt, taken.as_slice(), b"=1 stepgo\n\n=2 1.0\n\n".as_slice());
-    }
-}
-
-#[test]
-fn nothing_is_executed_after_a_writer_that_breaks(rt: HostRuntime) {
-    let mut taken = ArrayVec::new();
-    let mut session = Session::new(First);
-    let mut reader = reader_of(b"1 name\n2 quit\n", &[], None);
-    let mut writer = writer_of(&mut taken, 3, 100);
-    let answer = serve(&mut reader, &mut writer, &mut session);
-    assert_equal(&rt, answer, Err(ServeFault::Write));
-    assert_equal(&rt, taken.as_slice(), b"=1 ".as_slice());
-    assert!(rt; !session.ended());
-}
-
-#[test]
-fn no_read_is_allowed(rt: HostRuntime) {
-    let mut taken = ArrayVec::new();
-    let mut session = Session::new(First);
-    let mut reader = reader_of(b"name\n", &[], None);
-    let mut writer = writer_of(&mut taken, 4096, 100);
-    let answer = serve_within(&mut reader, &mut writer, &mut session, 0);
-    assert_equal(&rt, answer, Err(ServeFault::TooManyReads));
-    assert_equal(&rt, taken.len(), 0);
-}
-
-#[test]
-fn reads_are_counted(rt: HostRuntime) {
-    let mut taken = ArrayVec::new();
-    let mut session = Session::new(First);
-    let mut reader = reader_of(b"1 name\n2 version\nquit\n", &[7, 10], None);
-    let mut writer = writer_of(&mut taken, 4096, 100);
-    let answer = serve_within(&mut reader, &mut writer, &mut session, 2);
-    assert_equal(&rt, answer, Err(ServeFault::TooManyReads));
-    let answer = serve_within(&mut reader, &mut writer, &mut session, 1);
-    assert_equal(&rt, answer, Ok(Served::Quit));
-    let answer = serve_within(&mut reader, &mut writer, &mut session, 0);
-    assert_equal(&rt, answer, Ok(Served::Quit));
-    assert_equal(
-        &rt,
-        taken.as_slice(),
-        b"=1 stepgo\n\n=2 1.0\n\n=\n\n".as_slice(),
-    );
-}
-
-#[test]
-fn a_read_that_fails_ends_the_conversation(rt: HostRuntime) {
-    let mut taken = ArrayVec::new();
-    let mut session = Session::new(First);
-    let mut reader = reader_of(b"name\nquit\n", &[], Some(0));
-    let mut writer = writer_of(&mut taken, 4096, 100);
-    let answer = serve(&mut reader, &mut writer, &mut session);
-    assert_equal(&rt, answer, Err(ServeFault::Read));
-    assert_equal(&rt, taken.len(), 0);
-}
-
-#[test]
-fn nothing_is_read_after_quit(rt: HostRuntime) {
-    let mut taken = ArrayVec::new();
-    let mut session = Session::new(First);
-    let mut reader = reader_of(b"name\nquit\nname\n", &[10], Some(1));
-    let mut writer = writer_of(&mut taken, 4096, 100);
-    let answer = serve(&mut reader, &mut writer, &mut session);
-    assert_equal(&rt, answer, Ok(Served::Quit));
-    assert_equal(&rt, taken.as_slice(), b"= stepgo\n\n=\n\n".as_slice());
-}
-
-#[test]
-fn a_conversation_goes_on_after_a_read_that_failed(rt: HostRuntime) {
-    let mut taken = ArrayVec::new();
-    let mut session = Session::new(First);
-    let mut reader = reader_of(b"name\nquit\n", &[7], Some(1));
-    let mut writer = writer_of(&mut taken, 4096, 100);
-    let answer = serve(&mut reader, &mut writer, &mut session);
-    assert_equal(&rt, answer, Err(ServeFault::Read));
-    let answer = serve(&mut reader, &mut writer, &mut session);
-    assert_equal(&rt, answer, Ok(Served::Quit));
-    assert_equal(&rt, taken.as_slice(), b"= stepgo\n\n=\n\n".as_slice());
-}
-
-#[test]
-fn each_line_is_answered_and_flushed_before_the_next_is_read(rt: HostRuntime) -> Result<(), Fail> {
-    let flushed = Rc::new(rt.alloc(), Cell::new(0))?;
-    let lines: [&[u8]; 3] = [b"1 name\n", b"2 version\n", b"3 quit\n"];
-    let mut reader = Counted::new(Waiting {
-        lines: &lines,
-        next: 0,
-        flushed: flushed.clone()?,
-    });
-    let mut writer = Counted::new(Telling {
-        replies: 0,
-        last: 0,
-        flushed,
-    });
-    let mut session = Session::new(First);
-    let answer = serve(&mut reader, &mut writer, &mut session);
-    assert_equal(&rt, answer, Ok(Served::Quit));
-    Ok(())
-}
-
-#[test]
-fn comments_and_control_characters_in_a_play(rt: HostRuntime) -> Result<(), Fail> {
-    let input = b"# a game\n\t\n3\tpl\x01ay b D4 # corner\r\n";
-    assert_serves_in_any_cuts(&rt, input, b"=3\n\n", Served::EndOfInput);
-    let mut taken = ArrayVec::new();
-    let mut session = Session::new(First);
-    let mut reader = reader_of(input, &[], None);
-    let mut writer = writer_of(&mut taken, 4096, 100);
-    let answer = serve(&mut reader, &mut writer, &mut session);
-    assert_equal(&rt, answer, Ok(Served::EndOfInput));
-    assert_equal(&rt, session.game().moves().len(), 1);
-    let point = Point::new(4, 4).ok_or("no point")?;
-    assert_equal(&rt, session.game().at(point), Some(Colour::Black));
-    Ok(())
-}
-
-#[test]
-fn an_unfinished_play_is_not_executed(rt: HostRuntime) {
-    assert_serves_in_any_cuts(&rt, b"play b D1", b"", Served::EndOfInput);
-    let mut taken = ArrayVec::new();
-    let mut session = Session::new(First);
-    let mut reader = reader_of(b"play b D1", &[], None);
-    let mut writer = writer_of(&mut taken, 4096, 100);
-    let answer = serve(&mut reader, &mut writer, &mut session);
-    assert_equal(&rt, answer, Ok(Served::EndOfInput));
-    assert_equal(&rt, session.game().moves().len(), 0);
-    assert_equal(&rt, taken.len(), 0);
-}
-
-#[test]
-fn a_play_whose_reply_breaks_was_made_and_the_next_was_not(rt: HostRuntime) -> Result<(), Fail> {
-    let mut taken = ArrayVec::new();
-    let mut session = Session::new(First);
-    let mut reader = reader_of(b"1 play b A1\n2 play b B1\n", &[], None);
-    let mut writer = writer_of(&mut taken, 3, 100);
-    let answer = serve(&mut reader, &mut writer, &mut session);
-    assert_equal(&rt, answer, Err(ServeFault::Write));
-    assert_equal(&rt, taken.as_slice(), b"=1\n".as_slice());
-    assert_equal(&rt, session.game().moves().len(), 1);
-    let point = Point::new(1, 1).ok_or("no point")?;
-    assert_equal(&rt, session.game().at(point), Some(Colour::Black));
-    Ok(())
-}
-
-#[test]
-fn a_reply_is_one_write_and_is_flushed_before_the_next(rt: HostRuntime) -> Result<(), Fail> {
-    let writes = Rc::new(rt.alloc(), Cell::new(0))?;
-    let mut session = Session::new(First);
-    let mut reader = reader_of(b"1 name\n2 version\n3 quit\n", &[], None);
-    let mut writer = Counted::new(Strict {
-        writes: writes.clone()?,
-        whole: false,
-    });
-    let answer = serve(&mut reader, &mut writer, &mut session);
-    assert_equal(&rt, answer, Ok(Served::Quit));
-    assert_equal(&rt, writes.get(), 3);
-    Ok(())
-}
-
-#[test]
-fn one_read_has_room_for_4096_bytes(rt: HostRuntime) -> Result<(), Fail> {
-    let mut input = Vec::new(rt.alloc());
-    input.extend_from_slice(b"name")?;
-    input.resize(4095, b' ')?;
-    input.push(b'\n')?;
-    let mut taken = ArrayVec::new();
-    let mut session = Session::new(First);
-    let mut reader = reader_of(&input, &[], None);
-    let mut writer = writer_of(&mut taken, 4096, 100);
-    let answer = serve_within(&mut reader, &mut writer, &mut session, 1);
-    assert_equal(&rt, answer, Err(ServeFault::TooManyReads));
-    assert_equal(&rt, taken.as_slice(), b"= stepgo\n\n".as_slice());
-    Ok(())
 }

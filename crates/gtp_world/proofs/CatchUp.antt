@@ -16,7 +16,8 @@ use Rattle.gtp_match.specs.declared.verdicts.Action.{Action}
 use Rattle.gtp_match.specs.declared.verdicts.Action.TheVariants.{Start, Send}
 use Rattle.gtp_match.specs.declared.controller.Controller.{Controller}
 use Rattle.gtp_match.specs.Controller.{to_move, engine_in_step, in_step}
-use Rattle.gtp_match.specs.Next.{has_unanswered, must_answer, is_down, has_script_left, next_of_idle, next_of_free, next}
+use Rattle.gtp_match.specs.Next.{has_unanswered, must_answer, is_down, has_script_left, next_of_idle, next_of_free}
+use Rattle.gtp_match.specs.Next.{next}
 use Rattle.gtp_match.specs.declared.verdicts.Verdict.{Verdict}
 use Rattle.gtp_match.specs.Taking.{taking_back, unless_over}
 use Rattle.gtp_match.specs.Sound.{all_retakes}
@@ -50,7 +51,8 @@ none_of None idle = refl
 none_of (Some u) idle = ap (λ (os : List SentCommand). not (none_unanswered os)) idle
 
 -- so the last lines say what comes next
-next_where_idle : (c : Controller) → c.verdict ≡ None → c.pending ≡ None → IsIdle c.sides.black.up → IsIdle c.sides.white.up
+next_where_idle : (c : Controller) → c.verdict ≡ None → c.pending ≡ None → IsIdle c.sides.black.up
+    → IsIdle c.sides.white.up
     → next c ≡ next_of_idle c.game c.sides.black.up c.sides.white.up
 next_where_idle c none free black white =
     next_live c none
@@ -70,13 +72,15 @@ idle_down up down = subst IsIdle (sym down) tt
 idle_up : (up : Option Incarnation) (u : Incarnation) → up ≡ Some u → u.unanswered ≡ [] → IsIdle up
 idle_up up u is idle = subst IsIdle (sym is) idle
 
-starts_black : (c : Controller) → c.verdict ≡ None → c.pending ≡ None → IsIdle c.sides.white.up → c.sides.black.up ≡ None
+starts_black : (c : Controller) → c.verdict ≡ None → c.pending ≡ None → IsIdle c.sides.white.up
+    → c.sides.black.up ≡ None
     → next c ≡ Start Black
 starts_black c none free idle down =
     next_where_idle c none free (idle_down c.sides.black.up down) idle
     ∙ sym (at_black_down (to_move c.game) (idle_tests_of c.game c.sides.black.up c.sides.white.up) (ap is_down down))
 
-starts_white : (c : Controller) (black : Incarnation) → c.verdict ≡ None → c.pending ≡ None → c.sides.black.up ≡ Some black
+starts_white : (c : Controller) (black : Incarnation) → c.verdict ≡ None → c.pending ≡ None
+    → c.sides.black.up ≡ Some black
     → black.unanswered ≡ [] → c.sides.white.up ≡ None → next c ≡ Start White
 starts_white c black none free up idle down =
     next_where_idle c none free (idle_up c.sides.black.up black up idle) (idle_down c.sides.white.up down)

@@ -1,5 +1,6 @@
 -- What a side is sent next may be sent behind the commands that it hasn't answered.
-use Rattle.std.proofs.Common.{◌≡◌, ℕ, suc, ◌+◌, ◌-◌, ◌<◌, ◌≤◌, true, List, [], ◌∷◌, ◌++◌, length, Option, Some, None, refl, ap, sym}
+use Rattle.std.proofs.Common.{◌≡◌, ℕ, suc, ◌+◌, ◌-◌, ◌<◌, ◌≤◌, true, List, [], ◌∷◌, ◌++◌, length, Option, Some, None}
+use Rattle.std.proofs.Common.{refl, ap, sym}
 use Rattle.std.proofs.Common.{◌∙◌, subst, arith, inl, inr}
 use Rattle.std.specs.Prelude.{slice_get, ◌⊎◌, ◌==◌}
 use Rattle.std.proofs.lemmas.Bool.Decides.{nat_tests}
@@ -12,7 +13,8 @@ use Rattle.go_board.specs.declared.rules.KoRule.TheVariants.{Simple}
 use Rattle.gtp_wire.specs.declared.commands.Command.{Command}
 use Rattle.gtp_wire.specs.declared.commands.Command.TheVariants.{Play, Genmove, Undo}
 use Rattle.gtp_wire.specs.declared.replies.Reply.{Reply}
-use Rattle.gtp_session.specs.CommandAnswers.{MayBeSent, after_command}
+use Rattle.gtp_session.specs.CommandAnswers.{after_command}
+use Rattle.gtp_session.specs.private.Sent.{MayBeSent}
 use Rattle.gtp_session.specs.Engine.{fresh_game_under}
 use Rattle.gtp_session.proofs.CommandLemmas.{well_may_be_sent, vertex_of_legal}
 use Rattle.gtp_match.specs.declared.unanswered.SentCommand.{SentCommand}
@@ -39,8 +41,8 @@ replayed_next game n k e =
     let next : n + 1 ≡ suc n = omega arith in
     ap (replayed game) next ∙ after_one_more (fresh_game_under game.rule) (script game) n k e
 
--- A game that an engine is to replay: all but its last move is legal under the game's ko rule, and the whole of it under
--- simple ko.
+-- A game that an engine is to replay: all but its last move is legal under the game's ko rule, and the whole of it
+-- under simple ko.
 pub record IsShared (game : GameRecord) : Type 0 where
   pub earlier : IsGame (without_last game)
   pub simple : IsGame (ruled Simple game)
@@ -199,7 +201,8 @@ next_may rule c s sound says playable = by_kind says.kind
         absurd (omega (arith, past_length (script c.game) (u.confirmed + length u.unanswered) e, on.more))
     by_script None e free (inl both) =
         let within : u.confirmed ≤ length (script c.game) =
-        idle_plan c.game c.pending (all_retakes c) s u ((my_engine c s u sound says.up).under_way says.verdict) both.idle in
+        idle_plan c.game c.pending (all_retakes c) s u ((my_engine c s u sound says.up).under_way says.verdict)
+            both.idle in
         let past : length (script c.game) ≤ u.confirmed + length u.unanswered =
         past_length (script c.game) (u.confirmed + length u.unanswered) e in
         let at : replayed g u.confirmed ≡ g = whole (omega (arith, within, past, ap length both.idle)) in

@@ -1,5 +1,6 @@
 -- A reply that the controller hears keeps what joins it to the engines.
-use Rattle.std.proofs.Common.{◌≡◌, ◌≢◌, ℕ, ◌+◌, ◌-◌, ◌<◌, ◌≤◌, Bool, true, false, List, [], ◌∷◌, ◌++◌, length, drop, slice_get, Option, Some}
+use Rattle.std.proofs.Common.{◌≡◌, ◌≢◌, ℕ, ◌+◌, ◌-◌, ◌<◌, ◌≤◌, Bool, true, false, List, [], ◌∷◌, ◌++◌, length, drop}
+use Rattle.std.proofs.Common.{slice_get, Option, Some}
 use Rattle.std.proofs.Common.{None, Result, Ok, Err, refl, ap, sym, ◌∙◌, subst, arith, append_assoc, length-append, inl}
 use Rattle.std.proofs.Common.{inr, add-one}
 use Rattle.std.specs.Prelude.{◌⊎◌, ◌==◌, ◌&&◌, nat_lt, IfSome}
@@ -44,7 +45,8 @@ use Rattle.gtp_match.specs.ReplyTable.{outcome, after_outcome, fault_of, verdict
 use Rattle.gtp_match.specs.ReplyTable.{refused, retaken_at}
 use Rattle.gtp_match.specs.Hearing.{MayKeep, HearsUp, HearsWhere, Hears, HearsAllBy, HearsAll}
 use Rattle.go_board.specs.decisions.Game.{legal?}
-use Rattle.gtp_match.specs.Sound.{VerdictFits, InScript, IsAsked, AreUndo, HasPlan, LacksLast, IsUndo, IsSoundEngine, IsIdle, IsSound}
+use Rattle.gtp_match.specs.Sound.{VerdictFits, InScript, IsAsked, AreUndo, HasPlan, LacksLast, IsUndo, IsSoundEngine}
+use Rattle.gtp_match.specs.Sound.{IsIdle, IsSound}
 use Rattle.gtp_match.specs.Sound.{all_retakes}
 use Rattle.gtp_match.specs.Unanswered.{most_unanswered}
 use Rattle.gtp_match.proofs.ScriptLemmas.{script_longer}
@@ -280,7 +282,8 @@ module _ (rules : Rules) (c : Controller) (s : Colour) (u : Incarnation) (e : Op
       )
     where
       some : 0 < length c.game.moves
-      some = let within = slice_get_within c.game.moves (length c.game.moves - 1) end.move end.there in omega (arith, within)
+      some = let within = slice_get_within c.game.moves (length c.game.moves - 1) end.move end.there in omega
+          (arith, within)
 
       -- no game of this rule has the move
       no_game : IsGame g → ⊥
@@ -580,8 +583,8 @@ module _ (rules : Rules) (c : Controller) (s : Colour) (u : Incarnation) (e : Op
 -- bytes that are no whole reply yet
 part_keeps : (game : GameRecord) (u : Incarnation) (e : Option EngineBody) (te x y kept : List ℕ)
     → (h : IsJoinedInPlay game u (record { engine = e; to_engine = te; to_controller = x ++ y }))
-    → TellsNothing (h.begun ++ x) → MayKeep kept (u.rest ++ x)
-    → IsJoinedInPlay game (record u { rest = kept }) (record { engine = e; to_engine = te; to_controller = y })
+    → TellsNothing (h.begun ++ x) → MayKeep kept (u.reader ++ x)
+    → IsJoinedInPlay game (record u { reader = kept }) (record { engine = e; to_engine = te; to_controller = y })
 part_keeps game u e te x y kept h quiet keeps = record {
   few = h.few;
   replies = h.replies;
@@ -593,7 +596,7 @@ part_keeps game u e te x y kept h quiet keeps = record {
   begun = h.begun ++ x;
   cut = h.cut;
   begun_quiet = quiet;
-  kept = kept_longer kept u.rest h.begun x keeps h.kept;
+  kept = kept_longer kept u.reader h.begun x keeps h.kept;
   arriving = ap (λ (w : List ℕ). w ++ h.cut) (append_assoc h.begun x y) ∙ h.arriving;
   runs = h.runs;
   uncut = h.uncut;
@@ -634,27 +637,28 @@ module _ (rules : Rules) (c : Controller) (s : Colour) (u : Incarnation) (e : Op
       × AreJoined rules c2 s (record { engine = e; to_engine = te; to_controller = drop used (b ∷ x) ++ y }) lo
 
   -- what the bytes heard so far tell, by what the reader's text tells
-  as_begun : (place : ℕ) (answer : Result Reply ReplyFault) → IsFirst (u.rest ++ b ∷ x) place answer
+  as_begun : (place : ℕ) (answer : Result Reply ReplyFault) → IsFirst (u.reader ++ b ∷ x) place answer
       → IsFirst (mine.begun ++ b ∷ x) place answer
   as_begun place answer first =
       let F : List ℕ → Type 0 = λ t. IsFirst t place answer in
       (mine.kept.1 (b ∷ x) place answer).0 first
 
   as_reader : (place : ℕ) (answer : Result Reply ReplyFault) → IsFirst (mine.begun ++ b ∷ x) place answer
-      → IsFirst (u.rest ++ b ∷ x) place answer
+      → IsFirst (u.reader ++ b ∷ x) place answer
   as_reader place answer first = (mine.kept.1 (b ∷ x) place answer).1 first
 
   -- no reply ends within the bytes
-  quiet_keeps : (kept : List ℕ) → TellsNothing (mine.begun ++ b ∷ x) → MayKeep kept (u.rest ++ b ∷ x)
-      → Keeps (length (b ∷ x)) None (with_side_up c s (record u { rest = kept }))
+  quiet_keeps : (kept : List ℕ) → TellsNothing (mine.begun ++ b ∷ x) → MayKeep kept (u.reader ++ b ∷ x)
+      → Keeps (length (b ∷ x)) None (with_side_up c s (record u { reader = kept }))
   quiet_keeps kept quiet keeps =
-      let next : Incarnation = record u { rest = kept } in
-      let longer : MayKeep kept (mine.begun ++ b ∷ x) = kept_longer kept u.rest mine.begun (b ∷ x) keeps mine.kept in
+      let next : Incarnation = record u { reader = kept } in
+      let longer : MayKeep kept (mine.begun ++ b ∷ x) = kept_longer kept u.reader mine.begun (b ∷ x) keeps mine.kept in
       let next_sound : IsSound (with_side_up c s next) =
       quiet_sound c s u (mine.begun ++ b ∷ x) kept sound none up quiet longer in
       let live : IsJoinedInPlay own next (record { engine = e; to_engine = te; to_controller = y }) =
       part_keeps own u e te (b ∷ x) y kept mine quiet keeps in
-      let done : AreJoined rules (with_side_up c s next) s (record { engine = e; to_engine = te; to_controller = y }) lo =
+      let done : AreJoined rules (with_side_up c s next) s (record { engine = e; to_engine = te; to_controller = y })
+          lo =
       joint_put rules c s (with_engine next (side_of c.sides s)) c.game c.verdict c.pending c.retakes
       (record { engine = e; to_engine = te; to_controller = y }) lo next_sound (rw none tt)
       (record {
@@ -683,7 +687,8 @@ module _ (rules : Rules) (c : Controller) (s : Colour) (u : Incarnation) (e : Op
       let r =
       replied_keeps rules c s u e te
       (drop k.used
-      (b ∷ x) ++ y) lo sound none up idle playable theirs their_playable k.reply k.more mine.waiting mine.ahead mine.cut mine.few owes mine.fit
+      (b ∷ x) ++ y) lo sound none up idle playable theirs their_playable k.reply k.more mine.waiting mine.ahead
+          mine.cut mine.few owes mine.fit
       mine.may k.left mine.runs mine.uncut in
       subst (λ (n : ℕ). Keeps n (fault_of (outcome c.game s (oldest u.unanswered) k.reply))
       (after_outcome c s (heard_reply u) (outcome c.game s (oldest u.unanswered) k.reply))) (sym is) r
@@ -710,19 +715,20 @@ module _ (rules : Rules) (c : Controller) (s : Colour) (u : Incarnation) (e : Op
           → HearsUp MayKeep c s u (b ∷ x) used fault c2 → Keeps used fault c2
       by_bytes used fault c2 (inl quiet) (HearsUp.nothing_yet {kept = kept} tells keeps) = quiet_keeps kept quiet keeps
       by_bytes used fault c2 (inl quiet) (HearsUp.replied {value = value} first) =
-          absurd (quiet_or_first _ _ _ quiet (as_begun (length u.rest + used) (Ok value) first))
+          absurd (quiet_or_first _ _ _ quiet (as_begun (length u.reader + used) (Ok value) first))
       by_bytes used fault c2 (inl quiet) (HearsUp.faulted {shown = shown} first) =
-          absurd (quiet_or_first _ _ _ quiet (as_begun (length u.rest + used) (Err shown) first))
+          absurd (quiet_or_first _ _ _ quiet (as_begun (length u.reader + used) (Err shown) first))
       by_bytes used fault c2 (inr k) (HearsUp.nothing_yet {kept = kept} tells keeps) =
           absurd (quiet_or_first _ _ _ tells (as_reader (length (reply_bytes k.reply)) (Ok k.reply) k.first))
       by_bytes used fault c2 (inr k) (HearsUp.faulted {shown = shown} first) =
-          absurd (let same = one_first (mine.begun ++ b ∷ x) (length u.rest + used) (length (reply_bytes k.reply))
-          (Err shown) (Ok k.reply) (as_begun (length u.rest + used) (Err shown) first) k.first in
+          absurd (let same = one_first (mine.begun ++ b ∷ x) (length u.reader + used) (length (reply_bytes k.reply))
+          (Err shown) (Ok k.reply) (as_begun (length u.reader + used) (Err shown) first) k.first in
           let bad : Err shown ≡ Ok k.reply = same.1 in cc bad)
       by_bytes used fault c2 (inr k) (HearsUp.replied {value = value} first) =
           let same =
-          one_first (mine.begun ++ b ∷ x) (length u.rest + used) (length (reply_bytes k.reply)) (Ok value) (Ok k.reply)
-          (as_begun (length u.rest + used) (Ok value) first) k.first in
+          one_first (mine.begun ++ b ∷ x) (length u.reader + used) (length (reply_bytes k.reply)) (Ok value)
+              (Ok k.reply)
+          (as_begun (length u.reader + used) (Ok value) first) k.first in
           let value_is : value ≡ k.reply = let both : Ok value ≡ Ok k.reply = same.1 in cc both in
           let used_is : used ≡ k.used = omega (arith, same.0, k.place, mine.kept.0) in
           subst (λ (r : Reply). Keeps used (fault_of (outcome c.game s (oldest u.unanswered) r))
@@ -730,7 +736,8 @@ module _ (rules : Rules) (c : Controller) (s : Colour) (u : Incarnation) (e : Op
           (whole_keeps used k used_is)
 
 -- one call that hears bytes: no fault comes, and what joins them is kept, with the used bytes gone
-pub heard_keeps : (rules : Rules) (c : Controller) (s : Colour) (e : Option EngineBody) (te : List ℕ) (b : ℕ) (x y : List ℕ)
+pub heard_keeps : (rules : Rules) (c : Controller) (s : Colour) (e : Option EngineBody) (te : List ℕ) (b : ℕ)
+    (x y : List ℕ)
     (lo : BareLane) (used : ℕ) (fault : Option SideFault) (c2 : Controller)
     → AreJoined rules c s (record { engine = e; to_engine = te; to_controller = (b ∷ x) ++ y }) lo
     → Hears c s (b ∷ x) used fault c2
@@ -780,7 +787,8 @@ heard_keeps rules c s e te b x y lo used fault c2 j h =
         up_keeps rules c s u e te b x y lo j.sound v_is up_is mine playable theirs j.theirs.playable used fault c2 h
 
 -- all bytes of a delivery
-pub hears_keep : (rules : Rules) (s : Colour) (e : Option EngineBody) (te y : List ℕ) (lo : BareLane) (c c2 : Controller) (x : List ℕ)
+pub hears_keep : (rules : Rules) (s : Colour) (e : Option EngineBody) (te y : List ℕ) (lo : BareLane)
+    (c c2 : Controller) (x : List ℕ)
     (fault : Option SideFault) → HearsAll s c x fault c2
     → AreJoined rules c s (record { engine = e; to_engine = te; to_controller = x ++ y }) lo
     → (fault ≡ None) × AreJoined rules c2 s (record { engine = e; to_engine = te; to_controller = y }) lo
@@ -790,4 +798,5 @@ hears_keep rules s e te y lo c c2 [] fault (HearsAllBy.goes_on used some h more)
 hears_keep rules s e te y lo c c2 (b ∷ xs) fault (HearsAllBy.faulty {shown = f} used some h) j =
     absurd (let bad : Some f ≡ None = (heard_keeps rules c s e te b xs y lo used (Some f) c2 j h).0 in cc bad)
 hears_keep rules s e te y lo c c2 (b ∷ xs) fault (HearsAllBy.goes_on {mid = mid} used some h more) j =
-    hears_keep rules s e te y lo mid c2 (drop used (b ∷ xs)) fault more (heard_keeps rules c s e te b xs y lo used None mid j h).1
+    hears_keep rules s e te y lo mid c2 (drop used (b ∷ xs)) fault more
+        (heard_keeps rules c s e te b xs y lo used None mid j h).1

@@ -1,5 +1,6 @@
 -- What a reply that the controller hears comes to, for the side that wrote it and for the other side.
-use Rattle.std.proofs.Common.{◌≡◌, ℕ, ◌-◌, ◌<◌, ◌≤◌, Bool, true, false, List, [], ◌∷◌, ◌++◌, length, take, slice_get, Option, Some}
+use Rattle.std.proofs.Common.{◌≡◌, ℕ, ◌-◌, ◌<◌, ◌≤◌, Bool, true, false, List, [], ◌∷◌, ◌++◌, length, take, slice_get}
+use Rattle.std.proofs.Common.{Option, Some}
 use Rattle.std.proofs.Common.{None, refl, ap, sym, ◌∙◌, subst, arith, append_assoc, length-append, inl}
 use Rattle.std.proofs.Common.{inr, cond}
 use Rattle.std.specs.Prelude.{◌⊎◌, ◌==◌, IfSome}
@@ -98,7 +99,7 @@ next_live : (game : GameRecord) (n sent : ℕ) (us : List SentCommand) (more : L
     → length us ≤ most_unanswered → Owes (replayed game n) us more waiting ahead → AllByRecursion CanBeWritten waiting
     → AllMayBeSent ahead waiting
     → tc ++ cut ≡ all_reply_bytes more → WillReadWhereRunning e te ahead waiting → CutByCrash e cut
-    → IsJoinedInPlay game (record { confirmed = n; sent = sent; unanswered = us; rest = [] })
+    → IsJoinedInPlay game (record { confirmed = n; sent = sent; unanswered = us; reader = [] })
     (record { engine = e; to_engine = te; to_controller = tc })
 next_live game n sent us more waiting ahead e te tc cut few owes fit may arriving runs uncut = record {
   few = few;
@@ -262,7 +263,8 @@ has_all_if n m e = grind (arith, nat_tests)
 -- ---- the other side, where the record grows or is cut
 
 -- an idle side where the record grows: it has left the new command
-pub theirs_moved : (rule : KoRule) (c : Controller) (s : Colour) (mover : Colour) (v : Vertex) (verdict : Option Verdict)
+pub theirs_moved : (rule : KoRule) (c : Controller) (s : Colour) (mover : Colour) (v : Vertex)
+    (verdict : Option Verdict)
     (up : Option Incarnation) (l : BareLane)
     → c.verdict ≡ None → IfSome up (IsSoundEngine c s)
     → IsJoinedSide (ruled rule c.game) None up l → IsIdle up
@@ -337,7 +339,8 @@ abbrev pub Replied : Rules → Controller → Colour → Incarnation → BareLan
 Replied rules c s u l lo o = (fault_of o ≡ None) × AreJoined rules (after_outcome c s (heard_reply u) o) s l lo
 
 -- what is left of a side once its oldest order is answered
-pub record Left (game : GameRecord) (n : ℕ) (us : List SentCommand) (e : Option EngineBody) (te tc : List ℕ) : Type 0 where
+pub record Left (game : GameRecord) (n : ℕ) (us : List SentCommand) (e : Option EngineBody) (te tc : List ℕ) : Type 0
+    where
   pub few : length us ≤ most_unanswered
   pub more : List Reply
   pub waiting : List SentCommand
@@ -352,7 +355,7 @@ pub record Left (game : GameRecord) (n : ℕ) (us : List SentCommand) (e : Optio
 
 pub left_live : (game : GameRecord) (n sent : ℕ) (us : List SentCommand) (e : Option EngineBody) (te tc : List ℕ)
     → Left game n us e te tc
-    → IsJoinedInPlay game (record { confirmed = n; sent = sent; unanswered = us; rest = [] })
+    → IsJoinedInPlay game (record { confirmed = n; sent = sent; unanswered = us; reader = [] })
     (record { engine = e; to_engine = te; to_controller = tc })
 left_live game n sent us e te tc h =
     next_live game n sent us h.more h.waiting h.ahead e te tc h.cut h.few h.owes h.fit h.may h.arriving h.runs h.uncut

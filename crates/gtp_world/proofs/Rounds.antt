@@ -112,7 +112,8 @@ nothing_heard s c c2 bytes fault e HearsAllBy.used_up = refl
 nothing_heard s c c2 bytes fault e (HearsAllBy.faulty used some h) = absurd (omega (arith, some, ap length e))
 nothing_heard s c c2 bytes fault e (HearsAllBy.goes_on used some h more) = absurd (omega (arith, some, ap length e))
 
-module _ (rules : Rules) (c : Controller) (s : Colour) (u : Incarnation) (o : SentCommand) (b : EngineBody) (tc : List ℕ)
+module _ (rules : Rules) (c : Controller) (s : Colour) (u : Incarnation) (o : SentCommand) (b : EngineBody)
+    (tc : List ℕ)
     (lo : BareLane) (j : AreJoined rules c s (record { engine = Some b; to_engine = []; to_controller = tc }) lo)
     (legal : IsGame (ruled (rule_of rules s) c.game))
     (none : c.verdict ≡ None) (up : (side_of c.sides s).up ≡ Some u) (one : u.unanswered ≡ o ∷ [])
@@ -149,7 +150,7 @@ module _ (rules : Rules) (c : Controller) (s : Colour) (u : Incarnation) (o : Se
       ap (λ (os : List SentCommand). outcome c.game s (oldest os) owed.reply) one
       ∙ scripted_outcome c.game s o owed.reply (replayed g u.confirmed) owed.game_after owed.answered well
 
-  first : IsFirst (u.rest ++ tc) (length (reply_bytes owed.reply)) (Ok owed.reply)
+  first : IsFirst (u.reader ++ tc) (length (reply_bytes owed.reply)) (Ok owed.reply)
   first =
       (mine.kept.1 tc (length (reply_bytes owed.reply)) (Ok owed.reply)).1
       (subst (λ (t : List ℕ). IsFirst t (length (reply_bytes owed.reply)) (Ok owed.reply))
@@ -164,7 +165,7 @@ module _ (rules : Rules) (c : Controller) (s : Colour) (u : Incarnation) (o : Se
       → Confirmed used fault c2
   up_confirms used fault c2 (HearsUp.replied {value = value} told) =
       let same =
-      one_first (u.rest ++ tc) (length u.rest + used) (length (reply_bytes owed.reply)) (Ok value)
+      one_first (u.reader ++ tc) (length u.reader + used) (length (reply_bytes owed.reply)) (Ok value)
       (Ok owed.reply) told first in
       let value_is : value ≡ owed.reply = let both : Ok value ≡ Ok owed.reply = same.1 in cc both in
       let outcome_is : outcome c.game s (oldest u.unanswered) value ≡ Confirms =
@@ -174,10 +175,11 @@ module _ (rules : Rules) (c : Controller) (s : Colour) (u : Incarnation) (o : Se
         ap (after_outcome c s (heard_reply u)) outcome_is,
       )
   up_confirms used fault c2 (HearsUp.faulted {shown = shown} told) =
-      absurd (let same = one_first (u.rest ++ tc) (length u.rest + used) (length (reply_bytes owed.reply)) (Err shown)
+      absurd (let same = one_first (u.reader ++ tc) (length u.reader + used) (length (reply_bytes owed.reply))
+          (Err shown)
       (Ok owed.reply) told first in let bad : Err shown ≡ Ok owed.reply = same.1 in cc bad)
   up_confirms used fault c2 (HearsUp.nothing_yet quiet keeps) =
-      absurd (quiet_or_first (u.rest ++ tc) (length (reply_bytes owed.reply)) (Ok owed.reply) quiet first)
+      absurd (quiet_or_first (u.reader ++ tc) (length (reply_bytes owed.reply)) (Ok owed.reply) quiet first)
 
   one_confirms : (used : ℕ) (fault : Option SideFault) (c2 : Controller) → Hears c s tc used fault c2
       → Confirmed used fault c2
@@ -235,7 +237,8 @@ pub record RoundDone {P : Type 0} (s : Colour) (c c2 : Controller) (l2 : Lane P)
   pub others : (side_of c2.sides (other s)).up ≡ (side_of c.sides (other s)).up
 
 -- the lane of a side with nothing unanswered
-lane_is_idle : {P : Type 0} (rules : Rules) (c : Controller) (s : Colour) (l : Lane P) (lo : BareLane) (u : Incarnation) (e : Engine P)
+lane_is_idle : {P : Type 0} (rules : Rules) (c : Controller) (s : Colour) (l : Lane P) (lo : BareLane)
+    (u : Incarnation) (e : Engine P)
     → AreJoined rules c s (bare l) lo → c.verdict ≡ None → (side_of c.sides s).up ≡ Some u
     → u.unanswered ≡ [] → l.engine ≡ Some e → l ≡ record { engine = Some e; to_engine = []; to_controller = [] }
 lane_is_idle rules c s l lo u e j none up idle runs =
@@ -246,7 +249,8 @@ lane_is_idle rules c s l lo u e j none up idle runs =
 
 module _ {P : Type 0} (may : May P) (lawful : AllowsLawful may) (rules : Rules) (s : Colour) (c : Controller)
     (l : Lane P) (lo : BareLane) (count : ℕ) (is : next c ≡ Send s) (j : AreJoined rules c s (bare l) lo)
-    (legal : IsGame (ruled (rule_of rules s) c.game)) (free : c.pending ≡ None) (none : c.verdict ≡ None) (ready : IsReady (side_of c.sides s).up l count) (k : Command)
+    (legal : IsGame (ruled (rule_of rules s) c.game)) (free : c.pending ≡ None) (none : c.verdict ≡ None)
+        (ready : IsReady (side_of c.sides s).up l count) (k : Command)
     (scripted : slice_get (script c.game) count ≡ Some k) where
   abbrev engine : Incarnation
   engine = ready.incarnation
@@ -300,7 +304,8 @@ module _ {P : Type 0} (may : May P) (lawful : AllowsLawful may) (rules : Rules) 
       let hears : HearsAll s sender written h.fault c3 =
       subst (λ (t : List ℕ). HearsAll s sender t h.fault c3) (take_all 100 written fits) h.hears in
       let c3_is : c3 ≡ confirmed_by sender s (heard_reply asked) =
-      all_confirm rules sender s asked order (body after) written lo j2 legal none asked_up one scripted_now h.fault c3 hears in
+      all_confirm rules sender s asked order (body after) written lo j2 legal none asked_up one scripted_now h.fault
+          c3 hears in
       let last : Incarnation = confirmed (heard_reply asked) in
       let last_up : (side_of c3.sides s).up ≡ Some last =
       ap (λ (d : Controller). (side_of d.sides s).up) c3_is

@@ -1,13 +1,17 @@
--- Laws of one event: which side it puts down, what it takes off the lists, and what it leaves.
-use Rattle.std.specs.Prelude.{◌≡◌, ◌≢◌, ℕ, ◌+◌, List, [], take, drop, Option, None, Some}
+-- Laws of one event: where it applies, what an `Act` does, which side it puts down, what it takes off the lists, and
+-- what it leaves.
+use Rattle.std.specs.Prelude.{◌≡◌, ◌≢◌, ◌⊎◌, ℕ, ◌+◌, List, [], ◌++◌, take, drop, Option, None, Some}
 use Rattle.go_base.specs.Colour.{other}
 use Rattle.go_base.specs.declared.colours.Colour.{Colour}
 use Rattle.go_base.specs.declared.colours.Colour.TheVariants.{Black, White}
 use Rattle.go_board.specs.Game.{GameRecord}
+use Rattle.go_board.specs.declared.rules.KoRule.{KoRule}
+use Rattle.gtp_session.specs.Engine.{fresh_game_under}
 use Rattle.gtp_match.specs.declared.sides.Incarnation.{Incarnation}
 use Rattle.gtp_match.specs.declared.verdicts.Action.{Action}
 use Rattle.gtp_match.specs.declared.verdicts.Action.TheVariants.{Start, Send, Wait, Done}
 use Rattle.gtp_match.specs.declared.controller.Controller.{Controller}
+use Rattle.gtp_match.specs.Controller.{started, sent, next_text}
 use Rattle.gtp_match.specs.Next.{next}
 use Rattle.gtp_match.specs.Setup.{SetupRecord, IsSetup}
 use Rattle.gtp_match.specs.Sides.{side_of}
@@ -23,6 +27,14 @@ use Rattle.gtp_world.specs.Worlds.{game_at}
 abbrev pub IsDown : {B W : Type 0} → World B W → Colour → Type 0
 IsDown world side = (side_of world.controller.sides side).up ≡ None
 
+-- the controller counts the side as up
+abbrev pub IsUp : {B W : Type 0} → World B W → Colour → Type 0
+IsUp world side = (engine : Incarnation) × ((side_of world.controller.sides side).up ≡ Some engine)
+
+-- an engine of the side runs
+abbrev pub IsRunning : {B W : Type 0} → World B W → Colour → Type 0
+IsRunning world side = (game : GameRecord) × (game_at world side ≡ Some game)
+
 -- no engine runs at the side, and nothing is on its way to it or from it
 pub record HasNothing {B W : Type 0} (world : World B W) (side : Colour) : Type 0 where
   pub engine : game_at world side ≡ None
@@ -34,7 +46,7 @@ abbrev pub SameLane : {B W : Type 0} → Colour → World B W → World B W → 
 SameLane Black old new = new.black ≡ old.black
 SameLane White old new = new.white ≡ old.white
 
--- the side's engine is gone, with what was on its way to it; of what it wrote the first bytes are left, so many or all
+-- the side's engine is gone, with what was on its way to it; of what it wrote the first `count` bytes are left, or all
 -- where there are fewer
 pub record IsCrashed {B W : Type 0} (old : World B W) (side : Colour) (count : ℕ) (new : World B W) : Type 0 where
   pub engine : game_at new side ≡ None
@@ -43,7 +55,7 @@ pub record IsCrashed {B W : Type 0} (old : World B W) (side : Colour) (count : �
   -- the controller knows nothing of it
   pub controller : new.controller ≡ old.controller
 
--- Of the bytes on their way to the side's engine the first are taken off, so many or all where there are fewer. The
+-- Of the bytes on their way to the side's engine the first `count` are taken off, or all where there are fewer. The
 -- controller stays, and so does the other side.
 pub record IsTakenToEngine {B W : Type 0} (old : World B W) (side : Colour) (count : ℕ) (new : World B W)
     : Type 0 where
@@ -51,14 +63,50 @@ pub record IsTakenToEngine {B W : Type 0} (old : World B W) (side : Colour) (cou
   pub controller : new.controller ≡ old.controller
   pub others : SameLane (other side) old new
 
--- Of the bytes on their way to the controller the first are taken off, so many or all where there are fewer. The
--- side's engine stays with what is on its way to it, and so does the other side.
+-- Of the bytes on their way to the controller the first `count` are taken off, or all where there are fewer. The side's
+-- engine stays with what is on its way to it, and so does the other side.
 pub record IsTakenToController {B W : Type 0} (old : World B W) (side : Colour) (count : ℕ) (new : World B W)
     : Type 0 where
   pub engine : game_at new side ≡ game_at old side
   pub to_engine : to_engine_of new side ≡ to_engine_of old side
   pub to_controller : to_controller_of new side ≡ drop count (to_controller_of old side)
   pub others : SameLane (other side) old new
+
+-- the ko rule of a side's engines
+abbrev pub own_rule : {B W : Type 0} → SidePolicies B → SidePolicies W → Colour → KoRule
+own_rule policies_black policies_white Black = policies_black.rule
+own_rule policies_black policies_white White = policies_white.rule
+
+-- an engine of the side runs that was given nothing, under this ko rule, and nothing is on its way to it or from it; the
+-- controller counts it as started
+pub record IsStarted {B W : Type 0} (rule : KoRule) (old : World B W) (side : Colour) (new : World B W) : Type 0 where
+  pub engine : game_at new side ≡ Some (fresh_game_under rule)
+  pub to_engine : to_engine_of new side ≡ []
+  pub to_controller : to_controller_of new side ≡ []
+  pub controller : new.controller ≡ started old.controller side
+
+-- The controller counts its next command to the side as sent, also where no engine runs. Where one runs, the command's
+-- bytes stand behind what was on its way to it. The engine stays, and so does what is on its way to the controller.
+pub record IsSent {B W : Type 0} (old : World B W) (side : Colour) (up : Incarnation) (new : World B W)
+    : Type 0 where
+  pub controller : new.controller ≡ sent old.controller side
+  pub engine : game_at new side ≡ game_at old side
+  pub to_controller : to_controller_of new side ≡ to_controller_of old side
+  pub to_engine : IsRunning old side
+      → to_engine_of new side ≡ to_engine_of old side ++ next_text old.controller side up
+
+-- ---- where an event applies
+
+-- An `Act` applies where the controller is to start an engine or to send a command, and a broken write where it is to
+-- send one. Bytes reach an engine that runs, and the controller where the side is up. An engine that runs may crash,
+-- and the stream of a side that is up may end.
+abbrev pub Applies : {B W : Type 0} → World B W → Event → Type 0
+Applies world Act = (side : Colour) × ((next world.controller ≡ Start side) ⊎ (next world.controller ≡ Send side))
+Applies world (BrokenWrite count) = (side : Colour) × (next world.controller ≡ Send side)
+Applies world (ToEngine side count) = IsRunning world side
+Applies world (ToController side count) = IsUp world side
+Applies world (Crash side count) = IsRunning world side
+Applies world (End side) = IsUp world side
 
 -- ---- the side at which an event happens
 
@@ -144,3 +192,23 @@ module _ {B W : Type 0} (policies_black : SidePolicies B) (policies_white : Side
       → Happens policies_black policies_white old (ToEngine side one) mid
       → Happens policies_black policies_white mid (ToEngine side two) new
       → Happens policies_black policies_white old (ToEngine side (one + two)) new
+
+  -- an `Act` does what is next: it starts a side's engine, or sends a side its next command
+  pub record ActsAreDone : Type 0 where
+    pub starts : (side : Colour) (old new : World B W) → next old.controller ≡ Start side
+        → Happens policies_black policies_white old Act new
+        → IsStarted (own_rule policies_black policies_white side) old side new
+    pub sends : (side : Colour) (up : Incarnation) (old new : World B W) → next old.controller ≡ Send side
+        → (side_of old.controller.sides side).up ≡ Some up
+        → Happens policies_black policies_white old Act new → IsSent old side up new
+
+  -- an event that doesn't apply does nothing
+  abbrev pub WhatDoesNotApplyIsNothing : Type 0
+  WhatDoesNotApplyIsNothing = (event : Event) (old new : World B W) → ¬ Applies old event
+      → Happens policies_black policies_white old event new → new ≡ old
+
+  -- over every list of events from the opening: where no engine runs, nothing is on its way to one
+  abbrev pub NothingWaitsForNoEngine : Type 0
+  NothingWaitsForNoEngine = (setup : SetupRecord) (events : List Event) (world : World B W) (side : Colour)
+      → IsSetup setup → Runs policies_black policies_white (opening setup) events world
+      → game_at world side ≡ None → to_engine_of world side ≡ []

@@ -13,7 +13,8 @@ use Rattle.gtp_session.specs.Commands.{Answer, answer, asked}
 use Rattle.gtp_session.specs.Engine.{fresh_game_under}
 use Rattle.gtp_match.specs.declared.unanswered.SentCommand.{SentCommand}
 use Rattle.gtp_match.specs.Script.{script}
-use Rattle.gtp_session.specs.CommandAnswers.{line_of_command, after_command, MayBeSent}
+use Rattle.gtp_session.specs.CommandAnswers.{line_of_command, after_command}
+use Rattle.gtp_session.specs.private.Sent.{MayBeSent}
 use Rattle.gtp_session.specs.Spoken.{reply_of_answer}
 
 -- ---- commands and replies as bytes
@@ -84,6 +85,7 @@ abbrev pub after_commands : GameRecord → List Command → GameRecord
 after_commands game [] = game
 after_commands game (command ∷ later) = after_commands (after_command game command) later
 
--- the game of a new engine under this game's ko rule after so many commands of the script that brings it to this game
+-- the game of a new engine under this game's ko rule, after the first `count` commands of the script that brings it to
+-- this game
 abbrev pub replayed : GameRecord → ℕ → GameRecord
 replayed game count = after_commands (fresh_game_under game.rule) (take count (script game))

@@ -116,7 +116,7 @@ pub record IsJoinedInPlay (game : GameRecord) (side : Incarnation) (lane : BareL
   pub begun : List ℕ
   pub cut : List ℕ
   pub begun_quiet : TellsNothing begun
-  pub kept : MayKeep side.rest begun
+  pub kept : MayKeep side.reader begun
   pub arriving : (begun ++ lane.to_controller) ++ cut ≡ all_reply_bytes replies
   pub runs : WillReadWhereRunning lane.engine lane.to_engine ahead waiting
   pub uncut : CutByCrash lane.engine cut

@@ -1,3 +1,4 @@
+mod ClosingLemmas
 mod LossLemmas
 mod OptionLemmas
 mod PipeLemmas

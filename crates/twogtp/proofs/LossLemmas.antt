@@ -16,9 +16,9 @@ use Rattle.gtp_match.specs.Losing.{GoesDown, LosesSide, goes_down, forfeits, is_
 use Rattle.gtp_match.specs.Next.{next, next_where}
 use Rattle.gtp_match.specs.Sides.{side_of}
 use Rattle.gtp_match.proofs.ToldLemmas.{all_told}
-use Rattle.twogtp.specs.declared.sides.Endings.{Endings}
-use Rattle.twogtp.specs.declared.sides.Sides.{Sides}
-use Rattle.twogtp.specs.declared.starter.Conversation.{Ghosts}
+use Rattle.twogtp.specs.declared.processes.Endings.{Endings}
+use Rattle.twogtp.specs.declared.processes.Processes.{Processes}
+use Rattle.twogtp.specs.declared.starter.Process.{Ghosts}
 use Rattle.twogtp.specs.declared.task.Commands.{Commands}
 use Rattle.twogtp.specs.declared.why.Lost.{Lost}
 use Rattle.twogtp.specs.declared.why.Lost.TheVariants.{CutOff, Wrote}
@@ -26,7 +26,7 @@ use Rattle.twogtp.specs.declared.why.PipeCause.{PipeCause}
 use Rattle.twogtp.specs.declared.why.PipeCause.TheVariants.{Writing, Reading, Ended}
 use Rattle.twogtp.specs.Losses.{LossesHaveLines, TurnLosesSide, is_not_started, is_lost}
 use Rattle.twogtp.specs.Processes.{WithProcess, process_of}
-use Rattle.twogtp.specs.Speaking.{AreSent, Hears, IsHeard, Sends, Takes, cut_off}
+use Rattle.twogtp.specs.Speaking.{AreSent, HearsFromSide, IsHeard, SendsToSide, TakesCommands, cut_off}
 use Rattle.twogtp.specs.Starts.{Attempts}
 use Rattle.twogtp.specs.Turns.{Begins, Turn, line_where, turn_side}
 
@@ -64,9 +64,9 @@ sent_keeps c side = record {
 }
 
 takes_keep : (c : Controller) (side : Colour) (new : Controller) (number : ℕ) (text : List ℕ)
-    → Takes c side number text new → KeepsSides c new
-takes_keep c side _ _ _ Takes.none = keeps_itself c
-takes_keep c side _ _ _ (Takes.one_more {number = n} {text = text} {mid = mid} takes more) =
+    → TakesCommands c side number text new → KeepsSides c new
+takes_keep c side _ _ _ TakesCommands.none = keeps_itself c
+takes_keep c side _ _ _ (TakesCommands.one_more {number = n} {text = text} {mid = mid} takes more) =
     let before = takes_keep c side mid n text takes in
     let then = sent_keeps mid side in
     record { verdict = then.verdict ∙ before.verdict; up = λ s. then.up s ∙ before.up s }
@@ -83,7 +83,8 @@ loses_none c m keeps (is_unfit was is) = let same = keeps.verdict in absurd (cc)
 
 neither : (why : Option Lost) (X : Type 0) → why ≡ None → (X → ⊥) → IsSome why ↔ X
 neither why X none never =
-    ((λ some. absurd (let no : is_some why ≡ false = ap (λ (w : Option Lost). is_some w) none in cc)), (λ x. absurd (never x)))
+    ((λ some. absurd (let no : is_some why ≡ false = ap (λ (w : Option Lost). is_some w) none in cc)),
+    (λ x. absurd (never x)))
 
 -- ---- a side that is cut off
 
@@ -105,7 +106,8 @@ cut_is_loss : (c m : Controller) (side : Colour) (cause : PipeCause) → KeepsSi
     → IsSome (cut_off cause m side) ↔ LosesSide c (lost m side)
 unfolding up_in
 cut_is_loss c m side cause keeps live =
-    subst (λ (v : Option Verdict). IsSome (option_map (CutOff cause) (owed_where v (up_in m side))) ↔ LosesSide c (lost m side))
+    subst (λ (v : Option Verdict).
+    IsSome (option_map (CutOff cause) (owed_where v (up_in m side))) ↔ LosesSide c (lost m side))
     (sym (keeps.verdict ∙ live)) (cut_cases c m side cause (up_in m side) keeps refl)
 
 -- ---- what comes next
@@ -153,20 +155,23 @@ starts_loses_none c side next_is (is_not_started {side = s} starts down) =
     let same : s ≡ side = cc in
     let up = started_up c side in
     let none : is_some (up_in (started c side) side) ≡ false =
-    subst (λ (t : Colour). is_some (up_in (started c side) t) ≡ false) same (ap (λ (u : Option Incarnation). is_some u) down) in
+    subst (λ (t : Colour). is_some (up_in (started c side) t) ≡ false) same
+    (ap (λ (u : Option Incarnation). is_some u) down) in
     absurd (cc)
 starts_loses_none c side next_is (is_lost (goes_down s down)) =
     let still = started_keeps c side s down.0 in
-    let gone : is_some (up_in (started c side) s) ≡ false = ap (λ (u : Option Incarnation). is_some u) down.1 in absurd (cc)
+    let gone : is_some (up_in (started c side) s) ≡ false = ap (λ (u : Option Incarnation). is_some u) down.1 in
+    absurd (cc)
 starts_loses_none c side next_is (is_lost (forfeits was is)) = absurd (cc)
 starts_loses_none c side next_is (is_lost (is_unfit was is)) = absurd (cc)
 
 module _ {P : Type 0} (known : Ghosts P) where
-  begin_told : (commands : Commands) (c new : Controller) (side : Colour) (before after : Sides P) (had has : Attempts P)
-      (why : Option Lost) → next c ≡ Start side → Begins commands c side before after had has new why
+  begin_told : (commands : Commands) (c new : Controller) (side : Colour) (before after : Processes P)
+      (had has : Attempts P)
+      (why : Option Lost) → next c ≡ Start side → Begins known commands c side before after had has new why
       → IsSome why ↔ TurnLosesSide c new
   unfolding up_in
-  begin_told commands c _ side before after had has _ e (Begins.starts process tried is) =
+  begin_told commands c _ side before after had has _ e (Begins.starts process tried is ended) =
       neither None _ refl (starts_loses_none c side e)
   begin_told commands c _ side before after had has _ e (Begins.fails_to_start reason tried is) =
       ((λ some. is_not_started {side = side} e (failed_down c side)), (λ loses. refl))
@@ -188,7 +193,8 @@ module _ {P : Type 0} (known : Ghosts P) where
       wrote None told = told
       wrote (Some loss) told = told
   hears_told c _ side old now _ live (IsHeard.ended over given taken) = cut_is_loss c c side Ended (keeps_itself c) live
-  hears_told c _ side old now _ live (IsHeard.broke cut given taken) = cut_is_loss c c side Reading (keeps_itself c) live
+  hears_told c _ side old now _ live (IsHeard.broke cut given taken) =
+      cut_is_loss c c side Reading (keeps_itself c) live
 
   send_told : (c new : Controller) (side : Colour) (before after : Option P) (why : Option Lost) → c.verdict ≡ None
       → WithProcess before after (λ (old now : P). AreSent known c side old now new why)
@@ -211,17 +217,20 @@ module _ {P : Type 0} (known : Ghosts P) where
   wait_told c new side (Some old) None why live done = absurd done
 
   -- why a side was lost is known exactly where one was
-  turn_told : (commands : Commands) (c new : Controller) (a : Action) (before after : Sides P) (had has : Attempts P)
+  turn_told : (commands : Commands) (c new : Controller) (a : Action) (before after : Processes P)
+      (had has : Attempts P)
       (why : Option Lost) → next c ≡ a → Turn known commands true c a before had new after has why
       → IsSome why ↔ TurnLosesSide c new
   turn_told commands c new (Start side) before after had has why e turn =
       begin_told commands c new side before after had has why e turn.0
   turn_told commands c new (Send side) before after had has why e turn =
       not_start c new why (λ s starts. cc)
-      (send_told c new side (process_of before side) (process_of after side) why (goes_on c (Send side) e (λ v is. cc)) turn.0)
+      (send_told c new side (process_of before side) (process_of after side) why (goes_on c (Send side) e (λ v is. cc))
+      turn.0)
   turn_told commands c new (Wait side) before after had has why e turn =
       not_start c new why (λ s starts. cc)
-      (wait_told c new side (process_of before side) (process_of after side) why (goes_on c (Wait side) e (λ v is. cc)) turn.0)
+      (wait_told c new side (process_of before side) (process_of after side) why (goes_on c (Wait side) e (λ v is. cc))
+      turn.0)
   turn_told commands c new (Done verdict) before after had has why e turn =
       not_start c new why (λ s starts. cc)
       (rw turn.0 (neither why _ turn.3 (loses_none c c (keeps_itself c))))
@@ -260,11 +269,11 @@ unfolding up_in
 cut_leaves c m side keeps = lost_leaves m side (up_in m side) ∙ keeps.up (other side)
 
 module _ {P : Type 0} (known : Ghosts P) where
-  begin_leaves : (commands : Commands) (c new : Controller) (side : Colour) (before after : Sides P)
-      (had has : Attempts P) (why : Option Lost) → Begins commands c side before after had has new why
+  begin_leaves : (commands : Commands) (c new : Controller) (side : Colour) (before after : Processes P)
+      (had has : Attempts P) (why : Option Lost) → Begins known commands c side before after had has new why
       → OtherStaysUp c new side
   unfolding up_in
-  begin_leaves commands c _ side before after had has _ (Begins.starts process tried is) = started_leaves c side
+  begin_leaves commands c _ side before after had has _ (Begins.starts process tried is ended) = started_leaves c side
   begin_leaves commands c _ side before after had has _ (Begins.fails_to_start reason tried is) =
       lost_leaves (started c side) side (up_in (started c side) side) ∙ started_leaves c side
 
@@ -285,21 +294,22 @@ module _ {P : Type 0} (known : Ghosts P) where
   heard_leaves c _ side old now _ (IsHeard.broke cut given taken) = cut_leaves c c side (keeps_itself c)
 
   send_leaves : (c new : Controller) (side : Colour) (before after : Option P) (why : Option Lost)
-      → Sends known c side before after new why → OtherStaysUp c new side
+      → SendsToSide known c side before after new why → OtherStaysUp c new side
   send_leaves c new side None None why done = rw done.0 (cut_leaves c (sent c side) side (sent_keeps c side))
   send_leaves c new side (Some old) (Some now) why done = sent_leaves c new side old now why done
   send_leaves c new side None (Some now) why done = absurd done
   send_leaves c new side (Some old) None why done = absurd done
 
   wait_leaves : (c new : Controller) (side : Colour) (before after : Option P) (why : Option Lost)
-      → Hears known true c side before after new why → OtherStaysUp c new side
+      → HearsFromSide known true c side before after new why → OtherStaysUp c new side
   wait_leaves c new side None None why done = rw done.0 (cut_leaves c c side (keeps_itself c))
   wait_leaves c new side (Some old) (Some now) why done = heard_leaves c new side old now why done
   wait_leaves c new side None (Some now) why done = absurd done
   wait_leaves c new side (Some old) None why done = absurd done
 
   -- a side that goes down is the one whose turn it was
-  turn_names : (commands : Commands) (c new : Controller) (a : Action) (before after : Sides P) (had has : Attempts P)
+  turn_names : (commands : Commands) (c new : Controller) (a : Action) (before after : Processes P)
+      (had has : Attempts P)
       (why : Option Lost) (s : Colour) → Turn known commands true c a before had new after has why
       → GoesDown c new s → turn_side a ≡ Some s
   turn_names commands c new (Start side) before after had has why s turn down =
@@ -307,10 +317,12 @@ module _ {P : Type 0} (known : Ghosts P) where
       (sym (down_is c new side s (begin_leaves commands c new side before after had has why turn.0) down))
   turn_names commands c new (Send side) before after had has why s turn down =
       ap (λ (t : Colour). Some t)
-      (sym (down_is c new side s (send_leaves c new side (process_of before side) (process_of after side) why turn.0) down))
+      (sym (down_is c new side s (send_leaves c new side (process_of before side) (process_of after side) why turn.0)
+      down))
   turn_names commands c new (Wait side) before after had has why s turn down =
       ap (λ (t : Colour). Some t)
-      (sym (down_is c new side s (wait_leaves c new side (process_of before side) (process_of after side) why turn.0) down))
+      (sym (down_is c new side s (wait_leaves c new side (process_of before side) (process_of after side) why turn.0)
+      down))
   turn_names commands c new (Done verdict) before after had has why s turn down =
       absurd (loses_none c new (rw turn.0 (keeps_itself c)) (goes_down s down))
 
@@ -330,7 +342,8 @@ pub losses_have_lines : {P : Type 0} (known : Ghosts P) → LossesHaveLines know
 losses_have_lines known commands number c new before closing had has why endings turn =
     let told = turn_told known commands c new (next c) before turn.after had has why refl turn.turn in
     record {
-      exact = line_told number (turn_side (next c)) why endings (TurnLosesSide c new) (has_side (next c) turn.turn) told;
+      exact = line_told number (turn_side (next c)) why endings (TurnLosesSide c new) (has_side (next c) turn.turn)
+          told;
       named = λ s. turn_names known commands c new (next c) before turn.after had has why s turn.turn;
     }
   where
@@ -339,4 +352,5 @@ losses_have_lines known commands number c new before closing had has why endings
     has_side (Start side) is some = refl
     has_side (Send side) is some = refl
     has_side (Wait side) is some = refl
-    has_side (Done verdict) is some = absurd (let none : is_some why ≡ false = ap (λ (w : Option Lost). is_some w) is.3 in cc)
+    has_side (Done verdict) is some =
+        absurd (let none : is_some why ≡ false = ap (λ (w : Option Lost). is_some w) is.3 in cc)

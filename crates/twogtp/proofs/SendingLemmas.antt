@@ -1,4 +1,4 @@
--- A side that was sent as many commands as may be unanswered has to answer before it is sent more.
+-- A side that has all the unanswered commands that it may have has to answer before it is sent more.
 use Rattle.std.proofs.Common.{◌≡◌, ◌+◌, ◌≤◌, ℕ, Bool, true, false, Option, Some, None, length}
 use Rattle.std.proofs.Common.{refl, cond, arith}
 use Rattle.std.specs.Prelude.{◌≢◌}
@@ -40,9 +40,10 @@ live c side e = by_verdict c.verdict e
     by_verdict None e = e
     by_verdict (Some verdict) e = absurd (cc)
 
--- ---- a side that has as many unanswered as it may have isn't sent anything
+-- ---- a side that has all the unanswered commands that it may have is sent nothing
 
-black_waits : (side : Colour) (must : Bool) (later : Action) → must ≡ true → cond must (Wait Black) later ≡ Send side → ⊥
+black_waits : (side : Colour) (must : Bool) (later : Action) → must ≡ true
+    → cond must (Wait Black) later ≡ Send side → ⊥
 black_waits side true later is e = cc
 black_waits side false later is e = cc
 

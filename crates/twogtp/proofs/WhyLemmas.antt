@@ -18,7 +18,7 @@ shown_bytes-push (b ∷ bytes) last =
     ap (λ (t : List ℕ). shown_byte b ++ t) (shown_bytes-push bytes last)
     ∙ sym (append_assoc (shown_byte b) (shown_bytes bytes) (shown_byte last))
 
--- so many bytes are shown behind a line
+-- `count` bytes are shown behind a line
 pub record AreShown (bytes : List ℕ) (count : ℕ) (line text : List ℕ) : Type 0 where
   pub shown : text ≡ line ++ shown_bytes (take count bytes)
   pub short : length text ≤ length line + 4 * count

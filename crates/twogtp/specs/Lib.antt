@@ -1,3 +1,4 @@
+pub mod Closing
 pub mod Losses
 pub mod Options
 pub mod Pipes
@@ -9,3 +10,5 @@ pub mod Tasks
 pub mod Telling
 pub mod Turns
 pub mod Why
+pub mod Writing
+pub mod private

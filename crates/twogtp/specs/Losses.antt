@@ -6,9 +6,9 @@ use Rattle.gtp_match.specs.declared.verdicts.Action.TheVariants.{Start}
 use Rattle.gtp_match.specs.Losing.{GoesDown, LosesSide}
 use Rattle.gtp_match.specs.Next.{next}
 use Rattle.gtp_match.specs.Sides.{side_of}
-use Rattle.twogtp.specs.declared.sides.Endings.{Endings}
-use Rattle.twogtp.specs.declared.sides.Sides.{Sides}
-use Rattle.twogtp.specs.declared.starter.Conversation.{Ghosts}
+use Rattle.twogtp.specs.declared.processes.Endings.{Endings}
+use Rattle.twogtp.specs.declared.processes.Processes.{Processes}
+use Rattle.twogtp.specs.declared.starter.Process.{Ghosts}
 use Rattle.twogtp.specs.declared.task.Commands.{Commands}
 use Rattle.twogtp.specs.declared.why.Lost.{Lost}
 use Rattle.twogtp.specs.Starts.{Attempts}
@@ -30,7 +30,7 @@ pub record TurnIsTold (c new : Controller) (line : List ℕ) : Type 0 where
 -- So it is of each turn, where lost sides are told.
 abbrev pub LossesHaveLines : {P : Type 0} → Ghosts P → Type 0
 LossesHaveLines {P} known =
-    (commands : Commands) (number : ℕ) (c new : Controller) (before closing : Sides P) (had has : Attempts P)
+    (commands : Commands) (number : ℕ) (c new : Controller) (before closing : Processes P) (had has : Attempts P)
     (why : Option Lost) (endings : Endings)
     → IsTurn known commands true c before had new closing has why endings
     → TurnIsTold c new (turn_line (Some number) (next c) why endings)

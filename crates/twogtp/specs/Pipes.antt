@@ -4,7 +4,7 @@ use Rattle.std.specs.Io.KnownBytes.{Appends}
 use Rattle.twogtp.specs.declared.starter.PipeFault.{PipeFault}
 use Rattle.twogtp.specs.declared.starter.PipeFault.TheVariants.{Interrupted, Broken}
 
--- a writer or a process took the beginning of a text
+-- a stream or a process took a beginning of a text
 pub record TakesPart (text : List ℕ) (held holds : Option (List ℕ)) : Type 0 where
   pub part : List ℕ
   pub left : List ℕ
@@ -20,26 +20,26 @@ abbrev pub Fails : Type 0 → Type 1
 Fails P = P → PipeFault → P → Type 0
 
 -- calls that go through, by the process before and after
-abbrev pub Succeeds : Type 0 → Type 1
-Succeeds P = P → P → Type 0
+abbrev pub GoesThrough : Type 0 → Type 1
+GoesThrough P = P → P → Type 0
 
--- So many calls in a row were interrupted, and led from the one to the other.
+-- This number of calls in a row were interrupted, and led from the one to the other.
 pub data AreInterrupted {P : Type 0} (fails : Fails P) (before : P) : ℕ → P → Type 0 where
   no_call : AreInterrupted fails before 0 before
   one_more : {n : ℕ} {mid after : P} → AreInterrupted fails before n mid → fails mid Interrupted after
       → AreInterrupted fails before (n + 1) after
 
 -- Calls in a row led from the one to the other, none of which broke: each went through, or was interrupted.
-pub data IsUnbroken {P : Type 0} (fails : Fails P) (succeeds : Succeeds P) (before : P) : P → Type 0 where
+pub data IsUnbroken {P : Type 0} (fails : Fails P) (succeeds : GoesThrough P) (before : P) : P → Type 0 where
   untouched : IsUnbroken fails succeeds before before
   tried : {mid after : P} → IsUnbroken fails succeeds before mid → fails mid Interrupted after
       → IsUnbroken fails succeeds before after
   went : {mid after : P} → IsUnbroken fails succeeds before mid → succeeds mid after
       → IsUnbroken fails succeeds before after
 
--- A process was cut off by calls that led from the one to the other: the last call, and none before it, broke; or
--- none broke, and the last ones were all interrupted, as many as are tried.
-pub data IsCutOff {P : Type 0} (fails : Fails P) (succeeds : Succeeds P) (before after : P) : Type 0 where
+-- A process was cut off by calls that led from the one to the other. The last call, and none before it, broke. Or none
+-- broke, and the last `most_tries` of them were interrupted.
+pub data IsCutOff {P : Type 0} (fails : Fails P) (succeeds : GoesThrough P) (before after : P) : Type 0 where
   broke : {mid : P} → IsUnbroken fails succeeds before mid → fails mid Broken after
       → IsCutOff fails succeeds before after
   interrupted : {mid : P} → IsUnbroken fails succeeds before mid → AreInterrupted fails mid most_tries after
@@ -50,7 +50,7 @@ abbrev pub RunsOut : Type 0 → Type 1
 RunsOut P = P → P → Type 0
 
 -- A process's output ended: calls led from the one to the other, none of which broke, and the last one told the end.
-pub data HasEnded {P : Type 0} (fails : Fails P) (succeeds : Succeeds P) (runs_out : RunsOut P) (before after : P)
+pub data OutputEnded {P : Type 0} (fails : Fails P) (succeeds : GoesThrough P) (runs_out : RunsOut P) (before after : P)
     : Type 0 where
   ran_out : {mid : P} → IsUnbroken fails succeeds before mid → runs_out mid after
-      → HasEnded fails succeeds runs_out before after
+      → OutputEnded fails succeeds runs_out before after

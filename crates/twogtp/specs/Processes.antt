@@ -6,23 +6,23 @@ use Rattle.gtp_match.specs.declared.controller.Controller.{Controller}
 use Rattle.gtp_match.specs.declared.sides.Status.{Status}
 use Rattle.gtp_match.specs.declared.sides.Status.TheVariants.{Down, Up}
 use Rattle.gtp_match.specs.Sides.{side_of, status_of}
-use Rattle.twogtp.specs.declared.sides.Endings.{Endings}
-use Rattle.twogtp.specs.declared.sides.Sides.{Sides}
-use Rattle.twogtp.specs.declared.starter.Conversation.{Ghosts}
+use Rattle.twogtp.specs.declared.processes.Endings.{Endings}
+use Rattle.twogtp.specs.declared.processes.Processes.{Processes}
+use Rattle.twogtp.specs.declared.starter.Process.{Ghosts}
 use Rattle.twogtp.specs.declared.starter.Ending.{Ending}
 use Rattle.twogtp.specs.declared.starter.Ending.TheVariants.{Unknown}
 
 -- no side has a process
-abbrev pub no_processes : {P : Type 0} → Sides P
+abbrev pub no_processes : {P : Type 0} → Processes P
 no_processes = record { black = None; white = None }
 
 -- the process of a side
-abbrev pub process_of : {P : Type 0} → Sides P → Colour → Option P
-process_of sides Black = sides.black
-process_of sides White = sides.white
+abbrev pub process_of : {P : Type 0} → Processes P → Colour → Option P
+process_of processes Black = processes.black
+process_of processes White = processes.white
 
 -- the process of the other side stays as it was
-abbrev pub OtherStays : {P : Type 0} → Colour → Sides P → Sides P → Type 0
+abbrev pub OtherStays : {P : Type 0} → Colour → Processes P → Processes P → Type 0
 OtherStays Black before after = after.white ≡ before.white
 OtherStays White before after = after.black ≡ before.black
 
@@ -51,10 +51,20 @@ ending_for endings Black = endings.black
 ending_for endings White = endings.white
 
 -- how the processes of both sides ended
-pub record AreEndings {P : Type 0} (known : Ghosts P) (c : Controller) (sides : Sides P) (endings : Endings)
+pub record AreEndings {P : Type 0} (known : Ghosts P) (c : Controller) (processes : Processes P) (endings : Endings)
     : Type 0 where
-  pub black : Ends known c Black sides.black endings.black
-  pub white : Ends known c White sides.white endings.white
+  pub black : Ends known c Black processes.black endings.black
+  pub white : Ends known c White processes.white endings.white
+
+-- a process, if there is one, ended in some way
+abbrev pub IsEnded : {P : Type 0} → Ghosts P → Option P → Type 0
+IsEnded known None = Unit {0}
+IsEnded known (Some process) = (ending : Ending) × known.leaves process ending
+
+-- so did those of both sides
+pub record AreEnded {P : Type 0} (known : Ghosts P) (processes : Processes P) : Type 0 where
+  pub black : IsEnded known processes.black
+  pub white : IsEnded known processes.white
 
 -- Where there is a process, before and after, this was done with it; where there is none, that was done.
 abbrev pub WithProcess : {P : Type 0} → Option P → Option P → (P → P → Type 0) → Type 0 → Type 0

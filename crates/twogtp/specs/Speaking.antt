@@ -13,12 +13,12 @@ use Rattle.gtp_match.specs.Losing.{HearsAllTelling, owed}
 use Rattle.gtp_match.specs.Next.{next}
 use Rattle.gtp_match.specs.declared.losses.Loss.{Loss}
 use Rattle.gtp_match.specs.Sides.{side_of}
-use Rattle.twogtp.specs.declared.starter.Conversation.{Ghosts}
+use Rattle.twogtp.specs.declared.starter.Process.{Ghosts}
 use Rattle.twogtp.specs.declared.why.Lost.{Lost}
 use Rattle.twogtp.specs.declared.why.Lost.TheVariants.{CutOff, Wrote}
 use Rattle.twogtp.specs.declared.why.PipeCause.{PipeCause}
 use Rattle.twogtp.specs.declared.why.PipeCause.TheVariants.{Writing, Reading, Ended}
-use Rattle.twogtp.specs.Pipes.{HasEnded, IsCutOff, IsUnbroken, TakesPart}
+use Rattle.twogtp.specs.Pipes.{IsCutOff, IsUnbroken, OutputEnded, TakesPart}
 use Rattle.twogtp.specs.Processes.{WithProcess}
 
 -- The bytes of the command that a side is sent next; none where it is down.
@@ -29,17 +29,18 @@ command_for c side (Some engine) = next_text c side engine
 abbrev pub command_text : Controller → Colour → List ℕ
 command_text c side = command_for c side (side_of c.sides side).up
 
--- Commands were taken for a side one after the other, each as it came next, and each counts as sent: so many, of these
--- bytes joined.
-pub data Takes (c : Controller) (side : Colour) : ℕ → List ℕ → Controller → Type 0 where
-  none : Takes c side 0 [] c
-  one_more : {number : ℕ} {text : List ℕ} {mid : Controller} → Takes c side number text mid → next mid ≡ Send side
-      → Takes c side (number + 1) (text ++ command_text mid side) (sent mid side)
+-- This number of commands was taken for a side, one after the other, each as it came next. Each counts as sent, and
+-- their bytes are joined to this text.
+pub data TakesCommands (c : Controller) (side : Colour) : ℕ → List ℕ → Controller → Type 0 where
+  none : TakesCommands c side 0 [] c
+  one_more : {number : ℕ} {text : List ℕ} {mid : Controller} → TakesCommands c side number text mid
+      → next mid ≡ Send side
+      → TakesCommands c side (number + 1) (text ++ command_text mid side) (sent mid side)
 
 -- All that come next for it were taken, until something else comes next.
-pub record TakesAll (c : Controller) (side : Colour) (text : List ℕ) (new : Controller) : Type 0 where
+pub record TakesAllCommands (c : Controller) (side : Colour) (text : List ℕ) (new : Controller) : Type 0 where
   pub number : ℕ
-  pub takes : Takes c side number text new
+  pub takes : TakesCommands c side number text new
   pub all : next new ≢ Send side
 
 -- A side is cut off so, and owes what it owes in this match.
@@ -51,12 +52,12 @@ cut_off cause c side = option_map (CutOff cause) (owed c side)
 -- lost, and the commands are among what it owed. It gave nothing.
 pub data AreSent {P : Type 0} (known : Ghosts P) (c : Controller) (side : Colour) (before after : P)
     : Controller → Option Lost → Type 0 where
-  taken : {text : List ℕ} {new : Controller} → TakesAll c side text new
+  taken : {text : List ℕ} {new : Controller} → TakesAllCommands c side text new
       → Appends (known.taken before) (known.taken after) text
       → IsUnbroken known.fails known.succeeds before after → known.flushed after
       → Keeps (known.given before) (known.given after)
       → AreSent known c side before after new None
-  failed : {text : List ℕ} {new : Controller} → TakesAll c side text new
+  failed : {text : List ℕ} {new : Controller} → TakesAllCommands c side text new
       → TakesPart text (known.taken before) (known.taken after)
       → IsCutOff known.fails known.succeeds before after
       → Keeps (known.given before) (known.given after)
@@ -79,7 +80,7 @@ pub data IsHeard {P : Type 0} (known : Ghosts P) (telling : Bool) (c : Controlle
       → IsUnbroken known.fails known.succeeds before after
       → Keeps (known.taken before) (known.taken after)
       → IsHeard known telling c side before after new why
-  ended : HasEnded known.fails known.succeeds known.runs_out before after
+  ended : OutputEnded known.fails known.succeeds known.runs_out before after
       → Keeps (known.given before) (known.given after)
       → Keeps (known.taken before) (known.taken after)
       → IsHeard known telling c side before after (lost c side) (cut_off Ended c side)
@@ -89,15 +90,15 @@ pub data IsHeard {P : Type 0} (known : Ghosts P) (telling : Bool) (c : Controlle
       → IsHeard known telling c side before after (lost c side) (cut_off Reading c side)
 
 -- a side was to be sent its commands, and one that has no process is lost
-abbrev pub Sends : {P : Type 0} → Ghosts P → Controller → Colour → Option P → Option P → Controller → Option Lost
+abbrev pub SendsToSide : {P : Type 0} → Ghosts P → Controller → Colour → Option P → Option P → Controller → Option Lost
     → Type 0
-Sends {P} known c side before after new why =
+SendsToSide {P} known c side before after new why =
     WithProcess before after (λ (old now : P). AreSent known c side old now new why)
     ((new ≡ lost (sent c side) side) × (why ≡ cut_off Writing (sent c side) side))
 
 -- a side was waited for, and one that has no process is lost
-abbrev pub Hears : {P : Type 0} → Ghosts P → Bool → Controller → Colour → Option P → Option P → Controller
+abbrev pub HearsFromSide : {P : Type 0} → Ghosts P → Bool → Controller → Colour → Option P → Option P → Controller
     → Option Lost → Type 0
-Hears {P} known telling c side before after new why =
+HearsFromSide {P} known telling c side before after new why =
     WithProcess before after (λ (old now : P). IsHeard known telling c side old now new why)
     ((new ≡ lost c side) × (why ≡ cut_off Reading c side))

@@ -5,9 +5,9 @@ use Rattle.clap.specs.Words.{Text}
 use Rattle.go_base.specs.Komi.{komi_of}
 use Rattle.gtp_wire.specs.Words.{words}
 use Rattle.gtp_match.specs.Setup.{setup_of, IsSetup}
-use Rattle.twogtp.specs.declared.fault.Fault.{Fault}
-use Rattle.twogtp.specs.declared.fault.Fault.TheVariants.{BadArgument, NoBlackCommand, NoWhiteCommand, BadKomi}
-use Rattle.twogtp.specs.declared.fault.Fault.TheVariants.{BadHandicap, Write, OutOfMemory, TooManyTurns}
+use Rattle.twogtp.specs.declared.failure.Failure.{Failure}
+use Rattle.twogtp.specs.declared.failure.Failure.TheVariants.{BadArgument, NoBlackCommand, NoWhiteCommand, BadKomi}
+use Rattle.twogtp.specs.declared.failure.Failure.TheVariants.{BadHandicap, Write, OutOfMemory, TooManyTurns}
 use Rattle.twogtp.specs.declared.options.Options.{Options}
 use Rattle.twogtp.specs.declared.task.Commands.{Commands}
 use Rattle.twogtp.specs.declared.task.Task.{Task}
@@ -54,7 +54,7 @@ pub record IsNoSetup (options : Options) : Type 0 where
   pub no_setup : ¬ IsSetup (setup_of options.size komi options.handicap options.max_moves options.restarts)
 
 -- the mistake in the options of a task, komi's first
-abbrev pub IsTaskMistake : Options → Fault → Type 0
+abbrev pub IsTaskMistake : Options → Failure → Type 0
 IsTaskMistake options BadKomi = komi_of options.komi.now ≡ None
 IsTaskMistake options BadHandicap = IsNoSetup options
 IsTaskMistake options BadArgument = ⊥
@@ -65,7 +65,7 @@ IsTaskMistake options OutOfMemory = ⊥
 IsTaskMistake options TooManyTurns = ⊥
 
 -- the first mistake in the options: Black's command, White's, komi, the handicap
-abbrev pub IsMistake : Options → Fault → Type 0
+abbrev pub IsMistake : Options → Failure → Type 0
 IsMistake options NoBlackCommand = words options.black.now ≡ []
 IsMistake options NoWhiteCommand = (words options.black.now ≢ []) × (words options.white.now ≡ [])
 IsMistake options BadKomi = HaveWords options × IsTaskMistake options BadKomi

@@ -1,6 +1,5 @@
 -- What the program writes of its games.
-use Rattle.std.specs.Prelude.{◌≡◌, ◌≤◌, ◌⊎◌, ℕ, ◌+◌, Bool, true, false, List, [], ◌∷◌, ◌++◌, Option, None, Some, IfSome}
-use Rattle.std.specs.Io.KnownBytes.{Appends}
+use Rattle.std.specs.Prelude.{◌≡◌, ◌≤◌, ◌⊎◌, ℕ, ◌+◌, Bool, true, false, List, [], ◌∷◌, ◌++◌, Option, None, Some}
 use Rattle.go_base.specs.Bytes.{newline}
 use Rattle.clap.specs.Words.{Text}
 use Rattle.clap.specs.declared.error.kind.ErrorKind.{ErrorKind}
@@ -9,16 +8,19 @@ use Rattle.gtp_match.specs.declared.controller.Controller.{Controller}
 use Rattle.gtp_match.specs.declared.verdicts.Verdict.{Verdict}
 use Rattle.gtp_match.specs.Controller.{new}
 use Rattle.gtp_match.specs.ResultLine.{result_text, record_text}
-use Rattle.twogtp.specs.declared.fault.Fault.{Fault}
-use Rattle.twogtp.specs.declared.fault.Fault.TheVariants.{Write}
+use Rattle.twogtp.specs.declared.failure.Failure.{Failure}
+use Rattle.twogtp.specs.declared.failure.Failure.TheVariants.{Write}
 use Rattle.twogtp.specs.declared.options.Options.{Options}
-use Rattle.twogtp.specs.declared.starter.Conversation.{Ghosts}
+use Rattle.twogtp.specs.declared.output.Output.{Ghosts as OutputGhosts}
+use Rattle.twogtp.specs.declared.processes.Processes.{Processes}
+use Rattle.twogtp.specs.declared.starter.Process.{Ghosts}
 use Rattle.twogtp.specs.declared.task.Commands.{Commands}
 use Rattle.twogtp.specs.declared.task.Task.{Task}
+use Rattle.twogtp.specs.Closing.{AreClosed}
 use Rattle.twogtp.specs.Options.{AsksFor, AsksForText, HasFault}
-use Rattle.twogtp.specs.Pipes.{TakesPart}
-use Rattle.twogtp.specs.Processes.{no_processes}
-use Rattle.twogtp.specs.Status.{IsRequest, TellsFault, done, own_fault, status_with}
+use Rattle.twogtp.specs.Writing.{BreaksAt, GoesOut, IsWritten}
+use Rattle.twogtp.specs.Processes.{AreEnded, no_processes}
+use Rattle.twogtp.specs.Status.{IsRequest, TellsFailure, done, own_failure, status_with}
 use Rattle.twogtp.specs.Tasks.{IsMistake, IsPlanOf}
 use Rattle.twogtp.specs.Turns.{HasStopped, IsPlayed, Seen, seen, told_as}
 
@@ -41,61 +43,56 @@ result_part number c (Some verdict) = result_text number c verdict ++ newline �
 abbrev pub game_lines : Task → ℕ → Controller → List ℕ
 game_lines task number c = result_part number c c.verdict ++ (record_part task.record c ++ board_part task.show c)
 
--- A game was played to its end, and a writer took what is told of it under this number, all of it.
-pub record IsTold {P : Type 0} (known : Ghosts P) (commands : Commands) (task : Task) (number : ℕ) (verdict : Verdict)
-    (held holds : Option (List ℕ)) (had has : Seen P) : Type 0 where
+-- A game was played to its end, and what is told of it under this number went out. After that its processes were
+-- closed.
+pub record GameIsTold {P O E : Type 0} (known : Ghosts P) (outs : OutputGhosts O) (errs : OutputGhosts E)
+    (commands : Commands) (task : Task) (number : ℕ) (verdict : Verdict) (before after : O) (had has : Seen P E)
+    : Type 0 where
   pub c : Controller
-  pub played : IsPlayed known commands (told_as task.why number) task.setup had has c verdict
-  pub taken : Appends held holds (game_lines task number c)
+  pub played : IsPlayed known errs commands (told_as task.why number) task.setup had has c verdict
+  pub out : GoesOut outs (game_lines task number c) before after
+  pub closed : AreClosed known c played.plays.closing
 
--- Why a game isn't told whole. It stopped before its end, and the writer stayed as it was. Or it was played to its end,
--- and the writer took a beginning of what is told of it and broke.
-pub data IsUntold {P O : Type 0} (known : Ghosts P) (contents : O → Option (List ℕ)) (commands : Commands) (task : Task)
-    (number : ℕ) (before after : O) (had has : Seen P) : Fault → Type 0 where
-  stopped : {last : Controller} {fault : Fault}
-      → HasStopped known commands (told_as task.why number) (new task.setup) no_processes had has last fault
-      → after ≡ before
-      → IsUntold known contents commands task number before after had has fault
+-- Why a game isn't told whole. It stopped before its end, and the output stayed as it was. Or it was played to its end,
+-- and the output broke at what is told of it. Its processes were ended.
+pub data GameIsUntold {P O E : Type 0} (known : Ghosts P) (outs : OutputGhosts O) (errs : OutputGhosts E)
+    (commands : Commands) (task : Task) (number : ℕ) (before after : O) (had has : Seen P E) : Failure → Type 0 where
+  stopped : {last : Controller} {closing : Processes P} {failure : Failure}
+      → HasStopped known errs commands (told_as task.why number) (new task.setup) no_processes had has last closing
+      failure
+      → AreEnded known closing → after ≡ before
+      → GameIsUntold known outs errs commands task number before after had has failure
   broke : {c : Controller} {verdict : Verdict}
-      → IsPlayed known commands (told_as task.why number) task.setup had has c verdict
-      → TakesPart (game_lines task number c) (contents before) (contents after)
-      → IsUntold known contents commands task number before after had has Write
+      → (played : IsPlayed known errs commands (told_as task.why number) task.setup had has c verdict)
+      → AreEnded known played.plays.closing → BreaksAt outs (game_lines task number c) before after
+      → GameIsUntold known outs errs commands task number before after had has Write
 
--- The status of so many games, their text, and what was asked for in them: each was played to its end, and is told in
--- its turn.
-pub data Tells {P : Type 0} (known : Ghosts P) (commands : Commands) (task : Task) (had : Seen P)
-    : ℕ → ℕ → List ℕ → Seen P → Type 0 where
-  no_game : Tells known commands task had 0 done [] had
-  game : {number status : ℕ} {text : List ℕ} {between has : Seen P} {c : Controller} {verdict : Verdict}
-      → Tells known commands task had number status text between
-      → IsPlayed known commands (told_as task.why (number + 1)) task.setup between has c verdict
-      → Tells known commands task had (number + 1) (status_with status verdict)
-      (text ++ game_lines task (number + 1) c) has
+-- This number of games was played with this status, one after another. What is told of each went out in its turn.
+pub data GamesAreTold {P O E : Type 0} (known : Ghosts P) (outs : OutputGhosts O) (errs : OutputGhosts E)
+    (commands : Commands) (task : Task) (first : O) (had : Seen P E) : ℕ → ℕ → O → Seen P E → Type 0 where
+  no_game : GamesAreTold known outs errs commands task first had 0 done first had
+  game : {number status : ℕ} {before after : O} {between has : Seen P E} {verdict : Verdict}
+      → GamesAreTold known outs errs commands task first had number status before between
+      → GameIsTold known outs errs commands task (number + 1) verdict before after between has
+      → GamesAreTold known outs errs commands task first had (number + 1) (status_with status verdict) after has
 
--- So many games were played, and a writer took what is told of them.
-pub record HasToldSome {P : Type 0} (known : Ghosts P) (commands : Commands) (task : Task) (number status : ℕ)
-    (held holds : Option (List ℕ)) (had has : Seen P) : Type 0 where
-  pub text : List ℕ
-  pub tells : Tells known commands task had number status text has
-  pub taken : Appends held holds text
+-- all games were played and told, and nothing else was asked for than they ask for
+abbrev pub HasTold : {P O E : Type 0} → Ghosts P → OutputGhosts O → OutputGhosts E → Commands → Task → ℕ → O → O
+    → Seen P E → Seen P E → Type 0
+HasTold known outs errs commands task status before after had has =
+    GamesAreTold known outs errs commands task before had task.games status after has
 
--- all games were played, a writer took what is told of them, and nothing else was asked for than they ask for
-abbrev pub HasTold : {P : Type 0} → Ghosts P → Commands → Task → ℕ → Option (List ℕ) → Option (List ℕ)
-    → Seen P → Seen P → Type 0
-HasTold known commands task status held holds had has =
-    HasToldSome known commands task task.games status held holds had has
-
--- Some games were played, and a writer took all that is told of them. The next one isn't told whole: it stopped before
--- its end, or it was played to its end and the writer broke at it. The fault says which, and nothing else was asked for.
-pub record HasBegunToTell {P : Type 0} (known : Ghosts P) (commands : Commands) (task : Task)
-    (held holds : Option (List ℕ)) (had has : Seen P) (fault : Fault) : Type 0 where
+-- Some games were played and told. The next one isn't told whole: it stopped before its end, or it was played to its
+-- end and the output broke at it. The failure says which, and nothing else was asked for.
+pub record HasBegunToTell {P O E : Type 0} (known : Ghosts P) (outs : OutputGhosts O) (errs : OutputGhosts E)
+    (commands : Commands) (task : Task) (before after : O) (had has : Seen P E) (failure : Failure) : Type 0 where
   pub number : ℕ
   pub status : ℕ
   pub within : number + 1 ≤ task.games
-  pub mid : Option (List ℕ)
-  pub between : Seen P
-  pub told : HasToldSome known commands task number status held mid had between
-  pub untold : IsUntold known (λ (bytes : Option (List ℕ)). bytes) commands task (number + 1) mid holds between has fault
+  pub mid : O
+  pub between : Seen P E
+  pub told : GamesAreTold known outs errs commands task before had number status mid between
+  pub untold : GameIsUntold known outs errs commands task (number + 1) mid after between has failure
 
 -- ---- what the words ask for was done
 
@@ -107,51 +104,53 @@ pub record AsksForTask (words : List Text) (task : Task) : Type 0 where
   pub plan : IsPlanOf options commands task
 
 -- all games of the task that the words ask for were played and told, with this status
-pub record HasDone {P : Type 0} (known : Ghosts P) (words : List Text) (status : ℕ) (held holds : Option (List ℕ))
-    (had has : Seen P) : Type 0 where
+pub record HasDone {P O E : Type 0} (known : Ghosts P) (outs : OutputGhosts O) (errs : OutputGhosts E)
+    (words : List Text) (status : ℕ) (before after : O) (had has : Seen P E) : Type 0 where
   pub task : Task
   pub asks : AsksForTask words task
-  pub told : HasTold known asks.commands task status held holds had has
+  pub told : HasTold known outs errs asks.commands task status before after had has
 
--- Some games of the task that the words ask for were played, and what is told of them was begun, until a fault. The
--- fault is told behind what was told of lost sides.
-pub record HasBegun {P : Type 0} (known : Ghosts P) (words : List Text) (held holds : Option (List ℕ))
-    (had has : Seen P) : Type 0 where
+-- Some games of the task that the words ask for were played, and what is told of them was begun, until a failure. The
+-- failure is told behind what was told of lost sides.
+pub record HasBegun {P O E : Type 0} (known : Ghosts P) (outs : OutputGhosts O) (errs : OutputGhosts E)
+    (words : List Text) (before after : O) (had has : Seen P E) : Type 0 where
   pub task : Task
   pub asks : AsksForTask words task
-  pub losses : Option (List ℕ)
-  pub fault : Fault
-  pub begun : HasBegunToTell known asks.commands task held holds had (seen has.asked losses) fault
-  pub told : TellsFault fault losses has.told
+  pub losses : E
+  pub failure : Failure
+  pub begun : HasBegunToTell known outs errs asks.commands task before after had (seen has.asked losses) failure
+  pub told : TellsFailure errs failure losses has.errors
 
 -- ---- texts that were asked for, and mistakes
 
--- with status 0 a writer took the text, and with 3 a beginning of it, and nothing else
-abbrev pub IsShown : List ℕ → ℕ → Option (List ℕ) → Option (List ℕ) → Type 0
-IsShown text status held holds =
-    ((status ≡ done) × Appends held holds text) ⊎ ((status ≡ own_fault) × TakesPart text held holds)
+-- a text that was asked for went out with status 0, or the output broke at it with status 3
+abbrev pub IsShown : {O : Type 0} → OutputGhosts O → List ℕ → ℕ → O → O → Type 0
+IsShown outs text status before after =
+    ((status ≡ done) × GoesOut outs text before after) ⊎ ((status ≡ own_failure) × BreaksAt outs text before after)
 
--- the same of what a value is displayed as, where that is specified
-pub record IsDisplayed (output : Option (List ℕ)) (status : ℕ) (held holds : Option (List ℕ)) : Type 0 where
-  pub text : List ℕ
-  pub is : IfSome output (λ bytes. text ≡ bytes)
-  pub shown : IsShown text status held holds
-
--- the words ask for the help or the version, and a text was written with status 0, or with 3 a beginning of it
-pub record HasShown (words : List Text) (status : ℕ) (held holds : Option (List ℕ)) : Type 0 where
+-- the words ask for the help or the version, and a text went out with status 0, or the output broke at it with 3
+pub record HasShown {O : Type 0} (outs : OutputGhosts O) (words : List Text) (status : ℕ) (before after : O)
+    : Type 0 where
   pub asked : AsksForText words
   pub text : List ℕ
-  pub shown : IsShown text status held holds
+  pub shown : IsShown outs text status before after
 
 -- The options that the words ask for have a mistake. The first one is told.
-pub record AsksWrongly (words : List Text) (held holds : Option (List ℕ)) : Type 0 where
+pub record AsksWrongly {E : Type 0} (errs : OutputGhosts E) (words : List Text) (before after : E) : Type 0 where
   pub options : Options
   pub asked : AsksFor words options
-  pub fault : Fault
-  pub mistake : IsMistake options fault
-  pub told : TellsFault fault held holds
+  pub failure : Failure
+  pub mistake : IsMistake options failure
+  pub told : TellsFailure errs failure before after
 
--- The words have a mistake, or what they ask for has one. What is told of a mistake in the words is not said here.
-abbrev pub HasMistake : List Text → Option (List ℕ) → Option (List ℕ) → Type 0
-HasMistake words held holds =
-    ((kind : ErrorKind) × (¬ IsRequest kind) × HasFault words kind) ⊎ AsksWrongly words held holds
+-- The words have a mistake. One text is told.
+pub record IsRefusedByClap {E : Type 0} (errs : OutputGhosts E) (words : List Text) (before after : E) : Type 0 where
+  pub kind : ErrorKind
+  pub mistake : ¬ IsRequest kind
+  pub has : HasFault words kind
+  pub text : List ℕ
+  pub told : IsWritten errs text before after
+
+-- the words have a mistake, or what they ask for has one
+abbrev pub HasMistake : {E : Type 0} → OutputGhosts E → List Text → E → E → Type 0
+HasMistake errs words before after = IsRefusedByClap errs words before after ⊎ AsksWrongly errs words before after

@@ -58,17 +58,17 @@ rule_text Suicide = codes "an illegal move: suicide"
 rule_text Ko = codes "an illegal move: ko"
 
 -- what was wrong with what a side wrote
-abbrev pub cause_text : LossCause → List ℕ
-cause_text (Shows NoStatus) = codes "no reply: it begins with neither = nor ?"
-cause_text (Shows Overlong) = codes "no end of a reply in 8192 bytes"
-cause_text (Shows WrongId) = codes "a reply without the awaited id"
-cause_text (Shows Unasked) = codes "a reply to nothing that was asked"
-cause_text Unfit = codes "unfit: the command failed, or was answered wrongly"
-cause_text RefusesPlay = codes "the play was refused"
-cause_text KeepsMove = codes "the refused move was not taken back: the other side forfeits"
-cause_text NoMove = codes "no move: the genmove failed"
-cause_text NoVertex = codes "neither a vertex nor resign"
-cause_text (Illegal fault) = rule_text fault
+abbrev pub wrong_text : LossCause → List ℕ
+wrong_text (Shows NoStatus) = codes "no reply: it begins with neither = nor ?"
+wrong_text (Shows Overlong) = codes "no end of a reply in 8192 bytes"
+wrong_text (Shows WrongId) = codes "a reply without the awaited id"
+wrong_text (Shows Unasked) = codes "a reply to nothing that was asked"
+wrong_text Unfit = codes "unfit: the command failed, or was answered wrongly"
+wrong_text RefusesPlay = codes "the play was refused"
+wrong_text KeepsMove = codes "the refused move was not taken back: the other side forfeits"
+wrong_text NoMove = codes "no move: the genmove failed"
+wrong_text NoVertex = codes "neither a vertex nor resign"
+wrong_text (Illegal fault) = rule_text fault
 
 -- ---- what a side owed
 
@@ -122,7 +122,7 @@ abbrev pub lost_text : Lost → Ending → List ℕ
 lost_text (NotStarted reason) ending = codes "not started: " ++ reason_text reason
 lost_text (CutOff cause owed) ending =
     owed_text owed ++ (pipe_text cause ++ (ending_text ending ++ wrote_text owed))
-lost_text (Wrote loss) ending = owed_text loss.owed ++ (cause_text loss.cause ++ wrote_text loss.owed)
+lost_text (Wrote loss) ending = owed_text loss.owed ++ (wrong_text loss.cause ++ wrote_text loss.owed)
 
 -- the line of a game, of the side whose turn lost a side: `twogtp: game N: SIDE: ..`
 abbrev pub lost_line : ℕ → Colour → Lost → Ending → List ℕ

@@ -10,6 +10,7 @@ ghost use Rattle.twogtp.specs.Options.{program, with_rest, required_rule, option
 
 use clap::builder::ValueParser;
 use clap::{Arg, ArgAction, ArgMatches, Command, Error, value_parser};
+use go_board::VERSION;
 use std::alloc::{AllocError, Global};
 use std::convert::AsStr;
 
@@ -127,7 +128,7 @@ fn with_engines<'a>(alloc: Global) -> Result<Command<'a>, AllocError>
 {
     Command::new(alloc, "twogtp")
         .bin_name("twogtp")?
-        .version("1.0")
+        .version(VERSION)
         .about("Plays two engines of the Go Text Protocol, version 2, against each other")
         .after_help(AFTER_OPTIONS)
         .arg(engine(alloc, "black", "Command of Black's engine, split at spaces"))?

@@ -1,9 +1,9 @@
 //! Calls of a process's pipes, which are tried again where they are interrupted.
 ghost use Rattle.std.specs.Prelude.{◌≡◌, ◌≤◌, ◌<◌, length, IfOk, OnOk, OnErr};
 ghost use Rattle.std.specs.Io.KnownBytes.{Appends, WriteAppends, Keeps};
-ghost use Rattle.twogtp.specs.Pipes.{HasEnded, IsCutOff, IsUnbroken, TakesPart};
+ghost use Rattle.twogtp.specs.Pipes.{IsCutOff, IsUnbroken, OutputEnded, TakesPart};
 
-use crate::starter::{Conversation, PipeFault};
+use crate::starter::{PipeFault, Process};
 
 /// How many bytes are read at once at most.
 pub const READ_ROOM: usize = 4096;
@@ -21,7 +21,7 @@ pub struct CutOff;
 /// # Errors
 ///
 /// Where the read fails otherwise than by an interruption, or is interrupted 1,000,000,000 times in a row.
-pub fn read_once<P: Conversation>(process: &mut P, buffer: &mut [u8]) -> Result<usize, CutOff>
+pub fn read_once<P: Process>(process: &mut P, buffer: &mut [u8]) -> Result<usize, CutOff>
     ensures bound { IfOk result (λ n. n ≤ length buffer.new) }
     ensures len { length buffer.new ≡ length buffer.old }
     ensures gives { WriteAppends (P.given process.old) (P.given process.new) result buffer.new }
@@ -29,7 +29,7 @@ pub fn read_once<P: Conversation>(process: &mut P, buffer: &mut [u8]) -> Result<
     ensures unbroken { IfOk result (λ n. 0 < n →
         IsUnbroken P.fails P.succeeds process.old process.new) }
     ensures ended { IfOk result (λ n. n ≡ 0 → 0 < length buffer.new →
-        HasEnded P.fails P.succeeds P.runs_out process.old process.new) }
+        OutputEnded P.fails P.succeeds P.runs_out process.old process.new) }
     ensures failed { OnErr result (IsCutOff P.fails P.succeeds process.old process.new) }
 {
     for _try in 0..MOST_TRIES {
@@ -48,7 +48,7 @@ pub fn read_once<P: Conversation>(process: &mut P, buffer: &mut [u8]) -> Result<
 ///
 /// Where a write takes nothing, or a write or the flush fails otherwise than by an interruption, or is interrupted
 /// 1,000,000,000 times in a row.
-pub fn write_whole<P: Conversation>(process: &mut P, text: &[u8]) -> Result<(), CutOff>
+pub fn write_whole<P: Process>(process: &mut P, text: &[u8]) -> Result<(), CutOff>
     ensures takes { OnOk result (Appends (P.taken process.old) (P.taken process.new) text.now) }
     ensures part { OnErr result
         (TakesPart text.now (P.taken process.old) (P.taken process.new)) }
@@ -68,8 +68,8 @@ pub fn write_whole<P: Conversation>(process: &mut P, text: &[u8]) -> Result<(), 
     flush(process)
 }
 
-/// Sends bytes from the front of the text, and answers how many.
-fn write_once<P: Conversation>(process: &mut P, text: &[u8]) -> Result<usize, CutOff>
+/// Sends bytes from the front of the text, and returns how many.
+fn write_once<P: Process>(process: &mut P, text: &[u8]) -> Result<usize, CutOff>
     ensures bound { IfOk result (λ n. n ≤ length text.now) }
     ensures takes { WriteAppends (P.taken process.old) (P.taken process.new) result text.now }
     ensures given { Keeps (P.given process.old) (P.given process.new) }
@@ -90,7 +90,7 @@ fn write_once<P: Conversation>(process: &mut P, text: &[u8]) -> Result<usize, Cu
 }
 
 /// Lets go out what was sent.
-fn flush<P: Conversation>(process: &mut P) -> Result<(), CutOff>
+fn flush<P: Process>(process: &mut P) -> Result<(), CutOff>
     ensures unbroken { OnOk result (IsUnbroken P.fails P.succeeds process.old process.new) }
     ensures flushed { OnOk result (P.flushed process.new) }
     ensures taken { Keeps (P.taken process.old) (P.taken process.new) }

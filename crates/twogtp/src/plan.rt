@@ -2,7 +2,7 @@
 ghost use Rattle.std.specs.Prelude.{◌≡◌, ◌⊎◌, IfOk, IfErr};
 ghost use Rattle.twogtp.specs.Tasks.{AreCommandsOf, IsCommand, IsMistake, IsPlanOf, IsTaskMistake, IsTaskOf};
 
-use crate::fault::Fault;
+use crate::failure::Failure;
 use crate::options::Options;
 use crate::task::{Commands, Task};
 use go_base::{Komi, Size};
@@ -24,10 +24,10 @@ pub struct Plan<'a> {
 ///
 /// `OutOfMemory`, or the first mistake in this order: Black's command has no word, White's has none, the text of komi
 /// is no komi, the size doesn't allow the handicap.
-pub fn plan_of<'a>(alloc: Global, options: &Options<'a>) -> Result<Plan<'a>, Fault>
+pub fn plan_of<'a>(alloc: Global, options: &Options<'a>) -> Result<Plan<'a>, Failure>
     ensures plan { IfOk result (λ plan. IsPlanOf options.now plan.commands plan.task) }
-    ensures fault { IfErr result (λ fault.
-        (fault ≡ Fault.OutOfMemory) ⊎ IsMistake options.now fault) }
+    ensures failure { IfErr result (λ failure.
+        (failure ≡ Failure.OutOfMemory) ⊎ IsMistake options.now failure) }
 {
     let commands = commands_of(alloc, options)?;
     let task = task_of(options)?;
@@ -35,37 +35,37 @@ pub fn plan_of<'a>(alloc: Global, options: &Options<'a>) -> Result<Plan<'a>, Fau
 }
 
 /// The commands of the options. Black's is looked at first.
-fn commands_of<'a>(alloc: Global, options: &Options<'a>) -> Result<Commands<'a>, Fault>
+fn commands_of<'a>(alloc: Global, options: &Options<'a>) -> Result<Commands<'a>, Failure>
     ensures commands { IfOk result (AreCommandsOf options.now) }
-    ensures fault { IfErr result (λ fault.
-        (fault ≡ Fault.OutOfMemory) ⊎ IsMistake options.now fault) }
+    ensures failure { IfErr result (λ failure.
+        (failure ≡ Failure.OutOfMemory) ⊎ IsMistake options.now failure) }
 {
     let Ok(black) = words_of(alloc, options.black) else {
-        return Err(Fault::OutOfMemory);
+        return Err(Failure::OutOfMemory);
     };
     if black.is_empty() {
-        return Err(Fault::NoBlackCommand);
+        return Err(Failure::NoBlackCommand);
     }
     let Ok(white) = words_of(alloc, options.white) else {
-        return Err(Fault::OutOfMemory);
+        return Err(Failure::OutOfMemory);
     };
     if white.is_empty() {
-        return Err(Fault::NoWhiteCommand);
+        return Err(Failure::NoWhiteCommand);
     }
     Ok(Commands { black, white })
 }
 
 /// The task of the options. Komi is looked at first. That a size or another number is past its limits isn't met, since
 /// the command line refuses it.
-fn task_of(options: &Options<'_>) -> Result<Task, Fault>
+fn task_of(options: &Options<'_>) -> Result<Task, Failure>
     ensures task { IfOk result (IsTaskOf options.now) }
-    ensures fault { IfErr result (IsTaskMistake options.now) }
+    ensures failure { IfErr result (IsTaskMistake options.now) }
 {
     let Some(komi) = Komi::read(options.komi.as_bytes()) else {
-        return Err(Fault::BadKomi);
+        return Err(Failure::BadKomi);
     };
     let Some(size) = Size::new(options.size) else {
-        return Err(Fault::BadHandicap);
+        return Err(Failure::BadHandicap);
     };
     match Setup::new(
         size,
@@ -81,7 +81,7 @@ fn task_of(options: &Options<'_>) -> Result<Task, Fault>
             show: options.show,
             why: options.why,
         }),
-        Err(_) => Err(Fault::BadHandicap),
+        Err(_) => Err(Failure::BadHandicap),
     }
 }
 

@@ -7,21 +7,22 @@ use std::time::{Clock, Duration, Instant};
 /// How many milliseconds the processor may be gone for a process to go first again.
 const MOST_MILLISECONDS: u64 = 1;
 
-/// Whether a process that has several commands to answer runs before it is read. On one processor it has mostly
-/// answered them all then, and the system needn't wake the program that reads for each answer. The bytes are the same,
-/// maybe in other pieces.
+/// Whether a process goes first: where it has several commands to answer, it runs before it is read.
+///
+/// Where both share a processor, it has answered them all by then, mostly. The system needn't wake the reading program
+/// for each answer. The bytes are the same, maybe in other pieces.
 #[derive(Clone, Copy, Debug, PartialEq, Eq, Drop)]
 pub enum Precedence {
-    /// It was just started. Its first read isn't delayed, so that the time of its start doesn't count.
+    /// It was just started. It doesn't go first at its first read, where the time of its start would count.
     Starting,
     /// It goes first.
     First,
-    /// It goes first no more: the processor came back too late, since the process thinks, or others want it too.
+    /// It goes first no more: the processor came back too late. The process thinks, or others want the processor too.
     Over,
 }
 
 impl Precedence {
-    /// Lets a process go first that does, and answers what holds before the next read.
+    /// Lets the process run first, where it goes first, and returns its precedence at the next read.
     pub fn let_run<C: Clock>(self, clock: &C) -> Precedence
         ensures starting { self ≡ Precedence.Starting → result ≡ Precedence.First }
         ensures over { self ≡ Precedence.Over → result ≡ Precedence.Over }
@@ -34,7 +35,7 @@ impl Precedence {
     }
 }
 
-/// Lets others have the processor, and answers whether it is back soon. Where the clock can't be read, it is not.
+/// Lets others have the processor, and returns whether it was back soon. It wasn't where the clock can't be read.
 fn is_back_soon<C: Clock>(clock: &C) -> bool {
     let Ok(start) = Instant::now(clock) else {
         return false;

@@ -1,27 +1,25 @@
 //! The program, over any writers and any means to start processes.
-ghost use Rattle.std.specs.Prelude.{◌≡◌, ◌⊎◌, ◌≢◌, map, true, false, IfOk, IfErr, OnErr};
-ghost use Rattle.clap.specs.Words.{kind_of};
-ghost use Rattle.twogtp.specs.Status.{IsStatus, IsRequest, TellsFault, done, some_given_up, usage_fault};
-ghost use Rattle.twogtp.specs.Status.{own_fault, status_of, status_with};
-ghost use Rattle.twogtp.specs.Telling.{HasBegun, HasBegunToTell, HasDone, HasMistake, HasShown};
-ghost use Rattle.twogtp.specs.Telling.{HasTold, IsDisplayed};
+ghost use Rattle.std.specs.Prelude.{◌≡◌, ◌⊎◌, map, true, false, string_bytes, IfOk, IfErr, OnOk, OnErr};
 ghost use Rattle.twogtp.specs.Options.{AsksForNoWhy};
+ghost use Rattle.twogtp.specs.Writing.{BreaksAt, GoesOut, IsWritten, OfDisplayed};
+ghost use Rattle.twogtp.specs.Status.{IsRequest, IsStatus, TellsFailure, done, exit_status, own_failure};
+ghost use Rattle.twogtp.specs.Status.{some_given_up, status_with, usage_failure};
+ghost use Rattle.twogtp.specs.Telling.{HasBegun, HasBegunToTell, HasDone, HasMistake, HasShown, HasTold, IsShown};
 ghost use Rattle.twogtp.specs.Turns.{seen};
 
-use crate::fault::{Fault, tell};
+use crate::failure::{Failure, tell};
 use crate::options::read_options;
+use crate::output::{NotWritten, Output};
 use crate::plan::plan_of;
-use crate::play::play_game;
 use crate::starter::Starter;
 use crate::task::{Commands, Task};
-use crate::telling::write_text;
+use crate::turns::play_game;
+use crate::writing::{write_or_break, write_text};
 use clap::error::ErrorKind;
 use gtp_match::Verdict;
-use std::alloc::Global;
+use std::alloc::{AllocError, Global};
 use std::convert::AsStr;
 use std::fmt::Display;
-use std::io;
-use std::io::Write;
 
 /// Plays the games that the words of the command line ask for, the first of which is the program's name, tells each on
 /// `output`, and returns the status that the program ends with:
@@ -32,7 +30,7 @@ use std::io::Write;
 /// - 3 where the output or a line of a lost side can't be written, memory was refused, or a game had too many turns.
 ///
 /// What a status of 2 or 3 means is told on `errors`, and whether that can be written changes nothing.
-pub fn run<A: AsStr, O: Write, E: Write, S: Starter>(
+pub fn run<A: AsStr, O: Output, E: Output, S: Starter>(
     alloc: Global,
     words: &[A],
     output: &mut O,
@@ -42,8 +40,8 @@ pub fn run<A: AsStr, O: Write, E: Write, S: Starter>(
     ensures status { IsStatus result }
     // After a mistake in the words nothing was started, and nothing was written to the output. Of
     // the options the first mistake is told on standard error.
-    ensures usage { result ≡ usage_fault → HasMistake (map A.text words.now)
-        (E.contents errors.old) (E.contents errors.new)
+    ensures usage { result ≡ usage_failure →
+        HasMistake E.Output (map A.text words.now) errors.old errors.new
         × (output.new ≡ output.old) × (starter.new ≡ starter.old) }
     // Where the status is 0 or 1 and it isn't asked why engines are lost, nothing is told on
     // standard error.
@@ -52,25 +50,23 @@ pub fn run<A: AsStr, O: Write, E: Write, S: Starter>(
     // All games of the task that the words ask for were played and told; or they ask for help or
     // the version, that was written, and nothing was started.
     ensures played { (result ≡ done) ⊎ (result ≡ some_given_up) →
-        ((starter.new ≡ starter.old) × HasShown (map A.text words.now) result
-        (O.contents output.old) (O.contents output.new))
-        ⊎ HasDone S.Process.Conversation (map A.text words.now) result
-        (O.contents output.old) (O.contents output.new)
-        (seen (S.asked starter.old) (E.contents errors.old))
-        (seen (S.asked starter.new) (E.contents errors.new)) }
+        ((starter.new ≡ starter.old)
+        × HasShown O.Output (map A.text words.now) result output.old output.new)
+        ⊎ HasDone S.Process.Process O.Output E.Output (map A.text words.now) result
+        output.old output.new
+        (seen (S.asked starter.old) errors.old) (seen (S.asked starter.new) errors.new) }
     // What was written before the program had to stop is the beginning of what is told, or of the
-    // help or the version. Why it stopped is told last on standard error, in a line or a beginning
-    // of it.
-    ensures stopped { result ≡ own_fault →
+    // help or the version: then the output broke at it. Why it stopped is told last on standard
+    // error. Memory that was refused before any game is the one cause that isn't seen here.
+    ensures stopped { result ≡ own_failure →
         ((starter.new ≡ starter.old) × (output.new ≡ output.old)
-        × TellsFault Fault.OutOfMemory (E.contents errors.old) (E.contents errors.new))
-        ⊎ ((starter.new ≡ starter.old) × HasShown (map A.text words.now) result
-        (O.contents output.old) (O.contents output.new)
-        × TellsFault Fault.Write (E.contents errors.old) (E.contents errors.new))
-        ⊎ HasBegun S.Process.Conversation (map A.text words.now)
-        (O.contents output.old) (O.contents output.new)
-        (seen (S.asked starter.old) (E.contents errors.old))
-        (seen (S.asked starter.new) (E.contents errors.new)) }
+        × TellsFailure E.Output Failure.OutOfMemory errors.old errors.new)
+        ⊎ ((starter.new ≡ starter.old)
+        × HasShown O.Output (map A.text words.now) result output.old output.new
+        × TellsFailure E.Output Failure.Write errors.old errors.new)
+        ⊎ HasBegun S.Process.Process O.Output E.Output (map A.text words.now)
+        output.old output.new
+        (seen (S.asked starter.old) errors.old) (seen (S.asked starter.new) errors.new) }
 {
     let options = match read_options(alloc, words) {
         Ok(options) => options,
@@ -78,35 +74,33 @@ pub fn run<A: AsStr, O: Write, E: Write, S: Starter>(
     };
     let plan = match plan_of(alloc, &options) {
         Ok(plan) => plan,
-        Err(fault) => return tell(fault, errors),
+        Err(failure) => return tell(failure, errors),
     };
     match play_games(&plan.task, &plan.commands, output, errors, starter) {
         Ok(status) => status,
-        Err(fault) => tell(fault, errors),
+        Err(failure) => tell(failure, errors),
     }
 }
 
 /// Plays the games of a task, and tells each.
-fn play_games<O: Write, E: Write, S: Starter>(
+fn play_games<O: Output, E: Output, S: Starter>(
     task: &Task,
     commands: &Commands<'_>,
     output: &mut O,
     errors: &mut E,
     starter: &mut S,
-) -> Result<u8, Fault>
+) -> Result<u8, Failure>
     ensures told { IfOk result (λ status.
-        HasTold S.Process.Conversation commands.now task.now status
-        (O.contents output.old) (O.contents output.new)
-        (seen (S.asked starter.old) (E.contents errors.old))
-        (seen (S.asked starter.new) (E.contents errors.new))) }
+        HasTold S.Process.Process O.Output E.Output commands.now task.now status
+        output.old output.new
+        (seen (S.asked starter.old) errors.old) (seen (S.asked starter.new) errors.new)) }
     ensures quiet { task.now.why ≡ false → errors.new ≡ errors.old }
     ensures range { IfOk result (λ status. (status ≡ done) ⊎ (status ≡ some_given_up)) }
     ensures begun { IfErr result
-        (HasBegunToTell S.Process.Conversation commands.now task.now
-        (O.contents output.old) (O.contents output.new)
-        (seen (S.asked starter.old) (E.contents errors.old))
-        (seen (S.asked starter.new) (E.contents errors.new))) }
-    ensures fault { IfErr result (λ fault. status_of fault ≡ own_fault) }
+        (HasBegunToTell S.Process.Process O.Output E.Output commands.now task.now
+        output.old output.new
+        (seen (S.asked starter.old) errors.old) (seen (S.asked starter.new) errors.new)) }
+    ensures failure { IfErr result (λ failure. exit_status failure ≡ own_failure) }
 {
     let mut status = 0;
     for index in 0..task.games {
@@ -127,42 +121,41 @@ fn with_verdict(status: u8, verdict: Verdict) -> u8
 }
 
 /// Tells what `clap` returns in place of options, an error of this kind with this text, and returns the status.
-fn answer_error<T: Display, W: Write, E: Write>(
+fn answer_error<T: Display, O: Output, E: Output>(
     alloc: Global,
     kind: ErrorKind,
     text: &T,
-    output: &mut W,
+    output: &mut O,
     errors: &mut E,
 ) -> u8
-    ensures status { (result ≡ done) ⊎ (result ≡ usage_fault) ⊎ (result ≡ own_fault) }
-    ensures usage { result ≡ usage_fault → output.new ≡ output.old }
+    ensures status { (result ≡ done) ⊎ (result ≡ usage_failure) ⊎ (result ≡ own_failure) }
+    ensures usage { result ≡ usage_failure → output.new ≡ output.old }
     ensures quiet { result ≡ done → errors.new ≡ errors.old }
-    ensures mistake { result ≡ usage_fault → ¬ IsRequest kind }
-    ensures memory { kind ≡ ErrorKind.OutOfMemory → result ≡ own_fault }
+    ensures mistake { result ≡ usage_failure → ¬ IsRequest kind }
+    ensures memory { kind ≡ ErrorKind.OutOfMemory → result ≡ own_failure }
+    // The text of a mistake is told, once, unless memory is refused for it.
+    ensures told { result ≡ usage_failure →
+        OfDisplayed (T.output text.now) (λ shown. IsWritten E.Output shown errors.old errors.new)
+        ⊎ TellsFailure E.Output Failure.OutOfMemory errors.old errors.new }
     // A text that was asked for was written once.
-    ensures shown { result ≡ done → IsRequest kind × IsDisplayed (T.output text.now) result
-        (W.contents output.old) (W.contents output.new) }
-    // A mistake in the words is no fault of the program's own.
-    ensures own { result ≡ own_fault →
+    ensures shown { result ≡ done → IsRequest kind
+        × OfDisplayed (T.output text.now) (λ shown. GoesOut O.Output shown output.old output.new) }
+    // A mistake in the words is no failure of the program's own.
+    ensures own { result ≡ own_failure →
         (((kind ≡ ErrorKind.OutOfMemory) ⊎ IsRequest kind) × (output.new ≡ output.old)
-        × TellsFault Fault.OutOfMemory (E.contents errors.old) (E.contents errors.new))
-        ⊎ (IsRequest kind × IsDisplayed (T.output text.now) result
-        (W.contents output.old) (W.contents output.new)
-        × TellsFault Fault.Write (E.contents errors.old) (E.contents errors.new)) }
+        × TellsFailure E.Output Failure.OutOfMemory errors.old errors.new)
+        ⊎ (IsRequest kind
+        × OfDisplayed (T.output text.now) (λ shown. BreaksAt O.Output shown output.old output.new)
+        × TellsFailure E.Output Failure.Write errors.old errors.new) }
 {
     if kind == ErrorKind::OutOfMemory {
-        return tell(Fault::OutOfMemory, errors);
+        return tell(Failure::OutOfMemory, errors);
     }
-    if !is_request(kind) {
-        let _ = print(text, errors);
-        return 2;
-    }
-    let Ok(text) = text.to_string(alloc) else {
-        return tell(Fault::OutOfMemory, errors);
-    };
-    match write_text(output, text.as_bytes()) {
-        Ok(()) => 0,
-        Err(_) => tell(Fault::Write, errors),
+    if is_request(kind) {
+        show(text.to_string(alloc), output, errors)
+    } else {
+        tell_mistake(text.to_string(alloc), errors);
+        2
     }
 }
 
@@ -174,8 +167,40 @@ fn is_request(kind: ErrorKind) -> bool
     matches!(kind, ErrorKind::DisplayHelp | ErrorKind::DisplayVersion)
 }
 
-/// Writes the text and flushes it.
-fn print<T: Display, W: Write>(text: &T, writer: &mut W) -> io::Result<()> {
-    write!(writer, "{text}")?;
-    writer.flush()
+/// Writes a text that was asked for, unless memory was refused for it, and returns the status.
+fn show<O: Output, E: Output>(
+    text: Result<String, AllocError>,
+    output: &mut O,
+    errors: &mut E,
+) -> u8
+    ensures written { IfOk text (λ text.
+        IsShown O.Output (string_bytes text) result output.old output.new) }
+    ensures quiet { result ≡ done → errors.new ≡ errors.old }
+    ensures broke { OnOk text
+        (result ≡ own_failure → TellsFailure E.Output Failure.Write errors.old errors.new) }
+    ensures refused { OnErr text ((result ≡ own_failure) × (output.new ≡ output.old)
+        × TellsFailure E.Output Failure.OutOfMemory errors.old errors.new) }
+{
+    match text {
+        Ok(text) => match write_text(output, text.as_bytes()) {
+            Ok(()) => 0,
+            Err(NotWritten) => tell(Failure::Write, errors),
+        },
+        Err(AllocError) => tell(Failure::OutOfMemory, errors),
+    }
+}
+
+/// Tells the text of a mistake in the words, or, where memory was refused for it, that.
+fn tell_mistake<E: Output>(text: Result<String, AllocError>, errors: &mut E)
+    ensures told { IfOk text (λ text.
+        IsWritten E.Output (string_bytes text) errors.old errors.new) }
+    ensures refused { OnErr text (TellsFailure E.Output Failure.OutOfMemory errors.old errors.new) }
+{
+    match text {
+        Ok(text) => write_or_break(errors, text.as_bytes()),
+        Err(AllocError) => {
+            // The status stays that of a mistake.
+            let _ = tell(Failure::OutOfMemory, errors);
+        }
+    }
 }

@@ -5,14 +5,14 @@ ghost use Rattle.gtp_match.specs.declared.verdicts.Action.TheVariants as action;
 ghost use Rattle.gtp_match.specs.Controller.{sent};
 ghost use Rattle.gtp_match.specs.Next.{next};
 ghost use Rattle.gtp_match.specs.Sound.{IsSound};
-ghost use Rattle.twogtp.specs.Speaking.{TakesAll, command_text};
+ghost use Rattle.twogtp.specs.Speaking.{TakesAllCommands, command_text};
 
 use arrayvec::ArrayVec;
 use go_base::Side;
 use gtp_match::{Action, MOST_UNANSWERED, Match};
 use gtp_wire::MOST_COMMAND_BYTES;
 
-/// The room for the bytes of as many commands as a side may have unanswered.
+/// The room for the bytes of all commands that a side may have unanswered.
 const TEXT_ROOM: usize = MOST_UNANSWERED * MOST_COMMAND_BYTES;
 
 /// The bytes of commands, joined.
@@ -20,7 +20,7 @@ pub type CommandsText = ArrayVec<u8, TEXT_ROOM>;
 
 /// Counts as sent each command that comes next for a side, until something else comes next, and returns their bytes.
 pub fn take_commands(game: &mut Match, side: Side) -> CommandsText
-    ensures { TakesAll game.old side result.items game.new }
+    ensures { TakesAllCommands game.old side result.items game.new }
 {
     let mut text = ArrayVec::new();
     for _number in 0..MOST_UNANSWERED {
@@ -53,5 +53,6 @@ fn push_command(text: &mut CommandsText, game: &mut Match, side: Side)
     ensures few { array_vec_len text.new ≤ array_vec_len text.old + MOST_COMMAND_BYTES }
 {
     let command = game.send(side);
+    // There is room, so all is taken.
     let _ = text.try_extend_from_slice(&command);
 }

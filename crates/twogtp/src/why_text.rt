@@ -7,7 +7,7 @@ ghost use Rattle.std.specs.Fmt.{decimal};
 ghost use Rattle.std.specs.List.{join_with_byte};
 ghost use Rattle.go_base.specs.Bytes.{space};
 ghost use Rattle.gtp_wire.specs.Commands.{IsWritable, words_of};
-ghost use Rattle.twogtp.specs.Why.{CanBeTold, reason_text, pipe_text, ending_text, rule_text, cause_text, hex_digit};
+ghost use Rattle.twogtp.specs.Why.{CanBeTold, reason_text, pipe_text, ending_text, rule_text, wrong_text, hex_digit};
 ghost use Rattle.twogtp.specs.Why.{shown_byte, shown_bytes, sent_text, oldest_text, owed_text, wrote_text, lost_text};
 ghost use Rattle.twogtp.specs.Why.{lost_line};
 
@@ -61,7 +61,7 @@ fn push_lost(line: &mut LostLine, lost: &Lost, ending: Ending)
         }
         Lost::Wrote(loss) => {
             push_owed(line, &loss.owed);
-            push(line, cause_text(loss.cause));
+            push(line, wrong_text(loss.cause));
             push_wrote(line, &loss.owed);
         }
     }
@@ -103,8 +103,8 @@ fn pipe_text(cause: PipeCause) -> &'static [u8]
     }
 }
 
-fn cause_text(cause: LossCause) -> &'static [u8]
-    ensures text { result.now ≡ cause_text cause }
+fn wrong_text(cause: LossCause) -> &'static [u8]
+    ensures text { result.now ≡ wrong_text cause }
     ensures few { length result.now ≤ 60 }
 {
     match cause {
@@ -263,6 +263,7 @@ fn push(line: &mut LostLine, bytes: &[u8])
     ensures bytes { line.new.items ≡ line.old.items ++ bytes.now }
     ensures len { array_vec_len line.new ≡ array_vec_len line.old + length bytes.now }
 {
+    // There is room, so all is taken.
     let _ = line.try_extend_from_slice(bytes);
 }
 

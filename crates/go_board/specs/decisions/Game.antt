@@ -16,8 +16,8 @@ use Rattle.go_board.specs.Board.{at, IsStone, HasStone}
 use Rattle.go_board.specs.Put.{put}
 use Rattle.go_board.specs.decisions.Board.{on?, cell?, boards?}
 use Rattle.go_board.specs.decisions.Chain.{some_below?, touches?}
-use Rattle.go_board.specs.Game.{GameRecord, first_moves, without_last, board_of, RepeatsLast, RepeatsAny, RepeatsBy, Repeats}
-use Rattle.go_board.specs.Game.{IsLegal, IsFinished}
+use Rattle.go_board.specs.Game.{GameRecord, first_moves, without_last, board_of, RepeatsLast, RepeatsAny, RepeatsBy}
+use Rattle.go_board.specs.Game.{Repeats, IsLegal, IsFinished}
 use Rattle.go_board.specs.Refusals.{IsTouched}
 
 -- ---- legal

@@ -65,8 +65,8 @@ IsNamed board old new place =
     (IsStone (at board place) × IsChainNamed board old new place)
     ⊎ ((IsStone (at board place) → label_of old place ≢ 0) × (new ≡ old))
 
--- A stone that has so many neighbours of its chain is on this place: none is left of the chain, or the stone was at its
--- end, where no path between two others needs it, and the chain's label is another place.
+-- A stone on this place has `beside` neighbours of its chain. Without it none is left of the chain, or the stone was at
+-- its end, where no path between two others needs it, and the chain's label is another place.
 abbrev pub StaysWhole : ℕ → ℕ → ℕ → Type 0
 StaysWhole beside label place = (beside ≡ 0) ⊎ ((beside ≡ 1) × (label ≢ place))
 

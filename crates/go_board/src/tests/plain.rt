@@ -51,7 +51,7 @@ fn beside(place: usize) -> [usize; 4] {
 }
 
 impl PlainBoard {
-    /// The board with so many lines each way, without a stone.
+    /// The board with `lines` lines each way, without a stone.
     fn empty(lines: u32) -> PlainBoard {
         let mut board = PlainBoard {
             cells: [Cell::Edge; PLACES],
@@ -105,7 +105,7 @@ impl PlainBoard {
         found
     }
 
-    /// Removes, all at once, the stones of this colour whose chains have no liberty. Answers how many there were.
+    /// Removes, all at once, the stones of this colour whose chains have no liberty. Returns how many there were.
     fn remove_captured(&mut self, colour: Colour) -> u32 {
         let stone = Cell::stone(colour);
         let free = self.touching(stone, Cell::Empty);
@@ -119,7 +119,7 @@ impl PlainBoard {
         removed
     }
 
-    /// Puts a stone on a point, and then removes the other colour's stones that have no liberty. Answers how many it
+    /// Puts a stone on a point, and then removes the other colour's stones that have no liberty. Returns how many it
     /// took.
     fn put(&mut self, colour: Colour, place: usize) -> u32 {
         self.set(place, Cell::stone(colour));

@@ -218,8 +218,8 @@ fn three_kos_end_under_positional_ko_alone(rt: HostRuntime) {
     }
 }
 
-/// White plays on all points but C3, and so takes both handicap stones, C3 and E5. Black's C3 takes all of White's. Then
-/// Black's E5 leaves the board before the first move.
+/// White plays on all points but C3, and so takes both handicap stones, C3 and E5. Black's C3 takes all of White's.
+/// Then Black's E5 leaves the board before the first move.
 #[test]
 fn the_board_before_the_first_move_counts(rt: HostRuntime) {
     for (rule, wanted) in [

@@ -104,7 +104,7 @@ fn draw(rt: &impl Abort, draws: &mut Draws, game: &Game, slow: &SlowGame) -> Mov
     }
 }
 
-/// Tries one random move, and answers what came of it.
+/// Tries one random move, and returns what came of it.
 fn step(
     rt: &impl Abort,
     draws: &mut Draws,

@@ -98,7 +98,7 @@ impl Position {
         }
     }
 
-    /// Marks each spot that holds this stone, or none, and is beside a marked one. Answers whether there was one to
+    /// Marks each spot that holds this stone, or none, and is beside a marked one. Returns whether there was one to
     /// mark.
     fn grow(&self, marks: &mut Marks, stone: Option<Colour>) -> bool {
         let mut grew = false;
@@ -153,7 +153,7 @@ impl Position {
         false
     }
 
-    /// Takes off the stones of a chain. Answers how many there are.
+    /// Takes off the stones of a chain. Returns how many there are.
     fn take_off(&mut self, chain: &Marks) -> u32 {
         let mut taken: u32 = 0;
         for number in 0..SPOTS {
@@ -281,7 +281,7 @@ impl SlowGame {
         Ok(())
     }
 
-    /// Takes the last move back, and answers it.
+    /// Takes the last move back, and returns it.
     pub fn undo(&mut self) -> Option<Move> {
         let before = self.before()?;
         self.now = before;

@@ -1,11 +1,13 @@
 -- What the code's outcome of a command answers, and what the functions of the table say of it.
-use Rattle.std.specs.Prelude.{◌≡◌, ℕ, List, [], Option, Result, Ok, Err, MatchOption}
+use Rattle.std.specs.Prelude.{◌≡◌, ℕ, List, [], Option, Result, Ok, Err, MatchOption, codes}
 use Rattle.std.specs.Result.{is_ok}
 use Rattle.std.specs.Borrow.{Bor}
 use Rattle.go_base.specs.Decide.{allows?}
 use Rattle.go_base.specs.Handicap.{handicap_points}
 use Rattle.go_base.specs.Vertex.{written_vertex}
 use Rattle.go_base.specs.HalfPoints.{score_text}
+use Rattle.go_board.specs.declared.faults.PlayFault.{PlayFault}
+use Rattle.go_board.specs.declared.faults.PlayFault.TheVariants.{Full, OffBoard, Occupied, Suicide, Ko}
 use Rattle.go_board.specs.Game.{GameRecord}
 use Rattle.go_board.specs.Show.{board_text}
 use Rattle.gtp_wire.specs.Replies.{written_reply}
@@ -16,7 +18,7 @@ use Rattle.gtp_session.specs.Commands.{Answer, all_names, written_vertices}
 use Rattle.gtp_session.specs.declared.outcome.Text.{Text}
 use Rattle.gtp_session.specs.declared.outcome.Text.TheVariants as text
 
--- the vertices of the game's handicap stones; none where its size doesn't allow as many
+-- the vertices of the game's handicap stones; none where its size doesn't allow that number
 abbrev pub handicap_text : GameRecord → List ℕ
 handicap_text game = elim (allows? game.size game.handicap) [
   | yes _ ↦ written_vertices (handicap_points game.size game.handicap)
@@ -53,3 +55,11 @@ Executes may game policy asked given policy_now told =
     MatchOption asked
     ((policy_now ≡ policy) × ((choice : Choice) → told ≡ given choice))
     (λ colour. (choice : Choice) × (may policy game colour choice policy_now × (told ≡ given choice)))
+
+-- what is answered to a move that the game refuses
+abbrev pub refusal_text : PlayFault → List ℕ
+refusal_text Full = codes "record full"
+refusal_text OffBoard = codes "illegal move"
+refusal_text Occupied = codes "illegal move"
+refusal_text Suicide = codes "illegal move"
+refusal_text Ko = codes "illegal move"

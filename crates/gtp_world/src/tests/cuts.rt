@@ -1,5 +1,6 @@
 //! A command that reaches an engine in two cuts.
-use super::{SIDES, Told};
+use super::SIDES;
+use super::told::Told;
 use crate::Event;
 use crate::equal::assert_equal;
 use go_base::Side;

@@ -1,7 +1,9 @@
 //! Drawn lists of events, in worlds of drawn setups, policies and ko rules.
 ghost use Rattle.gtp_session.specs.Policy.{IsLawful};
 
-use super::{Events, SIDES, assert_same_game, assert_same_world};
+use super::SIDES;
+use super::same::{assert_same_game, assert_same_world};
+use super::told::Events;
 use crate::equal::assert_equal;
 use crate::{Event, Maker, World};
 use go_base::{Colour, Komi, Side, Size, Vertex};
@@ -113,8 +115,8 @@ impl Draws {
         }
     }
 
-    /// An event of a match that is to get far: often one that brings it forward, and else any. While a move is to be taken
-    /// back, a side is lost more often.
+    /// An event of a match that is to get far: often one that brings it forward, and else any. While a move is to be
+    /// taken back, a side is lost more often.
     fn event_of(&mut self, world: &DrawnWorld) -> Event {
         if self.below(4) == 0 {
             return self.event();
@@ -150,8 +152,8 @@ impl Draws {
         }
     }
 
-    /// A setup without handicap, of 0 to 2 restarts. For a match that is to get far it has size 2 and 8 moves or more, and
-    /// else size 1 to 3 and few moves.
+    /// A setup without handicap, of 0 to 2 restarts. For a match that is to get far it has size 2 and 8 moves or more,
+    /// and else size 1 to 3 and few moves.
     fn setup(&mut self, rt: &impl Abort, far: bool) -> Setup {
         let lines = if far {
             2
@@ -380,8 +382,8 @@ fn step_watched(rt: &impl Abort, world: &mut DrawnWorld, event: Event, seen: &mu
     }
 }
 
-/// A list of events happens in a drawn world, up to a few after the end of the match. One `run` of all of them leads to a
-/// world that shows the same.
+/// A list of events happens in a drawn world, up to a few after the end of the match. One `run` of all of them leads to
+/// a world that shows the same.
 fn one_list(rt: &impl Abort, draws: &mut Draws, far: bool, seen: &mut Seen) {
     let drawn = Drawn::new(rt, draws, far);
     let mut world = drawn.world();

@@ -1,5 +1,7 @@
 //! Commands that are on their way before earlier ones are answered.
-use super::{SIDES, Told, assert_same_world};
+use super::SIDES;
+use super::same::assert_same_world;
+use super::told::Told;
 use crate::Event;
 use crate::equal::assert_equal;
 use go_base::Side;
@@ -15,7 +17,7 @@ fn up(confirmed: u32, unanswered: u32) -> Status {
     }
 }
 
-/// Both sides started, and so many commands sent to Black.
+/// Both sides started, and `count` commands sent to Black.
 fn black_sent(rt: &impl Abort, count: u32) -> Told {
     let mut told = Told::new(rt);
     told.step(rt, Event::Act);
@@ -133,7 +135,7 @@ fn a_side_started_again_has_eight_commands_on_their_way(rt: HostRuntime) {
     told.assert_one_run(&rt);
 }
 
-/// The world in which two commands are on their way to Black, and the write of the third broke after so many bytes.
+/// The world in which two commands are on their way to Black, and the write of the third broke after `sent` bytes.
 fn third_broken_after(rt: &impl Abort, sent: usize) -> Told {
     let mut told = black_sent(rt, 2);
     told.step(rt, Event::BrokenWrite(sent));

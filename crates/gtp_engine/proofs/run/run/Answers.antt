@@ -3,12 +3,25 @@ use Rattle.gtp_engine.proofs.run.run.Goals as goal
 
 pub returns-in-Ok-clause-usage : goal.returns-in-Ok-clause-usage
 returns-in-Ok-clause-usage g c = λ two.
-    let usage = c.serve_options.ensures.usage two in
-    (inr (record { options = c.in-Ok.options; asked = c.in-Ok.ensures.asked; mistake = usage.0 }), usage.1, usage.2)
+    let usage = c.serve_options.ensures.usage two in (
+      inr (record {
+        options = c.in-Ok.options;
+        asked = c.in-Ok.ensures.asked;
+        failure = usage.0;
+        mistake = usage.1;
+        told = usage.2;
+      }),
+      usage.3,
+      usage.4,
+    )
 
 pub returns-in-Ok-clause-served : goal.returns-in-Ok-clause-served
 returns-in-Ok-clause-served g c = λ other.
-    inl (record { options = c.in-Ok.options; asked = c.in-Ok.ensures.asked; serves = c.serve_options.ensures.served other })
+    inl (record {
+      options = c.in-Ok.options;
+      asked = c.in-Ok.ensures.asked;
+      conversed = c.serve_options.ensures.served other;
+    })
 
 pub returns-in-Err-clause-usage : goal.returns-in-Err-clause-usage
 returns-in-Err-clause-usage g c = λ two.
@@ -16,7 +29,8 @@ returns-in-Err-clause-usage g c = λ two.
       inl (
         c.kind.result,
         c.answer_error.ensures.mistake two,
-        rw is (c.in-Err.ensures.fault (λ refused. let three = c.answer_error.ensures.memory (is ∙ refused) in omega (arith, two, three))),
+        rw is (c.in-Err.ensures.fault (λ refused.
+            let three = c.answer_error.ensures.memory (is ∙ refused) in omega (arith, two, three))),
       ),
       refl,
       c.answer_error.ensures.usage two,
@@ -34,7 +48,8 @@ returns-in-Err-clause-served g c = λ other.
               asked = (
                 c.kind.result,
                 shown.0,
-                rw is (c.in-Err.ensures.fault (λ refused. let three = c.answer_error.ensures.memory (is ∙ refused) in omega (arith, zero, three))),
+                rw is (c.in-Err.ensures.fault (λ refused.
+                    let three = c.answer_error.ensures.memory (is ∙ refused) in omega (arith, zero, three))),
               );
               text = shown.1.text;
               shown = shown.1.shown;
@@ -42,7 +57,7 @@ returns-in-Err-clause-served g c = λ other.
           ))
       | inr (inl two) ↦ absurd (other two)
       | inr (inr three) ↦ elim (c.answer_error.ensures.own three) [
-        | inl same ↦ inr (inr (three, refl, same.1))
+        | inl same ↦ inr (inr (record { status_is = three; told = same.2 }, refl, same.1))
         | inr broke ↦ inr (inl (
           refl,
           record {

@@ -10,13 +10,16 @@ use Rattle.gtp_session.proofs.answers.answer.Goals as goal
 pub write_outcome-requires-in-Command : goal.write_outcome-requires-in-Command
 write_outcome-requires-in-Command g c =
     executed_fits g.P.Policy.may g.met.P.Policy.lawful c.args.policy.now c.execute-outcome.new.policy c.args.game.now
-    c.named_command-command.result c.in-Command.line.words (answer_of c.execute-outcome.new.game c.execute-outcome.result)
+    c.named_command-command.result c.in-Command.line.words
+    (answer_of c.execute-outcome.new.game c.execute-outcome.result)
     c.size.ensures.game.size c.execute-outcome.ensures
 
 pub returns-in-TooLong-clause-executes : goal.returns-in-TooLong-clause-executes
 returns-in-TooLong-clause-executes g c =
-    rw c.in-TooLong.is
-    (syntax_error c.args.game.now, (record { game_is = refl; reply_is = c.write_outcome.ensures }, (refl, λ choice. refl)))
+    rw c.in-TooLong.is (
+      syntax_error c.args.game.now,
+      (record { game_is = refl; reply_is = c.write_outcome.ensures }, (refl, λ choice. refl)),
+    )
 
 pub returns-then-eq-clause-executes : goal.returns-then-eq-clause-executes
 returns-then-eq-clause-executes g c =
@@ -26,7 +29,8 @@ returns-then-eq-clause-executes g c =
       (
         record {
           game_is = refl;
-          reply_is = c.write_outcome-in-Command.ensures ∙ ap (λ (id : Option ℕ). written_reply given.ok id given.text) c.id.ensures.value;
+          reply_is = c.write_outcome-in-Command.ensures
+              ∙ ap (λ (id : Option ℕ). written_reply given.ok id given.text) c.id.ensures.value;
         },
         c.execute-outcome.ensures,
       ),
@@ -38,7 +42,8 @@ returns-then-eq-clause-genmove g c =
     rw (c.in-Command.is, ← c.named_command-command.ensures)
     (c.is_ok.ensures.value
     ∙ executed_genmove g.P.Policy.may c.args.policy.now c.execute-outcome.new.policy c.args.game.now
-    c.named_command-command.result c.in-Command.line.words (answer_of c.execute-outcome.new.game c.execute-outcome.result)
+    c.named_command-command.result c.in-Command.line.words
+    (answer_of c.execute-outcome.new.game c.execute-outcome.result)
     named c.execute-outcome.ensures)
 
 pub returns-else-eq-clause-executes : goal.returns-else-eq-clause-executes
@@ -49,7 +54,8 @@ returns-else-eq-clause-executes g c =
       (
         record {
           game_is = refl;
-          reply_is = c.write_outcome-in-Command.ensures ∙ ap (λ (id : Option ℕ). written_reply given.ok id given.text) c.id.ensures.value;
+          reply_is = c.write_outcome-in-Command.ensures
+              ∙ ap (λ (id : Option ℕ). written_reply given.ok id given.text) c.id.ensures.value;
         },
         c.execute-outcome.ensures,
       ),

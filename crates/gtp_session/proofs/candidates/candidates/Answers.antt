@@ -22,7 +22,8 @@ loop-point-preserved c = elim c.if-is_candidate.branch [
         ap (λ v. v.items) w.found-is
         ∙ w.push.ensures.items
         ∙ ap (λ l. l ++ c.point-item.result ∷ []) c.loop-point.invariant.found
-        ∙ sym (among-yes c.args.game.now c.args.colour c.deref-point-items.result.now c.loop-point.point-index c.point-item.result c.loop-point-test.true c.point-item.is (c.is_candidate.ensures.0 w.if-is_candidate.true));
+        ∙ sym (among-yes c.args.game.now c.args.colour c.deref-point-items.result.now c.loop-point.point-index
+        c.point-item.result c.loop-point-test.true c.point-item.is (c.is_candidate.ensures.0 w.if-is_candidate.true));
     few = omega (arith, ap array_vec_len w.found-is);
   }
   | else-is_candidate w ↦ record {
@@ -31,7 +32,9 @@ loop-point-preserved c = elim c.if-is_candidate.branch [
     found =
         ap (λ v. v.items) w.found-is
         ∙ c.loop-point.invariant.found
-        ∙ sym (among-no c.args.game.now c.args.colour c.deref-point-items.result.now c.loop-point.point-index c.point-item.result c.loop-point-test.true c.point-item.is (λ is. not_true w.if-is_candidate.false (c.is_candidate.ensures.1 is)));
+        ∙ sym (among-no c.args.game.now c.args.colour c.deref-point-items.result.now c.loop-point.point-index
+        c.point-item.result c.loop-point-test.true c.point-item.is
+        (λ is. not_true w.if-is_candidate.false (c.is_candidate.ensures.1 is)));
     few = omega (arith, ap array_vec_len w.found-is);
   }
 ]
@@ -39,4 +42,5 @@ loop-point-preserved c = elim c.if-is_candidate.branch [
 pub returns : goal.returns
 returns c =
     c.loop-point.invariant.found
-    ∙ among-all c.args.game.now c.args.colour c.deref-point-items.result.now c.loop-point.point-index c.loop-point.invariant.points c.loop-point-test.false
+    ∙ among-all c.args.game.now c.args.colour c.deref-point-items.result.now c.loop-point.point-index
+    c.loop-point.invariant.points c.loop-point-test.false

@@ -13,7 +13,8 @@ pub loop-point-preserved : goal.loop-point-preserved
 loop-point-preserved c = record {
   points = c.loop-point.invariant.points;
   none =
-      among-no c.args.game.now c.args.colour c.deref-point-items.result.now c.loop-point.point-index c.point-item.result c.loop-point-test.true c.point-item.is
+      among-no c.args.game.now c.args.colour c.deref-point-items.result.now c.loop-point.point-index
+      c.point-item.result c.loop-point-test.true c.point-item.is
       (λ is. not_true c.if-is_candidate.false (c.is_candidate.ensures.1 is))
       ∙ c.loop-point.invariant.none;
 }
@@ -21,10 +22,13 @@ loop-point-preserved c = record {
 pub returns-then-is_candidate : goal.returns-then-is_candidate
 returns-then-is_candidate c =
     let points = c.deref-point-items.result.now in
-    sym (among-first c.args.game.now c.args.colour points (c.loop-point.point-index + 1) c.point-item.result c.loop-point.invariant.points
-    (among-yes c.args.game.now c.args.colour points c.loop-point.point-index c.point-item.result c.loop-point-test.true c.point-item.is (c.is_candidate.ensures.0 c.if-is_candidate.true)
+    sym (among-first c.args.game.now c.args.colour points (c.loop-point.point-index + 1) c.point-item.result
+    c.loop-point.invariant.points
+    (among-yes c.args.game.now c.args.colour points c.loop-point.point-index c.point-item.result
+    c.loop-point-test.true c.point-item.is (c.is_candidate.ensures.0 c.if-is_candidate.true)
     ∙ ap (λ l. l ++ c.point-item.result ∷ []) c.loop-point.invariant.none))
 
 pub returns : goal.returns
 returns c =
-    sym (among-no_first c.args.game.now c.args.colour c.deref-point-items.result.now c.loop-point.point-index c.loop-point.invariant.points c.loop-point-test.false c.loop-point.invariant.none)
+    sym (among-no_first c.args.game.now c.args.colour c.deref-point-items.result.now c.loop-point.point-index
+    c.loop-point.invariant.points c.loop-point-test.false c.loop-point.invariant.none)

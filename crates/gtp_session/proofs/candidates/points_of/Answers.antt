@@ -4,7 +4,10 @@ use Rattle.gtp_session.proofs.CandidatesLemmas.{rows_before-first, rows_before-m
 use Rattle.gtp_session.proofs.candidates.points_of.Goals as goal
 
 pub loop-row-init : goal.loop-row-init
-loop-row-init c = record { written = c.new-points.ensures ∙ rows_before-first c.args.size; few = omega (arith, ap length c.new-points.ensures) }
+loop-row-init c = record {
+  written = c.new-points.ensures ∙ rows_before-first c.args.size;
+  few = omega (arith, ap length c.new-points.ensures);
+}
 
 pub loop-row-preserved : goal.loop-row-preserved
 loop-row-preserved c = record {

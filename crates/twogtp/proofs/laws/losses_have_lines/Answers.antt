@@ -2,4 +2,4 @@ use Rattle.twogtp.proofs.LossLemmas.{losses_have_lines}
 use Rattle.twogtp.proofs.laws.losses_have_lines.Goals as goal
 
 pub returns : goal.returns
-returns g c = losses_have_lines g.P.Conversation
+returns g c = losses_have_lines g.P.Process

@@ -15,19 +15,24 @@ loop-try-preserved g c =
       given = Keeps-trans _ _ _ c.loop-try.invariant.given c.in-Err-Interrupted.ensures.gives;
       taken = Keeps-trans _ _ _ c.loop-try.invariant.taken c.in-Err-Interrupted.ensures.taken;
       interrupted = one_more c.loop-try.invariant.interrupted
-          (subst (λ (fault : PipeFault). g.P.Conversation.fails c.loop-try.process fault c.read.new.self) c.in-Err-Interrupted.field-0-is c.in-Err-Interrupted.ensures.failed);
+          (subst (λ (fault : PipeFault). g.P.Process.fails c.loop-try.process fault c.read.new.self)
+          c.in-Err-Interrupted.field-0-is c.in-Err-Interrupted.ensures.failed);
     }
 
 pub returns-in-Ok-clause-ended : goal.returns-in-Ok-clause-ended
-returns-in-Ok-clause-ended g c = λ zero room. ran_out (unbroken-tries c.loop-try.invariant.interrupted) (c.in-Ok.ensures.ended zero (search (room, rules)))
+returns-in-Ok-clause-ended g c = λ zero room. ran_out (unbroken-tries c.loop-try.invariant.interrupted)
+    (c.in-Ok.ensures.ended zero (search (room, rules)))
 
 pub returns-in-Err-Broken-clause-failed : goal.returns-in-Err-Broken-clause-failed
-returns-in-Err-Broken-clause-failed g c = broke (unbroken-tries c.loop-try.invariant.interrupted) (subst (λ (fault : PipeFault). g.P.Conversation.fails c.loop-try.process fault c.read.new.self) c.in-Err-Broken.field-0-is c.in-Err-Broken.ensures.failed)
+returns-in-Err-Broken-clause-failed g c = broke (unbroken-tries c.loop-try.invariant.interrupted)
+    (subst (λ (fault : PipeFault). g.P.Process.fails c.loop-try.process fault c.read.new.self)
+    c.in-Err-Broken.field-0-is c.in-Err-Broken.ensures.failed)
 
 pub returns-clause-failed : goal.returns-clause-failed
 returns-clause-failed g c =
-    interrupted untouched (subst (λ (n : ℕ). AreInterrupted g.P.Conversation.fails c.args.process.now n c.loop-try.process)
+    interrupted untouched (subst (λ (n : ℕ). AreInterrupted g.P.Process.fails c.args.process.now n c.loop-try.process)
     (omega (arith, c.loop-try.auto._try-end, c.loop-try-test.false)) c.loop-try.invariant.interrupted)
 
 pub returns-in-Ok-clause-unbroken : goal.returns-in-Ok-clause-unbroken
-returns-in-Ok-clause-unbroken g c = λ some. went (unbroken-tries c.loop-try.invariant.interrupted) (c.in-Ok.ensures.succeeded some)
+returns-in-Ok-clause-unbroken g c = λ some. went (unbroken-tries c.loop-try.invariant.interrupted)
+    (c.in-Ok.ensures.succeeded some)

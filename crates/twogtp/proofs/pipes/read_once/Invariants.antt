@@ -7,7 +7,7 @@ use Rattle.twogtp.proofs.pipes.read_once.Given as goal
 abbrev pub invariant-loop-try : goal.invariant-loop-try
 invariant-loop-try g l = record {
   len : length l.buffer ≡ length l.fn.buffer;
-  given : Keeps (g.P.Conversation.given l.fn.process) (g.P.Conversation.given l.process);
-  taken : Keeps (g.P.Conversation.taken l.fn.process) (g.P.Conversation.taken l.process);
-  interrupted : AreInterrupted g.P.Conversation.fails l.fn.process l._try l.process;
+  given : Keeps (g.P.Process.given l.fn.process) (g.P.Process.given l.process);
+  taken : Keeps (g.P.Process.taken l.fn.process) (g.P.Process.taken l.process);
+  interrupted : AreInterrupted g.P.Process.fails l.fn.process l._try l.process;
 }

@@ -12,8 +12,10 @@ loop-done-init g c = record { within = omega arith; taken = Appends-nil _; given
 pub loop-done-preserved : goal.loop-done-preserved
 loop-done-preserved g c =
     record {
-      within = tail-within c.args.text.now c.loop-done.done c.in_ok-count.count c.loop-done.invariant.within c.in_ok-count.ensures.bound;
-      taken = Appends-take _ _ _ c.args.text.now c.loop-done.done c.in_ok-count.count c.loop-done.invariant.taken c.in_ok-count.ensures.takes;
+      within = tail-within c.args.text.now c.loop-done.done c.in_ok-count.count c.loop-done.invariant.within
+          c.in_ok-count.ensures.bound;
+      taken = Appends-take _ _ _ c.args.text.now c.loop-done.done c.in_ok-count.count c.loop-done.invariant.taken
+          c.in_ok-count.ensures.takes;
       given = Keeps-trans _ _ _ c.loop-done.invariant.given c.in_ok-count.ensures.given;
       unbroken = unbroken-then c.loop-done.invariant.unbroken (c.in_ok-count.ensures.unbroken (omega arith));
     }
@@ -24,7 +26,8 @@ returns-then-count-eq0-clause-failed g c =
     (c.in_ok-count.ensures.none (omega arith) (tail-some c.args.text.now c.loop-done.done c.loop-done-test.true))
 
 pub returns-then-count-eq0-clause-part : goal.returns-then-count-eq0-clause-part
-returns-then-count-eq0-clause-part g c = TakesPart-more _ _ _ c.args.text.now c.loop-done.done _ c.loop-done.invariant.taken c.in_ok-count.ensures.takes
+returns-then-count-eq0-clause-part g c = TakesPart-more _ _ _ c.args.text.now c.loop-done.done _
+    c.loop-done.invariant.taken c.in_ok-count.ensures.takes
 
 pub returns-in_err-count-clause-failed : goal.returns-in_err-count-clause-failed
 returns-in_err-count-clause-failed g c =

@@ -9,5 +9,6 @@ pub returns : goal.returns
 returns c = map_from_collect _ c.collect.ensures.ran
     (YieldsList-from_filter _ (λ part. nat_lt 0 (length part))
     (YieldsList-at c.filter.ensures.source
-    (YieldsList-from_str_split 32 c.args.command.now (lit< tt) c.split.ensures.text c.split.ensures.has_more c.split.ensures.pattern))
+    (YieldsList-from_str_split 32 c.args.command.now (lit< tt) c.split.ensures.text c.split.ensures.has_more
+    c.split.ensures.pattern))
     c.filter.ensures.closure (λ x b q called. (search rules, search (rules, tests) ∙ not-empty (length x.now))))

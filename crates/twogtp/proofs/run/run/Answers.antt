@@ -1,30 +1,50 @@
-use Rattle.std.proofs.Common.{◌∙◌, inl, inr, arith, refl, subst}
-use Rattle.twogtp.specs.declared.fault.Fault.{Fault}
-use Rattle.twogtp.specs.Status.{TellsFault}
+use Rattle.std.proofs.Common.{◌≡◌, ◌⊎◌, ◌∙◌, ℕ, List, inl, inr, arith, refl, subst}
+use Rattle.twogtp.specs.declared.failure.Failure.{Failure}
+use Rattle.twogtp.specs.declared.failure.Failure.TheVariants.{OutOfMemory}
+use Rattle.twogtp.specs.Writing.{IsWritten}
+use Rattle.twogtp.specs.Status.{TellsFailure, done, failure_line, own_failure, some_given_up, usage_failure}
 use Rattle.twogtp.proofs.PlanLemmas.{mistake_is_usage}
 use Rattle.twogtp.proofs.run.run.Goals as goal
 
+-- what is returned in place of options has no status of games
+never_one : (status : ℕ) → (status ≡ done) ⊎ (status ≡ usage_failure) ⊎ (status ≡ own_failure)
+    → status ≡ some_given_up → ⊥
+never_one status (inl zero) one = omega (arith, one, zero)
+never_one status (inr (inl two)) one = omega (arith, one, two)
+never_one status (inr (inr three)) one = omega (arith, one, three)
+
 pub returns-in-Err-clause-status : goal.returns-in-Err-clause-status
 returns-in-Err-clause-status g c =
-    elim c.answer_error.ensures.status [ inl zero ↦ inl zero | inr (inl two) ↦ inr (inr (inl two)) | inr (inr three) ↦ inr (inr (inr three)) ]
+    elim c.answer_error.ensures.status [
+      | inl zero ↦ inl zero
+      | inr (inl two) ↦ inr (inr (inl two))
+      | inr (inr three) ↦ inr (inr (inr three))
+    ]
 
 pub returns-in-Err-clause-quiet : goal.returns-in-Err-clause-quiet
 returns-in-Err-clause-quiet g c = λ range none. elim range [
   | inl zero ↦ c.answer_error.ensures.quiet zero
-  | inr one ↦ absurd (elim c.answer_error.ensures.status [ inl zero ↦ omega (arith, one, zero) | inr (inl two) ↦ omega (arith, one, two) | inr (inr three) ↦ omega (arith, one, three) ])
+  | inr one ↦ absurd (never_one c.answer_error.result c.answer_error.ensures.status one)
 ]
 
 pub returns-in-Err-clause-usage : goal.returns-in-Err-clause-usage
 returns-in-Err-clause-usage g c = λ two.
-    let is = c.kind.ensures in (
-      inl (
-        c.kind.result,
-        c.answer_error.ensures.mistake two,
-        elim c.in-Err.ensures.fault [
+    let is = c.kind.ensures in
+    let told : (text : List ℕ) × IsWritten g.E.Output text c.args.errors.now c.answer_error.new.errors =
+        elim (c.answer_error.ensures.told two) [
+          | inl shown ↦ (shown.0, shown.2)
+          | inr refused ↦ (failure_line OutOfMemory, refused)
+        ] in (
+      inl (record {
+        kind = c.kind.result;
+        mistake = c.answer_error.ensures.mistake two;
+        has = elim c.in-Err.ensures.fault [
           | inl refused ↦ let three = c.answer_error.ensures.memory (is ∙ refused) in absurd (omega (arith, two, three))
           | inr among ↦ rw is among
-        ],
-      ),
+        ];
+        text = told.0;
+        told = told.1;
+      }),
       c.answer_error.ensures.usage two,
       refl,
     )
@@ -41,15 +61,16 @@ returns-in-Err-clause-played g c = elim [
             c.kind.result,
             shown.0,
             elim c.in-Err.ensures.fault [
-              | inl refused ↦ let three = c.answer_error.ensures.memory (is ∙ refused) in absurd (omega (arith, zero, three))
+              | inl refused ↦
+                  let three = c.answer_error.ensures.memory (is ∙ refused) in absurd (omega (arith, zero, three))
               | inr among ↦ rw is among
             ],
           );
-          text = shown.1.text;
-          shown = shown.1.shown;
+          text = shown.1.0;
+          shown = inl (zero, shown.1.2);
         },
       )
-  | inr one ↦ absurd (elim c.answer_error.ensures.status [ inl zero ↦ omega (arith, one, zero) | inr (inl two) ↦ omega (arith, one, two) | inr (inr three) ↦ omega (arith, one, three) ])
+  | inr one ↦ absurd (never_one c.answer_error.result c.answer_error.ensures.status one)
 ]
 
 pub returns-in-Err-clause-stopped : goal.returns-in-Err-clause-stopped
@@ -68,35 +89,38 @@ returns-in-Err-clause-stopped g c = λ three.
               | inr among ↦ rw is among
             ],
           );
-          text = broke.1.text;
-          shown = broke.1.shown;
+          text = broke.1.0;
+          shown = inr (three, broke.1.2);
         },
         broke.2,
       ))
     ]
 
 pub returns-in-Err-plan_of-clause-stopped : goal.returns-in-Err-plan_of-clause-stopped
-returns-in-Err-plan_of-clause-stopped g c = λ three. elim c.in-Err-plan_of.ensures.fault [
+returns-in-Err-plan_of-clause-stopped g c = λ three. elim c.in-Err-plan_of.ensures.failure [
   | inl refused ↦ inl (
     refl,
     refl,
-    subst (λ (fault : Fault). TellsFault fault (g.E.Write.contents c.args.errors.now) (g.E.Write.contents c.tell.new.errors))
-        refused c.tell.ensures.told,
+    subst (λ (failure : Failure). TellsFailure g.E.Output failure c.args.errors.now c.tell.new.errors) refused
+        c.tell.ensures.told,
   )
   | inr mistake ↦
-      let two = c.tell.ensures.status ∙ mistake_is_usage c.in-Ok.options c.in-Err-plan_of.fault mistake in
+      let two = c.tell.ensures.status ∙ mistake_is_usage c.in-Ok.options c.in-Err-plan_of.failure mistake in
       absurd (omega (arith, two, three))
 ]
 
 pub returns-in-Ok-play_games-clause-status : goal.returns-in-Ok-play_games-clause-status
-returns-in-Ok-play_games-clause-status g c = elim c.in-Ok-play_games.ensures.range [ inl e ↦ inl e | inr e ↦ inr (inl e) ]
+returns-in-Ok-play_games-clause-status g c = elim c.in-Ok-play_games.ensures.range
+    [ inl e ↦ inl e | inr e ↦ inr (inl e) ]
 
 pub returns-in-Ok-play_games-clause-usage : goal.returns-in-Ok-play_games-clause-usage
-returns-in-Ok-play_games-clause-usage g c = λ two. absurd (elim c.in-Ok-play_games.ensures.range [ inl e ↦ omega arith | inr e ↦ omega arith ])
+returns-in-Ok-play_games-clause-usage g c = λ two. absurd
+    (elim c.in-Ok-play_games.ensures.range [ inl e ↦ omega arith | inr e ↦ omega arith ])
 
 pub returns-in-Ok-play_games-clause-quiet : goal.returns-in-Ok-play_games-clause-quiet
 returns-in-Ok-play_games-clause-quiet g c = λ range none.
-    c.play_games.ensures.quiet (c.in-Ok-plan_of.ensures.plan.games.why_flag ∙ none c.in-Ok.options c.in-Ok.ensures.asked)
+    c.play_games.ensures.quiet (c.in-Ok-plan_of.ensures.plan.games.why_flag ∙ none c.in-Ok.options
+    c.in-Ok.ensures.asked)
 
 pub returns-in-Ok-play_games-clause-played : goal.returns-in-Ok-play_games-clause-played
 returns-in-Ok-play_games-clause-played g c = λ range. inr (record {
@@ -119,8 +143,8 @@ returns-clause-stopped g c = λ three. inr (inr (record {
     commands = c.in-Ok-plan_of.plan.commands;
     plan = c.in-Ok-plan_of.ensures.plan;
   };
-  losses = g.E.Write.contents c.play_games.new.errors;
-  fault = c.in-Err-play_games.fault;
+  losses = c.play_games.new.errors;
+  failure = c.in-Err-play_games.failure;
   begun = c.in-Err-play_games.ensures.begun;
   told = c.tell-in-Err-play_games.ensures.told;
 }))

@@ -12,4 +12,5 @@ pub returns-in-CutOff-clause-bytes : goal.returns-in-CutOff-clause-bytes
 returns-in-CutOff-clause-bytes c =
     rw c.in-CutOff.is (rw c.push_wrote.ensures.bytes (rw c.push_ending.ensures.bytes (rw c.push-in-CutOff.ensures.bytes
     (rw c.push_owed.ensures.bytes (rw c.pipe_text.ensures.text
-    (joined-4 c.args.line.now.items (owed_text c.in-CutOff.owed) (pipe_text c.in-CutOff.cause) (ending_text c.args.ending) (wrote_text c.in-CutOff.owed)))))))
+    (joined-4 c.args.line.now.items (owed_text c.in-CutOff.owed) (pipe_text c.in-CutOff.cause)
+    (ending_text c.args.ending) (wrote_text c.in-CutOff.owed)))))))

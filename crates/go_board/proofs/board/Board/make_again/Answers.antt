@@ -1,4 +1,4 @@
-use Rattle.std.proofs.Common.{◌≡◌, subst, sym, ◌∙◌, ap, List, ℕ}
+use Rattle.std.proofs.Common.{subst, sym, ◌∙◌, ap, List, ℕ}
 use Rattle.std.proofs.Math.ListN.{set}
 use Rattle.go_base.specs.declared.vertices.Vertex.{Vertex}
 use Rattle.go_board.specs.Board.{at}
@@ -29,7 +29,8 @@ returns-clause-board c = elim c.match-vertex.branch [
   | in-Pass w ↦ λ h.
       c.clear_taken.ensures.board ∙ ap (λ (b : List Cell). cleared b c.args.number c.args.stones.now) w.self-is
       ∙ again-pass c.args.self.now c.args.colour c.args.number c.args.stones.now
-      (subst (λ (v : Vertex). AreTakenBy c.args.self.now c.args.colour v c.args.number c.args.stones.now) w.in-Pass.is h)
+      (subst (λ (v : Vertex). AreTakenBy c.args.self.now c.args.colour v c.args.number c.args.stones.now)
+      w.in-Pass.is h)
       ∙ ap (after_vertex c.args.self.now c.args.colour) (sym w.in-Pass.is)
   | in-At w ↦ λ h.
       c.clear_taken.ensures.board

@@ -1,5 +1,3 @@
-use Rattle.std.proofs.Common.{◌≡◌, ℕ, subst, sym, ◌∙◌}
-use Rattle.go_board.proofs.OrderLemmas.{IsOrderly-game}
 use Rattle.go_board.proofs.ReplayLemmas.{room-for_board}
 use Rattle.go_board.proofs.game.Game.board_after.Goals as goal
 

@@ -9,12 +9,14 @@ pub returns-in-At : goal.returns-in-At
 returns-in-At c =
     let m0 = c.min.ensures in let e0 = c.if-eq.ensures in let i0 = c.in-At.is in let b = c.boards_with.ensures in
     let either : (c.min.result ≡ c.args.few) ⊎ (c.min.result ≡ c.boards_with.result) = grind (arith, m0) in
-    subst (λ (v : Vertex). IsAlsoBelow c.args.self.now c.args.colour c.args.mover v c.args.few c.min.result) (sym c.in-At.is)
+    subst (λ (v : Vertex). IsAlsoBelow c.args.self.now c.args.colour c.args.mover v c.args.few c.min.result)
+    (sym c.in-At.is)
     (elim either [
       | inl same ↦ inl same
       | inr same ↦ inr (
         same-owner c.args.mover c.args.colour c.if-eq.ensures,
         subst (StoodBelow c.args.self.now c.args.colour c.in-At.point) (sym same)
-            (subst (λ (q : ℕ). StoodBelow c.args.self.now c.args.colour q c.boards_with.result) c.place_of.ensures.value b),
+            (subst (λ (q : ℕ). StoodBelow c.args.self.now c.args.colour q c.boards_with.result)
+            c.place_of.ensures.value b),
       )
     ])

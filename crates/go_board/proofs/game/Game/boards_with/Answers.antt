@@ -3,9 +3,11 @@ use Rattle.std.specs.Prelude.{slice_get}
 use Rattle.go_base.specs.declared.moves.Move.{Move}
 use Rattle.go_board.specs.Game.{GameRecord, IsGame}
 use Rattle.go_board.specs.private.Removed.{removed_of}
-use Rattle.go_board.proofs.EarlierLemmas.{IsReadDown, read-start, read-below, read-found, read-more, read-all, same-mover}
+use Rattle.go_board.proofs.EarlierLemmas.{IsReadDown, read-start, read-below, read-found, read-more, read-all}
+use Rattle.go_board.proofs.EarlierLemmas.{same-mover}
 use Rattle.go_board.proofs.game.Game.boards_with.Goals as goal
-use Rattle.go_board.proofs.game.Game.boards_with.Goals.{else-from-place-via-then-from-place+else-ne, else-from-place-via-else-from-place}
+use Rattle.go_board.proofs.game.Game.boards_with.Goals.{else-from-place-via-then-from-place+else-ne}
+use Rattle.go_board.proofs.game.Game.boards_with.Goals.{else-from-place-via-else-from-place}
 
 pub loop-last-init : goal.loop-last-init
 loop-last-init c =

@@ -1,4 +1,4 @@
-use Rattle.std.proofs.Common.{◌≡◌, List, ℕ, length, refl, subst, sym, ◌∙◌, ap, arith}
+use Rattle.std.proofs.Common.{◌≡◌, List, length, refl, subst, sym, ◌∙◌, ap, arith}
 use Rattle.std.proofs.lemmas.Bool.{false≢true}
 use Rattle.std.specs.Prelude.{Some, slice_get}
 use Rattle.go_base.specs.declared.moves.Move.{Move}
@@ -34,7 +34,8 @@ make_again-stones-requires-clause-open c =
     c.made-item.result (subst IsGame c.self.view_is c.self.invariant.game) c.loop-number.invariant
     (subst (λ (ms : List Move). slice_get ms c.loop-number.number ≡ Some c.made-item.result)
     (c.deref-made-items.ensures.0 ∙ ap (λ (g : GameRecord). g.moves) c.self.view_is)
-    (slice_get-from c.deref-made-items.result.now c.loop-number.number c.made-item.result c.loop-number-test.true c.made-item.is))
+    (slice_get-from c.deref-made-items.result.now c.loop-number.number c.made-item.result c.loop-number-test.true
+    c.made-item.is))
 
 pub make_again-stones-requires-clause-points : goal.make_again-stones-requires-clause-points
 make_again-stones-requires-clause-points c = c.loop-number.invariant.points
@@ -44,7 +45,8 @@ loop-number-preserved c =
     let move =
     subst (λ (ms : List Move). slice_get ms c.loop-number.number ≡ Some c.made-item.result)
     (c.deref-made-items.ensures.0 ∙ ap (λ (g : GameRecord). g.moves) c.self.view_is)
-    (slice_get-from c.deref-made-items.result.now c.loop-number.number c.made-item.result c.loop-number-test.true c.made-item.is) in
+    (slice_get-from c.deref-made-items.result.now c.loop-number.number c.made-item.result c.loop-number-test.true
+    c.made-item.is) in
     IsReplayed-more c.args.self.now c.args.wanted.now c.loop-number.board c.make_again-stones.new.self
     c.loop-number.number c.loop-number.stones.now c.make_again-stones.result.now c.made-item.result
     c.loop-number.invariant move (λ e. false≢true (sym c.if-is.false ∙ c.is.ensures.1 (sym e)))

@@ -24,7 +24,7 @@ returns-then-has_script_left c =
     (idle_tests_of c.args.self.now.game c.args.self.now.sides.black.up c.args.self.now.sides.white.up)
     (sym c.is_down.ensures ∙ c.if-is_down.false)
     (sym c.is_down-2.ensures ∙ c.if-is_down-2.false)
-    (sym (c.has_script_left.ensures c.args.self.now.game c.script_len-commands.ensures) ∙ c.if-has_script_left.true)
+    (sym (c.has_script_left.ensures c.args.self.now.game c.script_len-script_len.ensures) ∙ c.if-has_script_left.true)
 
 pub returns-then-has_script_left-2 : goal.returns-then-has_script_left-2
 returns-then-has_script_left-2 c =
@@ -32,8 +32,9 @@ returns-then-has_script_left-2 c =
     (idle_tests_of c.args.self.now.game c.args.self.now.sides.black.up c.args.self.now.sides.white.up)
     (sym c.is_down.ensures ∙ c.if-is_down.false)
     (sym c.is_down-2.ensures ∙ c.if-is_down-2.false)
-    (sym (c.has_script_left.ensures c.args.self.now.game c.script_len-commands.ensures) ∙ c.if-has_script_left.false)
-    (sym (c.has_script_left-2.ensures c.args.self.now.game c.script_len-commands.ensures) ∙ c.if-has_script_left-2.true)
+    (sym (c.has_script_left.ensures c.args.self.now.game c.script_len-script_len.ensures) ∙ c.if-has_script_left.false)
+    (sym (c.has_script_left-2.ensures c.args.self.now.game c.script_len-script_len.ensures)
+    ∙ c.if-has_script_left-2.true)
 
 pub returns : goal.returns
 returns c =
@@ -42,6 +43,6 @@ returns c =
     (idle_tests_of c.args.self.now.game c.args.self.now.sides.black.up c.args.self.now.sides.white.up)
     (sym c.is_down.ensures ∙ c.if-is_down.false)
     (sym c.is_down-2.ensures ∙ c.if-is_down-2.false)
-    (sym (c.has_script_left.ensures c.args.self.now.game c.script_len-commands.ensures) ∙ c.if-has_script_left.false)
-    (sym (c.has_script_left-2.ensures c.args.self.now.game c.script_len-commands.ensures)
+    (sym (c.has_script_left.ensures c.args.self.now.game c.script_len-script_len.ensures) ∙ c.if-has_script_left.false)
+    (sym (c.has_script_left-2.ensures c.args.self.now.game c.script_len-script_len.ensures)
     ∙ c.if-has_script_left-2.false)

@@ -9,7 +9,8 @@ use Rattle.gtp_match.proofs.matches.Match.hear_telling.Given as goal
 -- whatever is heard and told of what is left is heard of all, behind the loss so far
 abbrev pub invariant-loop-rest : goal.invariant-loop-rest
 invariant-loop-rest l = record {
-  tells : (shown : Option SideFault) (later : Option Loss) (new : Controller) → HearsTelling l.side l.self l.rest shown later new
+  tells : (shown : Option SideFault) (later : Option Loss) (new : Controller)
+      → HearsTelling l.side l.self l.rest shown later new
       → HearsTelling l.side l.fn.self l.bytes shown (first_of l.loss later) new;
   shown : IfSome l.loss (λ loss. CanBeShown loss.owed);
 }

@@ -9,4 +9,5 @@ loss-requires-clause-may c =
     (none_of c.self.inside.state.verdict (sym c.is_some.ensures ∙ c.if-is_some.false))
 
 pub returns-clause-shown : goal.returns-clause-shown
-returns-clause-shown c = loss_shown c.self.inside.state c.args.side c.args.bytes.now c.loss.result c.self.invariant c.loss.ensures
+returns-clause-shown c =
+    loss_shown c.self.inside.state c.args.side c.args.bytes.now c.loss.result c.self.invariant c.loss.ensures

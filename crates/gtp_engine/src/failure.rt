@@ -1,0 +1,69 @@
+//! The failures that the program tells in a line of its own.
+ghost use Rattle.std.specs.Prelude.{◌≡◌, ◌≢◌};
+ghost use Rattle.gtp_engine.specs.Status.{TellsFailure, failure_line, status_of};
+
+use gtp_session::serve::ServeFault;
+use gtp_session::streams::{Outgoing, send};
+use std::io::ErrorKind;
+
+/// Why the program ends before its conversation does, where `clap` has no text for it.
+#[derive(Clone, Copy, Debug, PartialEq, Eq, Drop)]
+pub enum Failure {
+    /// An argument is no text.
+    BadArgument,
+    /// The text of `--book` is no book.
+    BadBook,
+    /// The text of `--fault` is no fault.
+    BadFault,
+    /// Memory was refused while the arguments were collected or the options read.
+    OutOfMemory,
+    /// The conversation stopped before its end, or the help or the version could not be written.
+    Serve(ServeFault),
+}
+
+impl Failure {
+    /// Why arguments could not be collected, by the kind of the error.
+    pub fn of_arguments(kind: ErrorKind) -> Self
+        ensures memory { kind ≡ ErrorKind.OutOfMemory → result ≡ Failure.OutOfMemory }
+        ensures other { kind ≢ ErrorKind.OutOfMemory → result ≡ Failure.BadArgument }
+    {
+        match kind {
+            ErrorKind::OutOfMemory => Failure::OutOfMemory,
+            _ => Failure::BadArgument,
+        }
+    }
+
+    /// The status that the program ends with: 2 for a mistake in the arguments, 3 for a failure of its own.
+    pub fn status(self) -> u8
+        ensures { result ≡ status_of self }
+    {
+        match self {
+            Failure::BadArgument | Failure::BadBook | Failure::BadFault => 2,
+            Failure::OutOfMemory | Failure::Serve(_) => 3,
+        }
+    }
+
+    /// Its line on standard error.
+    fn line(self) -> &'static [u8]
+        ensures { result.now ≡ failure_line self }
+    {
+        match self {
+            Failure::BadArgument => b"gtp_engine: bad argument\n",
+            Failure::BadBook => b"gtp_engine: bad book\n",
+            Failure::BadFault => b"gtp_engine: bad fault\n",
+            Failure::OutOfMemory => b"gtp_engine: out of memory\n",
+            Failure::Serve(ServeFault::Read) => b"gtp_engine: read fault\n",
+            Failure::Serve(ServeFault::Write) => b"gtp_engine: write fault\n",
+            Failure::Serve(ServeFault::TooManyReads) => b"gtp_engine: too many reads\n",
+        }
+    }
+}
+
+/// Tells the failure in one line, and returns the status. A writer that fails doesn't change the status.
+pub fn tell<E: Outgoing>(failure: Failure, errors: &mut E) -> u8
+    ensures status { result ≡ status_of failure }
+    ensures told { TellsFailure failure (E.shown errors.old) (E.shown errors.new) }
+{
+    let _ = send(errors, failure.line());
+    failure.status()
+}

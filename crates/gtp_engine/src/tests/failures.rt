@@ -1,0 +1,134 @@
+//! Streams that fail, and how failures are told.
+use super::{Broken, Holding};
+use crate::equal::{assert_equal, assert_equal_for};
+use crate::failure::{Failure, tell};
+use crate::run::run;
+use gtp_session::serve::ServeFault;
+use gtp_session::streams::Counted;
+use std::io::ErrorKind;
+use std::test::Fail;
+
+#[test]
+fn a_read_that_fails_is_status_3(rt: HostRuntime) -> Result<(), Fail> {
+    let mut output = Vec::new(rt.alloc());
+    let mut errors = Vec::new(rt.alloc());
+    let words = ["gtp_engine"];
+    let status = run(
+        rt.alloc(),
+        words.as_slice(),
+        &mut Counted::new(Broken),
+        &mut Counted::new(&mut output),
+        &mut Counted::new(&mut errors),
+    );
+    assert_equal(&rt, status, 3);
+    assert_equal(&rt, output.len(), 0);
+    assert_equal(
+        &rt,
+        errors.as_slice(),
+        b"gtp_engine: read fault\n".as_slice(),
+    );
+    Ok(())
+}
+
+#[test]
+fn a_write_that_fails_is_status_3(rt: HostRuntime) -> Result<(), Fail> {
+    let lists: [&[&str]; 3] = [
+        &["gtp_engine"],
+        &["gtp_engine", "--help"],
+        &["gtp_engine", "--version"],
+    ];
+    for words in lists {
+        let mut errors = Vec::new(rt.alloc());
+        let status = run(
+            rt.alloc(),
+            words,
+            &mut Counted::new(b"1 name\n".as_slice()),
+            &mut Counted::new(Broken),
+            &mut Counted::new(&mut errors),
+        );
+        assert_equal(&rt, status, 3);
+        assert_equal(
+            &rt,
+            errors.as_slice(),
+            b"gtp_engine: write fault\n".as_slice(),
+        );
+    }
+    Ok(())
+}
+
+#[test]
+fn the_status_stays_where_nothing_can_be_told(rt: HostRuntime) -> Result<(), Fail> {
+    let cases: [(&[&str], u8); 3] = [
+        (&["gtp_engine", "--policy", "third"], 2),
+        (&["gtp_engine", "--book", "C3,D44"], 2),
+        (&["gtp_engine"], 3),
+    ];
+    for (words, wanted) in cases {
+        let status = run(
+            rt.alloc(),
+            words,
+            &mut Counted::new(Broken),
+            &mut Counted::new(Broken),
+            &mut Counted::new(Broken),
+        );
+        assert_equal(&rt, status, wanted);
+    }
+    Ok(())
+}
+
+#[test]
+fn arguments_that_cannot_be_collected_are_told(rt: HostRuntime) -> Result<(), Fail> {
+    let cases = [
+        (ErrorKind::InvalidData, 2, "gtp_engine: bad argument\n"),
+        (ErrorKind::OutOfMemory, 3, "gtp_engine: out of memory\n"),
+    ];
+    for (kind, status, text) in cases {
+        let mut errors = Vec::new(rt.alloc());
+        let failure = Failure::of_arguments(kind);
+        assert_equal(&rt, tell(failure, &mut Counted::new(&mut errors)), status);
+        assert_equal(&rt, errors.as_slice(), text.as_bytes());
+    }
+    Ok(())
+}
+
+#[test]
+fn each_fault_of_a_conversation_is_told(rt: HostRuntime) -> Result<(), Fail> {
+    let cases = [
+        (ServeFault::Read, "gtp_engine: read fault\n"),
+        (ServeFault::Write, "gtp_engine: write fault\n"),
+        (ServeFault::TooManyReads, "gtp_engine: too many reads\n"),
+    ];
+    for (fault, text) in cases {
+        let mut errors = Vec::new(rt.alloc());
+        assert_equal(&rt, tell(Failure::Serve(fault), &mut Counted::new(&mut errors)), 3);
+        assert_equal(&rt, errors.as_slice(), text.as_bytes());
+    }
+    Ok(())
+}
+
+#[test]
+fn what_is_wrong_is_handed_on_whole_and_once(rt: HostRuntime) -> Result<(), Fail> {
+    let cases: [(&[&str], &str); 3] = [
+        (
+            &["gtp_engine", "--book", "C3,D44"],
+            "gtp_engine: bad book\n",
+        ),
+        (&["gtp_engine", "--fault", "stop"], "gtp_engine: bad fault\n"),
+        (&["gtp_engine"], "gtp_engine: read fault\n"),
+    ];
+    for (words, text) in cases {
+        let mut errors = Holding::new(rt.alloc());
+        let mut output = Vec::new(rt.alloc());
+        let _ = run(
+            rt.alloc(),
+            words,
+            &mut Counted::new(Broken),
+            &mut Counted::new(&mut output),
+            &mut Counted::new(&mut errors),
+        );
+        assert_equal_for(&rt, text, errors.handed_on.as_slice(), text.as_bytes());
+        assert_equal_for(&rt, text, errors.held.len(), 0);
+        assert_equal_for(&rt, text, errors.flushes, 1);
+    }
+    Ok(())
+}

@@ -1,0 +1,132 @@
+//! The options of the command line, and the mistakes in them.
+use super::{assert_answers, assert_refuses, run_with};
+use crate::equal::assert_equal;
+use std::test::Fail;
+
+#[test]
+fn without_arguments_the_first_conversation(rt: HostRuntime) -> Result<(), Fail> {
+    assert_answers(&rt, &[], b"1 protocol_version\n2 quit\n", b"=1 2\n\n=2\n\n")
+}
+
+#[test]
+fn the_end_of_the_input_is_status_0(rt: HostRuntime) -> Result<(), Fail> {
+    assert_answers(&rt, &[], b"", b"")?;
+    assert_answers(&rt, &[], b"name\nversi", b"= stepgo\n\n")
+}
+
+#[test]
+fn each_option_is_taken(rt: HostRuntime) -> Result<(), Fail> {
+    let lists: [&[&str]; 14] = [
+        &["--policy", "first"],
+        &["--policy", "random"],
+        &["--policy", "book"],
+        &["--policy=random", "--seed=7"],
+        &["--seed", "0"],
+        &["--seed", "4294967295"],
+        &["--book", ""],
+        &["--book="],
+        &["--book", "C3,,resign"],
+        &["--book", "pass,RESIGN,z25"],
+        &["--book=,", "--seed", "2", "--policy", "book"],
+        &["--ko", "simple"],
+        &["--ko", "positional"],
+        &["--fault=none", "--ko=positional", "--policy=random"],
+    ];
+    for arguments in lists {
+        assert_answers(
+            &rt,
+            arguments,
+            b"1 name\nquit\nname\n",
+            b"=1 stepgo\n\n=\n\n",
+        )?;
+    }
+    Ok(())
+}
+
+/// Arguments with a mistake, and how the text that tells it begins.
+static MISTAKES: [(&[&str], &str); 13] = [
+    (
+        &["--policy", "third"],
+        "error: invalid value 'third' for '--policy <POLICY>'\n  [possible values: first, random, book]\n",
+    ),
+    (&["--policy", ""], "error: "),
+    (
+        &["--ko", "super"],
+        "error: invalid value 'super' for '--ko <RULE>'\n  [possible values: simple, positional]\n",
+    ),
+    (
+        &["--book", "C3,D44", "--ko", "Simple"],
+        "error: invalid value 'Simple' for '--ko <RULE>'\n",
+    ),
+    (
+        &["--seed", "4294967296"],
+        "error: invalid value '4294967296' for '--seed <N>': 4294967296 is not in 0..=4294967295\n",
+    ),
+    (&["--seed", "-1"], "error: unexpected argument '-1' found\n"),
+    (
+        &["--seed=-1"],
+        "error: invalid value '-1' for '--seed <N>': ",
+    ),
+    (
+        &["--seed", "x"],
+        "error: invalid value 'x' for '--seed <N>': invalid digit found in string\n",
+    ),
+    (
+        &["--seed"],
+        "error: a value is required for '--seed <N>' but none was supplied\n",
+    ),
+    (
+        &["--seed", "1", "--seed", "1"],
+        "error: the argument '--seed <N>' cannot be used multiple times\n",
+    ),
+    (
+        &["--komi", "7"],
+        "error: unexpected argument '--komi' found\n",
+    ),
+    (&["first"], "error: unexpected argument 'first' found\n"),
+    (
+        &["--versions"],
+        "error: unexpected argument '--versions' found\n",
+    ),
+];
+
+#[test]
+fn a_mistake_in_the_arguments_is_status_2_with_the_text_of_clap(
+    rt: HostRuntime,
+) -> Result<(), Fail> {
+    for (arguments, text) in &MISTAKES {
+        assert_refuses(&rt, arguments, text)?;
+    }
+    Ok(())
+}
+
+#[test]
+fn a_bad_book_is_told_under_every_policy(rt: HostRuntime) -> Result<(), Fail> {
+    let told = "gtp_engine: bad book\n";
+    let lists: [&[&str]; 4] = [
+        &["--book", "C3,D44"],
+        &["--book", "C3,D44", "--policy", "first"],
+        &["--policy", "random", "--book=C3,D44"],
+        &["--policy", "book", "--book", "C3,D44"],
+    ];
+    for arguments in lists {
+        assert_refuses(&rt, arguments, told)?;
+        let ran = run_with(rt.alloc(), arguments, b"")?;
+        assert_equal(&rt, ran.errors.as_slice(), told.as_bytes());
+    }
+    Ok(())
+}
+
+#[test]
+fn the_checks_of_clap_come_before_the_book(rt: HostRuntime) -> Result<(), Fail> {
+    assert_refuses(
+        &rt,
+        &["--book", "C3,D44", "--policy", "third"],
+        "error: invalid value 'third'",
+    )?;
+    assert_refuses(
+        &rt,
+        &["--book", "C3,D44", "--seed", "x"],
+        "error: invalid value 'x'",
+    )
+}

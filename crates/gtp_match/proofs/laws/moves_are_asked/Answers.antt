@@ -1,0 +1,5 @@
+use Rattle.gtp_match.proofs.AskedLemmas.{moves_are_asked}
+use Rattle.gtp_match.proofs.laws.moves_are_asked.Goals as goal
+
+pub returns : goal.returns
+returns ctx = moves_are_asked

@@ -1,0 +1,5 @@
+use Rattle.gtp_match.proofs.MetLemmas.{retakes_are_met}
+use Rattle.gtp_match.proofs.laws.retakes_are_met.Goals as goal
+
+pub returns : goal.returns
+returns ctx = retakes_are_met

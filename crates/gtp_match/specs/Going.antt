@@ -1,0 +1,172 @@
+-- That a match goes on, and what a reply counts for: told without the tables.
+use Rattle.std.specs.Prelude.{◌≡◌, ◌≢◌, ℕ, ◌+◌, ◌-◌, ◌<◌, ◌≤◌, ◌↔◌, false, true, List, [], ◌∷◌, ◌++◌, length, slice_get}
+use Rattle.std.specs.Prelude.{Option, None, Some, IsSome, MatchOption, Err}
+use Rattle.go_base.specs.Colour.{other}
+use Rattle.go_base.specs.declared.colours.Colour.{Colour}
+use Rattle.go_base.specs.declared.moves.Move.{Move}
+use Rattle.go_board.specs.Game.{GameRecord}
+use Rattle.gtp_wire.specs.Replies.{IsFirst}
+use Rattle.gtp_wire.specs.declared.commands.Command.{Command}
+use Rattle.gtp_wire.specs.declared.replies.Reply.{Reply}
+use Rattle.gtp_wire.specs.declared.replies.ReplyFault.TheVariants as reply_fault
+use Rattle.gtp_match.specs.Calls.{Call, Calls, count_starts}
+use Rattle.gtp_match.specs.Controller.{new, to_move, next_command}
+use Rattle.gtp_match.specs.Hearing.{Hears}
+use Rattle.gtp_match.specs.Next.{next}
+use Rattle.gtp_match.specs.Replying.{EndsReply, IsGenmove}
+use Rattle.gtp_match.specs.Retakes.{retakes_of, with_retake}
+use Rattle.gtp_match.specs.Script.{script}
+use Rattle.gtp_match.specs.Setup.{SetupRecord}
+use Rattle.gtp_match.specs.Sides.{side_of, restarts}
+use Rattle.gtp_match.specs.Sound.{IsSound, IsIdle, IsPlay, IsUndo}
+use Rattle.gtp_match.specs.Taking.{may_retake}
+use Rattle.gtp_match.specs.declared.controller.Controller.{Controller}
+use Rattle.gtp_match.specs.declared.sides.Incarnation.{Incarnation}
+use Rattle.gtp_match.specs.declared.unanswered.SentCommand.{SentCommand}
+use Rattle.gtp_match.specs.declared.verdicts.Action.{Action}
+use Rattle.gtp_match.specs.declared.verdicts.Action.TheVariants.{Start, Send, Wait, Done}
+use Rattle.gtp_match.specs.declared.verdicts.SideFault.{SideFault}
+use Rattle.gtp_match.specs.declared.verdicts.SideFault.TheVariants.{NoStatus, Overlong, WrongId, Unasked}
+
+-- ---- what comes next
+
+-- Why an engine has to answer before it is sent more: eight commands of it are unanswered; or a `genmove` is; or some
+-- command is, and it was sent the whole script.
+pub data HasToAnswer (game : GameRecord) (engine : Incarnation) : Type 0 where
+  eight : 8 ≤ length engine.unanswered → HasToAnswer game engine
+  move : (place : ℕ) (entry : SentCommand) → slice_get engine.unanswered place ≡ Some entry
+      → IsGenmove entry.command → HasToAnswer game engine
+  whole : engine.unanswered ≢ [] → length (script game) ≤ engine.confirmed + length engine.unanswered
+      → HasToAnswer game engine
+
+-- A side is started that is down, where nothing of the other is unanswered and no move is to be taken back.
+pub record MayStart (c : Controller) (side : Colour) : Type 0 where
+  pub verdict : c.verdict ≡ None
+  pub down : (side_of c.sides side).up ≡ None
+  pub other_idle : IsIdle (side_of c.sides (other side)).up
+  pub none_taken_back : c.pending ≡ None
+
+-- After a verdict it is told. Before one, a side is started that may be, a side is sent a command that is up and need
+-- not answer first, and a side is waited for that has to answer.
+abbrev pub IsDue : Controller → Action → Type 0
+IsDue c (Done verdict) = c.verdict ≡ Some verdict
+IsDue c (Wait side) = (c.verdict ≡ None) × MatchOption (side_of c.sides side).up ⊥ (HasToAnswer c.game)
+IsDue c (Start side) = MayStart c side
+IsDue c (Send side) =
+    (c.verdict ≡ None) × MatchOption (side_of c.sides side).up ⊥ (λ engine. ¬ HasToAnswer c.game engine)
+
+-- what comes next of a sound match is due
+abbrev pub NextIsDue : Type 0
+NextIsDue = (c : Controller) → IsSound c → IsDue c (next c)
+
+-- ---- when a move is asked for, or taken back
+
+-- nothing of the engine is unanswered, and it has confirmed the whole script
+pub record IsReady (game : GameRecord) (engine : Incarnation) : Type 0 where
+  pub idle : engine.unanswered ≡ []
+  pub whole : length (script game) ≤ engine.confirmed
+
+-- both sides are up, and so
+pub record AreReady (c : Controller) : Type 0 where
+  pub black : MatchOption c.sides.black.up ⊥ (IsReady c.game)
+  pub white : MatchOption c.sides.white.up ⊥ (IsReady c.game)
+
+-- the side is sent this next
+pub record IsSentNext (c : Controller) (side : Colour) (Is : Command → Type 0) : Type 0 where
+  pub next : next c ≡ Send side
+  pub command : MatchOption (side_of c.sides side).up ⊥ (λ engine. Is (next_command c side engine))
+
+pub record MovesAreAsked : Type 0 where
+  -- before a verdict, where both sides are ready and no move is to be taken back, the side to move is sent `genmove`
+  pub asked : (c : Controller) → c.verdict ≡ None → c.pending ≡ None → AreReady c
+      → IsSentNext c (to_move c.game) IsGenmove
+  -- and it is sent only where both sides are ready
+  pub only : (c : Controller) (side : Colour) → IsSound c → IsSentNext c side IsGenmove → AreReady c
+
+-- Where a move is to be taken back and nothing is unanswered, its maker is sent `undo`.
+abbrev pub UndoIsSent : Type 0
+UndoIsSent =
+    (c : Controller) (maker : Colour) → IsSound c → c.verdict ≡ None → c.pending ≡ Some maker
+    → IsIdle c.sides.black.up → IsIdle c.sides.white.up → IsSentNext c maker IsUndo
+
+-- ---- what shows a fault
+
+-- The bytes that were used show this fault: they end a reply where nothing is unanswered, or one without the id of the
+-- command that was sent first of those that are unanswered; or the last of them begins no reply, or is one too many.
+abbrev pub ShowsFault : Incarnation → List ℕ → ℕ → SideFault → Type 0
+ShowsFault engine bytes used Unasked = (reply : Reply) × EndsReply engine bytes used reply × (engine.unanswered ≡ [])
+ShowsFault engine bytes used WrongId =
+    (reply : Reply) × (entry : SentCommand) × (later : List SentCommand) × EndsReply engine bytes used reply
+    × (engine.unanswered ≡ entry ∷ later) × (reply.id ≢ Some entry.id)
+ShowsFault engine bytes used NoStatus =
+    IsFirst (engine.reader ++ bytes) (length engine.reader + used) (Err reply_fault.NoStatus)
+ShowsFault engine bytes used Overlong =
+    IsFirst (engine.reader ++ bytes) (length engine.reader + used) (Err reply_fault.Overlong)
+
+-- each fault comes only where its cause is
+abbrev pub FaultsHaveCauses : Type 0
+FaultsHaveCauses =
+    (c new : Controller) (s : Colour) (bytes : List ℕ) (used : ℕ) (shown : SideFault)
+    → Hears c s bytes used (Some shown) new
+    → MatchOption (side_of c.sides s).up ⊥ (λ engine. ShowsFault engine bytes used shown)
+
+-- ---- what answers count for
+
+-- the side is up, these commands of its engine are unanswered, and this number of them is confirmed
+pub record Stands (c : Controller) (s : Colour) (left : List SentCommand) (number : ℕ) : Type 0 where
+  pub engine : Incarnation
+  pub up : (side_of c.sides s).up ≡ Some engine
+  pub unanswered : engine.unanswered ≡ left
+  pub confirmed : engine.confirmed ≡ number
+
+-- What a reply to the first of the unanswered commands counts for. One command more is confirmed. Or it refused a
+-- `play`, and the number of the last move has one retake more. Or it took a move back, and one command less is
+-- confirmed. Or a verdict is given.
+pub data CountsFor (c new : Controller) (s : Colour) (engine : Incarnation) (entry : SentCommand)
+    (later : List SentCommand) (reply : Reply) : Type 0 where
+  confirmed : Stands new s later (engine.confirmed + 1) → CountsFor c new s engine entry later reply
+  retaken : IsPlay entry.command → reply.ok ≡ false → Stands new s later engine.confirmed
+      → new.retakes ≡ with_retake (length c.game.moves) c.retakes → CountsFor c new s engine entry later reply
+  taken_back : IsUndo entry.command → reply.ok ≡ true → Stands new s later (engine.confirmed - 1)
+      → CountsFor c new s engine entry later reply
+  ended : IsSome new.verdict → CountsFor c new s engine entry later reply
+
+-- Before a verdict, a reply with the id of the first of the unanswered commands shows no fault, and counts.
+abbrev pub AnswersCount : Type 0
+AnswersCount =
+    (c new : Controller) (s : Colour) (engine : Incarnation) (entry : SentCommand) (later : List SentCommand)
+    (reply : Reply) (bytes : List ℕ) (used : ℕ) (fault : Option SideFault)
+    → Hears c s bytes used fault new
+    → c.verdict ≡ None → (side_of c.sides s).up ≡ Some engine
+    → EndsReply engine bytes used reply → engine.unanswered ≡ entry ∷ later → reply.id ≡ Some entry.id
+    → (fault ≡ None) × CountsFor c new s engine entry later reply
+
+-- ---- retakes
+
+-- A `play` that the engine refused is met by a retake: it is the script's last command, the last move is the other
+-- side's, and of its number there were less than three retakes.
+pub record IsMet (c : Controller) (s : Colour) (engine : Incarnation) : Type 0 where
+  pub last_command : engine.confirmed + 1 ≡ length (script c.game)
+  pub place : ℕ
+  pub move : Move
+  pub there : slice_get c.game.moves place ≡ Some move
+  pub last : place + 1 ≡ length c.game.moves
+  pub by_other : move.colour ≡ other s
+  pub few : retakes_of c.retakes (place + 1) < 3
+
+pub record RetakesAreMet : Type 0 where
+  -- a `play` may be retaken exactly where it is so
+  pub met : (c : Controller) (s : Colour) (engine : Incarnation) → may_retake c s engine ≡ true ↔ IsMet c s engine
+  -- with one retake more of a number there is one more of it, and no more of any other
+  pub one_more : (retakes : List ℕ) (number : ℕ) → 0 < number → number ≤ length retakes
+      → retakes_of (with_retake number retakes) number ≡ retakes_of retakes number + 1
+  pub others_stay : (retakes : List ℕ) (number another : ℕ) → 0 < number → another ≢ number
+      → retakes_of (with_retake number retakes) another ≡ retakes_of retakes another
+
+-- ---- restarts
+
+-- the restarts of a side are the calls that started it, but for the first
+abbrev pub RestartsAreCounted : Type 0
+RestartsAreCounted =
+    (setup : SetupRecord) (calls : List Call) (c : Controller) (side : Colour) → Calls (new setup) calls c
+    → restarts (side_of c.sides side) ≡ count_starts side calls - 1

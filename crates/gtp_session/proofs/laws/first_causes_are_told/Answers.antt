@@ -1,0 +1,15 @@
+use Rattle.std.proofs.Common.{refl}
+use Rattle.gtp_session.proofs.RefusalLemmas.{unread_lines, size_lines, full_lines, illegal_lines, touched_lines, stones_lines, nothing_lines}
+use Rattle.gtp_session.proofs.laws.first_causes_are_told.Goals as goal
+
+pub returns : goal.returns
+returns c = record {
+  too_long = λ game choice. refl;
+  unread = unread_lines;
+  size = size_lines;
+  full = full_lines;
+  illegal = illegal_lines;
+  touched = touched_lines;
+  stones = stones_lines;
+  nothing = nothing_lines;
+}

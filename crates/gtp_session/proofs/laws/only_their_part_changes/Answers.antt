@@ -1,0 +1,5 @@
+use Rattle.gtp_session.proofs.PartLemmas.{lines_change}
+use Rattle.gtp_session.proofs.laws.only_their_part_changes.Goals as goal
+
+pub returns : goal.returns
+returns c game line choice = lines_change game line choice

@@ -1,0 +1,263 @@
+-- Laws of the table of the commands: what it must do, in other words than its rows. Names, texts and numbers stand here
+-- as the page of the protocol has them.
+use Rattle.std.specs.Prelude.{◌≡◌, ◌≢◌, ◌⊎◌, ◌↔◌, ℕ, ◌<◌, ◌≤◌, ℤ, pos, negsuc, suc, Bool, true, false, ◌+◌, List, [], ◌∷◌, ◌++◌, length, slice_get, Option, Some, None, IsTrue, AllPairs, Contains, codes}
+use Rattle.std.specs.List.{join_with_byte}
+use Rattle.go_base.specs.Int.{SpellsInt}
+use Rattle.go_base.specs.Komi.{SpellsKomi}
+use Rattle.go_base.specs.Colour.{SpellsColour}
+use Rattle.go_base.specs.Vertex.{SpellsVertex}
+use Rattle.go_base.specs.HalfPoints.{written_points}
+use Rattle.go_base.specs.Handicap.{AllowsHandicap}
+use Rattle.go_base.specs.declared.choices.Choice.{Choice}
+use Rattle.go_base.specs.declared.colours.Colour.{Colour}
+use Rattle.go_base.specs.declared.vertices.Vertex.{Vertex}
+use Rattle.go_board.specs.Game.{GameRecord, IsLegal}
+use Rattle.go_board.specs.Refusals.{IsTouched}
+use Rattle.go_board.specs.Area.{score}
+use Rattle.gtp_wire.specs.declared.lines.Line.{Line}
+use Rattle.gtp_wire.specs.declared.lines.Line.TheVariants as line
+use Rattle.gtp_session.specs.declared.commands.CommandName.{CommandName}
+use Rattle.gtp_session.specs.declared.commands.CommandName.TheVariants.{ProtocolVersion, Name, Version, KnownCommand, ListCommands, Quit, Boardsize, ClearBoard, Komi, Play, Genmove, FixedHandicap, Undo, FinalScore, Showboard}
+use Rattle.gtp_wire.specs.Lines.{lines}
+use Rattle.gtp_wire.specs.Replies.{written_reply}
+use Rattle.gtp_session.specs.Policy.{May}
+use Rattle.gtp_session.specs.Commands.{Answer, answer, asked, succeeds, fails, ends}
+use Rattle.gtp_session.specs.Engine.{Engine, WrittenReply, Replies}
+
+-- ---- lines and their arguments
+
+-- a line of these words, with this id or none
+abbrev pub line_with : Option ℕ → List (List ℕ) → Line
+line_with id words = line.Command (record { id = id; words = words })
+
+-- what is answered to it
+abbrev pub answer_with : GameRecord → Option ℕ → List (List ℕ) → Choice → Answer
+answer_with game id words choice = answer game (line_with id words) choice
+
+-- the name of each command, as the standard has it
+abbrev pub standard_name : CommandName → List ℕ
+standard_name ProtocolVersion = codes "protocol_version"
+standard_name Name = codes "name"
+standard_name Version = codes "version"
+standard_name KnownCommand = codes "known_command"
+standard_name ListCommands = codes "list_commands"
+standard_name Quit = codes "quit"
+standard_name Boardsize = codes "boardsize"
+standard_name ClearBoard = codes "clear_board"
+standard_name Komi = codes "komi"
+standard_name Play = codes "play"
+standard_name Genmove = codes "genmove"
+standard_name FixedHandicap = codes "fixed_handicap"
+standard_name Undo = codes "undo"
+standard_name FinalScore = codes "final_score"
+standard_name Showboard = codes "showboard"
+
+-- the first word is the name of this command
+abbrev pub Names : List (List ℕ) → CommandName → Type 0
+Names words command = slice_get words 0 ≡ Some (standard_name command)
+
+-- the same of a line; one that is too long names none
+abbrev pub LineNames : Line → CommandName → Type 0
+LineNames line.TooLong command = ⊥
+LineNames (line.Command command_line) command = Names command_line.words command
+
+-- the word of this number is there, and it spells the value
+abbrev pub IsArgument : {V : Type 0} → (V → List ℕ → Type 0) → List (List ℕ) → ℕ → V → Type 0
+IsArgument Spells words number value = (word : List ℕ) × (slice_get words number ≡ Some word) × Spells value word
+
+-- the arguments that the command needs are there and can be read; further words don't count
+abbrev pub CanBeRead : CommandName → List (List ℕ) → Type 0
+CanBeRead KnownCommand words = (word : List ℕ) × (slice_get words 1 ≡ Some word)
+CanBeRead Boardsize words = (size : ℕ) × IsArgument SpellsInt words 1 size
+CanBeRead Komi words = (komi : ℤ) × IsArgument SpellsKomi words 1 komi
+CanBeRead Play words =
+    (colour : Colour) × IsArgument SpellsColour words 1 colour
+    × ((vertex : Vertex) × IsArgument SpellsVertex words 2 vertex)
+CanBeRead Genmove words = (colour : Colour) × IsArgument SpellsColour words 1 colour
+CanBeRead FixedHandicap words = (stones : ℕ) × IsArgument SpellsInt words 1 stones
+CanBeRead ProtocolVersion words = Unit {0}
+CanBeRead Name words = Unit {0}
+CanBeRead Version words = Unit {0}
+CanBeRead ListCommands words = Unit {0}
+CanBeRead Quit words = Unit {0}
+CanBeRead ClearBoard words = Unit {0}
+CanBeRead Undo words = Unit {0}
+CanBeRead FinalScore words = Unit {0}
+CanBeRead Showboard words = Unit {0}
+
+-- the record has room for a move: fewer than 2,000 are in it
+abbrev pub TakesMove : GameRecord → Type 0
+TakesMove game = length game.moves < 2000
+
+-- The command can be done at this game: its arguments are read, and the game allows it. That is a size from 1 to 25; a
+-- legal move where the record has room; room for a `genmove`; a number of handicap stones that the size allows, on a
+-- board without a stone and a record without a move; a move to take back.
+abbrev pub CanBeDone : GameRecord → CommandName → List (List ℕ) → Type 0
+CanBeDone game KnownCommand words = CanBeRead KnownCommand words
+CanBeDone game Boardsize words =
+    (size : ℕ) × IsArgument SpellsInt words 1 size × ((1 ≤ size) × (size ≤ 25))
+CanBeDone game Komi words = CanBeRead Komi words
+CanBeDone game Play words =
+    (colour : Colour) × IsArgument SpellsColour words 1 colour
+    × ((vertex : Vertex) × IsArgument SpellsVertex words 2 vertex × (TakesMove game × IsLegal game colour vertex))
+CanBeDone game Genmove words = CanBeRead Genmove words × TakesMove game
+CanBeDone game FixedHandicap words =
+    (stones : ℕ) × IsArgument SpellsInt words 1 stones × ((¬ IsTouched game) × AllowsHandicap game.size stones)
+CanBeDone game Undo words = 0 < length game.moves
+CanBeDone game ProtocolVersion words = Unit {0}
+CanBeDone game Name words = Unit {0}
+CanBeDone game Version words = Unit {0}
+CanBeDone game ListCommands words = Unit {0}
+CanBeDone game Quit words = Unit {0}
+CanBeDone game ClearBoard words = Unit {0}
+CanBeDone game FinalScore words = Unit {0}
+CanBeDone game Showboard words = Unit {0}
+
+-- ---- the laws
+
+-- a line succeeds exactly where it names a command that can be done
+abbrev pub LinesSucceedWhereTheyCan : Type 0
+LinesSucceedWhereTheyCan = (game : GameRecord) (id : Option ℕ) (words : List (List ℕ)) (choice : Choice)
+    → ((answer_with game id words choice).ok ≡ true)
+    ↔ ((command : CommandName) × Names words command × CanBeDone game command words)
+
+-- Each failure tells its cause, and where two stand together the first one: a line that is too long or arguments that
+-- can't be read before all, a full record before a move that isn't legal, and a board that isn't empty before a number
+-- of stones that isn't allowed.
+pub record FirstCausesAreTold : Type 0 where
+  pub too_long : (game : GameRecord) (choice : Choice)
+      → answer game line.TooLong choice ≡ fails game (codes "syntax error")
+  pub unread : (game : GameRecord) (id : Option ℕ) (words : List (List ℕ)) (choice : Choice) (command : CommandName)
+      → Names words command → ¬ CanBeRead command words
+      → answer_with game id words choice ≡ fails game (codes "syntax error")
+  pub size : (game : GameRecord) (id : Option ℕ) (words : List (List ℕ)) (choice : Choice)
+      → Names words Boardsize → CanBeRead Boardsize words → ¬ CanBeDone game Boardsize words
+      → answer_with game id words choice ≡ fails game (codes "unacceptable size")
+  pub full : (game : GameRecord) (id : Option ℕ) (words : List (List ℕ)) (choice : Choice) (command : CommandName)
+      → Names words command → CanBeRead command words → (command ≡ Play) ⊎ (command ≡ Genmove) → ¬ TakesMove game
+      → answer_with game id words choice ≡ fails game (codes "record full")
+  pub illegal : (game : GameRecord) (id : Option ℕ) (words : List (List ℕ)) (choice : Choice)
+      → Names words Play → CanBeRead Play words → TakesMove game → ¬ CanBeDone game Play words
+      → answer_with game id words choice ≡ fails game (codes "illegal move")
+  pub touched : (game : GameRecord) (id : Option ℕ) (words : List (List ℕ)) (choice : Choice)
+      → Names words FixedHandicap → CanBeRead FixedHandicap words → IsTouched game
+      → answer_with game id words choice ≡ fails game (codes "board not empty")
+  pub stones : (game : GameRecord) (id : Option ℕ) (words : List (List ℕ)) (choice : Choice)
+      → Names words FixedHandicap → CanBeRead FixedHandicap words → ¬ IsTouched game
+      → ¬ CanBeDone game FixedHandicap words
+      → answer_with game id words choice ≡ fails game (codes "invalid number of stones")
+  pub nothing : (game : GameRecord) (id : Option ℕ) (words : List (List ℕ)) (choice : Choice)
+      → Names words Undo → ¬ CanBeDone game Undo words
+      → answer_with game id words choice ≡ fails game (codes "cannot undo")
+
+-- Whatever the line, the game after it has the ko rule of the game before it, and the other parts too, but for those
+-- that the command of the line is there to change.
+pub record LinesChangeTheirPart (game : GameRecord) (line : Line) (after : GameRecord) : Type 0 where
+  pub rule : after.rule ≡ game.rule
+  pub size : (after.size ≡ game.size) ⊎ LineNames line Boardsize
+  pub komi : (after.komi ≡ game.komi) ⊎ LineNames line Komi
+  pub handicap : (after.handicap ≡ game.handicap)
+      ⊎ (LineNames line Boardsize ⊎ (LineNames line ClearBoard ⊎ LineNames line FixedHandicap))
+  pub moves : (after.moves ≡ game.moves)
+      ⊎ (LineNames line Boardsize ⊎ (LineNames line ClearBoard ⊎ (LineNames line Play
+      ⊎ (LineNames line Genmove ⊎ LineNames line Undo))))
+
+abbrev pub OnlyTheirPartChanges : Type 0
+OnlyTheirPartChanges = (game : GameRecord) (line : Line) (choice : Choice)
+    → LinesChangeTheirPart game line (answer game line choice).game
+
+-- the session ends with a line exactly where its first word is `quit`
+abbrev pub QuitLinesEnd : Type 0
+QuitLinesEnd = (line : Line) → IsTrue (ends line) ↔ LineNames line Quit
+
+-- `list_commands` lists rows, one for each command, each once; `known_command` answers `true` to a word that is one of
+-- them and `false` to every other; and a line whose first word is none of them is an unknown command. (10 is LF.)
+pub record ListedCommandsAreKnown : Type 0 where
+  pub rows : List (List ℕ)
+  pub as_many : length rows ≡ 15
+  pub each : (command : CommandName) → Contains rows (standard_name command)
+  pub once : AllPairs (λ a b. a ≢ b) rows
+  pub listed : (game : GameRecord) (id : Option ℕ) (more : List (List ℕ)) (choice : Choice)
+      → answer_with game id (codes "list_commands" ∷ more) choice ≡ succeeds game (join_with_byte 10 rows)
+  pub known : (game : GameRecord) (id : Option ℕ) (word : List ℕ) (more : List (List ℕ)) (choice : Choice)
+      → Contains rows word
+      → answer_with game id (codes "known_command" ∷ word ∷ more) choice ≡ succeeds game (codes "true")
+  pub others : (game : GameRecord) (id : Option ℕ) (word : List ℕ) (more : List (List ℕ)) (choice : Choice)
+      → ¬ Contains rows word
+      → answer_with game id (codes "known_command" ∷ word ∷ more) choice ≡ succeeds game (codes "false")
+  pub unknown : (game : GameRecord) (id : Option ℕ) (words : List (List ℕ)) (choice : Choice)
+      → ((word : List ℕ) → Contains rows word → slice_get words 0 ≢ Some word)
+      → answer_with game id words choice ≡ fails game (codes "unknown command")
+
+-- `final_score` names Black, with the lead in points, where the score is Black's, and White where it is White's; where
+-- it is even the answer is `0`.
+pub record ScoresNameTheLeader : Type 0 where
+  pub black : (game : GameRecord) (id : Option ℕ) (more : List (List ℕ)) (choice : Choice) (n : ℕ)
+      → score game ≡ pos (suc n)
+      → answer_with game id (codes "final_score" ∷ more) choice
+      ≡ succeeds game (codes "B+" ++ written_points (suc n))
+  pub white : (game : GameRecord) (id : Option ℕ) (more : List (List ℕ)) (choice : Choice) (n : ℕ)
+      → score game ≡ negsuc n
+      → answer_with game id (codes "final_score" ∷ more) choice
+      ≡ succeeds game (codes "W+" ++ written_points (n + 1))
+  pub even : (game : GameRecord) (id : Option ℕ) (more : List (List ℕ)) (choice : Choice)
+      → score game ≡ pos 0
+      → answer_with game id (codes "final_score" ∷ more) choice ≡ succeeds game (codes "0")
+
+-- ---- replies
+
+-- the reply repeats the line's id, where it has one; a line that is too long has none
+abbrev pub RepeatsId : Line → WrittenReply → Type 0
+RepeatsId line.TooLong reply = (ok : Bool) × (text : List ℕ) × (reply.text ≡ written_reply ok None text)
+RepeatsId (line.Command command_line) reply =
+    (ok : Bool) × (text : List ℕ) × (reply.text ≡ written_reply ok command_line.id text)
+
+-- The lines up to and with the first `quit` have one reply each, in order, with their ids; what stands behind it has
+-- none.
+abbrev pub HaveOneReplyEach : List Line → List WrittenReply → Type 0
+HaveOneReplyEach [] [] = Unit {0}
+HaveOneReplyEach [] (reply ∷ replies) = ⊥
+HaveOneReplyEach (line ∷ later) [] = ⊥
+HaveOneReplyEach (line ∷ later) (reply ∷ replies) =
+    RepeatsId line reply
+    × ((LineNames line Quit → replies ≡ []) × ((¬ LineNames line Quit) → HaveOneReplyEach later replies))
+
+-- an engine whose session goes on answers each line once
+abbrev pub EachLineIsAnsweredOnce : {P : Type 0} → May P → Type 0
+EachLineIsAnsweredOnce {P} may = (old new : Engine P) (text : List ℕ) (replies : List WrittenReply)
+    → old.ended ≡ false → Replies may old text new replies → HaveOneReplyEach (lines (old.rest ++ text)) replies
+
+-- ---- spellings
+
+-- the words of this number spell one value, in whatever spellings
+abbrev pub SpellAlike : {V : Type 0} → (V → List ℕ → Type 0) → ℕ → List (List ℕ) → List (List ℕ) → Type 0
+SpellAlike {V} Spells number words others =
+    (value : V) × IsArgument Spells words number value × IsArgument Spells others number value
+
+-- The arguments that the command needs are there in both lines, and spell the same values; a word that is looked for
+-- among the names of the commands is the same word.
+abbrev pub AskAlike : CommandName → List (List ℕ) → List (List ℕ) → Type 0
+AskAlike KnownCommand words others =
+    (word : List ℕ) × (slice_get words 1 ≡ Some word) × (slice_get others 1 ≡ Some word)
+AskAlike Boardsize words others = SpellAlike SpellsInt 1 words others
+AskAlike Komi words others = SpellAlike SpellsKomi 1 words others
+AskAlike Play words others = SpellAlike SpellsColour 1 words others × SpellAlike SpellsVertex 2 words others
+AskAlike Genmove words others = SpellAlike SpellsColour 1 words others
+AskAlike FixedHandicap words others = SpellAlike SpellsInt 1 words others
+AskAlike ProtocolVersion words others = Unit {0}
+AskAlike Name words others = Unit {0}
+AskAlike Version words others = Unit {0}
+AskAlike ListCommands words others = Unit {0}
+AskAlike Quit words others = Unit {0}
+AskAlike ClearBoard words others = Unit {0}
+AskAlike Undo words others = Unit {0}
+AskAlike FinalScore words others = Unit {0}
+AskAlike Showboard words others = Unit {0}
+
+-- Two lines of one command whose arguments spell the same values are answered alike, with the same game after them, and
+-- ask the policy alike. So the spelling that is written counts for no more than any other.
+abbrev pub SpellingsDoNotCount : Type 0
+SpellingsDoNotCount = (game : GameRecord) (a b : Option ℕ) (words others : List (List ℕ)) (choice : Choice)
+    (command : CommandName) → Names words command → Names others command → AskAlike command words others
+    → (answer_with game a words choice ≡ answer_with game b others choice)
+    × (asked game (line_with a words) ≡ asked game (line_with b others))

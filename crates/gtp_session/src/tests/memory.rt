@@ -1,0 +1,227 @@
+//! Readers and writers over memory, for tests.
+ghost use Rattle.std.specs.Prelude.{Some};
+
+use arrayvec::ArrayVec;
+use std::cell::Cell;
+use std::io;
+use std::io::{ErrorKind, Read, Write};
+use std::rc::Rc;
+
+/// Gives a text in pieces of these sizes, and then the rest, and fails the read of one number.
+#[derive(Drop)]
+pub struct Pieces<'a> {
+    pub rest: &'a [u8],
+    pub sizes: &'a [usize],
+    pub turn: usize,
+    pub failing: Option<usize>,
+}
+
+impl Read for Pieces<'_> {
+    ghost remaining = { λ r. Some r.rest.now };
+
+    fn read(&mut self, buf: &mut [u8]) -> io::Result<usize> {
+        let turn = self.turn;
+        self.turn = turn.saturating_add(1);
+        if self.failing == Some(turn) {
+            return Err(io::Error::from(ErrorKind::BrokenPipe));
+        }
+        let size = self.sizes.get(turn).copied().unwrap_or(usize::MAX).max(1);
+        let count = size.min(buf.len()).min(self.rest.len());
+        let (front, rest) = self.rest.split_at(count);
+        buf[..count].copy_from_slice(front);
+        self.rest = rest;
+        Ok(count)
+    }
+}
+
+/// Takes at most `step` bytes a write, and fails once it took `room` bytes.
+#[derive(Drop)]
+pub struct Limited<'a> {
+    pub taken: &'a mut ArrayVec<u8, 4096>,
+    pub room: usize,
+    pub step: usize,
+}
+
+impl Write for Limited<'_> {
+    ghost contents = { λ w. Some w.taken.now.items };
+
+    fn write(&mut self, buf: &[u8]) -> io::Result<usize> {
+        let free = self.room.min(self.taken.remaining_capacity());
+        let count = self.step.min(free).min(buf.len());
+        if count == 0 && !buf.is_empty() {
+            return Err(io::Error::from(ErrorKind::BrokenPipe));
+        }
+        match self.taken.try_extend_from_slice(&buf[..count]) {
+            Ok(()) => {
+                self.room -= count;
+                Ok(count)
+            }
+            Err(_) => Err(io::Error::from(ErrorKind::BrokenPipe)),
+        }
+    }
+
+    fn flush(&mut self) -> io::Result<()> {
+        Ok(())
+    }
+}
+
+/// Counts the replies that were taken whole, and tells their number at each flush.
+#[derive(Drop)]
+pub struct Telling {
+    pub replies: u32,
+    pub last: u8,
+    pub flushed: Rc<Cell<u32>>,
+}
+
+impl Write for Telling {
+    fn write(&mut self, buf: &[u8]) -> io::Result<usize> {
+        let mut last = self.last;
+        let mut replies = self.replies;
+        for &byte in buf {
+            if byte == 10 && last == 10 {
+                replies = replies.saturating_add(1);
+            }
+            last = byte;
+        }
+        self.last = last;
+        self.replies = replies;
+        Ok(buf.len())
+    }
+
+    fn flush(&mut self) -> io::Result<()> {
+        self.flushed.set(self.replies);
+        Ok(())
+    }
+}
+
+/// Gives one line a read, and fails a read that comes before the replies to the lines before it were flushed.
+#[derive(Drop)]
+pub struct Waiting<'a> {
+    pub lines: &'a [&'a [u8]],
+    pub next: usize,
+    pub flushed: Rc<Cell<u32>>,
+}
+
+impl Read for Waiting<'_> {
+    fn read(&mut self, buf: &mut [u8]) -> io::Result<usize> {
+        let next = self.next;
+        if (self.flushed.get() as usize) < next {
+            return Err(io::Error::from(ErrorKind::BrokenPipe));
+        }
+        if next >= self.lines.len() {
+            return Ok(0);
+        }
+        let line = self.lines[next];
+        let count = line.len().min(buf.len());
+        buf[..count].copy_from_slice(&line[..count]);
+        self.next = next + 1;
+        Ok(count)
+    }
+}
+
+/// Takes each text whole, counts the writes, and fails one that comes before the reply that it took was flushed.
+#[derive(Drop)]
+pub struct Strict {
+    pub writes: Rc<Cell<u32>>,
+    pub whole: bool,
+}
+
+impl Write for Strict {
+    fn write(&mut self, buf: &[u8]) -> io::Result<usize> {
+        if self.whole {
+            return Err(io::Error::from(ErrorKind::BrokenPipe));
+        }
+        self.whole = buf.ends_with(b"\n\n");
+        self.writes.set(self.writes.get().saturating_add(1));
+        Ok(buf.len())
+    }
+
+    fn flush(&mut self) -> io::Result<()> {
+        self.whole = false;
+        Ok(())
+    }
+}
+
+/// Takes no byte of any text, and doesn't fail.
+#[derive(Clone, Copy, Drop)]
+pub struct Stuck;
+
+impl Write for Stuck {
+    fn write(&mut self, _buf: &[u8]) -> io::Result<usize> {
+        Ok(0)
+    }
+
+    fn flush(&mut self) -> io::Result<()> {
+        Ok(())
+    }
+}
+
+/// Takes all, and fails each flush after the first `flushes`.
+#[derive(Drop)]
+pub struct Unflushed<'a> {
+    pub taken: &'a mut Vec<u8>,
+    pub flushes: usize,
+}
+
+impl Write for Unflushed<'_> {
+    fn write(&mut self, buf: &[u8]) -> io::Result<usize> {
+        self.taken.extend_from_slice(buf)?;
+        Ok(buf.len())
+    }
+
+    fn flush(&mut self) -> io::Result<()> {
+        if self.flushes == 0 {
+            return Err(io::Error::from(ErrorKind::BrokenPipe));
+        }
+        self.flushes -= 1;
+        Ok(())
+    }
+}
+
+/// Takes no byte of its first text where it is stuck, fails its first flush where it is clogged, and is as good as any
+/// after that.
+#[derive(Drop)]
+pub struct Balky {
+    pub taken: Vec<u8>,
+    pub stuck: bool,
+    pub clogged: bool,
+}
+
+impl Write for Balky {
+    fn write(&mut self, buf: &[u8]) -> io::Result<usize> {
+        if self.stuck {
+            self.stuck = false;
+            return Ok(0);
+        }
+        self.taken.extend_from_slice(buf)?;
+        Ok(buf.len())
+    }
+
+    fn flush(&mut self) -> io::Result<()> {
+        if self.clogged {
+            self.clogged = false;
+            return Err(io::Error::from(ErrorKind::BrokenPipe));
+        }
+        Ok(())
+    }
+}
+
+/// Gives one byte `left` times, one a read, and then the end; and counts its reads.
+#[derive(Drop)]
+pub struct Drip {
+    pub byte: u8,
+    pub left: u32,
+    pub turns: u64,
+}
+
+impl Read for Drip {
+    fn read(&mut self, buf: &mut [u8]) -> io::Result<usize> {
+        self.turns = self.turns.saturating_add(1);
+        if self.left == 0 || buf.is_empty() {
+            return Ok(0);
+        }
+        self.left -= 1;
+        buf[0] = self.byte;
+        Ok(1)
+    }
+}

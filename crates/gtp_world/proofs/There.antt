@@ -1,0 +1,95 @@
+-- A running engine in step is at the controller's game, under its own side's ko rule.
+use Rattle.std.proofs.Common.{◌≡◌, ℕ, List, Option, Some, None, Bool, true, false, refl, sym, ◌∙◌, ap, subst, inl, inr}
+use Rattle.std.proofs.Common.{arith}
+use Rattle.std.specs.Prelude.{◌≢◌, ◌⊎◌, ◌<◌, [], ℤ, IsSome, IfSome, MatchOption}
+use Rattle.go_base.specs.Colour.{other}
+use Rattle.go_base.specs.declared.colours.Colour.{Colour}
+use Rattle.go_base.specs.declared.colours.Colour.TheVariants.{Black, White}
+use Rattle.go_base.specs.declared.moves.Move.{Move}
+use Rattle.go_board.specs.Game.{GameRecord, IsGame}
+use Rattle.go_board.specs.Taken.{same_colour}
+use Rattle.go_board.specs.declared.rules.KoRule.{KoRule}
+use Rattle.gtp_session.proofs.Policies.{AllowsLawful}
+use Rattle.gtp_session.specs.Policy.{May}
+use Rattle.gtp_session.specs.Engine.{Engine}
+use Rattle.gtp_match.specs.declared.sides.Incarnation.{Incarnation}
+use Rattle.gtp_match.specs.declared.verdicts.Action.TheVariants.{Start, Done}
+use Rattle.gtp_match.specs.declared.verdicts.ForfeitCause.{ForfeitCause}
+use Rattle.gtp_match.specs.declared.verdicts.ForfeitCause.TheVariants.{RefusedPlay, NoMove, NoVertex, IllegalMove}
+use Rattle.gtp_match.specs.declared.verdicts.Verdict.{Verdict}
+use Rattle.gtp_match.specs.declared.verdicts.Verdict.TheVariants.{Score, Resign, Limit, Forfeit, Unfit, Abandoned}
+use Rattle.gtp_match.specs.declared.controller.Controller.{Controller}
+use Rattle.gtp_match.specs.Controller.{in_step, new}
+use Rattle.gtp_match.specs.Next.{next, next_where}
+use Rattle.gtp_match.specs.Setup.{SetupRecord, IsSetup}
+use Rattle.gtp_match.specs.Sides.{side_of}
+use Rattle.gtp_match.specs.Sound.{IsIdle}
+use Rattle.gtp_match.specs.Taking.{is_by, unless_over}
+use Rattle.gtp_world.specs.declared.events.Event.{Event}
+use Rattle.gtp_world.specs.declared.events.Event.TheVariants.{Act, BrokenWrite, ToEngine, ToController, Crash, End}
+use Rattle.gtp_world.specs.EventLaws.{IsUp, IsRunning, own_rule}
+use Rattle.gtp_world.specs.Lane.{Lane, SidePolicies}
+use Rattle.gtp_world.specs.World.{World, opening, Holds, Agrees, Runs}
+use Rattle.gtp_world.specs.Worlds.{MadeWorld, game_in, game_at, rule_at, IsThereInStep}
+use Rattle.gtp_world.specs.Joined.{Rules, rule_of, ruled, IsFair, IsRefusal, IsJoined, bare, body, body_of}
+use Rattle.gtp_world.specs.Laws.{rules_of, PutsDown}
+use Rattle.gtp_world.specs.Settle.{settle, MaySettle, IsSettled, RunsWhereUp}
+use Rattle.gtp_world.specs.WordLaws.{AgreeingIsBeingThere, IsFourthRefusal, BlamesFewest, EnginesInStepAreThere}
+use Rattle.gtp_world.specs.WordLaws.{IsQuiet}
+use Rattle.gtp_world.specs.WordLaws.{IsCaughtUp}
+use Rattle.gtp_world.specs.WordLaws.{OpeningsMaySettle, SettledIsCaughtUp, QuietWorldsCatchUp, LastStartsAreUp}
+use Rattle.gtp_world.proofs.Agreement.{same_game}
+use Rattle.gtp_world.proofs.CatchUp.{settles}
+use Rattle.gtp_world.proofs.Downs.{starts_are_left}
+use Rattle.gtp_world.proofs.Happenings.{opening_has, opening_under, runs_keep}
+use Rattle.gtp_world.proofs.Invariant.{flipped}
+use Rattle.gtp_world.proofs.Reaching.{game_some, game_in_step, reached_inv}
+
+body_some : {P : Type 0} (l : Lane P) (e : Engine P) → l.engine ≡ Some e → (bare l).engine ≡ Some (body e)
+body_some l e h = ap body_of h
+
+black_there : {B W : Type 0} (rules : Rules) (v : World B W) (game : GameRecord) → IsJoined rules v
+    → game_in v.black.engine ≡ Some game → in_step v.controller Black ≡ true
+        → game ≡ ruled rules.black v.controller.game
+black_there rules v game j is step =
+    let x = game_some v.black.engine game is in
+    sym x.2 ∙ same_game rules v.controller Black (bare v.black) (bare v.white) (body x.0) j step
+        (body_some v.black x.0 x.1)
+
+white_there : {B W : Type 0} (rules : Rules) (v : World B W) (game : GameRecord) → IsJoined rules v
+    → game_in v.white.engine ≡ Some game → in_step v.controller White ≡ true
+        → game ≡ ruled rules.white v.controller.game
+white_there rules v game j is step =
+    let x = game_some v.white.engine game is in
+    sym x.2
+    ∙ same_game rules v.controller White (bare v.white) (bare v.black) (body x.0)
+    (flipped rules v.controller Black (bare v.black) (bare v.white) j) step (body_some v.white x.0 x.1)
+
+pub there : {B W : Type 0} (rules : Rules) (v : World B W) (s : Colour) (game : GameRecord) → IsJoined rules v
+    → game_at v s ≡ Some game → in_step v.controller s ≡ true → game ≡ ruled (rule_of rules s) v.controller.game
+there rules v Black game j is step = black_there rules v game j is step
+there rules v White game j is step = white_there rules v game j is step
+
+-- the ko rules of both sides
+abbrev rules_at : {M N B W : Type 0} → MadeWorld M N B W → Rules
+rules_at w = record { black = w.making_black.rule; white = w.making_white.rule }
+
+rule_is : {M N B W : Type 0} (w : MadeWorld M N B W) (s : Colour) → rule_of (rules_at w) s ≡ rule_at w s
+rule_is w Black = refl
+rule_is w White = refl
+
+pub engines_are_there : {M N B W : Type 0} (may_b : May B) (may_w : May W) (made_b : M → B → Type 0)
+    (made_w : N → W → Type 0)
+    → AllowsLawful may_b → AllowsLawful may_w → EnginesInStepAreThere may_b may_w made_b made_w
+engines_are_there may_b may_w made_b made_w law_b law_w w s game reached is step =
+    there (rules_at w) w.world s game (reached_inv may_b may_w made_b made_w law_b law_w w reached) is step
+    ∙ ap (λ (rule : KoRule). ruled rule w.world.controller.game) (rule_is w s)
+
+pub shown_there : {M N B W G : Type 0} (w : MadeWorld M N B W)
+    → ((s : Colour) (game : GameRecord) → game_at w.world s ≡ Some game → IsThereInStep w s game)
+    → (s t : Colour) → s ≡ t → (now : G → GameRecord) (r : Option G)
+    → MatchOption r (game_at w.world t ≡ None) (λ g. game_at w.world t ≡ Some (now g))
+    → IfSome r (λ g. IsThereInStep w s (now g))
+shown_there w there s t e now None m = tt
+shown_there w there s t e now (Some g) m =
+    there s (now g) (subst (λ (x : Colour). game_at w.world x ≡ Some (now g)) (sym e) m)

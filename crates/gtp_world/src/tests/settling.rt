@@ -1,0 +1,65 @@
+//! Worlds that settle.
+use super::SIDES;
+use super::same::assert_same_game;
+use super::told::{Events, Told, black_lost};
+use crate::{Event, Maker, World};
+use crate::equal::assert_equal;
+use gtp_match::Status;
+use std::process::Abort;
+
+/// The events that start each side that is down, and bring both sides into step: one `Act` for each side that is down,
+/// and then for Black, and then for White, a round for each script command that it has left.
+fn settling<B: Maker, W: Maker>(rt: &impl Abort, world: &World<B, W>) -> Events {
+    let mut events = Events::new();
+    let played = world.controller();
+    for side in SIDES {
+        if played.status(side) == Status::Down {
+            events.add(rt, Event::Act);
+        }
+    }
+    for side in SIDES {
+        let confirmed = match played.status(side) {
+            Status::Down => 0,
+            Status::Up { confirmed, .. } => confirmed,
+        };
+        let moves = played.game().moves();
+        for number in confirmed..u32::MAX {
+            if played.setup().script(moves, number).is_none() {
+                break;
+            }
+            events.add_round(rt, side);
+        }
+    }
+    events
+}
+
+/// The world settles by `count` events, and its record stays.
+fn assert_settles(rt: &impl Abort, told: &mut Told, count: usize) {
+    let events = settling(rt, &told.world);
+    assert_equal(rt, events.all(rt).len(), count);
+    let before = told.record_len();
+    told.world.run(events.all(rt));
+    for side in SIDES {
+        assert!(rt; told.in_step(side));
+        let game = told.world.running(side).expect(rt, "an engine");
+        assert_same_game(rt, game, told.world.controller().game());
+    }
+    assert_equal(rt, told.record_len(), before);
+}
+
+#[test]
+fn a_new_world_settles_by_twenty_events(rt: HostRuntime) {
+    assert_settles(&rt, &mut Told::new(&rt), 20);
+}
+
+#[test]
+fn a_world_that_lost_an_engine_settles_by_ten_events(rt: HostRuntime) {
+    assert_settles(&rt, &mut black_lost(&rt), 10);
+}
+
+#[test]
+fn a_settled_world_needs_no_event(rt: HostRuntime) {
+    let mut told = black_lost(&rt);
+    assert_settles(&rt, &mut told, 10);
+    assert_settles(&rt, &mut told, 0);
+}

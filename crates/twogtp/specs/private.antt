@@ -1,0 +1,2 @@
+-- What no reader has to believe: what functions inside the crate say of one another.
+pub mod Leaving

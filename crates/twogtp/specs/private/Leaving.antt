@@ -1,0 +1,9 @@
+-- Which processes are left before any is told to `quit`.
+use Rattle.std.specs.Prelude.{◌≡◌, Bool, true, false, Option, None}
+use Rattle.twogtp.specs.declared.starter.Process.{Ghosts}
+use Rattle.twogtp.specs.Processes.{IsEnded}
+
+-- Of a side that is up and owes nothing the process is left. Any other is ended, and none is left.
+abbrev pub IsLeft : {P : Type 0} → Ghosts P → Bool → Option P → Option P → Type 0
+IsLeft known true process left = left ≡ process
+IsLeft known false process left = (left ≡ None) × IsEnded known process

@@ -1,0 +1,198 @@
+//! What is said with engines: how they are started, read and written, interrupted, and ended.
+use super::fakes::Ticking;
+use super::runs::{FIRST, TO_THE_LIMIT, assert_plays, first_against_first, run_refusing, run_with};
+use crate::equal::{assert_equal, assert_equal_for};
+use crate::precedence::Precedence;
+use crate::starter::{PipeFault, StartFault, StartReason};
+use crate::system::{pipe_fault_of, start_fault_of};
+use std::io::ErrorKind;
+use std::process::Abort;
+use std::str;
+use std::test::Fail;
+
+#[test]
+fn a_side_whose_output_ends_or_breaks_is_started_again(rt: HostRuntime) -> Result<(), Fail> {
+    for engine in ["says", "mute", "broken", "says hello"] {
+        let ran = run_with(rt.alloc(), ["--black", engine, "--white", FIRST].as_slice())?;
+        let line = str::from_utf8(ran.output.as_slice())?;
+        assert_equal_for(
+            &rt,
+            engine,
+            line,
+            "game 1: abandoned black moves 0 restarts 2 0\n",
+        );
+        assert_equal_for(&rt, engine, ran.status, 1);
+        // Black three times, and White once: White answered all that it was sent.
+        assert_equal_for(&rt, engine, ran.log.started.get(), 4);
+        assert_equal_for(&rt, engine, ran.log.ended.get(), 4);
+        assert_equal_for(&rt, engine, ran.log.quits.get(), 1);
+    }
+    Ok(())
+}
+
+#[test]
+fn an_engine_that_echoes_is_given_up(rt: HostRuntime) -> Result<(), Fail> {
+    let black = ["--black", "echoes", "--white", FIRST, "--restarts", "1"];
+    let line = "game 1: abandoned black moves 0 restarts 1 0\n";
+    assert_plays(&rt, black.as_slice(), line, 1)?;
+    let white = ["--black", FIRST, "--white", "echoes", "--restarts", "1"];
+    let line = "game 1: abandoned white moves 0 restarts 0 1\n";
+    assert_plays(&rt, white.as_slice(), line, 1)
+}
+
+#[test]
+fn an_interrupted_call_is_tried_again(rt: HostRuntime) -> Result<(), Fail> {
+    let once = "interrupted once";
+    let often = "interrupted often";
+    for (black, white) in [(once, FIRST), (FIRST, once), (often, once)] {
+        let mut arguments = Vec::new(rt.alloc());
+        arguments.extend_from_slice([
+            "--black",
+            black,
+            "--white",
+            white,
+            "--restarts",
+            "0",
+        ].as_slice())?;
+        arguments.extend_from_slice(TO_THE_LIMIT.as_slice())?;
+        let line = "game 1: limit moves 10 restarts 0 0\n";
+        assert_plays(&rt, arguments.as_slice(), line, 0)?;
+        // At least each byte of `genmove b` and of its reply, five times.
+        let ran = run_with(rt.alloc(), arguments.as_slice())?;
+        assert!(rt; ran.log.interrupted.get() >= 5 * 18, "{black}, {white}");
+    }
+    Ok(())
+}
+
+#[test]
+fn only_an_interruption_is_tried_again(rt: HostRuntime) -> Result<(), Fail> {
+    assert_equal(
+        &rt,
+        pipe_fault_of(ErrorKind::Interrupted),
+        PipeFault::Interrupted,
+    );
+    for kind in [
+        ErrorKind::BrokenPipe,
+        ErrorKind::WouldBlock,
+        ErrorKind::TimedOut,
+        ErrorKind::OutOfMemory,
+        ErrorKind::UnexpectedEof,
+        ErrorKind::Other,
+    ] {
+        assert_equal(&rt, pipe_fault_of(kind), PipeFault::Broken);
+    }
+    Ok(())
+}
+
+#[test]
+fn a_process_goes_first_while_the_processor_is_back_within_a_millisecond(
+    rt: HostRuntime,
+) -> Result<(), Fail> {
+    let (first, over) = (Precedence::First, Precedence::Over);
+    let cases = [
+        (Precedence::Starting, Some(2000), first),
+        (Precedence::Starting, None, first),
+        (first, Some(0), first),
+        (first, Some(1000), first),
+        (first, Some(1001), over),
+        (first, None, over),
+        (over, Some(0), over),
+    ];
+    for (before, step, after) in cases {
+        assert_equal(&rt, before.let_run(&Ticking::new(step)), after);
+    }
+    Ok(())
+}
+
+#[test]
+fn only_want_of_memory_ends_the_program_at_a_start(rt: HostRuntime) -> Result<(), Fail> {
+    assert_equal(
+        &rt,
+        start_fault_of(ErrorKind::OutOfMemory),
+        StartFault::OutOfMemory,
+    );
+    for (kind, reason) in [
+        (ErrorKind::NotFound, StartReason::NotFound),
+        (ErrorKind::PermissionDenied, StartReason::NotAllowed),
+        (ErrorKind::NotADirectory, StartReason::NotADirectory),
+        (ErrorKind::ExecutableFileBusy, StartReason::Busy),
+        (ErrorKind::ArgumentListTooLong, StartReason::TooLong),
+        (ErrorKind::InvalidFilename, StartReason::TooLong),
+        (ErrorKind::Uncategorized, StartReason::NoProgram),
+        (ErrorKind::IsADirectory, StartReason::Other),
+        (ErrorKind::Interrupted, StartReason::Other),
+    ] {
+        assert_equal(&rt, start_fault_of(kind), StartFault::NotStarted(reason));
+    }
+    Ok(())
+}
+
+#[test]
+fn quit_is_said_where_all_was_answered(rt: HostRuntime) -> Result<(), Fail> {
+    let asked = first_against_first(rt.alloc(), ["--size", "1"].as_slice())?;
+    let ran = run_with(rt.alloc(), asked.as_slice())?;
+    assert_equal(&rt, ran.log.started.get(), 2);
+    assert_equal(&rt, ran.log.quits.get(), 2);
+    assert_equal(&rt, ran.log.ended.get(), 2);
+    // Each is ended before the next is told to quit.
+    assert_equal(&rt, ran.log.ended_by_quit.get(), 1);
+    Ok(())
+}
+
+#[test]
+fn commands_that_come_next_go_out_in_one_write(rt: HostRuntime) -> Result<(), Fail> {
+    let asked = first_against_first(rt.alloc(), ["--size", "1"].as_slice())?;
+    let ran = run_with(rt.alloc(), asked.as_slice())?;
+    // Each side's first three commands in one; then Black's `genmove`, the pass that White is told of, White's
+    // `genmove`, and `quit` to both.
+    assert_equal(&rt, ran.log.writes.get(), 7);
+    // Each side has several commands to answer once, and else one.
+    assert_equal(&rt, ran.log.let_run.get(), 2);
+    Ok(())
+}
+
+/// One side refuses its first command, so it is unfit, and that command counts as unanswered: it is ended, and then the
+/// other is told to quit.
+fn assert_ends_the_unfit_first<R: Abort + AllocGlobal>(
+    rt: &R,
+    arguments: &[&str],
+    output: &str,
+) -> Result<(), Fail> {
+    let ran = run_with(rt.alloc(), arguments)?;
+    assert_equal(rt, ran.output.as_slice(), output.as_bytes());
+    assert_equal(rt, ran.status, 1);
+    assert_equal(rt, ran.log.started.get(), 2);
+    assert_equal(rt, ran.log.quits.get(), 1);
+    assert_equal(rt, ran.log.ended_by_quit.get(), 1);
+    assert_equal(rt, ran.log.ended.get(), 2);
+    Ok(())
+}
+
+#[test]
+fn a_side_that_owes_an_answer_is_ended_before_the_other_quits(rt: HostRuntime) -> Result<(), Fail> {
+    let black = ["--black", "refuses", "--white", FIRST];
+    let line = "game 1: unfit black moves 0 restarts 0 0\n";
+    assert_ends_the_unfit_first(&rt, black.as_slice(), line)?;
+    let white = ["--black", FIRST, "--white", "refuses"];
+    let line = "game 1: unfit white moves 0 restarts 0 0\n";
+    assert_ends_the_unfit_first(&rt, white.as_slice(), line)
+}
+
+#[test]
+fn memory_refused_at_each_start_ends_the_program(rt: HostRuntime) -> Result<(), Fail> {
+    let asked = first_against_first(rt.alloc(), ["--size", "1", "--games", "2"].as_slice())?;
+    let line = "game 1: W+6.5 moves 2 restarts 0 0\n";
+    for (refused, output) in [(1, ""), (2, ""), (3, line), (4, line)] {
+        let ran = run_refusing(rt.alloc(), asked.as_slice(), refused)?;
+        assert_equal(&rt, str::from_utf8(ran.output.as_slice())?, output);
+        assert_equal(
+            &rt,
+            ran.errors.as_slice(),
+            b"twogtp: out of memory\n".as_slice(),
+        );
+        assert_equal(&rt, ran.status, 3);
+        // The one that memory was refused for was none to end.
+        assert_equal(&rt, ran.log.ended.get().saturating_add(1), refused);
+    }
+    Ok(())
+}

@@ -1,0 +1,361 @@
+//! Engines in memory, in place of processes, and writers that fail.
+ghost use Rattle.std.specs.Prelude.{⊤, None};
+
+use crate::starter::{Ending, PipeFault, Process, StartFault, StartReason, Starter};
+use gtp_session::book::Book;
+use gtp_session::first::First;
+use gtp_session::policy::Policy;
+use gtp_session::session::{Fed, Session};
+use std::alloc::{AllocError, Global};
+use std::cell::Cell;
+use std::io;
+use std::io::{ErrorKind, Read, Write};
+use std::rc::Rc;
+use std::time::{Clock, Duration};
+
+/// A clock that goes on by `step` microseconds at each reading. Where it has no step it can't be read at all.
+#[derive(Drop)]
+pub struct Ticking {
+    now: Cell<u64>,
+    step: Option<u64>,
+}
+
+impl Ticking {
+    /// A clock with this step.
+    pub fn new(step: Option<u64>) -> Self {
+        Ticking {
+            now: Cell::new(0),
+            step,
+        }
+    }
+}
+
+impl Clock for Ticking {
+    fn monotonic(&self) -> io::Result<Duration> {
+        match self.step {
+            Some(step) => {
+                self.now.set(self.now.get().saturating_add(step));
+                Ok(Duration::from_micros(self.now.get()))
+            }
+            None => Err(io::Error::from(ErrorKind::Unsupported)),
+        }
+    }
+
+    fn since_1970(&self) -> io::Result<Duration> {
+        self.monotonic()
+    }
+}
+
+/// A stream of which each write and flush fails.
+#[derive(Clone, Copy, Drop)]
+pub struct Full;
+
+impl Write for Full {
+    fn write(&mut self, _buf: &[u8]) -> io::Result<usize> {
+        Err(io::Error::from(ErrorKind::BrokenPipe))
+    }
+
+    fn flush(&mut self) -> io::Result<()> {
+        Err(io::Error::from(ErrorKind::BrokenPipe))
+    }
+}
+
+/// A stream that takes `room` bytes; a write into it fails when it is full. At each flush it keeps how many it has
+/// taken, and notes that in the log.
+#[derive(Drop)]
+pub struct Narrow {
+    pub taken: Vec<u8>,
+    pub flushed: Vec<usize>,
+    pub room: usize,
+    pub log: Log,
+}
+
+impl Write for Narrow {
+    fn write(&mut self, buf: &[u8]) -> io::Result<usize> {
+        let count = buf.len().min(self.room);
+        if count == 0 {
+            return Err(io::Error::from(ErrorKind::BrokenPipe));
+        }
+        self.taken.extend_from_slice(&buf[..count])?;
+        self.room = self.room.saturating_sub(count);
+        Ok(count)
+    }
+
+    fn flush(&mut self) -> io::Result<()> {
+        self.log.flushed.set(self.taken.len());
+        Ok(self.flushed.push(self.taken.len())?)
+    }
+}
+
+/// What an engine in memory does.
+#[derive(Drop)]
+enum Engine {
+    /// Plays the first candidate.
+    First(Session<First>),
+    /// Plays by a book.
+    Book(Session<Book>),
+    /// Takes all that it is sent, and writes one text.
+    Says,
+    /// Writes what it is sent, and nothing else.
+    Echoes,
+    /// Takes all that it is sent, and can't be read.
+    Mute,
+    /// Its pipes are broken.
+    Broken,
+    /// Plays the first candidate; each call of its pipes is interrupted so often before it goes through, and a read or
+    /// a write takes one byte.
+    Interrupted(Session<First>, u32),
+}
+
+/// A conversation with an engine in memory: the engine, what it wrote, how much of that was read, and how often the
+/// call that is tried was interrupted.
+pub struct Talk {
+    engine: Engine,
+    written: Vec<u8>,
+    read: usize,
+    interruptions: u32,
+    log: Log,
+}
+
+impl Talk {
+    /// Interrupts a call, if it wasn't so often enough.
+    fn interrupt(&mut self) -> Result<(), PipeFault> {
+        let Engine::Interrupted(_, often) = &self.engine else {
+            return Ok(());
+        };
+        if self.interruptions < *often {
+            self.interruptions = self.interruptions.saturating_add(1);
+            add_one(&self.log.interrupted);
+            return Err(PipeFault::Interrupted);
+        }
+        self.interruptions = 0;
+        Ok(())
+    }
+}
+
+/// Feeds the text to a session, and collects its replies.
+fn answer<P: Policy>(
+    session: &mut Session<P>,
+    text: &[u8],
+    written: &mut Vec<u8>,
+) -> Result<(), AllocError> {
+    let mut rest = text;
+    for _ in 0..text.len() {
+        let Fed {
+            used,
+            reply,
+            ended: _,
+            genmove: _,
+        } = session.feed(rest);
+        match reply {
+            Some(reply) => written.extend_from_slice(reply.as_slice())?,
+            None => return Ok(()),
+        }
+        rest = &rest[used..];
+    }
+    Ok(())
+}
+
+impl Process for Talk {
+    ghost taken = { λ _. None };
+
+    ghost given = { λ _. None };
+
+    ghost fails = { λ _ _ _. ⊤ };
+
+    ghost succeeds = { λ _ _. ⊤ };
+
+    ghost runs_out = { λ _ _. ⊤ };
+
+    ghost leaves = { λ _ _. ⊤ };
+
+    ghost flushed = { λ _. ⊤ };
+
+    fn read(&mut self, buffer: &mut [u8]) -> Result<usize, PipeFault> {
+        if let Engine::Mute | Engine::Broken = &self.engine {
+            return Err(PipeFault::Broken);
+        }
+        self.interrupt()?;
+        let Some(mut left) = self.written.get(self.read..) else {
+            return Err(PipeFault::Broken);
+        };
+        match left.read(buffer) {
+            Ok(count) => {
+                self.read = self.read.saturating_add(count);
+                Ok(count)
+            }
+            Err(_) => Err(PipeFault::Broken),
+        }
+    }
+
+    fn write(&mut self, text: &[u8]) -> Result<usize, PipeFault> {
+        self.interrupt()?;
+        let text = match &self.engine {
+            Engine::Interrupted(..) => &text[..text.len().min(1)],
+            _ => text,
+        };
+        if text == b"quit\n".as_slice() {
+            add_one(&self.log.quits);
+            self.log.ended_by_quit.set(self.log.ended.get());
+            add(&self.log.flushed_by_quits, self.log.flushed.get());
+        }
+        let taken = match &mut self.engine {
+            Engine::First(session) | Engine::Interrupted(session, _) => {
+                answer(session, text, &mut self.written)
+            }
+            Engine::Book(session) => answer(session, text, &mut self.written),
+            Engine::Echoes => self.written.extend_from_slice(text),
+            Engine::Says | Engine::Mute => Ok(()),
+            Engine::Broken => return Err(PipeFault::Broken),
+        };
+        match taken {
+            Ok(()) => {
+                add_one(&self.log.writes);
+                Ok(text.len())
+            }
+            Err(AllocError) => Err(PipeFault::Broken),
+        }
+    }
+
+    fn flush(&mut self) -> Result<(), PipeFault> {
+        self.interrupt()
+    }
+
+    fn let_run(&self) {
+        add_one(&self.log.let_run);
+    }
+
+    fn end(self) -> Ending {
+        let Talk {
+            engine,
+            written,
+            read: _,
+            interruptions: _,
+            log,
+        } = self;
+        add_one(&log.ended);
+        drop(engine);
+        drop(written);
+        drop(log);
+        Ending::Status(7)
+    }
+}
+
+/// What was done with the engines.
+#[derive(Clone, Drop)]
+pub struct Log {
+    /// How many were started.
+    pub started: Rc<Cell<u32>>,
+    /// How many were ended.
+    pub ended: Rc<Cell<u32>>,
+    /// How many were sent `quit`.
+    pub quits: Rc<Cell<u32>>,
+    /// How many had been ended when the last `quit` was sent.
+    pub ended_by_quit: Rc<Cell<u32>>,
+    /// How many bytes a stream with this log had taken when it was last flushed.
+    pub flushed: Rc<Cell<usize>>,
+    /// The sum of these numbers at each `quit`.
+    pub flushed_by_quits: Rc<Cell<usize>>,
+    /// The sum of these numbers at each start.
+    pub flushed_by_starts: Rc<Cell<usize>>,
+    /// How many writes went through.
+    pub writes: Rc<Cell<u32>>,
+    /// How often one was let run before it was read.
+    pub let_run: Rc<Cell<u32>>,
+    /// How many calls of pipes were interrupted.
+    pub interrupted: Rc<Cell<u32>>,
+}
+
+impl Log {
+    /// Nothing was done yet.
+    pub fn new(alloc: Global) -> Result<Log, AllocError> {
+        Ok(Log {
+            started: Rc::new(alloc, Cell::new(0))?,
+            ended: Rc::new(alloc, Cell::new(0))?,
+            quits: Rc::new(alloc, Cell::new(0))?,
+            ended_by_quit: Rc::new(alloc, Cell::new(0))?,
+            flushed: Rc::new(alloc, Cell::new(0))?,
+            flushed_by_quits: Rc::new(alloc, Cell::new(0))?,
+            flushed_by_starts: Rc::new(alloc, Cell::new(0))?,
+            writes: Rc::new(alloc, Cell::new(0))?,
+            let_run: Rc::new(alloc, Cell::new(0))?,
+            interrupted: Rc::new(alloc, Cell::new(0))?,
+        })
+    }
+}
+
+/// Counts one more.
+fn add_one(count: &Cell<u32>) {
+    count.set(count.get().saturating_add(1));
+}
+
+/// Counts `more`.
+fn add(count: &Cell<usize>, more: usize) {
+    count.set(count.get().saturating_add(more));
+}
+
+/// Starts engines in memory, by the name and the options that the program has, and some that misbehave.
+#[derive(Drop)]
+pub struct InMemory {
+    pub alloc: Global,
+    pub log: Log,
+    /// The number of the start, from 1, for which memory is refused; 0 where it never is.
+    pub refused: u32,
+}
+
+impl Starter for InMemory {
+    type Process = Talk;
+
+    ghost asked = { λ _. None };
+
+    fn start(&mut self, words: &[&str]) -> Result<Talk, StartFault> {
+        let engine = match words {
+            ["gtp_engine"] => Engine::First(Session::new(First)),
+            ["gtp_engine", "--policy", "first"] => Engine::First(Session::new(First)),
+            ["gtp_engine", "--policy", "book"] => book_engine("")?,
+            ["gtp_engine", "--policy", "book", "--book", text] => book_engine(text)?,
+            ["says", ..] | ["refuses"] => Engine::Says,
+            ["echoes"] => Engine::Echoes,
+            ["mute"] => Engine::Mute,
+            ["broken"] => Engine::Broken,
+            ["interrupted", "once"] => Engine::Interrupted(Session::new(First), 1),
+            ["interrupted", "often"] => Engine::Interrupted(Session::new(First), 1000),
+            _ => return Err(StartFault::NotStarted(StartReason::NotFound)),
+        };
+        add_one(&self.log.started);
+        add(&self.log.flushed_by_starts, self.log.flushed.get());
+        if self.log.started.get() == self.refused {
+            return Err(StartFault::OutOfMemory);
+        }
+        let text = match words {
+            ["says", text] => text.as_bytes(),
+            ["refuses"] => b"?1 no\n\n",
+            _ => b"",
+        };
+        match make_talk(self.alloc, engine, text, &self.log) {
+            Ok(started) => Ok(started),
+            Err(AllocError) => Err(StartFault::OutOfMemory),
+        }
+    }
+}
+
+/// A conversation with the engine, which wrote this text at once.
+fn make_talk(alloc: Global, engine: Engine, text: &[u8], log: &Log) -> Result<Talk, AllocError> {
+    let mut written = Vec::new(alloc);
+    written.extend_from_slice(text)?;
+    Ok(Talk {
+        engine,
+        written,
+        read: 0,
+        interruptions: 0,
+        log: log.clone()?,
+    })
+}
+
+/// An engine that plays by this book.
+fn book_engine(text: &str) -> Result<Engine, StartFault> {
+    match Book::read(text.as_bytes()) {
+        Some(book) => Ok(Engine::Book(Session::new(book))),
+        None => Err(StartFault::NotStarted(StartReason::NoProgram)),
+    }
+}

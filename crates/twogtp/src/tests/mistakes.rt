@@ -1,0 +1,91 @@
+//! Mistakes in the words, and the lines of failures.
+use super::fakes::Full;
+use super::runs::{assert_refuses, assert_refuses_with, one_against_another, run_with};
+use crate::equal::assert_equal;
+use crate::failure::{Failure, tell};
+use std::io::ErrorKind;
+use std::str;
+use std::test::Fail;
+
+#[test]
+fn mistakes_in_the_words_are_told_in_their_order(rt: HostRuntime) -> Result<(), Fail> {
+    let handicap = ["--size", "6", "--handicap", "2"];
+    let cases: [(&str, &str, &[&str], &str); 6] = [
+        ("", "gtp_engine", &[], "twogtp: no command for black\n"),
+        (
+            "  ",
+            " ",
+            &["--komi", "x"],
+            "twogtp: no command for black\n",
+        ),
+        ("x", "", &["--komi", "x"], "twogtp: no command for white\n"),
+        ("x", "y", &["--komi", "6.7"], "twogtp: bad komi\n"),
+        (
+            "x",
+            "y",
+            &["--komi", "6.7", "--handicap", "1"],
+            "twogtp: bad komi\n",
+        ),
+        ("x", "y", handicap.as_slice(), "twogtp: bad handicap\n"),
+    ];
+    for (black, white, more, text) in cases {
+        let asked = one_against_another(rt.alloc(), black, white, more)?;
+        assert_refuses(&rt, asked.as_slice(), text)?;
+    }
+    Ok(())
+}
+
+#[test]
+fn mistakes_of_the_command_line_come_first(rt: HostRuntime) -> Result<(), Fail> {
+    let missing = "error: the following required arguments were not provided";
+    assert_refuses_with(&rt, ["--black", "x"].as_slice(), missing)?;
+    assert_refuses_with(&rt, ["--white", "x"].as_slice(), missing)?;
+    let numbers = [
+        ("--size", "0", "1..=25"),
+        ("--size", "26", "1..=25"),
+        ("--handicap", "10", "0..=9"),
+        ("--games", "0", "1..=1000"),
+        ("--games", "1001", "1..=1000"),
+        ("--max-moves", "0", "1..=2000"),
+        ("--max-moves", "2001", "1..=2000"),
+        ("--restarts", "1001", "0..=1000"),
+    ];
+    for (option, number, limits) in numbers {
+        let words = ["--black", "", "--white", "y", option, number];
+        let ran = run_with(rt.alloc(), words.as_slice())?;
+        let told = str::from_utf8(ran.errors.as_slice())?;
+        assert!(rt; told.starts_with("error: invalid value "), "{told}");
+        assert!(rt; told.contains(option), "{told}");
+        assert!(rt; told.contains(limits), "{told}");
+        assert_equal(&rt, ran.output.len(), 0);
+        assert_equal(&rt, ran.status, 2);
+    }
+    let below = ["--black", "x", "--white", "y", "--komi", "-3.5"];
+    assert_refuses_with(&rt, below.as_slice(), "error: unexpected argument")
+}
+
+#[test]
+fn each_failure_is_told_in_a_line(rt: HostRuntime) -> Result<(), Fail> {
+    let cases = [
+        (Failure::Write, "twogtp: write fault\n", 3),
+        (Failure::OutOfMemory, "twogtp: out of memory\n", 3),
+        (Failure::TooManyTurns, "twogtp: too many turns\n", 3),
+        (
+            Failure::of_arguments(ErrorKind::InvalidData),
+            "twogtp: bad argument\n",
+            2,
+        ),
+        (
+            Failure::of_arguments(ErrorKind::OutOfMemory),
+            "twogtp: out of memory\n",
+            3,
+        ),
+    ];
+    for (failure, text, status) in cases {
+        let mut errors = Vec::new(rt.alloc());
+        assert_equal(&rt, tell(failure, &mut errors), status);
+        assert_equal(&rt, errors.as_slice(), text.as_bytes());
+        assert_equal(&rt, tell(failure, &mut Full), status);
+    }
+    Ok(())
+}

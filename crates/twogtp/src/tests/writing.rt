@@ -1,0 +1,136 @@
+//! What goes out: outputs that break, when they are flushed, the help and the version.
+use super::fakes::{Full, InMemory, Log, Narrow};
+use super::runs::{FIRST, run_with};
+use crate::equal::{assert_equal, assert_equal_for};
+use crate::run::run;
+use std::alloc::Global;
+use std::str;
+use std::test::Fail;
+
+#[test]
+fn an_output_that_breaks_ends_the_program(rt: HostRuntime) -> Result<(), Fail> {
+    let alloc = rt.alloc();
+    let games = [
+        "twogtp", "--black", FIRST, "--white", FIRST, "--size", "1", "--games", "2",
+    ];
+    let help = ["twogtp", "--help"];
+    let version = ["twogtp", "--version"];
+    let lists: [&[&str]; 3] = [games.as_slice(), help.as_slice(), version.as_slice()];
+    for words in lists {
+        let mut errors = Vec::new(alloc);
+        let mut starter = InMemory {
+            alloc,
+            log: Log::new(alloc)?,
+            refused: 0,
+        };
+        let status = run(alloc, words, &mut Full, &mut errors, &mut starter);
+        assert_equal(&rt, status, 3);
+        assert_equal(&rt, errors.as_slice(), b"twogtp: write fault\n".as_slice());
+        assert_equal(&rt, starter.log.ended.get(), starter.log.started.get());
+        assert_equal(&rt, starter.log.quits.get(), 0);
+    }
+    Ok(())
+}
+
+/// Plays games on the smallest board, and tells them to an output with this room. It returns the status and the output,
+/// in whose log stands what was done with the engines.
+fn play_into(alloc: Global, games: &str, room: usize) -> Result<(u8, Narrow), Fail> {
+    let words = [
+        "twogtp", "--black", FIRST, "--white", FIRST, "--size", "1", "--games", games,
+    ];
+    let log = Log::new(alloc)?;
+    let mut output = Narrow {
+        taken: Vec::new(alloc),
+        flushed: Vec::new(alloc),
+        room,
+        log: log.clone()?,
+    };
+    let mut errors = Vec::new(alloc);
+    let mut starter = InMemory {
+        alloc,
+        log,
+        refused: 0,
+    };
+    let status = run(
+        alloc,
+        words.as_slice(),
+        &mut output,
+        &mut errors,
+        &mut starter,
+    );
+    Ok((status, output))
+}
+
+#[test]
+fn what_goes_out_before_a_write_fault_is_a_beginning(rt: HostRuntime) -> Result<(), Fail> {
+    let whole = "game 1: W+6.5 moves 2 restarts 0 0\ngame 2: W+6.5 moves 2 restarts 0 0\n";
+    for (room, told) in [(1, 0), (34, 0), (35, 1), (36, 1), (69, 1)] {
+        let (status, output) = play_into(rt.alloc(), "2", room)?;
+        assert_equal(&rt, status, 3);
+        assert_equal(&rt, output.taken.len(), room);
+        assert!(rt; whole.as_bytes().starts_with(output.taken.as_slice()));
+        // All engines were ended, and those of the games that are told whole, and no others, after `quit`.
+        assert_equal_for(&rt, room, output.log.started.get(), 2 * (told + 1));
+        assert_equal_for(&rt, room, output.log.ended.get(), 2 * (told + 1));
+        assert_equal_for(&rt, room, output.log.quits.get(), 2 * told);
+    }
+    Ok(())
+}
+
+#[test]
+fn each_game_is_flushed_before_its_engines_are_told_to_quit(rt: HostRuntime) -> Result<(), Fail> {
+    let (status, output) = play_into(rt.alloc(), "3", 1000)?;
+    assert_equal(&rt, status, 0);
+    // A line has 35 bytes.
+    assert_equal(&rt, output.flushed.as_slice(), [35, 70, 105].as_slice());
+    // Both engines of a game are told to quit once its line is flushed, and before the next one is written.
+    assert_equal(&rt, output.log.quits.get(), 6);
+    assert_equal(&rt, output.log.flushed_by_quits.get(), 2 * (35 + 70 + 105));
+    Ok(())
+}
+
+#[test]
+fn help_goes_to_the_output(rt: HostRuntime) -> Result<(), Fail> {
+    for word in ["--help", "-h"] {
+        let ran = run_with(rt.alloc(), [word].as_slice())?;
+        assert_equal(&rt, ran.status, 0);
+        assert_equal(&rt, ran.errors.len(), 0);
+        assert_equal(&rt, ran.log.started.get(), 0);
+        let text = str::from_utf8(ran.output.as_slice())?;
+        for part in [
+            "--version",
+            "Usage: twogtp [OPTIONS] --black <CMD> --white <CMD>\n",
+            "--size <N>",
+            "--komi <K>",
+            "--handicap <N>",
+            "--games <N>",
+            "--max-moves <N>",
+            "--restarts <N>",
+            "--record",
+            "--show",
+            "game N: VERDICT moves M restarts RB RW\n",
+            "B+R, W+R ",
+            "abandoned black",
+        ] {
+            assert!(rt; text.contains(part), "{part} in {text}");
+        }
+        let end = "write fault, out of memory, too many turns\n";
+        assert!(rt; text.ends_with(end), "{text}");
+        for line in text.lines() {
+            assert!(rt; line.len() < 80, "{line}");
+        }
+    }
+    Ok(())
+}
+
+#[test]
+fn the_version_goes_to_the_output(rt: HostRuntime) -> Result<(), Fail> {
+    for word in ["--version", "-V"] {
+        let ran = run_with(rt.alloc(), [word].as_slice())?;
+        assert_equal(&rt, str::from_utf8(ran.output.as_slice())?, "twogtp 1.0\n");
+        assert_equal(&rt, ran.status, 0);
+        assert_equal(&rt, ran.errors.len(), 0);
+        assert_equal(&rt, ran.log.started.get(), 0);
+    }
+    Ok(())
+}
