@@ -1,8 +1,7 @@
 -- A reply that the controller hears keeps what joins it to the engines.
 use Rattle.std.proofs.Common.{◌≡◌, ◌≢◌, ℕ, ◌+◌, ◌-◌, ◌<◌, ◌≤◌, Bool, true, false, List, [], ◌∷◌, ◌++◌, length, drop}
-use Rattle.std.proofs.Common.{slice_get, Option, Some}
+use Rattle.std.proofs.Common.{slice_get, Option, Some, inr, add-one}
 use Rattle.std.proofs.Common.{None, Result, Ok, Err, refl, ap, sym, ◌∙◌, subst, arith, append_assoc, length-append, inl}
-use Rattle.std.proofs.Common.{inr, add-one}
 use Rattle.std.specs.Prelude.{◌⊎◌, ◌==◌, ◌&&◌, nat_lt, IfSome}
 use Rattle.std.proofs.lemmas.Option.{slice_get_within}
 use Rattle.std.specs.List.{AllByRecursion}
@@ -46,8 +45,7 @@ use Rattle.gtp_match.specs.ReplyTable.{refused, retaken_at}
 use Rattle.gtp_match.specs.Hearing.{MayKeep, HearsUp, HearsWhere, Hears, HearsAllBy, HearsAll}
 use Rattle.go_board.specs.decisions.Game.{legal?}
 use Rattle.gtp_match.specs.Sound.{VerdictFits, InScript, IsAsked, AreUndo, HasPlan, LacksLast, IsUndo, IsSoundEngine}
-use Rattle.gtp_match.specs.Sound.{IsIdle, IsSound}
-use Rattle.gtp_match.specs.Sound.{all_retakes}
+use Rattle.gtp_match.specs.Sound.{IsIdle, IsSound, all_retakes}
 use Rattle.gtp_match.specs.Unanswered.{most_unanswered}
 use Rattle.gtp_match.proofs.ScriptLemmas.{script_longer}
 use Rattle.gtp_match.proofs.SoundLemmas.{changed, my_engine, their_side, one_idle, idle_plan, taken_at, nothing_pending}
@@ -61,8 +59,7 @@ use Rattle.gtp_world.proofs.Replay.{EndsWith, Place, place}
 use Rattle.gtp_world.proofs.Exchange.{owes_replies}
 use Rattle.gtp_world.proofs.Invariant.{IsPut, joint_put, simple_game, playable_shorter}
 use Rattle.gtp_world.proofs.Sides.{live_any, live_at, judged_any, Brings, arrives, quiet_or_first}
-use Rattle.gtp_world.specs.Exchange.{CanBeWritten, Answered, reply_bytes, replayed, Owes, AllMayBeSent}
-use Rattle.gtp_world.specs.Exchange.{all_reply_bytes}
+use Rattle.gtp_world.specs.Exchange.{CanBeWritten, Answered, reply_bytes, replayed, Owes, AllMayBeSent, all_reply_bytes}
 use Rattle.gtp_world.specs.Joined.{Rules, rule_of, ruled, IsPlayable, IsRefusal, EngineBody, BareLane}
 use Rattle.gtp_world.specs.Joined.{WillReadWhereRunning, CutByCrash, IsJoinedInPlay}
 use Rattle.gtp_world.specs.Joined.{IsJoinedAtEnd, IsJoinedSide, AreJoined, bare_empty}
