@@ -15,7 +15,8 @@ use Rattle.gtp_wire.specs.Words.{id_words}
 use Rattle.gtp_wire.specs.Commands.{words_of, name_of, arguments_of, IsWritable}
 use Rattle.gtp_wire.specs.Replies.{written_id, written_reply, spaced, is_shown, begins_blank}
 use Rattle.gtp_wire.specs.private.LineReading.{is_plain}
-use Rattle.gtp_wire.specs.AnyText.{IsPrinted, HasInts, CommandsHaveNoByteToSpare, RepliesHaveNoByteToSpare, LimitsAreThese}
+use Rattle.gtp_wire.specs.AnyText.{IsPrinted, HasInts, CommandsHaveNoByteToSpare, RepliesHaveNoByteToSpare}
+use Rattle.gtp_wire.specs.AnyText.{LimitsAreThese}
 use Rattle.gtp_wire.proofs.LineLemmas.{AllByRecursion-append}
 use Rattle.gtp_wire.proofs.WordLemmas.{weight, length-join, plain_byte}
 use Rattle.gtp_wire.proofs.WrittenLemmas.{IsDigit, id_text, last_of}

@@ -1,7 +1,7 @@
 -- Laws of any text: what a byte does wherever it stands, and what words, replies and faults are. They stand in the
 -- numbers of the bytes, as the standard has them, and in none of the tests and constants of the definitions.
-use Rattle.std.specs.Prelude.{◌≡◌, ◌≢◌, ℕ, ◌+◌, ◌<◌, ◌≤◌, ◌⊎◌, ◌↔◌, Bool, if◌then◌else◌, List, [], ◌∷◌, ◌++◌, length, take}
-use Rattle.std.specs.Prelude.{All, Option, Some, None, IfSome, Result, Ok, Err}
+use Rattle.std.specs.Prelude.{◌≡◌, ◌≢◌, ℕ, ◌+◌, ◌<◌, ◌≤◌, ◌⊎◌, ◌↔◌, Bool, if◌then◌else◌, List, [], ◌∷◌, ◌++◌, length}
+use Rattle.std.specs.Prelude.{take, All, Option, Some, None, IfSome, Result, Ok, Err}
 use Rattle.std.specs.List.{concat, join_with_byte}
 use Rattle.std.specs.Str.Parse.{AllDigits}
 use Rattle.go_base.specs.Int.{SpellsInt}
