@@ -18,7 +18,7 @@ use Rattle.go_board.specs.Game.{GameRecord, start, board, board_of, first_moves,
 use Rattle.go_board.specs.Game.{IsGame, IsLegal}
 use Rattle.go_board.specs.Put.{is_captured, put}
 use Rattle.go_board.specs.decisions.Chain.{captured?}
-use Rattle.go_board.specs.private.Removed.{WasTaken, StoodBelow, RepeatsBelow, IsAlsoBelow, IsOpen, captured_places}
+use Rattle.go_board.specs.private.Removed.{WasTaken, StoodBelow, RepeatsBelow, IsAlsoBelow, IsVacant, captured_places}
 use Rattle.go_board.specs.private.Removed.{removed_by, removed_from, removed_of, taken_at}
 use Rattle.go_board.specs.declared.board.Cell.{Cell}
 use Rattle.go_board.specs.declared.board.Cell.TheVariants.{Edge, Empty}
@@ -71,7 +71,7 @@ taken-picked test number a (suc n) q least most passes =
     by_test false e go = go (apart (λ same. differs (sym e ∙ ap test (sym same) ∙ passes)))
 
 -- a stone stays where it is, or the move of the other colour takes it
-stays-more : (b : List Cell) (c : Colour) (v : Vertex) (n q : ℕ) (d : Colour) → IsOpen b v → at b q ≡ stone d
+stays-more : (b : List Cell) (c : Colour) (v : Vertex) (n q : ℕ) (d : Colour) → IsVacant b v → at b q ≡ stone d
     → (at (after_vertex b c v) q ≡ stone d)
     ⊎ (Contains (taken_at n (removed_by b c v)) (record { place = q; number = n }) × (c ≢ d))
 stays-more b c Pass n q d empty h = inl h

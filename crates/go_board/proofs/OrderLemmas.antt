@@ -17,7 +17,7 @@ use Rattle.go_board.specs.private.Frame.{HasSize, IsFramed}
 use Rattle.go_board.specs.Game.{GameRecord, start, board, board_of, with_move, after_vertex, IsGame, IsLegal}
 use Rattle.go_board.specs.private.Label.{AreFree}
 use Rattle.go_board.specs.Put.{put}
-use Rattle.go_board.specs.private.Removed.{removed_of, removed_from, removed_by, taken_at, IsOpen}
+use Rattle.go_board.specs.private.Removed.{removed_of, removed_from, removed_by, taken_at, IsVacant}
 use Rattle.go_board.specs.declared.board.Cell.{Cell}
 use Rattle.go_board.specs.declared.board.Cell.TheVariants.{Black}
 use Rattle.go_board.specs.declared.removed.Taken.{Taken}
@@ -105,7 +105,7 @@ pub board-with_move : (game : GameRecord) (c : Colour) (v : Vertex)
     → board_of (with_move game c v) ≡ after_vertex (board_of game) c v
 board-with_move game c v = board-push game.size game.handicap game.moves (record { colour = c; vertex = v })
 
-pub legal-open : (game : GameRecord) (c : Colour) (v : Vertex) → IsLegal game c v → IsOpen (board_of game) v
+pub legal-open : (game : GameRecord) (c : Colour) (v : Vertex) → IsLegal game c v → IsVacant (board_of game) v
 legal-open game c Pass l = tt
 legal-open game c (At p) l = l.empty
 

@@ -26,7 +26,7 @@ use Rattle.go_board.specs.declared.rules.KoRule.TheVariants.{Simple, Positional}
 use Rattle.go_board.specs.Put.{is_captured, left_at, without_captured, put, captured_count, captures}
 use Rattle.go_board.specs.contracts.board.CellPartialEq.TheImpl.{eq-value}
 use Rattle.go_board.specs.private.Frame.{HasSize}
-use Rattle.go_board.specs.private.Removed.{ArePoints, AreTakenBy, IsOpen, cleared, later_than, captured_places}
+use Rattle.go_board.specs.private.Removed.{ArePoints, AreTakenBy, IsVacant, cleared, later_than, captured_places}
 use Rattle.go_board.specs.private.Removed.{removed_by, removed_from, removed_of, taken_at, with_stones}
 use Rattle.go_board.specs.declared.board.Cell.{Cell}
 use Rattle.go_board.specs.declared.board.Cell.TheVariants.{Edge, Empty, Black, White}
@@ -254,9 +254,9 @@ taken-next game wanted now k stones m r e = record {
 }
 
 pub open-next : (game : GameRecord) (wanted now : List Cell) (k : ℕ) (stones : List Taken) (m : Move) → IsGame game
-    → IsReplayed game wanted k now stones → slice_get game.moves k ≡ Some m → IsOpen now m.vertex
+    → IsReplayed game wanted k now stones → slice_get game.moves k ≡ Some m → IsVacant now m.vertex
 open-next game wanted now k stones m g r e =
-    subst (λ (b : List Cell). IsOpen b m.vertex) (sym r.board_is)
+    subst (λ (b : List Cell). IsVacant b m.vertex) (sym r.board_is)
     (legal-open (first_moves k game) m.colour m.vertex (g.legal k m e))
 
 pub IsReplayed-more : (game : GameRecord) (wanted now new : List Cell) (k : ℕ) (stones left : List Taken) (m : Move)
@@ -306,7 +306,7 @@ points-captured b c p [] all = tt
 points-captured b c p (q ∷ ps) all =
     (empty-point (put b c p) q (taken-empty b c p q all.0), points-captured b c p ps all.1)
 
-points-more : (game : GameRecord) (c : Colour) (v : Vertex) → IsOpen (board_of game) v
+points-more : (game : GameRecord) (c : Colour) (v : Vertex) → IsVacant (board_of game) v
     → ArePoints (board_of game) (removed_of game)
     → ArePoints (after_vertex (board_of game) c v)
     (removed_of game ++ taken_at (length game.moves) (removed_by (board_of game) c v))

@@ -123,7 +123,7 @@ impl Board {
     ghost use Rattle.go_board.specs.Chain.{HasBeside};
     ghost use Rattle.go_board.specs.private.Flood.{IsSpread, AreSpread, AreTouching};
     ghost use Rattle.go_board.specs.Game.{start, after_vertex};
-    ghost use Rattle.go_board.specs.private.Removed.{ArePoints, AreTakenBy, IsOpen, cleared, later_than};
+    ghost use Rattle.go_board.specs.private.Removed.{ArePoints, AreTakenBy, IsVacant, cleared, later_than};
     ghost use Rattle.go_board.specs.declared.board.Cell.TheVariants.{Edge};
 
     /// The board of this size without a stone.
@@ -229,7 +229,7 @@ impl Board {
         number: usize,
         stones: &'a [Taken],
     ) -> &'a [Taken]
-        requires open { IsOpen self.old vertex }
+        requires open { IsVacant self.old vertex }
         requires points { ArePoints self.old stones.now }
         ensures board { AreTakenBy self.old colour vertex number stones.now
             → self.new ≡ after_vertex self.old colour vertex }

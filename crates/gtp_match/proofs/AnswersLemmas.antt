@@ -8,7 +8,7 @@ use Rattle.go_base.specs.declared.colours.Colour.{Colour}
 use Rattle.gtp_wire.specs.Replies.{IsFirst, TellsNothing}
 use Rattle.gtp_wire.specs.declared.replies.Reply.{Reply}
 use Rattle.gtp_wire.proofs.ReplyLaws.{one_first}
-use Rattle.gtp_match.specs.Going.{Stands, CountsFor}
+use Rattle.gtp_match.specs.Going.{Stands, IsCounted}
 use Rattle.gtp_match.specs.Hearing.{Hears}
 use Rattle.gtp_match.specs.Replying.{EndsReply}
 use Rattle.gtp_match.specs.ReplyTable.{outcome, outcome_of}
@@ -39,7 +39,7 @@ pub answers_count : (c new : Controller) (s : Colour) (engine : Incarnation) (en
     (later : List SentCommand) (reply : Reply) (bytes : List ℕ) (used : ℕ) (fault : Option SideFault)
     → Hears c s bytes used fault new → c.verdict ≡ None → (side_of c.sides s).up ≡ Some engine
     → EndsReply engine bytes used reply → engine.unanswered ≡ entry ∷ later → reply.id ≡ Some entry.id
-    → (fault ≡ None) × CountsFor c new s engine entry later reply
+    → (fault ≡ None) × IsCounted c new s engine entry later reply
 answers_count c new s engine entry later reply bytes used fault hears none up ends first_is id =
     by_way (heard c s bytes used fault new hears)
   where
@@ -58,39 +58,39 @@ answers_count c new s engine entry later reply bytes used fault hears none up en
       confirmed = count;
     }
 
-    over : (v : Verdict) (x : Controller) → new ≡ x → x.verdict ≡ Some v → CountsFor c new s engine entry later reply
+    over : (v : Verdict) (x : Controller) → new ≡ x → x.verdict ≡ Some v → IsCounted c new s engine entry later reply
     over v x new_is e =
-        CountsFor.ended
+        IsCounted.ended
         (subst (λ (w : Option Verdict). IsSome w) (sym (ap (λ (y : Controller). y.verdict) new_is ∙ e)) refl)
 
     by_refusal : fault ≡ None → IsPlay entry.command × (reply.ok ≡ false) → (may : Bool)
-        → new ≡ refused c s (heard_reply engine) may → (fault ≡ None) × CountsFor c new s engine entry later reply
+        → new ≡ refused c s (heard_reply engine) may → (fault ≡ None) × IsCounted c new s engine entry later reply
     by_refusal no_fault why false new_is = (no_fault, over (verdict.Forfeit s RefusedPlay) _ new_is refl)
     by_refusal no_fault why true new_is = by_held (has_all c.game (side_of c.sides (other s)).up) new_is
       where
         by_held : (b : Bool) → new ≡ retaken_at c s (heard_reply engine) b
-            → (fault ≡ None) × CountsFor c new s engine entry later reply
+            → (fault ≡ None) × IsCounted c new s engine entry later reply
         by_held true new_is = (
           no_fault,
-          CountsFor.retaken why.0 why.1 (stands (answered (heard_reply engine)) engine.confirmed
+          IsCounted.retaken why.0 why.1 (stands (answered (heard_reply engine)) engine.confirmed
               (ap (up_in s) new_is ∙ up_there c.sides s (answered (heard_reply engine))) refl refl)
               (ap (λ (x : Controller). x.retakes) new_is),
         )
         by_held false new_is = (
           no_fault,
-          CountsFor.retaken why.0 why.1 (stands (answered (heard_reply engine)) engine.confirmed
+          IsCounted.retaken why.0 why.1 (stands (answered (heard_reply engine)) engine.confirmed
               (ap (up_in s) new_is ∙ up_there c.sides s (answered (heard_reply engine))) refl refl)
               (ap (λ (x : Controller). x.retakes) new_is),
         )
 
     confirms : (x : Controller) → new ≡ x → (side_of x.sides s).up ≡ Some (confirmed (heard_reply engine))
-        → CountsFor c new s engine entry later reply
+        → IsCounted c new s engine entry later reply
     confirms x new_is up_after =
-        CountsFor.confirmed (stands (confirmed (heard_reply engine)) (engine.confirmed + 1)
+        IsCounted.confirmed (stands (confirmed (heard_reply engine)) (engine.confirmed + 1)
         (ap (up_in s) new_is ∙ up_after) refl refl)
 
     by_outcome : (o : Outcome) → outcome_of c.game s entry.command reply ≡ o → fault ≡ fault_of o
-        → new ≡ after_outcome c s (heard_reply engine) o → (fault ≡ None) × CountsFor c new s engine entry later reply
+        → new ≡ after_outcome c s (heard_reply engine) o → (fault ≡ None) × IsCounted c new s engine entry later reply
     by_outcome (Down f) e fault_is new_is = absurd (never c.game s entry.command reply f e)
     by_outcome Unfit e fault_is new_is = (fault_is, over (verdict.Unfit s) _ new_is refl)
     by_outcome (Forfeits cause) e fault_is new_is = (fault_is, over (verdict.Forfeit s cause) _ new_is refl)
@@ -105,13 +105,13 @@ answers_count c new s engine entry later reply bytes used fault hears none up en
     by_outcome TakesBack e fault_is new_is =
         let why = subst (Reason c.game s entry.command reply) e (reason c.game s reply entry.command) in (
           fault_is,
-          CountsFor.taken_back why.0 why.1 (stands (taken_back (heard_reply engine)) (engine.confirmed - 1)
+          IsCounted.taken_back why.0 why.1 (stands (taken_back (heard_reply engine)) (engine.confirmed - 1)
               (ap (up_in s) new_is ∙ up_there c.sides s (taken_back (heard_reply engine))) refl refl),
         )
     by_outcome Keeps e fault_is new_is =
         (fault_is, over (verdict.Forfeit (other s) RefusedPlay) _ new_is refl)
 
-    by_way : Heard c s bytes used fault new → (fault ≡ None) × CountsFor c new s engine entry later reply
+    by_way : Heard c s bytes used fault new → (fault ≡ None) × IsCounted c new s engine entry later reply
     by_way (Heard.replied other_engine value none2 up2 ends2 fault_is new_is) =
         let some : Some other_engine ≡ Some engine = sym up2 ∙ up in
         let same : other_engine ≡ engine = cc in

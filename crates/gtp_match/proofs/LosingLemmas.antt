@@ -15,7 +15,7 @@ use Rattle.gtp_match.specs.Hearing.{side_fault}
 use Rattle.gtp_match.specs.declared.sides.Incarnation.{Incarnation}
 use Rattle.gtp_match.specs.declared.verdicts.Verdict.{Verdict}
 use Rattle.gtp_match.specs.private.Conditions.{MayHear, MayReply, MayBeAnswered}
-use Rattle.gtp_match.specs.Losing.{HasCause, Loses, LosesUp, LosesWhere, by_reply, by_fault, nothing_yet, loss_of}
+use Rattle.gtp_match.specs.Losing.{HasLossCause, Loses, LosesUp, LosesWhere, by_reply, by_fault, nothing_yet, loss_of}
 use Rattle.gtp_match.specs.ReplyTable.{outcome}
 use Rattle.gtp_match.specs.Sides.{side_of}
 use Rattle.gtp_match.specs.Unanswered.{oldest}
@@ -69,7 +69,7 @@ pub reply_loses : (c : Controller) (side : Colour) (engine : Incarnation) (held 
     (told : Option (Result Reply ReplyFault)) (new : List ℕ) (reply : Reply) (cause : Option LossCause)
     → c.verdict ≡ None → (side_of c.sides side).up ≡ Some engine → held ≡ engine.reader
     → ReadsFirst held bytes used told new → told ≡ Some (Ok reply)
-    → HasCause c side engine reply (outcome c.game side (oldest engine.unanswered) reply) cause
+    → HasLossCause c side engine reply (outcome c.game side (oldest engine.unanswered) reply) cause
     → Loses c side bytes (option_map (loss_of engine (engine.reader ++ take used bytes)) cause)
 reply_loses c side engine held bytes used told new reply cause none up same reads is has =
     let R : List ℕ → Option (Result Reply ReplyFault) → Type 0 = λ text answer. ReadsFirst text bytes used answer new in

@@ -17,7 +17,7 @@ use Rattle.gtp_wire.specs.declared.commands.Command.TheVariants as command
 use Rattle.gtp_wire.specs.declared.replies.Reply.{Reply}
 use Rattle.gtp_wire.specs.declared.replies.ReplyFault.{ReplyFault}
 use Rattle.gtp_match.specs.Hearing.{KeepsAll, HearsUp, side_fault}
-use Rattle.gtp_match.specs.Losing.{HasCause, BreaksRule, CauseFits, loss_of, LosesUp, by_reply, by_fault, nothing_yet}
+use Rattle.gtp_match.specs.Losing.{HasLossCause, BreaksRule, CauseFits, loss_of, LosesUp, by_reply, by_fault, nothing_yet}
 use Rattle.gtp_match.specs.ReplyTable.{outcome, outcome_of, genmove_outcome, choice_outcome, script_outcome}
 use Rattle.gtp_match.specs.ReplyTable.{play_outcome, undo_outcome, has_id, after_outcome, fault_of, refused, retaken_at}
 use Rattle.gtp_match.specs.ReplyWords.{choice_of_text}
@@ -183,7 +183,7 @@ refused_is c side engine cause true none e = by_held (has_all c.game (side_of c.
 
 cause_is_loss : (c : Controller) (side : Colour) (engine : Incarnation) (reply : Reply) (o : Outcome)
     (cause : Option LossCause) → c.verdict ≡ None → outcome c.game side (oldest engine.unanswered) reply ≡ o
-    → HasCause c side engine reply o cause → CauseIsLoss c side engine o cause
+    → HasLossCause c side engine reply o cause → CauseIsLoss c side engine o cause
 cause_is_loss c side engine reply (Down fault) cause none e is =
     both cause c _ (Some fault) (is_told cause _ is) (LosesBy.shows refl)
 cause_is_loss c side engine reply Unfit cause none e is =
@@ -238,7 +238,7 @@ rule_fits c side engine (Some (choice.Play v)) cause (inr (fault, is, breaks)) =
     fits_one (Fits c side engine (Forfeits IllegalMove)) cause (Illegal fault) is refl
 
 cause_fits : (c : Controller) (side : Colour) (engine : Incarnation) (reply : Reply) (o : Outcome)
-    (cause : Option LossCause) → HasCause c side engine reply o cause → IfSome cause (Fits c side engine o)
+    (cause : Option LossCause) → HasLossCause c side engine reply o cause → IfSome cause (Fits c side engine o)
 cause_fits c side engine reply (Down fault) cause is =
     fits_one (Fits c side engine (Down fault)) cause (Shows fault) is refl
 cause_fits c side engine reply Unfit cause is =
@@ -281,8 +281,8 @@ up_told c new side engine bytes used fault loss none (HearsUp.replied {value = x
     let same : y ≡ x = cc in
     let text = take n (engine.reader ++ bytes) in
     let o = outcome c.game side (oldest engine.unanswered) x in
-    let is : HasCause c side engine x o cause =
-    subst (λ (r : Reply). HasCause c side engine r (outcome c.game side (oldest engine.unanswered) r) cause) same has
+    let is : HasLossCause c side engine x o cause =
+    subst (λ (r : Reply). HasLossCause c side engine r (outcome c.game side (oldest engine.unanswered) r) cause) same has
     in (
       told_with engine text cause (LosesBy c new fault) (cause_is_loss c side engine x o cause none refl is),
       fits_with engine text cause (Fits c side engine o) (cause_fits c side engine x o cause is),

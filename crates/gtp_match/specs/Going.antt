@@ -135,14 +135,14 @@ pub record Stands (c : Controller) (s : Colour) (left : List SentCommand) (numbe
 -- What a reply to the first of the unanswered commands counts for. One command more is confirmed. Or it refused a
 -- `play`, and the number of the last move has one retake more. Or it took a move back, and one command less is
 -- confirmed. Or a verdict is given.
-pub data CountsFor (c new : Controller) (s : Colour) (engine : Incarnation) (entry : SentCommand)
+pub data IsCounted (c new : Controller) (s : Colour) (engine : Incarnation) (entry : SentCommand)
     (later : List SentCommand) (reply : Reply) : Type 0 where
-  confirmed : Stands new s later (engine.confirmed + 1) → CountsFor c new s engine entry later reply
+  confirmed : Stands new s later (engine.confirmed + 1) → IsCounted c new s engine entry later reply
   retaken : IsPlay entry.command → reply.ok ≡ false → Stands new s later engine.confirmed
-      → new.retakes ≡ with_retake (length c.game.moves) c.retakes → CountsFor c new s engine entry later reply
+      → new.retakes ≡ with_retake (length c.game.moves) c.retakes → IsCounted c new s engine entry later reply
   taken_back : IsUndo entry.command → reply.ok ≡ true → Stands new s later (engine.confirmed - 1)
-      → CountsFor c new s engine entry later reply
-  ended : IsSome new.verdict → CountsFor c new s engine entry later reply
+      → IsCounted c new s engine entry later reply
+  ended : IsSome new.verdict → IsCounted c new s engine entry later reply
 
 -- Before a verdict, a reply with the id of the first of the unanswered commands shows no fault, and counts.
 abbrev pub AnswersCount : Type 0
@@ -152,7 +152,7 @@ AnswersCount =
     → Hears c s bytes used fault new
     → c.verdict ≡ None → (side_of c.sides s).up ≡ Some engine
     → EndsReply engine bytes used reply → engine.unanswered ≡ entry ∷ later → reply.id ≡ Some entry.id
-    → (fault ≡ None) × CountsFor c new s engine entry later reply
+    → (fault ≡ None) × IsCounted c new s engine entry later reply
 
 -- ---- retakes
 

@@ -73,20 +73,21 @@ BreaksRule game side (Some (choice.Play v)) cause =
 
 -- Why a reply with this outcome loses a side, if it does: its own, or the other one where it kept a move that the other
 -- one refused. A refused play does where it may not be retaken.
-abbrev pub HasCause : Controller → Colour → Incarnation → Reply → Outcome → Option LossCause → Type 0
-HasCause c side engine reply (made.Down fault) cause = cause ≡ Some (Shows fault)
-HasCause c side engine reply made.Unfit cause = cause ≡ Some Unfit
-HasCause c side engine reply (made.Forfeits forfeit.RefusedPlay) cause = cause ≡ Some RefusesPlay
-HasCause c side engine reply (made.Forfeits forfeit.NoMove) cause = cause ≡ Some NoMove
-HasCause c side engine reply (made.Forfeits forfeit.NoVertex) cause = cause ≡ Some NoVertex
-HasCause c side engine reply (made.Forfeits forfeit.IllegalMove) cause =
+abbrev pub HasLossCause : Controller → Colour → Incarnation → Reply → Outcome → Option LossCause → Type 0
+HasLossCause c side engine reply (made.Down fault) cause = cause ≡ Some (Shows fault)
+HasLossCause c side engine reply made.Unfit cause = cause ≡ Some Unfit
+HasLossCause c side engine reply (made.Forfeits forfeit.RefusedPlay) cause = cause ≡ Some RefusesPlay
+HasLossCause c side engine reply (made.Forfeits forfeit.NoMove) cause = cause ≡ Some NoMove
+HasLossCause c side engine reply (made.Forfeits forfeit.NoVertex) cause = cause ≡ Some NoVertex
+HasLossCause c side engine reply (made.Forfeits forfeit.IllegalMove) cause =
     BreaksRule c.game side (choice_of_text reply.text.items) cause
-HasCause c side engine reply made.Confirms cause = cause ≡ None
-HasCause c side engine reply made.Resigns cause = cause ≡ None
-HasCause c side engine reply (made.Moves v) cause = cause ≡ None
-HasCause c side engine reply made.Refuses cause = cause ≡ (if may_retake c side engine then None else Some RefusesPlay)
-HasCause c side engine reply made.TakesBack cause = cause ≡ None
-HasCause c side engine reply made.Keeps cause = cause ≡ Some KeepsMove
+HasLossCause c side engine reply made.Confirms cause = cause ≡ None
+HasLossCause c side engine reply made.Resigns cause = cause ≡ None
+HasLossCause c side engine reply (made.Moves v) cause = cause ≡ None
+HasLossCause c side engine reply made.Refuses cause =
+    cause ≡ (if may_retake c side engine then None else Some RefusesPlay)
+HasLossCause c side engine reply made.TakesBack cause = cause ≡ None
+HasLossCause c side engine reply made.Keeps cause = cause ≡ Some KeepsMove
 
 -- ---- bytes that are heard once
 
@@ -99,7 +100,7 @@ loss_of engine text cause = record { cause = cause; owed = owed_of engine text }
 -- what stands behind it. Of a text that is no reply all is shown that was heard: what was kept, and all of these bytes.
 pub data LosesUp (c : Controller) (side : Colour) (engine : Incarnation) (bytes : List ℕ) : Option Loss → Type 0 where
   by_reply : {count : ℕ} {value : Reply} (cause : Option LossCause) → IsFirst (engine.reader ++ bytes) count (Ok value)
-      → HasCause c side engine value (outcome c.game side (oldest engine.unanswered) value) cause
+      → HasLossCause c side engine value (outcome c.game side (oldest engine.unanswered) value) cause
       → LosesUp c side engine bytes (option_map (loss_of engine (take count (engine.reader ++ bytes))) cause)
   by_fault : {count : ℕ} {shown : ReplyFault} → IsFirst (engine.reader ++ bytes) count (Err shown)
       → LosesUp c side engine bytes (Some (loss_of engine (engine.reader ++ bytes) (Shows (side_fault shown))))

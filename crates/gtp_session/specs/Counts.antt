@@ -32,9 +32,9 @@ module _ {E : Type 0} where
   ends_after count (Err _) = count
 
   -- how many bytes a read or a write with this answer gave or took; none where it failed
-  abbrev pub moved : Result ℕ E → Option ℕ
-  moved (Ok bytes) = Some bytes
-  moved (Err _) = None
+  abbrev pub bytes_moved : Result ℕ E → Option ℕ
+  bytes_moved (Ok bytes) = Some bytes
+  bytes_moved (Err _) = None
 
   -- the same of a flush, which moves no byte
   abbrev pub moved_by_flush : {T : Type 0} → Result T E → Option ℕ

@@ -3,7 +3,7 @@ ghost use Rattle.std.specs.Prelude.{◌≡◌, ◌<◌, ◌⊎◌, length, take,
 ghost use Rattle.std.specs.Io.{ReadsAtMost, WritesAtMost};
 ghost use Rattle.std.specs.Io.KnownBytes.{ReadConsumes, WriteAppends, Keeps};
 ghost use Rattle.gtp_session.specs.Streams.{Source, Sink, TookWhole, TookPart};
-ghost use Rattle.gtp_session.specs.Counts.{raised, failures_after, ends_after, moved, moved_by_flush, waiting_after_write, waiting_after_flush};
+ghost use Rattle.gtp_session.specs.Counts.{raised, failures_after, ends_after, bytes_moved, moved_by_flush, waiting_after_write, waiting_after_flush};
 
 use crate::once::{ReadOnce, WriteOnce};
 use std::marker::Model;
@@ -35,7 +35,7 @@ pub trait Incoming {
         ensures ends { (shown self.new).ends ≡ ends_after (shown self.old).ends result }
         ensures failures { (shown self.new).failures
             ≡ failures_after (shown self.old).failures result }
-        ensures last { (shown self.new).last ≡ moved result };
+        ensures last { (shown self.new).last ≡ bytes_moved result };
 }
 
 /// A writer that counts the calls that failed, and tells whether the last one did and whether what it took waits for a
@@ -58,7 +58,7 @@ pub trait Outgoing {
             result text.now }
         ensures failures { (shown self.new).failures
             ≡ failures_after (shown self.old).failures result }
-        ensures last { (shown self.new).last ≡ moved result }
+        ensures last { (shown self.new).last ≡ bytes_moved result }
         ensures waiting { (shown self.new).waiting
             ≡ waiting_after_write (shown self.old).waiting result };
 
@@ -175,7 +175,7 @@ impl<T: ReadOnce> Incoming for Counted<T> {
         ensures reads { self.new.reads ≡ raised self.old.reads 1 }
         ensures ends { self.new.ends ≡ ends_after self.old.ends result }
         ensures failures { self.new.failures ≡ failures_after self.old.failures result }
-        ensures last { self.new.last ≡ moved result }
+        ensures last { self.new.last ≡ bytes_moved result }
         ensures gave { IfOk result (λ count. T.gave self.old.inner (length buffer.new)
             (take count buffer.new) self.new.inner) }
         ensures broke { OnErr result
@@ -212,7 +212,7 @@ impl<T: WriteOnce> Outgoing for Counted<T> {
         ensures bytes { WriteAppends (T.holds self.old.inner) (T.holds self.new.inner)
             result text.now }
         ensures failures { self.new.failures ≡ failures_after self.old.failures result }
-        ensures last { self.new.last ≡ moved result }
+        ensures last { self.new.last ≡ bytes_moved result }
         ensures waiting { self.new.waiting ≡ waiting_after_write self.old.waiting result }
         ensures took { IfOk result (λ count.
             T.took self.old.inner text.now count self.new.inner) }

@@ -3,7 +3,7 @@ use Rattle.std.proofs.Math.ListN.{set}
 use Rattle.go_base.specs.declared.vertices.Vertex.{Vertex}
 use Rattle.go_board.specs.Board.{at}
 use Rattle.go_board.specs.Game.{after_vertex}
-use Rattle.go_board.specs.private.Removed.{ArePoints, AreTakenBy, IsOpen, cleared}
+use Rattle.go_board.specs.private.Removed.{ArePoints, AreTakenBy, IsVacant, cleared}
 use Rattle.go_board.specs.declared.board.Cell.{Cell}
 use Rattle.go_board.proofs.BoardLemmas.{stone-point}
 use Rattle.go_board.proofs.NextLemmas.{empty-point}
@@ -20,7 +20,7 @@ clear_taken-requires c = elim c.match-vertex.branch [
       (points-kept c.args.self.now w.place_of.result w.stone.result c.args.stones.now
       (λ e. stone-point c.args.colour (sym w.stone.ensures ∙ e))
       (empty-point c.args.self.now w.place_of.result (ap (at c.args.self.now) w.place_of.ensures.value
-      ∙ subst (λ (v : Vertex). IsOpen c.args.self.now v) w.in-At.is c.requires.open))
+      ∙ subst (λ (v : Vertex). IsVacant c.args.self.now v) w.in-At.is c.requires.open))
       c.requires.points)
 ]
 
