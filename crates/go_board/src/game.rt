@@ -92,7 +92,7 @@ impl Game {
         ensures { result
             ≡ record { size = size; komi = komi; rule = rule; handicap = stones; moves = [] } }
     {
-        // For the proof alone: the contract of this call tells that komi is in its limits.
+        // For the proof alone (decision 79): the contract of this call tells that komi is in its limits.
         let _ = komi.half_points();
         let chains = Chains::of(Board::start(size, stones));
         let removed = Removed::new();
@@ -121,7 +121,7 @@ impl Game {
     pub fn set_komi(&mut self, komi: Komi)
         ensures { self.new ≡ record self.old { komi = komi } }
     {
-        // For the proof alone: the contract of this call tells that komi is in its limits.
+        // For the proof alone (decision 79): the contract of this call tells that komi is in its limits.
         let _ = komi.half_points();
         self.komi = komi;
     }
@@ -221,7 +221,7 @@ impl Game {
             (RefusesVertex self.now colour vertex) }
         ensures game { IsGame self.now }
     {
-        // For the proof alone: looked at, it tells by its invariant that this is a game.
+        // For the proof alone (decision 79): looked at, it tells by its invariant that this is a game.
         let _ = &self.size;
         match vertex {
             Vertex::Pass => Ok(()),

@@ -223,7 +223,7 @@ impl Stones {
         requires label { label < place_count }
         ensures { GivesLabel self.old self.new chain.now label }
     {
-        // For the proof alone: looked at, they tell by the invariant how many they are.
+        // For the proof alone (decision 79): looked at, they tell by the invariant how many they are.
         let _ = &self.labels;
         for index in 0..chain.len() {
             self.relabel(chain.get(index), label);
@@ -326,7 +326,7 @@ impl Stones {
         ensures count { result ≡ captured_count self.old.board colour }
         ensures few { result ≤ place_count }
     {
-        // For the proof alone: looked at, it tells by the invariant how many places it has.
+        // For the proof alone (decision 79): looked at, it tells by the invariant how many places it has.
         let _ = &self.board;
         let stone = Cell::stone(colour);
         let mut count = 0;

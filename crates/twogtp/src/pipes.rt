@@ -11,7 +11,7 @@ pub const READ_ROOM: usize = 4096;
 /// How often one call is made at most, where each is interrupted.
 const MOST_TRIES: u32 = 1_000_000_000;
 
-/// A process is cut off: its stream has ended, a pipe is broken, or a call was interrupted too often.
+/// A process is cut off: a write took nothing, a pipe is broken, or a call was interrupted too often.
 #[derive(Clone, Copy, Debug, PartialEq, Eq, Drop)]
 pub struct CutOff;
 
