@@ -1,13 +1,15 @@
 -- Ints and komi by their decimal value.
 use Rattle.std.proofs.Common.{◌≡◌, ℕ, zero, suc, ◌+◌, ◌-◌, ◌*◌, ◌^◌, ◌<◌, ◌≤◌, List, [], ◌∷◌, ◌++◌, length, replicate}
-use Rattle.std.proofs.Common.{ℤ, pos, neg_ℤ, refl, sym, ◌∙◌, ap, subst, arith, ◌⊎◌, inl, inr, append-nil, append_assoc, length-append}
+use Rattle.std.proofs.Common.{ℤ, pos, neg_ℤ, refl, sym, ◌∙◌, ap, subst, arith, ◌⊎◌, inl, inr, append-nil, append_assoc}
+use Rattle.std.proofs.Common.{length-append}
 use Rattle.std.specs.Char.{digit_value}
 use Rattle.std.specs.Str.Parse.{AllDigits, digits_value}
 use Rattle.std.proofs.lemmas.Bool.{cases_lt}
 use Rattle.std.proofs.lemmas.List.{length-replicate}
 use Rattle.std.proofs.lemmas.Int.Digits.{digits_value_push, digits_value-lt}
 use Rattle.std.proofs.lemmas.Str.Parse.{digit_from_value}
-use Rattle.std.proofs.Math.Nat.{add-mul, mul_assoc, mul_right_comm, pow-suc, one-le-pow, mul-le-mul_right, le-mul_of_pos_right}
+use Rattle.std.proofs.Math.Nat.{add-mul, mul_assoc, mul_right_comm, pow-suc, one-le-pow, mul-le-mul_right}
+use Rattle.std.proofs.Math.Nat.{le-mul_of_pos_right}
 use Rattle.go_base.specs.Komi.{Sign, no_sign, plus, minus, sign_text, with_sign, Fraction, no_point, zeros, half}
 use Rattle.go_base.specs.Komi.{fraction_text, fraction_digits, fraction_value, SpellsKomi}
 use Rattle.go_base.specs.Decimal.{Counts, IntsAreCounted, SpellsTwice, KomisAreTwiceTheirValue}
@@ -123,7 +125,8 @@ value_both a (c ∷ b) =
     ap (digits_value 10) (sym (append_assoc a (c ∷ []) b)) ∙ value_both (a ++ c ∷ []) b in
     let pushed : digits_value 10 (a ++ c ∷ []) * 10 ^ length b
     ≡ digits_value 10 a * (10 ^ length b * 10) + digit_value c * 10 ^ length b =
-    ap (λ n. n * 10 ^ length b) (digits_value_push 10 a c) ∙ spread (digits_value 10 a) (digit_value c) (10 ^ length b) in
+    ap (λ n. n * 10 ^ length b) (digits_value_push 10 a c)
+    ∙ spread (digits_value 10 a) (digit_value c) (10 ^ length b) in
     let tail : digits_value 10 (c ∷ b) ≡ digit_value c * 10 ^ length b + digits_value 10 b =
     value_both (c ∷ []) b ∙ ap (λ n. n * 10 ^ length b + digits_value 10 b) (one_digit c) in
     let front : digits_value 10 a * (10 ^ length b * 10) ≡ digits_value 10 a * 10 ^ suc (length b) =
@@ -156,7 +159,8 @@ value_half n =
     let both : digits_value 10 (53 ∷ replicate n 48)
     ≡ digits_value 10 (53 ∷ []) * 10 ^ length (replicate {A = ℕ} n 48) + digits_value 10 (replicate n 48) =
     value_both (53 ∷ []) (replicate n 48) in
-    let five : digits_value 10 (53 ∷ []) * 10 ^ length (replicate {A = ℕ} n 48) ≡ 5 * 10 ^ length (replicate {A = ℕ} n 48) =
+    let five : digits_value 10 (53 ∷ []) * 10 ^ length (replicate {A = ℕ} n 48)
+    ≡ 5 * 10 ^ length (replicate {A = ℕ} n 48) =
     ap (λ v. v * 10 ^ length (replicate {A = ℕ} n 48)) (one_digit 53) in
     omega (arith, power, long, both, five, value_zeros n)
 
@@ -184,7 +188,8 @@ decimals_are_digits (zeros n) = zeros_are_digits n
 decimals_are_digits (half n) = (omega arith, zeros_are_digits n)
 
 twice_decimals : (fraction : Fraction)
-    → fraction_value fraction * 10 ^ length (fraction_decimals fraction) ≡ 2 * digits_value 10 (fraction_decimals fraction)
+    → fraction_value fraction * 10 ^ length (fraction_decimals fraction)
+    ≡ 2 * digits_value 10 (fraction_decimals fraction)
 twice_decimals no_point = refl
 twice_decimals (zeros n) =
     omega (arith, zero_times (10 ^ length (replicate {A = ℕ} n 48)), value_zeros n)
@@ -263,7 +268,8 @@ zeros_of (d ∷ ds) all none =
     let p : 1 ≤ 10 ^ length ds = one-le-pow (length ds) 10 (omega arith) in
     let value : digits_value 10 (d ∷ ds) ≡ digit_value d * 10 ^ length ds + digits_value 10 ds =
     value_both (d ∷ []) ds ∙ ap (λ n. n * 10 ^ length ds + digits_value 10 ds) (one_digit d) in
-    let least : digit_value d ≤ digit_value d * 10 ^ length ds = le-mul_of_pos_right (digit_value d) (omega (arith, p)) in
+    let least : digit_value d ≤ digit_value d * 10 ^ length ds =
+    le-mul_of_pos_right (digit_value d) (omega (arith, p)) in
     let range = digit_from_value d all.0 in
     let zero_digit : d ≡ 48 =
     omega (arith, none, value, least, range.0, range.1, digit_value-digit d range.0 range.1) in
@@ -350,7 +356,8 @@ record HasSign (sign : List ℕ) (size : ℕ) (half_points : ℤ) : Type 0 where
   value : half_points ≡ with_sign known size
 
 has_sign : (sign : List ℕ) (size : ℕ) (half_points : ℤ)
-    → (((sign ≡ []) ⊎ (sign ≡ 43 ∷ [])) × (half_points ≡ pos size)) ⊎ ((sign ≡ 45 ∷ []) × (half_points ≡ neg_ℤ (pos size)))
+    → (((sign ≡ []) ⊎ (sign ≡ 43 ∷ [])) × (half_points ≡ pos size))
+    ⊎ ((sign ≡ 45 ∷ []) × (half_points ≡ neg_ℤ (pos size)))
     → HasSign sign size half_points
 has_sign sign size half_points (inl above) = elim (above.0) [
   | inl none ↦ record { known = no_sign; text_is = none; value = above.1 }

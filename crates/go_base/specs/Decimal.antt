@@ -15,9 +15,9 @@ pub data Counts : ℕ → List ℕ → Type 0 where
 abbrev pub IntsAreCounted : Type 0
 IntsAreCounted = (n : ℕ) (text : List ℕ) → SpellsInt n text ↔ (Counts n text × (n ≤ 2147483647))
 
--- The text is a decimal number, and the number of half points is twice its value: a sign, `+` (43) or `-` (45), or none;
--- at most nine digits; and then nothing, or a point (46) and at most nine digits. The digits on both sides of the point
--- count a number together, which is ten times too large for each of them behind the point.
+-- The text is a decimal number, and the number of half points is twice its value: a sign, `+` (43) or `-` (45), or
+-- none; at most nine digits; and then nothing, or a point (46) and at most nine digits. The digits on both sides of the
+-- point count a number together, which is ten times too large for each of them behind the point.
 pub record SpellsTwice (half_points : ℤ) (text : List ℕ) : Type 0 where
   pub sign : List ℕ
   pub whole : List ℕ

@@ -20,12 +20,11 @@ use Rattle.go_board.specs.Game.{GameRecord, start, board_of, with_move, after_ve
 use Rattle.go_board.specs.Game.{Repeats}
 use Rattle.go_board.specs.private.Kept.{record_of, IsKept}
 use Rattle.go_board.specs.private.Ko.{IsKo, IsKoAfter, TakesOnly}
-use Rattle.go_board.specs.private.Label.{AreChains, AreFree}
+use Rattle.go_board.specs.private.Label.{AreFree}
 use Rattle.go_board.specs.Put.{put}
 use Rattle.go_board.specs.private.Removed.{removed_of, removed_by, taken_at, IsAfterMove, IsUnmade}
 use Rattle.go_board.specs.Taken.{same_colour, taken, captures_of_vertex, taken_from}
 use Rattle.go_board.specs.declared.board.Cell.{Cell}
-use Rattle.go_board.specs.declared.chains.Chains.{Chains}
 use Rattle.go_board.specs.declared.game.Game.TheInside.{Inside}
 use Rattle.go_board.specs.declared.ko.Ko.{Ko}
 use Rattle.go_board.specs.declared.removed.Taken.{Taken}
@@ -38,17 +37,16 @@ use Rattle.go_board.proofs.StackLemmas.{removed_of-with_move, length-taken}
 use Rattle.go_board.proofs.TakenLemmas.{taken-with_move, taken-without_move, taken-enough, taken-few, captures-places}
 
 -- size and freedom of the board follow from the game
-kept-from : (f : Inside) → IsGame (record_of f) → f.chains.board ≡ board_of (record_of f)
-    → AreChains f.chains.board f.chains.labels f.chains.counts → IsKo (record_of f) f.ko
+kept-from : (f : Inside) → IsGame (record_of f) → f.chains ≡ board_of (record_of f)
+    → IsKo (record_of f) f.ko
     → f.removed ≡ removed_of (record_of f) → f.taken_by_black ≡ taken (record_of f) colour.Black
     → f.taken_by_white ≡ taken (record_of f) colour.White → IsKept f
-kept-from f g board_is chains ko removed black white =
+kept-from f g board_is ko removed black white =
     let o = IsOrderly-game (record_of f) g in
     record {
       game = g;
       board_is = board_is;
       has_size = subst (HasSize f.size) (sym board_is) o.has_size;
-      chains = chains;
       free = subst AreFree (sym board_is) o.free;
       ko_is = ko;
       removed_is = removed;
@@ -65,11 +63,11 @@ none-taken : (game : GameRecord) (d : Colour) → game.moves ≡ [] → 0 ≡ ta
 unfolding taken
 none-taken game d none = sym (ap (λ (ms : List Move). taken_from (start game.size game.handicap) d ms) none)
 
-pub IsKept-start : (size : ℕ) (komi : ℤ) (rule : KoRule) (handicap : ℕ) (chains : Chains) (removed : List Taken)
+pub IsKept-start : (size : ℕ) (komi : ℤ) (rule : KoRule) (handicap : ℕ) (chains : List Cell) (removed : List Taken)
     (moves : ArrayVec Move)
     → IsSize size → IsKomi komi
-    → (handicap ≡ 0) ⊎ AllowsHandicap size handicap → chains.board ≡ start size handicap
-    → AreChains chains.board chains.labels chains.counts → removed ≡ [] → moves.items ≡ []
+    → (handicap ≡ 0) ⊎ AllowsHandicap size handicap → chains ≡ start size handicap
+    → removed ≡ [] → moves.items ≡ []
     → IsKept (record {
       size = size;
       komi = komi;
@@ -82,7 +80,7 @@ pub IsKept-start : (size : ℕ) (komi : ℤ) (rule : KoRule) (handicap : ℕ) (c
       taken_by_black = 0;
       taken_by_white = 0;
     })
-IsKept-start size komi rule handicap chains removed moves is_size is_komi allowed board_is are gone none =
+IsKept-start size komi rule handicap chains removed moves is_size is_komi allowed board_is gone none =
     let game : GameRecord =
     record { size = size; komi = komi; rule = rule; handicap = handicap; moves = moves.items } in
     let g : IsGame game = record {
@@ -104,7 +102,7 @@ IsKept-start size komi rule handicap chains removed moves is_size is_komi allowe
       taken_by_black = 0;
       taken_by_white = 0;
     })
-    g (board_is ∙ sym (board-start game none)) are (IsKo-start game none) (gone ∙ sym (removed-start game none))
+    g (board_is ∙ sym (board-start game none)) (IsKo-start game none) (gone ∙ sym (removed-start game none))
     (none-taken game colour.Black none) (none-taken game colour.White none)
 
 -- ---- another komi
@@ -115,7 +113,6 @@ IsKept-komi f komi is kept = record {
   game = IsGame-komi (record_of f) komi is kept.game;
   board_is = kept.board_is;
   has_size = kept.has_size;
-  chains = kept.chains;
   free = kept.free;
   ko_is = λ c p empty. (
     (λ r. (kept.ko_is c p empty).0 (record { moved = r.moved; same = r.same })),
@@ -131,7 +128,7 @@ IsKept-komi f komi is kept = record {
 -- there is room on the stack for what a move takes
 pub room-for_move : (f : Inside) (c : Colour) (v : Vertex) → IsKept f → length f.moves.items < 2000
     → IsLegal (record_of f) c v
-    → length f.removed + captures_of_vertex f.chains.board c v ≤ 2009
+    → length f.removed + captures_of_vertex f.chains c v ≤ 2009
 room-for_move f c v kept room legal =
     let game = record_of f in
     let h : IsGame (with_move game c v) = IsGame-with_move game c v kept.game room legal in
@@ -157,13 +154,12 @@ taken-most f d t kept is = let few = taken-few (record_of f) d in
     let most = removed-few (record_of f) kept.game in
     omega (arith, few, most, is)
 
-pub IsKept-play : (f : Inside) (c : Colour) (v : Vertex) (chains : Chains) (ko : Option Ko) (removed : List Taken)
+pub IsKept-play : (f : Inside) (c : Colour) (v : Vertex) (chains : List Cell) (ko : Option Ko) (removed : List Taken)
     (now black white : ℕ) (moves : ArrayVec Move) → IsKept f → length f.moves.items < 2000
     → IsLegal (record_of f) c v → moves.items ≡ f.moves.items ++ record { colour = c; vertex = v } ∷ []
-    → chains.board ≡ after_vertex f.chains.board c v
-    → AreChains chains.board chains.labels chains.counts
-    → removed ≡ f.removed ++ taken_at (length f.moves.items) (removed_by f.chains.board c v)
-    → now ≡ captures_of_vertex f.chains.board c v
+    → chains ≡ after_vertex f.chains c v
+    → removed ≡ f.removed ++ taken_at (length f.moves.items) (removed_by f.chains c v)
+    → now ≡ captures_of_vertex f.chains c v
     → black ≡ f.taken_by_black + (if same_colour c colour.Black then now else 0)
     → white ≡ f.taken_by_white + (if same_colour c colour.White then now else 0) → IsKoAfter moves.items removed ko
     → IsKept (record f {
@@ -174,18 +170,18 @@ pub IsKept-play : (f : Inside) (c : Colour) (v : Vertex) (chains : Chains) (ko :
       taken_by_black = black;
       taken_by_white = white;
     })
-IsKept-play f c v chains ko removed now black white moves kept room legal items board_is are removed_is now_is black_is
+IsKept-play f c v chains ko removed now black white moves kept room legal items board_is removed_is now_is black_is
     white_is ko_is =
     let game = record_of f in
     let next : GameRecord = record game { moves = moves.items } in
     let same : with_move game c v ≡ next =
     ap (λ (ms : List Move). let g : GameRecord = record game { moves = ms } in g) (sym items) in
     let g : IsGame next = subst IsGame same (IsGame-with_move game c v kept.game room legal) in
-    let board : chains.board ≡ board_of next =
+    let board : chains ≡ board_of next =
     board_is ∙ ap (λ (b : List Cell). after_vertex b c v) kept.board_is ∙ sym (board-with_move game c v)
     ∙ ap board_of same in
     let stones : removed ≡ removed_of next =
-    removed_is ∙ ap (λ (ts : List Taken). ts ++ taken_at (length f.moves.items) (removed_by f.chains.board c v))
+    removed_is ∙ ap (λ (ts : List Taken). ts ++ taken_at (length f.moves.items) (removed_by f.chains c v))
     kept.removed_is
     ∙ ap (λ (b : List Cell). removed_of game ++ taken_at (length f.moves.items) (removed_by b c v)) kept.board_is
     ∙ sym (removed_of-with_move game c v) ∙ ap removed_of same in
@@ -199,7 +195,7 @@ IsKept-play f c v chains ko removed now black white moves kept room legal items 
       taken_by_black = black;
       taken_by_white = white;
     })
-    g board are (ko_is next g refl stones) stones
+    g board (ko_is next g refl stones) stones
     (taken-with_move game c v colour.Black f.taken_by_black now black kept.black_is took black_is
     ∙ ap (λ (h : GameRecord). taken h colour.Black) same)
     (taken-with_move game c v colour.White f.taken_by_white now white kept.white_is took white_is
@@ -209,7 +205,7 @@ IsKept-play f c v chains ko removed now black white moves kept room legal items 
 
 pub after-last : (f : Inside) (ms : List Move) (c : Colour) (v : Vertex) → IsKept f
     → f.moves.items ≡ ms ++ record { colour = c; vertex = v } ∷ []
-    → IsAfterMove f.chains.board f.removed (record { colour = c; vertex = v }) (length ms)
+    → IsAfterMove f.chains f.removed (record { colour = c; vertex = v }) (length ms)
 after-last f ms c v kept ends =
     let game = record_of f in
     let shorter : GameRecord =
@@ -228,11 +224,11 @@ after-last f ms c v kept ends =
     }
 
 -- what the move took is known
-were-before : (f : Inside) (ms : List Move) (c : Colour) (v : Vertex) (chains : Chains) (removed : List Taken) (now : ℕ)
-    (kept : IsKept f)
+were-before : (f : Inside) (ms : List Move) (c : Colour) (v : Vertex) (chains : List Cell) (removed : List Taken)
+    (now : ℕ) (kept : IsKept f)
     → f.moves.items ≡ ms ++ record { colour = c; vertex = v } ∷ []
-    → IsUnmade f.chains.board f.removed (record { colour = c; vertex = v }) (length ms) chains.board removed now
-    → (chains.board
+    → IsUnmade f.chains f.removed (record { colour = c; vertex = v }) (length ms) chains removed now
+    → (chains
     ≡ board_of (record { size = f.size; komi = f.komi; rule = f.rule; handicap = f.handicap; moves = ms }))
     × (removed ≡ removed_of (record { size = f.size; komi = f.komi; rule = f.rule; handicap = f.handicap; moves = ms }))
     × (now ≡ captures_of_vertex
@@ -240,10 +236,10 @@ were-before : (f : Inside) (ms : List Move) (c : Colour) (v : Vertex) (chains : 
 unfolding after-last
 were-before f ms c v chains removed now kept ends back = back (after-last f ms c v kept ends)
 
-pub enough-taken : (f : Inside) (ms : List Move) (c : Colour) (v : Vertex) (chains : Chains) (removed : List Taken)
+pub enough-taken : (f : Inside) (ms : List Move) (c : Colour) (v : Vertex) (chains : List Cell) (removed : List Taken)
     (now t : ℕ) (d : Colour) → IsKept f
     → f.moves.items ≡ ms ++ record { colour = c; vertex = v } ∷ []
-    → IsUnmade f.chains.board f.removed (record { colour = c; vertex = v }) (length ms) chains.board removed now
+    → IsUnmade f.chains f.removed (record { colour = c; vertex = v }) (length ms) chains removed now
     → t ≡ taken (record_of f) d
     → (if same_colour c d then now else 0) ≤ t
 enough-taken f ms c v chains removed now t d kept ends back is =
@@ -254,12 +250,11 @@ enough-taken f ms c v chains removed now t d kept ends back is =
     let were = were-before f ms c v chains removed now kept ends back in
     taken-enough shorter c v d t now (is ∙ ap (λ (h : GameRecord). taken h d) (sym same)) were.2
 
-pub IsKept-undo : (f : Inside) (c : Colour) (v : Vertex) (chains : Chains) (ko : Option Ko) (removed : List Taken)
+pub IsKept-undo : (f : Inside) (c : Colour) (v : Vertex) (chains : List Cell) (ko : Option Ko) (removed : List Taken)
     (now black white : ℕ) (moves : ArrayVec Move) → IsKept f
     → f.moves.items ≡ moves.items ++ record { colour = c; vertex = v } ∷ []
-    → IsUnmade f.chains.board f.removed (record { colour = c; vertex = v })
-    (length moves.items) chains.board removed now
-    → AreChains chains.board chains.labels chains.counts
+    → IsUnmade f.chains f.removed (record { colour = c; vertex = v })
+    (length moves.items) chains removed now
     → black ≡ f.taken_by_black - (if same_colour c colour.Black then now else 0)
     → white ≡ f.taken_by_white - (if same_colour c colour.White then now else 0) → IsKoAfter moves.items removed ko
     → IsKept (record f {
@@ -270,7 +265,7 @@ pub IsKept-undo : (f : Inside) (c : Colour) (v : Vertex) (chains : Chains) (ko :
       taken_by_black = black;
       taken_by_white = white;
     })
-IsKept-undo f c v chains ko removed now black white moves kept ends back are black_is white_is ko_is =
+IsKept-undo f c v chains ko removed now black white moves kept ends back black_is white_is ko_is =
     let shorter : GameRecord =
     record { size = f.size; komi = f.komi; rule = f.rule; handicap = f.handicap; moves = moves.items } in
     let same : with_move shorter c v ≡ record_of f =
@@ -285,7 +280,7 @@ IsKept-undo f c v chains ko removed now black white moves kept ends back are bla
       taken_by_black = black;
       taken_by_white = white;
     })
-    b.game_is were.0 are (ko_is shorter b.game_is refl were.1) were.1
+    b.game_is were.0 (ko_is shorter b.game_is refl were.1) were.1
     (taken-without_move shorter c v colour.Black f.taken_by_black now black
     (kept.black_is ∙ ap (λ (h : GameRecord). taken h colour.Black) (sym same)) were.2 black_is)
     (taken-without_move shorter c v colour.White f.taken_by_white now white

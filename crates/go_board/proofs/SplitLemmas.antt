@@ -13,7 +13,7 @@ use Rattle.go_board.specs.private.Label.{label_of, label_at, label_beside, AreLa
 use Rattle.go_board.specs.private.Steps.{rename, rename_three, IsNamed, IsCut}
 use Rattle.go_board.specs.declared.board.Cell.{Cell}
 use Rattle.go_board.specs.declared.board.Cell.TheVariants.{Edge, Empty}
-use Rattle.go_board.proofs.BoardLemmas.{same_or_other}
+use Rattle.go_board.proofs.BoardLemmas.{same_or_other, IsFramed-set}
 use Rattle.go_board.proofs.CaptureLemmas.{in_list}
 use Rattle.go_board.proofs.FloodLemmas.{IsOn-inside}
 use Rattle.go_board.proofs.ChainLemmas.{Joined-then, Joined-same, Joined-back, Joined-kept, IsStone-point}
@@ -224,9 +224,10 @@ AreLabels-whole board labels p label beside s a is b few =
 
 -- ---- the chain falls apart
 
-pub IsCut-lifted : (board : List Cell) (labels : List ℕ) (p label : ℕ) → IsStone (at board p) → AreLabels board labels
-    → label ≡ label_of labels p → IsCut (set board p Empty) labels p label
-IsCut-lifted board labels p label s a is = record {
+pub IsCut-lifted : (board : List Cell) (labels : List ℕ) (p label : ℕ) → IsStone (at board p) → IsFramed board
+    → AreLabels board labels → label ≡ label_of labels p → IsCut (set board p Empty) labels p label
+IsCut-lifted board labels p label s framed a is = record {
+  framed = IsFramed-set board p Empty (IsStone-point (at board p) s) framed;
   length_is = a.length_is;
   alike = left-alike board labels p s a;
   own = λ q t o.

@@ -1,19 +1,20 @@
 -- Laws of the game, as relations: which board a move leaves, what it takes, and what counts for whom. (Own rules of
 -- play.)
-use Rattle.std.specs.Prelude.{◌≡◌, ◌≢◌, ℕ, ℤ, pos, ◌≤◌, ◌+◌, ◌*ℤ◌, ◌-ℤ◌, ◌⊎◌, ◌↔◌, List, [], Contains, length}
-use Rattle.std.specs.Prelude.{slice_get, slice_set, Some}
+use Rattle.std.specs.Prelude.{◌≡◌, ◌≢◌, ℕ, ℤ, pos, ◌≤◌, ◌+◌, ◌*ℤ◌, ◌-ℤ◌, ◌⊎◌, ◌↔◌, Bool, true}
+use Rattle.std.specs.Prelude.{List, [], ◌∷◌, ◌++◌, Contains, length, slice_get, slice_set, Some}
 use Rattle.std.specs.List.{AllPairs}
 use Rattle.go_base.specs.Colour.{other}
 use Rattle.go_base.specs.Handicap.{handicap_points}
-use Rattle.go_base.specs.Point.{IsOn}
+use Rattle.go_base.specs.Point.{IsOn, Neighbours}
 use Rattle.go_base.specs.declared.colours.Colour.{Colour}
 use Rattle.go_base.specs.declared.colours.Colour.TheVariants as colour
 use Rattle.go_base.specs.declared.vertices.Vertex.{Vertex}
 use Rattle.go_base.specs.declared.vertices.Vertex.TheVariants.{Pass, At}
+use Rattle.go_base.specs.declared.moves.Move.{Move}
 use Rattle.go_board.specs.declared.board.Cell.{Cell}
 use Rattle.go_board.specs.declared.board.Cell.TheVariants.{Edge, Empty, Black}
 use Rattle.go_board.specs.Board.{place_count, at, stone, stone_at}
-use Rattle.go_board.specs.Chain.{Touches, IsCaptured}
+use Rattle.go_board.specs.Chain.{Joined, Touches, IsFree, IsCaptured}
 use Rattle.go_board.specs.Counting.{CountsFor}
 use Rattle.go_board.specs.Game.{GameRecord, IsGame, IsLegal, board_of, first_moves, with_move}
 use Rattle.go_board.specs.declared.rules.KoRule.{KoRule}
@@ -92,6 +93,54 @@ abbrev pub NoBoardComesBack : Type 0
 NoBoardComesBack = (game : GameRecord) (j k p : ℕ) (c : Colour) → IsGame game → game.rule ≡ Positional → j ≤ k
     → slice_get game.moves k ≡ Some (record { colour = c; vertex = At p })
     → board_of (first_moves (k + 1) game) ≢ board_of (first_moves j game)
+
+-- Under simple ko no play leaves the board that stood before the move in front of it.
+abbrev pub NoBoardComesBackAtOnce : Type 0
+NoBoardComesBackAtOnce = (game : GameRecord) (k p : ℕ) (c : Colour) → IsGame game → game.rule ≡ Simple
+    → slice_get game.moves (k + 1) ≡ Some (record { colour = c; vertex = At p })
+    → board_of (first_moves (k + 2) game) ≢ board_of (first_moves k game)
+
+-- A play on an empty point of the board, whose stone is free on the board that it leaves, is legal under simple ko
+-- where that isn't the board of the record without its last move.
+abbrev pub OtherPlaysAreLegal : Type 0
+OtherPlaysAreLegal = (game : GameRecord) (c : Colour) (p : ℕ) → IsOn game.size p → at (board_of game) p ≡ Empty
+    → IsFree (board_of (with_move game c (At p))) p
+    → ((front : List Move) (last : Move) → game.moves ≡ front ++ last ∷ []
+    → board_of (with_move game c (At p)) ≢ board_of (record game { moves = front }))
+    → IsLegal (under Simple game) c (At p)
+
+-- No play is suicide: the stone of a legal one is free on the board that the play leaves.
+abbrev pub LegalStonesAreFree : Type 0
+LegalStonesAreFree = (game : GameRecord) (c : Colour) (p : ℕ) → IsLegal game c (At p)
+    → IsFree (board_of (with_move game c (At p))) p
+
+-- ---- chains, regions and liberties, in words of sets
+
+-- The set has p, and with each of its points each neighbour that holds the same as p.
+pub record IsClosed (board : List Cell) (p : ℕ) (set : ℕ → Bool) : Type 0 where
+  pub start : set p ≡ true
+  pub next : (q r : ℕ) → set q ≡ true → Neighbours q r → at board r ≡ at board p → set r ≡ true
+
+-- Some such set has no point with a neighbour that holds this.
+pub record IsAwayFrom (board : List Cell) (p : ℕ) (this : Cell) : Type 0 where
+  pub set : ℕ → Bool
+  pub closed : IsClosed board p set
+  pub away : (q r : ℕ) → set q ≡ true → Neighbours q r → at board r ≢ this
+
+-- the chain or region of a point is the smallest such set
+abbrev pub JoinedPointsAreTheSmallestSet : Type 0
+JoinedPointsAreTheSmallestSet = (board : List Cell) (p q : ℕ) → at board p ≢ Edge
+    → Joined board p q ↔ ((set : ℕ → Bool) → IsClosed board p set → set q ≡ true)
+
+-- it touches nothing that holds this exactly where some such set is away from it
+abbrev pub UntouchedIsAway : Type 0
+UntouchedIsAway = (board : List Cell) (p : ℕ) (this : Cell) → at board p ≢ Edge
+    → (¬ Touches board p this) ↔ IsAwayFrom board p this
+
+-- a stone is captured exactly where some such set has no point beside an empty one
+abbrev pub CapturedStonesAreShutIn : Type 0
+CapturedStonesAreShutIn = (board : List Cell) (c : Colour) (p : ℕ)
+    → IsCaptured board c p ↔ ((at board p ≡ stone c) × IsAwayFrom board p Empty)
 
 -- ---- taken stones
 

@@ -8,3 +8,4 @@ pub mod Removed
 pub mod Ko
 pub mod Legal
 pub mod Kept
+pub mod Stones

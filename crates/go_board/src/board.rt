@@ -113,7 +113,7 @@ impl Model for Board {
 
 impl Board {
     ghost use Rattle.std.specs.Prelude.{slice_set};
-    ghost use Rattle.go_board.specs.private.Label.{IsChainOf};
+    ghost use Rattle.go_board.specs.private.Label.{IsChainOf, empty_at, empty_beside};
     ghost use Rattle.go_board.specs.Board.{place_count, at, stone, empty_board, with_black, HasStone};
     ghost use Rattle.go_board.specs.private.Frame.{HasSize, SameEdge};
     ghost use Rattle.go_base.specs.Colour.{other};
@@ -253,6 +253,29 @@ impl Board {
             || self.cells[place - 1] == wanted
             || self.cells[place + ROW] == wanted
             || self.cells[place - ROW] == wanted
+    }
+
+    /// 1 where a place is empty.
+    #[inline]
+    fn empty_at(&self, place: usize) -> u32
+        requires { place < place_count }
+        ensures value { result ≡ empty_at self.now place }
+        ensures few { result ≤ 1 }
+    {
+        if self.cells[place].is_empty() { 1 } else { 0 }
+    }
+
+    /// How many neighbours of a point are empty.
+    #[inline]
+    pub fn empty_beside(&self, place: usize) -> u32
+        requires { IsOn most_size place }
+        ensures value { result ≡ empty_beside self.now place }
+        ensures few { result ≤ 4 }
+    {
+        self.empty_at(place + 1)
+            + self.empty_at(place - 1)
+            + self.empty_at(place + ROW)
+            + self.empty_at(place - ROW)
     }
 
     /// The places that hold what is sought and whose chain or region touches what is wanted.

@@ -323,7 +323,7 @@ impl Game {
         requires { at (board_of self.now) point ≡ Empty }
         ensures { result ≡ put (board_of self.now) colour point }
     {
-        let mut chains = self.chains;
+        let mut chains = self.chains.copied();
         let mut removed = Removed::new();
         // How many stones it takes doesn't matter here.
         let _ = chains.put(colour, place_of(point), 0, &mut removed);

@@ -3,6 +3,8 @@
 //! Each function does nothing: that it is proved is the law in its contract.
 ghost use Rattle.go_board.specs.Laws.{FirstBoardsAreJustThese, BoardsLeftAreJustThese, StonesAreOnTheBoard};
 ghost use Rattle.go_board.specs.Laws.{PositionalIsStricter, NewBoardsAreAllowed, NoBoardComesBack};
+ghost use Rattle.go_board.specs.Laws.{NoBoardComesBackAtOnce, OtherPlaysAreLegal, LegalStonesAreFree};
+ghost use Rattle.go_board.specs.Laws.{JoinedPointsAreTheSmallestSet, UntouchedIsAway, CapturedStonesAreShutIn};
 ghost use Rattle.go_board.specs.Laws.{NoneIsTakenFirst, MovesAddWhatTheyTake};
 ghost use Rattle.go_board.specs.Laws.{WhatBelongsCounts, PointsBelongToOne, ScoresAreThese};
 
@@ -24,11 +26,28 @@ pub fn stones_on_the_board()
 {}
 
 /// Positional ko allows no move that simple ko forbids. It allows each that simple ko allows where the board is new.
-/// Under it no play brings back a board of the game.
+/// Under it no play brings back a board of the game. Under simple ko none leaves the board that stood before the move
+/// in front of it, and each other play on an empty point is legal where its stone is free then.
 pub fn ko_rules()
     ensures stricter { PositionalIsStricter }
     ensures new { NewBoardsAreAllowed }
     ensures never { NoBoardComesBack }
+    ensures last { NoBoardComesBackAtOnce }
+    ensures others { OtherPlaysAreLegal }
+{}
+
+/// No play is suicide: the stone of a legal one is free on the board that the play leaves.
+pub fn legal_stones()
+    ensures { LegalStonesAreFree }
+{}
+
+/// The chain or region of a point is the smallest set that has it and, with each of its points, each neighbour that
+/// holds the same. It touches nothing of a kind exactly where some such set has none of it beside its points, and so a
+/// stone is captured exactly where some such set has no point beside an empty one.
+pub fn chains_as_sets()
+    ensures smallest { JoinedPointsAreTheSmallestSet }
+    ensures touches { UntouchedIsAway }
+    ensures captured { CapturedStonesAreShutIn }
 {}
 
 /// A move adds to what its colour has taken as many stones as it takes: those of the other colour whose chains have no

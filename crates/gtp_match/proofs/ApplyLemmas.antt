@@ -1,5 +1,5 @@
 -- A legal move is played, and what is then left is what the table says.
-use Rattle.std.proofs.Common.{◌≡◌, Option, Some, None, Result, Ok, Err, sym, ◌∙◌, ap, subst, arith}
+use Rattle.std.proofs.Common.{◌≡◌, Option, Some, None, Result, Ok, Err, refl, sym, ◌∙◌, ap, subst, arith}
 use Rattle.std.specs.Prelude.{IfSome, OnOk, MatchResult}
 use Rattle.go_base.specs.declared.colours.Colour.{Colour}
 use Rattle.go_base.specs.declared.vertices.Vertex.{Vertex}
@@ -53,14 +53,11 @@ applied_move c s v o game sides verdict is game_is confirms verdict_is = by_up (
         ∙ ap (after_outcome c s engine) (sym is)
 
 -- the engine of a side that was lent confirmed a command
-pub confirms_lent : (sides : Sides) (s : Colour) (lent new : SideState) → lent ≡ side_of sides s
-    → IfSome lent.up (λ engine. new ≡ with_engine (confirmed engine) lent)
-    → IfSome (side_of sides s).up (λ engine. with_side s new sides ≡ with_engine_of s (confirmed engine) sides)
-confirms_lent sides s lent new is confirms =
-    by_up (side_of sides s).up
-    (subst (λ (x : SideState). IfSome x.up (λ engine. new ≡ with_engine (confirmed engine) x)) is confirms)
-  where
-    by_up : (u : Option Incarnation) → IfSome u (λ engine. new ≡ with_engine (confirmed engine) (side_of sides s))
-        → IfSome u (λ engine. with_side s new sides ≡ with_engine_of s (confirmed engine) sides)
-    by_up None h = tt
-    by_up (Some engine) h = ap (λ (x : SideState). with_side s x sides) h
+pub confirms_lent : (sides : Sides) (s : Colour) (lent : SideState) (engine : Incarnation) → lent ≡ side_of sides s
+    → lent.up ≡ Some engine
+    → IfSome (side_of sides s).up (λ old. with_side s (with_engine (confirmed engine) lent) sides
+    ≡ with_engine_of s (confirmed old) sides)
+confirms_lent sides s lent engine is up =
+    subst (λ (x : SideState). IfSome x.up (λ old. with_side s (with_engine (confirmed engine) lent) sides
+    ≡ with_side s (with_engine (confirmed old) x) sides)) is
+    (rw up refl)

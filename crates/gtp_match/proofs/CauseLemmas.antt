@@ -1,20 +1,23 @@
 -- Each move was told by a reply, and each verdict has its cause.
 use Rattle.std.proofs.Common.{◌≡◌, ℕ, List, length, Option, Some, None, Bool, true, false, refl, sym, ◌∙◌, ap, subst}
-use Rattle.std.proofs.Common.{cond, eqb, inl, inr}
+use Rattle.std.proofs.Common.{cond, eqb, inl, inr, arith}
 use Rattle.std.specs.Prelude.{◌⊎◌, ℤ, IsSome, nat_lt}
+use Rattle.std.proofs.lemmas.Bool.{eqb-true}
+use Rattle.std.proofs.lemmas.Bool.Decides.{nat_tests}
 use Rattle.go_base.specs.Decide.{holds}
 use Rattle.go_base.specs.Colour.{other}
 use Rattle.go_base.specs.declared.colours.Colour.{Colour}
 use Rattle.go_base.specs.declared.vertices.Vertex.{Vertex}
 use Rattle.go_board.specs.Area.{score}
 use Rattle.go_board.specs.decisions.Game.{finished?}
-use Rattle.go_board.specs.Game.{with_move, without_last}
+use Rattle.go_board.specs.Game.{GameRecord, with_move, without_last}
 use Rattle.gtp_wire.specs.declared.replies.Reply.{Reply}
 use Rattle.gtp_match.specs.Controller.{started, sent, sent_to, downed, lost, lost_engine, verdict_when_down}
 use Rattle.gtp_match.specs.Hearing.{Hears}
 use Rattle.gtp_match.specs.ReplyTable.{outcome, after_outcome, fault_of, refused, retaken_at}
 use Rattle.gtp_match.specs.Replying.{EndsReply, HearsReply, MakesMove, TellsRefusal, WhyTakenBack, TakesMoveBack}
-use Rattle.gtp_match.specs.Replying.{CountsRetake, IsForfeit, IsForfeited, IsAnsweredOnly, HasCause}
+use Rattle.gtp_match.specs.Replying.{HasConfirmedAll, CountsRetake, IsForfeit, IsForfeited, IsAnsweredOnly, HasCause}
+use Rattle.gtp_match.specs.Script.{script}
 use Rattle.gtp_match.specs.Sides.{side_of, heard_reply, answered}
 use Rattle.gtp_match.specs.Taking.{is_maker, unless_over, taking_back, takes_back, may_retake, has_all}
 use Rattle.gtp_match.specs.Unanswered.{oldest}
@@ -68,6 +71,19 @@ made c new s engine bytes used reply v up ends e new_is =
       };
       game = ap (λ (x : Controller). x.game) new_is;
     }
+
+-- ---- who has confirmed the script
+
+confirmed_all : (game : GameRecord) (up : Option Incarnation) → has_all game up ≡ true → HasConfirmedAll game up
+confirmed_all game None e = cc
+confirmed_all game (Some engine) e = eqb-true engine.confirmed (length (script game)) e
+
+not_confirmed : (game : GameRecord) (up : Option Incarnation) → has_all game up ≡ false → ¬ HasConfirmedAll game up
+not_confirmed game None e absent = absent
+not_confirmed game (Some engine) e as_many =
+    let same : eqb engine.confirmed (length (script game)) ≡ true = grind (arith, nat_tests) in
+    let clash : false ≡ true = sym e ∙ same in
+    cc
 
 -- ---- a move that leaves the game
 
@@ -126,7 +142,7 @@ moves_are_told c new s bytes used fault hears = by_way (heard c s bytes used fau
             → new ≡ retaken_at c s (heard_reply engine) b → MoveTold c new s bytes used fault
         by_held true held new_is = stays _ new_is refl
         by_held false unheld new_is =
-            inr (inr (taken_away c new s engine bytes used fault up (WhyTakenBack.refused said is unheld)
+            inr (inr (taken_away c new s engine bytes used fault up (WhyTakenBack.refused said is (not_confirmed c.game (side_of c.sides (other s)).up unheld))
             (ap (λ (x : Controller). x.game) new_is)))
 
     by_outcome : (engine : Incarnation) (reply : Reply) → (side_of c.sides s).up ≡ Some engine
@@ -205,7 +221,7 @@ retakes_are_told c new s bytes used fault hears = by_way (heard c s bytes used f
             ap taking_back new_is ∙ ap (λ v. unless_over v (Some (other s))) none,
             ap (λ (x : Controller). x.game) new_is,
           );
-          gone = λ unheld. absurd (let clash : true ≡ false = sym held ∙ unheld in cc);
+          gone = λ lacks. absurd (lacks (confirmed_all c.game (side_of c.sides (other s)).up held));
         })
         by_held false unheld new_is = inr (record {
           engine = engine;
@@ -213,7 +229,7 @@ retakes_are_told c new s bytes used fault hears = by_way (heard c s bytes used f
           heard = said;
           may = is;
           one_more = ap (λ (x : Controller). x.retakes) new_is;
-          pending = λ held. absurd (let clash : false ≡ true = sym unheld ∙ held in cc);
+          pending = λ all. absurd (not_confirmed c.game (side_of c.sides (other s)).up unheld all);
           gone = λ _. ap (λ (x : Controller). x.game) new_is;
         })
 

@@ -26,7 +26,6 @@ use Rattle.gtp_match.specs.declared.verdicts.Action.TheVariants.{Start, Send, Wa
 use Rattle.gtp_match.specs.declared.verdicts.Verdict.{Verdict}
 use Rattle.gtp_match.proofs.NextLemmas.{next_live, next_done}
 use Rattle.gtp_match.proofs.SaysLemmas.{down_is_none, idle_if, MayBeSent, may_be_sent}
-use Rattle.gtp_match.proofs.ScriptLemmas.{no_genmove}
 use Rattle.gtp_match.proofs.SoundLemmas.{maker_is_up}
 
 -- ---- who has to answer

@@ -35,6 +35,7 @@ pub mod TellingLemmas
 pub mod DueLemmas
 pub mod QuietLemmas
 pub mod AskedLemmas
+pub mod StepLemmas
 pub mod UndoLemmas
 pub mod NeverLemmas
 pub mod FaultLemmas

@@ -1,14 +1,15 @@
 -- Words that are as many as some distinct points, each of which is among them, name each point once.
-use Rattle.std.proofs.Common.{◌≡◌, ◌≢◌, ℕ, suc, ◌<◌, List, [], ◌∷◌, ◌++◌, length, map, Option, Some, None, Bool, true}
+use Rattle.std.proofs.Common.{◌≡◌, ◌≢◌, ℕ, zero, suc, ◌<◌, List, [], ◌∷◌, ◌++◌, length, map, Option, Some, None, Bool, true}
 use Rattle.std.proofs.Common.{false, refl, sym, ◌∙◌, ap, subst, arith, eqb, ◌||◌, ◌&&◌, length-append}
-use Rattle.std.specs.Prelude.{slice_index_or}
+use Rattle.std.specs.Prelude.{slice_index_or, Contains}
 use Rattle.std.specs.List.{list_all, list_any, AllPairs}
 use Rattle.std.specs.List.Sorted.{IsPermutation}
 use Rattle.std.proofs.lemmas.Bool.Decides.{nat_tests}
 use Rattle.std.proofs.lemmas.Bool.{eqb-true}
-use Rattle.std.proofs.lemmas.List.{map-append}
+use Rattle.std.proofs.lemmas.List.{map-append, length-map}
 use Rattle.std.proofs.lemmas.List.Sorted.{IsPermutation-refl, IsPermutation-sym, IsPermutation-trans}
 use Rattle.std.proofs.lemmas.List.Sorted.{IsPermutation-cons, IsPermutation-middle}
+use Rattle.std.proofs.lemmas.List.Sorted.{length_permutation, Contains-permutation}
 use Rattle.go_base.specs.Vertex.{vertex_of}
 use Rattle.go_base.specs.declared.vertices.Vertex.{Vertex}
 use Rattle.go_base.specs.declared.vertices.Vertex.TheVariants.{Pass, At}
@@ -69,6 +70,10 @@ other_point : (p q : ℕ) (word : List ℕ) → p ≢ q → vertex_of word ≡ S
 other_point p q word other e = ap (is_at q) e ∙ other_number p q other
 
 -- ---- the points
+
+either_true : (a b : Bool) → b ≡ true → (a || b) ≡ true
+either_true true b e = refl
+either_true false b e = e
 
 both_true : (a b : Bool) → (a && b) ≡ true → (a ≡ true) × (b ≡ true)
 both_true true b e = (refl, e)
@@ -160,6 +165,46 @@ each_once (p ∷ points) words distinct same all =
     (λ i j d less inside. distinct (suc i) (suc j) d (omega (arith, less)) (omega (arith, inside))) few rest
     in
     subst (NamesEachOnce (p ∷ points)) (sym f.words_are) (one_more p points f.before f.word f.after is others)
+
+-- ---- and back
+
+names_it : (p n : ℕ) (w : List ℕ) → vertex_of w ≡ Some (At n) → n ≡ p → names_point p w ≡ true
+names_it p n w is same = ap (is_at p) is ∙ (let e : eqb n p ≡ true = grind (arith, nat_tests) in e)
+
+word_there : (p : ℕ) (named : List ℕ) (words : List (List ℕ)) → map vertex_of words ≡ map point_at named → (k : ℕ)
+    → k < length named → slice_index_or named k p ≡ p → list_any (names_point p) words ≡ true
+word_there p [] words e k less is = absurd (omega (arith, less))
+word_there p (n ∷ named) [] e k less is = absurd (cc)
+word_there p (n ∷ named) (w ∷ words) e zero less is =
+    let head : vertex_of w ≡ point_at n = cc in
+    rw (names_it p n w head is) refl
+word_there p (n ∷ named) (w ∷ words) e (suc k) less is =
+    let tail : map vertex_of words ≡ map point_at named = cc in
+    either_true (names_point p w) (list_any (names_point p) words)
+    (word_there p named words tail k (omega (arith, less)) is)
+
+all_there : (test : ℕ → Bool) (points : List ℕ) → ((p : ℕ) → Contains points p → test p ≡ true)
+    → list_all test points ≡ true
+all_there test [] each = refl
+all_there test (p ∷ points) each =
+    let here : test p ≡ true = each p (0, omega arith, refl) in
+    let rest : list_all test points ≡ true =
+    all_there test points (λ q there. each q (suc there.0, omega (arith, there.1), there.2)) in
+    rw (here, rest) refl
+
+pub names_them : (points : List ℕ) (words : List (List ℕ)) → NamesEachOnce points words
+    → names_points points words ≡ true
+names_them points words names =
+    let few : length words ≡ length points =
+    sym (length-map words vertex_of) ∙ ap length names.words_are ∙ length-map names.named point_at
+    ∙ length_permutation points names.named names.each_once in
+    let as_many : eqb (length words) (length points) ≡ true = grind (arith, nat_tests) in
+    let all = all_there (λ p. list_any (names_point p) words) points
+    (λ p there. by_place p (Contains-permutation points names.named p names.each_once there)) in
+    rw (as_many, all) refl
+  where
+    by_place : (p : ℕ) → Contains names.named p → list_any (names_point p) words ≡ true
+    by_place p there = word_there p names.named words names.words_are there.0 there.1 there.2
 
 pub named_once : (points : List ℕ) (words : List (List ℕ)) → AllPairs (λ p q. p ≢ q) points
     → names_points points words ≡ true → NamesEachOnce points words

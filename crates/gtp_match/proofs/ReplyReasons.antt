@@ -5,6 +5,7 @@ use Rattle.std.specs.Prelude.{◌⊎◌, codes, option_map}
 use Rattle.std.specs.Str.{str_to_ascii_lowercase}
 use Rattle.std.proofs.lemmas.Bool.Decides.{nat_tests}
 use Rattle.std.proofs.lemmas.Slice.Eq.{bytes_eq-Decides}
+use Rattle.go_base.specs.Handicap.{handicap_points}
 use Rattle.go_base.specs.Vertex.{vertex_of}
 use Rattle.go_base.specs.Word.{IsWord, is_word}
 use Rattle.go_base.specs.declared.colours.Colour.{Colour}
@@ -31,6 +32,7 @@ use Rattle.gtp_match.specs.ReplyWords.{choice_of_words}
 use Rattle.gtp_match.specs.Replying.{IsGenmove, ChoosesVertex, TellsMove, ChoosesResign, NamesOtherPoints, IsUnfit}
 use Rattle.gtp_match.specs.Replying.{ChoosesNothing, TellsRefusal, TellsUndone, TellsKept}
 use Rattle.gtp_match.specs.Sound.{IsPlay, IsUndo}
+use Rattle.gtp_match.proofs.NameLemmas.{names_them}
 
 -- what a reply to the command has said where this is its outcome
 abbrev pub Reason : GameRecord → Colour → Command → Reply → Outcome → Type 0
@@ -79,7 +81,16 @@ module _ (game : GameRecord) (s : Colour) (reply : Reply) where
       by_case : (reply.ok ≡ false) ⊎ (is_handicap game stones reply ≡ false)
           → (reply.ok ≡ false) ⊎ NamesOtherPoints game (command.FixedHandicap stones) reply
       by_case (inl failed) = inl failed
-      by_case (inr other) = inr (record { stones = stones; handicap = refl; other_points = other })
+      by_case (inr other) =
+          inr (record {
+            stones = stones;
+            handicap = refl;
+            other_points = λ names.
+                let same : false ≡ true =
+                sym other
+                ∙ names_them (handicap_points game.size stones) (reply_words reply.text.items) names in
+                cc;
+          })
 
   play_reason : (k : Command) → IsPlay k → (ok : Bool) → reply.ok ≡ ok → Reason game s k reply (play_outcome ok)
   play_reason k is true e = e

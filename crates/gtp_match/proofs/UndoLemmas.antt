@@ -6,7 +6,6 @@ use Rattle.go_base.specs.declared.colours.Colour.{Colour}
 use Rattle.gtp_match.specs.Controller.{script_or_genmove, undo_or, next_command}
 use Rattle.gtp_match.specs.Going.{IsSentNext}
 use Rattle.gtp_match.specs.Next.{next_of_free}
-use Rattle.gtp_match.specs.Next.{next}
 use Rattle.gtp_match.specs.Script.{script}
 use Rattle.gtp_match.specs.Sound.{IsSound, IsIdle, IsUndo}
 use Rattle.gtp_match.specs.declared.controller.Controller.{Controller}

@@ -10,7 +10,7 @@ use Rattle.gtp_wire.specs.declared.commands.Command.{Command}
 use Rattle.gtp_wire.specs.declared.replies.Reply.{Reply}
 use Rattle.gtp_wire.specs.declared.replies.ReplyFault.TheVariants as reply_fault
 use Rattle.gtp_match.specs.Calls.{Call, Calls, count_starts}
-use Rattle.gtp_match.specs.Controller.{new, to_move, next_command}
+use Rattle.gtp_match.specs.Controller.{new, to_move, in_step, next_command}
 use Rattle.gtp_match.specs.Hearing.{Hears}
 use Rattle.gtp_match.specs.Next.{next}
 use Rattle.gtp_match.specs.Replying.{EndsReply, IsGenmove}
@@ -58,6 +58,19 @@ IsDue c (Send side) =
 -- what comes next of a sound match is due
 abbrev pub NextIsDue : Type 0
 NextIsDue = (c : Controller) → IsSound c → IsDue c (next c)
+
+-- ---- who is in step
+
+-- nothing of the engine is unanswered, and it has confirmed as many commands as the script has
+pub record HasWholeScript (game : GameRecord) (engine : Incarnation) : Type 0 where
+  pub idle : engine.unanswered ≡ []
+  pub as_many : engine.confirmed ≡ length (script game)
+
+-- a side is in step exactly where it is up and so; nothing else counts
+abbrev pub InStepSays : Type 0
+InStepSays =
+    (c : Controller) (side : Colour)
+    → in_step c side ≡ true ↔ MatchOption (side_of c.sides side).up ⊥ (HasWholeScript c.game)
 
 -- ---- when a move is asked for, or taken back
 

@@ -1,6 +1,7 @@
 -- What bytes of a side, and a loss, may change of a match, and why: told of the replies themselves, without the table.
 use Rattle.std.specs.Prelude.{◌≡◌, ℕ, ◌+◌, ◌-◌, ◌<◌, ◌⊎◌, true, false, List, [], ◌∷◌, ◌++◌, length, drop, codes}
-use Rattle.std.specs.Prelude.{Option, None, Some, IsSome, Ok}
+use Rattle.std.specs.Prelude.{Option, None, Some, IsSome, MatchOption, Ok}
+use Rattle.go_base.specs.Handicap.{handicap_points}
 use Rattle.go_base.specs.Vertex.{SpellsVertex}
 use Rattle.go_base.specs.Word.{IsWord}
 use Rattle.go_base.specs.declared.colours.Colour.{Colour}
@@ -13,12 +14,13 @@ use Rattle.gtp_wire.specs.declared.commands.Command.TheVariants.{FixedHandicap, 
 use Rattle.gtp_wire.specs.declared.replies.Reply.{Reply}
 use Rattle.gtp_match.specs.Controller.{started, sent, lost}
 use Rattle.gtp_match.specs.Hearing.{Hears}
-use Rattle.gtp_match.specs.ReplyTable.{is_handicap}
+use Rattle.gtp_match.specs.ReplyWords.{NamesEachOnce}
+use Rattle.gtp_match.specs.Script.{script}
 use Rattle.gtp_wire.specs.Words.{reply_words}
 use Rattle.gtp_match.specs.Sides.{side_of}
 use Rattle.gtp_match.specs.Retakes.{with_retake}
 use Rattle.gtp_match.specs.Sound.{IsPlay, IsUndo}
-use Rattle.gtp_match.specs.Taking.{may_retake, has_all, taking_back}
+use Rattle.gtp_match.specs.Taking.{may_retake, taking_back}
 use Rattle.gtp_match.specs.Unanswered.{oldest}
 use Rattle.gtp_match.specs.declared.controller.Controller.{Controller}
 use Rattle.gtp_match.specs.declared.sides.Incarnation.{Incarnation}
@@ -144,13 +146,17 @@ pub record MakesMove (c new : Controller) (s : Colour) (bytes : List ℕ) (used 
 abbrev pub TellsRefusal : Command → Reply → Type 0
 TellsRefusal command reply = IsPlay command × (reply.ok ≡ false)
 
--- Why a move leaves the game: its maker took it back; it was refused, and its maker doesn't have the whole script; or
--- its maker, at which it was to be taken back, is put down by a fault.
+-- it is up, and has confirmed as many commands as the script has
+abbrev pub HasConfirmedAll : GameRecord → Option Incarnation → Type 0
+HasConfirmedAll game up = MatchOption up ⊥ (λ engine. engine.confirmed ≡ length (script game))
+
+-- Why a move leaves the game: its maker took it back; it was refused, and its maker isn't up with all commands of the
+-- script confirmed; or its maker, at which it was to be taken back, is put down by a fault.
 pub data WhyTakenBack (c : Controller) (s : Colour) (engine : Incarnation) (bytes : List ℕ) (used : ℕ)
     (fault : Option SideFault) : Type 0 where
   undone : HearsReply engine bytes used TellsUndone → WhyTakenBack c s engine bytes used fault
   refused : HearsReply engine bytes used TellsRefusal → may_retake c s engine ≡ true
-      → has_all c.game (side_of c.sides (other s)).up ≡ false → WhyTakenBack c s engine bytes used fault
+      → (¬ HasConfirmedAll c.game (side_of c.sides (other s)).up) → WhyTakenBack c s engine bytes used fault
   put_down : IsSome fault → taking_back c ≡ Some s → WhyTakenBack c s engine bytes used fault
 
 pub record TakesMoveBack (c new : Controller) (s : Colour) (bytes : List ℕ) (used : ℕ) (fault : Option SideFault)
@@ -178,17 +184,17 @@ OthersLeaveTheGame =
 -- ---- retakes
 
 -- The bytes end the refusal of a `play` that may be retaken: the number of the last move has one retake more. Where its
--- maker has the whole script, the move is to be taken back there, and stays in the record till then. Else it leaves the
--- record at once.
+-- maker is up and has confirmed all commands of the script, the move is to be taken back there, and stays in the record
+-- till then. Else it leaves the record at once.
 pub record CountsRetake (c new : Controller) (s : Colour) (bytes : List ℕ) (used : ℕ) : Type 0 where
   pub engine : Incarnation
   pub up : (side_of c.sides s).up ≡ Some engine
   pub heard : HearsReply engine bytes used TellsRefusal
   pub may : may_retake c s engine ≡ true
   pub one_more : new.retakes ≡ with_retake (length c.game.moves) c.retakes
-  pub pending : has_all c.game (side_of c.sides (other s)).up ≡ true
+  pub pending : HasConfirmedAll c.game (side_of c.sides (other s)).up
       → (taking_back new ≡ Some (other s)) × (new.game ≡ c.game)
-  pub gone : has_all c.game (side_of c.sides (other s)).up ≡ false → new.game ≡ without_last c.game
+  pub gone : (¬ HasConfirmedAll c.game (side_of c.sides (other s)).up) → new.game ≡ without_last c.game
 
 -- what is heard of a side leaves the retakes, or tells the refusal that is met by one
 abbrev pub RetakesAreTold : Type 0
@@ -220,11 +226,11 @@ pub record ChoosesNothing (command : Command) (reply : Reply) : Type 0 where
   pub no_vertex : (word : List ℕ) (vertex : Vertex) → reply_words reply.text.items ≡ word ∷ []
       → ¬ SpellsVertex vertex word
 
--- a success of `fixed_handicap` whose words aren't the points
+-- a success of `fixed_handicap` whose words aren't vertices on the handicap's points, each of them once
 pub record NamesOtherPoints (game : GameRecord) (command : Command) (reply : Reply) : Type 0 where
   pub stones : ℕ
   pub handicap : command ≡ FixedHandicap stones
-  pub other_points : is_handicap game stones reply ≡ false
+  pub other_points : ¬ NamesEachOnce (handicap_points game.size stones) (reply_words reply.text.items)
 
 -- none of `play`, `genmove` and `undo`; it failed, or named other points than the handicap's
 pub record IsUnfit (game : GameRecord) (command : Command) (reply : Reply) : Type 0 where

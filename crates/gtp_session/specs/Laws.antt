@@ -10,8 +10,9 @@ use Rattle.gtp_wire.specs.Replies.{written_reply}
 use Rattle.gtp_wire.specs.declared.lines.Line.{Line}
 use Rattle.gtp_session.specs.Policy.{May}
 use Rattle.go_base.specs.declared.choices.Choice.{Choice}
-use Rattle.gtp_session.specs.Commands.{answer, asked, id_of, succeeds, answer_move, answer_handicap, written_vertices}
+use Rattle.gtp_session.specs.Commands.{answer, asked, id_of, answer_move, answer_handicap, written_vertices}
 use Rattle.gtp_session.specs.Engine.{State, WrittenReply, Step}
+use Rattle.gtp_session.specs.TableLaws.{success}
 
 -- where a line asks no policy, its answer doesn't depend on a choice
 abbrev pub ChoicesDoNotCount : Type 0
@@ -26,13 +27,13 @@ FailuresKeepTheGame = (game : GameRecord) (line : Line) (choice : Choice)
 -- a legal move is made where the record has room
 abbrev pub LegalMovesAreMade : Type 0
 LegalMovesAreMade = (game : GameRecord) (colour : Colour) (vertex : Vertex) → HasRoom game → IsLegal game colour vertex
-    → answer_move game colour vertex ≡ succeeds (with_move game colour vertex) []
+    → answer_move game colour vertex ≡ success (with_move game colour vertex) []
 
 -- handicap stones are placed on an empty board
 abbrev pub HandicapsArePlaced : Type 0
 HandicapsArePlaced = (game : GameRecord) (stones : ℕ) → (IsTouched game → ⊥) → AllowsHandicap game.size stones
     → answer_handicap game (Some stones)
-    ≡ succeeds (record game { handicap = stones }) (written_vertices (handicap_points game.size stones))
+    ≡ success (record game { handicap = stones }) (written_vertices (handicap_points game.size stones))
 
 -- A line that asked the policy is answered by `resign`, and the game stays; or by a vertex that is legal, and it is
 -- played.

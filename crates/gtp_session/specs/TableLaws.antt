@@ -1,12 +1,12 @@
 -- Laws of the table of the commands: what it must do, in other words than its rows. Names, texts and numbers stand here
 -- as the page of the protocol has them.
-use Rattle.std.specs.Prelude.{◌≡◌, ◌≢◌, ◌⊎◌, ◌↔◌, ℕ, ◌<◌, ◌≤◌, ℤ, pos, negsuc, suc, Bool, true, false, ◌+◌, List, [], ◌∷◌, ◌++◌, length, slice_get, Option, Some, None, IsTrue, AllPairs, Contains, codes}
+use Rattle.std.specs.Prelude.{◌≡◌, ◌≢◌, ◌⊎◌, ◌↔◌, ℕ, ◌<◌, ◌≤◌, ℤ, pos, negsuc, suc, Bool, true, false, ◌+◌, ◌*◌, List, [], ◌∷◌, ◌++◌, length, slice_get, Option, Some, None, IsTrue, AllPairs, Contains, codes}
+use Rattle.std.specs.Fmt.{decimal}
 use Rattle.std.specs.List.{join_with_byte}
 use Rattle.go_base.specs.Int.{SpellsInt}
 use Rattle.go_base.specs.Komi.{SpellsKomi}
 use Rattle.go_base.specs.Colour.{SpellsColour}
 use Rattle.go_base.specs.Vertex.{SpellsVertex}
-use Rattle.go_base.specs.HalfPoints.{written_points}
 use Rattle.go_base.specs.Handicap.{AllowsHandicap}
 use Rattle.go_base.specs.declared.choices.Choice.{Choice}
 use Rattle.go_base.specs.declared.colours.Colour.{Colour}
@@ -21,7 +21,7 @@ use Rattle.gtp_session.specs.declared.commands.CommandName.TheVariants.{Protocol
 use Rattle.gtp_wire.specs.Lines.{lines}
 use Rattle.gtp_wire.specs.Replies.{written_reply}
 use Rattle.gtp_session.specs.Policy.{May}
-use Rattle.gtp_session.specs.Commands.{Answer, answer, asked, succeeds, fails, ends}
+use Rattle.gtp_session.specs.Commands.{Answer, answer, asked, ends}
 use Rattle.gtp_session.specs.Engine.{Engine, WrittenReply, Replies}
 
 -- ---- lines and their arguments
@@ -113,6 +113,29 @@ CanBeDone game ClearBoard words = Unit {0}
 CanBeDone game FinalScore words = Unit {0}
 CanBeDone game Showboard words = Unit {0}
 
+-- ---- answers
+
+-- a failure: the game stays as it was, and the text of the reply is this one
+abbrev pub failure : GameRecord → List ℕ → Answer
+failure game text = record { game = game; ok = false; text = text }
+
+-- a success: the game after it, and the text of the reply
+abbrev pub success : GameRecord → List ℕ → Answer
+success after text = record { game = after; ok = true; text = text }
+
+-- The text writes a number of half points as points: the digits of the whole points, and behind them `.5` where a half
+-- is left.
+pub data WritesPoints (half_points : ℕ) (text : List ℕ) : Type 0 where
+  whole : (points : ℕ) → half_points ≡ 2 * points → text ≡ decimal points → WritesPoints half_points text
+  and_half : (points : ℕ) → half_points ≡ 2 * points + 1 → text ≡ decimal points ++ codes ".5"
+      → WritesPoints half_points text
+
+-- the answer is a success that leaves the game, and its text is the colour and these half points as points
+pub record NamesLeader (given : Answer) (game : GameRecord) (colour : List ℕ) (half_points : ℕ) : Type 0 where
+  pub points : List ℕ
+  pub written : WritesPoints half_points points
+  pub is : given ≡ success game (colour ++ points)
+
 -- ---- the laws
 
 -- a line succeeds exactly where it names a command that can be done
@@ -126,29 +149,29 @@ LinesSucceedWhereTheyCan = (game : GameRecord) (id : Option ℕ) (words : List (
 -- of stones that isn't allowed.
 pub record FirstCausesAreTold : Type 0 where
   pub too_long : (game : GameRecord) (choice : Choice)
-      → answer game line.TooLong choice ≡ fails game (codes "syntax error")
+      → answer game line.TooLong choice ≡ failure game (codes "syntax error")
   pub unread : (game : GameRecord) (id : Option ℕ) (words : List (List ℕ)) (choice : Choice) (command : CommandName)
       → Names words command → ¬ CanBeRead command words
-      → answer_with game id words choice ≡ fails game (codes "syntax error")
+      → answer_with game id words choice ≡ failure game (codes "syntax error")
   pub size : (game : GameRecord) (id : Option ℕ) (words : List (List ℕ)) (choice : Choice)
       → Names words Boardsize → CanBeRead Boardsize words → ¬ CanBeDone game Boardsize words
-      → answer_with game id words choice ≡ fails game (codes "unacceptable size")
+      → answer_with game id words choice ≡ failure game (codes "unacceptable size")
   pub full : (game : GameRecord) (id : Option ℕ) (words : List (List ℕ)) (choice : Choice) (command : CommandName)
       → Names words command → CanBeRead command words → (command ≡ Play) ⊎ (command ≡ Genmove) → ¬ TakesMove game
-      → answer_with game id words choice ≡ fails game (codes "record full")
+      → answer_with game id words choice ≡ failure game (codes "record full")
   pub illegal : (game : GameRecord) (id : Option ℕ) (words : List (List ℕ)) (choice : Choice)
       → Names words Play → CanBeRead Play words → TakesMove game → ¬ CanBeDone game Play words
-      → answer_with game id words choice ≡ fails game (codes "illegal move")
+      → answer_with game id words choice ≡ failure game (codes "illegal move")
   pub touched : (game : GameRecord) (id : Option ℕ) (words : List (List ℕ)) (choice : Choice)
       → Names words FixedHandicap → CanBeRead FixedHandicap words → IsTouched game
-      → answer_with game id words choice ≡ fails game (codes "board not empty")
+      → answer_with game id words choice ≡ failure game (codes "board not empty")
   pub stones : (game : GameRecord) (id : Option ℕ) (words : List (List ℕ)) (choice : Choice)
       → Names words FixedHandicap → CanBeRead FixedHandicap words → ¬ IsTouched game
       → ¬ CanBeDone game FixedHandicap words
-      → answer_with game id words choice ≡ fails game (codes "invalid number of stones")
+      → answer_with game id words choice ≡ failure game (codes "invalid number of stones")
   pub nothing : (game : GameRecord) (id : Option ℕ) (words : List (List ℕ)) (choice : Choice)
       → Names words Undo → ¬ CanBeDone game Undo words
-      → answer_with game id words choice ≡ fails game (codes "cannot undo")
+      → answer_with game id words choice ≡ failure game (codes "cannot undo")
 
 -- Whatever the line, the game after it has the ko rule of the game before it, and the other parts too, but for those
 -- that the command of the line is there to change.
@@ -178,31 +201,29 @@ pub record ListedCommandsAreKnown : Type 0 where
   pub each : (command : CommandName) → Contains rows (standard_name command)
   pub once : AllPairs (λ a b. a ≢ b) rows
   pub listed : (game : GameRecord) (id : Option ℕ) (more : List (List ℕ)) (choice : Choice)
-      → answer_with game id (codes "list_commands" ∷ more) choice ≡ succeeds game (join_with_byte 10 rows)
+      → answer_with game id (codes "list_commands" ∷ more) choice ≡ success game (join_with_byte 10 rows)
   pub known : (game : GameRecord) (id : Option ℕ) (word : List ℕ) (more : List (List ℕ)) (choice : Choice)
       → Contains rows word
-      → answer_with game id (codes "known_command" ∷ word ∷ more) choice ≡ succeeds game (codes "true")
+      → answer_with game id (codes "known_command" ∷ word ∷ more) choice ≡ success game (codes "true")
   pub others : (game : GameRecord) (id : Option ℕ) (word : List ℕ) (more : List (List ℕ)) (choice : Choice)
       → ¬ Contains rows word
-      → answer_with game id (codes "known_command" ∷ word ∷ more) choice ≡ succeeds game (codes "false")
+      → answer_with game id (codes "known_command" ∷ word ∷ more) choice ≡ success game (codes "false")
   pub unknown : (game : GameRecord) (id : Option ℕ) (words : List (List ℕ)) (choice : Choice)
       → ((word : List ℕ) → Contains rows word → slice_get words 0 ≢ Some word)
-      → answer_with game id words choice ≡ fails game (codes "unknown command")
+      → answer_with game id words choice ≡ failure game (codes "unknown command")
 
 -- `final_score` names Black, with the lead in points, where the score is Black's, and White where it is White's; where
 -- it is even the answer is `0`.
 pub record ScoresNameTheLeader : Type 0 where
   pub black : (game : GameRecord) (id : Option ℕ) (more : List (List ℕ)) (choice : Choice) (n : ℕ)
       → score game ≡ pos (suc n)
-      → answer_with game id (codes "final_score" ∷ more) choice
-      ≡ succeeds game (codes "B+" ++ written_points (suc n))
+      → NamesLeader (answer_with game id (codes "final_score" ∷ more) choice) game (codes "B+") (suc n)
   pub white : (game : GameRecord) (id : Option ℕ) (more : List (List ℕ)) (choice : Choice) (n : ℕ)
       → score game ≡ negsuc n
-      → answer_with game id (codes "final_score" ∷ more) choice
-      ≡ succeeds game (codes "W+" ++ written_points (n + 1))
+      → NamesLeader (answer_with game id (codes "final_score" ∷ more) choice) game (codes "W+") (n + 1)
   pub even : (game : GameRecord) (id : Option ℕ) (more : List (List ℕ)) (choice : Choice)
       → score game ≡ pos 0
-      → answer_with game id (codes "final_score" ∷ more) choice ≡ succeeds game (codes "0")
+      → answer_with game id (codes "final_score" ∷ more) choice ≡ success game (codes "0")
 
 -- ---- replies
 

@@ -14,15 +14,15 @@ use thiserror::Error;
 #[error("broken stream")]
 pub struct Broken;
 
-/// A reader that counts its reads, those that found the end and those that failed, and tells what the last one gave. Each
-/// count stays at its greatest value, 2^64 - 1.
+/// A reader that counts its reads, those that found the end and those that failed, and tells what the last one gave.
+/// Each count stays at its greatest value, 2^64 - 1.
 pub trait Incoming {
-    // The bytes that reads will give from here on, where they are known, how many reads were made, how many of them gave
-    // no byte and how many failed, and how many bytes the last one gave.
+    // The bytes that reads will give from here on, where they are known, how many reads were made, how many of them
+    // gave no byte and how many failed, and how many bytes the last one gave.
     ghost shown: { Self → Source };
 
-    /// Reads into the front of the buffer, and returns how many bytes it read. `Ok(0)` from a read into a buffer that has
-    /// room is the end of the input.
+    /// Reads into the front of the buffer, and returns how many bytes it read. `Ok(0)` from a read into a buffer that
+    /// has room is the end of the input.
     ///
     /// # Errors
     ///
@@ -41,8 +41,8 @@ pub trait Incoming {
 /// A writer that counts the calls that failed, and tells whether the last one did and whether what it took waits for a
 /// flush.
 pub trait Outgoing {
-    // The bytes that the writer holds, where they are known, how many writes and flushes failed, how many bytes the last
-    // call took, and whether a byte that was taken waits for a flush.
+    // The bytes that the writer holds, where they are known, how many writes and flushes failed, how many bytes the
+    // last call took, and whether a byte that was taken waits for a flush.
     ghost shown: { Self → Sink };
 
     /// Takes bytes from the front of the text, and returns how many: at least one of a text that is not empty, or it
@@ -94,16 +94,16 @@ pub fn send<W: Outgoing>(writer: &mut W, text: &[u8]) -> Result<(), Broken>
 }
 
 /// Any reader or writer of the standard library, with its counts: its reads, those that found the end, its calls that
-/// failed, what the last call did, and whether what it took waits for a flush. A write that takes no byte of a text that
-/// isn't empty counts as failed.
+/// failed, what the last call did, and whether what it took waits for a flush. A write that takes no byte of a text
+/// that isn't empty counts as failed.
 #[derive(Drop)]
 pub struct Counted<T> {
     pub(crate) inner: T,
     pub(crate) reads: u64,
     pub(crate) ends: u64,
     pub(crate) failures: u64,
-    /// How many bytes the last call gave or took; `None` where it failed. No program looks at it: the contracts do, which
-    /// say by it that no call follows one that failed.
+    /// How many bytes the last call gave or took; `None` where it failed. No program looks at it: the contracts do,
+    /// which say by it that no call follows one that failed.
     pub(crate) last: Option<usize>,
     pub(crate) waiting: bool,
 }

@@ -10,7 +10,8 @@ use Rattle.gtp_wire.specs.declared.replies.Reply.{Reply}
 use Rattle.gtp_wire.specs.declared.replies.ReplyFault.TheVariants.{NoStatus}
 use Rattle.gtp_wire.specs.Bytes.{is_kept, space_for_tab, is_newline, is_space, is_blank}
 use Rattle.gtp_wire.specs.Replies.{prepared, behind, past_blanks, is_status, IsReply, IsFirst, IsNoStatus}
-use Rattle.gtp_wire.specs.AnyText.{IsControl, IsPassedOver, BeginsNone, BeginsWithStatus, EndsWithTwoNewlines, EndsStrangely, AnswersHaveShapes}
+use Rattle.gtp_wire.specs.AnyText.{IsControl, IsPassedOver, BeginsNone, BeginsWithStatus, EndsWithTwoNewlines}
+use Rattle.gtp_wire.specs.AnyText.{EndsStrangely, AnswersHaveShapes}
 use Rattle.gtp_wire.proofs.LineLemmas.{test_cases}
 use Rattle.gtp_wire.proofs.NewlineLemmas.{or_parts}
 use Rattle.gtp_wire.proofs.ReplyLemmas.{no_status_begun}

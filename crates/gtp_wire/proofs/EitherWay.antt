@@ -20,9 +20,9 @@ use Rattle.gtp_wire.proofs.LineLemmas.{test_cases}
 use Rattle.gtp_wire.proofs.NewlineLemmas.{has_two_newlines_front, two_newlines}
 use Rattle.gtp_wire.proofs.WrittenLemmas.{last_of}
 use Rattle.gtp_wire.proofs.ReplyLaws.{prepared-append}
-use Rattle.gtp_wire.proofs.ReplyReadingLemmas.{read_removed, read_blank, read_status, read_no_status, read_body, read_newline}
-use Rattle.gtp_wire.proofs.ReplyReadingLemmas.{read_after_newline, read_done, read_nothing, reading_quiet, reading_fits}
-use Rattle.gtp_wire.proofs.ReplyReadingLemmas.{first_overlong, first_more, reply_told}
+use Rattle.gtp_wire.proofs.ReplyReadingLemmas.{read_removed, read_blank, read_status, read_no_status, read_body}
+use Rattle.gtp_wire.proofs.ReplyReadingLemmas.{read_newline, read_after_newline, read_done, read_nothing, reading_quiet}
+use Rattle.gtp_wire.proofs.ReplyReadingLemmas.{reading_fits, first_overlong, first_more, reply_told}
 use Rattle.gtp_wire.proofs.AnswerShapes.{HasBegun, begun_shape}
 use Rattle.gtp_wire.proofs.Controls.{control_removed}
 

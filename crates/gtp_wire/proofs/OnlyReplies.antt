@@ -1,7 +1,7 @@
 -- The laws of replies hold of no other way to tell.
 use Rattle.std.proofs.Common.{◌≡◌, ℕ, ◌+◌, ◌<◌, ◌≤◌, List, [], ◌∷◌, ◌++◌, length, take, drop, Option, Some}
-use Rattle.std.proofs.Common.{Bool, true, false, refl, sym, ◌∙◌, ap, subst, arith, cond, eqb, ◌⊎◌, inl, inr, Result, Ok, Err}
-use Rattle.std.proofs.Common.{append_assoc, append-nil, length-append, length-drop}
+use Rattle.std.proofs.Common.{Bool, true, false, refl, sym, ◌∙◌, ap, subst, arith, cond, eqb, ◌⊎◌, inl, inr, Result, Ok}
+use Rattle.std.proofs.Common.{Err, append_assoc, append-nil, length-append, length-drop}
 use Rattle.std.proofs.lemmas.Bool.{cases_lt, eqb-true}
 use Rattle.std.proofs.lemmas.List.{same_from_push, take-append-drop, take_all, take-take, length-take-le}
 use Rattle.std.proofs.lemmas.List.Elements.{All-from_recursion}
@@ -381,7 +381,8 @@ first_reads = record {
         (first_at raw value (replies_say ok id body bytes value printed single fits has around ok_is id_is));
     control = λ front b c later value control fits first.
         first_at (front ++ b ∷ c ∷ later) value
-        (bytes_change_nothing.control front b c later (Ok value) control fits (reply_at (front ++ c ∷ later) value first));
+        (bytes_change_nothing.control front b c later (Ok value) control fits
+        (reply_at (front ++ c ∷ later) value first));
     tab = λ front later value first.
         first_at (front ++ 9 ∷ later) value
         (bytes_change_nothing.tab front later (Ok value) (reply_at (front ++ 32 ∷ later) value first));

@@ -15,7 +15,8 @@ use Rattle.gtp_wire.specs.Replies.{is_status}
 use Rattle.gtp_wire.specs.Replies.{Tells, IsFirst}
 use Rattle.gtp_wire.specs.private.ReplyReading.{IsReading}
 use Rattle.gtp_wire.specs.AnyText.{IsPassedOver, BeginsNone, FaultsHavePlaces}
-use Rattle.gtp_wire.proofs.ReplyReadingLemmas.{read_removed, read_blank, read_no_status, read_nothing, first_overlong, first_more}
+use Rattle.gtp_wire.proofs.ReplyReadingLemmas.{read_removed, read_blank, read_no_status, read_nothing, first_overlong}
+use Rattle.gtp_wire.proofs.ReplyReadingLemmas.{first_more}
 use Rattle.gtp_wire.proofs.Controls.{control_removed}
 
 -- one byte more that is passed over

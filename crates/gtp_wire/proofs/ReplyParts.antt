@@ -10,7 +10,8 @@ use Rattle.std.specs.Char.{is_ascii_digit, digit_value}
 use Rattle.std.specs.List.{AllByRecursion}
 use Rattle.std.specs.Str.Parse.{AllDigits}
 use Rattle.go_base.specs.Int.{SpellsInt, int_of}
-use Rattle.go_base.proofs.IntLemmas.{spells_int_of, int_of_spelled, option_cases, digit_bounds, not_digit_bounds, digit_value-digit}
+use Rattle.go_base.proofs.IntLemmas.{spells_int_of, int_of_spelled, option_cases, digit_bounds, not_digit_bounds}
+use Rattle.go_base.proofs.IntLemmas.{digit_value-digit}
 use Rattle.gtp_wire.specs.Bytes.{is_kept, space_for_tab, is_newline, is_space, is_blank}
 use Rattle.gtp_wire.specs.Replies.{prepared, front_of, behind}
 use Rattle.gtp_wire.specs.AnyText.{IsPrinted}

@@ -1,7 +1,9 @@
 -- What is written has no byte to spare, and no more bytes than are allowed.
-use Rattle.std.proofs.Common.{◌≡◌, ◌≢◌, ℕ, ◌+◌, ◌≤◌, List, [], ◌∷◌, ◌++◌, length, Option, Some, None, Bool, true, false}
-use Rattle.std.proofs.Common.{refl, ◌∙◌, ap, arith, cond, eqb, ◌⊎◌, inl, inr, length-append, reverse}
+use Rattle.std.proofs.Common.{◌≡◌, ◌≢◌, ℕ, ◌+◌, ◌≤◌, List, [], ◌∷◌, ◌++◌, length, Option, None, Bool, true, false}
+use Rattle.std.proofs.Common.{refl, sym, ◌∙◌, ap, arith, cond, eqb, ◌⊎◌, inl, inr, append_assoc, length-append, reverse, get_or}
+use Rattle.std.proofs.Common.{zero, suc, ◌&&◌}
 use Rattle.std.proofs.lemmas.Bool.Decides.{nat_tests}
+use Rattle.std.proofs.lemmas.Fmt.{decimal_is_IsNumeral, decimal_digit, first_decimal}
 use Rattle.std.proofs.lemmas.List.{reverse-append}
 use Rattle.std.proofs.lemmas.List.Elements.{All-from_recursion, recursion_from_All}
 use Rattle.std.specs.Prelude.{IfSome}
@@ -10,18 +12,19 @@ use Rattle.go_base.specs.Int.{most_int, written_int}
 use Rattle.gtp_wire.specs.declared.commands.Command.{Command}
 use Rattle.gtp_wire.specs.declared.commands.Command.TheVariants.{Boardsize, Komi, ClearBoard, FixedHandicap, Play}
 use Rattle.gtp_wire.specs.declared.commands.Command.TheVariants.{Genmove, Undo, Quit}
-use Rattle.gtp_wire.specs.Bytes.{is_kept, is_blank}
-use Rattle.gtp_wire.specs.Words.{id_words}
+use Rattle.gtp_wire.specs.Bytes.{is_kept, is_blank, is_newline}
 use Rattle.gtp_wire.specs.Commands.{words_of, name_of, arguments_of, IsWritable}
-use Rattle.gtp_wire.specs.Replies.{written_id, written_reply, spaced, is_shown, begins_blank}
+use Rattle.gtp_wire.specs.Replies.{written_id, written_reply, spaced, is_shown, begins_blank, has_two_newlines}
+use Rattle.gtp_wire.specs.Replies.{IsReplyText}
 use Rattle.gtp_wire.specs.private.LineReading.{is_plain}
-use Rattle.gtp_wire.specs.AnyText.{IsPrinted, HasInts, CommandsHaveNoByteToSpare, RepliesHaveNoByteToSpare, LimitsAreThese}
+use Rattle.gtp_wire.specs.AnyText.{IsPrinted, HasInts, CommandsHaveNoByteToSpare, RepliesHaveNoByteToSpare}
+use Rattle.gtp_wire.specs.AnyText.{LimitsAreThese, AreDigitsOf, IsTextOfLines}
 use Rattle.gtp_wire.proofs.LineLemmas.{AllByRecursion-append}
 use Rattle.gtp_wire.proofs.WordLemmas.{weight, length-join, plain_byte}
-use Rattle.gtp_wire.proofs.WrittenLemmas.{IsDigit, id_text, last_of}
+use Rattle.gtp_wire.proofs.WrittenLemmas.{IsDigit, id_text, last_of, all_shown}
 use Rattle.gtp_wire.proofs.WrittenReplies.{reply_short}
 use Rattle.gtp_wire.proofs.CommandWords.{line_plain, command_short}
-use Rattle.gtp_wire.proofs.NewlineLemmas.{no_two}
+use Rattle.gtp_wire.proofs.NewlineLemmas.{no_two, or_parts}
 
 -- ---- commands
 
@@ -42,12 +45,23 @@ weight_is : (ws : List (List ℕ)) → weight ws ≡ length (concat ws) + length
 weight_is [] = refl
 weight_is (w ∷ ws) = omega (arith, weight_is ws, length-append w (concat ws))
 
-joined_length : (id : Option ℕ) (command : Command) → length (join_with_byte 32 (id_words id ++ words_of command)) + 1
-    ≡ length (concat (id_words id ++ words_of command)) + length (id_words id ++ words_of command)
-joined_length None command =
+joined_length : (command : Command)
+    → length (join_with_byte 32 (words_of command)) + 1 ≡ length (concat (words_of command)) + length (words_of command)
+joined_length command =
     omega (arith, length-join (name_of command) (arguments_of command), weight_is (words_of command))
-joined_length (Some n) command =
-    omega (arith, length-join (written_int n) (words_of command), weight_is (written_int n ∷ words_of command))
+
+-- what is written of a number are its digits
+digits_written : (n : ℕ) → n ≤ 4294967295 → AreDigitsOf n (written_int n)
+digits_written n fits =
+    let numeral = decimal_is_IsNumeral n (omega arith) in
+    record { numeral = numeral.0; value = numeral.1; zero = no_zero n fits }
+  where
+    no_zero : (n : ℕ) → n ≤ 4294967295 → (more : List ℕ) → written_int n ≡ 48 ∷ more → more ≡ []
+    no_zero zero fits more e = let one = decimal_digit 0 (omega arith) in cc
+    no_zero (suc n) fits more e =
+        let first = first_decimal (suc n) (omega arith) (omega arith) in
+        let same : get_or (written_int (suc n)) 0 0 ≡ 48 = ap (λ ds. get_or ds 0 0) e in
+        absurd (omega (arith, first, same))
 
 -- a command whose numbers are ints may be written
 writable : (command : Command) → HasInts command → IsWritable command
@@ -61,14 +75,21 @@ writable Undo ints = tt
 writable Quit ints = tt
 
 pub commands_to_spare : CommandsHaveNoByteToSpare
-commands_to_spare id command fits ints limits = (
-  join_with_byte 32 (id_words id ++ words_of command),
-  refl,
-  All-from_recursion _ (join_with_byte 32 (id_words id ++ words_of command))
-      (all_printed (join_with_byte 32 (id_words id ++ words_of command))
-      (line_plain id command fits (writable command ints) limits)),
-  joined_length id command,
-)
+commands_to_spare = record {
+  without_id = λ command ints limits. (
+    join_with_byte 32 (words_of command),
+    refl,
+    All-from_recursion _ (join_with_byte 32 (words_of command))
+        (all_printed (join_with_byte 32 (words_of command))
+        (line_plain None command tt (writable command ints) limits)),
+    joined_length command,
+  );
+  with_id = λ n command fits. (
+    written_int n,
+    digits_written n fits,
+    append_assoc (written_int n) (32 ∷ join_with_byte 32 (words_of command)) (10 ∷ []),
+  );
+}
 
 -- ---- replies
 
@@ -103,13 +124,13 @@ reply_printed ok id text fits all = (
 
 pub replies_to_spare : RepliesHaveNoByteToSpare
 replies_to_spare = record {
-  without_text = λ ok id. omega (arith, length-append (written_id id) (10 ∷ 10 ∷ []));
-  with_text = λ ok id b more.
-      omega (
-        arith,
-        length-append (written_id id) (32 ∷ b ∷ more ++ 10 ∷ 10 ∷ []),
-        length-append (b ∷ more) (10 ∷ 10 ∷ []),
-      );
+  without_id = λ ok. refl;
+  with_id = λ ok n fits. (written_int n, digits_written n fits, refl);
+  with_text = λ ok id b more. (
+    cond ok 61 63 ∷ written_id id,
+    refl,
+    refl,
+  );
   printed = λ ok id text fits all.
       All-from_recursion _ (written_reply ok id text)
       (reply_printed ok id text fits (recursion_from_All _ text all));
@@ -123,9 +144,9 @@ shown_test b shown = elim shown [
   | inr h ↦ let low : 32 ≤ b = h.0 in let high : b ≤ 126 = h.1 in grind (arith, nat_tests)
 ]
 
-all_shown : (l : List ℕ) → AllByRecursion (λ b. (b ≡ 10) ⊎ ((32 ≤ b) × (b ≤ 126))) l → list_all is_shown l ≡ true
-all_shown [] all = refl
-all_shown (b ∷ l) all = rw (shown_test b all.0) (all_shown l all.1)
+shown_tests : (l : List ℕ) → AllByRecursion (λ b. (b ≡ 10) ⊎ ((32 ≤ b) × (b ≤ 126))) l → list_all is_shown l ≡ true
+shown_tests [] all = refl
+shown_tests (b ∷ l) all = rw (shown_test b all.0) (shown_tests l all.1)
 
 no_blank_test : (b : ℕ) → ((b ≡ 32) ⊎ (b ≡ 10) → ⊥) → is_blank b ≡ false
 no_blank_test b other =
@@ -145,16 +166,37 @@ no_blank_last (x ∷ xs) none =
     let z = last_of x xs in
     ap begins_blank (ap reverse z.2 ∙ reverse-append z.0 (z.1 ∷ [])) ∙ no_blank_test z.1 (λ is. none z.1 z.0 is z.2)
 
+blank_test : (b : ℕ) → (b ≡ 32) ⊎ (b ≡ 10) → is_blank b ≡ false → ⊥
+blank_test b (inl e) none = let no : is_blank 32 ≡ false = rw e at none in absurd (cc)
+blank_test b (inr e) none = let no : is_blank 10 ≡ false = rw e at none in absurd (cc)
+
+two_there : (front end : List ℕ) → has_two_newlines (front ++ 10 ∷ 10 ∷ end) ≡ false → ⊥
+two_there [] end none = absurd (cc)
+two_there (x ∷ []) end none = two_there [] end ((or_parts (is_newline x && is_newline 10) _ none).1)
+two_there (x ∷ y ∷ front) end none = two_there (y ∷ front) end ((or_parts (is_newline x && is_newline y) _ none).1)
+
+text_of_lines : (text : List ℕ) → IsReplyText text → IsTextOfLines text
+text_of_lines text t = record {
+  few = t.fits;
+  bytes = All-from_recursion _ text (all_shown text t.shown);
+  single = λ front end e. two_there front end (rw e at t.single);
+  first = λ b more blank e. absurd (blank_test b blank (rw e at t.front));
+  last = λ b more blank e.
+      absurd (blank_test b blank (ap begins_blank (sym (ap reverse e ∙ reverse-append more (b ∷ []))) ∙ t.end));
+}
+
+reply_text : (text : List ℕ) → IsTextOfLines text → IsReplyText text
+reply_text text t = record {
+  fits = t.few;
+  shown = shown_tests text (recursion_from_All _ text t.bytes);
+  single = no_two text t.single;
+  front = no_blank_first text t.first;
+  end = no_blank_last text t.last;
+}
+
 pub limits_are_these : LimitsAreThese
 limits_are_these = record {
-  texts = λ text few bytes single first last.
-      record {
-        fits = few;
-        shown = all_shown text (recursion_from_All _ text bytes);
-        single = no_two text single;
-        front = no_blank_first text first;
-        end = no_blank_last text last;
-      };
+  texts = λ text. (text_of_lines text, reply_text text);
   replies = λ ok id text fits few. reply_short ok id text fits few;
   commands = λ id command fits ints limits. command_short id command fits (writable command ints) limits;
 }

@@ -41,7 +41,7 @@ shown_byte b shown = elim (or_cases (is_newline b) _ shown) [
     and_parts true y e = (refl, e)
     and_parts false y e = absurd (cc)
 
-all_shown : (l : List ℕ) → list_all is_shown l ≡ true → AllByRecursion IsShown l
+pub all_shown : (l : List ℕ) → list_all is_shown l ≡ true → AllByRecursion IsShown l
 all_shown [] shown = tt
 all_shown (b ∷ l) shown = elim (test_cases (is_shown b)) [
   | inl e ↦ let rest : list_all is_shown l ≡ true = rw e at shown in (shown_byte b e, all_shown l rest)

@@ -1,9 +1,9 @@
 -- Laws of any text: what a byte does wherever it stands, and what words, replies and faults are. They stand in the
 -- numbers of the bytes, as the standard has them, and in none of the tests and constants of the definitions.
-use Rattle.std.specs.Prelude.{◌≡◌, ◌≢◌, ℕ, ◌+◌, ◌<◌, ◌≤◌, ◌⊎◌, ◌↔◌, Bool, if◌then◌else◌, List, [], ◌∷◌, ◌++◌, length, take}
-use Rattle.std.specs.Prelude.{All, Option, Some, None, IfSome, Result, Ok, Err}
+use Rattle.std.specs.Prelude.{◌≡◌, ◌≢◌, ℕ, ◌+◌, ◌<◌, ◌≤◌, ◌⊎◌, ◌↔◌, Bool, if◌then◌else◌, List, [], ◌∷◌, ◌++◌, length}
+use Rattle.std.specs.Prelude.{take, All, Option, Some, None, IfSome, Result, Ok, Err}
 use Rattle.std.specs.List.{concat, join_with_byte}
-use Rattle.std.specs.Str.Parse.{AllDigits}
+use Rattle.std.specs.Str.Parse.{AllDigits, IsNumeral, digits_value}
 use Rattle.go_base.specs.Int.{SpellsInt}
 use Rattle.gtp_wire.specs.declared.commands.Command.{Command}
 use Rattle.gtp_wire.specs.declared.commands.Command.TheVariants.{FixedHandicap}
@@ -14,9 +14,7 @@ use Rattle.gtp_wire.specs.declared.replies.ReplyFault.{ReplyFault}
 use Rattle.gtp_wire.specs.declared.replies.ReplyFault.TheVariants.{Overlong, NoStatus}
 use Rattle.gtp_wire.specs.Commands.{words_of, written_command, IsInLimits}
 use Rattle.gtp_wire.specs.Lines.{lines}
-use Rattle.gtp_wire.specs.Words.{id_words}
-use Rattle.gtp_wire.specs.Replies.{IsReply, IsFirst, IsReplyText, ReadsFirst, Tells, TellsNothing, written_id}
-use Rattle.gtp_wire.specs.Replies.{written_reply}
+use Rattle.gtp_wire.specs.Replies.{IsReply, IsFirst, IsReplyText, ReadsFirst, Tells, TellsNothing, written_reply}
 
 -- a control character that is removed: below 32, or 127; but not HT (9) and not LF (10) (the standard, preprocessing)
 abbrev pub IsControl : ℕ → Type 0
@@ -259,31 +257,50 @@ pub record RepliesAreTheOnlyReading : Type 0 where
 abbrev pub HasInts : Command → Type 0
 HasInts command = (stones : ℕ) → command ≡ FixedHandicap stones → stones ≤ 2147483647
 
--- A line that is written has no byte to spare: one behind each word, and all but the last, a newline, are printed.
-abbrev pub CommandsHaveNoByteToSpare : Type 0
-CommandsHaveNoByteToSpare = (id : Option ℕ) (command : Command)
-    → IfSome id (λ n. n ≤ 2147483647) → HasInts command → IsInLimits command
-    → (front : List ℕ) × (written_command id command ≡ front ++ 10 ∷ []) × (All IsPrinted front)
-    × (length front + 1 ≡ length (concat (id_words id ++ words_of command)) + length (id_words id ++ words_of command))
+-- The decimal digits of a number: one digit or more and nothing else, of that value, and none is a zero in front of
+-- others.
+pub record AreDigitsOf (n : ℕ) (digits : List ℕ) : Type 0 where
+  pub numeral : IsNumeral 10 digits
+  pub value : digits_value 10 digits ≡ n
+  pub zero : (more : List ℕ) → digits ≡ 48 ∷ more → more ≡ []
 
--- Nor has a reply that is written: the status, the digits of its id, two newlines, and, where there is a text, one byte
--- before it. Where the bytes of the text are newlines and printed bytes, so are all.
+-- A line that is written has no byte to spare: one behind each word, and all but the last, a newline, are printed. An id
+-- is its digits and a space in front of that line.
+pub record CommandsHaveNoByteToSpare : Type 0 where
+  pub without_id : (command : Command) → HasInts command → IsInLimits command
+      → (front : List ℕ) × (written_command None command ≡ front ++ 10 ∷ []) × (All IsPrinted front)
+      × (length front + 1 ≡ length (concat (words_of command)) + length (words_of command))
+  pub with_id : (n : ℕ) (command : Command) → n ≤ 4294967295
+      → (digits : List ℕ) × AreDigitsOf n digits
+      × (written_command (Some n) command ≡ digits ++ 32 ∷ written_command None command)
+
+-- Nor has a reply that is written: the status, the digits of its id, where it has one, and two newlines. A space and
+-- the text stand in front of these, where there is a text. Where the bytes of the text are newlines and printed bytes,
+-- so are all.
 pub record RepliesHaveNoByteToSpare : Type 0 where
-  pub without_text : (ok : Bool) (id : Option ℕ) → length (written_reply ok id []) ≡ length (written_id id) + 3
+  pub without_id : (ok : Bool) → written_reply ok None [] ≡ (if ok then 61 else 63) ∷ 10 ∷ 10 ∷ []
+  pub with_id : (ok : Bool) (n : ℕ) → n ≤ 4294967295
+      → (digits : List ℕ) × AreDigitsOf n digits
+      × (written_reply ok (Some n) [] ≡ (if ok then 61 else 63) ∷ (digits ++ 10 ∷ 10 ∷ []))
   pub with_text : (ok : Bool) (id : Option ℕ) (b : ℕ) (more : List ℕ)
-      → length (written_reply ok id (b ∷ more)) ≡ length (written_id id) + length (b ∷ more) + 4
+      → (front : List ℕ) × (written_reply ok id [] ≡ front ++ 10 ∷ 10 ∷ [])
+      × (written_reply ok id (b ∷ more) ≡ front ++ 32 ∷ b ∷ (more ++ 10 ∷ 10 ∷ []))
   pub printed : (ok : Bool) (id : Option ℕ) (text : List ℕ) → IfSome id (λ n. n ≤ 2147483647)
       → All (λ b. (b ≡ 10) ⊎ IsPrinted b) text → All (λ b. (b ≡ 10) ⊎ IsPrinted b) (written_reply ok id text)
 
--- What may be the text of a reply: at most 2,000 bytes, each a newline or one from the space (32) to `~` (126), no two
--- newlines in a row, and neither a space nor a newline at the front or at the end. The reply then has at most 2,048
--- bytes, and a command's line has at most 64. (The limits are own.)
+-- At most 2,000 bytes, each a newline or one from the space (32) to `~` (126), no two newlines in a row, and neither a
+-- space nor a newline at the front or at the end. (The limit is own.)
+pub record IsTextOfLines (text : List ℕ) : Type 0 where
+  pub few : length text ≤ 2000
+  pub bytes : All (λ b. (b ≡ 10) ⊎ ((32 ≤ b) × (b ≤ 126))) text
+  pub single : (front end : List ℕ) → text ≡ front ++ 10 ∷ 10 ∷ end → ⊥
+  pub first : (b : ℕ) (more : List ℕ) → (b ≡ 32) ⊎ (b ≡ 10) → text ≡ b ∷ more → ⊥
+  pub last : (b : ℕ) (more : List ℕ) → (b ≡ 32) ⊎ (b ≡ 10) → text ≡ more ++ b ∷ [] → ⊥
+
+-- What may be the text of a reply is just that. The reply then has at most 2,048 bytes, and a command's line has at most
+-- 64. (The limits are own.)
 pub record LimitsAreThese : Type 0 where
-  pub texts : (text : List ℕ) → length text ≤ 2000 → All (λ b. (b ≡ 10) ⊎ ((32 ≤ b) × (b ≤ 126))) text
-      → ((front end : List ℕ) → text ≡ front ++ 10 ∷ 10 ∷ end → ⊥)
-      → ((b : ℕ) (more : List ℕ) → (b ≡ 32) ⊎ (b ≡ 10) → text ≡ b ∷ more → ⊥)
-      → ((b : ℕ) (more : List ℕ) → (b ≡ 32) ⊎ (b ≡ 10) → text ≡ more ++ b ∷ [] → ⊥)
-      → IsReplyText text
+  pub texts : (text : List ℕ) → IsReplyText text ↔ IsTextOfLines text
   pub replies : (ok : Bool) (id : Option ℕ) (text : List ℕ) → IfSome id (λ n. n ≤ 2147483647) → length text ≤ 2000
       → length (written_reply ok id text) ≤ 2048
   pub commands : (id : Option ℕ) (command : Command)

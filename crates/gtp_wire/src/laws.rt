@@ -159,17 +159,18 @@ pub fn replies_leave_nothing()
     ensures { RepliesLeaveNothing }
 {}
 
-/// A command's line has no byte to spare.
+/// A command's line has no byte to spare: its words, one byte behind each, and an id's digits and a space in front.
 pub fn commands_have_no_byte_to_spare()
     ensures { CommandsHaveNoByteToSpare }
 {}
 
-/// A reply that is written has no byte to spare.
+/// A reply that is written has no byte to spare: the status, the id's digits, a space and the text, two newlines.
 pub fn replies_have_no_byte_to_spare()
     ensures { RepliesHaveNoByteToSpare }
 {}
 
-/// A text of at most 2,000 bytes may be written, a reply then has at most 2,048 and a command's line at most 64.
+/// What may be the text of a reply: at most 2,000 bytes, each a newline or 32 to 126, in lines without an empty one. A
+/// reply then has at most 2,048 bytes, and a command's line at most 64.
 pub fn limits_are_these()
     ensures { LimitsAreThese }
 {}

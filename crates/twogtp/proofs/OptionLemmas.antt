@@ -1,10 +1,12 @@
 -- The command line, and what the getters of its matches give.
-use Rattle.std.proofs.Common.{◌≡◌, ℕ, true, List, [], Option, Some, None, refl}
+use Rattle.std.proofs.Common.{◌≡◌, ◌∙◌, ℕ, false, true, List, [], Option, Some, None, ap, refl}
 use Rattle.std.specs.Borrow.{Bor}
 use Rattle.std.specs.Prelude.{◌<◌, ◌^◌, Ok, Err, Result, option_map, unwrap_or}
 use Rattle.std.specs.Str.Parse.{IsNumeral, ParsesUnsigned, digits_value, without_leading_plus}
 use Rattle.clap.specs.Matches.{ReadsOne}
-use Rattle.clap.specs.Words.{Text, is_simple, is_simple_and_free}
+use Rattle.clap.specs.Words.{AddsArg, App, Rule, Text, app_of, is_simple, is_simple_and_free, rule_of, with_rule}
+use Rattle.clap.specs.declared.builder.arg.Arg.{Arg}
+use Rattle.clap.specs.declared.builder.command.Command.{Command}
 use Rattle.clap.proofs.OnLiterals.{clap_on_literals}
 use Rattle.twogtp.specs.Options.{command_line}
 
@@ -17,6 +19,12 @@ is_simple-command_line = refl
 pub is_simple_and_free-command_line : is_simple_and_free command_line ≡ true
 unfolding clap_on_literals
 is_simple_and_free-command_line = refl
+
+-- an option that is added to a command adds its rule to the command line
+pub with_rule-from_added : (old new : Command) (option : Arg) (app : App) (rule : Rule) → AddsArg old option new
+    → option.global ≡ false → app_of old ≡ app → rule_of option ≡ rule → app_of new ≡ with_rule app rule
+with_rule-from_added old new option app rule adds local is is_rule =
+    adds.shape local ∙ (ap (λ it. with_rule it (rule_of option)) is ∙ ap (with_rule app) is_rule)
 
 -- a text, or the empty text where there is none
 pub now-unwrap_or : (o : Option (Bor Text)) (d : Bor Text) → d.now ≡ []

@@ -1,5 +1,5 @@
 -- Texts on the streams that the program writes to. (Own.)
-use Rattle.std.specs.Prelude.{◌⊎◌, ◌≡◌, ◌≢◌, ℕ, List, [], Option, IfSome}
+use Rattle.std.specs.Prelude.{◌⊎◌, ◌≡◌, ◌≢◌, ℕ, List, []}
 use Rattle.std.specs.Io.KnownBytes.{Appends}
 use Rattle.twogtp.specs.declared.output.Output.{Ghosts}
 use Rattle.twogtp.specs.Pipes.{TakesPart}
@@ -30,7 +30,3 @@ IsWritten known text before after = GoesOut known text before after ⊎ BreaksAt
 pub record LineGoesOut {O : Type 0} (known : Ghosts O) (line : List ℕ) (before after : O) : Type 0 where
   pub out : line ≢ [] → GoesOut known line before after
   pub none : line ≡ [] → after ≡ before
-
--- What a value is displayed as, where that is specified, and else some text, has this property.
-abbrev pub OfDisplayed : Option (List ℕ) → (List ℕ → Type 0) → Type 0
-OfDisplayed shown Has = (text : List ℕ) × IfSome shown (λ bytes. text ≡ bytes) × Has text

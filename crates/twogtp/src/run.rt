@@ -1,7 +1,8 @@
 //! The program, over any writers and any means to start processes.
-ghost use Rattle.std.specs.Prelude.{◌≡◌, ◌⊎◌, map, true, false, string_bytes, IfOk, IfErr, OnOk, OnErr};
+ghost use Rattle.std.specs.Prelude.{◌≡◌, ◌⊎◌, map, true, false, string_bytes};
+ghost use Rattle.std.specs.Prelude.{IfOk, IfErr, IsErr, IsOkAnd, OnOk, OnErr};
 ghost use Rattle.twogtp.specs.Options.{AsksForNoWhy};
-ghost use Rattle.twogtp.specs.Writing.{BreaksAt, GoesOut, IsWritten, OfDisplayed};
+ghost use Rattle.twogtp.specs.Writing.{BreaksAt, GoesOut, IsWritten};
 ghost use Rattle.twogtp.specs.Status.{IsRequest, IsStatus, TellsFailure, done, exit_status, own_failure};
 ghost use Rattle.twogtp.specs.Status.{some_given_up, status_with, usage_failure};
 ghost use Rattle.twogtp.specs.Telling.{HasBegun, HasBegunToTell, HasDone, HasMistake, HasShown, HasTold, IsShown};
@@ -19,7 +20,6 @@ use clap::error::ErrorKind;
 use gtp_match::Verdict;
 use std::alloc::{AllocError, Global};
 use std::convert::AsStr;
-use std::fmt::Display;
 
 /// Plays the games that the words of the command line ask for, the first of which is the program's name, tells each on
 /// `output`, and returns the status that the program ends with:
@@ -70,7 +70,7 @@ pub fn run<A: AsStr, O: Output, E: Output, S: Starter>(
 {
     let options = match read_options(alloc, words) {
         Ok(options) => options,
-        Err(error) => return answer_error(alloc, error.kind(), &error, output, errors),
+        Err(error) => return answer_error(error.kind(), error.to_string(alloc), output, errors),
     };
     let plan = match plan_of(alloc, &options) {
         Ok(plan) => plan,
@@ -120,11 +120,11 @@ fn with_verdict(status: u8, verdict: Verdict) -> u8
     }
 }
 
-/// Tells what `clap` returns in place of options, an error of this kind with this text, and returns the status.
-fn answer_error<T: Display, O: Output, E: Output>(
-    alloc: Global,
+/// Tells what `clap` returns in place of options, an error of this kind with this text, and returns the status. Where
+/// memory was refused for the text, that is told instead.
+fn answer_error<O: Output, E: Output>(
     kind: ErrorKind,
-    text: &T,
+    text: Result<String, AllocError>,
     output: &mut O,
     errors: &mut E,
 ) -> u8
@@ -133,29 +133,28 @@ fn answer_error<T: Display, O: Output, E: Output>(
     ensures quiet { result ≡ done → errors.new ≡ errors.old }
     ensures mistake { result ≡ usage_failure → ¬ IsRequest kind }
     ensures memory { kind ≡ ErrorKind.OutOfMemory → result ≡ own_failure }
-    // The text of a mistake is told, once, unless memory is refused for it.
-    ensures told { result ≡ usage_failure →
-        OfDisplayed (T.output text.now) (λ shown. IsWritten E.Output shown errors.old errors.new)
-        ⊎ TellsFailure E.Output Failure.OutOfMemory errors.old errors.new }
+    // The text of a mistake is told, once.
+    ensures told { result ≡ usage_failure → IsOkAnd text (λ text.
+        IsWritten E.Output (string_bytes text) errors.old errors.new) }
     // A text that was asked for was written once.
-    ensures shown { result ≡ done → IsRequest kind
-        × OfDisplayed (T.output text.now) (λ shown. GoesOut O.Output shown output.old output.new) }
-    // A mistake in the words is no failure of the program's own.
+    ensures shown { result ≡ done → IsRequest kind × IsOkAnd text (λ text.
+        GoesOut O.Output (string_bytes text) output.old output.new) }
+    // A mistake in the words is no failure of the program's own, unless memory was refused for its
+    // text.
     ensures own { result ≡ own_failure →
-        (((kind ≡ ErrorKind.OutOfMemory) ⊎ IsRequest kind) × (output.new ≡ output.old)
+        (((kind ≡ ErrorKind.OutOfMemory) ⊎ IsErr text) × (output.new ≡ output.old)
         × TellsFailure E.Output Failure.OutOfMemory errors.old errors.new)
         ⊎ (IsRequest kind
-        × OfDisplayed (T.output text.now) (λ shown. BreaksAt O.Output shown output.old output.new)
+        × IsOkAnd text (λ text. BreaksAt O.Output (string_bytes text) output.old output.new)
         × TellsFailure E.Output Failure.Write errors.old errors.new) }
 {
     if kind == ErrorKind::OutOfMemory {
         return tell(Failure::OutOfMemory, errors);
     }
     if is_request(kind) {
-        show(text.to_string(alloc), output, errors)
+        show(text, output, errors)
     } else {
-        tell_mistake(text.to_string(alloc), errors);
-        2
+        tell_mistake(text, errors)
     }
 }
 
@@ -190,17 +189,18 @@ fn show<O: Output, E: Output>(
     }
 }
 
-/// Tells the text of a mistake in the words, or, where memory was refused for it, that.
-fn tell_mistake<E: Output>(text: Result<String, AllocError>, errors: &mut E)
-    ensures told { IfOk text (λ text.
-        IsWritten E.Output (string_bytes text) errors.old errors.new) }
-    ensures refused { OnErr text (TellsFailure E.Output Failure.OutOfMemory errors.old errors.new) }
+/// Tells the text of a mistake in the words, unless memory was refused for it, and returns the status.
+fn tell_mistake<E: Output>(text: Result<String, AllocError>, errors: &mut E) -> u8
+    ensures told { IfOk text (λ text. (result ≡ usage_failure)
+        × IsWritten E.Output (string_bytes text) errors.old errors.new) }
+    ensures refused { OnErr text ((result ≡ own_failure)
+        × TellsFailure E.Output Failure.OutOfMemory errors.old errors.new) }
 {
     match text {
-        Ok(text) => write_or_break(errors, text.as_bytes()),
-        Err(AllocError) => {
-            // The status stays that of a mistake.
-            let _ = tell(Failure::OutOfMemory, errors);
+        Ok(text) => {
+            write_or_break(errors, text.as_bytes());
+            2
         }
+        Err(AllocError) => tell(Failure::OutOfMemory, errors),
     }
 }

@@ -9,6 +9,11 @@ use Rattle.go_board.specs.Board.{place_count, at, IsStone}
 use Rattle.go_board.specs.private.Frame.{IsFramed}
 use Rattle.go_board.specs.Chain.{Joined, IsFree}
 
+-- a board, and the label of each of its places
+pub record Labelled : Type 0 where
+  pub board : List Cell
+  pub labels : List ℕ
+
 -- the label of a place
 abbrev pub label_of : List ℕ → ℕ → ℕ
 label_of labels p = slice_index_or labels p 0
@@ -91,11 +96,10 @@ pub record AreOnBoard (labels : List ℕ) : Type 0 where
 abbrev pub count_at : List ℕ → ℕ → ℕ
 count_at counts label = slice_index_or counts label 0
 
--- the board is one, and its labels and counts are those of its chains
-pub record AreChains (board : List Cell) (ls cs : List ℕ) : Type 0 where
+-- the board has edge all round, and its labels are those of its chains
+pub record AreChains (board : List Cell) (ls : List ℕ) : Type 0 where
   pub framed : IsFramed board
   pub labels : AreLabels board ls
-  pub counts : AreCounts board ls cs
 
 -- the list has just the places that are joined to a place
 abbrev pub IsChainOf : List Cell → ℕ → List ℕ → Type 0

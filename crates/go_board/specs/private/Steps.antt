@@ -5,7 +5,8 @@ use Rattle.go_base.specs.Point.{Neighbours}
 use Rattle.go_board.specs.declared.board.Cell.{Cell}
 use Rattle.go_board.specs.Board.{place_count, at, IsStone}
 use Rattle.go_board.specs.Chain.{Joined}
-use Rattle.go_board.specs.private.Label.{label_of, label_at, count_at}
+use Rattle.go_board.specs.private.Frame.{IsFramed}
+use Rattle.go_board.specs.private.Label.{Labelled, label_of, label_at, label_beside, count_at}
 
 -- what a label becomes where one label turns into another
 abbrev pub rename : ℕ → ℕ → ℕ → ℕ
@@ -24,6 +25,22 @@ pub record IsLowered (board : List Cell) (labels old new : List ℕ) (p : ℕ) :
 pub record IsRaised (board : List Cell) (labels old new : List ℕ) (p : ℕ) : Type 0 where
   pub length_is : length new ≡ length old
   pub each : (label : ℕ) → label < place_count → count_at new label ≡ count_at old label + label_at board labels label p
+
+-- the stones beside a point no more count for their labels
+pub record AreLowered (board : List Cell) (labels old new : List ℕ) (p : ℕ) : Type 0 where
+  pub length_is : length new ≡ length old
+  pub each : (label : ℕ) → label < place_count
+      → count_at new label ≡ count_at old label - label_beside board labels label p
+
+-- they count again
+pub record AreRaised (board : List Cell) (labels old new : List ℕ) (p : ℕ) : Type 0 where
+  pub length_is : length new ≡ length old
+  pub each : (label : ℕ) → label < place_count
+      → count_at new label ≡ count_at old label + label_beside board labels label p
+
+-- the most that a label counts: four neighbours for each place
+abbrev pub most_count : ℕ
+most_count = 2808
 
 -- no count is over this
 abbrev pub IsBelow : ℕ → List ℕ → Type 0
@@ -65,6 +82,19 @@ IsNamed board old new place =
     (IsStone (at board place) × IsChainNamed board old new place)
     ⊎ ((IsStone (at board place) → label_of old place ≢ 0) × (new ≡ old))
 
+-- the board is kept and has as many labels, and the chain of a place was named
+pub record NamesChain (old new : Labelled) (place : ℕ) : Type 0 where
+  pub board_is : new.board ≡ old.board
+  pub length_is : length new.labels ≡ length old.labels
+  pub named : IsNamed old.board old.labels new.labels place
+
+-- the board is kept, and these places have this label now, and all other places the labels of before
+pub record GivesLabel (old new : Labelled) (places : List ℕ) (label : ℕ) : Type 0 where
+  pub board_is : new.board ≡ old.board
+  pub length_is : length new.labels ≡ length old.labels
+  pub given : AreGiven new.labels places label
+  pub others : AreOthersKept old.labels new.labels places
+
 -- A stone on this place has `beside` neighbours of its chain. Without it none is left of the chain, or the stone was at
 -- its end, where no path between two others needs it, and the chain's label is another place.
 abbrev pub StaysWhole : ℕ → ℕ → ℕ → Type 0
@@ -73,6 +103,7 @@ StaysWhole beside label place = (beside ≡ 0) ⊎ ((beside ≡ 1) × (label ≢
 -- A stone was lifted from a place. The stones that have its label are those that a path joins to one of its neighbours;
 -- the other labels are those of their chains.
 pub record IsCut (board : List Cell) (labels : List ℕ) (place label : ℕ) : Type 0 where
+  pub framed : IsFramed board
   pub length_is : length labels ≡ place_count
   pub alike : (p q : ℕ) → IsStone (at board p) → Neighbours p q → at board q ≡ at board p
       → label_of labels p ≡ label_of labels q

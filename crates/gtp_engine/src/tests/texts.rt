@@ -41,8 +41,8 @@ static HELP: [&str; 12] = [
     "      --policy <POLICY>  What genmove plays: the first candidate, one drawn at random, or what the book says \
         [default: first] [possible values: first, random, book]",
     "      --seed <N>         Seed of the random policy, a whole number from 0 to 4294967295 [default: 1]",
-    "      --ko <RULE>        Boards that no play may bring back: the one before the previous move, or any that the game \
-        had [default: simple] [possible values: simple, positional]",
+    "      --ko <RULE>        Boards that no play may bring back: the one before the previous move, or any that the \
+        game had [default: simple] [possible values: simple, positional]",
     "      --book <TEXT>      Entries of the book policy, at most 2000, with commas between: each a vertex, resign, \
         or empty for a pass [default: empty]",
     "      --fault <TEXT>     A fault at the N-th genmove that succeeds, for tests: none, stop:N, cut:N:K, junk:N \

@@ -1,4 +1,5 @@
 use Rattle.go_board.proofs.ReplayLemmas.{stricter, allowed-new, never-back}
+use Rattle.go_board.proofs.RuleLemmas.{not-at-once, others-legal}
 use Rattle.go_board.proofs.laws.ko_rules.Goals as goal
 
 pub returns-clause-stricter : goal.returns-clause-stricter
@@ -9,3 +10,9 @@ returns-clause-new c = allowed-new
 
 pub returns-clause-never : goal.returns-clause-never
 returns-clause-never c = never-back
+
+pub returns-clause-last : goal.returns-clause-last
+returns-clause-last c = not-at-once
+
+pub returns-clause-others : goal.returns-clause-others
+returns-clause-others c = others-legal

@@ -1,9 +1,8 @@
-use Rattle.std.proofs.Common.{◌≡◌, false, arith, rules, length, take}
+use Rattle.std.proofs.Common.{◌≡◌, false, arith, rules}
 use Rattle.std.specs.Prelude.{is_some}
-use Rattle.std.specs.Io.KnownBytes.{Appends, Keeps}
+use Rattle.std.specs.Io.KnownBytes.{Keeps}
 use Rattle.std.proofs.KnownBytes.{Appends-kept, Appends-nil, Appends-trans, Keeps-refl, Keeps-trans}
 use Rattle.std.proofs.lemmas.Grind.{common_steps}
-use Rattle.std.proofs.lemmas.List.{length-append}
 use Rattle.gtp_wire.proofs.ReplyReadingLemmas.{read_nothing}
 use Rattle.twogtp.specs.Closing.{broke, ended, told}
 use Rattle.twogtp.specs.Pipes.{untouched}

@@ -1,8 +1,8 @@
-use Rattle.std.proofs.Common.{◌≡◌, ◌⊎◌, ◌∙◌, ℕ, List, inl, inr, arith, refl, subst}
+use Rattle.std.proofs.Common.{◌≡◌, ◌⊎◌, ◌∙◌, ℕ, Result, Ok, Err, inl, inr, arith, refl, subst}
+use Rattle.std.specs.Prelude.{string_bytes}
+use Rattle.std.specs.Result.{IsOkAnd}
 use Rattle.twogtp.specs.declared.failure.Failure.{Failure}
-use Rattle.twogtp.specs.declared.failure.Failure.TheVariants.{OutOfMemory}
-use Rattle.twogtp.specs.Writing.{IsWritten}
-use Rattle.twogtp.specs.Status.{TellsFailure, done, failure_line, own_failure, some_given_up, usage_failure}
+use Rattle.twogtp.specs.Status.{TellsFailure, done, own_failure, some_given_up, usage_failure}
 use Rattle.twogtp.proofs.PlanLemmas.{mistake_is_usage}
 use Rattle.twogtp.proofs.run.run.Goals as goal
 
@@ -12,6 +12,11 @@ never_one : (status : ℕ) → (status ≡ done) ⊎ (status ≡ usage_failure) 
 never_one status (inl zero) one = omega (arith, one, zero)
 never_one status (inr (inl two)) one = omega (arith, one, two)
 never_one status (inr (inr three)) one = omega (arith, one, three)
+
+-- a value of which something holds
+value_of : {T E : Type 0} (r : Result T E) (P : T → Type 0) → IsOkAnd r P → (x : T) × P x
+value_of (Ok x) P holds = (x, holds)
+value_of (Err e) P holds = absurd holds
 
 pub returns-in-Err-clause-status : goal.returns-in-Err-clause-status
 returns-in-Err-clause-status g c =
@@ -30,11 +35,7 @@ returns-in-Err-clause-quiet g c = λ range none. elim range [
 pub returns-in-Err-clause-usage : goal.returns-in-Err-clause-usage
 returns-in-Err-clause-usage g c = λ two.
     let is = c.kind.ensures in
-    let told : (text : List ℕ) × IsWritten g.E.Output text c.args.errors.now c.answer_error.new.errors =
-    elim (c.answer_error.ensures.told two) [
-      | inl shown ↦ (shown.0, shown.2)
-      | inr refused ↦ (failure_line OutOfMemory, refused)
-    ] in (
+    let told = value_of c.to_string.result _ (c.answer_error.ensures.told two) in (
       inl (record {
         kind = c.kind.result;
         mistake = c.answer_error.ensures.mistake two;
@@ -42,7 +43,7 @@ returns-in-Err-clause-usage g c = λ two.
           | inl refused ↦ let three = c.answer_error.ensures.memory (is ∙ refused) in absurd (omega (arith, two, three))
           | inr among ↦ rw is among
         ];
-        text = told.0;
+        text = string_bytes told.0;
         told = told.1;
       }),
       c.answer_error.ensures.usage two,
@@ -54,6 +55,7 @@ returns-in-Err-clause-played g c = elim [
   | inl zero ↦
       let is = c.kind.ensures in
       let shown = c.answer_error.ensures.shown zero in
+      let went = value_of c.to_string.result _ shown.1 in
       inl (
         refl,
         record {
@@ -66,8 +68,8 @@ returns-in-Err-clause-played g c = elim [
               | inr among ↦ rw is among
             ],
           );
-          text = shown.1.0;
-          shown = inl (zero, shown.1.2);
+          text = string_bytes went.0;
+          shown = inl (zero, went.1);
         },
       )
   | inr one ↦ absurd (never_one c.answer_error.result c.answer_error.ensures.status one)
@@ -78,7 +80,7 @@ returns-in-Err-clause-stopped g c = λ three.
     let is = c.kind.ensures in
     elim (c.answer_error.ensures.own three) [
       | inl same ↦ inl (refl, same.1, same.2)
-      | inr broke ↦ inr (inl (
+      | inr broke ↦ let part = value_of c.to_string.result _ broke.1 in inr (inl (
         refl,
         record {
           asked = (
@@ -89,8 +91,8 @@ returns-in-Err-clause-stopped g c = λ three.
               | inr among ↦ rw is among
             ],
           );
-          text = broke.1.0;
-          shown = inr (three, broke.1.2);
+          text = string_bytes part.0;
+          shown = inr (three, part.1);
         },
         broke.2,
       ))

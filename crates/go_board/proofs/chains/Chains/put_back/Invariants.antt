@@ -1,14 +1,11 @@
 use Rattle.std.proofs.Common.{length}
 use Rattle.go_board.specs.Board.{stone}
-use Rattle.go_board.specs.private.Label.{AreChains}
 use Rattle.go_board.proofs.PutBackLemmas.{IsPuttingBack}
 use Rattle.go_board.proofs.chains.Chains.put_back.Given as goal
 
 abbrev pub invariant-loop-place : goal.invariant-loop-place
-invariant-loop-place l = record {
-  putting : IsPuttingBack l.fn.self.board (stone l.fn.colour) l.fn.number l.fn.removed l.removed l.self.board l.count;
-  chains : AreChains l.self.board l.self.labels l.self.counts;
-}
+invariant-loop-place l =
+    IsPuttingBack l.fn.self (stone l.fn.colour) l.fn.number l.fn.removed l.removed l.self l.count
 
 abbrev pub decreases-loop-place : goal.decreases-loop-place
 decreases-loop-place l = length l.removed

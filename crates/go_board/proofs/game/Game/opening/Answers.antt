@@ -13,4 +13,4 @@ pub invariant_of-result : goal.invariant_of-result
 invariant_of-result c =
     IsKept-start c.args.size c.args.komi c.args.rule c.args.stones c.of-chains.result c.new-removed.result c.new.result
     c.start.ensures.limits c.half_points.ensures.limits c.requires
-    (c.of-chains.ensures.board ∙ c.start.ensures.board) c.of-chains.ensures.chains c.new-removed.ensures c.new.ensures
+    (c.of-chains.ensures ∙ c.start.ensures.board) c.new-removed.ensures c.new.ensures

@@ -6,9 +6,9 @@ use Rattle.go_board.specs.private.Removed.{IsAfterMove, IsUnmade}
 use Rattle.go_board.proofs.KeptLemmas.{after-last, enough-taken, IsKept-undo}
 use Rattle.go_board.proofs.game.Game.undo.Goals as goal
 
-pub unmake-taken-requires-clause-after : goal.unmake-taken-requires-clause-after
-unmake-taken-requires-clause-after c =
-    subst (λ (n : ℕ). IsAfterMove c.self.inside.chains.board c.self.inside.removed
+pub unmake-taken-requires : goal.unmake-taken-requires
+unmake-taken-requires c =
+    subst (λ (n : ℕ). IsAfterMove c.self.inside.chains c.self.inside.removed
     (record { colour = c.in-Some.last.colour; vertex = c.in-Some.last.vertex }) n) (sym c.len-number.ensures.value)
     (after-last c.self.inside c.pop.new.self.items c.in-Some.last.colour c.in-Some.last.vertex c.self.invariant
     c.in-Some.ensures.items)
@@ -18,9 +18,9 @@ without_taken-self-inside-requires c =
     enough-taken c.self.inside c.pop.new.self.items c.in-Some.last.colour c.in-Some.last.vertex
     c.unmake-taken.new.self c.unmake-taken.new.removed c.unmake-taken.result
     c.self.inside.taken_by_black Black c.self.invariant c.in-Some.ensures.items
-    (subst (λ (n : ℕ). IsUnmade c.self.inside.chains.board c.self.inside.removed
-    (record { colour = c.in-Some.last.colour; vertex = c.in-Some.last.vertex }) n c.unmake-taken.new.self.board
-    c.unmake-taken.new.removed c.unmake-taken.result) c.len-number.ensures.value c.unmake-taken.ensures.back)
+    (subst (λ (n : ℕ). IsUnmade c.self.inside.chains c.self.inside.removed
+    (record { colour = c.in-Some.last.colour; vertex = c.in-Some.last.vertex }) n c.unmake-taken.new.self
+    c.unmake-taken.new.removed c.unmake-taken.result) c.len-number.ensures.value c.unmake-taken.ensures)
     c.self.invariant.black_is
 
 pub without_taken-self-inside-requires-2 : goal.without_taken-self-inside-requires-2
@@ -28,9 +28,9 @@ without_taken-self-inside-requires-2 c =
     enough-taken c.self.inside c.pop.new.self.items c.in-Some.last.colour c.in-Some.last.vertex
     c.unmake-taken.new.self c.unmake-taken.new.removed c.unmake-taken.result
     c.self.inside.taken_by_white White c.self.invariant c.in-Some.ensures.items
-    (subst (λ (n : ℕ). IsUnmade c.self.inside.chains.board c.self.inside.removed
-    (record { colour = c.in-Some.last.colour; vertex = c.in-Some.last.vertex }) n c.unmake-taken.new.self.board
-    c.unmake-taken.new.removed c.unmake-taken.result) c.len-number.ensures.value c.unmake-taken.ensures.back)
+    (subst (λ (n : ℕ). IsUnmade c.self.inside.chains c.self.inside.removed
+    (record { colour = c.in-Some.last.colour; vertex = c.in-Some.last.vertex }) n c.unmake-taken.new.self
+    c.unmake-taken.new.removed c.unmake-taken.result) c.len-number.ensures.value c.unmake-taken.ensures)
     c.self.invariant.white_is
 
 pub invariant_of-self-2 : goal.invariant_of-self-2
@@ -39,9 +39,9 @@ invariant_of-self-2 c =
     c.ko_after-self-inside.result c.unmake-taken.new.removed c.unmake-taken.result
     c.without_taken-self-inside.result c.without_taken-self-inside-2.result c.pop.new.self c.self.invariant
     c.in-Some.ensures.items
-    (subst (λ (n : ℕ). IsUnmade c.self.inside.chains.board c.self.inside.removed
-    (record { colour = c.in-Some.last.colour; vertex = c.in-Some.last.vertex }) n c.unmake-taken.new.self.board
-    c.unmake-taken.new.removed c.unmake-taken.result) c.len-number.ensures.value c.unmake-taken.ensures.back)
-    c.unmake-taken.ensures.chains c.without_taken-self-inside.ensures c.without_taken-self-inside-2.ensures
+    (subst (λ (n : ℕ). IsUnmade c.self.inside.chains c.self.inside.removed
+    (record { colour = c.in-Some.last.colour; vertex = c.in-Some.last.vertex }) n c.unmake-taken.new.self
+    c.unmake-taken.new.removed c.unmake-taken.result) c.len-number.ensures.value c.unmake-taken.ensures)
+    c.without_taken-self-inside.ensures c.without_taken-self-inside-2.ensures
     (subst (λ (ms : List Move). IsKoAfter ms c.unmake-taken.new.removed c.ko_after-self-inside.result)
     (c.deref.ensures).0 c.ko_after-self-inside.ensures)
