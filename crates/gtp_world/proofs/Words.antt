@@ -13,7 +13,7 @@ use Rattle.gtp_session.proofs.Policies.{AllowsLawful}
 use Rattle.gtp_session.specs.Policy.{May}
 use Rattle.gtp_session.specs.Engine.{Engine}
 use Rattle.gtp_match.specs.declared.sides.Incarnation.{Incarnation}
-use Rattle.gtp_match.specs.declared.verdicts.Action.TheVariants.{Start, Done}
+use Rattle.gtp_match.specs.declared.verdicts.Action.TheVariants.{Start, Send, Done}
 use Rattle.gtp_match.specs.declared.verdicts.ForfeitCause.{ForfeitCause}
 use Rattle.gtp_match.specs.declared.verdicts.ForfeitCause.TheVariants.{RefusedPlay, NoMove, NoVertex, IllegalMove}
 use Rattle.gtp_match.specs.declared.verdicts.Verdict.{Verdict}
@@ -95,6 +95,7 @@ fourth_refusal rules c s h =
       by_other = by.2;
       repeats = h.repeats;
       retaken = h.often;
+      none_taken_back = h.nothing;
     }
 
 -- more starts than it may be restarted
@@ -141,9 +142,9 @@ fair_is rules c (Resign s) h = blames_none rules c (Resign s) (λ u f. cc f) (λ
 fair_is rules c Limit h = blames_none rules c Limit (λ u f. cc f) (λ u f. cc f) (λ u d f. cc f)
 
 pub putting_down_is : {B W : Type 0} (world : World B W) (event : Event) (side : Colour) → PutsDown world event side
-    → ((count : ℕ) × (event ≡ BrokenWrite count)) ⊎ (event ≡ End side)
+    → ((count : ℕ) × (event ≡ BrokenWrite count) × (next world.controller ≡ Send side)) ⊎ (event ≡ End side)
 putting_down_is world Act side h = absurd h
-putting_down_is world (BrokenWrite count) side h = inl (count, refl)
+putting_down_is world (BrokenWrite count) side h = inl (count, refl, h)
 putting_down_is world (ToEngine t count) side h = absurd h
 putting_down_is world (ToController t count) side h = absurd h
 putting_down_is world (Crash t count) side h = absurd h

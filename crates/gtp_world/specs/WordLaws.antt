@@ -9,7 +9,7 @@ use Rattle.go_board.specs.declared.rules.KoRule.{KoRule}
 use Rattle.go_board.specs.declared.rules.KoRule.TheVariants.{Simple, Positional}
 use Rattle.gtp_session.specs.Policy.{May}
 use Rattle.gtp_match.specs.declared.sides.Incarnation.{Incarnation}
-use Rattle.gtp_match.specs.declared.verdicts.Action.TheVariants.{Done}
+use Rattle.gtp_match.specs.declared.verdicts.Action.TheVariants.{Send, Done}
 use Rattle.gtp_match.specs.declared.verdicts.ForfeitCause.{ForfeitCause}
 use Rattle.gtp_match.specs.declared.verdicts.ForfeitCause.TheVariants.{RefusedPlay}
 use Rattle.gtp_match.specs.declared.verdicts.Verdict.{Verdict}
@@ -53,7 +53,7 @@ pub record AgreeingIsBeingThere (B W : Type 0) : Type 0 where
 -- ---- being fair
 
 -- The side refused a play, under positional ko against simple ko. The other side made the last move. With that move the
--- game is none under positional ko. Moves of its number were retaken three times before.
+-- game is none under positional ko. Moves of its number were retaken three times before. No move is to be taken back.
 pub record IsFourthRefusal (rules : Rules) (c : Controller) (side : Colour) (cause : ForfeitCause) : Type 0 where
   pub cause_is : cause ≡ RefusedPlay
   pub positional : rule_of rules side ≡ Positional
@@ -63,6 +63,7 @@ pub record IsFourthRefusal (rules : Rules) (c : Controller) (side : Colour) (cau
   pub by_other : last.colour ≡ other side
   pub repeats : ¬ IsGame (ruled Positional c.game)
   pub retaken : retakes_of c.retakes (length c.game.moves) ≡ 3
+  pub none_taken_back : c.pending ≡ None
 
 -- By the verdict no side is unfit. A side that is given up was started more often than it may be restarted. A side that
 -- forfeits does so for a fourth refusal.
@@ -77,10 +78,10 @@ abbrev pub FairBlamesFewest : Type 0
 FairBlamesFewest = (rules : Rules) (c : Controller) (verdict : Verdict) → IsFair rules c (Some verdict)
     → BlamesFewest rules c verdict
 
--- what puts a side down is a broken write or the end of its stream
+-- what puts a side down is the end of its stream, or a broken write where a command is to be sent to that side
 abbrev pub PuttingDownIsBreaking : Type 0 → Type 0 → Type 0
 PuttingDownIsBreaking B W = (world : World B W) (event : Event) (side : Colour) → PutsDown world event side
-    → ((count : ℕ) × (event ≡ BrokenWrite count)) ⊎ (event ≡ End side)
+    → ((count : ℕ) × (event ≡ BrokenWrite count) × (next world.controller ≡ Send side)) ⊎ (event ≡ End side)
 
 -- ---- the headline, with the ko rules
 
