@@ -3,4 +3,3 @@
 pub mod Lawful
 pub mod Outcome
 pub mod Pieces
-pub mod Sent

@@ -14,7 +14,7 @@ use Rattle.gtp_session.specs.Engine.{fresh_game_under}
 use Rattle.gtp_match.specs.declared.unanswered.SentCommand.{SentCommand}
 use Rattle.gtp_match.specs.Script.{script}
 use Rattle.gtp_session.specs.CommandAnswers.{line_of_command, after_command}
-use Rattle.gtp_session.specs.private.Sent.{MayBeSent}
+use Rattle.gtp_session.specs.Sent.{MayBeSent}
 use Rattle.gtp_session.specs.Spoken.{reply_of_answer}
 
 -- ---- commands and replies as bytes
