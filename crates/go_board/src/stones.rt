@@ -183,7 +183,9 @@ impl Stones {
         requires a { a < place_count }
         requires b { b < place_count }
         requires c { c < place_count }
-        ensures { self.new ≡ record self.old { labels = map (rename_three to a b c) self.old.labels } }
+        ensures { self.new ≡ record self.old {
+          labels = map (rename_three to a b c) self.old.labels;
+        } }
     {
         if a == to && b == to && c == to {
             return;
@@ -197,7 +199,9 @@ impl Stones {
         requires a { a < place_count }
         requires b { b < place_count }
         requires c { c < place_count }
-        ensures { self.new ≡ record self.old { labels = map (rename_three to a b c) self.old.labels } }
+        ensures { self.new ≡ record self.old {
+          labels = map (rename_three to a b c) self.old.labels;
+        } }
     {
         self.counts.merge(to, a);
         self.counts.merge(to, b);

@@ -142,7 +142,8 @@ moves_are_told c new s bytes used fault hears = by_way (heard c s bytes used fau
             → new ≡ retaken_at c s (heard_reply engine) b → MoveTold c new s bytes used fault
         by_held true held new_is = stays _ new_is refl
         by_held false unheld new_is =
-            inr (inr (taken_away c new s engine bytes used fault up (WhyTakenBack.refused said is (not_confirmed c.game (side_of c.sides (other s)).up unheld))
+            inr (inr (taken_away c new s engine bytes used fault up
+            (WhyTakenBack.refused said is (not_confirmed c.game (side_of c.sides (other s)).up unheld))
             (ap (λ (x : Controller). x.game) new_is)))
 
     by_outcome : (engine : Incarnation) (reply : Reply) → (side_of c.sides s).up ≡ Some engine

@@ -264,8 +264,8 @@ pub record AreDigitsOf (n : ℕ) (digits : List ℕ) : Type 0 where
   pub value : digits_value 10 digits ≡ n
   pub zero : (more : List ℕ) → digits ≡ 48 ∷ more → more ≡ []
 
--- A line that is written has no byte to spare: one behind each word, and all but the last, a newline, are printed. An id
--- is its digits and a space in front of that line.
+-- A line that is written has no byte to spare: one behind each word, and all but the last, a newline, are printed. An
+-- id is its digits and a space in front of that line.
 pub record CommandsHaveNoByteToSpare : Type 0 where
   pub without_id : (command : Command) → HasInts command → IsInLimits command
       → (front : List ℕ) × (written_command None command ≡ front ++ 10 ∷ []) × (All IsPrinted front)
@@ -297,8 +297,8 @@ pub record IsTextOfLines (text : List ℕ) : Type 0 where
   pub first : (b : ℕ) (more : List ℕ) → (b ≡ 32) ⊎ (b ≡ 10) → text ≡ b ∷ more → ⊥
   pub last : (b : ℕ) (more : List ℕ) → (b ≡ 32) ⊎ (b ≡ 10) → text ≡ more ++ b ∷ [] → ⊥
 
--- What may be the text of a reply is just that. The reply then has at most 2,048 bytes, and a command's line has at most
--- 64. (The limits are own.)
+-- What may be the text of a reply is just that. The reply then has at most 2,048 bytes, and a command's line has at
+-- most 64. (The limits are own.)
 pub record LimitsAreThese : Type 0 where
   pub texts : (text : List ℕ) → IsReplyText text ↔ IsTextOfLines text
   pub replies : (ok : Bool) (id : Option ℕ) (text : List ℕ) → IfSome id (λ n. n ≤ 2147483647) → length text ≤ 2000

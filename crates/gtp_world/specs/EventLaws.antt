@@ -77,8 +77,8 @@ abbrev pub own_rule : {B W : Type 0} → SidePolicies B → SidePolicies W → C
 own_rule policies_black policies_white Black = policies_black.rule
 own_rule policies_black policies_white White = policies_white.rule
 
--- an engine of the side runs that was given nothing, under this ko rule, and nothing is on its way to it or from it; the
--- controller counts it as started
+-- an engine of the side runs that was given nothing, under this ko rule, and nothing is on its way to it or from it;
+-- the controller counts it as started
 pub record IsStarted {B W : Type 0} (rule : KoRule) (old : World B W) (side : Colour) (new : World B W) : Type 0 where
   pub engine : game_at new side ≡ Some (fresh_game_under rule)
   pub to_engine : to_engine_of new side ≡ []
