@@ -7,7 +7,7 @@ ghost use Rattle.go_base.specs.Vertex.{VertexOfTells, VerticesReadBack, SpellsOn
 ghost use Rattle.go_base.specs.Choice.{ChoiceOfTells, SpellsOneChoice};
 ghost use Rattle.go_base.specs.Komi.{KomiOfTells, KomisReadBack, SpellsOneKomi};
 ghost use Rattle.go_base.specs.Point.{NeighboursAreBeside};
-ghost use Rattle.go_base.specs.Decimal.{IntsAreCounted, KomisAreTwiceTheirValue};
+ghost use Rattle.go_base.specs.Decimal.{IntsAreCounted, PointsAreCounted, KomisAreTwiceTheirValue};
 
 /// A written int is read back, and a text spells at most one int.
 pub fn int_laws()
@@ -43,10 +43,12 @@ pub fn komi_laws()
     ensures one { SpellsOneKomi }
 {}
 
-/// A text spells an int exactly where its digits count one that is at most 2,147,483,647, and a komi exactly where the
-/// number of half points is twice its decimal value.
+/// A text spells an int exactly where its digits count one that is at most 2,147,483,647, a point exactly where its
+/// letter names the column and its digits, without a zero in front, count the row, and a komi exactly where the number
+/// of half points is twice its decimal value.
 pub fn decimal_laws()
     ensures ints { IntsAreCounted }
+    ensures points { PointsAreCounted }
     ensures komis { KomisAreTwiceTheirValue }
 {}
 
