@@ -1,6 +1,6 @@
 -- Laws of the game, as relations: which board a move leaves, what it takes, and what counts for whom. (Own rules of
 -- play.)
-use Rattle.std.specs.Prelude.{◌≡◌, ◌≢◌, ℕ, ℤ, pos, ◌≤◌, ◌+◌, ◌*ℤ◌, ◌-ℤ◌, ◌⊎◌, ◌↔◌, Bool, true}
+use Rattle.std.specs.Prelude.{◌≡◌, ◌≢◌, ℕ, ℤ, pos, ◌<◌, ◌≤◌, ◌+◌, ◌*ℤ◌, ◌-ℤ◌, ◌⊎◌, ◌↔◌, Bool, true}
 use Rattle.std.specs.Prelude.{List, [], ◌∷◌, ◌++◌, Contains, length, slice_get, slice_set, Some}
 use Rattle.std.specs.List.{AllPairs}
 use Rattle.go_base.specs.Colour.{other}
@@ -16,7 +16,10 @@ use Rattle.go_board.specs.declared.board.Cell.TheVariants.{Edge, Empty, Black}
 use Rattle.go_board.specs.Board.{place_count, at, stone, stone_at}
 use Rattle.go_board.specs.Chain.{Joined, Touches, IsFree, IsCaptured}
 use Rattle.go_board.specs.Counting.{CountsFor}
-use Rattle.go_board.specs.Game.{GameRecord, IsGame, IsLegal, board_of, first_moves, with_move}
+use Rattle.go_board.specs.Game.{GameRecord, IsGame, IsLegal, Repeats, board_of, first_moves, with_move}
+use Rattle.go_board.specs.Refusals.{Refuses}
+use Rattle.go_board.specs.declared.faults.PlayFault.{PlayFault}
+use Rattle.go_board.specs.declared.faults.PlayFault.TheVariants.{Full, OffBoard, Occupied, Suicide, Ko}
 use Rattle.go_board.specs.declared.rules.KoRule.{KoRule}
 use Rattle.go_board.specs.declared.rules.KoRule.TheVariants.{Simple, Positional}
 use Rattle.go_board.specs.Taken.{taken}
@@ -190,3 +193,28 @@ pub record IsScore (game : GameRecord) (result : ℤ) : Type 0 where
 
 abbrev pub ScoresAreThese : Type 0
 ScoresAreThese = (game : GameRecord) → IsGame game → IsScore game (score game)
+
+-- ---- refusals
+
+-- Each cause by itself, without the others: the record has 2,000 moves, the point isn't on the board, it isn't empty,
+-- the stone isn't free on the board that the play leaves, the ko rule forbids that board.
+abbrev pub IsCause : GameRecord → Colour → ℕ → PlayFault → Type 0
+IsCause game c p Full = 2000 ≤ length game.moves
+IsCause game c p OffBoard = ¬ IsOn game.size p
+IsCause game c p Occupied = at (board_of game) p ≢ Empty
+IsCause game c p Suicide = ¬ IsFree (board_of (with_move game c (At p))) p
+IsCause game c p Ko = Repeats game (board_of (with_move game c (At p)))
+
+-- their order
+abbrev pub rank : PlayFault → ℕ
+rank Full = 0
+rank OffBoard = 1
+rank Occupied = 2
+rank Suicide = 3
+rank Ko = 4
+
+-- A play on a point is refused for a cause exactly where that is one, and no cause in front of it is.
+abbrev pub FirstCausesAreTold : Type 0
+FirstCausesAreTold = (game : GameRecord) (c : Colour) (p : ℕ) (fault : PlayFault)
+    → Refuses game c (At p) fault
+    ↔ (IsCause game c p fault × ((other : PlayFault) → rank other < rank fault → ¬ IsCause game c p other))

@@ -1,0 +1,5 @@
+use Rattle.go_board.proofs.CauseLemmas.{first-cause, refused-first}
+use Rattle.go_board.proofs.laws.first_causes.Goals as goal
+
+pub returns : goal.returns
+returns c game colour p fault = (first-cause game colour p fault, refused-first game colour p fault)
