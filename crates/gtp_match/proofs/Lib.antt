@@ -1,4 +1,6 @@
 pub mod WordLemmas
+pub mod CutLemmas
+pub mod SetupLemmas
 pub mod NameLemmas
 pub mod PassLemmas
 pub mod NextLemmas

@@ -79,7 +79,7 @@ named_asked game (Some command) words choice colour e =
     → answer_to game c words choice ≡ answer_choice game colour choice)
     (sym (asks_genmove game command words colour e)) (genmove_asked game (argument colour_of words 1) choice colour) e
 
-answer-asked : (game : GameRecord) (l : Line) (choice : Choice) (colour : Colour) → asked game l ≡ Some colour
+pub answer-asked : (game : GameRecord) (l : Line) (choice : Choice) (colour : Colour) → asked game l ≡ Some colour
     → answer game l choice ≡ answer_choice game colour choice
 answer-asked game line.TooLong choice colour e = cc
 answer-asked game (line.Command cl) choice colour e = named_asked game (named_command cl.words) cl.words choice colour e

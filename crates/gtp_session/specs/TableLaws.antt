@@ -6,12 +6,13 @@ use Rattle.std.specs.List.{join_with_byte}
 use Rattle.go_base.specs.Int.{SpellsInt}
 use Rattle.go_base.specs.Komi.{SpellsKomi}
 use Rattle.go_base.specs.Colour.{SpellsColour}
-use Rattle.go_base.specs.Vertex.{SpellsVertex}
+use Rattle.go_base.specs.Vertex.{SpellsVertex, written_vertex}
 use Rattle.go_base.specs.Handicap.{AllowsHandicap}
 use Rattle.go_base.specs.declared.choices.Choice.{Choice}
+use Rattle.go_base.specs.declared.choices.Choice.TheVariants as choice
 use Rattle.go_base.specs.declared.colours.Colour.{Colour}
 use Rattle.go_base.specs.declared.vertices.Vertex.{Vertex}
-use Rattle.go_board.specs.Game.{GameRecord, IsLegal}
+use Rattle.go_board.specs.Game.{GameRecord, IsLegal, with_move}
 use Rattle.go_board.specs.Refusals.{IsTouched}
 use Rattle.go_board.specs.Area.{score}
 use Rattle.gtp_wire.specs.declared.lines.Line.{Line}
@@ -21,8 +22,8 @@ use Rattle.gtp_session.specs.declared.commands.CommandName.TheVariants.{Protocol
 use Rattle.gtp_wire.specs.Lines.{lines}
 use Rattle.gtp_wire.specs.Replies.{written_reply}
 use Rattle.gtp_session.specs.Policy.{May}
-use Rattle.gtp_session.specs.Commands.{Answer, answer, asked, ends}
-use Rattle.gtp_session.specs.Engine.{Engine, WrittenReply, Replies}
+use Rattle.gtp_session.specs.Commands.{Answer, answer, asked, ends, id_of}
+use Rattle.gtp_session.specs.Engine.{Engine, State, WrittenReply, Step, Replies}
 
 -- ---- lines and their arguments
 
@@ -247,6 +248,35 @@ HaveOneReplyEach (line ∷ later) (reply ∷ replies) =
 abbrev pub EachLineIsAnsweredOnce : {P : Type 0} → May P → Type 0
 EachLineIsAnsweredOnce {P} may = (old new : Engine P) (text : List ℕ) (replies : List WrittenReply)
     → old.ended ≡ false → Replies may old text new replies → HaveOneReplyEach (lines (old.rest ++ text)) replies
+
+-- ---- moves that are asked for
+
+-- the line is a `genmove` for this colour, and the record has room for a move
+abbrev pub AsksForMove : GameRecord → Line → Colour → Type 0
+AsksForMove game line.TooLong colour = ⊥
+AsksForMove game (line.Command command_line) colour =
+    Names command_line.words Genmove × IsArgument SpellsColour command_line.words 1 colour × TakesMove game
+
+-- The choice is made for the colour and answered: a resignation leaves the game, and its text is `resign`; a vertex is
+-- played, and its text is the vertex.
+abbrev pub IsMade : GameRecord → Line → Colour → Choice → GameRecord → WrittenReply → Type 0
+IsMade game line colour choice.Resign after reply =
+    (after ≡ game) × (reply.text ≡ written_reply true (id_of line) (codes "resign"))
+IsMade game line colour (choice.Play vertex) after reply =
+    (after ≡ with_move game colour vertex) × (reply.text ≡ written_reply true (id_of line) (written_vertex vertex))
+
+pub record GenmovesAloneCount {P : Type 0} (may : May P) : Type 0 where
+  -- a reply counts as one to a `genmove` exactly where its line asks for a move: a `genmove` that fails counts for none
+  pub counted : (old new : State P) (line : Line) (reply : WrittenReply) → Step may old line reply new
+      → (reply.genmove ≡ true) ↔ ((colour : Colour) × AsksForMove old.game line colour)
+  -- there the policy makes a choice for that colour, in the game as it stands, and this choice is made and answered
+  pub chosen : (old new : State P) (line : Line) (reply : WrittenReply) (colour : Colour)
+      → Step may old line reply new → AsksForMove old.game line colour
+      → (choice : Choice) × may old.policy old.game colour choice new.policy
+      × IsMade old.game line colour choice new.game reply
+  -- every other line leaves the policy as it was
+  pub others : (old new : State P) (line : Line) (reply : WrittenReply) → Step may old line reply new
+      → ((colour : Colour) → ¬ AsksForMove old.game line colour) → new.policy ≡ old.policy
 
 -- ---- spellings
 

@@ -6,7 +6,7 @@ use Rattle.go_base.specs.declared.colours.Colour.{Colour}
 use Rattle.go_base.specs.declared.colours.Colour.TheVariants.{Black, White}
 use Rattle.go_board.specs.Game.{GameRecord}
 use Rattle.go_board.specs.declared.rules.KoRule.{KoRule}
-use Rattle.gtp_session.specs.Engine.{fresh_game_under}
+use Rattle.gtp_session.specs.Engine.{fresh_game_under, fresh_under}
 use Rattle.gtp_match.specs.declared.sides.Incarnation.{Incarnation}
 use Rattle.gtp_match.specs.declared.verdicts.Action.{Action}
 use Rattle.gtp_match.specs.declared.verdicts.Action.TheVariants.{Start, Send, Wait, Done}
@@ -192,6 +192,17 @@ module _ {B W : Type 0} (policies_black : SidePolicies B) (policies_white : Side
       → Happens policies_black policies_white old (ToEngine side one) mid
       → Happens policies_black policies_white mid (ToEngine side two) new
       → Happens policies_black policies_white old (ToEngine side (one + two)) new
+
+  -- a start makes a new policy, which is one that a start of its side may make
+  pub record StartsMakePolicies : Type 0 where
+    pub black : (old new : World B W) → next old.controller ≡ Start Black
+        → Happens policies_black policies_white old Act new
+        → (policy : B) × policies_black.made policy
+        × (new.black.engine ≡ Some (fresh_under policies_black.rule policy))
+    pub white : (old new : World B W) → next old.controller ≡ Start White
+        → Happens policies_black policies_white old Act new
+        → (policy : W) × policies_white.made policy
+        × (new.white.engine ≡ Some (fresh_under policies_white.rule policy))
 
   -- an `Act` does what is next: it starts a side's engine, or sends a side its next command
   pub record ActsAreDone : Type 0 where

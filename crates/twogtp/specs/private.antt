@@ -1,2 +1,3 @@
 -- What no reader has to believe: what functions inside the crate say of one another.
 pub mod Leaving
+pub mod Several

@@ -5,8 +5,10 @@ ghost use Rattle.gtp_match.specs.declared.verdicts.SideFault.{SideFault};
 ghost use Rattle.gtp_match.specs.Controller.{lost};
 ghost use Rattle.gtp_match.specs.Hearing.{HearsAllExactly};
 ghost use Rattle.gtp_match.specs.Next.{next};
+ghost use Rattle.gtp_match.specs.Sides.{side_of, status_of};
 ghost use Rattle.twogtp.specs.Speaking.{AreSent, HearsFromSide, IsHeard, LostBy, SendsToSide, cut_off};
 ghost use Rattle.twogtp.specs.Why.{CanBeTold};
+ghost use Rattle.twogtp.specs.private.Several.{has_several_unanswered};
 
 use crate::pipes::{CutOff, READ_ROOM, read_once, write_whole};
 use crate::sending::take_commands;
@@ -120,7 +122,9 @@ fn lose(game: &mut Match, side: Side, cause: PipeCause) -> Option<Lost>
 }
 
 /// Whether a side is up and has more than one unanswered command.
-fn has_several_unanswered(game: &Match, side: Side) -> bool {
+fn has_several_unanswered(game: &Match, side: Side) -> bool
+    ensures { result ≡ has_several_unanswered (status_of (side_of game.now.sides side).up) }
+{
     match game.status(side) {
         Status::Up { unanswered, .. } => unanswered > 1,
         Status::Down => false,

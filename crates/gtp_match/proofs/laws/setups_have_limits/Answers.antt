@@ -1,0 +1,5 @@
+use Rattle.gtp_match.proofs.SetupLemmas.{setups_have_limits}
+use Rattle.gtp_match.proofs.laws.setups_have_limits.Goals as goal
+
+pub returns : goal.returns
+returns ctx = setups_have_limits
