@@ -5,7 +5,7 @@ use Rattle.gtp_session.specs.declared.fault.Fault.TheVariants.{Off, Stop, Cut, J
 use Rattle.gtp_session.specs.Policy.{May}
 use Rattle.gtp_session.specs.Engine.{Engine}
 use Rattle.gtp_session.specs.Faults.{number_of, stops, genmoves, count_genmoves, BentDelivered, Stops, AnswersGenmove}
-use Rattle.gtp_session.specs.Faults.{MayStopAt, MayGoOn, StopsAndCutsStop}
+use Rattle.gtp_session.specs.Faults.{MayStopAt, IsStillToCome, StopsAndCutsStop}
 use Rattle.gtp_session.proofs.FaultLemmas.{both_true, genmoves_counted, reached}
 
 module _ {P : Type 0} (may : May P) where
@@ -38,7 +38,7 @@ module _ {P : Type 0} (may : May P) where
       omega (arith, less, delivered.count, genmoves_counted delivered.replies)
 
   went_on : (fault : Fault) (after : ℕ) (old new : Engine P) (input : List ℕ) (held holds : Option (List ℕ))
-      (delivered : BentDelivered may fault 0 after old input new held holds) → MayGoOn fault delivered.replies
+      (delivered : BentDelivered may fault 0 after old input new held holds) → IsStillToCome fault delivered.replies
   went_on Off after old new input held holds delivered = tt
   went_on (Stop number) after old new input held holds delivered = fewer (Stop number) delivered refl
   went_on (Cut number kept) after old new input held holds delivered = fewer (Cut number kept) delivered refl

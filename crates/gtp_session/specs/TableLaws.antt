@@ -15,6 +15,7 @@ use Rattle.go_base.specs.declared.vertices.Vertex.{Vertex}
 use Rattle.go_board.specs.Game.{GameRecord, IsLegal, with_move}
 use Rattle.go_board.specs.Refusals.{IsTouched}
 use Rattle.go_board.specs.Area.{score}
+use Rattle.go_board.specs.Show.{board_text}
 use Rattle.gtp_wire.specs.declared.lines.Line.{Line}
 use Rattle.gtp_wire.specs.declared.lines.Line.TheVariants as line
 use Rattle.gtp_session.specs.declared.commands.CommandName.{CommandName}
@@ -225,6 +226,13 @@ pub record ScoresNameTheLeader : Type 0 where
   pub even : (game : GameRecord) (id : Option ℕ) (more : List (List ℕ)) (choice : Choice)
       → score game ≡ pos 0
       → answer_with game id (codes "final_score" ∷ more) choice ≡ success game (codes "0")
+
+-- `showboard` gives the text of the board as it stands, and `quit` no text; both leave the game
+pub record BoardsAreShown : Type 0 where
+  pub board : (game : GameRecord) (id : Option ℕ) (more : List (List ℕ)) (choice : Choice)
+      → answer_with game id (codes "showboard" ∷ more) choice ≡ success game (board_text game)
+  pub quit : (game : GameRecord) (id : Option ℕ) (more : List (List ℕ)) (choice : Choice)
+      → answer_with game id (codes "quit" ∷ more) choice ≡ success game []
 
 -- ---- replies
 

@@ -424,4 +424,7 @@ fn the_laws_hold_of_each_policy(_rt: HostRuntime) {
     laws::each_line_is_answered_once::<First>();
     laws::each_line_is_answered_once::<Random>();
     laws::each_line_is_answered_once::<Book>();
+    laws::genmoves_alone_count::<First>();
+    laws::genmoves_alone_count::<Random>();
+    laws::genmoves_alone_count::<Book>();
 }
