@@ -188,7 +188,7 @@ def measure(words, mark, before, lines, singly):
 
 
 def seconds_each(program, command, between, most):
-    """The seconds of one such command, over as many as take some time, at most so many; and how many these are."""
+    """The seconds of one such command, over as many as take some time, at most `most`; and how many these are."""
     seconds, count = timed(program, command, between, 1), 1
     if seconds >= SECONDS:
         return seconds, count
@@ -200,12 +200,12 @@ def seconds_each(program, command, between, most):
 
 
 def timed(program, command, between, count):
-    """The seconds of so many commands: in one burst, or one at a time where there are commands between them."""
+    """The seconds of `count` commands: in one burst, or one at a time where there are commands between them."""
     return timed_singly(program, command, between, count) if between else timed_burst(program, command, count)
 
 
 def timed_burst(program, command, count):
-    """The seconds of so many commands in one burst."""
+    """The seconds of `count` commands in one burst."""
     text = (command + "\n").encode() * count
     began = time.perf_counter()
     sender = threading.Thread(target=program.send, args=(text,))
@@ -216,7 +216,7 @@ def timed_burst(program, command, count):
 
 
 def timed_singly(program, command, between, count):
-    """The seconds of so many commands, one at a time, without the commands between them."""
+    """The seconds of `count` commands, one at a time, without the commands between them."""
     text = (command + "\n").encode()
     seconds = 0.0
     for _ in range(count):

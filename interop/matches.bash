@@ -63,7 +63,7 @@ stones() {
     }' | xargs
 }
 
-# credited SCORE STONES: the score with so many points more for White.
+# credited SCORE STONES: the score with STONES points more for White.
 credited() {
     echo "$1" | awk -v stones="$2" '{
         lead = ($1 ~ /^B/ ? 1 : -1) * substr($1, 3) - stones

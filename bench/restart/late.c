@@ -1,5 +1,5 @@
 /* An engine behind a line that takes its time: starts the engine, and passes on what goes to it and what comes from it, each
- * piece so many microseconds after it came. Pieces overtake nothing and wait for nothing else, as on a network.
+ * piece MICROSECONDS after it came. Pieces overtake nothing and wait for nothing else, as on a network.
  *
  * usage: late MICROSECONDS ENGINE [ARGUMENT] */
 #include <pthread.h>

@@ -1,4 +1,4 @@
-/* Round trips: starts an engine so many times, sends it `boardsize`, `komi`, `clear_board` and so many plays on 19x19, and ends it.
+/* Round trips: starts an engine COUNT times, sends it `boardsize`, `komi`, `clear_board` and PLAYS plays on 19x19, and ends it.
  * Once at most LEFT commands are unanswered, more are sent until AHEAD are, all in one write. With AHEAD 1 and LEFT 0 each is sent
  * when the reply to the one before has come. With -2 plays the first command alone is sent. With FIRST 1 others may run before each
  * read. At the end it prints how many reads it made.

@@ -9,7 +9,7 @@
 static int size = 19;
 static int plays = 200;
 static int made;
-static int last = -1; /* after so many moves it ends when it is asked for one */
+static int last = -1; /* after this number of moves it ends when it is asked for one */
 
 /* Black fills columns from the left, row by row, White from the right. */
 static int vertex(char *text, int number) {

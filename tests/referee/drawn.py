@@ -32,7 +32,7 @@ LATER = [1, 2, 3, 3, 4, 4, 5, 6, 7, 8, 9, 10, 13, 18]
 
 # What one engine does first, its own faults, and those of the other one, where they aren't drawn: lists of faults, each a life, the
 # places of which one is drawn, a template and what comes then. `moves_first` says whether that engine moves first, where that isn't
-# drawn. The restarts are some of these, the moves so many at least.
+# drawn. The restarts are one of `restarts`, the moves at least `moves`.
 Turn = namedtuple("Turn", "own other moves_first restarts moves", defaults=[None, None, RESTARTS, 1])
 
 REFUSAL = faults.REFUSALS[0]

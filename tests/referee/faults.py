@@ -111,7 +111,7 @@ MOVES = [
 ]
 # To a genmove too: it closes its input before it replies. Nothing else is on its way to it then.
 SHUT = ("<reply>", "shuts")
-# To the last move, which the other side made: it is refused, so many times in a row. The engine doesn't do it.
+# To the last move, which the other side made: it is refused at each of these plays, one after the other. The engine doesn't do it.
 ROWS = [["p1", "p2", "p3"], ["p1-2", "p2-3"], ["p1-3", "p2-4"], ["p1-4", "p2-5"], ["p1-2000"]]
 # To the last move too: it is refused, and at once more follows than was asked for, or the front of a reply, or nothing more at all.
 REFUSED_AND_MORE = [
@@ -178,5 +178,5 @@ STYLES = [
     r"\x07<reply>\x7f",
     r"<reply>\n\n\n",
 ]
-# With so many bytes before and behind each reply that the longer ones are too long.
+# With bytes before and behind each reply, as many as make the longer replies too long.
 LONG_STYLES = [r"<%d*\n><reply><%d*\n>", r"<%d*\x01><reply><%d*_>", r"<%d*_><reply><%d*\t>", r"<%d*\n><reply><%d*\x00>"]

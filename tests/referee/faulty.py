@@ -20,7 +20,7 @@ In a template `_` is a space, \\n \\r \\t and \\xHH are bytes, and in angle brac
     <text> <lower>         the plain reply's text, or that in small letters
     <lines> <reversed>     its words, a line each, or in reverse order
     <old> <fresh> <off>    a vertex that was named, one that wasn't, one off the board
-    <8193*\\n>              so many times that byte
+    <8193*\\n>              that byte, 8,193 times
     <fill:8192:\\n>         as many of that byte as make the whole template so long
 
 At its start it adds a line `start` to NOTES, and then each command that it is told, until a fault came. What it does at an undo is

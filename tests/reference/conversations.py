@@ -91,7 +91,7 @@ def komi_word(r):
 
 
 def book_text(r, entries):
-    """A book of so many entries, or now and then a text that is nearly one."""
+    """A book of `entries` entries, or now and then a text that is nearly one."""
     widest = r.choice([2, 3, 5, 9, 25])
     odd = r.choice([0, 0, 0, 0, 0.02])
     words = []
@@ -226,7 +226,7 @@ def other_command(r, talk, sizes):
 
 
 def play_some(r, talk, size, steps, sizes):
-    """A game of so many steps, most of them moves, and in the end the board and the score."""
+    """A game of `steps` steps, most of them moves, and in the end the board and the score."""
     talk.line(b"boardsize %d" % size)
     if r.random() < 0.3:
         talk.say(b"fixed_handicap", b"%d" % r.randint(2, 9))
@@ -446,7 +446,7 @@ def taken_and_returned(r, talk, size, stone):
         talk.line(r.choice([*fight, *plays["H"] * 3, r.choice(others), r.choice(others)]))
 
 
-# Each kind by its short name: what it is called, what makes it, how often: one in so many, and its rule of ko, or None for any.
+# Each kind by its short name: what it is called, what makes it, the number N of which it is one in N, and its rule of ko, or None for any.
 KINDS = {
     "small": ("small boards", small_boards, 1, None),
     "big": ("big boards", big_boards, 4, None),

@@ -112,5 +112,5 @@ class Generator:
 
 
 def turned_right(word, places, bits):
-    """The word with its bits turned right by so many places."""
+    """The word with its bits turned right by `places`."""
     return ((word >> places) | (word << (bits - places))) % 2**bits
