@@ -214,7 +214,7 @@ rank Suicide = 3
 rank Ko = 4
 
 -- A play on a point is refused for a cause exactly where that is one, and no cause in front of it is.
-abbrev pub FirstCausesAreTold : Type 0
-FirstCausesAreTold = (game : GameRecord) (c : Colour) (p : ℕ) (fault : PlayFault)
+abbrev pub RefusalsAreFirstCauses : Type 0
+RefusalsAreFirstCauses = (game : GameRecord) (c : Colour) (p : ℕ) (fault : PlayFault)
     → Refuses game c (At p) fault
     ↔ (IsCause game c p fault × ((other : PlayFault) → rank other < rank fault → ¬ IsCause game c p other))

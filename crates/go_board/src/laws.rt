@@ -6,7 +6,7 @@ ghost use Rattle.go_board.specs.Laws.{PositionalIsStricter, NewBoardsAreAllowed,
 ghost use Rattle.go_board.specs.Laws.{NoBoardComesBackAtOnce, OtherPlaysAreLegal, LegalStonesAreFree};
 ghost use Rattle.go_board.specs.Laws.{JoinedPointsAreTheSmallestSet, UntouchedIsAway, CapturedStonesAreShutIn};
 ghost use Rattle.go_board.specs.Laws.{NoneIsTakenFirst, MovesAddWhatTheyTake};
-ghost use Rattle.go_board.specs.Laws.{WhatBelongsCounts, PointsBelongToOne, ScoresAreThese, FirstCausesAreTold};
+ghost use Rattle.go_board.specs.Laws.{WhatBelongsCounts, PointsBelongToOne, ScoresAreThese, RefusalsAreFirstCauses};
 
 /// A game without moves has just one board: Black's stones on the handicap's points, the other points empty, and edge
 /// round them.
@@ -72,5 +72,5 @@ pub fn scores()
 /// A play on a point is refused for the first cause that is one: a full record, a point off the board, one that isn't
 /// empty, suicide, ko.
 pub fn first_causes()
-    ensures { FirstCausesAreTold }
+    ensures { RefusalsAreFirstCauses }
 {}
