@@ -8,7 +8,7 @@ use Rattle.std.proofs.lemmas.Fmt.{first_decimal}
 use Rattle.go_base.specs.Decimal.{NamesColumn, SpellsCrossing}
 use Rattle.go_base.specs.Int.{SpellsInt, int_of, written_int}
 use Rattle.go_base.specs.Point.{column_of, row_of}
-use Rattle.go_base.specs.Vertex.{letter_of, SpellsPoint, starts_with_zero, row_of_digits}
+use Rattle.go_base.specs.Vertex.{letter_of, SpellsPoint, starts_with_zero}
 use Rattle.go_base.proofs.DecimalLemmas.{ints_are_counted}
 use Rattle.go_base.proofs.IntLemmas.{int_of_spelled, spells_written_int}
 use Rattle.go_base.proofs.VertexLemmas.{written_row}
