@@ -7,6 +7,7 @@ ghost use Rattle.go_board.specs.Laws.{NoBoardComesBackAtOnce, OtherPlaysAreLegal
 ghost use Rattle.go_board.specs.Laws.{JoinedPointsAreTheSmallestSet, UntouchedIsAway, CapturedStonesAreShutIn};
 ghost use Rattle.go_board.specs.Laws.{NoneIsTakenFirst, MovesAddWhatTheyTake};
 ghost use Rattle.go_board.specs.Laws.{WhatBelongsCounts, PointsBelongToOne, ScoresAreThese, RefusalsAreFirstCauses};
+ghost use Rattle.go_board.specs.Laws.{GamesEndByTwoPasses, UntouchedGamesAreBlank};
 
 /// A game without moves has just one board: Black's stones on the handicap's points, the other points empty, and edge
 /// round them.
@@ -73,4 +74,14 @@ pub fn scores()
 /// empty, suicide, ko.
 pub fn first_causes()
     ensures { RefusalsAreFirstCauses }
+{}
+
+/// A game is finished exactly where its record has two moves or more and the last two are passes, whoever made them.
+pub fn games_end_by_two_passes()
+    ensures { GamesEndByTwoPasses }
+{}
+
+/// A game is untouched exactly where its record has no move and each point of its board is empty.
+pub fn untouched_boards()
+    ensures { UntouchedGamesAreBlank }
 {}
