@@ -5,10 +5,10 @@ use Rattle.std.specs.Char.{to_ascii_uppercase}
 use Rattle.std.proofs.lemmas.Bool.{cases_Bool}
 use Rattle.std.proofs.lemmas.Bool.Decides.{nat_tests}
 use Rattle.std.proofs.lemmas.Fmt.{first_decimal}
-use Rattle.go_base.specs.Decimal.{Names, SpellsCrossing}
+use Rattle.go_base.specs.Decimal.{NamesColumn, SpellsCrossing}
 use Rattle.go_base.specs.Int.{SpellsInt, int_of, written_int}
 use Rattle.go_base.specs.Point.{column_of, row_of}
-use Rattle.go_base.specs.Vertex.{letter_of, SpellsPoint, starts_with_zero, row_of_digits}
+use Rattle.go_base.specs.Vertex.{letter_of, SpellsPoint, starts_with_zero}
 use Rattle.go_base.proofs.DecimalLemmas.{ints_are_counted}
 use Rattle.go_base.proofs.IntLemmas.{int_of_spelled, spells_written_int}
 use Rattle.go_base.proofs.VertexLemmas.{written_row}
@@ -27,13 +27,13 @@ names_high : (letter column : ℕ) → 9 ≤ column → column ≤ 25 → to_asc
 names_high letter column least most is = grind (arith, nat_tests)
 
 names : (letter column : ℕ) → 1 ≤ column → column ≤ 25 → to_ascii_uppercase letter ≡ letter_of column
-    → Names letter column
+    → NamesColumn letter column
 names letter column least most is = elim (either column) [
   | inl low ↦ inl (names_low letter column least low is, least, low)
   | inr high ↦ inr (names_high letter column high most is, high, most)
 ]
 
-named_capital : (letter column : ℕ) → Names letter column → to_ascii_uppercase letter ≡ letter_of column
+named_capital : (letter column : ℕ) → NamesColumn letter column → to_ascii_uppercase letter ≡ letter_of column
 named_capital letter column (inl (is, least, most)) = elim is [
   | inl capital ↦ grind (arith, nat_tests)
   | inr small ↦ grind (arith, nat_tests)
@@ -43,7 +43,7 @@ named_capital letter column (inr (is, least, most)) = elim is [
   | inr small ↦ grind (arith, nat_tests)
 ]
 
-named_within : (letter column : ℕ) → Names letter column → (1 ≤ column) × (column ≤ 25)
+pub named_within : (letter column : ℕ) → NamesColumn letter column → (1 ≤ column) × (column ≤ 25)
 named_within letter column (inl (is, least, most)) = (least, omega (arith, most))
 named_within letter column (inr (is, least, most)) = (omega (arith, least), most)
 

@@ -4,7 +4,7 @@ use Rattle.std.specs.Prelude.{◌≡◌, ℕ, ◌+◌, ◌*◌, ◌≤◌, ◌�
 use Rattle.std.proofs.Common.{◌^◌}
 use Rattle.go_base.specs.Int.{SpellsInt}
 use Rattle.go_base.specs.Komi.{SpellsKomi}
-use Rattle.go_base.specs.Point.{column_of, row_of}
+use Rattle.go_base.specs.Point.{column_of, row_of, IsOn}
 use Rattle.go_base.specs.Vertex.{SpellsVertex}
 use Rattle.go_base.specs.declared.vertices.Vertex.TheVariants.{At}
 
@@ -20,8 +20,8 @@ IntsAreCounted = (n : ℕ) (text : List ℕ) → SpellsInt n text ↔ (Counts n 
 
 -- The letter names the column: `A` to `H` (65 to 72) 1 to 8, and `J` to `Z` (74 to 90) 9 to 25. Each small letter is 32
 -- more than its capital.
-abbrev pub Names : ℕ → ℕ → Type 0
-Names letter column =
+abbrev pub NamesColumn : ℕ → ℕ → Type 0
+NamesColumn letter column =
     (((letter ≡ column + 64) ⊎ (letter ≡ column + 96)) × (1 ≤ column) × (column ≤ 8))
     ⊎ (((letter ≡ column + 65) ⊎ (letter ≡ column + 97)) × (9 ≤ column) × (column ≤ 25))
 
@@ -30,7 +30,7 @@ pub record SpellsCrossing (column row : ℕ) (text : List ℕ) : Type 0 where
   pub letter : ℕ
   pub digits : List ℕ
   pub shape : text ≡ letter ∷ digits
-  pub named : Names letter column
+  pub named : NamesColumn letter column
   pub counts : Counts row digits
   pub least : 1 ≤ row
   pub most : row ≤ 25
@@ -40,6 +40,18 @@ pub record SpellsCrossing (column row : ℕ) (text : List ℕ) : Type 0 where
 -- that no zero stands in front is own.)
 abbrev pub PointsAreCounted : Type 0
 PointsAreCounted = (p : ℕ) (text : List ℕ) → SpellsVertex (At p) text ↔ SpellsCrossing (column_of p) (row_of p) text
+
+-- The text's letter names one of the first `size` columns, and its digits count one of the first `size` rows.
+pub record IsWithin (size : ℕ) (text : List ℕ) : Type 0 where
+  pub column : ℕ
+  pub row : ℕ
+  pub spelled : SpellsCrossing column row text
+  pub right : column ≤ size
+  pub top : row ≤ size
+
+-- A text that spells a point spells one on the board of a size exactly where it is within that size. (Own.)
+abbrev pub PointsOnBoardsAreWithin : Type 0
+PointsOnBoardsAreWithin = (size p : ℕ) (text : List ℕ) → SpellsVertex (At p) text → IsOn size p ↔ IsWithin size text
 
 -- The text is a decimal number, and the number of half points is twice its value: a sign, `+` (43) or `-` (45), or
 -- none; at most nine digits; and then nothing, or a point (46) and at most nine digits. The digits on both sides of the

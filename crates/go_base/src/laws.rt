@@ -7,7 +7,7 @@ ghost use Rattle.go_base.specs.Vertex.{VertexOfTells, VerticesReadBack, SpellsOn
 ghost use Rattle.go_base.specs.Choice.{ChoiceOfTells, SpellsOneChoice};
 ghost use Rattle.go_base.specs.Komi.{KomiOfTells, KomisReadBack, SpellsOneKomi};
 ghost use Rattle.go_base.specs.Point.{NeighboursAreBeside};
-ghost use Rattle.go_base.specs.Decimal.{IntsAreCounted, PointsAreCounted, KomisAreTwiceTheirValue};
+ghost use Rattle.go_base.specs.Decimal.{IntsAreCounted, PointsAreCounted, PointsOnBoardsAreWithin, KomisAreTwiceTheirValue};
 
 /// A written int is read back, and a text spells at most one int.
 pub fn int_laws()
@@ -56,4 +56,10 @@ pub fn decimal_laws()
 /// stand next to each other.
 pub fn neighbours_law()
     ensures { NeighboursAreBeside }
+{}
+
+/// A text that spells a point spells one on the board of a size exactly where its letter names one of the first `size`
+/// columns and its digits count one of the first `size` rows.
+pub fn board_points_law()
+    ensures { PointsOnBoardsAreWithin }
 {}

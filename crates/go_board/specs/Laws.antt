@@ -1,6 +1,6 @@
 -- Laws of the game, as relations: which board a move leaves, what it takes, and what counts for whom. (Own rules of
 -- play.)
-use Rattle.std.specs.Prelude.{◌≡◌, ◌≢◌, ℕ, ℤ, pos, ◌<◌, ◌≤◌, ◌+◌, ◌*ℤ◌, ◌-ℤ◌, ◌⊎◌, ◌↔◌, Bool, true}
+use Rattle.std.specs.Prelude.{◌≡◌, ◌≢◌, ℕ, ℤ, pos, ◌<◌, ◌≤◌, ◌+◌, ◌-◌, ◌*ℤ◌, ◌-ℤ◌, ◌⊎◌, ◌↔◌, Bool, true}
 use Rattle.std.specs.Prelude.{List, [], ◌∷◌, ◌++◌, Contains, length, slice_get, slice_set, Some}
 use Rattle.std.specs.List.{AllPairs}
 use Rattle.go_base.specs.Colour.{other}
@@ -16,8 +16,8 @@ use Rattle.go_board.specs.declared.board.Cell.TheVariants.{Edge, Empty, Black}
 use Rattle.go_board.specs.Board.{place_count, at, stone, stone_at}
 use Rattle.go_board.specs.Chain.{Joined, Touches, IsFree, IsCaptured}
 use Rattle.go_board.specs.Counting.{CountsFor}
-use Rattle.go_board.specs.Game.{GameRecord, IsGame, IsLegal, Repeats, board_of, first_moves, with_move}
-use Rattle.go_board.specs.Refusals.{Refuses}
+use Rattle.go_board.specs.Game.{GameRecord, IsGame, IsLegal, IsFinished, Repeats, board_of, first_moves, with_move}
+use Rattle.go_board.specs.Refusals.{Refuses, IsTouched}
 use Rattle.go_board.specs.declared.faults.PlayFault.{PlayFault}
 use Rattle.go_board.specs.declared.faults.PlayFault.TheVariants.{Full, OffBoard, Occupied, Suicide, Ko}
 use Rattle.go_board.specs.declared.rules.KoRule.{KoRule}
@@ -214,7 +214,36 @@ rank Suicide = 3
 rank Ko = 4
 
 -- A play on a point is refused for a cause exactly where that is one, and no cause in front of it is.
-abbrev pub FirstCausesAreTold : Type 0
-FirstCausesAreTold = (game : GameRecord) (c : Colour) (p : ℕ) (fault : PlayFault)
+abbrev pub RefusalsAreFirstCauses : Type 0
+RefusalsAreFirstCauses = (game : GameRecord) (c : Colour) (p : ℕ) (fault : PlayFault)
     → Refuses game c (At p) fault
     ↔ (IsCause game c p fault × ((other : PlayFault) → rank other < rank fault → ¬ IsCause game c p other))
+
+-- ---- the end
+
+-- the move of this number, counted from 0, is a pass, whoever made it
+pub record IsPassAt (game : GameRecord) (number : ℕ) : Type 0 where
+  pub move : Move
+  pub found : slice_get game.moves number ≡ Some move
+  pub pass : move.vertex ≡ Pass
+
+-- the record has two moves or more, and the last two are passes
+pub record EndsByTwoPasses (game : GameRecord) : Type 0 where
+  pub two : 2 ≤ length game.moves
+  pub first : IsPassAt game (length game.moves - 2)
+  pub second : IsPassAt game (length game.moves - 1)
+
+-- A game is finished exactly where its record ends so.
+abbrev pub GamesEndByTwoPasses : Type 0
+GamesEndByTwoPasses = (game : GameRecord) → IsFinished game ↔ EndsByTwoPasses game
+
+-- ---- untouched games
+
+-- the record has no move, and each point of the board is empty
+pub record IsBlank (game : GameRecord) : Type 0 where
+  pub none : game.moves ≡ []
+  pub empty : (p : ℕ) → IsOn game.size p → at (board_of game) p ≡ Empty
+
+-- A game is untouched exactly where it is blank. Handicap stones touch it as all stones do.
+abbrev pub UntouchedGamesAreBlank : Type 0
+UntouchedGamesAreBlank = (game : GameRecord) → IsGame game → (¬ IsTouched game) ↔ IsBlank game

@@ -448,7 +448,8 @@ impl Game {
     ///
     /// A point counts for the colour of its stone, and an empty one where the stones beside its region are of one
     /// colour alone, for that colour.
-    // No proof sees through the definition of the score unless it is named: others see it as one number.
+    // For the proof alone: the definition of the score is opened by name. Proofs that don't name it see one number, and
+    // so none of them grows by the count of the points.
     #[tactic(auto, unfolding(crate::specs::Area::score))]
     pub fn score(&self) -> i32
         ensures { result ≡ score self.now }

@@ -6,7 +6,8 @@ ghost use Rattle.go_board.specs.Laws.{PositionalIsStricter, NewBoardsAreAllowed,
 ghost use Rattle.go_board.specs.Laws.{NoBoardComesBackAtOnce, OtherPlaysAreLegal, LegalStonesAreFree};
 ghost use Rattle.go_board.specs.Laws.{JoinedPointsAreTheSmallestSet, UntouchedIsAway, CapturedStonesAreShutIn};
 ghost use Rattle.go_board.specs.Laws.{NoneIsTakenFirst, MovesAddWhatTheyTake};
-ghost use Rattle.go_board.specs.Laws.{WhatBelongsCounts, PointsBelongToOne, ScoresAreThese, FirstCausesAreTold};
+ghost use Rattle.go_board.specs.Laws.{WhatBelongsCounts, PointsBelongToOne, ScoresAreThese, RefusalsAreFirstCauses};
+ghost use Rattle.go_board.specs.Laws.{GamesEndByTwoPasses, UntouchedGamesAreBlank};
 
 /// A game without moves has just one board: Black's stones on the handicap's points, the other points empty, and edge
 /// round them.
@@ -72,5 +73,15 @@ pub fn scores()
 /// A play on a point is refused for the first cause that is one: a full record, a point off the board, one that isn't
 /// empty, suicide, ko.
 pub fn first_causes()
-    ensures { FirstCausesAreTold }
+    ensures { RefusalsAreFirstCauses }
+{}
+
+/// A game is finished exactly where its record has two moves or more and the last two are passes, whoever made them.
+pub fn games_end_by_two_passes()
+    ensures { GamesEndByTwoPasses }
+{}
+
+/// A game is untouched exactly where its record has no move and each point of its board is empty.
+pub fn untouched_boards()
+    ensures { UntouchedGamesAreBlank }
 {}

@@ -11,8 +11,8 @@ use crate::game::Game;
 use arrayvec::ArrayVec;
 use go_base::{Colour, Point, write_int};
 
-/// The room for the text of a board. A text has at most 1,409 bytes: 25 rows of 52 and a newline, 49 of letters and a
-/// newline, and 34 of captures.
+/// The room for the text of a board: 2,000 bytes, as many as the text of a reply has at most. A board's text has at
+/// most 1,409: 25 rows of 52 and a newline, 49 of letters and a newline, and 34 of captures.
 const TEXT_ROOM: usize = 2000;
 
 /// The most bytes of the points of a row: two for each of 25.
@@ -40,7 +40,7 @@ impl Game {
     ///
     /// A row has `X` for a black stone, `O` for a white one and `.` for an empty point, from column A on and each
     /// followed by a space, and then its number.
-    pub fn show(&self) -> ArrayVec<u8, 2000>
+    pub fn show(&self) -> ArrayVec<u8, TEXT_ROOM>
         ensures { result.items ≡ board_text self.now }
     {
         let size = self.size().get();

@@ -12,7 +12,7 @@ use Rattle.gtp_wire.specs.declared.lines.Stage.TheVariants.{Word}
 use Rattle.gtp_wire.specs.Bytes.{is_kept, is_space, space_for_tab}
 use Rattle.gtp_wire.specs.Words.{words}
 use Rattle.gtp_wire.specs.Lines.{lines, line_of, line_of_words}
-use Rattle.gtp_wire.specs.private.LineReading.{is_plain, AreJoined}
+use Rattle.gtp_wire.specs.private.LineReading.{is_plain, HoldsWords}
 use Rattle.gtp_wire.specs.AnyText.{IsPrinted, IsLineWord, SpacesSeparate, WordsAreALine}
 use Rattle.gtp_wire.proofs.LineLemmas.{AllByRecursion-append, NoNewline, test_cases, cut_lines, cut_lines_same}
 use Rattle.gtp_wire.proofs.LineLemmas.{cut_lines_newline, lines_front, lines_same, lines_newline, lines_nothing}
@@ -173,7 +173,7 @@ words_are_a_line = record {
       ∙ ap (λ c. line.Command c ∷ []) (rw no_int refl);
   too_long = λ w ws all long.
       let held : List ℕ = join_with_byte 32 (w ∷ ws) in
-      let joined : AreJoined held = are_joined w ws (line_words (w ∷ ws) (recursion_from_All _ (w ∷ ws) all)) in
+      let joined : HoldsWords held = are_joined w ws (line_words (w ∷ ws) (recursion_from_All _ (w ∷ ws) all)) in
       ap (λ t. lines (t ++ 10 ∷ [])) (sym (append-nil held)) ∙ end_long held Word [] joined long
       ∙ ap (λ ls. line.TooLong ∷ ls) lines_nothing;
 }

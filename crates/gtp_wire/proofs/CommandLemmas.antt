@@ -7,10 +7,10 @@ use Rattle.std.proofs.lemmas.List.Splits.{length-slice_split}
 use Rattle.std.proofs.lemmas.List.Sums.{count_by-le-length}
 use Rattle.gtp_wire.specs.Bytes.{is_space}
 use Rattle.gtp_wire.specs.Words.{words}
-use Rattle.gtp_wire.specs.private.LineReading.{AreJoined}
+use Rattle.gtp_wire.specs.private.LineReading.{HoldsWords}
 use Rattle.gtp_wire.proofs.WordLemmas.{words_joined}
 
-pub word_without_id : (id : Option ℕ) (text : List ℕ) (number : ℕ) → AreJoined text → 0 < length text
+pub word_without_id : (id : Option ℕ) (text : List ℕ) (number : ℕ) → HoldsWords text → 0 < length text
     → is_some id ≡ false
     → slice_get (slice_split is_space text) number ≡ slice_get (drop (cond (is_some id) 1 0) (words text)) number
 word_without_id id text number joined some none =
@@ -21,7 +21,7 @@ slice_get-drop_one : {X : Type 0} (xs : List X) (number index : ℕ) → index �
 slice_get-drop_one [] number index e = refl
 slice_get-drop_one (x ∷ xs) number index e = rw (e, add-one) refl
 
-pub word_with_id : (id : Option ℕ) (text : List ℕ) (number index : ℕ) → AreJoined text → 0 < length text
+pub word_with_id : (id : Option ℕ) (text : List ℕ) (number index : ℕ) → HoldsWords text → 0 < length text
     → is_some id ≡ true → index ≡ number + 1
     → slice_get (slice_split is_space text) index ≡ slice_get (drop (cond (is_some id) 1 0) (words text)) number
 word_with_id id text number index joined some has e =
@@ -35,7 +35,7 @@ slice_get_past (x ∷ xs) zero h = absurd (omega arith)
 slice_get_past (x ∷ xs) (suc i) h = slice_get_past xs i (omega arith)
 
 -- there are at most as many words as bytes
-pub word_past : (id : Option ℕ) (text : List ℕ) (number : ℕ) → AreJoined text → 0 < length text → is_some id ≡ true
+pub word_past : (id : Option ℕ) (text : List ℕ) (number : ℕ) → HoldsWords text → 0 < length text → is_some id ≡ true
     → length text ≤ number
     → None ≡ slice_get (drop (cond (is_some id) 1 0) (words text)) number
 word_past id text number joined some has past =

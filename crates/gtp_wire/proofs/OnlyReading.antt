@@ -12,7 +12,7 @@ use Rattle.go_base.proofs.IntLemmas.{spells_int_of, int_of_spelled, option_cases
 use Rattle.gtp_wire.specs.declared.lines.Line.{Line}
 use Rattle.gtp_wire.specs.Bytes.{is_kept, is_newline, is_space}
 use Rattle.gtp_wire.specs.Lines.{lines}
-use Rattle.gtp_wire.specs.private.LineReading.{is_plain, AreJoined}
+use Rattle.gtp_wire.specs.private.LineReading.{is_plain, HoldsWords}
 use Rattle.gtp_wire.specs.AnyText.{IsPrinted, IsLineWord, ReadsLines, LinesAreTheOnlyReading}
 use Rattle.gtp_wire.proofs.LineLemmas.{test_cases, lines_removed, lines_nothing}
 use Rattle.gtp_wire.proofs.WordLemmas.{plain_byte, words_joined, join_words, some_word}
@@ -105,7 +105,7 @@ words_alike read reads w ws are =
       ]
     ]
 
-joined_alike : (read : List ℕ → List Line) → ReadsLines read → (held : List ℕ) → AreJoined held
+joined_alike : (read : List ℕ → List Line) → ReadsLines read → (held : List ℕ) → HoldsWords held
     → read (held ++ 10 ∷ []) ≡ lines (held ++ 10 ∷ [])
 joined_alike read reads [] joined =
     reads.spaces.empty [] ∙ reads.newlines.nothing ∙ sym (spaces_separate.empty [] ∙ lines_nothing)
@@ -130,7 +130,7 @@ space_if false = []
 
 -- the text is read as these words, joined by single spaces, and a newline
 record IsReadAs (text held : List ℕ) : Type 0 where
-  joined : AreJoined held
+  joined : HoldsWords held
   same : (read : List ℕ → List Line) → ReadsLines read → read text ≡ read (held ++ 10 ∷ [])
 
 abbrev ReadAs : List ℕ → Type 0
@@ -143,13 +143,13 @@ goes_on text other same rest =
     (rest.0, record { joined = rest.1.joined; same = λ read reads. same read reads ∙ rest.1.same read reads })
 
 -- the end of the line
-at_end : (held : List ℕ) (gap : Bool) → AreJoined held → ReadAs (held ++ (space_if gap ++ 10 ∷ []))
+at_end : (held : List ℕ) (gap : Bool) → HoldsWords held → ReadAs (held ++ (space_if gap ++ 10 ∷ []))
 at_end held true joined = (held, record { joined = joined; same = λ read reads. reads.spaces.end held [] })
 at_end held false joined = (held, record { joined = joined; same = λ read reads. refl })
 
 -- a space
-read_space : (c held : List ℕ) (gap : Bool) → AreJoined held → (gap ≡ true → 0 < length held)
-    → ((held : List ℕ) (gap : Bool) → AreJoined held → (gap ≡ true → 0 < length held)
+read_space : (c held : List ℕ) (gap : Bool) → HoldsWords held → (gap ≡ true → 0 < length held)
+    → ((held : List ℕ) (gap : Bool) → HoldsWords held → (gap ≡ true → 0 < length held)
     → ReadAs (held ++ (space_if gap ++ (c ++ 10 ∷ []))))
     → ReadAs (held ++ (space_if gap ++ 32 ∷ (c ++ 10 ∷ [])))
 read_space c held true joined some more =
@@ -161,9 +161,9 @@ read_space c [] false joined some more =
 read_space c (x ∷ held) false joined some more = more (x ∷ held) true joined (λ e. omega arith)
 
 -- a byte of a word
-read_plain : (b : ℕ) (c held : List ℕ) (gap : Bool) → AreJoined held → (gap ≡ true → 0 < length held)
+read_plain : (b : ℕ) (c held : List ℕ) (gap : Bool) → HoldsWords held → (gap ≡ true → 0 < length held)
     → is_plain b ≡ true → is_space b ≡ false
-    → ((held : List ℕ) → AreJoined held → ReadAs (held ++ (c ++ 10 ∷ [])))
+    → ((held : List ℕ) → HoldsWords held → ReadAs (held ++ (c ++ 10 ∷ [])))
     → ReadAs (held ++ (space_if gap ++ b ∷ (c ++ 10 ∷ [])))
 read_plain b c held true joined some plain other more =
     subst ReadAs
@@ -173,7 +173,7 @@ read_plain b c held false joined some plain other more =
     subst ReadAs (append_assoc held (b ∷ []) (c ++ 10 ∷ []))
     (more (held ++ b ∷ []) (joined_push held b joined plain other))
 
-read_as : (c held : List ℕ) (gap : Bool) → AreJoined held → (gap ≡ true → 0 < length held) → NoneEnds c
+read_as : (c held : List ℕ) (gap : Bool) → HoldsWords held → (gap ≡ true → 0 < length held) → NoneEnds c
     → ReadAs (held ++ (space_if gap ++ (c ++ 10 ∷ [])))
 read_as [] held gap joined some none = at_end held gap joined
 read_as (b ∷ c) held gap joined some none =
@@ -246,7 +246,7 @@ open_alike : (read : List ℕ → List Line) → ReadsLines read → (text : Lis
 open_alike read reads text none =
     reads.newlines.unfinished [] text (All-from_recursion _ text none) ∙ reads.newlines.nothing
 
-nothing_joined : AreJoined []
+nothing_joined : HoldsWords []
 nothing_joined = record { plain = tt; single = λ h. absurd (omega arith) }
 
 line_alike : (read : List ℕ → List Line) → ReadsLines read → (c : List ℕ) → NoneEnds c

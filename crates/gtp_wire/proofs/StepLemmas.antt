@@ -11,7 +11,7 @@ use Rattle.gtp_wire.specs.declared.lines.Stage.TheVariants.{Word, Gap, Comment}
 use Rattle.gtp_wire.specs.Bytes.{is_kept, is_newline, is_space, space_for_tab}
 use Rattle.gtp_wire.specs.Words.{words, command_of}
 use Rattle.gtp_wire.specs.Lines.{lines, line_of, line_of_words}
-use Rattle.gtp_wire.specs.private.LineReading.{is_plain, AreJoined, HoldsLine, IsKind, ending}
+use Rattle.gtp_wire.specs.private.LineReading.{is_plain, HoldsWords, HoldsLine, IsKind, ending}
 use Rattle.gtp_wire.specs.declared.lines.Kind.TheVariants.{Space}
 use Rattle.gtp_wire.proofs.LineLemmas.{AllByRecursion-append, NoNewline, lines_same, lines_newline, lines_open}
 use Rattle.gtp_wire.proofs.WordLemmas.{cleaned, cleaned_plain, plain_byte, words_space, words_two_spaces, join_words}
@@ -41,23 +41,23 @@ ending_no_newline Word = tt
 ending_no_newline Gap = (refl, tt)
 ending_no_newline Comment = (refl, tt)
 
-pub view_kept : (held : List ℕ) (stage : Stage) → AreJoined held
+pub view_kept : (held : List ℕ) (stage : Stage) → HoldsWords held
     → AllByRecursion (λ b. is_kept b ≡ true) (view held stage)
 view_kept held stage joined =
     AllByRecursion-append _ held (ending stage) (plain_kept held joined.plain) (ending_kept stage)
 
-pub view_no_newline : (held : List ℕ) (stage : Stage) → AreJoined held → NoNewline (view held stage)
+pub view_no_newline : (held : List ℕ) (stage : Stage) → HoldsWords held → NoNewline (view held stage)
 view_no_newline held stage joined =
     AllByRecursion-append _ held (ending stage) (plain_no_newline held joined.plain) (ending_no_newline stage)
 
 -- what is held is no whole line
-pub view_open : (held : List ℕ) (stage : Stage) → AreJoined held → lines (view held stage) ≡ []
+pub view_open : (held : List ℕ) (stage : Stage) → HoldsWords held → lines (view held stage) ≡ []
 view_open held stage joined =
     lines_open (view held stage) (view_kept held stage joined) (view_no_newline held stage joined)
 
 -- a byte that leaves another view with the same future
-pub view_same : (held : List ℕ) (stage : Stage) (held' : List ℕ) (stage' : Stage) (b : ℕ) → AreJoined held
-    → AreJoined held' → is_kept b ≡ true → is_newline b ≡ false
+pub view_same : (held : List ℕ) (stage : Stage) (held' : List ℕ) (stage' : Stage) (b : ℕ) → HoldsWords held
+    → HoldsWords held' → is_kept b ≡ true → is_newline b ≡ false
     → ((l : List ℕ) → line_of (view held stage ++ b ∷ l) ≡ line_of (view held' stage' ++ l)) → (z : List ℕ)
     → lines (view held stage ++ b ∷ z) ≡ lines (view held' stage' ++ z)
 view_same held stage held' stage' b joined joined' kept other same z =
@@ -71,39 +71,39 @@ unfolding line_of
 line_of_cleaned l = refl
 
 -- a comment's bytes are nothing
-comment_line : (held l : List ℕ) → AreJoined held → line_of (held ++ 35 ∷ l) ≡ line_of_words (words held)
+comment_line : (held l : List ℕ) → HoldsWords held → line_of (held ++ 35 ∷ l) ≡ line_of_words (words held)
 comment_line held l joined =
     line_of_cleaned (held ++ 35 ∷ l)
     ∙ ap (λ t. line_of_words (words t)) (cleaned_plain held (35 ∷ l) joined.plain ∙ append-nil held)
 
 -- a line that is only words so far, and more
-word_line : (held l : List ℕ) → AreJoined held → line_of (held ++ l) ≡ line_of_words (words (held ++ cleaned l))
+word_line : (held l : List ℕ) → HoldsWords held → line_of (held ++ l) ≡ line_of_words (words (held ++ cleaned l))
 word_line held l joined =
     line_of_cleaned (held ++ l) ∙ ap (λ t. line_of_words (words t)) (cleaned_plain held l joined.plain)
 
 -- the line that a newline ends
-pub view_line : (held : List ℕ) (stage : Stage) → AreJoined held
+pub view_line : (held : List ℕ) (stage : Stage) → HoldsWords held
     → line_of (view held stage) ≡ line_of_words (words held)
 view_line held Word joined = word_line held [] joined ∙ ap (λ t. line_of_words (words t)) (append-nil held)
 view_line held Gap joined = word_line held (32 ∷ []) joined ∙ ap line_of_words (words_space held)
 view_line held Comment joined = comment_line held [] joined
 
 -- a reader whose words are too long skips all but a newline
-pub long_skips : (held : List ℕ) (stage : Stage) (b : ℕ) → AreJoined held → 1000 < length held → (l : List ℕ)
+pub long_skips : (held : List ℕ) (stage : Stage) (b : ℕ) → HoldsWords held → 1000 < length held → (l : List ℕ)
     → line_of (view held stage ++ b ∷ l) ≡ line_of (view held stage ++ l)
 long_skips held stage b joined long l =
     ap line_of (append_assoc held (ending stage) (b ∷ l)) ∙ too_long_line held (ending stage ++ b ∷ l) joined long
     ∙ sym (ap line_of (append_assoc held (ending stage) l) ∙ too_long_line held (ending stage ++ l) joined long)
 
 -- in a comment all but a newline is skipped
-pub comment_skips : (held : List ℕ) (b : ℕ) → AreJoined held → (l : List ℕ)
+pub comment_skips : (held : List ℕ) (b : ℕ) → HoldsWords held → (l : List ℕ)
     → line_of (view held Comment ++ b ∷ l) ≡ line_of (view held Comment ++ l)
 comment_skips held b joined l =
     ap line_of (append_assoc held (35 ∷ []) (b ∷ l)) ∙ comment_line held (b ∷ l) joined
     ∙ sym (ap line_of (append_assoc held (35 ∷ []) l) ∙ comment_line held l joined)
 
 -- a second space is skipped, and one in front of all words
-pub gap_skips : (held : List ℕ) (b : ℕ) → AreJoined held → space_for_tab b ≡ 32 → eqb b 35 ≡ false → (l : List ℕ)
+pub gap_skips : (held : List ℕ) (b : ℕ) → HoldsWords held → space_for_tab b ≡ 32 → eqb b 35 ≡ false → (l : List ℕ)
     → line_of (view held Gap ++ b ∷ l) ≡ line_of (view held Gap ++ l)
 gap_skips held b joined space other l =
     let front : cleaned (32 ∷ b ∷ l) ≡ 32 ∷ 32 ∷ cleaned l = rw other (rw space refl) in
@@ -117,7 +117,7 @@ front_skips b space other l =
     line_of_cleaned (b ∷ l) ∙ ap (λ t. line_of_words (words t)) front ∙ sym (line_of_cleaned l)
 
 -- a space behind words is kept as one
-pub space_held : (held : List ℕ) (b : ℕ) → AreJoined held → space_for_tab b ≡ 32 → eqb b 35 ≡ false → (l : List ℕ)
+pub space_held : (held : List ℕ) (b : ℕ) → HoldsWords held → space_for_tab b ≡ 32 → eqb b 35 ≡ false → (l : List ℕ)
     → line_of (view held Word ++ b ∷ l) ≡ line_of (view held Gap ++ l)
 space_held held b joined space other l =
     let front : cleaned (b ∷ l) ≡ 32 ∷ cleaned l = rw other (rw space refl) in
@@ -126,7 +126,7 @@ space_held held b joined space other l =
     ∙ sym (ap line_of (append_assoc held (32 ∷ []) l) ∙ word_line held (32 ∷ l) joined)
 
 -- `#` begins a comment
-pub hash_held : (held : List ℕ) (stage : Stage) → AreJoined held → (l : List ℕ)
+pub hash_held : (held : List ℕ) (stage : Stage) → HoldsWords held → (l : List ℕ)
     → line_of (view held stage ++ 35 ∷ l) ≡ line_of (view held Comment ++ l)
 hash_held held Word joined l = ap line_of (append_assoc held [] (35 ∷ l) ∙ sym (append_assoc held (35 ∷ []) l))
 hash_held held Gap joined l =
@@ -136,20 +136,20 @@ hash_held held Gap joined l =
 hash_held held Comment joined l = comment_skips held 35 joined l
 
 -- a newline ends what is held
-pub end_view : (held : List ℕ) (stage : Stage) (z : List ℕ) → AreJoined held
+pub end_view : (held : List ℕ) (stage : Stage) (z : List ℕ) → HoldsWords held
     → lines (view held stage ++ 10 ∷ z) ≡ option_to_list (line_of_words (words held)) ++ lines z
 end_view held stage z joined =
     lines_newline (view held stage) z (view_kept held stage joined) (view_no_newline held stage joined)
     ∙ ap (λ o. option_to_list o ++ lines z) (view_line held stage joined)
 
-pub end_empty : (held : List ℕ) (stage : Stage) (z : List ℕ) → AreJoined held → length held ≡ 0
+pub end_empty : (held : List ℕ) (stage : Stage) (z : List ℕ) → HoldsWords held → length held ≡ 0
     → lines (view held stage ++ 10 ∷ z) ≡ lines z
 unfolding line_of_words
 end_empty held stage z joined none =
     end_view held stage z joined
     ∙ ap (λ h. option_to_list (line_of_words (words h)) ++ lines z) (nil_from_length held none)
 
-pub end_long : (held : List ℕ) (stage : Stage) (z : List ℕ) → AreJoined held → 1000 < length held
+pub end_long : (held : List ℕ) (stage : Stage) (z : List ℕ) → HoldsWords held → 1000 < length held
     → lines (view held stage ++ 10 ∷ z) ≡ TooLong ∷ lines z
 end_long held stage z joined long =
     end_view held stage z joined
@@ -162,7 +162,7 @@ unfolding line_of_words
 short_line [] v vs e h = absurd (cc)
 short_line (w ∷ ws) v vs e h = rw (le-ltb _ _ h) refl
 
-pub end_command : (held : List ℕ) (stage : Stage) (z : List ℕ) → AreJoined held → 0 < length held → length held ≤ 1000
+pub end_command : (held : List ℕ) (stage : Stage) (z : List ℕ) → HoldsWords held → 0 < length held → length held ≤ 1000
     → lines (view held stage ++ 10 ∷ z) ≡ Command (command_of (words held)) ∷ lines z
 end_command held stage z joined some short =
     let word = some_word held joined some in
@@ -185,19 +185,19 @@ space_byte b kind = elim kind [
 ]
 
 -- what each byte leaves: nothing changes
-pub step_long : (held : List ℕ) (stage : Stage) (b : ℕ) (z : List ℕ) → AreJoined held → 1000 < length held
+pub step_long : (held : List ℕ) (stage : Stage) (b : ℕ) (z : List ℕ) → HoldsWords held → 1000 < length held
     → is_kept b ≡ true → is_newline b ≡ false
     → lines (view held stage ++ b ∷ z) ≡ lines (view held stage ++ z)
 step_long held stage b z joined long kept inside =
     view_same held stage held stage b joined joined kept inside (λ l. long_skips held stage b joined long l) z
 
-pub step_comment : (held : List ℕ) (stage : Stage) (b : ℕ) (z : List ℕ) → AreJoined held → stage ≡ Comment
+pub step_comment : (held : List ℕ) (stage : Stage) (b : ℕ) (z : List ℕ) → HoldsWords held → stage ≡ Comment
     → is_kept b ≡ true → is_newline b ≡ false
     → lines (view held stage ++ b ∷ z) ≡ lines (view held stage ++ z)
 step_comment held stage b z joined is kept inside =
     rw is (view_same held Comment held Comment b joined joined kept inside (λ l. comment_skips held b joined l) z)
 
-pub step_gap : (held : List ℕ) (stage : Stage) (b : ℕ) (z : List ℕ) → AreJoined held → stage ≡ Gap → IsSpaceByte b
+pub step_gap : (held : List ℕ) (stage : Stage) (b : ℕ) (z : List ℕ) → HoldsWords held → stage ≡ Gap → IsSpaceByte b
     → lines (view held stage ++ b ∷ z) ≡ lines (view held stage ++ z)
 step_gap held stage b z joined is space =
     rw is
@@ -212,13 +212,13 @@ step_front held Word b z holds none space =
     (view_same [] Word [] Word b nothing nothing space.kept space.inside
     (λ l. front_skips b space.space space.other l) z)
   where
-    nothing : AreJoined []
+    nothing : HoldsWords []
     nothing = record { plain = tt; single = λ h. absurd (omega arith) }
 step_front held Gap b z holds none space = absurd (omega (arith, holds.gap refl))
 step_front held Comment b z holds none space = step_comment held Comment b z holds.joined refl space.kept space.inside
 
 -- a space ends a word
-pub step_space : (held : List ℕ) (stage : Stage) (b : ℕ) (z : List ℕ) → AreJoined held → stage ≡ Word → IsSpaceByte b
+pub step_space : (held : List ℕ) (stage : Stage) (b : ℕ) (z : List ℕ) → HoldsWords held → stage ≡ Word → IsSpaceByte b
     → lines (view held stage ++ b ∷ z) ≡ lines (view held Gap ++ z)
 step_space held stage b z joined is space =
     rw is
@@ -242,7 +242,7 @@ step_pushed_gap held mid new stage b is e f z =
     (sym (ap (λ t. lines (t ++ z)) (append-nil ((held ++ 32 ∷ []) ++ b ∷ []))
     ∙ ap lines (append_assoc (held ++ 32 ∷ []) (b ∷ []) z)))
 
-pub step_hash : (held : List ℕ) (stage : Stage) (z : List ℕ) → AreJoined held
+pub step_hash : (held : List ℕ) (stage : Stage) (z : List ℕ) → HoldsWords held
     → lines (view held stage ++ 35 ∷ z) ≡ lines (view held Comment ++ z)
 step_hash held stage z joined =
     view_same held stage held Comment 35 joined joined refl refl (λ l. hash_held held stage joined l) z
@@ -254,22 +254,22 @@ all_push_last [] c all = (lit< tt, tt)
 all_push_last (w ∷ []) c all = (omega (arith, length-append w (c ∷ [])), tt)
 all_push_last (w ∷ v ∷ more) c all = (all.0, all_push_last (v ∷ more) c all.1)
 
-joined_parts : (held : List ℕ) (b : ℕ) → AreJoined held → is_space b ≡ false
+joined_parts : (held : List ℕ) (b : ℕ) → HoldsWords held → is_space b ≡ false
     → AllByRecursion (λ part. 0 < length part) (slice_split is_space (held ++ b ∷ []))
 joined_parts [] b joined other = rw (split_push [] b other) (lit< tt, tt)
 joined_parts (x ∷ held) b joined other =
     rw (split_push (x ∷ held) b other)
     (all_push_last (slice_split is_space (x ∷ held)) b (joined.single (omega arith)))
 
-pub joined_push : (held : List ℕ) (b : ℕ) → AreJoined held → is_plain b ≡ true → is_space b ≡ false
-    → AreJoined (held ++ b ∷ [])
+pub joined_push : (held : List ℕ) (b : ℕ) → HoldsWords held → is_plain b ≡ true → is_space b ≡ false
+    → HoldsWords (held ++ b ∷ [])
 joined_push held b joined plain other = record {
   plain = AllByRecursion-append _ held (b ∷ []) joined.plain (plain, tt);
   single = λ h. joined_parts held b joined other;
 }
 
-pub joined_push_gap : (held : List ℕ) (b : ℕ) → AreJoined held → 0 < length held → is_plain b ≡ true
-    → is_space b ≡ false → AreJoined ((held ++ 32 ∷ []) ++ b ∷ [])
+pub joined_push_gap : (held : List ℕ) (b : ℕ) → HoldsWords held → 0 < length held → is_plain b ≡ true
+    → is_space b ≡ false → HoldsWords ((held ++ 32 ∷ []) ++ b ∷ [])
 joined_push_gap held b joined some plain other = rw (append_assoc held (32 ∷ []) (b ∷ [])) (record {
   plain = AllByRecursion-append _ held (32 ∷ b ∷ []) joined.plain (refl, (plain, tt));
   single =
@@ -277,13 +277,13 @@ joined_push_gap held b joined some plain other = rw (append_assoc held (32 ∷ [
       (AllByRecursion-append _ (slice_split is_space held) ((b ∷ []) ∷ []) (joined.single some) (lit< tt, tt));
 })
 
-pub holds_word : {held : List ℕ} → AreJoined held → HoldsLine held Word
+pub holds_word : {held : List ℕ} → HoldsWords held → HoldsLine held Word
 holds_word joined = record { joined = joined; gap = λ e. absurd (cc) }
 
-pub holds_word_of : {held : List ℕ} (stage : Stage) → AreJoined held → stage ≡ Word → HoldsLine held stage
+pub holds_word_of : {held : List ℕ} (stage : Stage) → HoldsWords held → stage ≡ Word → HoldsLine held stage
 holds_word_of stage joined is = rw is (holds_word joined)
 
-pub step_skipped : (held : List ℕ) (stage : Stage) (b : ℕ) (z : List ℕ) → AreJoined held
+pub step_skipped : (held : List ℕ) (stage : Stage) (b : ℕ) (z : List ℕ) → HoldsWords held
     → (stage ≡ Gap) ⊎ (stage ≡ Comment) → IsSpaceByte b
     → lines (view held stage ++ b ∷ z) ≡ lines (view held stage ++ z)
 step_skipped held stage b z joined is space =

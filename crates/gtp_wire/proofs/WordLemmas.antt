@@ -10,7 +10,7 @@ use Rattle.gtp_wire.specs.declared.lines.Line.TheVariants.{TooLong}
 use Rattle.gtp_wire.specs.Bytes.{is_kept, is_newline, is_space, before_hash, space_for_tab}
 use Rattle.gtp_wire.specs.Words.{words}
 use Rattle.gtp_wire.specs.Lines.{line_of, line_of_words}
-use Rattle.gtp_wire.specs.private.LineReading.{is_plain, AreJoined}
+use Rattle.gtp_wire.specs.private.LineReading.{is_plain, HoldsWords}
 use Rattle.gtp_wire.proofs.LineLemmas.{split_parts, test_cases}
 
 abbrev pub some_bytes : List ℕ → Bool
@@ -137,15 +137,15 @@ filter_all [] all = refl
 filter_all (p ∷ ps) all = rw (lt-ltb _ _ all.0) (ap (λ qs. p ∷ qs) (filter_all ps all.1))
 
 -- the words of a joined text, joined, are the text
-pub words_joined : (held : List ℕ) → AreJoined held → 0 < length held → words held ≡ slice_split is_space held
+pub words_joined : (held : List ℕ) → HoldsWords held → 0 < length held → words held ≡ slice_split is_space held
 words_joined held joined some = filter_all (slice_split is_space held) (joined.single some)
 
-pub join_words : (held : List ℕ) → AreJoined held → 0 < length held → join_with_byte 32 (words held) ≡ held
+pub join_words : (held : List ℕ) → HoldsWords held → 0 < length held → join_with_byte 32 (words held) ≡ held
 join_words held joined some =
     ap (join_with_byte 32) (words_joined held joined some) ∙ join_with_byte-slice_split 32 held
 
 -- a joined text that isn't empty has a word
-pub some_word : (held : List ℕ) → AreJoined held → 0 < length held
+pub some_word : (held : List ℕ) → HoldsWords held → 0 < length held
     → (w : List ℕ) × (ws : List (List ℕ)) × (words held ≡ w ∷ ws)
 some_word held joined some =
     let parts = split_parts is_space held in
@@ -158,7 +158,7 @@ too_long_words [] large = absurd (omega arith)
 too_long_words (w ∷ ws) large =
     rw (lt-ltb 1000 (length (join_with_byte 32 (w ∷ ws))) (omega (arith, length-join w ws))) refl
 
-pub weight_joined : (held : List ℕ) → AreJoined held → 0 < length held → weight (words held) ≡ length held + 1
+pub weight_joined : (held : List ℕ) → HoldsWords held → 0 < length held → weight (words held) ≡ length held + 1
 weight_joined held joined some =
     let word = some_word held joined some in
     let join : length (join_with_byte 32 (words held)) ≡ length held = ap length (join_words held joined some) in
@@ -190,7 +190,7 @@ cleaned_plain (b ∷ held) l plain =
     rw ((plain_byte b plain.0).3) (rw ((plain_byte b plain.0).1) (ap (λ t. b ∷ t) (cleaned_plain held l plain.1)))
 
 -- the line of a text whose front is too long
-pub too_long_line : (held l : List ℕ) → AreJoined held → 1000 < length held → line_of (held ++ l) ≡ Some TooLong
+pub too_long_line : (held l : List ℕ) → HoldsWords held → 1000 < length held → line_of (held ++ l) ≡ Some TooLong
 unfolding line_of
 too_long_line held l joined long =
     let grows : weight (words held) ≤ weight (words (held ++ cleaned l)) = weight_grows held (cleaned l) in

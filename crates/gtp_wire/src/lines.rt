@@ -150,7 +150,7 @@ impl LineReader {
         // Where none is found, the line stays as it was.
         ensures unchanged { result.found ≡ false → line.new ≡ line.old }
     {
-        // This look brings what holds of every reader to the proof.
+        // For the proof alone (decision 79): looked at, it tells by the invariant what holds of every reader.
         let _ = &self.held;
         for (i, byte) in input.iter().enumerate() {
             if *byte != b'\n' {
@@ -188,7 +188,7 @@ impl LineReader {
         requires { IsKind byte Kind.Removed }
         ensures { Finds self.now (byte ∷ []) [] self.now }
     {
-        // This look brings what holds of every reader to the proof.
+        // For the proof alone (decision 79): looked at, it tells by the invariant what holds of every reader.
         let _ = &self.held;
     }
 
@@ -213,7 +213,7 @@ impl LineReader {
     fn take_hash(&mut self)
         ensures { Finds self.old (hash ∷ []) [] self.new }
     {
-        // This look brings what holds of every reader to the proof.
+        // For the proof alone (decision 79): looked at, it tells by the invariant what holds of every reader.
         let _ = &self.held;
         self.stage = Stage::Comment;
     }

@@ -29,19 +29,19 @@ IsKind b Hash = b ≡ hash
 IsKind b Other = (is_plain b ≡ true) × (is_space b ≡ false)
 
 -- the bytes are words joined by single spaces, or none
-pub record AreJoined (held : List ℕ) : Type 0 where
+pub record HoldsWords (held : List ℕ) : Type 0 where
   pub plain : AllByRecursion (λ b. is_plain b ≡ true) held
   pub single : 0 < length held → AllByRecursion (λ part. 0 < length part) (slice_split is_space held)
 
 -- words joined by single spaces, one at least, in no more bytes than the words of a line have
 pub record IsLineText (text : List ℕ) : Type 0 where
-  pub joined : AreJoined text
+  pub joined : HoldsWords text
   pub some : 0 < length text
   pub few : length text ≤ most_line_bytes
 
 -- a space follows words only
 pub record HoldsLine (held : List ℕ) (stage : Stage) : Type 0 where
-  pub joined : AreJoined held
+  pub joined : HoldsWords held
   pub gap : stage ≡ Gap → 0 < length held
 
 -- the int that the first of the words is
@@ -51,6 +51,6 @@ id_of_words (w ∷ ws) = int_of w
 
 -- a command line holds words joined by single spaces, one at least, and its id is an int
 pub record HoldsCommand (id : Option ℕ) (text : List ℕ) : Type 0 where
-  pub joined : AreJoined text
+  pub joined : HoldsWords text
   pub some : 0 < length text
   pub int : IfSome id (λ n. n ≤ most_int)
