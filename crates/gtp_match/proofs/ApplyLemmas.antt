@@ -14,8 +14,8 @@ use Rattle.gtp_match.specs.declared.controller.Controller.{Controller}
 use Rattle.gtp_match.specs.declared.sides.Incarnation.{Incarnation}
 use Rattle.gtp_match.specs.declared.sides.SideState.{SideState}
 use Rattle.gtp_match.specs.declared.sides.Sides.{Sides}
-use Rattle.gtp_match.specs.declared.table.Outcome.{Outcome}
-use Rattle.gtp_match.specs.declared.table.Outcome.TheVariants.{Moves}
+use Rattle.gtp_match.specs.declared.reply_table.Outcome.{Outcome}
+use Rattle.gtp_match.specs.declared.reply_table.Outcome.TheVariants.{Moves}
 use Rattle.gtp_match.specs.declared.verdicts.Verdict.{Verdict}
 
 pub is_played : (game new : GameRecord) (s : Colour) (v : Vertex) (r : Result (Unit {0}) PlayFault) → IsLegal game s v

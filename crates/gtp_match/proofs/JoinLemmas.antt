@@ -12,9 +12,9 @@ use Rattle.gtp_wire.specs.Replies.{TellsNothing, IsFirst}
 use Rattle.gtp_wire.proofs.ReplyLaws.{one_first}
 use Rattle.gtp_wire.proofs.ReplyReadingLemmas.{first_more}
 use Rattle.gtp_match.specs.declared.sides.Incarnation.{Incarnation}
-use Rattle.gtp_match.specs.declared.table.Outcome.{Outcome}
-use Rattle.gtp_match.specs.declared.table.Outcome.TheVariants.{Down, Unfit, Forfeits, Confirms, Resigns, Moves}
-use Rattle.gtp_match.specs.declared.table.Outcome.TheVariants.{Refuses, TakesBack, Keeps}
+use Rattle.gtp_match.specs.declared.reply_table.Outcome.{Outcome}
+use Rattle.gtp_match.specs.declared.reply_table.Outcome.TheVariants.{Down, Unfit, Forfeits, Confirms, Resigns, Moves}
+use Rattle.gtp_match.specs.declared.reply_table.Outcome.TheVariants.{Refuses, TakesBack, Keeps}
 use Rattle.gtp_match.specs.declared.verdicts.SideFault.{SideFault}
 use Rattle.gtp_match.specs.declared.verdicts.Verdict.{Verdict}
 use Rattle.gtp_match.specs.declared.controller.Controller.{Controller}

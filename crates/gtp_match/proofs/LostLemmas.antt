@@ -30,9 +30,9 @@ use Rattle.gtp_match.specs.declared.losses.LossCause.{LossCause}
 use Rattle.gtp_match.specs.declared.losses.LossCause.TheVariants.{Shows, RefusesPlay, KeepsMove, Illegal}
 use Rattle.gtp_match.specs.declared.losses.LossCause.TheVariants as why
 use Rattle.gtp_match.specs.declared.sides.Incarnation.{Incarnation}
-use Rattle.gtp_match.specs.declared.table.Outcome.{Outcome}
-use Rattle.gtp_match.specs.declared.table.Outcome.TheVariants.{Down, Unfit, Forfeits, Confirms, Resigns, Moves}
-use Rattle.gtp_match.specs.declared.table.Outcome.TheVariants.{Refuses, TakesBack, Keeps}
+use Rattle.gtp_match.specs.declared.reply_table.Outcome.{Outcome}
+use Rattle.gtp_match.specs.declared.reply_table.Outcome.TheVariants.{Down, Unfit, Forfeits, Confirms, Resigns, Moves}
+use Rattle.gtp_match.specs.declared.reply_table.Outcome.TheVariants.{Refuses, TakesBack, Keeps}
 use Rattle.gtp_match.specs.declared.unanswered.SentCommand.{SentCommand}
 use Rattle.gtp_match.specs.declared.verdicts.ForfeitCause.{ForfeitCause}
 use Rattle.gtp_match.specs.declared.verdicts.ForfeitCause.TheVariants.{RefusedPlay, NoMove, NoVertex, IllegalMove}

@@ -1,5 +1,5 @@
 -- Which values a setup may have, and for which it is refused.
-use Rattle.std.proofs.Common.{◌≡◌, ℕ, ◌<◌, ◌≤◌, ◌⊎◌, inl, inr, true, false, Bool, refl, arith}
+use Rattle.std.proofs.Common.{◌≡◌, ℕ, ◌<◌, ◌≤◌, ◌⊎◌, inl, inr, true, false, arith}
 use Rattle.std.specs.Prelude.{◌≢◌, ◌↔◌, ◌==◌, nat_le}
 use Rattle.std.proofs.lemmas.Bool.Decides.{nat_tests}
 use Rattle.go_base.specs.Decide.{allows?}
@@ -7,7 +7,7 @@ use Rattle.go_base.specs.Handicap.{AllowsHandicap}
 use Rattle.go_base.specs.Komi.{IsKomi}
 use Rattle.go_base.specs.Size.{IsSize}
 use Rattle.gtp_wire.proofs.LineLemmas.{test_cases}
-use Rattle.gtp_match.specs.Setup.{SetupRecord, IsSetup, HandicapFits, MovesFit, RefusesSetup, IsOutOfLimits, IsFirstFault}
+use Rattle.gtp_match.specs.Setup.{SetupRecord, IsSetup, HandicapFits, RefusesSetup, IsOutOfLimits, IsFirstFault}
 use Rattle.gtp_match.specs.Setup.{SetupsHaveLimits}
 use Rattle.gtp_match.specs.declared.setup.SetupFault.{SetupFault}
 use Rattle.gtp_match.specs.declared.setup.SetupFault.TheVariants.{Handicap, MaxMoves, MaxRestarts}

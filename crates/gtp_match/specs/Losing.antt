@@ -19,8 +19,8 @@ use Rattle.gtp_match.specs.declared.losses.LossCause.TheVariants.{Shows, Unfit, 
 use Rattle.gtp_match.specs.declared.losses.LossCause.TheVariants.{NoVertex, Illegal}
 use Rattle.gtp_match.specs.declared.losses.Owed.{Owed}
 use Rattle.gtp_match.specs.declared.sides.Incarnation.{Incarnation}
-use Rattle.gtp_match.specs.declared.table.Outcome.{Outcome}
-use Rattle.gtp_match.specs.declared.table.Outcome.TheVariants as made
+use Rattle.gtp_match.specs.declared.reply_table.Outcome.{Outcome}
+use Rattle.gtp_match.specs.declared.reply_table.Outcome.TheVariants as made
 use Rattle.gtp_match.specs.declared.verdicts.ForfeitCause.{ForfeitCause}
 use Rattle.gtp_match.specs.declared.verdicts.ForfeitCause.TheVariants as forfeit
 use Rattle.gtp_match.specs.declared.verdicts.SideFault.{SideFault}

@@ -3,8 +3,8 @@ ghost use Rattle.std.specs.Prelude.{◌≡◌, ◌+◌, ◌≤◌, ◌++◌, len
 ghost use Rattle.arrayvec.specs.ArrayVec.{array_vec_len};
 ghost use Rattle.gtp_match.specs.Losing.{most_shown, owed_of, BreaksRule, first_of};
 
+use crate::reply_table::{Outcome, judge};
 use crate::sides::Incarnation;
-use crate::table::{Outcome, judge};
 use crate::unanswered::SentCommand;
 use crate::verdicts::{ForfeitCause, SideFault};
 use arrayvec::ArrayVec;

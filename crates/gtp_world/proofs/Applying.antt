@@ -5,7 +5,7 @@ use Rattle.go_base.specs.declared.colours.Colour.TheVariants.{Black, White}
 use Rattle.go_board.specs.Game.{GameRecord}
 use Rattle.gtp_session.proofs.Policies.{AllowsLawful}
 use Rattle.gtp_session.specs.Policy.{May}
-use Rattle.gtp_session.specs.Engine.{Engine, fresh_under}
+use Rattle.gtp_session.specs.Engine.{Engine}
 use Rattle.gtp_match.specs.declared.sides.Incarnation.{Incarnation}
 use Rattle.gtp_match.specs.declared.verdicts.Action.{Action}
 use Rattle.gtp_match.specs.declared.verdicts.Action.TheVariants.{Start, Send, Wait, Done}
@@ -23,7 +23,7 @@ use Rattle.gtp_world.specs.Joined.{ruled, IsJoined, IsJoinedSide, BareLane, Engi
 use Rattle.gtp_world.specs.Joined.{WillReadWhereRunning}
 use Rattle.gtp_world.specs.Laws.{rules_of}
 use Rattle.gtp_world.specs.EventLaws.{Applies, own_rule, IsStarted, IsSent, WhatDoesNotApplyIsNothing, ActsAreDone}
-use Rattle.gtp_world.specs.EventLaws.{NothingWaitsForNoEngine, StartsMakePolicies}
+use Rattle.gtp_world.specs.EventLaws.{NothingWaitsForNoEngine, StartsMakePolicies, engine_from_nothing}
 use Rattle.gtp_world.proofs.Agreement.{settled_of}
 use Rattle.gtp_world.proofs.Happenings.{opening_has, runs_keep}
 
@@ -196,12 +196,12 @@ module _ {B W : Type 0} (mb : SidePolicies B) (mw : SidePolicies W) where
   }
 
   starts_black : (old new : World B W) → Acts mb mw old (Start Black) new
-      → (policy : B) × mb.made policy × (new.black.engine ≡ Some (fresh_under mb.rule policy))
+      → (policy : B) × mb.made policy × (new.black.engine ≡ Some (engine_from_nothing mb.rule policy))
   starts_black old new h =
       let it = h.0.fresh_lane in (it.policy, it.made, ap (λ (l : Lane B). l.engine) it.lane)
 
   starts_white : (old new : World B W) → Acts mb mw old (Start White) new
-      → (policy : W) × mw.made policy × (new.white.engine ≡ Some (fresh_under mw.rule policy))
+      → (policy : W) × mw.made policy × (new.white.engine ≡ Some (engine_from_nothing mw.rule policy))
   starts_white old new h =
       let it = h.0.fresh_lane in (it.policy, it.made, ap (λ (l : Lane W). l.engine) it.lane)
 

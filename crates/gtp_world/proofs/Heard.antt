@@ -27,8 +27,8 @@ use Rattle.gtp_session.specs.Commands.{answer, answer_choice}
 use Rattle.gtp_session.specs.Engine.{fresh_game_under}
 use Rattle.gtp_match.specs.declared.unanswered.SentCommand.{SentCommand}
 use Rattle.gtp_match.specs.declared.sides.Incarnation.{Incarnation}
-use Rattle.gtp_match.specs.declared.table.Outcome.{Outcome}
-use Rattle.gtp_match.specs.declared.table.Outcome.TheVariants.{Confirms, Resigns, Moves, Refuses, TakesBack}
+use Rattle.gtp_match.specs.declared.reply_table.Outcome.{Outcome}
+use Rattle.gtp_match.specs.declared.reply_table.Outcome.TheVariants.{Confirms, Resigns, Moves, Refuses, TakesBack}
 use Rattle.gtp_match.specs.declared.verdicts.SideFault.{SideFault}
 use Rattle.gtp_match.specs.declared.verdicts.Verdict.{Verdict}
 use Rattle.gtp_match.specs.declared.verdicts.Verdict.TheVariants.{Resign, Forfeit}

@@ -25,7 +25,7 @@ use Rattle.gtp_match.specs.declared.unanswered.SentCommand.{SentCommand}
 use Rattle.gtp_match.specs.declared.sides.Incarnation.{Incarnation}
 use Rattle.gtp_match.specs.declared.sides.SideState.{SideState}
 use Rattle.gtp_match.specs.declared.sides.Sides.{Sides}
-use Rattle.gtp_match.specs.declared.table.Outcome.TheVariants.{Confirms}
+use Rattle.gtp_match.specs.declared.reply_table.Outcome.TheVariants.{Confirms}
 use Rattle.gtp_match.specs.declared.verdicts.Action.TheVariants.{Send}
 use Rattle.gtp_match.specs.declared.verdicts.SideFault.{SideFault}
 use Rattle.gtp_match.specs.declared.verdicts.Verdict.{Verdict}

@@ -1,12 +1,12 @@
 -- Laws of one event: where it applies, what an `Act` does, which side it puts down, what it takes off the lists, and
 -- what it leaves.
-use Rattle.std.specs.Prelude.{◌≡◌, ◌≢◌, ◌⊎◌, ℕ, ◌+◌, List, [], ◌++◌, take, drop, Option, None, Some}
+use Rattle.std.specs.Prelude.{◌≡◌, ◌≢◌, ◌⊎◌, ℕ, ◌+◌, pos, false, List, [], ◌++◌, take, drop, Option, None, Some}
 use Rattle.go_base.specs.Colour.{other}
 use Rattle.go_base.specs.declared.colours.Colour.{Colour}
 use Rattle.go_base.specs.declared.colours.Colour.TheVariants.{Black, White}
 use Rattle.go_board.specs.Game.{GameRecord}
 use Rattle.go_board.specs.declared.rules.KoRule.{KoRule}
-use Rattle.gtp_session.specs.Engine.{fresh_game_under, fresh_under}
+use Rattle.gtp_session.specs.Engine.{Engine}
 use Rattle.gtp_match.specs.declared.sides.Incarnation.{Incarnation}
 use Rattle.gtp_match.specs.declared.verdicts.Action.{Action}
 use Rattle.gtp_match.specs.declared.verdicts.Action.TheVariants.{Start, Send, Wait, Done}
@@ -77,10 +77,20 @@ abbrev pub own_rule : {B W : Type 0} → SidePolicies B → SidePolicies W → C
 own_rule policies_black policies_white Black = policies_black.rule
 own_rule policies_black policies_white White = policies_white.rule
 
--- an engine of the side runs that was given nothing, under this ko rule, and nothing is on its way to it or from it;
--- the controller counts it as started
+-- The game of an engine that was given nothing: on an empty board of size 19, with komi 0, this ko rule, no handicap
+-- and no moves.
+abbrev pub game_from_nothing : KoRule → GameRecord
+game_from_nothing rule = record { size = 19; komi = pos 0; rule = rule; handicap = 0; moves = [] }
+
+-- An engine with this policy that was given nothing: it holds no text back, has that game, and has not ended.
+abbrev pub engine_from_nothing : {P : Type 0} → KoRule → P → Engine P
+engine_from_nothing rule policy =
+    record { rest = []; game = game_from_nothing rule; policy = policy; ended = false }
+
+-- An engine of the side runs that was given nothing, under this ko rule. Nothing is on its way to it or from it. The
+-- controller counts it as started.
 pub record IsStarted {B W : Type 0} (rule : KoRule) (old : World B W) (side : Colour) (new : World B W) : Type 0 where
-  pub engine : game_at new side ≡ Some (fresh_game_under rule)
+  pub engine : game_at new side ≡ Some (game_from_nothing rule)
   pub to_engine : to_engine_of new side ≡ []
   pub to_controller : to_controller_of new side ≡ []
   pub controller : new.controller ≡ started old.controller side
@@ -193,16 +203,17 @@ module _ {B W : Type 0} (policies_black : SidePolicies B) (policies_white : Side
       → Happens policies_black policies_white mid (ToEngine side two) new
       → Happens policies_black policies_white old (ToEngine side (one + two)) new
 
-  -- a start makes a new policy, which is one that a start of its side may make
+  -- After a start the side has an engine that was given nothing, under the side's ko rule. Its policy is one that a
+  -- start of the side may make.
   pub record StartsMakePolicies : Type 0 where
     pub black : (old new : World B W) → next old.controller ≡ Start Black
         → Happens policies_black policies_white old Act new
         → (policy : B) × policies_black.made policy
-        × (new.black.engine ≡ Some (fresh_under policies_black.rule policy))
+        × (new.black.engine ≡ Some (engine_from_nothing policies_black.rule policy))
     pub white : (old new : World B W) → next old.controller ≡ Start White
         → Happens policies_black policies_white old Act new
         → (policy : W) × policies_white.made policy
-        × (new.white.engine ≡ Some (fresh_under policies_white.rule policy))
+        × (new.white.engine ≡ Some (engine_from_nothing policies_white.rule policy))
 
   -- an `Act` does what is next: it starts a side's engine, or sends a side its next command
   pub record ActsAreDone : Type 0 where

@@ -11,9 +11,9 @@ use Rattle.gtp_match.specs.Sides.{side_of}
 use Rattle.gtp_match.specs.Unanswered.{most_unanswered, oldest}
 use Rattle.gtp_match.specs.declared.controller.Controller.{Controller}
 use Rattle.gtp_match.specs.declared.sides.Incarnation.{Incarnation}
-use Rattle.gtp_match.specs.declared.table.Outcome.{Outcome}
-use Rattle.gtp_match.specs.declared.table.Outcome.TheVariants.{Down, Unfit, Forfeits, Confirms, Resigns, Moves}
-use Rattle.gtp_match.specs.declared.table.Outcome.TheVariants.{Refuses, TakesBack, Keeps}
+use Rattle.gtp_match.specs.declared.reply_table.Outcome.{Outcome}
+use Rattle.gtp_match.specs.declared.reply_table.Outcome.TheVariants.{Down, Unfit, Forfeits, Confirms, Resigns, Moves}
+use Rattle.gtp_match.specs.declared.reply_table.Outcome.TheVariants.{Refuses, TakesBack, Keeps}
 
 -- an engine may be sent a command more
 abbrev pub MayHand : Incarnation → Type 0

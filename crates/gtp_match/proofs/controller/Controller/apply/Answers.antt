@@ -1,7 +1,7 @@
 use Rattle.std.proofs.Common.{subst}
 use Rattle.gtp_match.specs.private.Conditions.{MayBe}
-use Rattle.gtp_match.specs.declared.table.Outcome.{Outcome}
-use Rattle.gtp_match.specs.declared.table.Outcome.TheVariants.{Moves}
+use Rattle.gtp_match.specs.declared.reply_table.Outcome.{Outcome}
+use Rattle.gtp_match.specs.declared.reply_table.Outcome.TheVariants.{Moves}
 use Rattle.gtp_match.specs.Sides.{with_side, with_engine}
 use Rattle.gtp_match.proofs.ApplyLemmas.{is_played, applied_move, confirms_lent}
 use Rattle.gtp_match.proofs.controller.Controller.apply.Goals as goal
