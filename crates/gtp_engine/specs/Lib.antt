@@ -1,4 +1,5 @@
 pub mod Options
 pub mod Status
 pub mod Program
+pub mod Displayed
 pub mod private

@@ -88,7 +88,7 @@ pub record HasHelped (words : List Text) (status : ℕ) (before after : Streams)
 
 -- ---- what else may end a run
 
--- memory was refused, and that is told
+-- The program could not go on, and it is told that memory was refused.
 pub record IsOutOfMemory (status : ℕ) (before after : Streams) : Type 0 where
   pub status_is : status ≡ own_failure
   pub told : TellsFailure OutOfMemory before.errors after.errors

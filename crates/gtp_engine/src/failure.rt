@@ -1,6 +1,6 @@
 //! The failures that the program tells in a line of its own.
 ghost use Rattle.std.specs.Prelude.{◌≡◌, ◌≢◌};
-ghost use Rattle.gtp_engine.specs.Status.{TellsFailure, failure_line, status_of};
+ghost use Rattle.gtp_engine.specs.Status.{TellsFailure, failure_line, status_for};
 
 use gtp_session::serve::ServeFault;
 use gtp_session::streams::{Outgoing, send};
@@ -35,7 +35,7 @@ impl Failure {
 
     /// The status that the program ends with: 2 for a mistake in the arguments, 3 for a failure of its own.
     pub fn status(self) -> u8
-        ensures { result ≡ status_of self }
+        ensures { result ≡ status_for self }
     {
         match self {
             Failure::BadArgument | Failure::BadBook | Failure::BadFault => 2,
@@ -61,7 +61,7 @@ impl Failure {
 
 /// Tells the failure in one line, and returns the status. A writer that fails doesn't change the status.
 pub fn tell<E: Outgoing>(failure: Failure, errors: &mut E) -> u8
-    ensures status { result ≡ status_of failure }
+    ensures status { result ≡ status_for failure }
     ensures told { TellsFailure failure (E.shown errors.old) (E.shown errors.new) }
 {
     let _ = send(errors, failure.line());

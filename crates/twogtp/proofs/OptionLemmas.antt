@@ -38,4 +38,5 @@ pub ReadsOne-spells : (E : Type 0) (G : List ℕ → Result ℕ E → Type 0) (t
     → IsNumeral 10 (without_leading_plus text) → digits_value 10 (without_leading_plus text) < 2 ^ 32
     → unwrap_or read default ≡ digits_value 10 (without_leading_plus text)
 ReadsOne-spells E G text (Some n) default reads parses = λ numeral fits. (parses (Ok n) reads).1
-ReadsOne-spells E G text None default reads parses = λ numeral fits. absurd (parses (Err reads.0) reads.1 (numeral, fits))
+ReadsOne-spells E G text None default reads parses = λ numeral fits.
+    absurd (parses (Err reads.0) reads.1 (numeral, fits))

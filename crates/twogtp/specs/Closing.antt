@@ -70,11 +70,11 @@ abbrev pub IsClosedWhere : {P : Type 0} → Ghosts P → Bool → Option P → T
 IsClosedWhere known true process = QuitsIfAny known process
 IsClosedWhere known false process = IsEnded known process
 
-abbrev pub IsClosed : {P : Type 0} → Ghosts P → Controller → Colour → Option P → Type 0
-IsClosed known c side process =
+abbrev pub IsSideClosed : {P : Type 0} → Ghosts P → Controller → Colour → Option P → Type 0
+IsSideClosed known c side process =
     IsClosedWhere known (has_answered_all (status_of (side_of c.sides side).up)) process
 
 -- the processes of both sides were closed
 pub record AreClosed {P : Type 0} (known : Ghosts P) (c : Controller) (processes : Processes P) : Type 0 where
-  pub black : IsClosed known c Black processes.black
-  pub white : IsClosed known c White processes.white
+  pub black : IsSideClosed known c Black processes.black
+  pub white : IsSideClosed known c White processes.white

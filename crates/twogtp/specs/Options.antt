@@ -68,8 +68,8 @@ command_line = with_rest (with_moves (with_games (with_game (with_engines progra
 -- ---- what the words ask for
 
 -- the text that an option has; a default counts too
-abbrev pub text_of : Text → List Row → Text
-text_of name rows = unwrap_or (first_of name rows) []
+abbrev pub option_text : Text → List Row → Text
+option_text name rows = unwrap_or (first_of name rows) []
 
 -- the number that an option has: what its text spells, where that is a number of 32 bits
 abbrev pub HasNumber : Text → List Row → ℕ → Type 0
@@ -85,10 +85,10 @@ pub record HasFlag (name : Text) (rows : List Row) (flag : Bool) : Type 0 where
 
 -- the matches of a command line ask for these options
 pub record Ask (rows : List Row) (options : Options) : Type 0 where
-  pub black : options.black.now ≡ text_of (codes "black") rows
-  pub white : options.white.now ≡ text_of (codes "white") rows
+  pub black : options.black.now ≡ option_text (codes "black") rows
+  pub white : options.white.now ≡ option_text (codes "white") rows
   pub size : HasNumber (codes "size") rows options.size
-  pub komi : options.komi.now ≡ text_of (codes "komi") rows
+  pub komi : options.komi.now ≡ option_text (codes "komi") rows
   pub handicap : HasNumber (codes "handicap") rows options.handicap
   pub games : HasNumber (codes "games") rows options.games
   pub max_moves : HasNumber (codes "max-moves") rows options.max_moves

@@ -4,7 +4,7 @@ ghost use Rattle.clap.specs.Walk.{rows_of};
 ghost use Rattle.clap.specs.Words.{app_of, found_of, kind_of, rule_of};
 ghost use Rattle.clap.specs.declared.builder.value_parser.ValueParser.TheVariants.{Signed};
 ghost use Rattle.clap.specs.declared.error.kind.ErrorKind.TheVariants.{OutOfMemory};
-ghost use Rattle.twogtp.specs.Options.{Ask, AsksFor, HasFault, HasFlag, HasNumber, text_of};
+ghost use Rattle.twogtp.specs.Options.{Ask, AsksFor, HasFault, HasFlag, HasNumber, option_text};
 ghost use Rattle.twogtp.specs.Options.{command_line, with_engines, with_game, with_games, with_moves};
 ghost use Rattle.twogtp.specs.Options.{program, with_rest, required_rule, option_rule, flag_rule};
 
@@ -95,7 +95,7 @@ fn options_of<'a>(matches: &ArgMatches<'a>) -> Options<'a>
 
 /// The text of an option.
 fn text_at<'a>(matches: &ArgMatches<'a>, name: &str) -> &'a str
-    ensures { result.now ≡ text_of name.now (rows_of (found_of matches.now)) }
+    ensures { result.now ≡ option_text name.now (rows_of (found_of matches.now)) }
 {
     matches.get_str(name).unwrap_or("")
 }

@@ -11,7 +11,8 @@ returns-clause-asked g c =
     let line = c.in_ok-command.ensures in
     let words = map g.S.AsStr.text c.args.words.now in
     let rows : rows_of (found_of c.in_ok-matches.matches) ≡ matches_of command_line words =
-    (c.in_ok-matches.ensures.matches (ap is_simple line ∙ is_simple-command_line)).0 ∙ ap (λ app. matches_of app words) line in
+    (c.in_ok-matches.ensures.matches (ap is_simple line ∙ is_simple-command_line)).0
+    ∙ ap (λ app. matches_of app words) line in
     record {
       no_fault = sym (ap (λ app. fault_of app words) line)
           ∙ c.in_ok-matches.ensures.kinds (ap is_simple_and_free line ∙ is_simple_and_free-command_line);
