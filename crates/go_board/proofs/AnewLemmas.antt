@@ -16,7 +16,7 @@ use Rattle.go_board.proofs.CaptureLemmas.{in_list}
 use Rattle.go_board.proofs.FloodLemmas.{IsOn-inside, index_of}
 use Rattle.go_board.proofs.ChainLemmas.{Joined-then, Joined-back, IsStone-point, AreLabels-steps}
 
--- the first so many places were given the label
+-- the first `n` places were given the label
 pub record IsGiving (old : List ℕ) (places : List ℕ) (label n : ℕ) (new : List ℕ) : Type 0 where
   pub length_is : length new ≡ 702
   pub given : (k : ℕ) → k < n → label_of new (slice_index places k) ≡ label

@@ -38,7 +38,7 @@ pub taken-push : (game : GameRecord) (c : Colour) (v : Vertex) (d : Colour)
 unfolding taken taken_by board
 taken-push game c v d = taken_from-push (start game.size game.handicap) d game.moves (record { colour = c; vertex = v })
 
--- what a colour has taken after a move that took so many
+-- what a colour has taken after a move that took `now` stones
 pub taken-with_move : (game : GameRecord) (c : Colour) (v : Vertex) (d : Colour) (had now t : ℕ) → had ≡ taken game d
     → now ≡ captures_of_vertex (board_of game) c v
     → t ≡ had + (if same_colour c d then now else 0) → t ≡ taken (with_move game c v) d
@@ -49,7 +49,7 @@ taken-with_move game White v White had now t h k e =
 taken-with_move game Black v White had now t h k e = e ∙ ap (λ n. n + 0) h ∙ sym (taken-push game Black v White)
 taken-with_move game White v Black had now t h k e = e ∙ ap (λ n. n + 0) h ∙ sym (taken-push game White v Black)
 
--- what a colour had taken before a move that took so many
+-- what a colour had taken before a move that took `now` stones
 pub taken-without_move : (game : GameRecord) (c : Colour) (v : Vertex) (d : Colour) (had now t : ℕ)
     → had ≡ taken (with_move game c v) d → now ≡ captures_of_vertex (board_of game) c v
     → t ≡ had - (if same_colour c d then now else 0) → t ≡ taken game d

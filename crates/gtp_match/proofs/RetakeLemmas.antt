@@ -11,7 +11,7 @@ total_set (x ∷ xs) zero k lm lx = absurd (omega (arith, lm))
 total_set (x ∷ xs) (suc m) zero lm lx = omega arith
 total_set (x ∷ xs) (suc m) (suc k) lm lx = omega (arith, total_set xs m k (omega (arith, lm)) (omega (arith, lx)))
 
--- one retake more of a number within the first so many
+-- one retake more of a number within the first `numbers`
 pub retake_more : (retakes : List ℕ) (numbers number : ℕ) → 0 < number → number ≤ numbers → number ≤ length retakes
     → retakes_within numbers (with_retake number retakes) ≡ retakes_within numbers retakes + 1
 retake_more retakes numbers zero some within inside = absurd (omega (arith, some))
@@ -45,7 +45,7 @@ retaken_again retakes number are some few = record {
     by_number (suc i) =
         few_set retakes (number - 1) (retakes_of retakes number + 1) i (omega (arith, few)) (λ j. are.few (suc j))
 
--- so many numbers that are 0
+-- `n` numbers that are 0
 abbrev zeros_of : ℕ → List ℕ
 zeros_of n = replicate n 0
 

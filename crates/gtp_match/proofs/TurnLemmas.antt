@@ -62,7 +62,7 @@ turned first n = by_test (eqb (n % 2) 0) refl
     by_test true e = ap (λ b. cond b first (other first)) (even_next n true e)
     by_test false e = ap (λ b. cond b first (other first)) (even_next n false e) ∙ sym (other_twice first)
 
--- no handicap, or so many stones as there may be
+-- no handicap, or two stones or more
 abbrev pub HasStones : GameRecord → Type 0
 HasStones game = (game.handicap ≡ 0) ⊎ (2 ≤ game.handicap)
 

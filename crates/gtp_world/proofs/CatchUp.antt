@@ -169,7 +169,7 @@ module _ {B W : Type 0} (mb : SidePolicies B) (mw : SidePolicies W) (law_b : All
   abbrev rules : Rules
   rules = rules_of mb mw
 
-  -- both sides are up with running engines and nothing unanswered, and have confirmed so many commands
+  -- both sides are up with running engines and nothing unanswered, and have confirmed as many commands as these counts say
   record Settling (game : GameRecord) (v : World B W) (black_count white_count : ℕ) : Type 0 where
     inv : IsJoined rules v
     none : v.controller.verdict ≡ None

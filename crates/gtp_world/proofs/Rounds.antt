@@ -219,7 +219,7 @@ other_put : (s : Colour) (x : SideState) (all : Sides) → side_of (with_side s 
 other_put Black x all = refl
 other_put White x all = refl
 
--- a side that is up, has nothing unanswered and has confirmed so many commands, and whose engine runs
+-- a side that is up, has nothing unanswered and has confirmed `count` commands, and whose engine runs
 pub record IsReady {P : Type 0} (up : Option Incarnation) (l : Lane P) (count : ℕ) : Type 0 where
   pub incarnation : Incarnation
   pub is_up : up ≡ Some incarnation
