@@ -7,7 +7,8 @@ ghost use Rattle.go_base.specs.Vertex.{VertexOfTells, VerticesReadBack, SpellsOn
 ghost use Rattle.go_base.specs.Choice.{ChoiceOfTells, SpellsOneChoice};
 ghost use Rattle.go_base.specs.Komi.{KomiOfTells, KomisReadBack, SpellsOneKomi};
 ghost use Rattle.go_base.specs.Point.{NeighboursAreBeside};
-ghost use Rattle.go_base.specs.Decimal.{IntsAreCounted, PointsAreCounted, PointsOnBoardsAreWithin, KomisAreTwiceTheirValue};
+ghost use Rattle.go_base.specs.Decimal.{IntsAreCounted, PointsAreCounted, PointsOnBoardsAreWithin};
+ghost use Rattle.go_base.specs.Decimal.{KomisAreTwiceTheirValue};
 
 /// A written int is read back, and a text spells at most one int.
 pub fn int_laws()
