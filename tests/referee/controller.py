@@ -336,7 +336,7 @@ class Controller:
         return [self.of_script(confirmed, sent) for sent in range(min(least, length), min(most, length) + 1)]
 
     def of_script(self, confirmed, sent):
-        """The unanswered commands of an engine that was started, was `sent` commands of the script and has `confirmed` some."""
+        """The unanswered commands of an engine that was started, was sent `sent` commands of the script and has confirmed `confirmed`."""
         return [(number, spelled(command)) for number, command in enumerate(self.script(), 1)][confirmed:sent]
 
     def writes(self, side):
