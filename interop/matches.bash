@@ -9,7 +9,8 @@ play() {
         --record --show "${@:3}" > "$name.out" 2> "$name.err"
     status=$?
     line=$(grep '^game ' "$name.out" | tail -n 1)
-    verdict=$(echo "$line" | sed 's/^game [0-9]*: \(.*\) moves .*/\1/')
+    verdict=${line#game *: }
+    verdict=${verdict% moves *}
     record=$(grep -A 1 '^game ' "$name.out" | tail -n 1)
     board=$(tac "$name.out" | sed -n '2,/^game /p' | head -n -2 | tac)
 }
@@ -73,7 +74,7 @@ credited() {
 
 # referees TITLE: the last match told to each engine that is here. Where there was a score, each has to say it too.
 referees() {
-    local scored=1 asked=final_score said wanted=$verdict
+    local scored=1 asked=final_score said wanted=$verdict words
     [[ $verdict =~ ^[BW]\+[0-9] ]] || { scored='' asked=protocol_version; }
     said=$(told ./gtp_engine)
     check "$1: told to our engine, no move is refused${scored:+, and its score is ${said##* }}" \
@@ -85,7 +86,8 @@ referees() {
         [ -z "$scored" ] || check "$1: GNU Go's score is ${said##* }" "${said##* }" "$wanted"
     fi
     if [ -x leelaz ] && [ "$size" = 19 ]; then
-        said=$(told $leela)
+        read -ra words <<< "$leela"
+        said=$(told "${words[@]}")
         check "$1: told to Leela Zero, no move is refused${scored:+, and its score is ${said##* }}" \
             "${said%% *} ${scored:+${said##* }}" "0 ${scored:+$wanted}"
     fi
@@ -131,7 +133,8 @@ killing() {
     play "$@"
     before=$line record_before=$record board_before=$board
     check "$title, in peace: $line" "$status ${line##* restarts }" "0 0 0"
-    moves=$(echo "$line" | sed 's/.* moves \([0-9]*\) .*/\1/')
+    moves=${line##* moves }
+    moves=${moves%% *}
     rm -f black.* white.*
     for side in black white; do
         restarted=0

@@ -1,4 +1,5 @@
 # The games by the match scripts that come with GNU Go's source. `interop/run` reads this file; its README says more.
+# shellcheck disable=SC2154 # `interop/run` makes the folder `work`
 
 # Fetches GNU Go's source as Debian keeps it, by apt-get with folders of its own: the machine's settings stay as they are.
 fetch_scripts() {
@@ -43,7 +44,7 @@ start() {
     esac
     timeout 600 "${command[@]}" > "$name.out" 2> "$name.err"
     status=$?
-    while [ "$(ls "$name".*.commands | wc -l)" != "$(ls "$name".*.ended 2> /dev/null | wc -l)" ] && [ $((tries += 1)) -lt 50 ]; do
+    while [ "$(compgen -G "$name.*.commands" | wc -l)" != "$(compgen -G "$name.*.ended" | wc -l)" ] && [ $((tries += 1)) -lt 50 ]; do
         sleep 0.1
     done
     return "$status"
@@ -112,7 +113,7 @@ handicaps() {
 }
 # by_scripts: plays and checks all games of this file.
 by_scripts() {
-    local perl= pike= script first random peer seed
+    local perl='' pike='' script first random peer seed
     if [ -z "$scripts" ] && ! { command -v apt-get > /dev/null && fetch_scripts; }; then
         skip "the match scripts of GNU Go are not here and could not be fetched by apt-get; give --scripts FOLDER"
         return

@@ -18,9 +18,10 @@ MOST_RETAKES = 3  # of one move number in a match
 # A match's values: komi in half points, the other numbers as they are.
 Setup = namedtuple("Setup", "size komi handicap most_moves most_restarts")
 
-# Why a side is lost: the side, and the texts of which one is told. The first is told where all runs as it does here; there are others
-# where it is a question of time.
+# Why a side is lost, or that it refused a move that is retaken: the side, and the texts of which one is told. The first is told where
+# all runs as it does here; of a loss there are others where it is a question of time.
 Loss = namedtuple("Loss", "side texts")
+Retake = namedtuple("Retake", "side texts")
 
 
 class Up:
@@ -50,7 +51,7 @@ class Controller:
         self.retakes = {}  # of each move number, from 1, where there were any
         self.pending = None  # the maker of the last move, where that move is to be taken back
         self.verdict = None
-        self.losses = []
+        self.told = []  # losses and retakes, as they came
         self.pieces = []  # what was heard last: a whole reply with what stood before it; or each text that may be told of no reply
         self.is_behind = False  # was it heard in one read with a reply before it?
 
@@ -242,8 +243,9 @@ class Controller:
         if not self.is_last_of_the_other(side) or self.retakes.get(number, 0) >= MOST_RETAKES:
             self.tell(side, why.REFUSED_PLAY)
             return self.forfeit(side, "refused play")
-        self.sides[side].unanswered.pop(0)
         self.retakes[number] = self.retakes.get(number, 0) + 1
+        self.tell_retake(side, self.retakes[number])
+        self.sides[side].unanswered.pop(0)
         maker = values.other(side)
         if self.has_confirmed_all(maker):
             self.pending = maker
@@ -317,7 +319,13 @@ class Controller:
             told = (why.WRONG_ID if unanswered else why.UNASKED) if is_strange else cause
             fewer = len(sent) - len(unanswered)
             texts += [why.lost(unanswered, told, piece) for piece in self.pieces[: max(1, len(self.pieces) - fewer)]]
-        self.losses.append(Loss(side, texts))
+        self.told.append(Loss(side, texts))
+
+    def tell_retake(self, side, count):
+        """This side has refused the last move, which is retaken. That is no loss. The play still counts as unanswered. It is reported
+        whether or not an undo follows."""
+        texts = [why.lost(self.unanswered(side), why.retaken(count, MOST_RETAKES), piece) for piece in self.pieces]
+        self.told.append(Retake(side, texts))
 
     def unanswered(self, side):
         """The unanswered commands of this side, which is up: pairs of an id and a text."""

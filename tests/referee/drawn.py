@@ -31,14 +31,18 @@ LATE = [1, 1, 1, 2, 2, 2, 3, 3, 4, 6]
 LATER = [1, 2, 3, 3, 4, 4, 5, 6, 7, 8, 9, 10, 13, 18]
 
 # What one engine does first, its own faults, and those of the other one, where they aren't drawn: lists of faults, each a life, the
-# places of which one is drawn, a template and what comes then. `moves_first` says whether that engine moves first, where that isn't
-# drawn. The restarts are one of `restarts`, the moves at least `moves`.
+# places of which one is drawn, a template and what comes then. The other one may be OURS too. `moves_first` says whether the first
+# engine moves first, where that isn't drawn. The restarts are one of `restarts`, the moves at least `moves`.
 Turn = namedtuple("Turn", "own other moves_first restarts moves", defaults=[None, None, RESTARTS, 1])
 
 REFUSAL = faults.REFUSALS[0]
 REFUSES_ONE = [(1, ["p1", "p1", "p2"], REFUSAL, REFUSES)]
 ONCE_MORE = (["g1"], "<reply><reply>", "on")  # it makes a move, and goes down
 ANYWHERE = ["c1", "c2", "c3", "c5", "g1", "p1", "u1"]
+
+# Plays of the other side that an engine refuses now and then, in one life.
+NOW_AND_THEN = [["p1", "p3", "p6-7"], ["p2-3", "p5", "p9-11"], ["p4-6", "p8", "p10", "p12"], ["p1-3", "p5-7", "p9-11"]]
+OURS = "ours"  # as the other engine: ours, which plays at random, and so mostly another move than the one that it takes back
 
 WHY = 0.8  # how often a match is played with `--why`
 
@@ -52,6 +56,11 @@ def at(places, template, then="on"):
     return Turn([(1, places, template, then)])
 
 
+def refusing(places, template):
+    """What an engine does that refuses these plays."""
+    return [(1, [place], template, REFUSES) for place in places]
+
+
 def undoing(template, then):
     """What an engine does at an undo, where the other side refuses its first move, and maybe another one."""
     return Turn([(1, ["u1"], template, then)], REFUSES_ONE, moves=3)
@@ -62,14 +71,17 @@ EARLY = [
     *(at(ANYWHERE, template, then) for template, then in faults.ENDINGS),
     *(at(ANYWHERE, template) for kind in faults.ANY for template in kind),
     *(at(["g1", "g1", "g2"], template) for template in faults.MOVES),
-    Turn([(1, ["g1", "g1", "g2"], *faults.SHUT)], [], moves=8),  # the game goes on, so it is written to
+    *(Turn([(1, ["g1", "g1", "g2"], *shut)], [], moves=8) for shut in faults.SHUT_AND_MORE),  # the game goes on, so it is written to
     *(at(["h"], template) for template in faults.STONES),
     *(at(["q"], *quit) for quit in faults.QUITS),
     *(at(["0"], *greeting) for greeting in faults.GREETINGS),
     # It refuses moves of the other side.
     *(Turn([(1, row, template, REFUSES)], moves=5) for row in faults.ROWS for template in faults.REFUSALS[::2]),
     *(Turn([(1, ["p1-3"], REFUSAL, REFUSES), (1, [row], REFUSAL, REFUSES)], [], moves=8) for row in ("p5-6", "p6-8")),
+    *(Turn(refusing(places, REFUSAL), other, moves=25) for places in NOW_AND_THEN for other in (OURS, [])),
+    *(Turn(refusing(places, faults.REFUSALS[2]), refusing(places, REFUSAL), moves=25) for places in NOW_AND_THEN),
     *(Turn([(1, ["p1", "p2"], *more)], moves=5) for more in faults.REFUSED_AND_MORE),
+    *(Turn([(1, ["p1", "p2"], *more)], OURS, None, restarts, 5) for more in faults.REFUSED_AND_LOST for restarts in ([0], [2])),
     Turn([("*", ["p1"], REFUSAL + "hello", "on")], [], False, [0, 1, 2], 3),
     # It is told to take a move back.
     *(undoing(template, then) for template, then in faults.ENDINGS + faults.UNDOES),
@@ -85,10 +97,12 @@ EARLY = [
     Turn([(1, ["p1-3"], REFUSAL, REFUSES), (1, ["g1"], "", ENDS), (2, ["p1"], REFUSAL, REFUSES)], [], False, [1, 2, 3], 3),
     # It goes down after each of its moves, which the other side refuses.
     *(Turn([("*", *ONCE_MORE)], [(1, ["p1-4"], REFUSAL, REFUSES)], first, [4], 3) for first in (False, True)),
+    *(Turn([("*", *ONCE_MORE)], refusing(places, REFUSAL), False, [3], 5) for places in (["p1"], ["p1-2"], ["p2"], ["p1", "p3"])),
     # The other side refuses a move and goes down, and it fails to take the move back, or goes down too.
     Turn([(1, ["u1"], REFUSAL, REFUSES)], [(1, ["p1"], REFUSAL + "hello", "on")], None, [1, 2, 3], 3),
     Turn([("*", ["u1"], "", ENDS)], [(1, ["p1"], REFUSAL, REFUSES), (1, ["p2"], REFUSAL + "hello", "on")], None, [1], 3),
     *([KO] * KO_TURNS),
+    *OTHERS,  # one side is no engine, or isn't there
 ]
 
 
@@ -97,7 +111,8 @@ def match_of(seed, number):
     as EARLY is long have each of these once; all else is drawn."""
     r = random.Random(f"{seed} {number}")
     turn = EARLY[number % len(EARLY)]
-    match = match_of_ko(r) if turn == KO else match_with(r, turn)
+    draws = match_of_ko if turn == KO else match_with_other if isinstance(turn, str) else match_with
+    match = draws(r, turn)
     # From draws of its own: with it or without, a match is the same.
     return match._replace(why=random.Random(f"{seed} {number} why").random() < WHY)
 
@@ -112,7 +127,9 @@ def match_with(r, turn):
     restarts, games = r.choice(turn.restarts), r.choice([1, 1, 1, 1, 2])
     lives = (restarts + 1) * games
     komi = r.choice(BAD_KOMIS if r.random() < wrong else KOMIS)
-    if turn.other is not None:
+    if turn.other == OURS:
+        engines = [engine_with(r, own, handicap, lives, 0), our_engine(r, size, policy="random")]
+    elif turn.other is not None:
         engines = [engine_with(r, plan, handicap, lives, 0) for plan in (own, plan_of(r, turn.other))]
     elif "/u" in own[0]:
         engines = [engine_with(r, plan, handicap, lives) for plan in (own, plan_of(r, REFUSES_ONE))]
@@ -124,12 +141,21 @@ def match_with(r, turn):
     return Match(size, komi, handicap, games, most_moves, restarts, r.random() < 0.8, r.random() < 0.5, False, dict(zip(sides, engines)))
 
 
+def match_with_other(r, name):
+    """A match in which one side is this program, which is no engine or isn't there."""
+    size, restarts, games = r.choice(SIZES), r.choice(RESTARTS), r.choice([1, 1, 2])
+    engines = [Other(name), engine_of(r, size, 0, (restarts + 1) * games)]
+    r.shuffle(engines)
+    most_moves = r.choice(MOST_MOVES)
+    return Match(size, r.choice(KOMIS), 0, games, most_moves, restarts, True, False, False, dict(zip([BLACK, WHITE], engines)))
+
+
 def plan_of(r, faults_of_it):
     """These faults, each at one of its places."""
     return [written(r, life, r.choice(places), template, then) for life, places, template, then in faults_of_it]
 
 
-def match_of_ko(r):
+def match_of_ko(r, _):
     """A match between two of our engines, of which one or both know the positional rule, on a small board. On the smallest, positions
     come back most often, and where White knows that rule."""
     rules = r.choice([[SIMPLE, POSITIONAL]] * 6 + [[POSITIONAL, SIMPLE], [POSITIONAL, POSITIONAL]])

@@ -14,16 +14,22 @@ from .faulty import ENDS, Faulty
 FAULTY = Path(__file__).resolve().parent / "faulty.py"
 FLOOD = b"\n" * 8193
 
+# Programs that aren't there. A command is cut at spaces alone.
+ODD_PROGRAM = 'no_such\t"program"\\\n--mode\u00e9 gtp'
+LONG_PROGRAM = "./no_such_program" + 150 * "x" + " --mode gtp"
+
 # Programs that are no engines: what each writes by itself, and what it does then; None where it can't be started.
 OTHERS = {
     "no_such_program": None,
+    ODD_PROGRAM: None,
+    LONG_PROGRAM: None,
     "/": None,
     "true": (b"", ENDS),
     "echo hello": (b"hello\n", ENDS),
     "cat": (b"", "on"),
 }
 # .. and why: there is no such file, or it is a folder.
-REASONS = {"no_such_program": "no such file", "/": "not allowed"}
+REASONS = {name: "no such file" for name in ("no_such_program", ODD_PROGRAM, LONG_PROGRAM)} | {"/": "not allowed"}
 
 
 class Other:
@@ -37,6 +43,7 @@ class Other:
     def __init__(self, name):
         self.name = name
         self.reason = REASONS.get(name)
+        self.program = name.split(" ")[0].encode()
 
     def command(self, notes):
         """The words of its command."""

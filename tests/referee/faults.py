@@ -111,6 +111,8 @@ MOVES = [
 ]
 # To a genmove too: it closes its input before it replies. Nothing else is on its way to it then.
 SHUT = ("<reply>", "shuts")
+# .. and it writes the front of another reply besides.
+SHUT_AND_MORE = [SHUT, ("<reply>=", "shuts"), (r"<reply>\n_=", "shuts")]
 # To the last move, which the other side made: it is refused at each of these plays, one after the other. The engine doesn't do it.
 ROWS = [["p1", "p2", "p3"], ["p1-2", "p2-3"], ["p1-3", "p2-4"], ["p1-4", "p2-5"], ["p1-2000"]]
 # To the last move too: it is refused, and at once more follows than was asked for, or the front of a reply, or nothing more at all.
@@ -123,6 +125,8 @@ REFUSED_AND_MORE = [
     (r"?<id>_no\n\n", "ends"),
     (r"?<id>_no\n\n", "closes"),
 ]
+# The same, where the same read loses it.
+REFUSED_AND_LOST = [(r"?<id>_no\n\nhello", "on"), (r"?<id>_no\n\n=<id>\n\n", "on"), (r"\n?<id>\n\n_!", "on")]
 # To an undo, beside the endings.
 UNDOES = [
     *((refusal, "refuses") for refusal in REFUSALS),

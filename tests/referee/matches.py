@@ -23,9 +23,13 @@ TIMINGS = [
 ]
 MOST_TURNS = 100_000
 
-# The number of the game in its own line, with the restarts of both sides, and in a line of `--why`.
+# The number of the game in its own line, with the restarts of both sides; in a line of `--why`; and in one of a retake, with its count.
 GAME_LINE = re.compile(rb"^game (\d+): .* restarts (\d+) (\d+)$", re.MULTILINE)
 WHY_LINE = re.compile(rb"^twogtp: game (\d+): ", re.MULTILINE)
+RETAKE_LINE = re.compile(
+    rb'^twogtp: game (\d+): (?:black|white): 1 unanswered, "\d+ play [bw] \w+": the play was refused \(retake (\d+) of 3\); it wrote "',
+    re.MULTILINE,
+)
 
 # What a match is: the options of `twogtp`, komi as it is spelled, and the engine of each side.
 Match = namedtuple("Match", "size komi handicap games most_moves restarts record show why engines")
@@ -142,8 +146,8 @@ class Starter:
         return Process(engine, self.notes[side], self.timing)
 
     def reason(self, side):
-        """Why no process of this side can be started."""
-        return self.engines[side].reason
+        """Why no process of this side can be started, and the program that can't."""
+        return self.engines[side].reason, self.engines[side].program
 
 
 def play(match, timing=TIMINGS[0]):
@@ -193,7 +197,7 @@ def take_turn(referee, action, side, processes, starter):
         processes[side] = starter.start(side)
         referee.started(side)
         if processes[side] is None:
-            lose(referee, side, [why.not_started(starter.reason(side))])
+            lose(referee, side, [why.not_started(*starter.reason(side))])
     elif action == SEND:
         if not processes[side].write(all_for(referee, side)):
             lose(referee, side, broken(processes[side], why.WRITING_FAILED, referee.writes(side)[:1]))
@@ -211,26 +215,27 @@ def all_for(referee, side):
 
 def hear(referee, side, process):
     """Reads what this side wrote. Where it loses the side, and the engine has ended, a write before may have failed."""
-    writes, losses = referee.writes(side), len(referee.losses)
+    writes, before = referee.writes(side), len(referee.told)
     text = process.read()
     if text:
         referee.heard(side, text, process.behind)
     else:
         lose(referee, side, broken(process, why.OUTPUT_ENDED, writes[:1]))
     if process.may_have_broken():
-        for loss in referee.losses[losses:]:
-            loss.texts.extend(broken(process, why.WRITING_FAILED, writes))
+        for lost in referee.told[before:]:
+            if isinstance(lost, Loss):
+                lost.texts.extend(broken(process, why.WRITING_FAILED, writes))
 
 
 def lose(referee, side, texts):
     """This side is lost, and one of these texts is told."""
-    referee.losses.append(Loss(side, texts))
+    referee.told.append(Loss(side, texts))
     referee.lost(side)
 
 
 def broken(process, cause, writes):
     """The texts of a pipe that is broken, with what was unanswered and what had come by then."""
-    return [why.lost(unanswered, f"{cause}, {ending}", rest) for unanswered, rest in writes for ending in process.endings()]
+    return [why.cut_off(unanswered, cause, ending, rest) for unanswered, rest in writes for ending in process.endings()]
 
 
 def say_quit(referee, processes):
@@ -253,7 +258,7 @@ def told(match, number, played):
 
 def explained(number, played):
     """What `--why` tells of a game: for each line the texts of which one is told."""
-    return [[why.line(number, loss.side, text) for text in loss.texts] for loss in played.losses]
+    return [[why.line(number, side, text) for text in texts] for side, texts in played.told]
 
 
 def fits(result, wanted, may_owe_otherwise=False):
@@ -264,12 +269,24 @@ def fits(result, wanted, may_owe_otherwise=False):
     return may_owe_otherwise or (len(lines) == len(wanted.errors) and all(map(list.__contains__, wanted.errors, lines)))
 
 
-def has_too_many_lines(result):
-    """Does `--why` tell more lines of a game than engines were started in it? Those are the restarts of both sides and two more, which
-    the game's own line has."""
+def has_too_many_lines(result, most_moves):
+    """Does `--why` print more lines of a game than it may? Those of losses are at most the starts: the restarts of both sides and two
+    more, which the game's own line has. Each move number has at most three retakes, counted from 1. So there are at most as many first
+    ones as moves are allowed, no more second ones than first ones, no more third ones than second ones, and no others."""
     starts = {number: int(black) + int(white) + 2 for number, black, white in GAME_LINE.findall(result.output)}
     lines = Counter(WHY_LINE.findall(result.errors))
-    return any(count > starts.get(number, 0) for number, count in lines.items())
+    retakes = {number: Counter() for number in lines}
+    for number, count in RETAKE_LINE.findall(result.errors):
+        retakes[number][int(count)] += 1
+    return any(
+        count - sum(retakes[number].values()) > starts.get(number, 0) or not may_be_counted_so(retakes[number], most_moves)
+        for number, count in lines.items()
+    )
+
+
+def may_be_counted_so(retakes, most_moves):
+    """May a game with at most so many moves have so many retakes of each count?"""
+    return set(retakes) <= {1, 2, 3} and most_moves >= retakes[1] >= retakes[2] >= retakes[3]
 
 
 def as_told(result):

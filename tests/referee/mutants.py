@@ -24,9 +24,15 @@ right_read_reply = replies.read_reply
 right_script = Controller.script
 right_started = Controller.started
 right_tell = Controller.tell
+right_tell_retake = Controller.tell_retake
+right_hear = matches.hear
 right_broken = matches.broken
 right_explained = matches.explained
+right_cut_off = why.cut_off
 right_escaped = why.escaped
+right_lost_text = why.lost
+right_retaken = why.retaken
+right_not_started = why.not_started
 right_line = why.line
 right_owed = why.owed
 
@@ -407,16 +413,126 @@ def forfeits_are_not_told(self, side, cause):
         right_tell(self, side, cause)
 
 
-def retaken_play_is_told(self, side):
-    if self.is_last_of_the_other(side) and self.retakes.get(len(self.game.moves), 0) < MOST_RETAKES:
-        right_tell(self, side, why.REFUSED_PLAY)
+def retake_is_not_told(self, side, count):
+    pass
+
+
+def retake_is_told_where_an_undo_follows(self, side, count):
+    if self.has_confirmed_all(values.other(side)):
+        right_tell_retake(self, side, count)
+
+
+def retake_is_told_where_no_undo_follows(self, side, count):
+    if not self.has_confirmed_all(values.other(side)):
+        right_tell_retake(self, side, count)
+
+
+def first_retake_alone_is_told(self, side, count):
+    if count == 1:
+        right_tell_retake(self, side, count)
+
+
+def retake_is_told_of_the_maker(self, side, count):
+    right_tell_retake(self, side, count)
+    self.told[-1] = self.told[-1]._replace(side=values.other(side))
+
+
+def retake_is_told_as_a_loss(self, side, count):
+    right_tell(self, side, why.REFUSED_PLAY)
+
+
+def retake_is_a_loss(self, side):
     right_judge_refusal(self, side)
+    if self.verdict is None:
+        self.lost(side)
+
+
+def retake_is_told_last(referee, side, process):
+    before = len(referee.told)
+    right_hear(referee, side, process)
+    referee.told[before:] = sorted(referee.told[before:], key=lambda told: isinstance(told, controller.Retake))
+
+
+def retake_owes_nothing(self, side, count):
+    unanswered, self.sides[side].unanswered = self.sides[side].unanswered, []
+    right_tell_retake(self, side, count)
+    self.sides[side].unanswered = unanswered
+
+
+def retakes_are_counted_from_0(count, most):
+    return right_retaken(count - 1, most)
+
+
+def retakes_that_are_left(count, most):
+    return right_retaken(most - count, most)
+
+
+def retakes_of_a_game(self, side, count):
+    right_tell_retake(self, side, sum(self.retakes.values()))
+
+
+def retakes_of_a_side(self, side, count):
+    right_tell_retake(self, side, 1 + sum(isinstance(told, controller.Retake) and told.side == side for told in self.told))
+
+
+def each_retake_is_told_as_the_first(self, side, count):
+    right_tell_retake(self, side, 1)
+
+
+def loss_of_the_read_is_not_told(referee, side, process):
+    before = len(referee.told)
+    right_hear(referee, side, process)
+    if any(isinstance(told, controller.Retake) for told in referee.told[before:]):
+        del referee.told[before + 1 :]
+
+
+def retake_of_the_read_is_not_told(referee, side, process):
+    before = len(referee.told)
+    right_hear(referee, side, process)
+    referee.told[before:] = referee.told[before:][-1:]
+
+
+def it_wrote_nothing(unanswered, cause, ending, data):
+    return right_lost_text(unanswered, f"{cause}, {ending}", data)
+
+
+def nothing_was_read_at_the_end_too(unanswered, cause, ending, data):
+    told = right_cut_off(unanswered, cause, ending, data)
+    return told if data else told.replace('it wrote ""', "nothing of it was read")
+
+
+def nothing_was_read_of_a_write(unanswered, cause, ending, data):
+    return right_cut_off(unanswered, cause, ending, b"" if cause == why.WRITING_FAILED else data)
+
+
+def program_is_not_told(reason, program):
+    return f"not started: {reason}"
+
+
+def program_is_cut_at_tabs(reason, program):
+    return right_not_started(reason, program.split()[0])
+
+
+def whole_program_is_told(reason, program):
+    return f'not started: {reason}: "{why.escaped(program)}"'
+
+
+def program_is_not_escaped(reason, program):
+    return f'not started: {reason}: "{program[: why.MOST_BYTES].decode("latin-1")}"'
+
+
+def first_of_one(unanswered):
+    return right_owed(unanswered).replace("1 unanswered, \"", "1 unanswered, the first \"")
+
+
+def no_first_of_more(unanswered):
+    return right_owed(unanswered).replace(", the first", ",")
 
 
 def who_refused_is_told(self, side, cause):
     right_tell(self, side, cause)
     if cause == why.KEPT_MOVE:
-        self.losses[-1] = self.losses[-1]._replace(side=values.other(side))
+        self.told[-1] = self.told[-1]._replace(side=values.other(side))
 
 
 def other_side_is_told(number, side, text):
@@ -427,7 +543,7 @@ def told_when_it_is_abandoned(self, side):
     before = self.verdict
     right_lost(self, side)
     if self.verdict != before:
-        self.losses.append(controller.Loss(side, ["abandoned"]))
+        self.told.append(controller.Loss(side, ["abandoned"]))
 
 
 def verdict_before_the_line(self, side, cause):
@@ -444,7 +560,7 @@ def one_is_owed_more(unanswered):
 
 
 def newest_is_owed(unanswered):
-    return right_owed(unanswered).partition(" from ")[0] + (f' from "{unanswered[-1][0]} {unanswered[-1][1]}"' if unanswered else "")
+    return right_owed(unanswered).partition('"')[0] + (f'"{unanswered[-1][0]} {unanswered[-1][1]}"' if unanswered else "")
 
 
 def owed_without_an_id(unanswered):
@@ -604,7 +720,31 @@ MUTANTS = [
 WHY_MUTANTS = [
     ("a side that is unfit isn't told", Controller, "tell", unfit_is_not_told),
     ("a forfeit isn't told", Controller, "tell", forfeits_are_not_told),
-    ("a play that is retaken is told", Controller, "judge_refusal", retaken_play_is_told),
+    ("a retake isn't reported", Controller, "tell_retake", retake_is_not_told),
+    ("a retake is reported only where an undo follows", Controller, "tell_retake", retake_is_told_where_an_undo_follows),
+    ("a retake is reported only where no undo follows", Controller, "tell_retake", retake_is_told_where_no_undo_follows),
+    ("of a number's retakes the first alone is reported", Controller, "tell_retake", first_retake_alone_is_told),
+    ("a retake is reported of the side that made the move", Controller, "tell_retake", retake_is_told_of_the_maker),
+    ("a retake is reported as a loss is", Controller, "tell_retake", retake_is_told_as_a_loss),
+    ("a retake is a loss", Controller, "judge_refusal", retake_is_a_loss),
+    ("a retake owes nothing", Controller, "tell_retake", retake_owes_nothing),
+    ("a retake is reported after the loss that the same read brings", matches, "hear", retake_is_told_last),
+    ("a retake is reported, and not the loss that the same read brings", matches, "hear", loss_of_the_read_is_not_told),
+    ("a loss is reported, and not the retake that the same read brings", matches, "hear", retake_of_the_read_is_not_told),
+    ("retakes are counted from 0", why, "retaken", retakes_are_counted_from_0),
+    ("retakes are counted down", why, "retaken", retakes_that_are_left),
+    ("the retakes of all numbers are counted together", Controller, "tell_retake", retakes_of_a_game),
+    ("the retakes of a side are counted together", Controller, "tell_retake", retakes_of_a_side),
+    ("each retake is reported as the first", Controller, "tell_retake", each_retake_is_told_as_the_first),
+    ("where nothing was read, it is reported that it wrote nothing", why, "cut_off", it_wrote_nothing),
+    ("at an end without a word it is reported that nothing was read", why, "cut_off", nothing_was_read_at_the_end_too),
+    ("where a write fails, it is always reported that nothing was read", why, "cut_off", nothing_was_read_of_a_write),
+    ("the program that isn't there isn't named", why, "not_started", program_is_not_told),
+    ("a command is cut at tabs too", why, "not_started", program_is_cut_at_tabs),
+    ("the program is named in full", why, "not_started", whole_program_is_told),
+    ("the program isn't escaped", why, "not_started", program_is_not_escaped),
+    ("the only command is reported as the first", why, "owed", first_of_one),
+    ("the first of more commands isn't reported as that", why, "owed", no_first_of_more),
     ("who refused the move is told where it isn't taken back", Controller, "tell", who_refused_is_told),
     ("the other side is told", why, "line", other_side_is_told),
     ("a side that is abandoned is told once more", Controller, "lost", told_when_it_is_abandoned),

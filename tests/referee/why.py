@@ -1,15 +1,16 @@
-"""What `--why` tells on standard error: a line for each time that a side is lost.
+"""What `--why` prints on standard error: a line for each time that a side is lost, and one for each move that is retaken.
 
     twogtp: game N: SIDE: OWED: CAUSE; it wrote "BYTES"
-    twogtp: game N: SIDE: not started: REASON
+    twogtp: game N: SIDE: OWED: CAUSE; nothing of it was read
+    twogtp: game N: SIDE: not started: REASON: "PROGRAM"
 """
 
 MOST_BYTES = 80
 
-# The causes. Behind those of a pipe stands how the process ended.
+# The causes. After those of a pipe stands how the process ended.
 OUTPUT_ENDED = "its output ended"
 WRITING_FAILED = "writing failed"
-NO_STATUS = "no reply: it begins with neither = nor ?"
+NO_STATUS = "not a GTP reply (it begins with neither = nor ?)"
 OVERLONG = "no end of a reply in 8192 bytes"
 WRONG_ID = "a reply without the awaited id"
 UNASKED = "a reply to nothing that was asked"
@@ -28,19 +29,31 @@ NAMED = {ord('"'): '\\"', ord("\\"): "\\\\", ord("\n"): "\\n", ord("\r"): "\\r",
 
 
 def line(number, side, text):
-    """The line of a loss in the game of this number."""
+    """The line of a loss or of a retake in the game of this number."""
     return f"twogtp: game {number}: {side}: {text}\n".encode()
 
 
-def not_started(reason):
-    """What is told of a side whose engine can't be started."""
-    return f"not started: {reason}"
+def not_started(reason, program):
+    """What is told of a side whose engine can't be started: why, and the first word of its command."""
+    return f"not started: {reason}: {quoted(program)}"
 
 
 def lost(unanswered, cause, data):
-    """What is told of a side that is lost: with these commands unanswered, each a pair of its id and its text without a newline, the
-    oldest first; for this cause; and having written this since its last whole reply."""
-    return f'{owed(unanswered)}: {cause}; it wrote "{escaped(data[:MOST_BYTES])}"'
+    """What is told of a side that is lost by what it wrote: with these commands unanswered, each a pair of its id and its text without a
+    newline, the oldest first; for this cause; and having written this since its last whole reply."""
+    return f"{owed(unanswered)}: {cause}; it wrote {quoted(data)}"
+
+
+def cut_off(unanswered, cause, ending, data):
+    """The same of a side whose pipe is broken, and whose process ended so. Only at the end of its output all that it wrote was read."""
+    if data or cause == OUTPUT_ENDED:
+        return lost(unanswered, f"{cause}, {ending}", data)
+    return f"{owed(unanswered)}: {cause}, {ending}; nothing of it was read"
+
+
+def retaken(count, most):
+    """The cause of a retake, which is no loss: it is this one of so many that its move's number may have."""
+    return f"{REFUSED_PLAY} (retake {count} of {most})"
 
 
 def owed(unanswered):
@@ -48,7 +61,13 @@ def owed(unanswered):
     if not unanswered:
         return "0 unanswered"
     number, command = unanswered[0]
-    return f'{len(unanswered)} unanswered from "{number} {command}"'
+    the_first = " the first" if len(unanswered) > 1 else ""
+    return f'{len(unanswered)} unanswered,{the_first} "{number} {command}"'
+
+
+def quoted(data):
+    """The first of these bytes in quotes."""
+    return f'"{escaped(data[:MOST_BYTES])}"'
 
 
 def escaped(data):

@@ -4,13 +4,13 @@ from reference.game import POSITIONAL
 from reference.values import BLACK, WHITE
 
 from .controller import DONE, MOST_UNANSWERED, SEND, START, WAIT, Controller, Setup
-from .engines import Other, Ours, Planned
+from .engines import LONG_PROGRAM, ODD_PROGRAM, Other, Ours, Planned
 from .matches import PATIENT, TIMINGS, Match, Result, as_told, has_too_many_lines, play
 
 FIRST = Ours("first")
 POSITIONAL_FIRST = Ours("first", rule=POSITIONAL)
 NO = r"?<id>_no\n\n"
-NO_REPLY = "no reply: it begins with neither = nor ?"
+NO_REPLY = "not a GTP reply (it begins with neither = nor ?)"
 DEMO = "C3,D3,C2,D2,C4,D4,C1,A1,B1,D1,A2,D5,C5"
 DEMO_GAME = """C3 D3 C2 D2 C4 D4 C1 A1 B1 D1 A2 D5 C5 pass pass
 . . X O . 5
@@ -208,11 +208,19 @@ def explanations():
     # The start. Black is started first, so White isn't asked for where neither can be.
     for name, reason in (("no_such_program", "no such file"), ("/", "not allowed")):
         for white in (FIRST, Other(name)):
-            told = f"black: not started: {reason}"
+            told = f'black: not started: {reason}: "{name}"'
             yield explained("abandoned black moves 0 restarts 1 0", Other(name), white, told, told, status=1)
-        yield explained("abandoned white moves 0 restarts 0 0", FIRST, Other(name), f"white: not started: {reason}", status=1, restarts=0)
+        told = f'white: not started: {reason}: "{name}"'
+        yield explained("abandoned white moves 0 restarts 0 0", FIRST, Other(name), told, status=1, restarts=0)
+    # The first word of a command is the program, whatever is in it but spaces; 80 bytes of it are shown.
+    for command, shown in [
+        (ODD_PROGRAM, r'no_such\t\"program\"\\\n--mode\xC3\xA9'),
+        (LONG_PROGRAM, "./no_such_program" + 63 * "x"),
+    ]:
+        told = f'black: not started: no such file: "{shown}"'
+        yield explained("abandoned black moves 0 restarts 0 0", Other(command), FIRST, told, status=1, restarts=0)
     # What is no move.
-    asked = 'black: 1 unanswered from "4 genmove b"'
+    asked = 'black: 1 unanswered, "4 genmove b"'
     for told, verdict, cause, wrote in [
         ("?<id>_no", "no move", "no move: the genmove failed", "?4 no"),
         ("=<id>_A1_B2", "no vertex", "neither a vertex nor resign", "=4 A1 B2"),
@@ -224,72 +232,121 @@ def explanations():
     yield explained("W+R moves 0 restarts 0 0", passing(r"1/g1/=<id>_resign\n\n/on"), FIRST, **small)
     told = f'{asked}: neither a vertex nor resign; it wrote "=4 {77 * "x"}"'  # 80 bytes
     yield explained("W+F(no vertex) moves 0 restarts 0 0", passing(r"1/g1/=<id>_<90*x>\n\n/on"), FIRST, told, **small)
-    told = r'white: 1 unanswered from "5 genmove w": an illegal move: the point is occupied; it wrote "=5 A1\n\n"'
+    told = r'white: 1 unanswered, "5 genmove w": an illegal move: the point is occupied; it wrote "=5 A1\n\n"'
     yield explained("B+F(illegal move) moves 1 restarts 0 0", FIRST, passing(r"1/g1/=<id>_A1\n\n/on"), told, **small)
-    told = r'black: 1 unanswered from "10 genmove b": an illegal move: suicide; it wrote "=10 B2\n\n"'
+    told = r'black: 1 unanswered, "10 genmove b": an illegal move: suicide; it wrote "=10 B2\n\n"'
     yield explained("W+F(illegal move) moves 6 restarts 0 0", playing("A1 B1 A2 B2"), passing(), told, **small)
     # White's A1 takes B1.
-    told = r'black: 1 unanswered from "10 genmove b": an illegal move: ko; it wrote "=10 B1\n\n"'
+    told = r'black: 1 unanswered, "10 genmove b": an illegal move: ko; it wrote "=10 B1\n\n"'
     yield explained("W+F(illegal move) moves 6 restarts 0 0", playing("A2 B1 pass B1"), playing("B2 C1 A1"), told, size=3)
     # What is no reply, or none to what was asked. Bytes behind a whole reply count for the next one. Of what is no reply all is told
     # that was read; so here it comes in answer to the last command that was sent, behind which nothing is written.
     for plan, owes, cause, wrote in [
-        ("c3/hello", '1 unanswered from "3 clear_board"', NO_REPLY, "hello"),
-        (r"c3/Welcome_to\tMyGo_1.0\r\n\n", '1 unanswered from "3 clear_board"', NO_REPLY, r"Welcome to\tMyGo 1.0\r\n\n"),
-        (r"c3/\xff<reply>", '1 unanswered from "3 clear_board"', NO_REPLY, r"\xFF=3\n\n"),
-        (r"g1/\n\n_<90*x>", '1 unanswered from "4 genmove b"', NO_REPLY, rf"\n\n {77 * 'x'}"),  # 80 bytes
+        ("c3/hello", '1 unanswered, "3 clear_board"', NO_REPLY, "hello"),
+        (r"c3/Welcome_to\tMyGo_1.0\r\n\n", '1 unanswered, "3 clear_board"', NO_REPLY, r"Welcome to\tMyGo 1.0\r\n\n"),
+        (r"c3/\xff<reply>", '1 unanswered, "3 clear_board"', NO_REPLY, r"\xFF=3\n\n"),
+        (r"g1/\n\n_<90*x>", '1 unanswered, "4 genmove b"', NO_REPLY, rf"\n\n {77 * 'x'}"),  # 80 bytes
         (r"c3/<reply>\n\x01!<reply>", "0 unanswered", NO_REPLY, r"\n\x01!=3\n\n"),
-        (r"c1/<8193*\n>", '3 unanswered from "1 boardsize 2"', "no end of a reply in 8192 bytes", r"\n" * 80),
-        (r"c3/=<id>_<9000*a>", '1 unanswered from "3 clear_board"', "no end of a reply in 8192 bytes", f"=3 {77 * 'a'}"),
-        (r"c1/=\n\n", '3 unanswered from "1 boardsize 2"', "a reply without the awaited id", r"=\n\n"),
-        ("c1/<reply><reply>", '2 unanswered from "2 komi 0"', "a reply without the awaited id", r"=1\n\n"),
-        (r"c3/<reply>_\n=_x\n", '1 unanswered from "4 genmove b"', "a reply without the awaited id", r" \n= x\n=4 pass\n\n"),
+        (r"c1/<8193*\n>", '3 unanswered, the first "1 boardsize 2"', "no end of a reply in 8192 bytes", r"\n" * 80),
+        (r"c3/=<id>_<9000*a>", '1 unanswered, "3 clear_board"', "no end of a reply in 8192 bytes", f"=3 {77 * 'a'}"),
+        (r"c1/=\n\n", '3 unanswered, the first "1 boardsize 2"', "a reply without the awaited id", r"=\n\n"),
+        ("c1/<reply><reply>", '2 unanswered, the first "2 komi 0"', "a reply without the awaited id", r"=1\n\n"),
+        (r"c3/<reply>_\n=_x\n", '1 unanswered, "4 genmove b"', "a reply without the awaited id", r" \n= x\n=4 pass\n\n"),
         ("c3/<reply><reply>", "0 unanswered", "a reply to nothing that was asked", r"=3\n\n"),
     ]:
         told = f'black: {owes}: {cause}; it wrote "{wrote}"'
         yield explained("0 moves 2 restarts 1 0", passing(f"1/{plan}/on"), passing(), told, **small)
         yield explained("abandoned black moves 0 restarts 1 0", passing(f"*/{plan}/on"), passing(), told, told, status=1, **small)
     # What came in reads before it, since the last whole reply, is told too.
-    told = rf'black: 1 unanswered from "3 clear_board": {NO_REPLY}; it wrote " \x07\nhello\n\n"'
+    told = rf'black: 1 unanswered, "3 clear_board": {NO_REPLY}; it wrote " \x07\nhello\n\n"'
     black = passing(r"1/c2/<reply>_\x07\n/on,1/c3/hello\n\n/on")
     yield explained("0 moves 2 restarts 1 0", black, passing(), told, **small)
     # Our engine's junk, and a program that repeats in one write what it was told in one.
     told = rf'{asked}: {NO_REPLY}; it wrote "hello\n\n"'
     yield explained("abandoned black moves 0 restarts 0 0", Ours("first", fault="junk:1"), FIRST, told, status=1, restarts=0, **small)
-    told = rf'black: 3 unanswered from "1 boardsize 2": {NO_REPLY}; it wrote "1 boardsize 2\n2 komi 0\n3 clear_board\n"'
+    told = rf'black: 3 unanswered, the first "1 boardsize 2": {NO_REPLY}; it wrote "1 boardsize 2\n2 komi 0\n3 clear_board\n"'
     yield explained("abandoned black moves 0 restarts 0 0", Other("cat"), FIRST, told, status=1, restarts=0, **small)
     # A command of the script that fails.
-    told = r'black: 3 unanswered from "1 boardsize 2": unfit: the command failed, or was answered wrongly; it wrote "?1 no\n\n"'
+    told = r'black: 3 unanswered, the first "1 boardsize 2": unfit: the command failed, or was answered wrongly; it wrote "?1 no\n\n"'
     yield explained("unfit black moves 0 restarts 0 0", passing(f"1/c1/{NO}/on"), passing(), told, status=1, **small)
-    told = r'white: 1 unanswered from "4 fixed_handicap 2": unfit: the command failed, or was answered wrongly; it wrote "=4\n\n"'
+    told = r'white: 1 unanswered, "4 fixed_handicap 2": unfit: the command failed, or was answered wrongly; it wrote "=4\n\n"'
     yield explained("unfit white moves 0 restarts 0 0", passing(), passing(r"1/h/=<id>\n\n/on"), told, status=1, handicap=2)
-    # Refusals that are met by a retake tell nothing. White's fourth is of its seventh command.
-    yield explained("B+4 moves 7 restarts 0 0", FIRST, refusing("1/p1-3"), **small)
-    told = r'white: 1 unanswered from "7 play b A1": the play was refused; it wrote "?7 no\n\n"'
-    yield explained("B+F(refused play) moves 1 restarts 0 0", FIRST, refusing("1/p1-4"), told, **small)
-    told = r'black: 1 unanswered from "5 undo": the refused move was not taken back: the other side forfeits; it wrote "?5 no\n\n"'
-    yield explained("B+F(refused play) moves 1 restarts 0 0", passing(f"1/u1/{NO}/on"), refusing("1/p1"), told, **small)
+    yield from retakes(small)
     # A pipe that is broken. White's second engine is told of three moves, and refuses the first.
-    told = 'white: 1 unanswered from "7 genmove w": its output ended, exit status 0; it wrote ""'
-    more = r'white: 3 unanswered from "4 play b A1": the play was refused; it wrote "?4 no\n\n"'
+    told = 'white: 1 unanswered, "7 genmove w": its output ended, exit status 0; it wrote ""'
+    more = r'white: 3 unanswered, the first "4 play b A1": the play was refused; it wrote "?4 no\n\n"'
     white = passing(f"1/g2//ends,2/p1/{NO}/on")
     yield explained("B+F(refused play) moves 3 restarts 0 1", FIRST, white, told, more, **small)
     for plan, wrote in (("c2//ends", ""), ("c2/<reply:2>/ends", "=2"), (r"c1/<reply>\n/on,1/c2//ends", r"\n")):
-        told = f'black: 2 unanswered from "2 komi 0": its output ended, exit status 0; it wrote "{wrote}"'
+        told = f'black: 2 unanswered, the first "2 komi 0": its output ended, exit status 0; it wrote "{wrote}"'
         yield explained("0 moves 2 restarts 1 0", passing(f"1/{plan}"), passing(), told, **small)
-    told = 'black: 3 unanswered from "1 boardsize 2": its output ended, signal 9; it wrote "=1"'
+    told = 'black: 3 unanswered, the first "1 boardsize 2": its output ended, signal 9; it wrote "=1"'
     yield explained("0 moves 2 restarts 1 0", passing("1/c1/<reply:2>/closes"), passing(), told, **small)
     for fault, wrote in (("stop:1", ""), ("cut:1:3", "=4 ")):
         told = f'{asked}: its output ended, exit status 4; it wrote "{wrote}"'
         black = Ours("first", fault=fault)
         yield explained("abandoned black moves 0 restarts 0 0", black, FIRST, told, status=1, restarts=0, **small)
-    told = 'black: 1 unanswered from "5 play w A1": writing failed, signal 9; it wrote ""'
-    black = passing("*/g1/<reply>/shuts")
-    yield explained("abandoned black moves 2 restarts 0 0", black, FIRST, told, status=1, restarts=0, **small)
+    # A write that fails: nothing is read after that. What was read since the last whole reply is shown.
+    for template, wrote in (("<reply>", "nothing of it was read"), (r"<reply>\n_=", r'it wrote "\n ="')):
+        told = f'black: 1 unanswered, "5 play w A1": writing failed, signal 9; {wrote}'
+        black = passing(f"*/g1/{template}/shuts")
+        yield explained("abandoned black moves 2 restarts 0 0", black, FIRST, told, status=1, restarts=0, **small)
     # The second process is that of the second game.
-    told = 'twogtp: game 2: black: 3 unanswered from "1 boardsize 9": its output ended, exit status 0; it wrote ""\n'
+    told = 'twogtp: game 2: black: 3 unanswered, the first "1 boardsize 9": its output ended, exit status 0; it wrote ""\n'
     games = "game 1: W+6.5 moves 2 restarts 0 0\ngame 2: W+6.5 moves 2 restarts 1 0\n"
     yield match(passing("2/c1//ends"), passing(), games=2, why=True), 0, games, told
+
+
+def retaken(side, owed, count, number, wrote=None):
+    """What is told of a move that this side has refused by command `number`, and that is retaken."""
+    wrote = rf"?{number} no\n\n" if wrote is None else wrote
+    return f'{side}: 1 unanswered, "{number} {owed}": the play was refused (retake {count} of 3); it wrote "{wrote}"'
+
+
+def retakes(small):
+    """Refusals that are met by a retake, a line each, of the side that refuses. White is sent its first play as its fourth command, and
+    Black answers an undo, and plays A1 again, before White's next one."""
+    one, two, three = (retaken("white", "play b A1", count, count + 3) for count in (1, 2, 3))
+    yield explained("B+4 moves 7 restarts 0 0", FIRST, refusing("1/p1"), one, **small)
+    yield explained("B+4 moves 7 restarts 0 0", FIRST, refusing("1/p1-3"), one, two, three, **small)
+    # The fourth refusal is a loss, by White's seventh command.
+    last = r'white: 1 unanswered, "7 play b A1": the play was refused; it wrote "?7 no\n\n"'
+    yield explained("B+F(refused play) moves 1 restarts 0 0", FIRST, refusing("1/p1-4"), one, two, three, last, **small)
+    # Each number is counted by itself: after A1 White is asked for its move by the sixth command, and sent B1 by the seventh.
+    black, white = playing("A1 A1 B1 B1"), refusing("1/p1", "1/p3")
+    again = retaken("white", "play b B1", 1, 7)
+    yield explained("limit moves 4 restarts 0 0", black, white, one, again, **{**small, "most_moves": 4})
+    # Another move takes the place of one that was refused: A1, then B1. It is the same number, and so its second retake. Then A2 stands.
+    other = retaken("white", "play b B1", 2, 5)
+    yield explained("B+4 moves 3 restarts 0 0", playing("A1 B1 A2 pass"), refusing("1/p1-2"), one, other, **small)
+    # Both refuse.
+    black = passing(rf"1/g1-2/=<id>_A1\n\n/on,1/p1/{NO}/refuses")
+    mine = retaken("black", "play w pass", 1, 7)
+    yield explained("B+4 moves 3 restarts 0 0", black, refusing("1/p1"), one, mine, **small)
+    # Blank lines before the refusal are shown too, and 80 bytes of a long one.
+    for told, wrote in ((r"\n_?<id>\n\n", r"\n ?4\n\n"), (r"?<id>_<90*x>\n\n", "?4 " + 77 * "x")):
+        text = retaken("white", "play b A1", 1, 4, wrote)
+        yield explained("B+4 moves 7 restarts 0 0", FIRST, passing(f"1/p1/{told}/refuses"), text, **small)
+    # The undo fails: Black is lost by it, after White's retake.
+    lost = r'black: 1 unanswered, "5 undo": the refused move was not taken back: the other side forfeits; it wrote "?5 no\n\n"'
+    first = retaken("white", "play b pass", 1, 4)
+    yield explained("B+F(refused play) moves 1 restarts 0 0", passing(f"1/u1/{NO}/on"), refusing("1/p1"), first, lost, **small)
+    # A retake and a loss in one read: the retake comes first, also where no undo follows, since White has no start left.
+    falls = passing(f"1/p1/{NO}hello/on")
+    lost = f'white: 0 unanswered: {NO_REPLY}; it wrote "hello"'
+    yield explained("0 moves 2 restarts 0 1", passing(), falls, first, lost, **small)
+    yield explained("abandoned white moves 1 restarts 0 0", passing(), falls, first, lost, status=1, **{**small, "restarts": 0})
+    lost = r'white: 0 unanswered: a reply to nothing that was asked; it wrote "?4 no\n\n"'
+    yield explained("0 moves 2 restarts 0 1", passing(), passing(f"1/p1/{NO}{NO}/on"), first, lost, **small)
+    # The maker is down: no undo follows. White goes down after each of its moves, which Black refuses: its pass as command 5, 6, 7, 8.
+    down = r'white: 0 unanswered: a reply to nothing that was asked; it wrote "=%d A1\n\n"'
+    white = passing(r"*/g1/=<id>_A1\n\n=<id>_A1\n\n/on")
+    texts = []
+    for count in (1, 2, 3):
+        texts += [down % 5, retaken("black", "play w A1", count, count + 4)]
+    texts += [down % 5, r'black: 1 unanswered, "8 play w A1": the play was refused; it wrote "?8 no\n\n"']
+    told = "W+F(refused play) moves 2 restarts 0 4"
+    yield explained(told, refusing("1/p1-4"), white, *texts, **{**small, "restarts": 4})
 
 
 def mistakes():
@@ -400,6 +457,11 @@ def losses(owed, cause, wrote):
     return {f'twogtp: game 1: black: {owed}: {cause}; it wrote "{text}"\n'.encode() for text in wrote}
 
 
+def unread(owed):
+    """The line of Black's loss that owes this, where the write to an engine that has ended fails."""
+    return {f"twogtp: game 1: black: {owed}: writing failed, exit status 0; nothing of it was read\n".encode()}
+
+
 def answering(text, first, last):
     """This text alone, and with the answers behind it to as many as one likes of the commands with these ids, the first ones first."""
     return [text + "".join(rf"={number}\n\n" for number in range(first, behind)) for behind in range(first, last + 2)]
@@ -409,38 +471,39 @@ def questions_of_time():
     """Pairs of what the reference tells of the last side that is lost, and what has to be."""
     # A script of three commands is sent at once. When what is no reply is read, there may be answers behind it.
     for plan, owed, wrote in [
-        ("c1/hello", '3 unanswered from "1 boardsize 9"', answering("hello", 2, 3)),
-        ("c2/hello", '2 unanswered from "2 komi 6.5"', answering("hello", 3, 3)),
-        (r"c1/<reply>\n\x01!_", '2 unanswered from "2 komi 6.5"', answering(r"\n\x01! ", 2, 3)),
-        (r"0/hello\n", '3 unanswered from "1 boardsize 9"', answering(r"hello\n", 1, 3)),
-        (r"c1/<76*x>", '3 unanswered from "1 boardsize 9"', [76 * "x", 76 * "x" + r"=2\n\n"]),  # 80 bytes
-        (r"c1/<77*x>", '3 unanswered from "1 boardsize 9"', [77 * "x", 77 * "x" + r"=2\n"]),
+        ("c1/hello", '3 unanswered, the first "1 boardsize 9"', answering("hello", 2, 3)),
+        ("c2/hello", '2 unanswered, the first "2 komi 6.5"', answering("hello", 3, 3)),
+        (r"c1/<reply>\n\x01!_", '2 unanswered, the first "2 komi 6.5"', answering(r"\n\x01! ", 2, 3)),
+        (r"0/hello\n", '3 unanswered, the first "1 boardsize 9"', answering(r"hello\n", 1, 3)),
+        (r"c1/<76*x>", '3 unanswered, the first "1 boardsize 9"', [76 * "x", 76 * "x" + r"=2\n\n"]),  # 80 bytes
+        (r"c1/<77*x>", '3 unanswered, the first "1 boardsize 9"', [77 * "x", 77 * "x" + r"=2\n"]),
     ]:
         yield told_last(passing(f"1/{plan}/on")), losses(owed, NO_REPLY, wrote)
     # Black is started again after 10 moves: its script has 13 commands, of which eight are sent at once, and then as many as there were
     # replies in the read before. There are answers behind to no more commands than were sent.
     again = "1/g6//ends,2/"
-    third = 'unanswered from "3 clear_board"'
+    third = 'unanswered, the first "3 clear_board"'
     ended = "its output ended, exit status 0"
     for plan, told in [
         ("c3/hello/on", [losses(f'{sent - 2} {third}', NO_REPLY, answering("hello", 4, sent)) for sent in (8, 9, 10)]),
-        ("c13/hello/on", [losses('1 unanswered from "13 play w pass"', NO_REPLY, ["hello"])]),
-        (r"0/hello\n/on", [losses('8 unanswered from "1 boardsize 9"', NO_REPLY, answering(r"hello\n", 1, 8))]),
-        ("c1//ends", [losses('8 unanswered from "1 boardsize 9"', ended, [""])]),
+        ("c13/hello/on", [losses('1 unanswered, "13 play w pass"', NO_REPLY, ["hello"])]),
+        (r"0/hello\n/on", [losses('8 unanswered, the first "1 boardsize 9"', NO_REPLY, answering(r"hello\n", 1, 8))]),
+        ("c1//ends", [losses('8 unanswered, the first "1 boardsize 9"', ended, [""])]),
         # The first read that brings a reply may be followed by a write, which may fail; or that write goes through.
-        ("c2//ends", [losses('8 unanswered from "2 komi 6.5"', cause, [""]) for cause in (ended, "writing failed, exit status 0")]),
+        ("c2//ends", [losses('8 unanswered, the first "2 komi 6.5"', ended, [""]), unread('8 unanswered, the first "2 komi 6.5"')]),
     ]:
         yield told_last(Planned(1, 0, "<reply>", again + plan)), set.union(*told)
     # It has ended when it is told something, or a moment later.
-    said = losses('3 unanswered from "1 boardsize 9"', NO_REPLY, [r"hello\n"])
-    silent = losses('3 unanswered from "1 boardsize 9"', "writing failed, exit status 0", [""])
-    yield told_last(Other("echo hello")), said | silent
+    said = losses('3 unanswered, the first "1 boardsize 9"', NO_REPLY, [r"hello\n"])
+    yield told_last(Other("echo hello")), said | unread('3 unanswered, the first "1 boardsize 9"')
 
 
 def counted_lines():
-    """Pairs of whether more lines are told of a game than it has starts, and whether that is so."""
+    """Pairs of whether more lines are told of a game than may be, where two moves are allowed, and whether that is so."""
     output = b"game 1: abandoned black moves 0 restarts 1 0\nA1 B1\ngame 2: W+6.5 moves 2 restarts 0 0\n"
     first, second, others = (b"twogtp: game 1: black: hello\n", b"twogtp: game 2: white: hello\n", b"game 2: hello\ntwogtp: bad komi\n")
+    retake = b'twogtp: game 2: white: 1 unanswered, "4 play b A1": the play was refused (retake %d of 3); it wrote "?4\\n\\n"\n'
+    one, two, three = (retake % count for count in (1, 2, 3))
     for errors, is_more in [
         (b"", False),
         (others * 9, False),
@@ -449,8 +512,16 @@ def counted_lines():
         (first * 4, True),
         (first + second * 3, True),
         (b"twogtp: game 3: black: hello\n", True),
+        ((one + two + three) * 2 + second * 2, False),
+        (one + two + three + second * 3, True),
+        (one * 3, True),
+        (one + two * 2, True),
+        (one * 2 + two + three * 2, True),
+        (one + two + three + retake % 4, True),
+        (retake % 0, True),
+        (one.replace(b"play b", b"genmove b") * 3, True),
     ]:
-        yield has_too_many_lines(Result(1, output, errors, {})), is_more
+        yield has_too_many_lines(Result(1, output, errors, {}), 2), is_more
 
 
 def failures():

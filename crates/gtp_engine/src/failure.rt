@@ -19,6 +19,8 @@ pub enum Failure {
     OutOfMemory,
     /// The conversation stopped before its end, or the help or the version could not be written.
     Serve(ServeFault),
+    /// A standard stream is closed, and the null device that would hold its number can't be opened.
+    NoNullDevice,
 }
 
 impl Failure {
@@ -39,7 +41,7 @@ impl Failure {
     {
         match self {
             Failure::BadArgument | Failure::BadBook | Failure::BadFault => 2,
-            Failure::OutOfMemory | Failure::Serve(_) => 3,
+            Failure::OutOfMemory | Failure::Serve(_) | Failure::NoNullDevice => 3,
         }
     }
 
@@ -55,6 +57,9 @@ impl Failure {
             Failure::Serve(ServeFault::Read) => b"gtp_engine: read fault\n",
             Failure::Serve(ServeFault::Write) => b"gtp_engine: write fault\n",
             Failure::Serve(ServeFault::TooManyReads) => b"gtp_engine: too many reads\n",
+            Failure::NoNullDevice => {
+                b"gtp_engine: a standard stream is closed, and /dev/null can't be opened\n"
+            }
         }
     }
 }

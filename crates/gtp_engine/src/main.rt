@@ -7,19 +7,31 @@ mod failure;
 mod options;
 mod plain;
 pub mod run;
+mod standard;
 #[cfg(test)]
 mod tests;
 
 use failure::{Failure, tell};
 use gtp_session::streams::Counted;
 use run::run;
+use standard::hold_closed;
 use std::process::ExitCode;
 use std::{env, io};
 
-/// Runs the engine on the arguments and the standard streams, and ends with its status.
+/// Holds the standard streams that are closed, runs the engine, and ends with its status.
 fn main(rt: HostRuntime) -> ExitCode {
+    let status = match hold_closed(&rt, rt.stdin(), rt.stdout(), rt.stderr()) {
+        // They are held until the engine has ended.
+        Ok(_held) => answer(&rt),
+        Err(_) => tell(Failure::NoNullDevice, &mut Counted::new(rt.stderr())),
+    };
+    ExitCode::from(status)
+}
+
+/// Runs the engine on the arguments and the standard streams, and returns its status.
+fn answer(rt: &HostRuntime) -> u8 {
     let errors = &mut Counted::new(rt.stderr());
-    let status = match arguments(&rt) {
+    match arguments(rt) {
         Ok(words) => run(
             rt.alloc(),
             words.as_slice(),
@@ -28,8 +40,7 @@ fn main(rt: HostRuntime) -> ExitCode {
             errors,
         ),
         Err(error) => tell(Failure::of_arguments(error.kind()), errors),
-    };
-    ExitCode::from(status)
+    }
 }
 
 /// The program's name and its arguments.

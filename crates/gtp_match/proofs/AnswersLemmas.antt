@@ -35,12 +35,14 @@ id_true : (x : Option ℕ) (id : ℕ) → x ≡ Some id → has_id x id ≡ true
 id_true None id e = absurd (cc)
 id_true (Some n) id e = let same : n ≡ id = cc in grind (arith, nat_tests)
 
-pub answers_count : (c new : Controller) (s : Colour) (engine : Incarnation) (entry : SentCommand)
+-- before a verdict, a reply to the first of the unanswered commands does what that command's line says
+pub heard_answer : (c new : Controller) (s : Colour) (engine : Incarnation) (entry : SentCommand)
     (later : List SentCommand) (reply : Reply) (bytes : List ℕ) (used : ℕ) (fault : Option SideFault)
     → Hears c s bytes used fault new → c.verdict ≡ None → (side_of c.sides s).up ≡ Some engine
     → EndsReply engine bytes used reply → engine.unanswered ≡ entry ∷ later → reply.id ≡ Some entry.id
-    → (fault ≡ None) × IsCounted c new s engine entry later reply
-answers_count c new s engine entry later reply bytes used fault hears none up ends first_is id =
+    → (fault ≡ fault_of (outcome_of c.game s entry.command reply))
+    × (new ≡ after_outcome c s (heard_reply engine) (outcome_of c.game s entry.command reply))
+heard_answer c new s engine entry later reply bytes used fault hears none up ends first_is id =
     by_way (heard c s bytes used fault new hears)
   where
     out_is : outcome c.game s (oldest engine.unanswered) reply ≡ outcome_of c.game s entry.command reply
@@ -48,6 +50,52 @@ answers_count c new s engine entry later reply bytes used fault hears none up en
         ap (λ (asked : List SentCommand). outcome c.game s (oldest asked) reply) first_is
         ∙ (rw (id_true reply.id entry.id id) refl)
 
+    by_way : Heard c s bytes used fault new
+        → (fault ≡ fault_of (outcome_of c.game s entry.command reply))
+        × (new ≡ after_outcome c s (heard_reply engine) (outcome_of c.game s entry.command reply))
+    by_way (Heard.replied other_engine value none2 up2 ends2 fault_is new_is) =
+        let some : Some other_engine ≡ Some engine = sym up2 ∙ up in
+        let same : other_engine ≡ engine = cc in
+        let E : Incarnation → Type 0 = λ x. EndsReply x bytes used value in
+        let place = length engine.reader + used in
+        let one = one_first (engine.reader ++ bytes) place place (Ok value) (Ok reply) (subst E same ends2) ends in
+        let value_is : value ≡ reply = let oks : Ok value ≡ Ok reply = one.1 in cc in
+        let o_is : outcome c.game s (oldest other_engine.unanswered) value
+        ≡ outcome_of c.game s entry.command reply =
+        ap (λ (x : Incarnation). outcome c.game s (oldest x.unanswered) value) same
+        ∙ ap (outcome c.game s (oldest engine.unanswered)) value_is
+        ∙ out_is
+        in (
+          fault_is ∙ ap fault_of o_is,
+          new_is
+              ∙ ap (λ (x : Incarnation). after_outcome c s (heard_reply x)
+              (outcome c.game s (oldest other_engine.unanswered) value)) same
+              ∙ ap (after_outcome c s (heard_reply engine)) o_is,
+        )
+    by_way (Heard.faulted other_engine shown none2 up2 first fault_is new_is) =
+        let some : Some other_engine ≡ Some engine = sym up2 ∙ up in
+        let same : other_engine ≡ engine = cc in
+        let F : Incarnation → Type 0 = λ x. IsFirst (x.reader ++ bytes) (length x.reader + used) (Err shown) in
+        let place = length engine.reader + used in
+        let one = one_first (engine.reader ++ bytes) place place (Err shown) (Ok reply) (subst F same first) ends in
+        let no : Err shown ≡ Ok reply = one.1 in absurd (cc)
+    by_way (Heard.quiet other_engine kept none2 up2 nothing fault_is new_is) =
+        let some : Some other_engine ≡ Some engine = sym up2 ∙ up in
+        let same : other_engine ≡ engine = cc in
+        let N : Incarnation → Type 0 = λ x. TellsNothing (x.reader ++ bytes) in
+        absurd (subst N same nothing (length engine.reader + used) (Ok reply) ends.inside ends.told)
+    by_way (Heard.down up2 fault_is new_is) = let no : None ≡ Some engine = sym up2 ∙ up in absurd (cc)
+    by_way (Heard.over v e fault_is new_is) = let no : None ≡ Some v = sym none ∙ e in absurd (cc)
+
+pub answers_count : (c new : Controller) (s : Colour) (engine : Incarnation) (entry : SentCommand)
+    (later : List SentCommand) (reply : Reply) (bytes : List ℕ) (used : ℕ) (fault : Option SideFault)
+    → Hears c s bytes used fault new → c.verdict ≡ None → (side_of c.sides s).up ≡ Some engine
+    → EndsReply engine bytes used reply → engine.unanswered ≡ entry ∷ later → reply.id ≡ Some entry.id
+    → (fault ≡ None) × IsCounted c new s engine entry later reply
+answers_count c new s engine entry later reply bytes used fault hears none up ends first_is id =
+    let does = heard_answer c new s engine entry later reply bytes used fault hears none up ends first_is id in
+    by_outcome (outcome_of c.game s entry.command reply) refl does.0 does.1
+  where
     -- the side's engine once it answered the first of its commands
     stands : (after : Incarnation) (number : ℕ) → (side_of new.sides s).up ≡ Some after
         → after.unanswered ≡ drop 1 engine.unanswered → after.confirmed ≡ number → Stands new s later number
@@ -106,40 +154,8 @@ answers_count c new s engine entry later reply bytes used fault hears none up en
         let why = subst (Reason c.game s entry.command reply) e (reason c.game s reply entry.command) in (
           fault_is,
           IsCounted.taken_back why.0 why.1 (stands (taken_back (heard_reply engine)) (engine.confirmed - 1)
-              (ap (up_in s) new_is ∙ up_there c.sides s (taken_back (heard_reply engine))) refl refl),
+              (ap (up_in s) new_is ∙ up_there c.sides s (taken_back (heard_reply engine))) refl refl)
+              (ap (λ (x : Controller). x.game) new_is) (ap (λ (x : Controller). x.pending) new_is),
         )
     by_outcome Keeps e fault_is new_is =
         (fault_is, over (verdict.Forfeit (other s) RefusedPlay) _ new_is refl)
-
-    by_way : Heard c s bytes used fault new → (fault ≡ None) × IsCounted c new s engine entry later reply
-    by_way (Heard.replied other_engine value none2 up2 ends2 fault_is new_is) =
-        let some : Some other_engine ≡ Some engine = sym up2 ∙ up in
-        let same : other_engine ≡ engine = cc in
-        let E : Incarnation → Type 0 = λ x. EndsReply x bytes used value in
-        let place = length engine.reader + used in
-        let one = one_first (engine.reader ++ bytes) place place (Ok value) (Ok reply) (subst E same ends2) ends in
-        let value_is : value ≡ reply = let oks : Ok value ≡ Ok reply = one.1 in cc in
-        let o_is : outcome c.game s (oldest other_engine.unanswered) value
-        ≡ outcome_of c.game s entry.command reply =
-        ap (λ (x : Incarnation). outcome c.game s (oldest x.unanswered) value) same
-        ∙ ap (outcome c.game s (oldest engine.unanswered)) value_is
-        ∙ out_is
-        in
-        by_outcome (outcome_of c.game s entry.command reply) refl (fault_is ∙ ap fault_of o_is)
-        (new_is ∙ ap (λ (x : Incarnation). after_outcome c s (heard_reply x)
-        (outcome c.game s (oldest other_engine.unanswered) value)) same
-        ∙ ap (after_outcome c s (heard_reply engine)) o_is)
-    by_way (Heard.faulted other_engine shown none2 up2 first fault_is new_is) =
-        let some : Some other_engine ≡ Some engine = sym up2 ∙ up in
-        let same : other_engine ≡ engine = cc in
-        let F : Incarnation → Type 0 = λ x. IsFirst (x.reader ++ bytes) (length x.reader + used) (Err shown) in
-        let place = length engine.reader + used in
-        let one = one_first (engine.reader ++ bytes) place place (Err shown) (Ok reply) (subst F same first) ends in
-        let no : Err shown ≡ Ok reply = one.1 in absurd (cc)
-    by_way (Heard.quiet other_engine kept none2 up2 nothing fault_is new_is) =
-        let some : Some other_engine ≡ Some engine = sym up2 ∙ up in
-        let same : other_engine ≡ engine = cc in
-        let N : Incarnation → Type 0 = λ x. TellsNothing (x.reader ++ bytes) in
-        absurd (subst N same nothing (length engine.reader + used) (Ok reply) ends.inside ends.told)
-    by_way (Heard.down up2 fault_is new_is) = let no : None ≡ Some engine = sym up2 ∙ up in absurd (cc)
-    by_way (Heard.over v e fault_is new_is) = let no : None ≡ Some v = sym none ∙ e in absurd (cc)

@@ -158,7 +158,7 @@ hears_all_sound s c new bytes fault h (HearsAllBy.goes_on {mid = mid} used some 
 
 -- ---- what a side that is heard may be asked for
 
-oldest_fits : (game : GameRecord) (pending : Option Colour) (s : Colour) (n : ℕ) (entries : List SentCommand)
+pub oldest_fits : (game : GameRecord) (pending : Option Colour) (s : Colour) (n : ℕ) (entries : List SentCommand)
     → IsGame game → HasPlan game pending s n entries
     → IfSome (oldest entries) (λ entry. MayBeAnswered game entry.command)
 oldest_fits game pending s n [] g plan = tt

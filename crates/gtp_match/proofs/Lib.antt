@@ -34,6 +34,8 @@ pub mod LosingLemmas
 pub mod LostLemmas
 pub mod ToldLemmas
 pub mod TellingLemmas
+pub mod RetakingLemmas
+pub mod ReportedLemmas
 pub mod DueLemmas
 pub mod QuietLemmas
 pub mod AskedLemmas
@@ -42,4 +44,6 @@ pub mod UndoLemmas
 pub mod NeverLemmas
 pub mod FaultLemmas
 pub mod AnswersLemmas
+pub mod GoneLemmas
+pub mod PointsLemmas
 pub mod MetLemmas

@@ -1,7 +1,7 @@
 -- What loses a side.
 use Rattle.std.proofs.Common.{◌≡◌, ℕ, zero, suc, ◌-◌, List, [], ◌∷◌, ◌++◌, length, take, Option, Some, None, Result}
 use Rattle.std.proofs.Common.{Ok, Err, refl, ap, sym, subst, arith}
-use Rattle.std.specs.Prelude.{option_map, IfSome}
+use Rattle.std.specs.Prelude.{option_map}
 use Rattle.std.proofs.Math.Seq.{take-append-add}
 use Rattle.go_base.specs.declared.colours.Colour.{Colour}
 use Rattle.gtp_wire.specs.Replies.{ReadsFirst}
@@ -14,7 +14,6 @@ use Rattle.gtp_match.specs.declared.losses.LossCause.TheVariants.{Shows}
 use Rattle.gtp_match.specs.Hearing.{side_fault}
 use Rattle.gtp_match.specs.declared.sides.Incarnation.{Incarnation}
 use Rattle.gtp_match.specs.declared.verdicts.Verdict.{Verdict}
-use Rattle.gtp_match.specs.private.Conditions.{MayHear, MayReply, MayBeAnswered}
 use Rattle.gtp_match.specs.Losing.{HasLossCause, Loses, LosesUp, LosesWhere, by_reply, by_fault, nothing_yet, loss_of}
 use Rattle.gtp_match.specs.ReplyTable.{outcome}
 use Rattle.gtp_match.specs.Sides.{side_of}
@@ -52,15 +51,6 @@ pub loses_over : (c : Controller) (side : Colour) (bytes : List ℕ) (v : Verdic
 loses_over c side bytes v over =
     let Q : Option Verdict → Type 0 = λ o. LosesWhere c side bytes o (side_of c.sides side).up None in
     subst Q (sym over) refl
-
--- so an engine that is up may be answered
-pub may_answer : (c : Controller) (side : Colour) (engine : Incarnation) → MayHear c side
-    → (side_of c.sides side).up ≡ Some engine
-    → IfSome (oldest engine.unanswered) (λ entry. MayBeAnswered c.game entry.command)
-may_answer c side engine may up =
-    let reply : MayReply c.game engine =
-    subst (λ (u : Option Incarnation). IfSome u (MayReply c.game)) up may.engine in
-    reply.answered
 
 -- ---- what a reader told, of an engine that is up and before any verdict
 

@@ -52,7 +52,7 @@ shows_oldest : (game : GameRecord) (entry : Option SentCommand)
 shows_oldest game None h = tt
 shows_oldest game (Some e) h = writable_of game e.command h
 
-my_oldest : (c : Controller) (side : Colour) (engine : Incarnation) → IsSound c → c.verdict ≡ None
+pub my_oldest : (c : Controller) (side : Colour) (engine : Incarnation) → IsSound c → c.verdict ≡ None
     → (side_of c.sides side).up ≡ Some engine → IfSome (oldest engine.unanswered) (λ e. IsWritable e.command)
 my_oldest c side engine sound none up =
     let may : IfSome (side_of c.sides side).up (MayReply c.game) = (may_hear c side sound none).engine in

@@ -4,22 +4,22 @@ use Rattle.std.specs.Prelude.{Option, None, Some, IsSome, MatchOption, Err}
 use Rattle.go_base.specs.Colour.{other}
 use Rattle.go_base.specs.declared.colours.Colour.{Colour}
 use Rattle.go_base.specs.declared.moves.Move.{Move}
-use Rattle.go_board.specs.Game.{GameRecord}
+use Rattle.go_board.specs.Game.{GameRecord, without_last}
 use Rattle.gtp_wire.specs.Replies.{IsFirst}
 use Rattle.gtp_wire.specs.declared.commands.Command.{Command}
 use Rattle.gtp_wire.specs.declared.replies.Reply.{Reply}
 use Rattle.gtp_wire.specs.declared.replies.ReplyFault.TheVariants as reply_fault
 use Rattle.gtp_match.specs.Calls.{Call, Calls, count_starts}
-use Rattle.gtp_match.specs.Controller.{new, to_move, in_step, next_command}
+use Rattle.gtp_match.specs.Controller.{new, to_move, in_step, next_command, lost}
 use Rattle.gtp_match.specs.Hearing.{Hears}
 use Rattle.gtp_match.specs.Next.{next}
-use Rattle.gtp_match.specs.Replying.{EndsReply, IsGenmove}
+use Rattle.gtp_match.specs.Replying.{EndsReply, IsGenmove, NamesOtherPoints}
 use Rattle.gtp_match.specs.Retakes.{retakes_of, with_retake}
 use Rattle.gtp_match.specs.Script.{script}
 use Rattle.gtp_match.specs.Setup.{SetupRecord}
 use Rattle.gtp_match.specs.Sides.{side_of, restarts}
 use Rattle.gtp_match.specs.Sound.{IsSound, IsIdle, IsPlay, IsUndo}
-use Rattle.gtp_match.specs.Taking.{may_retake}
+use Rattle.gtp_match.specs.Taking.{may_retake, taking_back}
 use Rattle.gtp_match.specs.declared.controller.Controller.{Controller}
 use Rattle.gtp_match.specs.declared.sides.Incarnation.{Incarnation}
 use Rattle.gtp_match.specs.declared.unanswered.SentCommand.{SentCommand}
@@ -27,6 +27,7 @@ use Rattle.gtp_match.specs.declared.verdicts.Action.{Action}
 use Rattle.gtp_match.specs.declared.verdicts.Action.TheVariants.{Start, Send, Wait, Done}
 use Rattle.gtp_match.specs.declared.verdicts.SideFault.{SideFault}
 use Rattle.gtp_match.specs.declared.verdicts.SideFault.TheVariants.{NoStatus, Overlong, WrongId, Unasked}
+use Rattle.gtp_match.specs.declared.verdicts.Verdict.TheVariants.{Unfit}
 
 -- ---- what comes next
 
@@ -133,15 +134,15 @@ pub record Stands (c : Controller) (s : Colour) (left : List SentCommand) (numbe
   pub confirmed : engine.confirmed ≡ number
 
 -- What a reply to the first of the unanswered commands counts for. One command more is confirmed. Or it refused a
--- `play`, and the number of the last move has one retake more. Or it took a move back, and one command less is
--- confirmed. Or a verdict is given.
+-- `play`, and the number of the last move has one retake more. Or it took a move back: one command less is confirmed,
+-- the last move leaves the game, and nothing is to be taken back any more. Or a verdict is given.
 pub data IsCounted (c new : Controller) (s : Colour) (engine : Incarnation) (entry : SentCommand)
     (later : List SentCommand) (reply : Reply) : Type 0 where
   confirmed : Stands new s later (engine.confirmed + 1) → IsCounted c new s engine entry later reply
   retaken : IsPlay entry.command → reply.ok ≡ false → Stands new s later engine.confirmed
       → new.retakes ≡ with_retake (length c.game.moves) c.retakes → IsCounted c new s engine entry later reply
   taken_back : IsUndo entry.command → reply.ok ≡ true → Stands new s later (engine.confirmed - 1)
-      → IsCounted c new s engine entry later reply
+      → new.game ≡ without_last c.game → new.pending ≡ None → IsCounted c new s engine entry later reply
   ended : IsSome new.verdict → IsCounted c new s engine entry later reply
 
 -- Before a verdict, a reply with the id of the first of the unanswered commands shows no fault, and counts.
@@ -153,6 +154,33 @@ AnswersCount =
     → c.verdict ≡ None → (side_of c.sides s).up ≡ Some engine
     → EndsReply engine bytes used reply → engine.unanswered ≡ entry ∷ later → reply.id ≡ Some entry.id
     → (fault ≡ None) × IsCounted c new s engine entry later reply
+
+-- A success of `fixed_handicap` that names other points than the handicap's confirms nothing. Its side is unfit, and
+-- the command still counts as unanswered.
+abbrev pub OtherPointsAreUnfit : Type 0
+OtherPointsAreUnfit =
+    (c new : Controller) (s : Colour) (engine : Incarnation) (entry : SentCommand) (later : List SentCommand)
+    (reply : Reply) (bytes : List ℕ) (used : ℕ) (fault : Option SideFault)
+    → IsSound c → Hears c s bytes used fault new
+    → c.verdict ≡ None → (side_of c.sides s).up ≡ Some engine
+    → EndsReply engine bytes used reply → engine.unanswered ≡ entry ∷ later → reply.id ≡ Some entry.id
+    → NamesOtherPoints c.game entry.command reply
+    → (new.verdict ≡ Some (Unfit s)) × Stands new s (entry ∷ later) engine.confirmed
+
+-- ---- a maker that goes down
+
+-- What is left where a side goes down. Its last move leaves the game where it was to be taken back there, also where
+-- the side is given up by this; and nothing is to be taken back any more. Else the game stays, and so does what is to
+-- be taken back.
+pub record GoesDownWithMove (c new : Controller) (s : Colour) : Type 0 where
+  pub taken_back : taking_back c ≡ Some s → (new.game ≡ without_last c.game) × (new.pending ≡ None)
+  pub stays : ¬ (taking_back c ≡ Some s) → (new.game ≡ c.game) × (new.pending ≡ c.pending)
+
+-- It is so of a side that is up and is lost, and wherever a fault is shown.
+pub record MakersTakeBack : Type 0 where
+  pub lost : (c : Controller) (s : Colour) → IsSome (side_of c.sides s).up → GoesDownWithMove c (lost c s) s
+  pub fault : (c new : Controller) (s : Colour) (bytes : List ℕ) (used : ℕ) (shown : SideFault)
+      → Hears c s bytes used (Some shown) new → GoesDownWithMove c new s
 
 -- ---- retakes
 

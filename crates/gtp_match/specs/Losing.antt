@@ -97,7 +97,7 @@ loss_of engine text cause = record { cause = cause; owed = owed_of engine text }
 
 -- What hearing the bytes once loses, of a side that is up and before any verdict: by the reply that they end, if its
 -- outcome has a cause; by the fault that they show; and nothing where they do neither. A reply is shown alone, without
--- what stands behind it. Of a text that is no reply all is shown that was heard: what was kept, and all of these bytes.
+-- what follows it. Of a text that is no reply all is shown that was heard: what was kept, and all of these bytes.
 pub data LosesUp (c : Controller) (side : Colour) (engine : Incarnation) (bytes : List ℕ) : Option Loss → Type 0 where
   by_reply : {count : ℕ} {value : Reply} (cause : Option LossCause) → IsFirst (engine.reader ++ bytes) count (Ok value)
       → HasLossCause c side engine value (outcome c.game side (oldest engine.unanswered) value) cause

@@ -226,7 +226,7 @@ pub record ChoosesNothing (command : Command) (reply : Reply) : Type 0 where
   pub no_vertex : (word : List ℕ) (vertex : Vertex) → reply_words reply.text.items ≡ word ∷ []
       → ¬ SpellsVertex vertex word
 
--- a success of `fixed_handicap` whose words aren't vertices on the handicap's points, each of them once
+-- an answer to `fixed_handicap` whose words aren't vertices on the handicap's points, each of them once
 pub record NamesOtherPoints (game : GameRecord) (command : Command) (reply : Reply) : Type 0 where
   pub stones : ℕ
   pub handicap : command ≡ FixedHandicap stones

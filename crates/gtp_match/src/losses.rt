@@ -55,8 +55,8 @@ pub struct Loss {
     /// Why.
     pub cause: LossCause,
     /// What it owed when its bytes ended the reply, or showed the fault, that loses it. The bytes are those of this
-    /// reply, without what stands behind it. Where they are no reply, they are the first 80 of all that was heard since
-    /// the last whole reply, also of what stands behind the fault.
+    /// reply, without what follows it. Where they are no reply, they are the first 80 of all that was heard since
+    /// the last whole reply, also of what follows the fault.
     pub owed: Owed,
 }
 

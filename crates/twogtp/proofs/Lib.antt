@@ -1,4 +1,5 @@
 mod ClosingLemmas
+mod FewLemmas
 mod LossLemmas
 mod OptionLemmas
 mod PipeLemmas

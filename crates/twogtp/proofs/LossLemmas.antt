@@ -1,11 +1,14 @@
--- A turn has a line exactly where it loses a side.
-use Rattle.std.proofs.Common.{◌≡◌, ◌∙◌, ℕ, List, [], true, false, Option, Some, None, refl, sym, ap, subst}
-use Rattle.std.specs.Prelude.{◌≢◌, ◌↔◌, IsSome, is_some, option_map}
+-- A turn has a line of a loss exactly where it loses a side, and one of a retake exactly where one more is counted.
+use Rattle.std.proofs.Common.{◌≡◌, ◌∙◌, ◌+◌, ◌≤◌, ℕ, zero, suc, List, [], length, true, false, Option, Some}
+use Rattle.std.proofs.Common.{None, refl, sym, ap, subst, arith}
+use Rattle.std.specs.Prelude.{◌≢◌, ◌↔◌, IsSome, is_some, option_map, All, slice_get}
+use Rattle.std.specs.Option.{option_to_list}
 use Rattle.go_base.specs.Colour.{other}
 use Rattle.go_base.specs.declared.colours.Colour.{Colour}
 use Rattle.go_base.specs.declared.colours.Colour.TheVariants.{Black, White}
 use Rattle.gtp_match.specs.declared.controller.Controller.{Controller}
 use Rattle.gtp_match.specs.declared.losses.Loss.{Loss}
+use Rattle.gtp_match.specs.declared.reports.Retake.{Retake}
 use Rattle.gtp_match.specs.declared.sides.Incarnation.{Incarnation}
 use Rattle.gtp_match.specs.declared.sides.SideState.{SideState}
 use Rattle.gtp_match.specs.declared.verdicts.Action.{Action}
@@ -14,25 +17,33 @@ use Rattle.gtp_match.specs.declared.verdicts.Verdict.{Verdict}
 use Rattle.gtp_match.specs.Controller.{started, sent, sent_to, downed, lost, lost_engine}
 use Rattle.gtp_match.specs.Losing.{GoesDown, LosesSide, goes_down, forfeits, is_unfit, owed_where}
 use Rattle.gtp_match.specs.Next.{next, next_where}
+use Rattle.gtp_match.specs.Retakes.{total_of}
+use Rattle.gtp_match.specs.Retaking.{AreReported, IsOfLastMove}
 use Rattle.gtp_match.specs.Sides.{side_of}
+use Rattle.gtp_match.specs.Sound.{IsSound}
+use Rattle.gtp_match.proofs.CauseLemmas.{others_leave_the_retakes}
+use Rattle.gtp_match.proofs.ReportedLemmas.{all_reported}
 use Rattle.gtp_match.proofs.ToldLemmas.{all_told}
-use Rattle.twogtp.specs.declared.processes.Endings.{Endings}
 use Rattle.twogtp.specs.declared.processes.Processes.{Processes}
+use Rattle.twogtp.specs.declared.starter.Ending.{Ending}
 use Rattle.twogtp.specs.declared.starter.Process.{Ghosts}
 use Rattle.twogtp.specs.declared.task.Commands.{Commands}
 use Rattle.twogtp.specs.declared.why.Lost.{Lost}
 use Rattle.twogtp.specs.declared.why.Lost.TheVariants.{CutOff, Wrote}
 use Rattle.twogtp.specs.declared.why.PipeCause.{PipeCause}
 use Rattle.twogtp.specs.declared.why.PipeCause.TheVariants.{Writing, Reading, Ended}
-use Rattle.twogtp.specs.Losses.{LossesHaveLines, TurnLosesSide, is_not_started, is_lost}
-use Rattle.twogtp.specs.Processes.{WithProcess, process_of}
+use Rattle.twogtp.specs.declared.why.TurnReport.{TurnReport}
+use Rattle.twogtp.specs.Losses.{IsLossLine, IsRetakeLine, LossesHaveLines, TurnIsTold, TurnLosesSide, is_not_started}
+use Rattle.twogtp.specs.Losses.{is_lost}
+use Rattle.twogtp.specs.Processes.{WithProcess, ending_for, process_of}
 use Rattle.twogtp.specs.Speaking.{AreSent, HearsFromSide, IsHeard, SendsToSide, TakesCommands, cut_off}
 use Rattle.twogtp.specs.Starts.{Attempts}
-use Rattle.twogtp.specs.Turns.{Begins, Turn, line_where, turn_side}
+use Rattle.twogtp.specs.Turns.{Begins, Turn, lines_where, turn_side}
+use Rattle.twogtp.specs.Why.{lost_lines, only_lost, retake_lines}
 
 -- ---- what a turn keeps
 
-up_in : Controller → Colour → Option Incarnation
+unfoldable pub up_in : Controller → Colour → Option Incarnation
 up_in c s = (side_of c.sides s).up
 
 -- the verdict stays, and the same sides are up
@@ -140,12 +151,12 @@ started_keeps c Black White up = up
 started_keeps c White Black up = up
 started_keeps c White White up = refl
 
-started_up : (c : Controller) (side : Colour) → is_some (up_in (started c side) side) ≡ true
+pub started_up : (c : Controller) (side : Colour) → is_some (up_in (started c side) side) ≡ true
 unfolding up_in
 started_up c Black = refl
 started_up c White = refl
 
-failed_down : (c : Controller) (side : Colour) → up_in (lost (started c side) side) side ≡ None
+pub failed_down : (c : Controller) (side : Colour) → up_in (lost (started c side) side) side ≡ None
 unfolding up_in
 failed_down c Black = refl
 failed_down c White = refl
@@ -184,9 +195,10 @@ module _ {P : Type 0} (known : Ghosts P) where
   sends_told c _ side old now _ live (AreSent.failed {new = new} all part cut given) =
       cut_is_loss c new side Writing (takes_keep c side new all.number _ all.takes) live
 
-  hears_told : (c new : Controller) (side : Colour) (old now : P) (why : Option Lost) → c.verdict ≡ None
-      → IsHeard known true c side old now new why → IsSome why ↔ LosesSide c new
-  hears_told c new side old now why live (IsHeard.heard bytes fault some given heard lost_by unbroken taken) =
+  hears_told : (c new : Controller) (side : Colour) (old now : P) (report : TurnReport) → c.verdict ≡ None
+      → IsHeard known true c side old now new report → IsSome report.lost ↔ LosesSide c new
+  hears_told c new side old now report live (IsHeard.heard bytes fault some given heard reported unbroken taken) =
+      let lost_by = reported.1 in
       let told = (all_told c new side bytes lost_by.1.0 lost_by.0 lost_by.1.1).exact in
       subst (λ (w : Option Lost). IsSome w ↔ LosesSide c new) (sym lost_by.2) (wrote lost_by.0 told)
     where
@@ -207,42 +219,42 @@ module _ {P : Type 0} (known : Ghosts P) where
   send_told c new side None (Some now) why live done = absurd done
   send_told c new side (Some old) None why live done = absurd done
 
-  wait_told : (c new : Controller) (side : Colour) (before after : Option P) (why : Option Lost) → c.verdict ≡ None
-      → WithProcess before after (λ (old now : P). IsHeard known true c side old now new why)
-      ((new ≡ lost c side) × (why ≡ cut_off Reading c side))
-      → IsSome why ↔ LosesSide c new
-  wait_told c new side None None why live done =
+  wait_told : (c new : Controller) (side : Colour) (before after : Option P) (report : TurnReport) → c.verdict ≡ None
+      → HearsFromSide known true c side before after new report
+      → IsSome report.lost ↔ LosesSide c new
+  wait_told c new side None None report live done =
       rw (done.0, done.1) (cut_is_loss c c side Reading (keeps_itself c) live)
-  wait_told c new side (Some old) (Some now) why live done = hears_told c new side old now why live done
-  wait_told c new side None (Some now) why live done = absurd done
-  wait_told c new side (Some old) None why live done = absurd done
+  wait_told c new side (Some old) (Some now) report live done = hears_told c new side old now report live done
+  wait_told c new side None (Some now) report live done = absurd done
+  wait_told c new side (Some old) None report live done = absurd done
 
   -- why a side was lost is known exactly where one was
-  turn_told : (commands : Commands) (c new : Controller) (a : Action) (before after : Processes P)
+  pub turn_told : (commands : Commands) (c new : Controller) (a : Action) (before after : Processes P)
       (had has : Attempts P)
-      (why : Option Lost) → next c ≡ a → Turn known commands true c a before had new after has why
-      → IsSome why ↔ TurnLosesSide c new
-  turn_told commands c new (Start side) before after had has why e turn =
-      begin_told commands c new side before after had has why e turn.0
-  turn_told commands c new (Send side) before after had has why e turn =
-      not_start c new why (λ s starts. cc)
-      (send_told c new side (process_of before side) (process_of after side) why (goes_on c (Send side) e (λ v is. cc))
-      turn.0)
-  turn_told commands c new (Wait side) before after had has why e turn =
-      not_start c new why (λ s starts. cc)
-      (wait_told c new side (process_of before side) (process_of after side) why (goes_on c (Wait side) e (λ v is. cc))
-      turn.0)
-  turn_told commands c new (Done verdict) before after had has why e turn =
-      not_start c new why (λ s starts. cc)
-      (rw turn.0 (neither why _ turn.3 (loses_none c c (keeps_itself c))))
+      (report : TurnReport) → next c ≡ a → Turn known commands true c a before had new after has report
+      → IsSome report.lost ↔ TurnLosesSide c new
+  turn_told commands c new (Start side) before after had has report e turn =
+      begin_told commands c new side before after had has report.lost e turn.0
+  turn_told commands c new (Send side) before after had has report e turn =
+      not_start c new report.lost (λ s starts. cc)
+      (send_told c new side (process_of before side) (process_of after side) report.lost
+      (goes_on c (Send side) e (λ v is. cc)) turn.0)
+  turn_told commands c new (Wait side) before after had has report e turn =
+      not_start c new report.lost (λ s starts. cc)
+      (wait_told c new side (process_of before side) (process_of after side) report
+      (goes_on c (Wait side) e (λ v is. cc)) turn.0)
+  turn_told commands c new (Done verdict) before after had has report e turn =
+      not_start c new report.lost (λ s starts. cc)
+      (rw turn.0
+      (neither report.lost _ (ap (λ (r : TurnReport). r.lost) turn.3) (loses_none c c (keeps_itself c))))
 
 -- ---- which side goes down
 
 -- of the other side the same is up as before
-abbrev OtherStaysUp : Controller → Controller → Colour → Type 0
+abbrev pub OtherStaysUp : Controller → Controller → Colour → Type 0
 OtherStaysUp c new side = is_some (up_in new (other side)) ≡ is_some (up_in c (other side))
 
-down_is : (c new : Controller) (side s : Colour) → OtherStaysUp c new side → GoesDown c new s → s ≡ side
+pub down_is : (c new : Controller) (side s : Colour) → OtherStaysUp c new side → GoesDown c new s → s ≡ side
 unfolding up_in
 down_is c new Black Black stays down = refl
 down_is c new White White stays down = refl
@@ -260,7 +272,7 @@ lost_leaves m side None = refl
 lost_leaves m Black (Some engine) = refl
 lost_leaves m White (Some engine) = refl
 
-started_leaves : (c : Controller) (side : Colour) → OtherStaysUp c (started c side) side
+pub started_leaves : (c : Controller) (side : Colour) → OtherStaysUp c (started c side) side
 unfolding up_in
 started_leaves c Black = refl
 started_leaves c White = refl
@@ -270,7 +282,7 @@ unfolding up_in
 cut_leaves c m side keeps = lost_leaves m side (up_in m side) ∙ keeps.up (other side)
 
 module _ {P : Type 0} (known : Ghosts P) where
-  begin_leaves : (commands : Commands) (c new : Controller) (side : Colour) (before after : Processes P)
+  pub begin_leaves : (commands : Commands) (c new : Controller) (side : Colour) (before after : Processes P)
       (had has : Attempts P) (why : Option Lost) → Begins known commands c side before after had has new why
       → OtherStaysUp c new side
   unfolding up_in
@@ -285,73 +297,239 @@ module _ {P : Type 0} (known : Ghosts P) where
   sent_leaves c _ side old now _ (AreSent.failed {new = mid} all part cut given) =
       cut_leaves c mid side (takes_keep c side mid all.number _ all.takes)
 
-  heard_leaves : (c new : Controller) (side : Colour) (old now : P) (why : Option Lost)
-      → IsHeard known true c side old now new why → OtherStaysUp c new side
+  heard_leaves : (c new : Controller) (side : Colour) (old now : P) (report : TurnReport)
+      → IsHeard known true c side old now new report → OtherStaysUp c new side
   unfolding up_in
-  heard_leaves c new side old now why (IsHeard.heard bytes fault some given heard lost_by unbroken taken) =
+  heard_leaves c new side old now report (IsHeard.heard bytes fault some given heard reported unbroken taken) =
+      let lost_by = reported.1 in
       ap (λ (s : SideState). is_some s.up)
       (all_told c new side bytes lost_by.1.0 lost_by.0 lost_by.1.1).other_stays
   heard_leaves c _ side old now _ (IsHeard.ended over given taken) = cut_leaves c c side (keeps_itself c)
   heard_leaves c _ side old now _ (IsHeard.broke cut given taken) = cut_leaves c c side (keeps_itself c)
 
-  send_leaves : (c new : Controller) (side : Colour) (before after : Option P) (why : Option Lost)
+  pub send_leaves : (c new : Controller) (side : Colour) (before after : Option P) (why : Option Lost)
       → SendsToSide known c side before after new why → OtherStaysUp c new side
   send_leaves c new side None None why done = rw done.0 (cut_leaves c (sent c side) side (sent_keeps c side))
   send_leaves c new side (Some old) (Some now) why done = sent_leaves c new side old now why done
   send_leaves c new side None (Some now) why done = absurd done
   send_leaves c new side (Some old) None why done = absurd done
 
-  wait_leaves : (c new : Controller) (side : Colour) (before after : Option P) (why : Option Lost)
-      → HearsFromSide known true c side before after new why → OtherStaysUp c new side
-  wait_leaves c new side None None why done = rw done.0 (cut_leaves c c side (keeps_itself c))
-  wait_leaves c new side (Some old) (Some now) why done = heard_leaves c new side old now why done
-  wait_leaves c new side None (Some now) why done = absurd done
-  wait_leaves c new side (Some old) None why done = absurd done
+  pub wait_leaves : (c new : Controller) (side : Colour) (before after : Option P) (report : TurnReport)
+      → HearsFromSide known true c side before after new report → OtherStaysUp c new side
+  wait_leaves c new side None None report done = rw done.0 (cut_leaves c c side (keeps_itself c))
+  wait_leaves c new side (Some old) (Some now) report done = heard_leaves c new side old now report done
+  wait_leaves c new side None (Some now) report done = absurd done
+  wait_leaves c new side (Some old) None report done = absurd done
 
   -- a side that goes down is the one whose turn it was
   turn_names : (commands : Commands) (c new : Controller) (a : Action) (before after : Processes P)
       (had has : Attempts P)
-      (why : Option Lost) (s : Colour) → Turn known commands true c a before had new after has why
+      (report : TurnReport) (s : Colour) → Turn known commands true c a before had new after has report
       → GoesDown c new s → turn_side a ≡ Some s
-  turn_names commands c new (Start side) before after had has why s turn down =
+  turn_names commands c new (Start side) before after had has report s turn down =
       ap (λ (t : Colour). Some t)
-      (sym (down_is c new side s (begin_leaves commands c new side before after had has why turn.0) down))
-  turn_names commands c new (Send side) before after had has why s turn down =
+      (sym (down_is c new side s (begin_leaves commands c new side before after had has report.lost turn.0) down))
+  turn_names commands c new (Send side) before after had has report s turn down =
       ap (λ (t : Colour). Some t)
-      (sym (down_is c new side s (send_leaves c new side (process_of before side) (process_of after side) why turn.0)
-      down))
-  turn_names commands c new (Wait side) before after had has why s turn down =
+      (sym (down_is c new side s
+      (send_leaves c new side (process_of before side) (process_of after side) report.lost turn.0) down))
+  turn_names commands c new (Wait side) before after had has report s turn down =
       ap (λ (t : Colour). Some t)
-      (sym (down_is c new side s (wait_leaves c new side (process_of before side) (process_of after side) why turn.0)
-      down))
-  turn_names commands c new (Done verdict) before after had has why s turn down =
+      (sym (down_is c new side s
+      (wait_leaves c new side (process_of before side) (process_of after side) report turn.0) down))
+  turn_names commands c new (Done verdict) before after had has report s turn down =
       absurd (loses_none c new (rw turn.0 (keeps_itself c)) (goes_down s down))
+
+-- ---- retakes
+
+-- of a turn's side: one more is counted where one is reported, and that is of the last move
+record CountsReported (c new : Controller) (a : Action) (retake : Option Retake) : Type 0 where
+  counted : total_of new.retakes ≡ total_of c.retakes + length (option_to_list retake)
+  each : (r : Retake) → retake ≡ Some r → (side : Colour) × (turn_side a ≡ Some side) × IsOfLastMove c new side r
+
+-- nothing is retaken
+none_counted : (c new : Controller) (a : Action) (retake : Option Retake) → new.retakes ≡ c.retakes → retake ≡ None
+    → CountsReported c new a retake
+none_counted c new a retake same none = record {
+  counted = omega (arith, ap total_of same, ap (λ (o : Option Retake). length (option_to_list o)) none);
+  each = λ r is. absurd (let no : None ≡ Some r = sym none ∙ is in cc);
+}
+
+pub lost_retakes : (c : Controller) (side : Colour) → (lost c side).retakes ≡ c.retakes
+lost_retakes c side = (others_leave_the_retakes c side).2
+
+pub sent_retakes : (c : Controller) (side : Colour) → (sent c side).retakes ≡ c.retakes
+sent_retakes c side = (others_leave_the_retakes c side).1
+
+pub takes_retakes : (c : Controller) (side : Colour) (new : Controller) (number : ℕ) (text : List ℕ)
+    → TakesCommands c side number text new → new.retakes ≡ c.retakes
+takes_retakes c side _ _ _ TakesCommands.none = refl
+takes_retakes c side _ _ _ (TakesCommands.one_more {number = n} {text = text} {mid = mid} takes more) =
+    sent_retakes mid side ∙ takes_retakes c side mid n text takes
+
+reported_of : (c new : Controller) (side : Colour) (retake : Option Retake)
+    → AreReported side c new (option_to_list retake) → CountsReported c new (Wait side) retake
+reported_of c new side retake are = record {
+  counted = are.counted;
+  each = λ r is. (side, refl, are.each 0 r (ap (λ (o : Option Retake). slice_get (option_to_list o) 0) is));
+}
+
+module _ {P : Type 0} (known : Ghosts P) where
+  pub begin_retakes : (commands : Commands) (c new : Controller) (side : Colour) (before after : Processes P)
+      (had has : Attempts P) (why : Option Lost) → Begins known commands c side before after had has new why
+      → new.retakes ≡ c.retakes
+  begin_retakes commands c _ side before after had has _ (Begins.starts process tried is ended) = refl
+  begin_retakes commands c _ side before after had has _ (Begins.fails_to_start reason tried is) =
+      lost_retakes (started c side) side
+
+  pub send_retakes : (c new : Controller) (side : Colour) (before after : Option P) (why : Option Lost)
+      → SendsToSide known c side before after new why → new.retakes ≡ c.retakes
+  send_retakes c new side None None why done = rw done.0 (lost_retakes (sent c side) side ∙ sent_retakes c side)
+  send_retakes c new side (Some old) (Some now) why done = by_way new why done
+    where
+      by_way : (new : Controller) (why : Option Lost) → AreSent known c side old now new why → new.retakes ≡ c.retakes
+      by_way new _ (AreSent.taken all taken unbroken flushed given) =
+          takes_retakes c side new all.number _ all.takes
+      by_way _ _ (AreSent.failed {new = mid} all part cut given) =
+          lost_retakes mid side ∙ takes_retakes c side mid all.number _ all.takes
+  send_retakes c new side None (Some now) why done = absurd done
+  send_retakes c new side (Some old) None why done = absurd done
+
+  heard_retakes : (c new : Controller) (side : Colour) (old now : P) (report : TurnReport) → IsSound c
+      → IsHeard known true c side old now new report → CountsReported c new (Wait side) report.retake
+  heard_retakes c new side old now report sound
+      (IsHeard.heard bytes fault some given heard reported unbroken taken) =
+      reported_of c new side report.retake
+      (all_reported c new side bytes reported.0.0 (option_to_list report.retake) sound reported.0.1)
+  heard_retakes c _ side old now _ sound (IsHeard.ended over given taken) =
+      none_counted c (lost c side) (Wait side) None (lost_retakes c side) refl
+  heard_retakes c _ side old now _ sound (IsHeard.broke cut given taken) =
+      none_counted c (lost c side) (Wait side) None (lost_retakes c side) refl
+
+  wait_retakes : (c new : Controller) (side : Colour) (before after : Option P) (report : TurnReport) → IsSound c
+      → HearsFromSide known true c side before after new report → CountsReported c new (Wait side) report.retake
+  wait_retakes c new side None None report sound done =
+      rw (done.0, done.1) (none_counted c (lost c side) (Wait side) None (lost_retakes c side) refl)
+  wait_retakes c new side (Some old) (Some now) report sound done = heard_retakes c new side old now report sound done
+  wait_retakes c new side None (Some now) report sound done = absurd done
+  wait_retakes c new side (Some old) None report sound done = absurd done
+
+  -- a retake is reported exactly where one more is counted
+  turn_retakes : (commands : Commands) (c new : Controller) (a : Action) (before after : Processes P)
+      (had has : Attempts P) (report : TurnReport) → IsSound c
+      → Turn known commands true c a before had new after has report → CountsReported c new a report.retake
+  turn_retakes commands c new (Start side) before after had has report sound turn =
+      none_counted c new (Start side) report.retake
+      (begin_retakes commands c new side before after had has report.lost turn.0) turn.1
+  turn_retakes commands c new (Send side) before after had has report sound turn =
+      none_counted c new (Send side) report.retake
+      (send_retakes c new side (process_of before side) (process_of after side) report.lost turn.0) turn.1
+  turn_retakes commands c new (Wait side) before after had has report sound turn =
+      wait_retakes c new side (process_of before side) (process_of after side) report sound turn.0
+  turn_retakes commands c new (Done verdict) before after had has report sound turn =
+      none_counted c new (Done verdict) report.retake (ap (λ (x : Controller). x.retakes) turn.0)
+      (ap (λ (r : TurnReport). r.retake) turn.3)
 
 -- ---- lines
 
--- a line is told where it is known why, of the side whose turn it was
-pub line_told : (number : ℕ) (side : Option Colour) (why : Option Lost) (endings : Endings) (X : Type 0)
-    → (IsSome why → IsSome side) → IsSome why ↔ X → (line_where (Some number) side why endings ≢ []) ↔ X
-line_told number None None endings X has told =
-    ((λ some. absurd (some refl)), (λ x. absurd (let none : false ≡ true = told.1 x in cc)))
-line_told number None (Some why) endings X has told = absurd (let none : false ≡ true = has refl in cc)
-line_told number (Some side) None endings X has told =
-    ((λ some. absurd (some refl)), (λ x. absurd (let none : false ≡ true = told.1 x in cc)))
-line_told number (Some side) (Some why) endings X has told = ((λ some. told.0 refl), (λ x is. cc))
+-- the lines of a turn of this side
+module _ (number : ℕ) (c new : Controller) (side : Colour) (is : turn_side (next c) ≡ Some side) where
+  one_of_loss : (lost : Option Lost) (ending : Ending) → length (lost_lines number side lost ending) ≤ 1
+  one_of_loss None ending = omega arith
+  one_of_loss (Some lost) ending = omega arith
+
+  exact_loss : (lost : Option Lost) (ending : Ending) (X : Type 0) → IsSome lost ↔ X
+      → (lost_lines number side lost ending ≢ []) ↔ X
+  exact_loss None ending X told =
+      ((λ some. absurd (some refl)), (λ x. absurd (let none : false ≡ true = told.1 x in cc)))
+  exact_loss (Some lost) ending X told = ((λ some. told.0 refl), (λ x e. cc))
+
+  each_of_loss : (lost : Option Lost) (ending : Ending) → All (IsLossLine number c) (lost_lines number side lost ending)
+  each_of_loss None ending k d inside = absurd (omega (arith, inside))
+  each_of_loss (Some lost) ending zero d inside =
+      record { side = side; lost = lost; ending = ending; is = refl; of_turn = is }
+  each_of_loss (Some lost) ending (suc k) d inside = absurd (omega (arith, inside))
+
+  one_of_retake : (retake : Option Retake) → length (retake_lines number side retake) ≤ 1
+  one_of_retake None = omega arith
+  one_of_retake (Some retake) = omega arith
+
+  as_many : (retake : Option Retake) → length (retake_lines number side retake) ≡ length (option_to_list retake)
+  as_many None = refl
+  as_many (Some retake) = refl
+
+  each_of_retake : (retake : Option Retake) → CountsReported c new (next c) retake
+      → All (IsRetakeLine number c new) (retake_lines number side retake)
+  each_of_retake None counts k d inside = absurd (omega (arith, inside))
+  each_of_retake (Some retake) counts zero d inside =
+      let told = counts.each retake refl in
+      let same : told.0 ≡ side = let both : Some told.0 ≡ Some side = sym told.1 ∙ is in cc in
+      record {
+        side = side;
+        retake = retake;
+        is = refl;
+        of_turn = is;
+        of_last = subst (λ (s : Colour). IsOfLastMove c new s retake) same told.2;
+      }
+  each_of_retake (Some retake) counts (suc k) d inside = absurd (omega (arith, inside))
 
 pub losses_have_lines : {P : Type 0} (known : Ghosts P) → LossesHaveLines known
-losses_have_lines known commands number c new before closing had has why endings turn =
-    let told = turn_told known commands c new (next c) before turn.after had has why refl turn.turn in
-    record {
-      exact = line_told number (turn_side (next c)) why endings (TurnLosesSide c new) (has_side (next c) turn.turn)
-          told;
-      named = λ s. turn_names known commands c new (next c) before turn.after had has why s turn.turn;
-    }
+losses_have_lines known commands number c new before closing had has report endings turn =
+    by_side (turn_side (next c)) refl
   where
-    has_side : (a : Action) → Turn known commands true c a before had new turn.after has why → IsSome why
-        → IsSome (turn_side a)
-    has_side (Start side) is some = refl
-    has_side (Send side) is some = refl
-    has_side (Wait side) is some = refl
-    has_side (Done verdict) is some =
-        absurd (let none : is_some why ≡ false = ap (λ (w : Option Lost). is_some w) is.3 in cc)
+    told : IsSome report.lost ↔ TurnLosesSide c new
+    told = turn_told known commands c new (next c) before turn.after had has report refl turn.turn
+
+    counts : IsSound c → CountsReported c new (next c) report.retake
+    counts sound = turn_retakes known commands c new (next c) before turn.after had has report sound turn.turn
+
+    names : (s : Colour) → GoesDown c new s → turn_side (next c) ≡ Some s
+    names s = turn_names known commands c new (next c) before turn.after had has report s turn.turn
+
+    -- once the match is over, nothing is reported
+    over : (a : Action) → turn_side a ≡ None → Turn known commands true c a before had new turn.after has report
+        → report ≡ only_lost None
+    over (Start side) none is = absurd (cc)
+    over (Send side) none is = absurd (cc)
+    over (Wait side) none is = absurd (cc)
+    over (Done verdict) none is = is.3
+
+    by_side : (side : Option Colour) → turn_side (next c) ≡ side
+        → TurnIsTold number c new (lines_where (Some number) side report endings)
+    by_side None none =
+        let nothing = over (next c) none turn.turn in
+        let no_loss : report.lost ≡ None = ap (λ (r : TurnReport). r.lost) nothing in
+        let no_retake : report.retake ≡ None = ap (λ (r : TurnReport). r.retake) nothing in
+        record {
+          retakes = [];
+          losses = [];
+          joined = refl;
+          one_retake = omega arith;
+          one_loss = omega arith;
+          counted = λ sound.
+              let more = (counts sound).counted in
+              omega (arith, more, ap (λ (o : Option Retake). length (option_to_list o)) no_retake);
+          each_retake = λ sound k d inside. absurd (omega (arith, inside));
+          exact = (
+            (λ some. absurd (some refl)),
+            (λ loses. absurd
+                (let no : is_some report.lost ≡ false = ap (λ (w : Option Lost). is_some w) no_loss in
+                let yes = told.1 loses in cc)),
+          );
+          each_loss = λ k d inside. absurd (omega (arith, inside));
+          named = names;
+        }
+    by_side (Some side) is = record {
+      retakes = retake_lines number side report.retake;
+      losses = lost_lines number side report.lost (ending_for endings side);
+      joined = refl;
+      one_retake = one_of_retake number c new side is report.retake;
+      one_loss = one_of_loss number c new side is report.lost (ending_for endings side);
+      counted = λ sound.
+          let more = (counts sound).counted in
+          omega (arith, more, as_many number c new side is report.retake);
+      each_retake = λ sound. each_of_retake number c new side is report.retake (counts sound);
+      exact = exact_loss number c new side is report.lost (ending_for endings side) (TurnLosesSide c new) told;
+      each_loss = each_of_loss number c new side is report.lost (ending_for endings side);
+      named = names;
+    }

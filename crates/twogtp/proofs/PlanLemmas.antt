@@ -5,6 +5,7 @@ use Rattle.std.proofs.lemmas.Grind.{common_steps}
 use Rattle.twogtp.specs.declared.failure.Failure.{Failure}
 use Rattle.twogtp.specs.declared.failure.Failure.TheVariants.{BadArgument, NoBlackCommand, NoWhiteCommand, BadKomi}
 use Rattle.twogtp.specs.declared.failure.Failure.TheVariants.{BadHandicap, Write, OutOfMemory, TooManyTurns}
+use Rattle.twogtp.specs.declared.failure.Failure.TheVariants.{NoNullDevice}
 use Rattle.twogtp.specs.declared.options.Options.{Options}
 use Rattle.twogtp.specs.Status.{exit_status, usage_failure}
 use Rattle.twogtp.specs.Tasks.{IsMistake}
@@ -24,3 +25,4 @@ mistake_is_usage options BadHandicap is = refl
 mistake_is_usage options Write none = absurd none
 mistake_is_usage options OutOfMemory none = absurd none
 mistake_is_usage options TooManyTurns none = absurd none
+mistake_is_usage options NoNullDevice none = absurd none

@@ -11,6 +11,9 @@ joined-3 l a b d = append_assoc (l ++ a) b d ∙ append_assoc l a (b ++ d)
 pub joined-4 : (l a b d e : List ℕ) → (((l ++ a) ++ b) ++ d) ++ e ≡ l ++ (a ++ (b ++ (d ++ e)))
 joined-4 l a b d e = append_assoc ((l ++ a) ++ b) d e ∙ joined-3 l a b (d ++ e)
 
+pub joined-5 : (l a b d e f : List ℕ) → ((((l ++ a) ++ b) ++ d) ++ e) ++ f ≡ l ++ (a ++ (b ++ (d ++ (e ++ f))))
+joined-5 l a b d e f = append_assoc (((l ++ a) ++ b) ++ d) e f ∙ joined-4 l a b d (e ++ f)
+
 -- one byte more
 shown_bytes-push : (bytes : List ℕ) (last : ℕ) → shown_bytes (bytes ++ last ∷ []) ≡ shown_bytes bytes ++ shown_byte last
 shown_bytes-push [] last = append-nil (shown_byte last)

@@ -1,6 +1,7 @@
 -- What is said with the process of a side in a turn.
 use Rattle.std.specs.Prelude.{◌≡◌, ◌≢◌, ◌<◌, ◌+◌, ℕ, Bool, true, false, List, [], ◌++◌, length, Option, Some, None}
 use Rattle.std.specs.Prelude.{option_map}
+use Rattle.std.specs.Option.{option_to_list}
 use Rattle.std.specs.Io.KnownBytes.{Appends, Keeps}
 use Rattle.go_base.specs.declared.colours.Colour.{Colour}
 use Rattle.gtp_match.specs.declared.controller.Controller.{Controller}
@@ -11,6 +12,7 @@ use Rattle.gtp_match.specs.Controller.{next_text, sent, lost}
 use Rattle.gtp_match.specs.Hearing.{HearsAllExactly}
 use Rattle.gtp_match.specs.Losing.{HearsAllTelling, owed}
 use Rattle.gtp_match.specs.Next.{next}
+use Rattle.gtp_match.specs.Retaking.{HearsAllRetakes}
 use Rattle.gtp_match.specs.declared.losses.Loss.{Loss}
 use Rattle.gtp_match.specs.Sides.{side_of}
 use Rattle.twogtp.specs.declared.starter.Process.{Ghosts}
@@ -18,8 +20,10 @@ use Rattle.twogtp.specs.declared.why.Lost.{Lost}
 use Rattle.twogtp.specs.declared.why.Lost.TheVariants.{CutOff, Wrote}
 use Rattle.twogtp.specs.declared.why.PipeCause.{PipeCause}
 use Rattle.twogtp.specs.declared.why.PipeCause.TheVariants.{Writing, Reading, Ended}
+use Rattle.twogtp.specs.declared.why.TurnReport.{TurnReport}
 use Rattle.twogtp.specs.Pipes.{IsCutOff, IsUnbroken, OutputEnded, TakesPart}
 use Rattle.twogtp.specs.Processes.{WithProcess}
+use Rattle.twogtp.specs.Why.{only_lost}
 
 -- The bytes of the command that a side is sent next; none where it is down.
 abbrev pub command_for : Controller → Colour → Option Incarnation → List ℕ
@@ -63,31 +67,36 @@ pub data AreSent {P : Type 0} (known : Ghosts P) (c : Controller) (side : Colour
       → Keeps (known.given before) (known.given after)
       → AreSent known c side before after (lost new side) (cut_off Writing new side)
 
--- Why a side was lost by bytes, all of which were heard: the first loss by them, if any. It is looked for where it is
--- to be told.
-abbrev pub LostBy : Bool → Colour → Controller → List ℕ → Controller → Option Lost → Type 0
-LostBy false side c bytes new why = why ≡ None
-LostBy true side c bytes new why =
+-- Why a side was lost by bytes, all of which were heard: the first loss by them, if any.
+abbrev pub LostBy : Colour → Controller → List ℕ → Controller → Option Lost → Type 0
+LostBy side c bytes new why =
     (loss : Option Loss) × HearsAllTelling side c bytes loss new × (why ≡ option_map Wrote loss)
+
+-- What is reported of bytes, all of which were heard: the `play` that is retaken by them, if any, and why the side was
+-- lost by them, if it was. It is looked for where it is to be told.
+abbrev pub ReportedBy : Bool → Colour → Controller → List ℕ → Controller → TurnReport → Type 0
+ReportedBy false side c bytes new report = report ≡ only_lost None
+ReportedBy true side c bytes new report =
+    HearsAllRetakes side c bytes (option_to_list report.retake) new × LostBy side c bytes new report.lost
 
 -- A side was waited for. What its process gave, a byte at least, was heard, all of it, and no call broke. Or its output
 -- ended, or the process was cut off, and it gave nothing: the side is lost. It was sent nothing.
 pub data IsHeard {P : Type 0} (known : Ghosts P) (telling : Bool) (c : Controller) (side : Colour) (before after : P)
-    : Controller → Option Lost → Type 0 where
-  heard : {new : Controller} {why : Option Lost} (bytes : List ℕ) (fault : Option SideFault)
+    : Controller → TurnReport → Type 0 where
+  heard : {new : Controller} {report : TurnReport} (bytes : List ℕ) (fault : Option SideFault)
       → 0 < length bytes → Appends (known.given before) (known.given after) bytes
-      → HearsAllExactly side c bytes fault new → LostBy telling side c bytes new why
+      → HearsAllExactly side c bytes fault new → ReportedBy telling side c bytes new report
       → IsUnbroken known.fails known.succeeds before after
       → Keeps (known.taken before) (known.taken after)
-      → IsHeard known telling c side before after new why
+      → IsHeard known telling c side before after new report
   ended : OutputEnded known.fails known.succeeds known.runs_out before after
       → Keeps (known.given before) (known.given after)
       → Keeps (known.taken before) (known.taken after)
-      → IsHeard known telling c side before after (lost c side) (cut_off Ended c side)
+      → IsHeard known telling c side before after (lost c side) (only_lost (cut_off Ended c side))
   broke : IsCutOff known.fails known.succeeds before after
       → Keeps (known.given before) (known.given after)
       → Keeps (known.taken before) (known.taken after)
-      → IsHeard known telling c side before after (lost c side) (cut_off Reading c side)
+      → IsHeard known telling c side before after (lost c side) (only_lost (cut_off Reading c side))
 
 -- a side was to be sent its commands, and one that has no process is lost
 abbrev pub SendsToSide : {P : Type 0} → Ghosts P → Controller → Colour → Option P → Option P → Controller → Option Lost
@@ -98,7 +107,7 @@ SendsToSide {P} known c side before after new why =
 
 -- a side was waited for, and one that has no process is lost
 abbrev pub HearsFromSide : {P : Type 0} → Ghosts P → Bool → Controller → Colour → Option P → Option P → Controller
-    → Option Lost → Type 0
-HearsFromSide {P} known telling c side before after new why =
-    WithProcess before after (λ (old now : P). IsHeard known telling c side old now new why)
-    ((new ≡ lost c side) × (why ≡ cut_off Reading c side))
+    → TurnReport → Type 0
+HearsFromSide {P} known telling c side before after new report =
+    WithProcess before after (λ (old now : P). IsHeard known telling c side old now new report)
+    ((new ≡ lost c side) × (report ≡ only_lost (cut_off Reading c side)))

@@ -8,6 +8,7 @@ use Rattle.gtp_match.specs.Setup.{setup_of, IsSetup}
 use Rattle.twogtp.specs.declared.failure.Failure.{Failure}
 use Rattle.twogtp.specs.declared.failure.Failure.TheVariants.{BadArgument, NoBlackCommand, NoWhiteCommand, BadKomi}
 use Rattle.twogtp.specs.declared.failure.Failure.TheVariants.{BadHandicap, Write, OutOfMemory, TooManyTurns}
+use Rattle.twogtp.specs.declared.failure.Failure.TheVariants.{NoNullDevice}
 use Rattle.twogtp.specs.declared.options.Options.{Options}
 use Rattle.twogtp.specs.declared.task.Commands.{Commands}
 use Rattle.twogtp.specs.declared.task.Task.{Task}
@@ -63,6 +64,7 @@ IsTaskMistake options NoWhiteCommand = ⊥
 IsTaskMistake options Write = ⊥
 IsTaskMistake options OutOfMemory = ⊥
 IsTaskMistake options TooManyTurns = ⊥
+IsTaskMistake options NoNullDevice = ⊥
 
 -- the first mistake in the options: Black's command, White's, komi, the handicap
 abbrev pub IsMistake : Options → Failure → Type 0
@@ -74,3 +76,4 @@ IsMistake options BadArgument = ⊥
 IsMistake options Write = ⊥
 IsMistake options OutOfMemory = ⊥
 IsMistake options TooManyTurns = ⊥
+IsMistake options NoNullDevice = ⊥

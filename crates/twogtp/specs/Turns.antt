@@ -1,5 +1,6 @@
 -- What the program does with a match and the processes of its sides, turn by turn.
-use Rattle.std.specs.Prelude.{◌≡◌, ℕ, ◌+◌, Bool, true, false, List, [], Option, None, Some, is_some, IsSome, Ok, Err}
+use Rattle.std.specs.Prelude.{◌≡◌, ℕ, ◌+◌, Bool, true, false, List, [], ◌++◌, Option, None, Some, is_some, IsSome}
+use Rattle.std.specs.Prelude.{Ok, Err}
 use Rattle.go_base.specs.declared.colours.Colour.{Colour}
 use Rattle.go_base.specs.declared.colours.Colour.TheVariants.{Black, White}
 use Rattle.gtp_match.specs.declared.controller.Controller.{Controller}
@@ -20,12 +21,13 @@ use Rattle.twogtp.specs.declared.starter.StartFault.TheVariants as start_fault
 use Rattle.twogtp.specs.declared.starter.StartReason.{StartReason}
 use Rattle.twogtp.specs.declared.why.Lost.{Lost}
 use Rattle.twogtp.specs.declared.why.Lost.TheVariants.{NotStarted}
+use Rattle.twogtp.specs.declared.why.TurnReport.{TurnReport}
 use Rattle.twogtp.specs.declared.task.Commands.{Commands}
-use Rattle.twogtp.specs.Writing.{BreaksAt, LineGoesOut}
+use Rattle.twogtp.specs.Writing.{LinesBreak, LinesGoOut}
 use Rattle.twogtp.specs.Processes.{AreEndings, IsEnded, OtherStays, ending_for, kept_by, no_processes, process_of}
 use Rattle.twogtp.specs.Speaking.{HearsFromSide, SendsToSide}
 use Rattle.twogtp.specs.Starts.{Attempts, Tries, program_line_for}
-use Rattle.twogtp.specs.Why.{lost_line}
+use Rattle.twogtp.specs.Why.{IsReported, lost_lines, only_lost, retake_lines, unstarted}
 
 -- how many turns a game has at most; no match within the limits has this number
 abbrev pub most_turns : ℕ
@@ -33,7 +35,7 @@ most_turns = 1000000000000
 
 -- ---- what was asked for and told
 
--- the starts that were asked for, where they are known, and the stream on which lost sides are told
+-- the starts that were asked for, where they are known, and the stream on which turns are reported
 pub record Seen (P E : Type 0) : Type 0 where
   pub asked : Attempts P
   pub errors : E
@@ -41,7 +43,7 @@ pub record Seen (P E : Type 0) : Type 0 where
 abbrev pub seen : {P E : Type 0} → Attempts P → E → Seen P E
 seen asked errors = record { asked = asked; errors = errors }
 
--- the number under which a game's lost sides are told, where they are
+-- the number under which the turns of a game are reported, where they are
 abbrev pub told_as : Bool → ℕ → Option ℕ
 told_as false number = None
 told_as true number = Some number
@@ -53,22 +55,23 @@ turn_side (Send side) = Some side
 turn_side (Wait side) = Some side
 turn_side (Done verdict) = None
 
--- the line of a turn's side, where a side was lost in it and that is told
-abbrev pub line_where : Option ℕ → Option Colour → Option Lost → Endings → List ℕ
-line_where None side why endings = []
-line_where (Some number) None why endings = []
-line_where (Some number) (Some side) None endings = []
-line_where (Some number) (Some side) (Some why) endings = lost_line number side why (ending_for endings side)
+-- the lines of a turn's side, where what is reported of it is told
+abbrev pub lines_where : Option ℕ → Option Colour → TurnReport → Endings → List (List ℕ)
+lines_where None side report endings = []
+lines_where (Some number) None report endings = []
+lines_where (Some number) (Some side) report endings =
+    retake_lines number side report.retake ++ lost_lines number side report.lost (ending_for endings side)
 
--- What is told in a turn, in which a side was lost or not: one line at most, of the side whose turn it was.
-abbrev pub turn_line : Option ℕ → Action → Option Lost → Endings → List ℕ
-turn_line telling action why endings = line_where telling (turn_side action) why endings
+-- What is told of a turn, two lines at most of the side whose turn it was: that it refused a `play` which is retaken,
+-- and then why a side was lost.
+abbrev pub turn_lines : Option ℕ → Action → TurnReport → Endings → List (List ℕ)
+turn_lines telling action report endings = lines_where telling (turn_side action) report endings
 
 -- ---- one turn
 
 -- A side's program was asked for, by that side's command line. It was started: so is the side, and the very process
 -- that was started is its process from then on. One that it had has ended. Or it couldn't be: the side counts as
--- started and lost, and what process it had stays.
+-- started and lost, and what process it had stays. What is told names the program that was looked for.
 pub data Begins {P : Type 0} (known : Ghosts P) (commands : Commands) (c : Controller) (side : Colour)
     (before after : Processes P) (had has : Attempts P) : Controller → Option Lost → Type 0 where
   starts : (process : P) → Tries had has (program_line_for commands side) (Ok process)
@@ -77,24 +80,26 @@ pub data Begins {P : Type 0} (known : Ghosts P) (commands : Commands) (c : Contr
   fails_to_start : (reason : StartReason) → Tries had has (program_line_for commands side)
       (Err (start_fault.NotStarted reason))
       → process_of after side ≡ process_of before side
-      → Begins known commands c side before after had has (lost (started c side) side) (Some (NotStarted reason))
+      → Begins known commands c side before after had has (lost (started c side) side)
+      (Some (NotStarted (unstarted (program_line_for commands side) reason)))
 
 -- One turn does what comes next, with the process of the side whose turn it is, and nothing with the other's: its
 -- program is asked for, or it is sent its commands, all that come next for it, or it is waited for. Once the match is
--- over nothing is done. Only a start asks for a program. And why the side was lost, if it was; of what it wrote that is
--- looked for where it is to be told.
+-- over nothing is done. Only a start asks for a program. And what is reported: why the side was lost, if it was, and by
+-- what it wrote also the `play` that is retaken; of what it wrote that is looked for where it is to be told.
 abbrev pub Turn : {P : Type 0} → Ghosts P → Commands → Bool → Controller → Action → Processes P → Attempts P
-    → Controller → Processes P → Attempts P → Option Lost → Type 0
-Turn known commands telling c (Start side) before had new after has why =
-    Begins known commands c side before after had has new why × OtherStays side before after
-Turn known commands telling c (Send side) before had new after has why =
-    SendsToSide known c side (process_of before side) (process_of after side) new why
+    → Controller → Processes P → Attempts P → TurnReport → Type 0
+Turn known commands telling c (Start side) before had new after has report =
+    Begins known commands c side before after had has new report.lost × (report.retake ≡ None)
+    × OtherStays side before after
+Turn known commands telling c (Send side) before had new after has report =
+    SendsToSide known c side (process_of before side) (process_of after side) new report.lost
+    × (report.retake ≡ None) × OtherStays side before after × (has ≡ had)
+Turn known commands telling c (Wait side) before had new after has report =
+    HearsFromSide known telling c side (process_of before side) (process_of after side) new report
     × OtherStays side before after × (has ≡ had)
-Turn known commands telling c (Wait side) before had new after has why =
-    HearsFromSide known telling c side (process_of before side) (process_of after side) new why
-    × OtherStays side before after × (has ≡ had)
-Turn known commands telling c (Done verdict) before had new after has why =
-    (new ≡ c) × (after ≡ before) × (has ≡ had) × (why ≡ None)
+Turn known commands telling c (Done verdict) before had new after has report =
+    (new ≡ c) × (after ≡ before) × (has ≡ had) × (report ≡ only_lost None)
 
 -- a side is to be started, and its program was asked for, and memory refused for it
 pub record IsRefused {P : Type 0} (commands : Commands) (c : Controller) (had has : Attempts P) : Type 0 where
@@ -108,9 +113,9 @@ pub record IsRefused {P : Type 0} (commands : Commands) (c : Controller) (had ha
 -- after it, and how that ended is known.
 pub record IsTurn {P : Type 0} (known : Ghosts P) (commands : Commands) (telling : Bool) (c : Controller)
     (before : Processes P) (had : Attempts P) (new : Controller) (closing : Processes P) (has : Attempts P)
-    (why : Option Lost) (endings : Endings) : Type 0 where
+    (report : TurnReport) (endings : Endings) : Type 0 where
   pub after : Processes P
-  pub turn : Turn known commands telling c (next c) before had new after has why
+  pub turn : Turn known commands telling c (next c) before had new after has report
   pub black : closing.black ≡ kept_by new Black after.black
   pub white : closing.white ≡ kept_by new White after.white
   pub ended : AreEndings known new after endings
@@ -121,10 +126,10 @@ pub data Plays {P E : Type 0} (known : Ghosts P) (errs : OutputGhosts E) (comman
     : ℕ → Controller → Processes P → Seen P E → Type 0 where
   not_yet : Plays known errs commands telling first opening had 0 first opening had
   turns : {number : ℕ} {mid last : Controller} {before closing : Processes P} {between has : Seen P E}
-      (why : Option Lost) (endings : Endings)
+      (report : TurnReport) (endings : Endings)
       → Plays known errs commands telling first opening had number mid before between
-      → IsTurn known commands (is_some telling) mid before between.asked last closing has.asked why endings
-      → LineGoesOut errs (turn_line telling (next mid) why endings) between.errors has.errors
+      → IsTurn known commands (is_some telling) mid before between.asked last closing has.asked report endings
+      → LinesGoOut errs (turn_lines telling (next mid) report endings) between.errors has.errors
       → Plays known errs commands telling first opening had (number + 1) last closing has
 
 -- turns were taken
@@ -143,10 +148,10 @@ pub data HasStopped {P E : Type 0} (known : Ghosts P) (errs : OutputGhosts E) (c
       → IsRefused commands last between.asked has.asked → has.errors ≡ between.errors
       → HasStopped known errs commands telling first opening had has last closing OutOfMemory
   untold : {mid last : Controller} {before closing : Processes P} {between : Seen P E}
-      (why : Option Lost) (endings : Endings) → IsSome telling → IsSome why
+      (report : TurnReport) (endings : Endings) → IsSome telling → IsReported report
       → HasPlayed known errs commands telling first opening had mid before between
-      → IsTurn known commands (is_some telling) mid before between.asked last closing has.asked why endings
-      → BreaksAt errs (turn_line telling (next mid) why endings) between.errors has.errors
+      → IsTurn known commands (is_some telling) mid before between.asked last closing has.asked report endings
+      → LinesBreak errs (turn_lines telling (next mid) report endings) between.errors has.errors
       → HasStopped known errs commands telling first opening had has last closing Write
   too_many_turns : {last : Controller} {closing : Processes P}
       → Plays known errs commands telling first opening had most_turns last closing has

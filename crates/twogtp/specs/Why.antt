@@ -1,6 +1,6 @@
--- What is told of a side that is lost: it goes down, is unfit or forfeits. (Own.)
+-- What is reported of a turn: that a refused `play` is retaken, and why a side is lost. (Own.)
 use Rattle.std.specs.Prelude.{ℕ, ◌+◌, ◌/◌, ◌%◌, ◌==◌, ◌&&◌, nat_le, if◌then◌else◌, List, [], ◌∷◌, ◌++◌, codes}
-use Rattle.std.specs.Prelude.{Option, None, Some, map}
+use Rattle.std.specs.Prelude.{Option, None, Some, IfSome, IsSome, ◌⊎◌, map, take}
 use Rattle.std.specs.Fmt.{decimal}
 use Rattle.std.specs.List.{concat, join_with_byte}
 use Rattle.go_base.specs.Bytes.{newline, space}
@@ -8,12 +8,14 @@ use Rattle.go_base.specs.declared.colours.Colour.{Colour}
 use Rattle.go_board.specs.declared.faults.PlayFault.{PlayFault}
 use Rattle.go_board.specs.declared.faults.PlayFault.TheVariants.{Full, OffBoard, Occupied, Suicide, Ko}
 use Rattle.gtp_wire.specs.Commands.{words_of}
-use Rattle.gtp_match.specs.Losing.{CanBeShown}
+use Rattle.clap.specs.Words.{Text}
+use Rattle.gtp_match.specs.Losing.{CanBeShown, most_shown}
 use Rattle.gtp_match.specs.ResultLine.{side_name}
 use Rattle.gtp_match.specs.declared.losses.LossCause.{LossCause}
 use Rattle.gtp_match.specs.declared.losses.LossCause.TheVariants.{Shows, Unfit, RefusesPlay, KeepsMove, NoMove}
 use Rattle.gtp_match.specs.declared.losses.LossCause.TheVariants.{NoVertex, Illegal}
 use Rattle.gtp_match.specs.declared.losses.Owed.{Owed}
+use Rattle.gtp_match.specs.declared.reports.Retake.{Retake}
 use Rattle.gtp_match.specs.declared.unanswered.SentCommand.{SentCommand}
 use Rattle.gtp_match.specs.declared.verdicts.SideFault.TheVariants.{NoStatus, Overlong, WrongId, Unasked}
 use Rattle.twogtp.specs.declared.starter.Ending.{Ending}
@@ -24,6 +26,9 @@ use Rattle.twogtp.specs.declared.why.Lost.{Lost}
 use Rattle.twogtp.specs.declared.why.Lost.TheVariants.{NotStarted, CutOff, Wrote}
 use Rattle.twogtp.specs.declared.why.PipeCause.{PipeCause}
 use Rattle.twogtp.specs.declared.why.PipeCause.TheVariants.{Writing, Reading, Ended}
+use Rattle.twogtp.specs.declared.why.TurnReport.{TurnReport}
+use Rattle.twogtp.specs.declared.why.Unstarted.{Unstarted}
+use Rattle.twogtp.specs.Starts.{first_word}
 
 -- ---- causes
 
@@ -34,6 +39,8 @@ reason_text reason.NotAllowed = codes "not allowed"
 reason_text reason.NotADirectory = codes "a part of its path is no directory"
 reason_text reason.Busy = codes "the file is open for writing"
 reason_text reason.TooLong = codes "too long"
+reason_text reason.NoFiles = codes "too many open files"
+reason_text reason.NoProcesses = codes "too many processes"
 reason_text reason.NoProgram = codes "not a program that the system can run"
 reason_text reason.Other = codes "the system refused it"
 
@@ -59,7 +66,7 @@ rule_text Ko = codes "an illegal move: ko"
 
 -- what was wrong with what a side wrote
 abbrev pub wrong_text : LossCause → List ℕ
-wrong_text (Shows NoStatus) = codes "no reply: it begins with neither = nor ?"
+wrong_text (Shows NoStatus) = codes "not a GTP reply (it begins with neither = nor ?)"
 wrong_text (Shows Overlong) = codes "no end of a reply in 8192 bytes"
 wrong_text (Shows WrongId) = codes "a reply without the awaited id"
 wrong_text (Shows Unasked) = codes "a reply to nothing that was asked"
@@ -70,7 +77,7 @@ wrong_text NoMove = codes "no move: the genmove failed"
 wrong_text NoVertex = codes "neither a vertex nor resign"
 wrong_text (Illegal fault) = rule_text fault
 
--- ---- what a side owed
+-- ---- bytes
 
 -- a digit of a byte in base 16
 abbrev pub hex_digit : ℕ → ℕ
@@ -92,40 +99,111 @@ shown_byte b =
 abbrev pub shown_bytes : List ℕ → List ℕ
 shown_bytes bytes = concat (map shown_byte bytes)
 
+-- bytes as they are shown, in quotes
+abbrev pub quoted : List ℕ → List ℕ
+quoted bytes = concat (codes "\"" ∷ shown_bytes bytes ∷ codes "\"" ∷ [])
+
+-- ---- a program that was not started
+
+-- that the program of this command line was not started for this reason: it is named by the beginning of the first word
+abbrev pub unstarted : List Text → StartReason → Unstarted
+unstarted line reason = record {
+  reason = reason;
+  program = record { items = take most_shown (first_word line) };
+}
+
+-- why it was not started, and the program that was looked for
+abbrev pub unstarted_text : Unstarted → List ℕ
+unstarted_text start =
+    codes "not started: " ++ (reason_text start.reason ++ (codes ": " ++ quoted start.program.items))
+
+-- ---- what a side owed
+
 -- a command as it was sent, without its newline
 abbrev pub sent_text : SentCommand → List ℕ
 sent_text entry = decimal entry.id ++ space ∷ join_with_byte space (words_of entry.command)
 
--- the oldest unanswered command, if any
-abbrev pub oldest_text : Option SentCommand → List ℕ
-oldest_text None = []
-oldest_text (Some entry) = concat (codes " from \"" ∷ sent_text entry ∷ codes "\"" ∷ [])
+-- what stands before the oldest unanswered command, of this number of them
+abbrev pub before_oldest : ℕ → List ℕ
+before_oldest number = if number == 1 then codes ", \"" else codes ", the first \""
+
+-- the oldest unanswered command, of this number of them, if any
+abbrev pub oldest_text : ℕ → Option SentCommand → List ℕ
+oldest_text number None = []
+oldest_text number (Some entry) = concat (before_oldest number ∷ sent_text entry ∷ codes "\"" ∷ [])
 
 -- how many commands a side hasn't answered, and the oldest of them
 abbrev pub owed_text : Owed → List ℕ
-owed_text owed = concat (decimal owed.unanswered ∷ codes " unanswered" ∷ oldest_text owed.oldest ∷ codes ": " ∷ [])
+owed_text owed =
+    concat (decimal owed.unanswered ∷ codes " unanswered" ∷ oldest_text owed.unanswered owed.oldest ∷ codes ": " ∷ [])
 
 -- the beginning of what it wrote since its last whole reply
-abbrev pub wrote_text : Owed → List ℕ
-wrote_text owed = concat (codes "; it wrote \"" ∷ shown_bytes owed.bytes.items ∷ codes "\"" ∷ [])
+abbrev pub wrote_text : List ℕ → List ℕ
+wrote_text bytes = codes "; it wrote " ++ quoted bytes
 
--- ---- the line
+-- What is told of that where a pipe cut a side off. After a call that failed nothing more is read, so no byte means
+-- only that none was read. Where its output ended it wrote none.
+abbrev pub read_text : PipeCause → List ℕ → List ℕ
+read_text Ended bytes = wrote_text bytes
+read_text cause [] = codes "; nothing of it was read"
+read_text cause (byte ∷ bytes) = wrote_text (byte ∷ bytes)
 
--- what it owed can be shown
+-- ---- what is reported of a turn
+
+-- a side is lost for this, if at all, and nothing is retaken
+abbrev pub only_lost : Option Lost → TurnReport
+only_lost lost = record { retake = None; lost = lost }
+
+-- something is reported
+abbrev pub IsReported : TurnReport → Type 0
+IsReported report = IsSome report.retake ⊎ IsSome report.lost
+
+-- what a lost side owed can be shown
 abbrev pub CanBeTold : Lost → Type 0
-CanBeTold (NotStarted reason) = Unit {0}
+CanBeTold (NotStarted start) = Unit {0}
 CanBeTold (CutOff cause owed) = CanBeShown owed
 CanBeTold (Wrote loss) = CanBeShown loss.owed
 
+-- so can what is reported of a turn
+abbrev pub CanBeReported : TurnReport → Type 0
+CanBeReported report =
+    IfSome report.retake (λ retake. CanBeShown retake.owed) × IfSome report.lost CanBeTold
+
+-- ---- lines
+
+-- that a refused `play` is retaken
+abbrev pub retake_text : Retake → List ℕ
+retake_text retake =
+    owed_text retake.owed
+    ++ (codes "the play was refused (retake " ++ (decimal retake.count ++ (codes " of 3)"
+    ++ wrote_text retake.owed.bytes.items)))
+
 -- why a side was lost, whose process ended so
 abbrev pub lost_text : Lost → Ending → List ℕ
-lost_text (NotStarted reason) ending = codes "not started: " ++ reason_text reason
+lost_text (NotStarted start) ending = unstarted_text start
 lost_text (CutOff cause owed) ending =
-    owed_text owed ++ (pipe_text cause ++ (ending_text ending ++ wrote_text owed))
-lost_text (Wrote loss) ending = owed_text loss.owed ++ (wrong_text loss.cause ++ wrote_text loss.owed)
+    owed_text owed ++ (pipe_text cause ++ (ending_text ending ++ read_text cause owed.bytes.items))
+lost_text (Wrote loss) ending =
+    owed_text loss.owed ++ (wrong_text loss.cause ++ wrote_text loss.owed.bytes.items)
 
--- the line of a game, of the side whose turn lost a side: `twogtp: game N: SIDE: ..`
+-- the beginning of a line of a game's side: `twogtp: game N: SIDE: `
+abbrev pub line_head : ℕ → Colour → List ℕ
+line_head number side =
+    concat (codes "twogtp: game " ∷ decimal number ∷ codes ": " ∷ side_name side ∷ codes ": " ∷ [])
+
+-- the line of the side that refused a `play` which is retaken
+abbrev pub retake_line : ℕ → Colour → Retake → List ℕ
+retake_line number side retake = line_head number side ++ (retake_text retake ++ newline ∷ [])
+
+-- the line of the side whose turn lost a side
 abbrev pub lost_line : ℕ → Colour → Lost → Ending → List ℕ
-lost_line number side lost ending =
-    concat (codes "twogtp: game " ∷ decimal number ∷ codes ": " ∷ side_name side ∷ codes ": " ∷ lost_text lost ending
-    ∷ (newline ∷ []) ∷ [])
+lost_line number side lost ending = line_head number side ++ (lost_text lost ending ++ newline ∷ [])
+
+-- both lines, where there are any
+abbrev pub retake_lines : ℕ → Colour → Option Retake → List (List ℕ)
+retake_lines number side None = []
+retake_lines number side (Some retake) = retake_line number side retake ∷ []
+
+abbrev pub lost_lines : ℕ → Colour → Option Lost → Ending → List (List ℕ)
+lost_lines number side None ending = []
+lost_lines number side (Some lost) ending = lost_line number side lost ending ∷ []

@@ -1,5 +1,5 @@
 -- Texts on the streams that the program writes to. (Own.)
-use Rattle.std.specs.Prelude.{◌⊎◌, ◌≡◌, ◌≢◌, ℕ, List, []}
+use Rattle.std.specs.Prelude.{◌⊎◌, ℕ, List, [], ◌∷◌}
 use Rattle.std.specs.Io.KnownBytes.{Appends}
 use Rattle.twogtp.specs.declared.output.Output.{Ghosts}
 use Rattle.twogtp.specs.Pipes.{TakesPart}
@@ -26,7 +26,15 @@ pub record BreaksAt {O : Type 0} (known : Ghosts O) (text : List ℕ) (before af
 abbrev pub IsWritten : {O : Type 0} → Ghosts O → List ℕ → O → O → Type 0
 IsWritten known text before after = GoesOut known text before after ⊎ BreaksAt known text before after
 
--- where there is a line it went out, and where there is none nothing was written
-pub record LineGoesOut {O : Type 0} (known : Ghosts O) (line : List ℕ) (before after : O) : Type 0 where
-  pub out : line ≢ [] → GoesOut known line before after
-  pub none : line ≡ [] → after ≡ before
+-- Lines went out, one after another: each before the next was begun. Where there is none nothing was written.
+pub data LinesGoOut {O : Type 0} (known : Ghosts O) : List (List ℕ) → O → O → Type 0 where
+  no_line : {before : O} → LinesGoOut known [] before before
+  line_out : {line : List ℕ} {lines : List (List ℕ)} {before mid after : O} → GoesOut known line before mid
+      → LinesGoOut known lines mid after → LinesGoOut known (line ∷ lines) before after
+
+-- A stream broke at lines: the first ones went out, and it broke at the next. Of any line after that it took nothing.
+pub data LinesBreak {O : Type 0} (known : Ghosts O) : List (List ℕ) → O → O → Type 0 where
+  at_line : {line : List ℕ} {lines : List (List ℕ)} {before after : O} → BreaksAt known line before after
+      → LinesBreak known (line ∷ lines) before after
+  later : {line : List ℕ} {lines : List (List ℕ)} {before mid after : O} → GoesOut known line before mid
+      → LinesBreak known lines mid after → LinesBreak known (line ∷ lines) before after

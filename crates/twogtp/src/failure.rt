@@ -25,6 +25,8 @@ pub enum Failure {
     OutOfMemory,
     /// A game had more turns than any match within the limits has.
     TooManyTurns,
+    /// A standard stream is closed, and the null device that would hold its number can't be opened.
+    NoNullDevice,
 }
 
 impl Failure {
@@ -49,7 +51,8 @@ impl Failure {
             | Failure::NoWhiteCommand
             | Failure::BadKomi
             | Failure::BadHandicap => 2,
-            Failure::Write | Failure::OutOfMemory | Failure::TooManyTurns => 3,
+            Failure::Write | Failure::OutOfMemory | Failure::TooManyTurns | Failure::NoNullDevice =>
+                3,
         }
     }
 
@@ -66,6 +69,9 @@ impl Failure {
             Failure::Write => b"twogtp: write fault\n",
             Failure::OutOfMemory => b"twogtp: out of memory\n",
             Failure::TooManyTurns => b"twogtp: too many turns\n",
+            Failure::NoNullDevice => {
+                b"twogtp: a standard stream is closed, and /dev/null can't be opened\n"
+            }
         }
     }
 }

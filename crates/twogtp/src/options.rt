@@ -14,7 +14,7 @@ use go_board::VERSION;
 use std::alloc::{AllocError, Global};
 use std::convert::AsStr;
 
-/// What the help says below the options: a game's line, the verdicts, and the statuses.
+/// What the help says below the options: a game's line, the verdicts, the statuses, and an example.
 const AFTER_OPTIONS: &str = "\
 A game writes one line: game N: VERDICT moves M restarts RB RW
 M counts its moves, RB and RW the restarts of Black and of White.
@@ -25,8 +25,8 @@ Verdicts:
   limit                 the game had as many moves as are allowed
   B+F(CAUSE), W+F(..)   the other side forfeited; CAUSE is illegal move,
                         no vertex, no move or refused play
-  unfit black, ..       this side refused the size, komi, the empty board
-                        or the handicap
+  unfit black, ..       this side refused the size, komi, the empty board or
+                        the handicap, or named other points
   abandoned black, ..   this side could not be started, ended, broke, or
                         wrote what is no reply, more often than allowed
 
@@ -34,7 +34,12 @@ Status:
   0  each game ended by a score, a resignation, the limit or a forfeit
   1  some game was unfit or abandoned; the others were played all the same
   2  the arguments have a mistake; nothing was started
-  3  the program could not go on: write fault, out of memory, too many turns";
+  3  the program could not go on: write fault, out of memory, too many turns
+
+Example:
+  twogtp --size 9 --black gtp_engine --white 'gtp_engine --policy random'
+
+More: man twogtp";
 
 /// What the command line asks for.
 #[derive(Clone, Copy, Debug, PartialEq, Eq)]
@@ -153,7 +158,8 @@ fn with_game<'a>(alloc: Global, command: Command<'a>) -> Result<Command<'a>, All
             "handicap",
             handicap_parser(),
             "0",
-            "Number of handicap stones, 0 or 2 to 9",
+            "Handicap stones: 0, or 2 to 9; on size 7 and even\n\
+                sizes 2 to 4; below size 7 none",
         ))
 }
 
@@ -197,7 +203,12 @@ fn with_rest<'a>(alloc: Global, command: Command<'a>) -> Result<Command<'a>, All
         ))?
         .arg(flag(alloc, "record", "Write the moves of each game"))?
         .arg(flag(alloc, "show", "Write the last board of each game"))?
-        .arg(flag(alloc, "why", "Tell on standard error why an engine is lost"))
+        .arg(flag(
+            alloc,
+            "why",
+            "Report on standard error why an engine is lost, and each\n\
+                refused move",
+        ))
 }
 
 /// The numbers of `--size`.
@@ -256,7 +267,7 @@ fn komi<'a>(alloc: Global) -> Arg<'a>
         .long("komi")
         .value_name("K")
         .default_value("6.5")
-        .help("Komi by halves; below zero --komi=-3.5")
+        .help("Komi, such as 6.5 or 7; a negative one is\nwritten --komi=-3.5")
 }
 
 /// An option that takes a whole number.

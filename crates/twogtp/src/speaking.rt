@@ -6,16 +6,16 @@ ghost use Rattle.gtp_match.specs.Controller.{lost};
 ghost use Rattle.gtp_match.specs.Hearing.{HearsAllExactly};
 ghost use Rattle.gtp_match.specs.Next.{next};
 ghost use Rattle.gtp_match.specs.Sides.{side_of, status_of};
-ghost use Rattle.twogtp.specs.Speaking.{AreSent, HearsFromSide, IsHeard, LostBy, SendsToSide, cut_off};
-ghost use Rattle.twogtp.specs.Why.{CanBeTold};
+ghost use Rattle.twogtp.specs.Speaking.{AreSent, HearsFromSide, IsHeard, ReportedBy, SendsToSide, cut_off};
+ghost use Rattle.twogtp.specs.Why.{CanBeReported, CanBeTold, only_lost};
 ghost use Rattle.twogtp.specs.private.Several.{has_several_unanswered};
 
 use crate::pipes::{CutOff, READ_ROOM, read_once, write_whole};
 use crate::sending::take_commands;
 use crate::starter::Process;
-use crate::why::{Lost, PipeCause};
+use crate::why::{Lost, PipeCause, TurnReport};
 use go_base::Side;
-use gtp_match::{Match, Status};
+use gtp_match::{Match, Report, Status};
 
 /// Sends a side its commands: all that come next for it. A side that has no process is lost. It returns why it was
 /// lost, if it was.
@@ -46,22 +46,22 @@ fn send_to<P: Process>(game: &mut Match, side: Side, process: &mut P) -> Option<
     }
 }
 
-/// Hears what a side writes. A side that has no process is lost. It returns why it was lost, if it was.
+/// Hears what a side writes. A side that has no process is lost. It returns what is reported of that.
 pub fn hear<P: Process>(
     game: &mut Match,
     side: Side,
     process: &mut Option<P>,
     buffer: &mut [u8; READ_ROOM],
     telling: bool,
-) -> Option<Lost>
+) -> TurnReport
     requires { next game.old ≡ action.Wait side }
     ensures hears { HearsFromSide P.Process telling game.old side process.old process.new
         game.new result }
-    ensures shown { IfSome result CanBeTold }
+    ensures shown { CanBeReported result }
 {
     match process {
         Some(process) => hear_from(game, side, process, buffer, telling),
-        None => lose(game, side, PipeCause::Reading),
+        None => report_loss(game, side, PipeCause::Reading),
     }
 }
 
@@ -73,38 +73,51 @@ fn hear_from<P: Process>(
     process: &mut P,
     buffer: &mut [u8; READ_ROOM],
     telling: bool,
-) -> Option<Lost>
+) -> TurnReport
     ensures heard { IsHeard P.Process telling game.old side process.old process.new
         game.new result }
-    ensures shown { IfSome result CanBeTold }
+    ensures shown { CanBeReported result }
 {
     if has_several_unanswered(game, side) {
         process.let_run();
     }
     match read_once(process, buffer) {
-        Ok(0) => lose(game, side, PipeCause::Ended),
+        Ok(0) => report_loss(game, side, PipeCause::Ended),
         Ok(count) => hear_bytes(game, side, &buffer[..count], telling),
-        Err(_) => lose(game, side, PipeCause::Reading),
+        Err(_) => report_loss(game, side, PipeCause::Reading),
     }
 }
 
-/// Hears the bytes of a side, all of them, and returns why it was lost by them, if it was. That is looked for where it
-/// is to be told.
-fn hear_bytes(game: &mut Match, side: Side, bytes: &[u8], telling: bool) -> Option<Lost>
+/// Hears the bytes of a side, all of them, and returns what is reported of them: the `play` that is retaken, and why
+/// the side was lost by them. That is looked for where it is to be told.
+fn hear_bytes(game: &mut Match, side: Side, bytes: &[u8], telling: bool) -> TurnReport
     ensures heard { (fault : Option SideFault)
         × HearsAllExactly side game.old bytes.now fault game.new }
-    ensures lost { LostBy telling side game.old bytes.now game.new result }
-    ensures shown { IfSome result CanBeTold }
+    ensures reported { ReportedBy telling side game.old bytes.now game.new result }
+    ensures shown { CanBeReported result }
 {
     if !telling {
         // A fault puts the side down; why it did isn't to be told.
         let _ = game.hear_all(side, bytes);
-        return None;
+        return TurnReport::only_lost(None);
     }
-    match game.hear_telling(side, bytes) {
-        Some(loss) => Some(Lost::Wrote(loss)),
-        None => None,
+    let Report { retake, loss } = game.hear_telling(side, bytes);
+    TurnReport {
+        retake,
+        lost: match loss {
+            Some(loss) => Some(Lost::Wrote(loss)),
+            None => None,
+        },
     }
+}
+
+/// A side is cut off, and so lost, and nothing else is reported.
+fn report_loss(game: &mut Match, side: Side, cause: PipeCause) -> TurnReport
+    ensures lost { game.new ≡ lost game.old side }
+    ensures report { result ≡ only_lost (cut_off cause game.old side) }
+    ensures shown { CanBeReported result }
+{
+    TurnReport::only_lost(lose(game, side, cause))
 }
 
 /// A side is cut off, and so lost. It returns why, with what the side owed.

@@ -8,9 +8,10 @@ ghost use Rattle.twogtp.specs.Processes.{OtherStays, no_processes};
 ghost use Rattle.twogtp.specs.Status.{exit_status, own_failure};
 ghost use Rattle.twogtp.specs.Telling.{GameIsTold, GameIsUntold, game_lines};
 ghost use Rattle.twogtp.specs.Turns.{Begins, HasPlayed, HasStopped, IsRefused, IsTurn, Turn, seen, told_as};
-ghost use Rattle.twogtp.specs.Turns.{turn_line, turn_side};
-ghost use Rattle.twogtp.specs.Writing.{BreaksAt, GoesOut, LineGoesOut};
-ghost use Rattle.twogtp.specs.Why.{CanBeTold};
+ghost use Rattle.twogtp.specs.Turns.{turn_lines, turn_side};
+ghost use Rattle.twogtp.specs.Writing.{BreaksAt, GoesOut, LinesBreak, LinesGoOut};
+ghost use Rattle.twogtp.specs.Why.{CanBeReported, CanBeTold, IsReported, lost_lines, retake_lines};
+ghost use Rattle.gtp_match.specs.Losing.{CanBeShown};
 
 use crate::closing::{Told, tell_game};
 use crate::failure::Failure;
@@ -18,13 +19,13 @@ use crate::output::Output;
 use crate::pipes::READ_ROOM;
 use crate::processes::{Endings, Processes, end};
 use crate::speaking::{hear, send};
-use crate::starter::{StartFault, Starter};
+use crate::starter::{Ending, StartFault, Starter};
 use crate::task::{Commands, Task};
-use crate::why::Lost;
-use crate::why_text::{LostLine, lost_line};
+use crate::why::{Lost, TurnReport, Unstarted};
+use crate::why_text::{ReportLine, lost_line, retake_line};
 use crate::writing::write_text;
 use go_base::Side;
-use gtp_match::{Action, Match, Verdict};
+use gtp_match::{Action, Match, Retake, Verdict};
 
 /// How many turns a game has at most. No match within the limits has this number.
 const MOST_TURNS: u64 = 1_000_000_000_000;
@@ -118,15 +119,15 @@ fn play_and_tell<O: Output, E: Output, S: Starter>(
     }
 }
 
-/// The number under which a game's lost sides are told, where they are.
+/// The number under which the turns of a game are reported, where they are.
 fn told_as(why: bool, number: u32) -> Option<u32>
     ensures { result ≡ told_as why number }
 {
     if why { Some(number) } else { None }
 }
 
-/// Takes turns until the match is over. Where a side is lost in a turn, that is told after it, under the game's number,
-/// if there is one.
+/// Takes turns until the match is over. What is reported of a turn is told after it, under the game's number, if there
+/// is one.
 fn take_turns<E: Output, S: Starter>(
     game: &mut Match,
     processes: &mut Processes<S::Process>,
@@ -152,7 +153,7 @@ fn take_turns<E: Output, S: Starter>(
         if let Action::Done(verdict) = action {
             return Ok(verdict);
         }
-        let (why, endings) = take_turn(
+        let (report, endings) = take_turn(
             game,
             action,
             processes,
@@ -161,13 +162,13 @@ fn take_turns<E: Output, S: Starter>(
             telling.is_some(),
             starter,
         )?;
-        tell_lost(telling, action, why, endings, errors)?;
+        tell_turn(telling, action, report, endings, errors)?;
     }
     Err(Failure::TooManyTurns)
 }
 
-/// Takes one turn, and ends the processes of the sides that are down after it. It returns why a side was lost, if one
-/// was, and how the processes ended.
+/// Takes one turn, and ends the processes of the sides that are down after it. It returns what is reported of the turn,
+/// and how the processes ended.
 fn take_turn<S: Starter>(
     game: &mut Match,
     action: Action,
@@ -176,24 +177,24 @@ fn take_turn<S: Starter>(
     commands: &Commands<'_>,
     telling: bool,
     starter: &mut S,
-) -> Result<(Option<Lost>, Endings), Failure>
+) -> Result<(TurnReport, Endings), Failure>
     requires { next game.old ≡ action }
     ensures turn { IfOk result (λ told. IsTurn S.Process.Process commands.now telling game.old
         processes.old (S.asked starter.old) game.new processes.new (S.asked starter.new)
         told.0 told.1) }
-    ensures shown { IfOk result (λ told. IfSome told.0 CanBeTold) }
+    ensures shown { IfOk result (λ told. CanBeReported told.0) }
     ensures refused { OnErr result (IsRefused commands.now game.old
         (S.asked starter.old) (S.asked starter.new)) }
     ensures unchanged { OnErr result (game.new ≡ game.old) }
     ensures kept { OnErr result (processes.new ≡ processes.old) }
     ensures failure { IfErr result (λ failure. failure ≡ Failure.OutOfMemory) }
 {
-    let why = act(game, action, processes, buffer, commands, telling, starter)?;
+    let report = act(game, action, processes, buffer, commands, telling, starter)?;
     let endings = processes.end_what_is_down(game);
-    Ok((why, endings))
+    Ok((report, endings))
 }
 
-/// Does what comes next, and returns why a side was lost by it, if one was.
+/// Does what comes next, and returns what is reported of it.
 fn act<S: Starter>(
     game: &mut Match,
     action: Action,
@@ -202,11 +203,11 @@ fn act<S: Starter>(
     commands: &Commands<'_>,
     telling: bool,
     starter: &mut S,
-) -> Result<Option<Lost>, Failure>
+) -> Result<TurnReport, Failure>
     requires { next game.old ≡ action }
     ensures turn { IfOk result (Turn S.Process.Process commands.now telling game.old action
         processes.old (S.asked starter.old) game.new processes.new (S.asked starter.new)) }
-    ensures shown { IfOk result (λ why. IfSome why CanBeTold) }
+    ensures shown { IfOk result CanBeReported }
     ensures refused { OnErr result (IsRefused commands.now game.old
         (S.asked starter.old) (S.asked starter.new)) }
     ensures unchanged { OnErr result (game.new ≡ game.old) }
@@ -214,9 +215,18 @@ fn act<S: Starter>(
     ensures failure { IfErr result (λ failure. failure ≡ Failure.OutOfMemory) }
 {
     match action {
-        Action::Start(side) => start(game, processes, side, commands, starter),
-        Action::Send(Side::Black) => Ok(send(game, Side::Black, &mut processes.black)),
-        Action::Send(Side::White) => Ok(send(game, Side::White, &mut processes.white)),
+        Action::Start(side) => {
+            let lost = start(game, processes, side, commands, starter)?;
+            Ok(TurnReport::only_lost(lost))
+        }
+        Action::Send(Side::Black) => {
+            let lost = send(game, Side::Black, &mut processes.black);
+            Ok(TurnReport::only_lost(lost))
+        }
+        Action::Send(Side::White) => {
+            let lost = send(game, Side::White, &mut processes.white);
+            Ok(TurnReport::only_lost(lost))
+        }
         Action::Wait(Side::Black) => Ok(hear(
             game,
             Side::Black,
@@ -231,33 +241,76 @@ fn act<S: Starter>(
             buffer,
             telling,
         )),
-        Action::Done(_) => Ok(None),
+        Action::Done(_) => Ok(TurnReport::only_lost(None)),
     }
 }
 
-/// Tells why a side was lost in its turn, if it was, where a game's number is given.
-fn tell_lost<E: Output>(
+/// Tells what is reported of a turn, where a game's number is given: first the `play` that is retaken, and then why a
+/// side was lost.
+fn tell_turn<E: Output>(
     telling: Option<u32>,
     action: Action,
-    why: Option<Lost>,
+    report: TurnReport,
     endings: Endings,
     errors: &mut E,
 ) -> Result<(), Failure>
-    requires { IfSome why CanBeTold }
+    requires { CanBeReported report }
     ensures whole { OnOk result
-        (LineGoesOut E.Output (turn_line telling action why endings) errors.old errors.new) }
+        (LinesGoOut E.Output (turn_lines telling action report endings) errors.old errors.new) }
     ensures broke { OnErr result
-        (BreaksAt E.Output (turn_line telling action why endings) errors.old errors.new) }
+        (LinesBreak E.Output (turn_lines telling action report endings) errors.old errors.new) }
     ensures quiet { telling ≡ None → errors.new ≡ errors.old }
     // It fails only at a line that is to be told.
-    ensures lost { OnErr result (IsSome telling × IsSome why) }
+    ensures reported { OnErr result (IsSome telling × IsReported report) }
     ensures failure { IfErr result (λ failure. failure ≡ Failure.Write) }
 {
-    match (telling, turn_side(action), why) {
-        (Some(number), Some(side), Some(why)) => {
-            tell_line(&lost_line(number, side, &why, endings.of(side)), errors)
-        }
-        _ => Ok(()),
+    let (Some(number), Some(side)) = (telling, turn_side(action)) else {
+        return Ok(());
+    };
+    tell_retake(number, side, report.retake, errors)?;
+    tell_lost(number, side, report.lost, endings.of(side), errors)
+}
+
+/// Tells that a side refused a `play` which is retaken, if it did.
+fn tell_retake<E: Output>(
+    number: u32,
+    side: Side,
+    retake: Option<Retake>,
+    errors: &mut E,
+) -> Result<(), Failure>
+    requires { IfSome retake (λ retake. CanBeShown retake.owed) }
+    ensures whole { OnOk result
+        (LinesGoOut E.Output (retake_lines number side retake) errors.old errors.new) }
+    ensures broke { OnErr result
+        (LinesBreak E.Output (retake_lines number side retake) errors.old errors.new) }
+    ensures reported { OnErr result (IsSome retake) }
+    ensures failure { IfErr result (λ failure. failure ≡ Failure.Write) }
+{
+    match retake {
+        Some(retake) => tell_line(&retake_line(number, side, &retake), errors),
+        None => Ok(()),
+    }
+}
+
+/// Tells why a side was lost in the turn of this one, if one was, whose process ended so.
+fn tell_lost<E: Output>(
+    number: u32,
+    side: Side,
+    lost: Option<Lost>,
+    ending: Ending,
+    errors: &mut E,
+) -> Result<(), Failure>
+    requires { IfSome lost CanBeTold }
+    ensures whole { OnOk result
+        (LinesGoOut E.Output (lost_lines number side lost ending) errors.old errors.new) }
+    ensures broke { OnErr result
+        (LinesBreak E.Output (lost_lines number side lost ending) errors.old errors.new) }
+    ensures reported { OnErr result (IsSome lost) }
+    ensures failure { IfErr result (λ failure. failure ≡ Failure.Write) }
+{
+    match lost {
+        Some(lost) => tell_line(&lost_line(number, side, &lost, ending), errors),
+        None => Ok(()),
     }
 }
 
@@ -274,7 +327,7 @@ fn turn_side(action: Action) -> Option<Side>
 }
 
 /// Writes a line and flushes it.
-fn tell_line<E: Output>(line: &LostLine, errors: &mut E) -> Result<(), Failure>
+fn tell_line<E: Output>(line: &ReportLine, errors: &mut E) -> Result<(), Failure>
     ensures whole { OnOk result (GoesOut E.Output line.now.items errors.old errors.new) }
     ensures broke { OnErr result (BreaksAt E.Output line.now.items errors.old errors.new) }
     ensures failure { IfErr result (λ failure. failure ≡ Failure.Write) }
@@ -313,7 +366,8 @@ fn start<S: Starter>(
         Err(StartFault::NotStarted(reason)) => {
             game.started(side);
             game.lost(side);
-            Ok(Some(Lost::NotStarted(reason)))
+            let unstarted = Unstarted::new(commands.of(side), reason);
+            Ok(Some(Lost::NotStarted(unstarted)))
         }
         Err(StartFault::OutOfMemory) => Err(Failure::OutOfMemory),
     }

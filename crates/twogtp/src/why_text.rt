@@ -1,4 +1,4 @@
-//! What is told of a side that is lost.
+//! The lines of what is reported of a turn.
 ghost use Rattle.std.specs.Prelude.{◌≡◌, ◌+◌, ◌<◌, ◌≤◌, ◌++◌, length, IfSome};
 ghost use Rattle.arrayvec.specs.ArrayVec.{array_vec_len};
 ghost use Rattle.gtp_match.specs.Losing.{CanBeShown, most_shown};
@@ -8,27 +8,50 @@ ghost use Rattle.std.specs.List.{join_with_byte};
 ghost use Rattle.go_base.specs.Bytes.{space};
 ghost use Rattle.gtp_wire.specs.Commands.{IsWritable, words_of};
 ghost use Rattle.twogtp.specs.Why.{CanBeTold, reason_text, pipe_text, ending_text, rule_text, wrong_text, hex_digit};
-ghost use Rattle.twogtp.specs.Why.{shown_byte, shown_bytes, sent_text, oldest_text, owed_text, wrote_text, lost_text};
+ghost use Rattle.twogtp.specs.Why.{shown_byte, shown_bytes, quoted, unstarted_text, before_oldest, oldest_text};
+ghost use Rattle.twogtp.specs.Why.{owed_text, wrote_text, read_text, retake_text, lost_text, line_head, retake_line};
 ghost use Rattle.twogtp.specs.Why.{lost_line};
 
 use crate::starter::{Ending, StartReason};
-use crate::why::{Lost, PipeCause};
+use crate::why::{Lost, PipeCause, Unstarted};
 use arrayvec::ArrayVec;
 use go_base::{Side, write_int};
 use go_board::PlayFault;
-use gtp_match::{LossCause, Owed, SentCommand, SideFault};
+use gtp_match::{LossCause, Owed, Retake, SentCommand, SideFault};
 use gtp_wire::{Command, CommandText, write_command};
 
 /// The room for a line: 320 bytes of what a side wrote, and less than 280 beside them.
 const LINE_ROOM: usize = 600;
 
-/// The line of a side that is lost.
-pub type LostLine = ArrayVec<u8, LINE_ROOM>;
+/// The line of what is reported of a side.
+pub type ReportLine = ArrayVec<u8, LINE_ROOM>;
+
+/// The line of a game's side that refused a `play` which is retaken, with its newline.
+pub fn retake_line(number: u32, side: Side, retake: &Retake) -> ReportLine
+    requires { CanBeShown retake.now.owed }
+    ensures { result.items ≡ retake_line number side retake.now }
+{
+    let mut line = begin_line(number, side);
+    push_retake(&mut line, retake);
+    push(&mut line, b"\n");
+    line
+}
 
 /// The line of a game's side that was lost, whose process ended so, with its newline.
-pub fn lost_line(number: u32, side: Side, lost: &Lost, ending: Ending) -> LostLine
+pub fn lost_line(number: u32, side: Side, lost: &Lost, ending: Ending) -> ReportLine
     requires { CanBeTold lost.now }
     ensures { result.items ≡ lost_line number side lost.now ending }
+{
+    let mut line = begin_line(number, side);
+    push_lost(&mut line, lost, ending);
+    push(&mut line, b"\n");
+    line
+}
+
+/// The beginning of a line of a game's side.
+fn begin_line(number: u32, side: Side) -> ReportLine
+    ensures bytes { result.items ≡ line_head number side }
+    ensures few { array_vec_len result ≤ 32 }
 {
     let mut line = ArrayVec::new();
     push(&mut line, b"twogtp: game ");
@@ -36,35 +59,56 @@ pub fn lost_line(number: u32, side: Side, lost: &Lost, ending: Ending) -> LostLi
     push(&mut line, b": ");
     push(&mut line, side_name(side));
     push(&mut line, b": ");
-    push_lost(&mut line, lost, ending);
-    push(&mut line, b"\n");
     line
 }
 
+/// Appends that a refused `play` is retaken.
+fn push_retake(line: &mut ReportLine, retake: &Retake)
+    requires room { array_vec_len line.old ≤ 32 }
+    requires shown { CanBeShown retake.now.owed }
+    ensures bytes { line.new.items ≡ line.old.items ++ retake_text retake.now }
+    ensures len { array_vec_len line.new ≤ array_vec_len line.old + 560 }
+{
+    push_owed(line, &retake.owed);
+    push(line, b"the play was refused (retake ");
+    push_number(line, retake.count);
+    push(line, b" of 3)");
+    push_wrote(line, &retake.owed.bytes);
+}
+
 /// Appends why a side was lost.
-fn push_lost(line: &mut LostLine, lost: &Lost, ending: Ending)
+fn push_lost(line: &mut ReportLine, lost: &Lost, ending: Ending)
     requires room { array_vec_len line.old ≤ 32 }
     requires told { CanBeTold lost.now }
     ensures bytes { line.new.items ≡ line.old.items ++ lost_text lost.now ending }
     ensures len { array_vec_len line.new ≤ array_vec_len line.old + 560 }
 {
     match lost {
-        Lost::NotStarted(reason) => {
-            push(line, b"not started: ");
-            push(line, reason_text(*reason));
-        }
+        Lost::NotStarted(start) => push_unstarted(line, start),
         Lost::CutOff(cause, owed) => {
             push_owed(line, owed);
             push(line, pipe_text(*cause));
             push_ending(line, ending);
-            push_wrote(line, owed);
+            push_read(line, *cause, &owed.bytes);
         }
         Lost::Wrote(loss) => {
             push_owed(line, &loss.owed);
             push(line, wrong_text(loss.cause));
-            push_wrote(line, &loss.owed);
+            push_wrote(line, &loss.owed.bytes);
         }
     }
+}
+
+/// Appends why a program was not started, and its name.
+fn push_unstarted(line: &mut ReportLine, start: &Unstarted)
+    requires { array_vec_len line.old ≤ 32 }
+    ensures bytes { line.new.items ≡ line.old.items ++ unstarted_text start.now }
+    ensures len { array_vec_len line.new ≤ array_vec_len line.old + 560 }
+{
+    push(line, b"not started: ");
+    push(line, reason_text(start.reason));
+    push(line, b": ");
+    push_quoted(line, &start.program);
 }
 
 fn side_name(side: Side) -> &'static [u8]
@@ -87,6 +131,8 @@ fn reason_text(reason: StartReason) -> &'static [u8]
         StartReason::NotADirectory => b"a part of its path is no directory",
         StartReason::Busy => b"the file is open for writing",
         StartReason::TooLong => b"too long",
+        StartReason::NoFiles => b"too many open files",
+        StartReason::NoProcesses => b"too many processes",
         StartReason::NoProgram => b"not a program that the system can run",
         StartReason::Other => b"the system refused it",
     }
@@ -108,7 +154,8 @@ fn wrong_text(cause: LossCause) -> &'static [u8]
     ensures few { length result.now ≤ 60 }
 {
     match cause {
-        LossCause::Shows(SideFault::NoStatus) => b"no reply: it begins with neither = nor ?",
+        LossCause::Shows(SideFault::NoStatus) =>
+            b"not a GTP reply (it begins with neither = nor ?)",
         LossCause::Shows(SideFault::Overlong) => b"no end of a reply in 8192 bytes",
         LossCause::Shows(SideFault::WrongId) => b"a reply without the awaited id",
         LossCause::Shows(SideFault::Unasked) => b"a reply to nothing that was asked",
@@ -135,7 +182,7 @@ fn rule_text(fault: PlayFault) -> &'static [u8]
 }
 
 /// Appends how a process ended.
-fn push_ending(line: &mut LostLine, ending: Ending)
+fn push_ending(line: &mut ReportLine, ending: Ending)
     requires { array_vec_len line.old ≤ 300 }
     ensures bytes { line.new.items ≡ line.old.items ++ ending_text ending }
     ensures len { array_vec_len line.new ≤ array_vec_len line.old + 30 }
@@ -154,33 +201,44 @@ fn push_ending(line: &mut LostLine, ending: Ending)
 }
 
 /// Appends how many commands a side hasn't answered, and the oldest of them.
-fn push_owed(line: &mut LostLine, owed: &Owed)
+fn push_owed(line: &mut ReportLine, owed: &Owed)
     requires room { array_vec_len line.old ≤ 100 }
     requires shown { CanBeShown owed.now }
     ensures bytes { line.new.items ≡ line.old.items ++ owed_text owed.now }
-    ensures len { array_vec_len line.new ≤ array_vec_len line.old + 110 }
+    ensures len { array_vec_len line.new ≤ array_vec_len line.old + 120 }
 {
     push_number(line, owed.unanswered);
     push(line, b" unanswered");
-    push_oldest(line, owed.oldest);
+    push_oldest(line, owed.unanswered, owed.oldest);
     push(line, b": ");
 }
 
-/// Appends a command as it was sent, in quotes, if there is one.
-fn push_oldest(line: &mut LostLine, oldest: Option<SentCommand>)
+/// Appends the oldest of this number of unanswered commands as it was sent, in quotes, if there is one.
+fn push_oldest(line: &mut ReportLine, number: u32, oldest: Option<SentCommand>)
     requires room { array_vec_len line.old ≤ 300 }
     requires shown { IfSome oldest (λ entry. IsWritable entry.command) }
-    ensures bytes { line.new.items ≡ line.old.items ++ oldest_text oldest }
-    ensures len { array_vec_len line.new ≤ array_vec_len line.old + 83 }
+    ensures bytes { line.new.items ≡ line.old.items ++ oldest_text number oldest }
+    ensures len { array_vec_len line.new ≤ array_vec_len line.old + 93 }
 {
     let Some(entry) = oldest else {
         return;
     };
-    push(line, b" from \"");
+    push(line, before_oldest(number));
     push_number(line, entry.id);
     push(line, b" ");
     push(line, &command_words(&entry.command));
     push(line, b"\"");
+}
+
+/// What stands before the oldest of this number of unanswered commands.
+fn before_oldest(number: u32) -> &'static [u8]
+    ensures text { result.now ≡ before_oldest number }
+    ensures few { length result.now ≤ 13 }
+{
+    match number {
+        1 => b", \"",
+        _ => b", the first \"",
+    }
 }
 
 /// The words of a command, with single spaces between them.
@@ -193,19 +251,44 @@ fn command_words(command: &Command) -> CommandText
     text
 }
 
-/// Appends the beginning of what a side wrote, in quotes.
-fn push_wrote(line: &mut LostLine, owed: &Owed)
-    requires { array_vec_len line.old ≤ 250 }
-    ensures bytes { line.new.items ≡ line.old.items ++ wrote_text owed.now }
+/// Appends what is told of the bytes of a side that a pipe cut off.
+fn push_read(line: &mut ReportLine, cause: PipeCause, bytes: &[u8])
+    requires few { length bytes.now ≤ most_shown }
+    requires room { array_vec_len line.old ≤ 250 }
+    ensures bytes { line.new.items ≡ line.old.items ++ read_text cause bytes.now }
     ensures len { array_vec_len line.new ≤ array_vec_len line.old + 333 }
 {
-    push(line, b"; it wrote \"");
-    push_shown(line, &owed.bytes);
+    match (cause, bytes) {
+        (PipeCause::Writing | PipeCause::Reading, []) => push(line, b"; nothing of it was read"),
+        _ => push_wrote(line, bytes),
+    }
+}
+
+/// Appends the beginning of what a side wrote.
+fn push_wrote(line: &mut ReportLine, bytes: &[u8])
+    requires few { length bytes.now ≤ most_shown }
+    requires room { array_vec_len line.old ≤ 250 }
+    ensures bytes { line.new.items ≡ line.old.items ++ wrote_text bytes.now }
+    ensures len { array_vec_len line.new ≤ array_vec_len line.old + 333 }
+{
+    push(line, b"; it wrote ");
+    push_quoted(line, bytes);
+}
+
+/// Appends bytes as they are shown, in quotes.
+fn push_quoted(line: &mut ReportLine, bytes: &[u8])
+    requires few { length bytes.now ≤ most_shown }
+    requires room { array_vec_len line.old ≤ 265 }
+    ensures bytes { line.new.items ≡ line.old.items ++ quoted bytes.now }
+    ensures len { array_vec_len line.new ≤ array_vec_len line.old + 322 }
+{
+    push(line, b"\"");
+    push_shown(line, bytes);
     push(line, b"\"");
 }
 
 /// Appends bytes as they are shown.
-fn push_shown(line: &mut LostLine, bytes: &[u8])
+fn push_shown(line: &mut ReportLine, bytes: &[u8])
     requires few { length bytes.now ≤ most_shown }
     requires room { array_vec_len line.old ≤ 270 }
     ensures bytes { line.new.items ≡ line.old.items ++ shown_bytes bytes.now }
@@ -217,7 +300,7 @@ fn push_shown(line: &mut LostLine, bytes: &[u8])
 }
 
 /// Appends a byte as it is shown.
-fn push_byte(line: &mut LostLine, byte: u8)
+fn push_byte(line: &mut ReportLine, byte: u8)
     requires { array_vec_len line.old + 4 ≤ LINE_ROOM }
     ensures bytes { line.new.items ≡ line.old.items ++ shown_byte byte }
     ensures len { array_vec_len line.new ≤ array_vec_len line.old + 4 }
@@ -249,7 +332,7 @@ fn hex_digit(number: u8) -> u8
 }
 
 /// Appends a number.
-fn push_number(line: &mut LostLine, number: u32)
+fn push_number(line: &mut ReportLine, number: u32)
     requires { array_vec_len line.old + 10 ≤ LINE_ROOM }
     ensures bytes { line.new.items ≡ line.old.items ++ decimal number }
     ensures len { array_vec_len line.new ≤ array_vec_len line.old + 10 }
@@ -258,7 +341,7 @@ fn push_number(line: &mut LostLine, number: u32)
 }
 
 /// Appends bytes.
-fn push(line: &mut LostLine, bytes: &[u8])
+fn push(line: &mut ReportLine, bytes: &[u8])
     requires { array_vec_len line.old + length bytes.now ≤ LINE_ROOM }
     ensures bytes { line.new.items ≡ line.old.items ++ bytes.now }
     ensures len { array_vec_len line.new ≡ array_vec_len line.old + length bytes.now }
@@ -269,7 +352,7 @@ fn push(line: &mut LostLine, bytes: &[u8])
 
 /// A line that has these bytes, as they are shown, and nothing else.
 #[cfg(test)]
-pub fn shown_for_test(bytes: &[u8]) -> LostLine
+pub fn shown_for_test(bytes: &[u8]) -> ReportLine
     requires { length bytes.now ≤ most_shown }
 {
     let mut line = ArrayVec::new();

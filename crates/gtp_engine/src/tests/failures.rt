@@ -111,6 +111,16 @@ fn each_fault_of_a_conversation_is_told(rt: HostRuntime) -> Result<(), Fail> {
 }
 
 #[test]
+fn a_closed_stream_without_a_null_device_is_told(rt: HostRuntime) -> Result<(), Fail> {
+    let mut errors = Vec::new(rt.alloc());
+    let status = tell(Failure::NoNullDevice, &mut Counted::new(&mut errors));
+    assert_equal(&rt, status, 3);
+    let line = "gtp_engine: a standard stream is closed, and /dev/null can't be opened\n";
+    assert_equal(&rt, errors.as_slice(), line.as_bytes());
+    Ok(())
+}
+
+#[test]
 fn what_is_wrong_is_handed_on_whole_and_once(rt: HostRuntime) -> Result<(), Fail> {
     let cases: [(&[&str], &str); 3] = [
         (

@@ -32,23 +32,46 @@ fn help_goes_to_the_output_with_status_0(rt: HostRuntime) -> Result<(), Fail> {
 }
 
 /// The lines of the help.
-static HELP: [&str; 12] = [
-    "A Go engine that speaks the Go Text Protocol, version 2, on standard input and output",
+static HELP: [&str; 39] = [
+    "A Go engine for the Go Text Protocol, version 2, on standard input and output",
     "",
     "Usage: gtp_engine [OPTIONS]",
     "",
     "Options:",
-    "      --policy <POLICY>  What genmove plays: the first candidate, one drawn at random, or what the book says \
-        [default: first] [possible values: first, random, book]",
-    "      --seed <N>         Seed of the random policy, a whole number from 0 to 4294967295 [default: 1]",
-    "      --ko <RULE>        Boards that no play may bring back: the one before the previous move, or any that the \
-        game had [default: simple] [possible values: simple, positional]",
-    "      --book <TEXT>      Entries of the book policy, at most 2000, with commas between: each a vertex, resign, \
-        or empty for a pass [default: empty]",
-    "      --fault <TEXT>     A fault at the N-th genmove that succeeds, for tests: none, stop:N, cut:N:K, junk:N \
-        or flood:N [default: none]",
+    "      --policy <POLICY>  Policy: first, random or book [default: first]",
+    "      --seed <N>         Seed of --policy random, 0 to 4294967295 [default: 1]",
+    "      --ko <RULE>        Rule of ko: simple or positional [default: simple]",
+    "      --book <TEXT>      Entries of --policy book, at most 2000, with commas",
+    "                         between: each a vertex, resign, or nothing for a pass",
+    "                         [default: empty]",
+    "      --fault <TEXT>     Fault at the N-th successful genmove, for tests: none,",
+    "                         stop:N, cut:N:K, junk:N or flood:N [default: none]",
     "  -h, --help             Print help",
     "  -V, --version          Print version",
+    "",
+    "Policies, by which genmove chooses:",
+    "  first   the first candidate",
+    "  random  a candidate drawn at random, from --seed",
+    "  book    the entry of --book for this move",
+    "A candidate is a legal point with a neighbour that is empty or has a stone of",
+    "the other colour. --seed is used by random alone, and --book by book alone;",
+    "both are checked under each policy.",
+    "",
+    "Rules of ko, by the boards that no play may bring back:",
+    "  simple      the board before the previous move",
+    "  positional  each board that the game had",
+    "",
+    "Status:",
+    "  0  after quit, at the end of the input, after the help and the version",
+    "  2  the arguments have a mistake",
+    "  3  the program could not go on: read fault, write fault, out of memory,",
+    "     too many reads",
+    "  4  the engine stopped at the fault that --fault asks for",
+    "",
+    "Example:",
+    "  printf 'boardsize 9\\ngenmove b\\nquit\\n' | gtp_engine --policy random --seed 7",
+    "",
+    "More: man gtp_engine",
 ];
 
 /// Run with this word, the program hands on the text once, whole.

@@ -162,3 +162,29 @@ fn all_bytes_of_a_read_are_heard(rt: HostRuntime) {
         Action::Done(Verdict::Resign(Side::Black)),
     );
 }
+
+#[test]
+fn each_fault_of_a_side_has_its_text(rt: HostRuntime) -> Result<(), Fail> {
+    for (fault, text) in [
+        (
+            SideFault::NoStatus,
+            "what the side wrote is no GTP reply: it begins with neither = nor ?",
+        ),
+        (
+            SideFault::Overlong,
+            "more than 8,192 bytes came since the side's last reply",
+        ),
+        (
+            SideFault::WrongId,
+            "the reply does not have the id of the oldest unanswered command",
+        ),
+        (
+            SideFault::Unasked,
+            "a reply came where no command is unanswered",
+        ),
+    ] {
+        let printed = format!(in rt.alloc(); "{fault}")?;
+        assert_equal(&rt, printed.as_str(), text);
+    }
+    Ok(())
+}

@@ -17,7 +17,7 @@ use std::process::Abort;
 pub type Owes<'a> = (u32, &'a [u8], &'a [u8]);
 
 /// This is owed.
-fn owes(rt: &impl Abort, owed: &Owed, want: Owes)
+pub fn owes(rt: &impl Abort, owed: &Owed, want: Owes)
     requires { CanBeShown owed.now }
 {
     let (unanswered, line, bytes) = want;
@@ -34,7 +34,7 @@ fn owes(rt: &impl Abort, owed: &Owed, want: Owes)
 }
 
 /// It is a loss of this cause, where this is owed.
-fn told(rt: &impl Abort, loss: Option<Loss>, cause: LossCause, want: Owes)
+pub fn told(rt: &impl Abort, loss: Option<Loss>, cause: LossCause, want: Owes)
     requires { IfSome loss (λ l. CanBeShown l.owed) }
 {
     let Some(loss) = loss else {
@@ -44,7 +44,7 @@ fn told(rt: &impl Abort, loss: Option<Loss>, cause: LossCause, want: Owes)
     owes(rt, &loss.owed, want);
 }
 
-/// A side is lost by these bytes.
+/// A side is lost by these bytes, and no refusal in them is retaken.
 pub fn loses(
     rt: &impl Abort,
     played: &mut Match,
@@ -53,12 +53,16 @@ pub fn loses(
     cause: LossCause,
     want: Owes,
 ) {
-    told(rt, played.hear_telling(side, bytes), cause, want);
+    let report = played.hear_telling(side, bytes);
+    assert!(rt; report.retake.is_none());
+    told(rt, report.loss, cause, want);
 }
 
-/// A side isn't lost by these bytes.
+/// Nothing is reported of these bytes: no side is lost by them, and no refusal in them is retaken.
 pub fn goes_on(rt: &impl Abort, played: &mut Match, side: Side, bytes: &[u8]) {
-    assert!(rt; played.hear_telling(side, bytes).is_none());
+    let report = played.hear_telling(side, bytes);
+    assert!(rt; report.retake.is_none());
+    assert!(rt; report.loss.is_none());
 }
 
 /// A side that is up owes this.
@@ -200,7 +204,8 @@ fn who_refuses_its_own_move_is_lost(rt: HostRuntime) {
 fn a_refusal_that_is_met_by_a_retake_loses_nobody(rt: HostRuntime) {
     let mut played = black_answered(&rt, b"=4 A1\n\n");
     send_and_wait(&rt, &mut played, Side::White, b"4 play b A1\n");
-    goes_on(&rt, &mut played, Side::White, b"?4 no\n\n");
+    let report = played.hear_telling(Side::White, b"?4 no\n\n");
+    assert!(rt; report.loss.is_none());
     assert_equal(&rt, played.taking_back(), Some(Side::Black));
     send_and_wait(&rt, &mut played, Side::Black, b"5 undo\n");
     goes_on(&rt, &mut played, Side::Black, b"=5 done\n\n");
@@ -390,6 +395,6 @@ fn what_is_heard_and_told_of_is_heard_as_ever(rt: HostRuntime) {
     let told = refused(&rt);
     let mut heard = black_answered(&rt, b"=4 A1\n\n");
     send_and_wait(&rt, &mut heard, Side::White, b"4 play b A1\n");
-    goes_on(&rt, &mut heard, Side::White, b"?4 no\n\n");
+    let _ = heard.hear_telling(Side::White, b"?4 no\n\n");
     alike(&rt, &told, &heard);
 }

@@ -37,7 +37,7 @@ fn assert_cut(
 }
 
 /// White is started again, and was sent the empty board and Black's first move, A1, at once.
-fn white_replays(rt: &impl Abort) -> Match {
+pub fn white_replays(rt: &impl Abort) -> Match {
     let mut played = black_answered(rt, b"=4 A1\n\n");
     played.lost(Side::White);
     assert_eq!(rt; played.next(), Action::Start(Side::White));
@@ -77,7 +77,7 @@ fn an_answer_to_undo_and_one_that_nothing_asked_for_in_any_cut(rt: HostRuntime) 
 }
 
 /// Black moved at A1, and White was sent that.
-fn white_told(rt: &impl Abort) -> Match {
+pub fn white_told(rt: &impl Abort) -> Match {
     let mut played = black_answered(rt, b"=4 A1\n\n");
     send_and_wait(rt, &mut played, Side::White, b"4 play b A1\n");
     played

@@ -7,8 +7,8 @@ use crate::starter::{PipeFault, StartFault, StartReason};
 use crate::system::{pipe_fault_of, start_fault_of};
 use std::io::ErrorKind;
 use std::process::Abort;
-use std::str;
 use std::test::Fail;
+use std::{io, str};
 
 #[test]
 fn a_side_whose_output_ends_or_breaks_is_started_again(rt: HostRuntime) -> Result<(), Fail> {
@@ -106,11 +106,8 @@ fn a_process_goes_first_while_the_processor_is_back_within_a_millisecond(
 
 #[test]
 fn only_want_of_memory_ends_the_program_at_a_start(rt: HostRuntime) -> Result<(), Fail> {
-    assert_equal(
-        &rt,
-        start_fault_of(ErrorKind::OutOfMemory),
-        StartFault::OutOfMemory,
-    );
+    let refused = io::Error::from(ErrorKind::OutOfMemory);
+    assert_equal(&rt, start_fault_of(&refused), StartFault::OutOfMemory);
     for (kind, reason) in [
         (ErrorKind::NotFound, StartReason::NotFound),
         (ErrorKind::PermissionDenied, StartReason::NotAllowed),
@@ -122,8 +119,40 @@ fn only_want_of_memory_ends_the_program_at_a_start(rt: HostRuntime) -> Result<()
         (ErrorKind::IsADirectory, StartReason::Other),
         (ErrorKind::Interrupted, StartReason::Other),
     ] {
-        assert_equal(&rt, start_fault_of(kind), StartFault::NotStarted(reason));
+        let error = io::Error::from(kind);
+        assert_equal(&rt, start_fault_of(&error), StartFault::NotStarted(reason));
     }
+    Ok(())
+}
+
+#[test]
+fn limits_of_the_system_are_told_apart_by_their_numbers(rt: HostRuntime) -> Result<(), Fail> {
+    let refused = io::Error::from_raw_os_error(12);
+    assert_equal(&rt, start_fault_of(&refused), StartFault::OutOfMemory);
+    for (number, reason) in [
+        (1, StartReason::NotAllowed),
+        (2, StartReason::NotFound),
+        (8, StartReason::NoProgram),
+        (11, StartReason::NoProcesses),
+        (13, StartReason::NotAllowed),
+        (20, StartReason::NotADirectory),
+        (22, StartReason::Other),
+        (23, StartReason::NoFiles),
+        (24, StartReason::NoFiles),
+        (25, StartReason::NoProgram),
+        (26, StartReason::Busy),
+        (36, StartReason::TooLong),
+    ] {
+        let error = io::Error::from_raw_os_error(number);
+        assert_equal(&rt, start_fault_of(&error), StartFault::NotStarted(reason));
+    }
+    // What would block is no limit where the system gave no number.
+    let blocks = io::Error::from(ErrorKind::WouldBlock);
+    assert_equal(
+        &rt,
+        start_fault_of(&blocks),
+        StartFault::NotStarted(StartReason::Other),
+    );
     Ok(())
 }
 

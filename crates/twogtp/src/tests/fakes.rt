@@ -96,6 +96,11 @@ enum Engine {
     Book(Session<Book>),
     /// Takes all that it is sent, and writes one text.
     Says,
+    /// Takes what it is sent, and writes one text. Once that was read its pipes are broken.
+    Stops,
+    /// Answers each command by the next one of these answers, which end at semicolons and have their spaces written as
+    /// underscores, and none once they are used up. How much of them is used.
+    Answers(Vec<u8>, usize),
     /// Writes what it is sent, and nothing else.
     Echoes,
     /// Takes all that it is sent, and can't be read.
@@ -118,6 +123,15 @@ pub struct Talk {
 }
 
 impl Talk {
+    /// Its pipes are broken.
+    fn is_broken(&self) -> bool {
+        match &self.engine {
+            Engine::Broken => true,
+            Engine::Stops => self.read == self.written.len(),
+            _ => false,
+        }
+    }
+
     /// Interrupts a call, if it wasn't so often enough.
     fn interrupt(&mut self) -> Result<(), PipeFault> {
         let Engine::Interrupted(_, often) = &self.engine else {
@@ -156,6 +170,37 @@ fn answer<P: Policy>(
     Ok(())
 }
 
+/// Answers each command of the text by the next answer.
+fn answer_next(
+    answers: &[u8],
+    used: &mut usize,
+    text: &[u8],
+    written: &mut Vec<u8>,
+) -> Result<(), AllocError> {
+    for byte in text {
+        if *byte == b'\n' {
+            write_next(answers, used, written)?;
+        }
+    }
+    Ok(())
+}
+
+/// Writes the next answer, if there is one.
+fn write_next(answers: &[u8], used: &mut usize, written: &mut Vec<u8>) -> Result<(), AllocError> {
+    let Some(left) = answers.get(*used..) else {
+        return Ok(());
+    };
+    for byte in left {
+        *used = used.saturating_add(1);
+        match *byte {
+            b';' => return written.extend_from_slice(b"\n\n"),
+            b'_' => written.push(b' ')?,
+            byte => written.push(byte)?,
+        }
+    }
+    Ok(())
+}
+
 impl Process for Talk {
     ghost taken = { λ _. None };
 
@@ -172,7 +217,7 @@ impl Process for Talk {
     ghost flushed = { λ _. ⊤ };
 
     fn read(&mut self, buffer: &mut [u8]) -> Result<usize, PipeFault> {
-        if let Engine::Mute | Engine::Broken = &self.engine {
+        if self.is_broken() || matches!(&self.engine, Engine::Mute) {
             return Err(PipeFault::Broken);
         }
         self.interrupt()?;
@@ -189,6 +234,9 @@ impl Process for Talk {
     }
 
     fn write(&mut self, text: &[u8]) -> Result<usize, PipeFault> {
+        if self.is_broken() {
+            return Err(PipeFault::Broken);
+        }
         self.interrupt()?;
         let text = match &self.engine {
             Engine::Interrupted(..) => &text[..text.len().min(1)],
@@ -204,9 +252,11 @@ impl Process for Talk {
                 answer(session, text, &mut self.written)
             }
             Engine::Book(session) => answer(session, text, &mut self.written),
+            Engine::Answers(answers, used) => {
+                answer_next(answers.as_slice(), used, text, &mut self.written)
+            }
             Engine::Echoes => self.written.extend_from_slice(text),
-            Engine::Says | Engine::Mute => Ok(()),
-            Engine::Broken => return Err(PipeFault::Broken),
+            Engine::Says | Engine::Stops | Engine::Mute | Engine::Broken => Ok(()),
         };
         match taken {
             Ok(()) => {
@@ -315,6 +365,8 @@ impl Starter for InMemory {
             ["gtp_engine", "--policy", "book"] => book_engine("")?,
             ["gtp_engine", "--policy", "book", "--book", text] => book_engine(text)?,
             ["says", ..] | ["refuses"] => Engine::Says,
+            ["stops", _] => Engine::Stops,
+            ["answers", answers] => answers_with(self.alloc, answers)?,
             ["echoes"] => Engine::Echoes,
             ["mute"] => Engine::Mute,
             ["broken"] => Engine::Broken,
@@ -328,7 +380,7 @@ impl Starter for InMemory {
             return Err(StartFault::OutOfMemory);
         }
         let text = match words {
-            ["says", text] => text.as_bytes(),
+            ["says", text] | ["stops", text] => text.as_bytes(),
             ["refuses"] => b"?1 no\n\n",
             _ => b"",
         };
@@ -350,6 +402,15 @@ fn make_talk(alloc: Global, engine: Engine, text: &[u8], log: &Log) -> Result<Ta
         interruptions: 0,
         log: log.clone()?,
     })
+}
+
+/// An engine with these answers.
+fn answers_with(alloc: Global, answers: &str) -> Result<Engine, StartFault> {
+    let mut kept = Vec::new(alloc);
+    match kept.extend_from_slice(answers.as_bytes()) {
+        Ok(()) => Ok(Engine::Answers(kept, 0)),
+        Err(AllocError) => Err(StartFault::OutOfMemory),
+    }
 }
 
 /// An engine that plays by this book.

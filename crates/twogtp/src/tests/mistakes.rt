@@ -71,6 +71,11 @@ fn each_failure_is_told_in_a_line(rt: HostRuntime) -> Result<(), Fail> {
         (Failure::OutOfMemory, "twogtp: out of memory\n", 3),
         (Failure::TooManyTurns, "twogtp: too many turns\n", 3),
         (
+            Failure::NoNullDevice,
+            "twogtp: a standard stream is closed, and /dev/null can't be opened\n",
+            3,
+        ),
+        (
             Failure::of_arguments(ErrorKind::InvalidData),
             "twogtp: bad argument\n",
             2,

@@ -1,7 +1,7 @@
 //! Why a side is lost, as it is told on standard error.
 use super::fakes::{Full, InMemory, Log, Narrow, Talk};
 use crate::equal::{assert_equal, assert_equal_for};
-use crate::laws;
+use crate::laws::{lines_are_few, losses_have_lines};
 use crate::run::run;
 use crate::why_text::shown_for_test;
 use std::alloc::Global;
@@ -11,14 +11,14 @@ use std::test::Fail;
 
 /// What a match told, with `--why` and without another start.
 #[derive(Drop)]
-struct Told {
-    status: u8,
-    output: Vec<u8>,
-    errors: Vec<u8>,
+pub struct Told {
+    pub status: u8,
+    pub output: Vec<u8>,
+    pub errors: Vec<u8>,
 }
 
 /// Plays games between these engines, with `--why` and without another start.
-fn play(alloc: Global, black: &str, white: &str, games: &str) -> Result<Told, Fail> {
+pub fn play(alloc: Global, black: &str, white: &str, games: &str) -> Result<Told, Fail> {
     let words = [
         "twogtp",
         "--why",
@@ -63,14 +63,55 @@ fn assert_lost<R: Abort + AllocGlobal>(rt: &R, engine: &str, line: &str) -> Resu
 
 #[test]
 fn a_program_that_is_not_there(rt: HostRuntime) -> Result<(), Fail> {
-    let line = "twogtp: game 1: black: not started: no such file\n";
+    let line = "twogtp: game 1: black: not started: no such file: \"no_such_program\"\n";
     assert_lost(&rt, "no_such_program", line)
+}
+
+#[test]
+fn a_program_is_named_by_the_beginning_of_its_first_word(rt: HostRuntime) -> Result<(), Fail> {
+    let line = "twogtp: game 1: black: not started: no such file: \"a\\\"b\\\\\\t\\x01\"\n";
+    assert_lost(&rt, "  a\"b\\\t\x01 no_such_program", line)?;
+    // The 80th byte is the first one of two.
+    let long =
+        "0123456789012345678901234567890123456789012345678901234567890123456789012345678\u{e4} x";
+    let line = "twogtp: game 1: black: not started: no such file: \"012345678901234567890123456789\
+                0123456789012345678901234567890123456789012345678\\xC3\"\n";
+    assert_lost(&rt, long, line)
+}
+
+#[test]
+fn what_was_read_before_a_call_failed_is_shown(rt: HostRuntime) -> Result<(), Fail> {
+    let half = "twogtp: game 1: black: 3 unanswered, the first \"1 boardsize 5\": reading failed, \
+                exit status 7; it wrote \"=1\"\n";
+    assert_lost(&rt, "stops =1", half)?;
+    let whole = "twogtp: game 1: black: 2 unanswered, the first \"2 komi 6.5\": reading failed, \
+                exit status 7; nothing of it was read\n";
+    assert_lost(&rt, "stops =1\n\n", whole)?;
+    let more =
+        "twogtp: game 1: black: 1 unanswered, \"4 genmove b\": writing failed, exit status 7; \
+                it wrote \"=\"\n";
+    assert_lost(&rt, "stops =1\n\n=2\n\n=3\n\n=", more)?;
+    let none =
+        "twogtp: game 1: black: 1 unanswered, \"4 genmove b\": writing failed, exit status 7; \
+                nothing of it was read\n";
+    assert_lost(&rt, "stops =1\n\n=2\n\n=3\n\n", none)
+}
+
+#[test]
+fn one_command_or_none_is_unanswered(rt: HostRuntime) -> Result<(), Fail> {
+    let one =
+        "twogtp: game 1: black: 1 unanswered, \"4 genmove b\": its output ended, exit status 7; \
+                it wrote \"\"\n";
+    assert_lost(&rt, "says =1\n\n=2\n\n=3\n\n", one)?;
+    let none = "twogtp: game 1: black: 0 unanswered: a reply to nothing that was asked; \
+                it wrote \"=4\\n\\n\"\n";
+    assert_lost(&rt, "says =1\n\n=2\n\n=3\n\n=4\n\n", none)
 }
 
 #[test]
 fn an_output_that_ends(rt: HostRuntime) -> Result<(), Fail> {
     let line =
-        "twogtp: game 1: black: 3 unanswered from \"1 boardsize 5\": its output ended, exit status 7; \
+        "twogtp: game 1: black: 3 unanswered, the first \"1 boardsize 5\": its output ended, exit status 7; \
                 it wrote \"\"\n";
     assert_lost(&rt, "says", line)
 }
@@ -78,31 +119,31 @@ fn an_output_that_ends(rt: HostRuntime) -> Result<(), Fail> {
 #[test]
 fn a_read_that_fails(rt: HostRuntime) -> Result<(), Fail> {
     let line =
-        "twogtp: game 1: black: 3 unanswered from \"1 boardsize 5\": reading failed, exit status 7; \
-                it wrote \"\"\n";
+        "twogtp: game 1: black: 3 unanswered, the first \"1 boardsize 5\": reading failed, exit status 7; \
+                nothing of it was read\n";
     assert_lost(&rt, "mute", line)
 }
 
 #[test]
 fn a_write_that_fails(rt: HostRuntime) -> Result<(), Fail> {
     let line =
-        "twogtp: game 1: black: 3 unanswered from \"1 boardsize 5\": writing failed, exit status 7; \
-                it wrote \"\"\n";
+        "twogtp: game 1: black: 3 unanswered, the first \"1 boardsize 5\": writing failed, exit status 7; \
+                nothing of it was read\n";
     assert_lost(&rt, "broken", line)
 }
 
 #[test]
 fn bytes_that_are_no_reply(rt: HostRuntime) -> Result<(), Fail> {
     let line =
-        "twogtp: game 1: black: 3 unanswered from \"1 boardsize 5\": no reply: it begins with neither = \
-                nor ?; it wrote \"hello\"\n";
+        "twogtp: game 1: black: 3 unanswered, the first \"1 boardsize 5\": not a GTP reply (it begins with \
+                neither = nor ?); it wrote \"hello\"\n";
     assert_lost(&rt, "says hello", line)
 }
 
 #[test]
 fn half_a_reply(rt: HostRuntime) -> Result<(), Fail> {
     let line =
-        "twogtp: game 1: black: 3 unanswered from \"1 boardsize 5\": its output ended, exit status 7; \
+        "twogtp: game 1: black: 3 unanswered, the first \"1 boardsize 5\": its output ended, exit status 7; \
                 it wrote \"=1\"\n";
     assert_lost(&rt, "says =1", line)
 }
@@ -110,7 +151,7 @@ fn half_a_reply(rt: HostRuntime) -> Result<(), Fail> {
 #[test]
 fn a_setup_command_that_is_refused(rt: HostRuntime) -> Result<(), Fail> {
     let line =
-        "twogtp: game 1: black: 3 unanswered from \"1 boardsize 5\": unfit: the command failed, or was \
+        "twogtp: game 1: black: 3 unanswered, the first \"1 boardsize 5\": unfit: the command failed, or was \
                 answered wrongly; it wrote \"?1 no\\n\\n\"\n";
     assert_lost(&rt, "refuses", line)
 }
@@ -122,7 +163,7 @@ fn each_game_is_told_by_its_number_and_its_side(rt: HostRuntime) -> Result<(), F
     assert_equal(
         &rt,
         str::from_utf8(told.errors.as_slice())?,
-        "twogtp: game 1: white: not started: no such file\ntwogtp: game 2: white: not started: no such file\n",
+        "twogtp: game 1: white: not started: no such file: \"no_such_program\"\ntwogtp: game 2: white: not started: no such file: \"no_such_program\"\n",
     );
     assert_equal(
         &rt,
@@ -211,8 +252,8 @@ fn each_line_is_flushed_before_the_next_start(rt: HostRuntime) -> Result<(), Fai
         &mut starter,
     );
     let line =
-        "twogtp: game 1: black: 3 unanswered from \"1 boardsize 5\": writing failed, exit status 7; \
-                it wrote \"\"\n";
+        "twogtp: game 1: black: 3 unanswered, the first \"1 boardsize 5\": writing failed, exit status 7; \
+                nothing of it was read\n";
     let len = line.len();
     assert_equal(&rt, status, 1);
     // Black is started three times, and lost each time. One line tells of each loss, and is flushed by itself.
@@ -238,6 +279,7 @@ fn bytes_that_are_not_printable_are_escaped(rt: HostRuntime) -> Result<(), Fail>
 }
 
 #[test]
-fn the_law_of_lines_can_be_cited(_rt: HostRuntime) {
-    laws::losses_have_lines::<Talk>();
+fn the_laws_of_lines_can_be_cited(_rt: HostRuntime) {
+    losses_have_lines::<Talk>();
+    lines_are_few::<Talk, Full>();
 }

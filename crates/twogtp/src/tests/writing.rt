@@ -111,11 +111,12 @@ fn help_goes_to_the_output(rt: HostRuntime) -> Result<(), Fail> {
             "game N: VERDICT moves M restarts RB RW\n",
             "B+R, W+R ",
             "abandoned black",
+            "write fault, out of memory, too many turns\n",
+            "  twogtp --size 9 --black gtp_engine --white 'gtp_engine --policy random'\n",
         ] {
             assert!(rt; text.contains(part), "{part} in {text}");
         }
-        let end = "write fault, out of memory, too many turns\n";
-        assert!(rt; text.ends_with(end), "{text}");
+        assert!(rt; text.ends_with("\nMore: man twogtp\n"), "{text}");
         for line in text.lines() {
             assert!(rt; line.len() < 80, "{line}");
         }

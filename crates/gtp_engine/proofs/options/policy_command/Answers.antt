@@ -9,7 +9,7 @@ pub returns : goal.returns
 returns c =
     let versioned = ap app_of_fields c.version.ensures ∙ ap with_version c.new.ensures.app in
     let named = ap app_of_fields c.in_ok-bin_name.ensures.0 ∙ versioned in
-    let told = ap app_of_fields c.about.ensures ∙ named in
+    let told = ap app_of_fields c.after_help.ensures ∙ (ap app_of_fields c.about.ensures ∙ named) in
     let policy = c.policy_option.ensures in
     let with_policy = with_rule-from_added _ _ _ _ _ c.in_ok-arg.ensures policy.local told policy.rule.2 in
     let seed = c.seed_option.ensures in

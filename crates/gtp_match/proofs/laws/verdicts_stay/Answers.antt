@@ -1,5 +1,9 @@
-use Rattle.gtp_match.proofs.VerdictLemmas.{verdicts_stay}
+use Rattle.gtp_match.proofs.VerdictLemmas.{verdicts_stay, once_stays, all_stay}
 use Rattle.gtp_match.proofs.laws.verdicts_stay.Goals as goal
 
 pub returns : goal.returns
-returns c controller last calls v e all = verdicts_stay calls controller last v e all
+returns ctx = record {
+  over = λ c last calls v. verdicts_stay calls c last v;
+  once = once_stays;
+  all = λ c new s. all_stay s c new;
+}

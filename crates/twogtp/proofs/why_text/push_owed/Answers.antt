@@ -8,4 +8,4 @@ pub returns-clause-bytes : goal.returns-clause-bytes
 returns-clause-bytes c =
     rw c.push-2.ensures.bytes (rw c.push_oldest.ensures.bytes (rw c.push.ensures.bytes (rw c.push_number.ensures.bytes
     (joined-4 c.args.line.now.items (decimal c.args.owed.now.unanswered) (codes " unanswered")
-    (oldest_text c.args.owed.now.oldest) (codes ": ")))))
+    (oldest_text c.args.owed.now.unanswered c.args.owed.now.oldest) (codes ": ")))))

@@ -1,0 +1,131 @@
+//! A refused `play` that is retaken, as it is told on standard error.
+use super::fakes::{InMemory, Log, Narrow};
+use super::runs::FIRST;
+use super::why::play;
+use crate::equal::{assert_equal, assert_equal_for};
+use crate::run::run;
+use std::alloc::Global;
+use std::process::Abort;
+use std::str;
+use std::test::Fail;
+
+/// Black plays the first candidate, and White gives these answers: these lines are told, and this result.
+fn assert_told<R: Abort + AllocGlobal>(
+    rt: &R,
+    white: &str,
+    errors: &str,
+    output: &str,
+) -> Result<(), Fail> {
+    let told = play(rt.alloc(), FIRST, white, "1")?;
+    assert_equal_for(rt, white, str::from_utf8(told.errors.as_slice())?, errors);
+    assert_equal_for(rt, white, str::from_utf8(told.output.as_slice())?, output);
+    Ok(())
+}
+
+#[test]
+fn moves_that_are_taken_back_are_reported(rt: HostRuntime) -> Result<(), Fail> {
+    // White refuses Black's first move twice, then takes it and resigns.
+    assert_told(
+        &rt,
+        "answers =1;=2;=3;?4_no;?5_illegal_move;=6;=7_resign;",
+        "twogtp: game 1: white: 1 unanswered, \"4 play b A1\": the play was refused (retake 1 of 3); \
+            it wrote \"?4 no\\n\\n\"\n\
+        twogtp: game 1: white: 1 unanswered, \"5 play b A1\": the play was refused (retake 2 of 3); \
+            it wrote \"?5 illegal move\\n\\n\"\n",
+        "game 1: B+R moves 1 restarts 0 0\n",
+    )
+}
+
+#[test]
+fn the_fourth_refusal_is_a_loss(rt: HostRuntime) -> Result<(), Fail> {
+    assert_told(
+        &rt,
+        "answers =1;=2;=3;?4;?5;?6;?7;",
+        "twogtp: game 1: white: 1 unanswered, \"4 play b A1\": the play was refused (retake 1 of 3); \
+            it wrote \"?4\\n\\n\"\n\
+        twogtp: game 1: white: 1 unanswered, \"5 play b A1\": the play was refused (retake 2 of 3); \
+            it wrote \"?5\\n\\n\"\n\
+        twogtp: game 1: white: 1 unanswered, \"6 play b A1\": the play was refused (retake 3 of 3); \
+            it wrote \"?6\\n\\n\"\n\
+        twogtp: game 1: white: 1 unanswered, \"7 play b A1\": the play was refused; \
+            it wrote \"?7\\n\\n\"\n",
+        "game 1: B+F(refused play) moves 1 restarts 0 0\n",
+    )
+}
+
+/// White refuses Black's first move, and in the same piece writes what is no reply.
+const BOTH: &str = "answers =1;=2;=3;?4_no\n\nhello;";
+
+/// What is told of the one, and then of the other.
+const REFUSED: &str =
+    "twogtp: game 1: white: 1 unanswered, \"4 play b A1\": the play was refused (retake 1 of 3); \
+        it wrote \"?4 no\\n\\n\"\n";
+
+const LOST: &str =
+    "twogtp: game 1: white: 0 unanswered: not a GTP reply (it begins with neither = nor ?); \
+        it wrote \"hello\\n\\n\"\n";
+
+/// Plays that game, with a standard error that has room for so many bytes, and returns the status and the stream.
+fn play_both(alloc: Global, room: usize) -> Result<(u8, Narrow), Fail> {
+    let log = Log::new(alloc)?;
+    let mut output = Vec::new(alloc);
+    let mut errors = Narrow {
+        taken: Vec::new(alloc),
+        flushed: Vec::new(alloc),
+        room,
+        log: log.clone()?,
+    };
+    let mut starter = InMemory {
+        alloc,
+        log,
+        refused: 0,
+    };
+    let words = [
+        "twogtp",
+        "--why",
+        "--restarts",
+        "0",
+        "--black",
+        FIRST,
+        "--white",
+        BOTH,
+    ];
+    let status = run(
+        alloc,
+        words.as_slice(),
+        &mut output,
+        &mut errors,
+        &mut starter,
+    );
+    Ok((status, errors))
+}
+
+#[test]
+fn one_read_brings_a_retake_and_a_loss(rt: HostRuntime) -> Result<(), Fail> {
+    let (status, errors) = play_both(rt.alloc(), 1000)?;
+    let all = REFUSED.len().saturating_add(LOST.len());
+    assert_equal(&rt, status, 1);
+    // The retake comes first, and each line is flushed by itself.
+    assert_equal(
+        &rt,
+        errors.flushed.as_slice(),
+        [REFUSED.len(), all].as_slice(),
+    );
+    let text = str::from_utf8(errors.taken.as_slice())?;
+    assert_equal(&rt, text.strip_prefix(REFUSED), Some(LOST));
+    Ok(())
+}
+
+#[test]
+fn a_stream_that_breaks_at_the_first_line_gets_nothing_of_the_second(
+    rt: HostRuntime,
+) -> Result<(), Fail> {
+    let first = REFUSED.len();
+    for room in [0, 1, first.saturating_sub(1), first] {
+        let (status, errors) = play_both(rt.alloc(), room)?;
+        assert_equal_for(&rt, room, status, 3);
+        let text = str::from_utf8(errors.taken.as_slice())?;
+        assert_equal_for(&rt, room, Some(text), REFUSED.get(..room));
+    }
+    Ok(())
+}

@@ -1,0 +1,1 @@
+"""What is looked at in the pages of a release."""

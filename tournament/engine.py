@@ -1,0 +1,60 @@
+#!/usr/bin/env python3
+"""A Go engine to start from: it moves at random, but not into its own eyes. Usage: engine.py [SEED]"""
+import random, sys
+
+def dead_chain(board, vertex):  # the chain of the stone there; empty where it has a liberty
+    chain = [vertex]
+    for stone in chain:  # which grows
+        if any(v not in board for v in beside[stone]):
+            return []
+        chain += [v for v in beside[stone] if board[v] == board[vertex] and v not in chain]
+    return chain
+
+def after(colour, vertex):  # the board after this play, or None where it isn't legal
+    board = {**boards[-1], vertex: colour}
+    for taken in {t for v in beside.get(vertex, []) if board.get(v, colour) != colour for t in dead_chain(board, v)}:
+        del board[taken]
+    is_free = vertex in beside and vertex not in boards[-1]
+    return board if is_free and not dead_chain(board, vertex) and board not in boards[-2:-1] else None  # suicide, ko
+
+def choose(colour):  # a legal vertex that isn't an eye of its own, or a pass
+    good = (v for v in random.sample(list(beside), len(beside)) if any(boards[-1].get(b) != colour for b in beside[v]))
+    return next((v for v in good if after(colour, v)), "PASS")
+
+def answer(command, *words):  # the text of the reply; an error is a failure
+    global at, beside, boards  # the vertices, what lies beside each, and the boards at first and after each move
+    n = int(words[0]) if command == "boardsize" else round(len(at) ** 0.5)
+    if command in ("boardsize", "clear_board"):
+        boards, at = [{}], {(x, y): "ABCDEFGHJKLMNOPQRSTUVWXYZ"[x] + str(y + 1) for x in range(n) for y in range(n)}
+        beside = {at[x, y]: [at[p] for p in [(x - 1, y), (x + 1, y), (x, y - 1), (x, y + 1)] if p in at] for x, y in at}
+    elif command == "fixed_handicap":
+        low, mid, high, count = 2 + n // 13, n // 2, n - 3 - n // 13, int(words[0])
+        stones = [(low, low), (high, high), (low, high), (high, low), (low, mid), (high, mid), (mid, low), (mid, high)]
+        stones = stones[:count] if count < 5 else stones[:count - count % 2] + [(mid, mid)] * (count % 2)
+        boards = [{at[p]: "b" for p in stones}]
+        return " ".join(boards[0])
+    elif command in ("play", "genmove"):
+        colour = words[0][0].lower()
+        vertex = choose(colour) if command == "genmove" else words[1].upper()
+        board = boards[-1] if vertex == "PASS" else after(colour, vertex)
+        if board is None:
+            raise ValueError("illegal move")
+        boards.append(board)
+        return vertex if command == "genmove" else ""
+    elif command == "undo":
+        boards.pop(max(1, len(boards) - 1))  # never the first
+    elif command not in ("komi", "quit"):
+        raise ValueError("unknown command")
+    return ""
+
+answer("boardsize", "19")
+random.seed(sys.argv[-1])
+for line in sys.stdin:
+    number = line.split()[0] if line[0].isdigit() else ""
+    command = line[len(number):].split()
+    try:
+        print(f"={number} {answer(*command)}\n", flush=True)
+    except Exception as problem:
+        print(f"?{number} {problem}\n", flush=True)
+    if command == ["quit"]:
+        break
