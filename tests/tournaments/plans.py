@@ -147,7 +147,10 @@ def machines(here, wanted):
     ssh = here.script("ssh", SSH)
     for machine in ("one", "two"):
         shutil.copytree(here.at / "far", here.at / machine / "far")
-    here.run("bash", "-c", f"tournament list far | parallel --will-cite --ssh {ssh} --sshlogin 2/one,2/two tournament game far")
+    # A login sets both. Without SHELL, GNU Parallel starts nothing and ends with status 0.
+    here.environment |= {"SHELL": "/bin/bash", "HOME": str(here.at)}
+    status, _, told = here.run("bash", "-c", f"tournament list far | parallel --will-cite --ssh {ssh} --sshlogin 2/one,2/two tournament game far")
+    check("two machines by GNU Parallel: the status", (0, ""), (status, told))
     check("two machines by GNU Parallel: each plays some", True, all(here.games(f"{machine}/far") for machine in ("one", "two")))
     for machine in ("one", "two"):
         shutil.copytree(here.at / machine / "far/games", here.at / "far/games", dirs_exist_ok=True)
