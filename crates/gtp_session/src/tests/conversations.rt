@@ -1,11 +1,11 @@
 //! Conversations from the bytes in to the bytes out.
-use crate::equal::assert_equal;
+use crate::equal::{assert_equal, assert_true};
 use crate::first::First;
 use crate::serve::{ServeFault, Served, serve, serve_within};
 use crate::session::Session;
 use crate::streams::Counted;
 use crate::tests::memory::{Strict, Telling, Waiting};
-use crate::tests::{assert_serves, assert_serves_in_any_cuts, reader_of, writer_of};
+use crate::tests::{assert_serves_in_any_cuts, reader_of, writer_of};
 use arrayvec::ArrayVec;
 use go_base::{Colour, Point};
 use std::alloc::Global;
@@ -31,74 +31,6 @@ fn comments_and_control_characters_are_no_part_of_a_line(rt: HostRuntime) {
         b"=3 stepgo\n\n",
         Served::EndOfInput,
     );
-}
-
-#[test]
-fn an_id_is_an_int_and_is_repeated_without_leading_zeros(rt: HostRuntime) {
-    assert_serves(
-        &rt,
-        b"99999999999 name\n",
-        &[],
-        b"? unknown command\n\n",
-        Served::EndOfInput,
-    );
-    assert_serves(
-        &rt,
-        b"5\n",
-        &[],
-        b"?5 unknown command\n\n",
-        Served::EndOfInput,
-    );
-    assert_serves(
-        &rt,
-        b"2147483647 name\n",
-        &[],
-        b"=2147483647 stepgo\n\n",
-        Served::EndOfInput,
-    );
-    assert_serves(
-        &rt,
-        b"2147483648 name\n",
-        &[],
-        b"? unknown command\n\n",
-        Served::EndOfInput,
-    );
-    assert_serves(
-        &rt,
-        b"007 version\n",
-        &[],
-        b"=7 1.0\n\n",
-        Served::EndOfInput,
-    );
-}
-
-#[test]
-fn the_words_of_a_line_have_at_most_1000_bytes(rt: HostRuntime) -> Result<(), Fail> {
-    let cases: [(&[u8], usize, &[u8]); 3] = [
-        (b"known_command ", 986, b"= false\n\n"),
-        (b"known_command ", 987, b"? syntax error\n\n"),
-        (b"7 known_command ", 985, b"? syntax error\n\n"),
-    ];
-    for (front, letters, output) in cases {
-        let mut input = Vec::new(rt.alloc());
-        input.extend_from_slice(front)?;
-        input.resize(front.len() + letters, b'x')?;
-        input.push(b'\n')?;
-        assert_serves(&rt, &input, &[], output, Served::EndOfInput);
-    }
-    let mut input = Vec::new(rt.alloc());
-    input.resize(5000, b' ')?;
-    input.extend_from_slice(b"name")?;
-    input.resize(10_004, b' ')?;
-    input.push(b'\n')?;
-    assert_serves(&rt, &input, &[], b"= stepgo\n\n", Served::EndOfInput);
-    Ok(())
-}
-
-#[test]
-fn an_unfinished_last_line_is_not_executed(rt: HostRuntime) {
-    assert_serves_in_any_cuts(&rt, b"name", b"", Served::EndOfInput);
-    assert_serves_in_any_cuts(&rt, b"name\nquit", b"= stepgo\n\n", Served::EndOfInput);
 }
 
 #[test]
@@ -128,7 +60,7 @@ fn nothing_is_executed_after_a_writer_that_breaks(rt: HostRuntime) {
     let answer = serve(&mut reader, &mut writer, &mut session);
     assert_equal(&rt, answer, Err(ServeFault::Write));
     assert_equal(&rt, taken.as_slice(), b"=1 ".as_slice());
-    assert!(rt; !session.ended());
+    assert_true(&rt, !session.ended());
 }
 
 #[test]
