@@ -39,19 +39,6 @@ fn nothing_is_executed_after_quit(rt: HostRuntime) {
 }
 
 #[test]
-fn replies_go_out_in_as_many_writes_as_the_writer_wants(rt: HostRuntime) {
-    for step in [1, 2, 3, 100] {
-        let mut taken = ArrayVec::new();
-        let mut session = Session::new(First);
-        let mut reader = reader_of(b"1 name\n2 version\n", &[], None);
-        let mut writer = writer_of(&mut taken, 4096, step);
-        let answer = serve(&mut reader, &mut writer, &mut session);
-        assert_equal(&rt, answer, Ok(Served::EndOfInput));
-        assert_equal(&rt, taken.as_slice(), b"=1 stepgo\n\n=2 1.0\n\n".as_slice());
-    }
-}
-
-#[test]
 fn nothing_is_executed_after_a_writer_that_breaks(rt: HostRuntime) {
     let mut taken = ArrayVec::new();
     let mut session = Session::new(First);
@@ -75,25 +62,6 @@ fn no_read_is_allowed(rt: HostRuntime) {
 }
 
 #[test]
-fn reads_are_counted(rt: HostRuntime) {
-    let mut taken = ArrayVec::new();
-    let mut session = Session::new(First);
-    let mut reader = reader_of(b"1 name\n2 version\nquit\n", &[7, 10], None);
-    let mut writer = writer_of(&mut taken, 4096, 100);
-    let answer = serve_within(&mut reader, &mut writer, &mut session, 2);
-    assert_equal(&rt, answer, Err(ServeFault::TooManyReads));
-    let answer = serve_within(&mut reader, &mut writer, &mut session, 1);
-    assert_equal(&rt, answer, Ok(Served::Quit));
-    let answer = serve_within(&mut reader, &mut writer, &mut session, 0);
-    assert_equal(&rt, answer, Ok(Served::Quit));
-    assert_equal(
-        &rt,
-        taken.as_slice(),
-        b"=1 stepgo\n\n=2 1.0\n\n=\n\n".as_slice(),
-    );
-}
-
-#[test]
 fn a_read_that_fails_ends_the_conversation(rt: HostRuntime) {
     let mut taken = ArrayVec::new();
     let mut session = Session::new(First);
@@ -102,30 +70,6 @@ fn a_read_that_fails_ends_the_conversation(rt: HostRuntime) {
     let answer = serve(&mut reader, &mut writer, &mut session);
     assert_equal(&rt, answer, Err(ServeFault::Read));
     assert_equal(&rt, taken.len(), 0);
-}
-
-#[test]
-fn nothing_is_read_after_quit(rt: HostRuntime) {
-    let mut taken = ArrayVec::new();
-    let mut session = Session::new(First);
-    let mut reader = reader_of(b"name\nquit\nname\n", &[10], Some(1));
-    let mut writer = writer_of(&mut taken, 4096, 100);
-    let answer = serve(&mut reader, &mut writer, &mut session);
-    assert_equal(&rt, answer, Ok(Served::Quit));
-    assert_equal(&rt, taken.as_slice(), b"= stepgo\n\n=\n\n".as_slice());
-}
-
-#[test]
-fn a_conversation_goes_on_after_a_read_that_failed(rt: HostRuntime) {
-    let mut taken = ArrayVec::new();
-    let mut session = Session::new(First);
-    let mut reader = reader_of(b"name\nquit\n", &[7], Some(1));
-    let mut writer = writer_of(&mut taken, 4096, 100);
-    let answer = serve(&mut reader, &mut writer, &mut session);
-    assert_equal(&rt, answer, Err(ServeFault::Read));
-    let answer = serve(&mut reader, &mut writer, &mut session);
-    assert_equal(&rt, answer, Ok(Served::Quit));
-    assert_equal(&rt, taken.as_slice(), b"= stepgo\n\n=\n\n".as_slice());
 }
 
 #[test]
