@@ -1,5 +1,5 @@
-//! What commands answer, from the bytes in to the bytes out. Most of it is in `tests/reference/worked.txt`, and given to
-//! the built engine.
+//! What commands answer, from the bytes in to the bytes out. Most of it is in `tests/reference/worked.txt`, which the
+//! built engine is given.
 use crate::serve::Served;
 use crate::tests::assert_serves_in_any_cuts;
 use std::alloc::{Allocator, Global};

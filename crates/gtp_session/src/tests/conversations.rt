@@ -1,4 +1,4 @@
-//! Conversations from the bytes in to the bytes out.
+//! Conversations from the bytes in to the bytes out, what `serve` returns, and the game that it leaves.
 use crate::equal::{assert_equal, assert_true};
 use crate::first::First;
 use crate::serve::{ServeFault, Served, serve, serve_within};
