@@ -1,7 +1,6 @@
 //! Conversations over memory, and what they compare by.
 use crate::equal::assert_equal;
 use crate::first::First;
-use crate::policy::Policy;
 use crate::serve::{Served, serve};
 use crate::session::Session;
 use crate::streams::Counted;
@@ -12,7 +11,6 @@ use std::process::Abort;
 mod breaks;
 mod commands;
 mod conversations;
-mod counts;
 mod faults;
 mod memory;
 mod policies;
@@ -50,20 +48,8 @@ pub fn assert_serves(
     output: &[u8],
     served: Served,
 ) {
-    assert_policy_serves(rt, First, input, sizes, output, served);
-}
-
-/// The same with a policy.
-pub fn assert_policy_serves<P: Policy>(
-    rt: &impl Abort,
-    policy: P,
-    input: &[u8],
-    sizes: &[usize],
-    output: &[u8],
-    served: Served,
-) {
     let mut taken = ArrayVec::new();
-    let mut session = Session::new(policy);
+    let mut session = Session::new(First);
     let mut reader = reader_of(input, sizes, None);
     let mut writer = writer_of(&mut taken, 4096, 100);
     let answer = serve(&mut reader, &mut writer, &mut session);

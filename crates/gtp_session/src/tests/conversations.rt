@@ -1,11 +1,11 @@
-//! Conversations from the bytes in to the bytes out.
-use crate::equal::assert_equal;
+//! Conversations from the bytes in to the bytes out, what `serve` returns, and the game that it leaves.
+use crate::equal::{assert_equal, assert_true};
 use crate::first::First;
 use crate::serve::{ServeFault, Served, serve, serve_within};
 use crate::session::Session;
 use crate::streams::Counted;
 use crate::tests::memory::{Strict, Telling, Waiting};
-use crate::tests::{assert_serves, assert_serves_in_any_cuts, reader_of, writer_of};
+use crate::tests::{assert_serves_in_any_cuts, reader_of, writer_of};
 use arrayvec::ArrayVec;
 use go_base::{Colour, Point};
 use std::alloc::Global;
@@ -34,89 +34,8 @@ fn comments_and_control_characters_are_no_part_of_a_line(rt: HostRuntime) {
 }
 
 #[test]
-fn an_id_is_an_int_and_is_repeated_without_leading_zeros(rt: HostRuntime) {
-    assert_serves(
-        &rt,
-        b"99999999999 name\n",
-        &[],
-        b"? unknown command\n\n",
-        Served::EndOfInput,
-    );
-    assert_serves(
-        &rt,
-        b"5\n",
-        &[],
-        b"?5 unknown command\n\n",
-        Served::EndOfInput,
-    );
-    assert_serves(
-        &rt,
-        b"2147483647 name\n",
-        &[],
-        b"=2147483647 stepgo\n\n",
-        Served::EndOfInput,
-    );
-    assert_serves(
-        &rt,
-        b"2147483648 name\n",
-        &[],
-        b"? unknown command\n\n",
-        Served::EndOfInput,
-    );
-    assert_serves(
-        &rt,
-        b"007 version\n",
-        &[],
-        b"=7 1.0\n\n",
-        Served::EndOfInput,
-    );
-}
-
-#[test]
-fn the_words_of_a_line_have_at_most_1000_bytes(rt: HostRuntime) -> Result<(), Fail> {
-    let cases: [(&[u8], usize, &[u8]); 3] = [
-        (b"known_command ", 986, b"= false\n\n"),
-        (b"known_command ", 987, b"? syntax error\n\n"),
-        (b"7 known_command ", 985, b"? syntax error\n\n"),
-    ];
-    for (front, letters, output) in cases {
-        let mut input = Vec::new(rt.alloc());
-        input.extend_from_slice(front)?;
-        input.resize(front.len() + letters, b'x')?;
-        input.push(b'\n')?;
-        assert_serves(&rt, &input, &[], output, Served::EndOfInput);
-    }
-    let mut input = Vec::new(rt.alloc());
-    input.resize(5000, b' ')?;
-    input.extend_from_slice(b"name")?;
-    input.resize(10_004, b' ')?;
-    input.push(b'\n')?;
-    assert_serves(&rt, &input, &[], b"= stepgo\n\n", Served::EndOfInput);
-    Ok(())
-}
-
-#[test]
-fn an_unfinished_last_line_is_not_executed(rt: HostRuntime) {
-    assert_serves_in_any_cuts(&rt, b"name", b"", Served::EndOfInput);
-    assert_serves_in_any_cuts(&rt, b"name\nquit", b"= stepgo\n\n", Served::EndOfInput);
-}
-
-#[test]
 fn nothing_is_executed_after_quit(rt: HostRuntime) {
     assert_serves_in_any_cuts(&rt, b"quit\nname\n", b"=\n\n", Served::Quit);
-}
-
-#[test]
-fn replies_go_out_in_as_many_writes_as_the_writer_wants(rt: HostRuntime) {
-    for step in [1, 2, 3, 100] {
-        let mut taken = ArrayVec::new();
-        let mut session = Session::new(First);
-        let mut reader = reader_of(b"1 name\n2 version\n", &[], None);
-        let mut writer = writer_of(&mut taken, 4096, step);
-        let answer = serve(&mut reader, &mut writer, &mut session);
-        assert_equal(&rt, answer, Ok(Served::EndOfInput));
-        assert_equal(&rt, taken.as_slice(), b"=1 stepgo\n\n=2 1.0\n\n".as_slice());
-    }
 }
 
 #[test]
@@ -128,7 +47,7 @@ fn nothing_is_executed_after_a_writer_that_breaks(rt: HostRuntime) {
     let answer = serve(&mut reader, &mut writer, &mut session);
     assert_equal(&rt, answer, Err(ServeFault::Write));
     assert_equal(&rt, taken.as_slice(), b"=1 ".as_slice());
-    assert!(rt; !session.ended());
+    assert_true(&rt, !session.ended());
 }
 
 #[test]
@@ -143,25 +62,6 @@ fn no_read_is_allowed(rt: HostRuntime) {
 }
 
 #[test]
-fn reads_are_counted(rt: HostRuntime) {
-    let mut taken = ArrayVec::new();
-    let mut session = Session::new(First);
-    let mut reader = reader_of(b"1 name\n2 version\nquit\n", &[7, 10], None);
-    let mut writer = writer_of(&mut taken, 4096, 100);
-    let answer = serve_within(&mut reader, &mut writer, &mut session, 2);
-    assert_equal(&rt, answer, Err(ServeFault::TooManyReads));
-    let answer = serve_within(&mut reader, &mut writer, &mut session, 1);
-    assert_equal(&rt, answer, Ok(Served::Quit));
-    let answer = serve_within(&mut reader, &mut writer, &mut session, 0);
-    assert_equal(&rt, answer, Ok(Served::Quit));
-    assert_equal(
-        &rt,
-        taken.as_slice(),
-        b"=1 stepgo\n\n=2 1.0\n\n=\n\n".as_slice(),
-    );
-}
-
-#[test]
 fn a_read_that_fails_ends_the_conversation(rt: HostRuntime) {
     let mut taken = ArrayVec::new();
     let mut session = Session::new(First);
@@ -170,30 +70,6 @@ fn a_read_that_fails_ends_the_conversation(rt: HostRuntime) {
     let answer = serve(&mut reader, &mut writer, &mut session);
     assert_equal(&rt, answer, Err(ServeFault::Read));
     assert_equal(&rt, taken.len(), 0);
-}
-
-#[test]
-fn nothing_is_read_after_quit(rt: HostRuntime) {
-    let mut taken = ArrayVec::new();
-    let mut session = Session::new(First);
-    let mut reader = reader_of(b"name\nquit\nname\n", &[10], Some(1));
-    let mut writer = writer_of(&mut taken, 4096, 100);
-    let answer = serve(&mut reader, &mut writer, &mut session);
-    assert_equal(&rt, answer, Ok(Served::Quit));
-    assert_equal(&rt, taken.as_slice(), b"= stepgo\n\n=\n\n".as_slice());
-}
-
-#[test]
-fn a_conversation_goes_on_after_a_read_that_failed(rt: HostRuntime) {
-    let mut taken = ArrayVec::new();
-    let mut session = Session::new(First);
-    let mut reader = reader_of(b"name\nquit\n", &[7], Some(1));
-    let mut writer = writer_of(&mut taken, 4096, 100);
-    let answer = serve(&mut reader, &mut writer, &mut session);
-    assert_equal(&rt, answer, Err(ServeFault::Read));
-    let answer = serve(&mut reader, &mut writer, &mut session);
-    assert_equal(&rt, answer, Ok(Served::Quit));
-    assert_equal(&rt, taken.as_slice(), b"= stepgo\n\n=\n\n".as_slice());
 }
 
 #[test]

@@ -1,7 +1,7 @@
 //! What the policies choose.
 use crate::book::{Book, Entry, MOST_ENTRIES};
 use crate::candidates::candidates;
-use crate::equal::assert_equal;
+use crate::equal::{assert_equal, assert_true};
 use crate::first::First;
 use crate::laws;
 use crate::policy::{Choice, Policy};
@@ -125,7 +125,7 @@ fn candidates_stand_row_by_row_from_the_bottom(rt: HostRuntime) -> Result<(), Fa
 fn a_point_among_own_stones_is_no_candidate(rt: HostRuntime) -> Result<(), Fail> {
     let mut game = game_with(3, &[b"B1", b"A2", b"B2"], &[])?;
     // A1 is legal for Black, and its neighbours are Black's.
-    assert!(rt; game.legal(Colour::Black, vertex(b"A1")?));
+    assert_true(&rt, game.legal(Colour::Black, vertex(b"A1")?));
     let open: [&[u8]; 5] = [b"C1", b"C2", b"A3", b"B3", b"C3"];
     assert_candidates(&rt, &game, Colour::Black, &open)?;
     // For White A1 is suicide.
@@ -164,41 +164,6 @@ fn first_takes_a1_on_an_empty_board(rt: HostRuntime) -> Result<(), Fail> {
     let game = fresh(19)?;
     assert_equal(&rt, First.choose(&game, Colour::Black), play(b"A1")?);
     assert_equal(&rt, First.choose(&game, Colour::White), play(b"A1")?);
-    Ok(())
-}
-
-#[test]
-fn first_passes_on_the_board_of_one_point(rt: HostRuntime) -> Result<(), Fail> {
-    let mut game = fresh(1)?;
-    assert_equal(
-        &rt,
-        choose_and_play(&mut First, &mut game, Colour::Black)?,
-        PASS,
-    );
-    assert_equal(
-        &rt,
-        choose_and_play(&mut First, &mut game, Colour::White)?,
-        PASS,
-    );
-    assert!(rt; game.finished());
-    Ok(())
-}
-
-#[test]
-fn first_against_itself_on_four_points(rt: HostRuntime) -> Result<(), Fail> {
-    let mut game = fresh(2)?;
-    let mut colour = Colour::Black;
-    let moves: [&[u8]; 10] = [
-        b"A1", b"B1", b"A2", b"B2", b"A1", b"A2", b"A1", b"B1", b"A2", b"B2",
-    ];
-    for text in moves {
-        assert_equal(
-            &rt,
-            choose_and_play(&mut First, &mut game, colour)?,
-            play(text)?,
-        );
-        colour = colour.other();
-    }
     Ok(())
 }
 
@@ -254,28 +219,10 @@ fn one_entry_of_a_book_is_a_vertex_resign_or_nothing(rt: HostRuntime) -> Result<
 }
 
 #[test]
-fn a_book_with_a_bad_entry_is_none(rt: HostRuntime) {
-    let bad = [
-        b"C3,D44".as_slice(),
-        b" ",
-        b"C3, D4",
-        b"C3,,x",
-        b",,,I5,",
-        b"resign,resigned",
-    ];
-    for text in bad {
-        assert!(rt; Book::read(text).is_none());
-    }
-    for text in [b"".as_slice(), b",", b"PASS", b"ReSiGn,,z25", b"C3,,resign"] {
-        assert!(rt; Book::read(text).is_some());
-    }
-}
-
-#[test]
 fn a_book_has_at_most_2000_entries(rt: HostRuntime) -> Result<(), Fail> {
     let mut text = Vec::new(rt.alloc());
     text.resize(MOST_ENTRIES - 1, b',')?;
-    assert!(rt; Book::read(&text).is_some());
+    assert_true(&rt, Book::read(&text).is_some());
     text.extend_from_slice(b"resign")?;
     let mut book = Book::read(&text).ok_or("book")?;
     let mut game = fresh(1)?;
@@ -288,7 +235,7 @@ fn a_book_has_at_most_2000_entries(rt: HostRuntime) -> Result<(), Fail> {
     }
     assert_equal(&rt, book.choose(&game, Colour::Black), Choice::Resign);
     text.push(b',')?;
-    assert!(rt; Book::read(&text).is_none());
+    assert_true(&rt, Book::read(&text).is_none());
     Ok(())
 }
 
@@ -368,9 +315,9 @@ fn an_empty_book_passes(rt: HostRuntime) -> Result<(), Fail> {
 }
 
 /// A game on four points in which White has just taken Black's stone on A1. The first move left that stone alone there.
-fn four_points_under(rule: KoRule) -> Result<Game, Fail> {
+fn four_points_under_positional_ko() -> Result<Game, Fail> {
     let komi = Komi::from_half_points(0).ok_or("komi")?;
-    let mut game = Game::with_rule(Size::new(2).ok_or("size")?, komi, rule);
+    let mut game = Game::with_rule(Size::new(2).ok_or("size")?, komi, KoRule::Positional);
     let mut colour = Colour::Black;
     let moves: [&[u8]; 6] = [b"A1", b"B1", b"A2", b"B2", b"A1", b"A2"];
     for text in moves {
@@ -380,23 +327,12 @@ fn four_points_under(rule: KoRule) -> Result<Game, Fail> {
     Ok(game)
 }
 
-#[test]
-fn each_policy_takes_the_last_point_under_simple_ko(rt: HostRuntime) -> Result<(), Fail> {
-    let game = four_points_under(KoRule::Simple)?;
-    let mut random = Random::new(1);
-    let mut book = Book::read(b",,,,,,A1").ok_or("book")?;
-    assert_equal(&rt, First.choose(&game, Colour::Black), play(b"A1")?);
-    assert_equal(&rt, random.choose(&game, Colour::Black), play(b"A1")?);
-    assert_equal(&rt, book.choose(&game, Colour::Black), play(b"A1")?);
-    Ok(())
-}
-
 /// Black's stone on A1 alone would be the board after the first move.
 #[test]
 fn each_policy_passes_where_positional_ko_forbids_the_last_point(
     rt: HostRuntime,
 ) -> Result<(), Fail> {
-    let game = four_points_under(KoRule::Positional)?;
+    let game = four_points_under_positional_ko()?;
     let mut book = Book::read(b",,,,,,A1").ok_or("book")?;
     assert_candidates(&rt, &game, Colour::Black, &[])?;
     assert_equal(&rt, First.choose(&game, Colour::Black), PASS);
