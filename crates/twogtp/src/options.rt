@@ -42,7 +42,7 @@ Example:
 More: man twogtp";
 
 /// What the command line asks for.
-#[derive(Clone, Copy, Debug, PartialEq, Eq)]
+#[derive(Clone, Copy)]
 pub struct Options<'a> {
     /// The command of Black's engine, which is not split yet.
     pub black: &'a str,
