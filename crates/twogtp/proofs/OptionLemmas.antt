@@ -1,5 +1,7 @@
 -- The command line, and what the getters of its matches give.
-use Rattle.std.proofs.Common.{◌≡◌, ◌∙◌, ℕ, false, true, List, [], Option, Some, None, ap, refl}
+use Rattle.std.proofs.Common.{◌≡◌, ◌∙◌, ℕ, false, true, List, [], ◌∷◌, ◌++◌, Option, Some, None, ap, refl, sym}
+use Rattle.std.proofs.Common.{take, length, slice_index_or, ◌+◌}
+use Rattle.std.proofs.lemmas.List.{take_more}
 use Rattle.std.specs.Borrow.{Bor}
 use Rattle.std.specs.Prelude.{◌<◌, ◌^◌, Ok, Err, Result, option_map, unwrap_or}
 use Rattle.std.specs.Str.Parse.{IsNumeral, ParsesUnsigned, digits_value, without_leading_plus}
@@ -9,6 +11,8 @@ use Rattle.clap.specs.declared.builder.arg.Arg.{Arg}
 use Rattle.clap.specs.declared.builder.command.Command.{Command}
 use Rattle.clap.proofs.OnLiterals.{clap_on_literals}
 use Rattle.twogtp.specs.Options.{command_line}
+use Rattle.twogtp.specs.declared.options.OptionRow.{OptionRow}
+use Rattle.twogtp.specs.private.OptionRows.{rule_of_row, with_options}
 
 -- the command line uses nothing that changes how words are read
 pub is_simple-command_line : is_simple command_line ≡ true
@@ -40,3 +44,19 @@ pub ReadsOne-spells : (E : Type 0) (G : List ℕ → Result ℕ E → Type 0) (t
 ReadsOne-spells E G text (Some n) default reads parses = λ numeral fits. (parses (Ok n) reads).1
 ReadsOne-spells E G text None default reads parses = λ numeral fits.
     absurd (parses (Err reads.0) reads.1 (numeral, fits))
+
+-- a command line with the options of rows and of one row more has that row's option after theirs
+with_options-more : (app : App) (rows : List OptionRow) (row : OptionRow)
+    → with_options app (rows ++ row ∷ []) ≡ with_rule (with_options app rows) (rule_of_row row)
+with_options-more app [] row = refl
+with_options-more app (first ∷ rest) row = with_options-more (with_rule app (rule_of_row first)) rest row
+
+-- a command line with the options of the first k rows has, with the next row's option, those of the first k + 1
+pub with_options-step : (app : App) (rows : List OptionRow) (k : ℕ) (d : OptionRow) (old new : Command) (option : Arg)
+    → k < length rows → AddsArg old option new → option.global ≡ false
+    → app_of old ≡ with_options app (take k rows) → rule_of option ≡ rule_of_row (slice_index_or rows k d)
+    → app_of new ≡ with_options app (take (k + 1) rows)
+with_options-step app rows k d old new option fits adds local is is_rule =
+    let row = slice_index_or rows k d in
+    with_rule-from_added old new option (with_options app (take k rows)) (rule_of_row row) adds local is is_rule
+    ∙ (sym (with_options-more app (take k rows) row) ∙ ap (with_options app) (sym (take_more rows k d fits)))

@@ -1,3 +1,4 @@
 -- What no reader has to believe: what functions inside the crate say of one another.
 pub mod Leaving
+pub mod OptionRows
 pub mod Several

@@ -1,15 +1,15 @@
 //! The options of the command line.
-ghost use Rattle.std.specs.Prelude.{◌≡◌, ◌⊎◌, map, pos, Some, None, codes, false, IfOk, IfErr};
+ghost use Rattle.std.specs.Prelude.{◌≡◌, ◌⊎◌, map, Some, None, false, IfOk, IfErr};
 ghost use Rattle.clap.specs.Walk.{rows_of};
 ghost use Rattle.clap.specs.Words.{app_of, found_of, kind_of, rule_of};
-ghost use Rattle.clap.specs.declared.builder.value_parser.ValueParser.TheVariants.{Signed};
 ghost use Rattle.clap.specs.declared.error.kind.ErrorKind.TheVariants.{OutOfMemory};
 ghost use Rattle.twogtp.specs.Options.{Ask, AsksFor, HasFault, HasFlag, HasNumber, option_text};
-ghost use Rattle.twogtp.specs.Options.{command_line, with_engines, with_game, with_games, with_moves};
-ghost use Rattle.twogtp.specs.Options.{program, with_rest, required_rule, option_rule, flag_rule};
+ghost use Rattle.twogtp.specs.Options.{command_line, program};
+ghost use Rattle.twogtp.specs.Options.{flag_rule, number_rule, option_rule, required_rule};
+ghost use Rattle.twogtp.specs.private.OptionRows.{rule_of_row, with_options};
 
 use clap::builder::ValueParser;
-use clap::{Arg, ArgAction, ArgMatches, Command, Error, value_parser};
+use clap::{Arg, ArgAction, ArgMatches, Command, Error};
 use go_board::VERSION;
 use std::alloc::{AllocError, Global};
 use std::convert::AsStr;
@@ -42,7 +42,7 @@ Example:
 More: man twogtp";
 
 /// What the command line asks for.
-#[derive(Clone, Copy, Debug, PartialEq, Eq)]
+#[derive(Clone, Copy)]
 pub struct Options<'a> {
     /// The command of Black's engine, which is not split yet.
     pub black: &'a str,
@@ -67,6 +67,91 @@ pub struct Options<'a> {
     /// Whether it is told why a side is lost.
     pub why: bool,
 }
+
+/// An option of the command line.
+#[derive(Clone, Copy)]
+struct OptionRow<'a> {
+    /// The name that follows the two dashes.
+    name: &'a str,
+    /// What follows the name.
+    takes: Takes<'a>,
+    /// What the help says.
+    help: &'a str,
+}
+
+/// What an option takes.
+#[derive(Clone, Copy)]
+enum Takes<'a> {
+    /// The command of an engine, which has to be there.
+    Engine,
+    /// A komi; this one where the words don't say.
+    Komi(&'a str),
+    /// A whole number, from the first to the second; what the text spells where the words don't say.
+    Number(i64, i64, &'a str),
+    /// No value.
+    Nothing,
+}
+
+/// The options, in the order of the help.
+static OPTIONS: [OptionRow<'static>; 11] = [
+    OptionRow {
+        name: "black",
+        takes: Takes::Engine,
+        help: "Command of Black's engine, split at spaces",
+    },
+    OptionRow {
+        name: "white",
+        takes: Takes::Engine,
+        help: "Command of White's engine, split at spaces",
+    },
+    OptionRow {
+        name: "size",
+        takes: Takes::Number(1, 25, "19"),
+        help: "Size of the board, 1 to 25",
+    },
+    OptionRow {
+        name: "komi",
+        takes: Takes::Komi("6.5"),
+        help: "Komi, such as 6.5 or 7; a negative one is\nwritten --komi=-3.5",
+    },
+    OptionRow {
+        name: "handicap",
+        takes: Takes::Number(0, 9, "0"),
+        help: "Handicap stones: 0, or 2 to 9; on size 7 and even\n\
+            sizes 2 to 4; below size 7 none",
+    },
+    OptionRow {
+        name: "games",
+        takes: Takes::Number(1, 1000, "1"),
+        help: "Number of games, 1 to 1000",
+    },
+    OptionRow {
+        name: "max-moves",
+        takes: Takes::Number(1, 2000, "1000"),
+        help: "Most moves of a game, 1 to 2000",
+    },
+    OptionRow {
+        name: "restarts",
+        takes: Takes::Number(0, 1000, "2"),
+        help: "Restarts of a side in a game, 0 to 1000",
+    },
+    OptionRow {
+        name: "record",
+        takes: Takes::Nothing,
+        help: "Write the moves of each game",
+    },
+    OptionRow {
+        name: "show",
+        takes: Takes::Nothing,
+        help: "Write the last board of each game",
+    },
+    OptionRow {
+        name: "why",
+        takes: Takes::Nothing,
+        help: "Report on standard error why an engine is lost, and each\n\
+            refused move",
+    },
+];
 
 /// Reads the words of a command line, of which the first is the program's name. The error is a mistake in the words, a
 /// request for help or the version, or want of memory; its `Display` is the text for the user.
@@ -123,130 +208,54 @@ fn flag_at(matches: &ArgMatches<'_>, name: &str) -> bool
 fn command<'a>(alloc: Global) -> Result<Command<'a>, AllocError>
     ensures { IfOk result (λ command. app_of command ≡ command_line) }
 {
-    let command = with_games(alloc, with_game(alloc, with_engines(alloc)?)?)?;
-    with_rest(alloc, with_moves(alloc, command)?)
+    with_options(alloc, program(alloc)?, OPTIONS.as_slice())
 }
 
-/// The name, the version, and the options of the engines.
-fn with_engines<'a>(alloc: Global) -> Result<Command<'a>, AllocError>
-    ensures { IfOk result (λ command. app_of command ≡ with_engines program) }
+/// The command line with no option yet.
+fn program<'a>(alloc: Global) -> Result<Command<'a>, AllocError>
+    ensures { IfOk result (λ command. app_of command ≡ program) }
 {
     Command::new(alloc, "twogtp")
-        .bin_name("twogtp")?
         .version(VERSION)
         .about("Plays two engines of the Go Text Protocol, version 2, against each other")
         .after_help(AFTER_OPTIONS)
-        .arg(engine(alloc, "black", "Command of Black's engine, split at spaces"))?
-        .arg(engine(alloc, "white", "Command of White's engine, split at spaces"))
+        .bin_name("twogtp")
 }
 
-/// With the options of a game.
-fn with_game<'a>(alloc: Global, command: Command<'a>) -> Result<Command<'a>, AllocError>
-    ensures { IfOk result (λ with. app_of with ≡ with_game (app_of command.entry)) }
+/// A command line, and the options of these rows after its own.
+fn with_options<'a>(
+    alloc: Global,
+    mut command: Command<'a>,
+    rows: &[OptionRow<'a>],
+) -> Result<Command<'a>, AllocError>
+    ensures { IfOk result (λ with. app_of with ≡ with_options (app_of command.entry) rows.now) }
 {
-    command
-        .arg(number(
+    for row in rows {
+        command = command.arg(option(alloc, *row))?;
+    }
+    Ok(command)
+}
+
+/// The option of a row.
+fn option<'a>(alloc: Global, row: OptionRow<'a>) -> Arg<'a>
+    ensures rule { rule_of result ≡ rule_of_row row.entry }
+    ensures local { result.global ≡ false }
+{
+    match row.takes {
+        Takes::Engine => engine(alloc, row.name, row.help),
+        Takes::Komi(default) => komi(alloc, row.name, default, row.help),
+        Takes::Number(least, most, default) => number(
             alloc,
-            "size",
-            size_parser(),
-            "19",
-            "Size of the board, 1 to 25",
-        ))?
-        .arg(komi(alloc))?
-        .arg(number(
-            alloc,
-            "handicap",
-            handicap_parser(),
-            "0",
-            "Handicap stones: 0, or 2 to 9; on size 7 and even\n\
-                sizes 2 to 4; below size 7 none",
-        ))
+            row.name,
+            ValueParser::Signed(least, most),
+            default,
+            row.help,
+        ),
+        Takes::Nothing => flag(alloc, row.name, row.help),
+    }
 }
 
-/// With the number of games.
-fn with_games<'a>(alloc: Global, command: Command<'a>) -> Result<Command<'a>, AllocError>
-    ensures { IfOk result (λ with. app_of with ≡ with_games (app_of command.entry)) }
-{
-    command.arg(number(
-        alloc,
-        "games",
-        games_parser(),
-        "1",
-        "Number of games, 1 to 1000",
-    ))
-}
-
-/// With the limit of moves.
-fn with_moves<'a>(alloc: Global, command: Command<'a>) -> Result<Command<'a>, AllocError>
-    ensures { IfOk result (λ with. app_of with ≡ with_moves (app_of command.entry)) }
-{
-    command.arg(number(
-        alloc,
-        "max-moves",
-        moves_parser(),
-        "1000",
-        "Most moves of a game, 1 to 2000",
-    ))
-}
-
-/// With the restarts and the flags.
-fn with_rest<'a>(alloc: Global, command: Command<'a>) -> Result<Command<'a>, AllocError>
-    ensures { IfOk result (λ with. app_of with ≡ with_rest (app_of command.entry)) }
-{
-    command
-        .arg(number(
-            alloc,
-            "restarts",
-            restarts_parser(),
-            "2",
-            "Restarts of a side in a game, 0 to 1000",
-        ))?
-        .arg(flag(alloc, "record", "Write the moves of each game"))?
-        .arg(flag(alloc, "show", "Write the last board of each game"))?
-        .arg(flag(
-            alloc,
-            "why",
-            "Report on standard error why an engine is lost, and each\n\
-                refused move",
-        ))
-}
-
-/// The numbers of `--size`.
-fn size_parser<'a>() -> ValueParser<'a>
-    ensures { result ≡ Signed (pos 1) (pos 25) }
-{
-    value_parser!(u32).range(1..=25)
-}
-
-/// The numbers of `--handicap`.
-fn handicap_parser<'a>() -> ValueParser<'a>
-    ensures { result ≡ Signed (pos 0) (pos 9) }
-{
-    value_parser!(u32).range(0..=9)
-}
-
-/// The numbers of `--games`.
-fn games_parser<'a>() -> ValueParser<'a>
-    ensures { result ≡ Signed (pos 1) (pos 1000) }
-{
-    value_parser!(u32).range(1..=1000)
-}
-
-/// The numbers of `--max-moves`.
-fn moves_parser<'a>() -> ValueParser<'a>
-    ensures { result ≡ Signed (pos 1) (pos 2000) }
-{
-    value_parser!(u32).range(1..=2000)
-}
-
-/// The numbers of `--restarts`.
-fn restarts_parser<'a>() -> ValueParser<'a>
-    ensures { result ≡ Signed (pos 0) (pos 1000) }
-{
-    value_parser!(u32).range(0..=1000)
-}
-
-/// `--black` and `--white`
+/// An option that takes the command of an engine.
 fn engine<'a>(alloc: Global, name: &'a str, help: &'a str) -> Arg<'a>
     ensures rule { rule_of result ≡ required_rule name.entry.now }
     ensures local { result.global ≡ false }
@@ -258,16 +267,16 @@ fn engine<'a>(alloc: Global, name: &'a str, help: &'a str) -> Arg<'a>
         .help(help)
 }
 
-/// `--komi`
-fn komi<'a>(alloc: Global) -> Arg<'a>
-    ensures rule { rule_of result ≡ option_rule (codes "komi") None (codes "6.5") }
+/// An option that takes a komi.
+fn komi<'a>(alloc: Global, name: &'a str, default: &'a str, help: &'a str) -> Arg<'a>
+    ensures rule { rule_of result ≡ option_rule name.entry.now None default.entry.now }
     ensures local { result.global ≡ false }
 {
-    Arg::new(alloc, "komi")
-        .long("komi")
+    Arg::new(alloc, name)
+        .long(name)
         .value_name("K")
-        .default_value("6.5")
-        .help("Komi, such as 6.5 or 7; a negative one is\nwritten --komi=-3.5")
+        .default_value(default)
+        .help(help)
 }
 
 /// An option that takes a whole number.
