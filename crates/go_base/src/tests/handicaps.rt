@@ -1,27 +1,26 @@
 //! Handicap points, as their table has them.
-use crate::equal::{assert_equal, assert_equal_for};
+use crate::equal::{assert_equal_for, some};
 use crate::{Size, Vertex, handicap};
 use arrayvec::ArrayVec;
 use std::process::Abort;
 
-/// The vertices of the points, separated by single spaces.
-fn handicap_text(rt: &impl Abort, size: u32, stones: u32) -> Option<ArrayVec<u8, 40>> {
-    let size = Size::new(size).expect(rt, "a size");
-    let points = handicap(size, stones)?;
-    let mut text = ArrayVec::new();
-    for point in &points {
-        if !text.is_empty() {
-            text.try_push(b' ').expect(rt, "room");
+/// The vertices of the points, with single spaces between, are this text. Of a number that isn't allowed it is empty.
+fn assert_points(rt: &impl Abort, size: u32, stones: u32, wanted: &str) {
+    let mut text: ArrayVec<u8, 40> = ArrayVec::new();
+    if let Some(points) = handicap(some(rt, Size::new(size)), stones) {
+        for point in &points {
+            if !text.is_empty() {
+                let _ = text.try_push(b' ');
+            }
+            let _ = text.try_extend_from_slice(&Vertex::At(*point).write());
         }
-        text.try_extend_from_slice(&Vertex::At(*point).write())
-            .expect(rt, "room");
     }
-    Some(text)
+    assert_equal_for(rt, (size, stones), text.as_slice(), wanted.as_bytes());
 }
 
 #[test]
 fn handicap_points_of_size_19(rt: HostRuntime) {
-    let lists = [
+    for (stones, list) in [
         (2, "D4 Q16"),
         (3, "D4 Q16 D16"),
         (4, "D4 Q16 D16 Q4"),
@@ -30,29 +29,25 @@ fn handicap_points_of_size_19(rt: HostRuntime) {
         (7, "D4 Q16 D16 Q4 D10 Q10 K10"),
         (8, "D4 Q16 D16 Q4 D10 Q10 K4 K16"),
         (9, "D4 Q16 D16 Q4 D10 Q10 K4 K16 K10"),
-    ];
-    for (stones, list) in lists {
-        let text = handicap_text(&rt, 19, stones).expect(&rt, "an allowed number");
-        assert_eq!(rt; text.as_slice(), list.as_bytes(), "{stones} stones");
+    ] {
+        assert_points(&rt, 19, stones, list);
     }
 }
 
 #[test]
 fn handicap_points_of_other_sizes(rt: HostRuntime) {
-    let lists = [
+    for (size, stones, list) in [
         (13, 2, "D4 K10"),
         (7, 4, "C3 E5 C5 E3"),
         (25, 5, "D4 W22 D22 W4 N13"),
         (9, 9, "C3 G7 C7 G3 C5 G5 E3 E7 E5"),
         (8, 4, "C3 F6 C6 F3"),
-    ];
-    for (size, stones, list) in lists {
-        let text = handicap_text(&rt, size, stones).expect(&rt, "an allowed number");
-        assert_eq!(rt;
-            text.as_slice(),
-            list.as_bytes(),
-            "{stones} stones on size {size}"
-        );
+        (8, 5, ""),
+        (6, 2, ""),
+        (19, 1, ""),
+        (9, 4_294_967_295, ""),
+    ] {
+        assert_points(&rt, size, stones, list);
     }
 }
 
@@ -63,11 +58,12 @@ const MOST_STONES: [u32; 25] = [
 
 #[test]
 fn each_size_allows_the_numbers_of_the_table(rt: HostRuntime) {
-    for index in 0..25 {
-        let size = Size::new(index as u32 + 1).expect(&rt, "a size");
+    for (size, most) in (1..=25).zip(MOST_STONES) {
+        let size = some(&rt, Size::new(size));
         for stones in 0..12 {
-            let is_allowed = stones >= 2 && stones <= MOST_STONES[index];
-            assert_equal(&rt, handicap(size, stones).is_some(), is_allowed);
+            let is_allowed = stones >= 2 && stones <= most;
+            let is_some = handicap(size, stones).is_some();
+            assert_equal_for(&rt, (size, stones), is_some, is_allowed);
         }
     }
 }
@@ -81,26 +77,7 @@ const CORNERS: [&str; 19] = [
 
 #[test]
 fn the_first_two_points_stand_in_the_corners_of_each_size(rt: HostRuntime) {
-    for index in 0..19 {
-        let text = handicap_text(&rt, index as u32 + 7, 2).expect(&rt, "an allowed number");
-        assert_equal_for(&rt, index, text.as_slice(), CORNERS[index].as_bytes());
-    }
-}
-
-#[test]
-fn handicaps_that_a_size_does_not_allow(rt: HostRuntime) {
-    for (size, stones) in [
-        (8, 5),
-        (6, 2),
-        (19, 1),
-        (19, 0),
-        (19, 10),
-        (1, 2),
-        (7, 5),
-        (24, 5),
-        (9, 4_294_967_295),
-    ] {
-        let size = Size::new(size).expect(&rt, "a size");
-        assert_equal(&rt, handicap(size, stones).is_some(), false);
+    for (size, corners) in (7..=25).zip(CORNERS) {
+        assert_points(&rt, size, 2, corners);
     }
 }

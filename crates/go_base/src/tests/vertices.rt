@@ -1,46 +1,16 @@
-//! Points, vertices and choices in every spelling.
-use crate::equal::{assert_equal, assert_equal_for};
-use crate::{Choice, Colour, Move, Point, Size, Vertex};
+//! Vertices and choices in every spelling.
+use crate::equal::{assert_equal, assert_equal_for, some};
+use crate::{Choice, Point, Vertex};
 use std::process::Abort;
 
-/// The point of a column and a row, which are 1 to 25.
-fn at(rt: &impl Abort, column: u32, row: u32) -> Point {
-    Point::new(column, row).expect(rt, "a column and a row of the largest board")
-}
-
-#[test]
-fn points_have_columns_and_rows_1_to_25(rt: HostRuntime) {
-    for (column, row) in [(1, 1), (25, 25), (1, 25), (25, 1), (8, 9)] {
-        let point = at(&rt, column, row);
-        assert_equal(&rt, point.column(), column);
-        assert_equal(&rt, point.row(), row);
-    }
-    for (column, row) in [
-        (0, 1),
-        (1, 0),
-        (26, 1),
-        (1, 26),
-        (27, 1),
-        (4_294_967_295, 4_294_967_295),
-    ] {
-        assert_eq!(rt; Point::new(column, row), None, "{column} {row}");
-    }
-}
-
-#[test]
-fn a_point_is_on_the_boards_that_are_large_enough(rt: HostRuntime) {
-    for (column, row, least) in [(1, 1, 1), (3, 2, 3), (2, 3, 3), (25, 1, 25), (1, 25, 25)] {
-        let point = at(&rt, column, row);
-        for number in 1..26 {
-            let size = Size::new(number).expect(&rt, "a size");
-            assert_equal(&rt, point.on(size), number >= least);
-        }
-    }
+/// The vertex where a column and a row cross.
+fn at(rt: &impl Abort, column: u32, row: u32) -> Vertex {
+    Vertex::At(some(rt, Point::new(column, row)))
 }
 
 #[test]
 fn vertices_in_every_spelling(rt: HostRuntime) {
-    let points = [
+    for (text, column, row) in [
         ("A1", 1, 1),
         ("a1", 1, 1),
         ("H8", 8, 8),
@@ -50,24 +20,33 @@ fn vertices_in_every_spelling(rt: HostRuntime) {
         ("Z25", 25, 25),
         ("z25", 25, 25),
         ("Q10", 16, 10),
-    ];
-    for (text, column, row) in points {
-        assert_equal_for(
-            &rt,
-            text,
-            Vertex::read(text.as_bytes()),
-            Some(Vertex::At(at(&rt, column, row))),
-        );
+    ] {
+        let wanted = Some(at(&rt, column, row));
+        assert_equal_for(&rt, text, Vertex::read(text.as_bytes()), wanted);
     }
-    for text in ["pass", "PASS", "pAsS"] {
-        assert_equal_for(&rt, text, Vertex::read(text.as_bytes()), Some(Vertex::Pass));
-    }
-    let others = [
-        "", "A", "1", "I5", "i5", "A0", "A26", "A01", "B01", "Z26", "AA1", "A1 ", "A+1", "1A",
-        "pas", "passs", "resign",
-    ];
-    for text in others {
-        assert_equal_for(&rt, text, Vertex::read(text.as_bytes()), None);
+    for (text, wanted) in [
+        ("pass", Some(Vertex::Pass)),
+        ("PASS", Some(Vertex::Pass)),
+        ("pAsS", Some(Vertex::Pass)),
+        ("", None),
+        ("A", None),
+        ("1", None),
+        ("I5", None),
+        ("i5", None),
+        ("A0", None),
+        ("A26", None),
+        ("A01", None),
+        ("B01", None),
+        ("Z26", None),
+        ("AA1", None),
+        ("A1 ", None),
+        ("A+1", None),
+        ("1A", None),
+        ("pas", None),
+        ("passs", None),
+        ("resign", None),
+    ] {
+        assert_equal_for(&rt, text, Vertex::read(text.as_bytes()), wanted);
     }
 }
 
@@ -80,59 +59,41 @@ fn vertices_are_written_in_capitals(rt: HostRuntime) {
         (16, 10, "Q10"),
         (25, 25, "Z25"),
     ] {
-        let vertex = Vertex::At(at(&rt, column, row));
-        assert_equal(&rt, vertex.write().as_slice(), text.as_bytes());
+        let written = at(&rt, column, row).write();
+        assert_equal(&rt, written.as_slice(), text.as_bytes());
     }
     assert_equal(&rt, Vertex::Pass.write().as_slice(), b"pass".as_slice());
 }
 
 #[test]
 fn choices_are_resign_in_any_case_or_vertices(rt: HostRuntime) {
-    for text in ["resign", "RESIGN", "Resign", "rEsIgN"] {
-        assert_equal_for(
-            &rt,
-            text,
-            Choice::read(text.as_bytes()),
-            Some(Choice::Resign),
-        );
-    }
-    for text in ["J5", "j5"] {
-        let read = Choice::read(text.as_bytes());
-        assert_equal_for(
-            &rt,
-            text,
-            read,
-            Some(Choice::Play(Vertex::At(at(&rt, 9, 5)))),
-        );
-    }
-    assert_equal(&rt, Choice::read(b"PaSs"), Some(Choice::Play(Vertex::Pass)));
-    for text in [
-        "", "resig", "resigns", "resign ", " resign", "re", "I5", "A26", "D4 D5",
+    let j5 = Choice::Play(at(&rt, 9, 5));
+    for (text, wanted) in [
+        ("resign", Some(Choice::Resign)),
+        ("RESIGN", Some(Choice::Resign)),
+        ("Resign", Some(Choice::Resign)),
+        ("rEsIgN", Some(Choice::Resign)),
+        ("J5", Some(j5)),
+        ("j5", Some(j5)),
+        ("PaSs", Some(Choice::Play(Vertex::Pass))),
+        ("", None),
+        ("resig", None),
+        ("resigns", None),
+        ("resign ", None),
+        (" resign", None),
+        ("re", None),
+        ("I5", None),
+        ("A26", None),
+        ("D4 D5", None),
     ] {
-        assert_equal_for(&rt, text, Choice::read(text.as_bytes()), None);
+        assert_equal_for(&rt, text, Choice::read(text.as_bytes()), wanted);
     }
 }
 
 #[test]
 fn letters_of_columns_leave_out_i(rt: HostRuntime) {
-    for (column, letter) in [(1, b'A'), (8, b'H'), (9, b'J'), (10, b'K'), (25, b'Z')] {
-        assert_equal(&rt, at(&rt, column, 7).letter(), letter);
+    for (column, letter) in (1..=25).zip(b"ABCDEFGHJKLMNOPQRSTUVWXYZ") {
+        let point = some(&rt, Point::new(column, 7));
+        assert_equal_for(&rt, column, point.letter(), *letter);
     }
-}
-
-#[test]
-fn defaults_are_a1_a_pass_and_blacks_pass(rt: HostRuntime) {
-    let point: Point = Default::default();
-    let vertex: Vertex = Default::default();
-    let pass: Move = Default::default();
-    assert_equal(&rt, point, at(&rt, 1, 1));
-    assert_equal(&rt, vertex, Vertex::Pass);
-    assert_equal(
-        &rt,
-        pass,
-        Move {
-            colour: Colour::Black,
-            vertex: Vertex::Pass,
-        },
-    );
 }

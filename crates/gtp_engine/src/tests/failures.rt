@@ -77,46 +77,41 @@ fn the_status_stays_where_nothing_can_be_told(rt: HostRuntime) -> Result<(), Fai
 }
 
 #[test]
-fn arguments_that_cannot_be_collected_are_told(rt: HostRuntime) -> Result<(), Fail> {
+fn each_failure_is_told_in_a_line(rt: HostRuntime) -> Result<(), Fail> {
     let cases = [
-        (ErrorKind::InvalidData, 2, "gtp_engine: bad argument\n"),
-        (ErrorKind::OutOfMemory, 3, "gtp_engine: out of memory\n"),
-    ];
-    for (kind, status, text) in cases {
-        let mut errors = Vec::new(rt.alloc());
-        let failure = Failure::of_arguments(kind);
-        assert_equal(&rt, tell(failure, &mut Counted::new(&mut errors)), status);
-        assert_equal(&rt, errors.as_slice(), text.as_bytes());
-    }
-    Ok(())
-}
-
-#[test]
-fn each_fault_of_a_conversation_is_told(rt: HostRuntime) -> Result<(), Fail> {
-    let cases = [
-        (ServeFault::Read, "gtp_engine: read fault\n"),
-        (ServeFault::Write, "gtp_engine: write fault\n"),
-        (ServeFault::TooManyReads, "gtp_engine: too many reads\n"),
-    ];
-    for (fault, text) in cases {
-        let mut errors = Vec::new(rt.alloc());
-        assert_equal(
-            &rt,
-            tell(Failure::Serve(fault), &mut Counted::new(&mut errors)),
+        (
+            Failure::of_arguments(ErrorKind::InvalidData),
+            2,
+            "bad argument",
+        ),
+        (
+            Failure::of_arguments(ErrorKind::OutOfMemory),
             3,
-        );
-        assert_equal(&rt, errors.as_slice(), text.as_bytes());
+            "out of memory",
+        ),
+        (Failure::Serve(ServeFault::Read), 3, "read fault"),
+        (Failure::Serve(ServeFault::Write), 3, "write fault"),
+        (
+            Failure::Serve(ServeFault::TooManyReads),
+            3,
+            "too many reads",
+        ),
+        (
+            Failure::NoNullDevice,
+            3,
+            "a standard stream is closed, and /dev/null can't be opened",
+        ),
+    ];
+    for (failure, status, text) in cases {
+        let mut errors = Vec::new(rt.alloc());
+        let told = tell(failure, &mut Counted::new(&mut errors));
+        assert_equal_for(&rt, text, told, status);
+        let mut line = Vec::new(rt.alloc());
+        for part in ["gtp_engine: ", text, "\n"] {
+            line.extend_from_slice(part.as_bytes())?;
+        }
+        assert_equal(&rt, errors.as_slice(), line.as_slice());
     }
-    Ok(())
-}
-
-#[test]
-fn a_closed_stream_without_a_null_device_is_told(rt: HostRuntime) -> Result<(), Fail> {
-    let mut errors = Vec::new(rt.alloc());
-    let status = tell(Failure::NoNullDevice, &mut Counted::new(&mut errors));
-    assert_equal(&rt, status, 3);
-    let line = "gtp_engine: a standard stream is closed, and /dev/null can't be opened\n";
-    assert_equal(&rt, errors.as_slice(), line.as_bytes());
     Ok(())
 }
 
