@@ -44,19 +44,22 @@ fn komi_is_read_in_half_points(rt: HostRuntime) {
     }
 }
 
+/// Komi in half points, and the text of each.
+static WRITTEN: [(i32, &str); 7] = [
+    (13, "6.5"),
+    (-1, "-0.5"),
+    (0, "0"),
+    (14, "7"),
+    (1, "0.5"),
+    (1_999_999_999, "999999999.5"),
+    (-1_999_999_999, "-999999999.5"),
+];
+
 #[test]
 fn komi_is_written_in_points(rt: HostRuntime) {
-    for (half_points, wanted) in [
-        (13, "6.5"),
-        (-1, "-0.5"),
-        (0, "0"),
-        (14, "7"),
-        (1, "0.5"),
-        (1_999_999_999, "999999999.5"),
-        (-1_999_999_999, "-999999999.5"),
-    ] {
-        let komi = some(&rt, Komi::from_half_points(half_points));
-        assert_equal_for(&rt, wanted, komi.half_points(), half_points);
+    for (half_points, wanted) in &WRITTEN {
+        let komi = some(&rt, Komi::from_half_points(*half_points));
+        assert_equal_for(&rt, wanted, komi.half_points(), *half_points);
         assert_equal(&rt, komi.write().as_slice(), wanted.as_bytes());
     }
     for half_points in [2_000_000_000, -2_000_000_000, 2_147_483_647, -2_147_483_648] {
@@ -64,21 +67,24 @@ fn komi_is_written_in_points(rt: HostRuntime) {
     }
 }
 
+/// Scores in half points, and the text of each.
+static SCORES: [(i32, &str); 10] = [
+    (17, "B+8.5"),
+    (-1, "W+0.5"),
+    (0, "0"),
+    (1, "B+0.5"),
+    (2, "B+1"),
+    (-14, "W+7"),
+    (2_000_001_249, "B+1000000624.5"),
+    (-2_000_001_249, "W+1000000624.5"),
+    (2_147_483_647, "B+1073741823.5"),
+    (-2_147_483_648, "W+1073741824"),
+];
+
 #[test]
 fn a_score_names_the_colour_that_leads(rt: HostRuntime) {
-    for (half_points, text) in [
-        (17, "B+8.5"),
-        (-1, "W+0.5"),
-        (0, "0"),
-        (1, "B+0.5"),
-        (2, "B+1"),
-        (-14, "W+7"),
-        (2_000_001_249, "B+1000000624.5"),
-        (-2_000_001_249, "W+1000000624.5"),
-        (2_147_483_647, "B+1073741823.5"),
-        (-2_147_483_648, "W+1073741824"),
-    ] {
-        let written = write_score(half_points);
+    for (half_points, text) in &SCORES {
+        let written = write_score(*half_points);
         assert_equal_for(&rt, half_points, written.as_slice(), text.as_bytes());
     }
     let greatest = write_half_points(4_294_967_295);

@@ -4,10 +4,7 @@ use crate::equal::{assert_equal_for, assert_true};
 use crate::{KoRule, PlayFault};
 use std::process::Abort;
 
-/// White takes one stone at B1 by A1, in a corner where Black can take back.
-const CORNER: &str = "bA2 wC1 bB1 wB2 bD4 wA1";
-
-/// After which both pass.
+/// White takes one stone at B1 by A1, in a corner where Black can take back. Then both pass.
 const LEFT: &str = "bA2 wC1 bB1 wB2 bD4 wA1 bpass wpass";
 
 /// White plays on all points of seven lines but C3, and so takes both handicap stones, C3 and E5. Black's C3 takes all of
@@ -70,6 +67,9 @@ static BACK: [Back; 9] = [
     ),
 ];
 
+/// One that brings back the board before the previous move.
+static AT_ONCE: Back = ("at once", 4, 0, "bA2 wC1 bB1 wB2 bD4 wA1", "bB1");
+
 /// The play is answered so under a rule.
 fn assert_answer(rt: &impl Abort, rule: KoRule, back: &Back, wanted: Result<(), PlayFault>) {
     let (case, lines, stones, moves, last) = *back;
@@ -93,8 +93,6 @@ fn boards_come_back_under_simple_ko_alone(rt: HostRuntime) {
         assert_answer(&rt, KoRule::Simple, back, Ok(()));
         assert_answer(&rt, KoRule::Positional, back, Err(PlayFault::Ko));
     }
-    let at_once = ("taken back at once", 4, 0, CORNER, "bB1");
-    for rule in [KoRule::Simple, KoRule::Positional] {
-        assert_answer(&rt, rule, &at_once, Err(PlayFault::Ko));
-    }
+    assert_answer(&rt, KoRule::Simple, &AT_ONCE, Err(PlayFault::Ko));
+    assert_answer(&rt, KoRule::Positional, &AT_ONCE, Err(PlayFault::Ko));
 }

@@ -57,22 +57,24 @@ fn each_refusal_of_a_play(rt: HostRuntime) {
     }
 }
 
+/// Plays on a full record, and the cause that is told of each: fullness is none, and the others are told as ever.
+static FULL: [(&str, Option<PlayFault>); 3] = [
+    ("bpass", None),
+    ("wA1", None),
+    ("bZ25", Some(PlayFault::OffBoard)),
+];
+
 #[test]
 fn a_full_record_refuses_first(rt: HostRuntime) {
     let mut game = new_game(&rt, 19);
     for _ in 0..2000 {
         assert_equal(&rt, game.play(Colour::Black, Vertex::Pass), Ok(()));
     }
-    // Fullness is no refusal, and the other causes are told as ever.
-    for (word, refusal) in [
-        ("bpass", None),
-        ("wA1", None),
-        ("bZ25", Some(PlayFault::OffBoard)),
-    ] {
+    for (word, refusal) in &FULL {
         let made = read_move(&rt, word);
         let answer = game.play(made.colour, made.vertex);
         assert_equal_for(&rt, word, answer, Err(PlayFault::Full));
-        assert_equal_for(&rt, word, game.refusal(made.colour, made.vertex), refusal);
+        assert_equal_for(&rt, word, game.refusal(made.colour, made.vertex), *refusal);
         let legal = game.legal(made.colour, made.vertex);
         assert_equal_for(&rt, word, legal, refusal.is_none());
     }
@@ -87,30 +89,36 @@ fn a_full_record_refuses_first(rt: HostRuntime) {
     assert_equal(&rt, game.moves().len(), 2000);
 }
 
+/// Why handicap stones are refused, and the text of each cause.
+static HANDICAP_TEXTS: [(HandicapFault, &str); 2] = [
+    (
+        HandicapFault::NotEmpty,
+        "the board is not empty, or moves were made on it",
+    ),
+    (
+        HandicapFault::BadNumber,
+        "the board's size does not allow this number of handicap stones",
+    ),
+];
+
+/// Why plays are refused, and the text of each cause.
+static PLAY_TEXTS: [(PlayFault, &str); 5] = [
+    (PlayFault::Full, "the record of moves is full"),
+    (PlayFault::OffBoard, "the point is off the board"),
+    (PlayFault::Occupied, "the point is occupied"),
+    (PlayFault::Suicide, "the stone would have no liberty"),
+    (
+        PlayFault::Ko,
+        "the board would be the same as an earlier one",
+    ),
+];
+
 #[test]
 fn each_fault_has_its_text(rt: HostRuntime) -> Result<(), Fail> {
-    for (fault, text) in [
-        (
-            HandicapFault::NotEmpty,
-            "the board is not empty, or moves were made on it",
-        ),
-        (
-            HandicapFault::BadNumber,
-            "the board's size does not allow this number of handicap stones",
-        ),
-    ] {
+    for (fault, text) in &HANDICAP_TEXTS {
         assert_equal(&rt, fault.to_string(rt.alloc())?.as_str(), text);
     }
-    for (fault, text) in [
-        (PlayFault::Full, "the record of moves is full"),
-        (PlayFault::OffBoard, "the point is off the board"),
-        (PlayFault::Occupied, "the point is occupied"),
-        (PlayFault::Suicide, "the stone would have no liberty"),
-        (
-            PlayFault::Ko,
-            "the board would be the same as an earlier one",
-        ),
-    ] {
+    for (fault, text) in &PLAY_TEXTS {
         assert_equal(&rt, fault.to_string(rt.alloc())?.as_str(), text);
     }
     let nothing = NothingToUndo.to_string(rt.alloc())?;

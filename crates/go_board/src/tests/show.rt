@@ -3,7 +3,7 @@ use super::{new_game, play_all};
 use crate::equal::assert_equal_for;
 
 /// The lines of a board, the moves, and the text.
-static SHOWN: [(u32, &str, &str); 4] = [
+static SHOWN: [(u32, &str, &str); 5] = [
     (1, "", ". 1\nA\ncaptures B 0 W 0"),
     (2, "", ". . 2\n. . 1\nA B\ncaptures B 0 W 0"),
     (2, "bA1 wB1 bA2 wB2", ". O 2\n. O 1\nA B\ncaptures B 0 W 2"),
@@ -12,6 +12,7 @@ static SHOWN: [(u32, &str, &str); 4] = [
         "bA2 wC1 bB1 wB2 bD4 wA1 bpass wpass bB1",
         ". . . X 4\n. . . . 3\nX O . . 2\n. X O . 1\nA B C D\ncaptures B 1 W 1",
     ),
+    (25, "bZ10 wA9", LARGEST),
 ];
 
 /// The largest board, with a stone in each of the rows 9 and 10.
@@ -46,8 +47,7 @@ captures B 0 W 0";
 
 #[test]
 fn row_numbers_and_letters_are_not_padded(rt: HostRuntime) {
-    let largest = (25, "bZ10 wA9", LARGEST);
-    for (lines, moves, text) in SHOWN.iter().chain([&largest]) {
+    for (lines, moves, text) in &SHOWN {
         let mut game = new_game(&rt, *lines);
         play_all(&rt, &mut game, moves);
         assert_equal_for(&rt, moves, game.show().as_slice(), text.as_bytes());
