@@ -76,43 +76,44 @@ fn the_status_stays_where_nothing_can_be_told(rt: HostRuntime) -> Result<(), Fai
     Ok(())
 }
 
+/// Failures, the status that follows each, and its line.
+static FAILURES: [(Failure, u8, &str); 6] = [
+    (Failure::BadArgument, 2, "gtp_engine: bad argument\n"),
+    (Failure::OutOfMemory, 3, "gtp_engine: out of memory\n"),
+    (
+        Failure::Serve(ServeFault::Read),
+        3,
+        "gtp_engine: read fault\n",
+    ),
+    (
+        Failure::Serve(ServeFault::Write),
+        3,
+        "gtp_engine: write fault\n",
+    ),
+    (
+        Failure::Serve(ServeFault::TooManyReads),
+        3,
+        "gtp_engine: too many reads\n",
+    ),
+    (
+        Failure::NoNullDevice,
+        3,
+        "gtp_engine: a standard stream is closed, and /dev/null can't be opened\n",
+    ),
+];
+
 #[test]
-fn each_failure_is_told_in_a_line(rt: HostRuntime) -> Result<(), Fail> {
-    let cases = [
-        (
-            Failure::of_arguments(ErrorKind::InvalidData),
-            2,
-            "bad argument",
-        ),
-        (
-            Failure::of_arguments(ErrorKind::OutOfMemory),
-            3,
-            "out of memory",
-        ),
-        (Failure::Serve(ServeFault::Read), 3, "read fault"),
-        (Failure::Serve(ServeFault::Write), 3, "write fault"),
-        (
-            Failure::Serve(ServeFault::TooManyReads),
-            3,
-            "too many reads",
-        ),
-        (
-            Failure::NoNullDevice,
-            3,
-            "a standard stream is closed, and /dev/null can't be opened",
-        ),
-    ];
-    for (failure, status, text) in cases {
+fn each_failure_is_told_in_a_line(rt: HostRuntime) {
+    for (failure, status, line) in &FAILURES {
         let mut errors = Vec::new(rt.alloc());
-        let told = tell(failure, &mut Counted::new(&mut errors));
-        assert_equal_for(&rt, text, told, status);
-        let mut line = Vec::new(rt.alloc());
-        for part in ["gtp_engine: ", text, "\n"] {
-            line.extend_from_slice(part.as_bytes())?;
-        }
-        assert_equal(&rt, errors.as_slice(), line.as_slice());
+        let told = tell(*failure, &mut Counted::new(&mut errors));
+        assert_equal_for(&rt, line, told, *status);
+        assert_equal(&rt, errors.as_slice(), line.as_bytes());
     }
-    Ok(())
+    let no_text = Failure::of_arguments(ErrorKind::InvalidData);
+    assert_equal(&rt, no_text, Failure::BadArgument);
+    let no_memory = Failure::of_arguments(ErrorKind::OutOfMemory);
+    assert_equal(&rt, no_memory, Failure::OutOfMemory);
 }
 
 #[test]

@@ -71,7 +71,7 @@ fn positional_ko_outlives_two_passes(rt: HostRuntime) -> Result<(), Fail> {
         let mut wanted = Vec::new(rt.alloc());
         wanted.extend_from_slice(FRONT)?;
         wanted.extend_from_slice(end)?;
-        assert_answers(&rt, &["--ko", rule], CORNER, wanted.as_slice())?;
+        assert_answers(&rt, &["--ko", *rule], CORNER, wanted.as_slice())?;
     }
     Ok(())
 }

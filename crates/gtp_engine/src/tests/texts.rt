@@ -68,13 +68,13 @@ fn help_goes_to_the_output_with_status_0(rt: HostRuntime) -> Result<(), Fail> {
         let text = if *is_help {
             help.as_slice()
         } else {
-            b"gtp_engine 1.0\n"
+            b"gtp_engine 1.0\n".as_slice()
         };
         let mut output = Holding::new(rt.alloc());
         let mut errors = Vec::new(rt.alloc());
         let status = run(
             rt.alloc(),
-            words,
+            *words,
             &mut Counted::new(b"1 name\n".as_slice()),
             &mut Counted::new(&mut output),
             &mut Counted::new(&mut errors),
