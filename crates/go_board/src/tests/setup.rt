@@ -1,9 +1,8 @@
 //! Handicap stones, size and komi.
-use super::{assert_board, new_game, new_game_under, play_all};
+use super::{assert_board, at, new_game, new_game_under, play_all};
 use crate::equal::{assert_equal, assert_equal_for, some};
 use crate::{Game, HandicapFault, KoRule, NothingToUndo};
-use go_base::{Colour, Komi, Size, Vertex};
-use std::test::Fail;
+use go_base::{Colour, Komi, Size};
 
 /// Places `stones` handicap stones, and returns how many points they have.
 fn place_handicap(game: &mut Game, stones: u32) -> Result<usize, HandicapFault> {
@@ -12,20 +11,18 @@ fn place_handicap(game: &mut Game, stones: u32) -> Result<usize, HandicapFault> 
 }
 
 #[test]
-fn handicap_stones_stay(rt: HostRuntime) -> Result<(), Fail> {
+fn handicap_stones_stay(rt: HostRuntime) {
     let mut game = new_game(&rt, 19);
     assert_equal(&rt, game.undo(), Err(NothingToUndo));
-    let points = game.place_handicap(2)?;
-    assert_equal(&rt, points.len(), 2);
+    let points = some(&rt, game.place_handicap(2).ok());
+    let corners = [at(&rt, 4, 4), at(&rt, 16, 16)];
+    assert_equal(&rt, points.as_slice(), corners.as_slice());
     assert_equal(&rt, game.undo(), Err(NothingToUndo));
     play_all(&rt, &mut game, "wK10 undo");
     assert_equal(&rt, game.undo(), Err(NothingToUndo));
     assert_equal(&rt, game.handicap(), 2);
-    for (point, name) in points.iter().zip(["D4", "Q16"]) {
-        assert_equal(&rt, Vertex::read(name.as_bytes()), Some(Vertex::At(*point)));
-        assert_equal(&rt, game.at(*point), Some(Colour::Black));
-    }
-    Ok(())
+    assert_equal(&rt, game.at(at(&rt, 4, 4)), Some(Colour::Black));
+    assert_equal(&rt, game.at(at(&rt, 16, 16)), Some(Colour::Black));
 }
 
 /// The moves before, the number of stones, and the cause that they are refused for.
@@ -39,7 +36,7 @@ static HANDICAPS: [(&str, u32, HandicapFault); 6] = [
 ];
 
 #[test]
-fn handicap_needs_an_untouched_board(rt: HostRuntime) -> Result<(), Fail> {
+fn handicap_needs_an_untouched_board(rt: HostRuntime) {
     let mut game = new_game(&rt, 9);
     for (moves, stones, fault) in &HANDICAPS {
         game.clear();
@@ -58,21 +55,20 @@ fn handicap_needs_an_untouched_board(rt: HostRuntime) -> Result<(), Fail> {
         &game,
         "......... ......... ..X.X.X.. ......... ..X.X.X.. ......... ..X.X.X.. ......... .........",
     );
-    Ok(())
 }
 
 #[test]
 fn a_new_size_keeps_the_komi_and_the_rule(rt: HostRuntime) {
-    let komi = Komi::from_half_points(13);
+    let komi = some(&rt, Komi::from_half_points(13));
     let mut game = new_game_under(&rt, 9, KoRule::Positional);
-    game.set_komi(some(&rt, komi));
+    game.set_komi(komi);
     assert_equal(&rt, place_handicap(&mut game, 2), Ok(2));
     play_all(&rt, &mut game, "wA1");
     game.set_size(some(&rt, Size::new(2)));
     assert_board(&rt, &game, ".. ..");
     assert_equal(&rt, game.handicap(), 0);
     assert_equal(&rt, game.moves().len(), 0);
-    assert_equal(&rt, Some(game.komi()), komi);
+    assert_equal(&rt, game.komi(), komi);
     assert_equal(&rt, game.rule(), KoRule::Positional);
     assert_equal(&rt, new_game(&rt, 4).rule(), KoRule::Simple);
 }

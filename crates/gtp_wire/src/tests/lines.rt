@@ -76,14 +76,13 @@ fn a_line_is_an_id_and_words(rt: HostRuntime) {
     }
 }
 
-/// Whether the last of these pieces ends a line that is a command.
-fn is_command(pieces: &[&[u8]]) -> Option<bool> {
+/// Whether a newline after these three pieces ends a line that is a command.
+fn is_command(front: &[u8], middle: &[u8], end: &[u8]) -> Option<bool> {
     let mut reader = LineReader::new();
-    let mut told = None;
-    for piece in pieces {
-        told = reader.feed(piece).line;
-    }
-    match told? {
+    reader.feed(front);
+    reader.feed(middle);
+    reader.feed(end);
+    match reader.feed(b"\n").line? {
         Line::Command(_) => Some(true),
         Line::TooLong => Some(false),
     }
@@ -92,15 +91,15 @@ fn is_command(pieces: &[&[u8]]) -> Option<bool> {
 #[test]
 fn the_words_of_a_line_have_at_most_1000_bytes(rt: HostRuntime) {
     let letters = [b'x'; 987];
-    let name = b"known_command ".as_slice();
-    let is_whole = is_command(&[name, &letters[..986], b"\n"]);
-    assert_equal(&rt, is_whole, Some(true));
-    assert_equal(&rt, is_command(&[name, &letters, b"\n"]), Some(false));
-    let with_id = is_command(&[b"7 ", name, &letters[..985], b"\n"]);
+    let whole = is_command(b"known_command ", &letters[..986], b"");
+    assert_equal(&rt, whole, Some(true));
+    let longer = is_command(b"known_command ", &letters, b"");
+    assert_equal(&rt, longer, Some(false));
+    let with_id = is_command(b"7 known_command ", &letters[..985], b"");
     assert_equal(&rt, with_id, Some(false));
     // Neither a comment nor spaces count.
-    assert_equal(&rt, is_command(&[b"#", name, &letters, b"\n"]), None);
+    let comment = is_command(b"# known_command ", &letters, b"");
+    assert_equal(&rt, comment, None);
     let spaces = [b' '; 5000];
-    let is_whole = is_command(&[&spaces, b"name", &spaces, b"\n"]);
-    assert_equal(&rt, is_whole, Some(true));
+    assert_equal(&rt, is_command(&spaces, b"name", &spaces), Some(true));
 }
