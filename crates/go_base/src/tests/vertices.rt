@@ -21,28 +21,13 @@ static POINTS: [(&str, u32, u32); 9] = [
     ("Q10", 16, 10),
 ];
 
-/// Other texts, and the pass that each spells, if it spells one.
-static OTHERS: [(&str, Option<Vertex>); 20] = [
-    ("pass", Some(Vertex::Pass)),
-    ("PASS", Some(Vertex::Pass)),
-    ("pAsS", Some(Vertex::Pass)),
-    ("", None),
-    ("A", None),
-    ("1", None),
-    ("I5", None),
-    ("i5", None),
-    ("A0", None),
-    ("A26", None),
-    ("A01", None),
-    ("B01", None),
-    ("Z26", None),
-    ("AA1", None),
-    ("A1 ", None),
-    ("A+1", None),
-    ("1A", None),
-    ("pas", None),
-    ("passs", None),
-    ("resign", None),
+/// Spellings of a pass.
+static PASSES: [&str; 3] = ["pass", "PASS", "pAsS"];
+
+/// Texts that spell no vertex.
+static OTHERS: [&str; 17] = [
+    "", "A", "1", "I5", "i5", "A0", "A26", "A01", "B01", "Z26", "AA1", "A1 ", "A+1", "1A", "pas",
+    "passs", "resign",
 ];
 
 #[test]
@@ -51,8 +36,11 @@ fn vertices_in_every_spelling(rt: HostRuntime) {
         let wanted = Some(at(&rt, *column, *row));
         assert_equal_for(&rt, text, Vertex::read(text.as_bytes()), wanted);
     }
-    for (text, wanted) in &OTHERS {
-        assert_equal_for(&rt, text, Vertex::read(text.as_bytes()), *wanted);
+    for text in &PASSES {
+        assert_equal_for(&rt, text, Vertex::read(text.as_bytes()), Some(Vertex::Pass));
+    }
+    for text in &OTHERS {
+        assert_equal_for(&rt, text, Vertex::read(text.as_bytes()), None);
     }
 }
 
@@ -74,33 +62,33 @@ fn vertices_are_written_in_capitals(rt: HostRuntime) {
     assert_equal(&rt, Vertex::Pass.write().as_slice(), b"pass".as_slice());
 }
 
-/// Texts, and the choice that each spells, if it spells one.
-static CHOICES: [(&str, Option<Choice>); 14] = [
-    ("resign", Some(Choice::Resign)),
-    ("RESIGN", Some(Choice::Resign)),
-    ("Resign", Some(Choice::Resign)),
-    ("rEsIgN", Some(Choice::Resign)),
-    ("PaSs", Some(Choice::Play(Vertex::Pass))),
-    ("", None),
-    ("resig", None),
-    ("resigns", None),
-    ("resign ", None),
-    (" resign", None),
-    ("re", None),
-    ("I5", None),
-    ("A26", None),
-    ("D4 D5", None),
+/// Spellings of a resignation.
+static RESIGNS: [&str; 4] = ["resign", "RESIGN", "Resign", "rEsIgN"];
+
+/// Texts that spell no choice.
+static NO_CHOICES: [&str; 9] = [
+    "", "resig", "resigns", "resign ", " resign", "re", "I5", "A26", "D4 D5",
 ];
 
 #[test]
 fn choices_are_resign_in_any_case_or_vertices(rt: HostRuntime) {
-    for (text, wanted) in &CHOICES {
-        assert_equal_for(&rt, text, Choice::read(text.as_bytes()), *wanted);
+    for text in &RESIGNS {
+        assert_equal_for(
+            &rt,
+            text,
+            Choice::read(text.as_bytes()),
+            Some(Choice::Resign),
+        );
+    }
+    for text in &NO_CHOICES {
+        assert_equal_for(&rt, text, Choice::read(text.as_bytes()), None);
     }
     for text in ["J5", "j5"] {
         let wanted = Some(Choice::Play(at(&rt, 9, 5)));
         assert_equal_for(&rt, text, Choice::read(text.as_bytes()), wanted);
     }
+    let pass = Choice::read(b"PaSs");
+    assert_equal(&rt, pass, Some(Choice::Play(Vertex::Pass)));
 }
 
 /// Columns, and the letter of each.
