@@ -1,18 +1,24 @@
-//! Equality in tests.
+//! What tests assert. What an assertion of std writes is proved anew wherever it stands, and a call isn't: so tests call
+//! these.
 use std::fmt::Debug;
 use std::process::Abort;
 
-/// Both are equal. What `assert_eq!` writes is proved anew wherever it stands, and a call isn't: so tests call this.
+/// Both are equal.
 pub fn assert_equal<T: PartialEq + Debug + Drop>(rt: &impl Abort, left: T, right: T) {
     assert_eq!(rt; left, right);
 }
 
-/// The same, where the case is told beside the two.
-pub fn assert_equal_for<C: Debug + Drop, T: PartialEq + Debug + Drop>(
+/// The same, where the case is told beside each of the two.
+pub fn assert_equal_for<C: PartialEq + Debug + Drop, T: PartialEq + Debug + Drop>(
     rt: &impl Abort,
     case: C,
     left: T,
     right: T,
 ) {
-    assert_eq!(rt; left, right, "{case:?}");
+    assert_equal(rt, (&case, left), (&case, right));
+}
+
+/// What is there.
+pub fn some<T>(rt: &impl Abort, found: Option<T>) -> T {
+    found.expect(rt, "nothing is there")
 }

@@ -1,7 +1,5 @@
-//! Examples of the values and their spellings, from the tables of the page of values, and each reader against a plain
-//! slow reading of short texts.
+//! Examples of the values and their spellings, from the tables of the page of values.
 mod handicaps;
 mod komis;
-mod slow;
 mod values;
 mod vertices;

@@ -1,49 +1,57 @@
-//! Examples worked out by hand, and games of random moves beside those of a slow game.
-mod captures;
-mod ko;
+//! Examples worked out by hand, and games of random moves beside those of a plain and of a slow game.
 mod legal;
 mod plain;
 mod positional;
+mod positions;
 mod random;
 mod refusals;
-mod score;
 mod setup;
 mod show;
 mod slow;
 
-use crate::equal::{assert_equal, assert_equal_for};
-use crate::{Game, KoRule, PlayFault};
-use go_base::{Colour, Komi, Point, Size, Vertex};
+use crate::equal::{assert_equal, assert_equal_for, assert_true, some};
+use crate::{Game, KoRule};
+use go_base::{Colour, Komi, Move, Point, Size, Vertex};
 use std::process::Abort;
 
 /// A game on a board of `lines` lines each way, with no komi.
 fn new_game(rt: &impl Abort, lines: u32) -> Game {
-    let size = Size::new(lines).expect(rt, "a size");
-    let komi = Komi::from_half_points(0).expect(rt, "a komi");
+    let size = some(rt, Size::new(lines));
+    let komi = some(rt, Komi::from_half_points(0));
     Game::new(size, komi)
 }
 
 /// The same under a ko rule.
 fn new_game_under(rt: &impl Abort, lines: u32, rule: KoRule) -> Game {
-    let size = Size::new(lines).expect(rt, "a size");
-    let komi = Komi::from_half_points(0).expect(rt, "a komi");
+    let size = some(rt, Size::new(lines));
+    let komi = some(rt, Komi::from_half_points(0));
     Game::with_rule(size, komi, rule)
 }
 
-/// The vertex of this name.
-fn vertex(rt: &impl Abort, name: &str) -> Vertex {
-    Vertex::read(name.as_bytes()).expect(rt, "a vertex")
+/// The point of a column and a row, which are 1 to 25.
+fn at(rt: &impl Abort, column: u32, row: u32) -> Point {
+    some(rt, Point::new(column, row))
 }
 
-fn play(rt: &impl Abort, game: &mut Game, colour: Colour, name: &str) -> Result<(), PlayFault> {
-    game.play(colour, vertex(rt, name))
+/// The move of a word: the colour's letter, and behind it the vertex, as in `bD4` and `wpass`.
+fn read_move(rt: &impl Abort, word: &str) -> Move {
+    let (letter, vertex) = some(rt, word.as_bytes().split_first());
+    Move {
+        colour: some(rt, Colour::read(&[*letter])),
+        vertex: some(rt, Vertex::read(vertex)),
+    }
 }
 
-/// Plays one move after the other. Each must be accepted.
-fn play_all(rt: &impl Abort, game: &mut Game, moves: &[(Colour, &str)]) {
-    for (colour, name) in moves {
-        let answer = play(rt, game, *colour, name);
-        assert_equal_for(rt, name, answer, Ok(()));
+/// Plays the moves of a text one after the other, with spaces between. The word `undo` takes one back. Each call must be
+/// accepted.
+fn play_all(rt: &impl Abort, game: &mut Game, moves: &str) {
+    for word in moves.split_whitespace() {
+        if word == "undo" {
+            assert_true(rt, game.undo().is_ok());
+        } else {
+            let made = read_move(rt, word);
+            assert_equal_for(rt, word, game.play(made.colour, made.vertex), Ok(()));
+        }
     }
 }
 
@@ -55,20 +63,18 @@ fn mark(stone: Option<Colour>) -> u8 {
     }
 }
 
-/// Compares each point with a drawing, which has the highest row first: `X` is Black's stone, `O` White's.
-fn assert_board(rt: &impl Abort, game: &Game, drawing: &[&str]) {
+/// Compares each point with a drawing: the rows from the highest one down, with spaces between, `X` for Black's stone and
+/// `O` for White's.
+fn assert_board(rt: &impl Abort, game: &Game, drawing: &str) {
     let lines = game.size().get();
-    assert_equal(rt, drawing.len(), lines as usize);
-    for (row, text) in (1..=lines).rev().zip(drawing) {
+    let mut rows = drawing.split_whitespace();
+    for row in (1..=lines).rev() {
+        let text = some(rt, rows.next());
         assert_equal(rt, text.len(), lines as usize);
-        for (column, want) in (1..=lines).zip(text.bytes()) {
-            let point = Point::new(column, row).expect(rt, "a point");
-            assert_eq!(rt; mark(game.at(point)), want, "column {column}, row {row}");
+        for (column, wanted) in (1..=lines).zip(text.bytes()) {
+            let stone = mark(game.at(at(rt, column, row)));
+            assert_equal_for(rt, (drawing, column, row), stone, wanted);
         }
     }
-}
-
-fn assert_captured(rt: &impl Abort, game: &Game, black: u32, white: u32) {
-    assert_equal(rt, game.captured(Colour::Black), black);
-    assert_equal(rt, game.captured(Colour::White), white);
+    assert_equal(rt, rows.next(), None);
 }

@@ -1,10 +1,10 @@
 //! Games of moves drawn from the legal ones, beside the game in its plainest form.
-use super::new_game_under;
 use super::plain::{MOVES, PlainGame};
-use crate::equal::assert_equal;
+use super::{at, new_game_under};
+use crate::equal::{assert_equal, assert_equal_for, assert_true, some};
 use crate::{Game, KoRule, PlayFault};
 use arrayvec::ArrayVec;
-use go_base::{Colour, Move, Point, Vertex};
+use go_base::{Colour, Move, Vertex};
 use rand_core::{Rng, SeedableRng};
 use rand_pcg::Pcg64;
 use std::process::Abort;
@@ -14,10 +14,6 @@ const GAMES: u32 = 200;
 
 /// The most legal moves of a colour: a play on each point of the largest board, and a pass.
 const LEGAL: usize = 82;
-
-fn at(rt: &impl Abort, column: u32, row: u32) -> Point {
-    Point::new(column, row).expect(rt, "a point")
-}
 
 /// Compares two games by their moves and captures, and point by point.
 fn assert_same(rt: &impl Abort, game: &Game, plain: &PlainGame) {
@@ -29,11 +25,7 @@ fn assert_same(rt: &impl Abort, game: &Game, plain: &PlainGame) {
     for row in 1..=lines {
         for column in 1..=lines {
             let point = at(rt, column, row);
-            assert_eq!(rt;
-                game.at(point),
-                plain.at(point),
-                "column {column}, row {row}"
-            );
+            assert_equal_for(rt, (column, row), game.at(point), plain.at(point));
         }
     }
 }
@@ -86,7 +78,7 @@ fn legal_moves(
             };
             let allowed = game.legal(made.colour, made.vertex);
             let wanted = plain.legal(made.colour, made.vertex);
-            assert_eq!(rt; allowed, wanted, "column {column}, row {row}");
+            assert_equal_for(rt, (column, row), allowed, wanted);
             if allowed {
                 let _ = legal.try_push(made);
             } else {
@@ -112,7 +104,7 @@ fn step(
         .next_u64()
         .checked_rem(legal.len() as u64)
         .unwrap_or(0);
-    let made = legal.get(number as usize).copied().expect(rt, "a move");
+    let made = some(rt, legal.get(number as usize).copied());
     assert_equal(rt, game.play(made.colour, made.vertex), Ok(()));
     assert_equal(rt, plain.play(made.colour, made.vertex), Ok(()));
     assert_same(rt, game, plain);
@@ -129,7 +121,7 @@ fn take_all_back(rt: &impl Abort, game: &mut Game, plain: &mut PlainGame, refuse
             let _ = legal_moves(rt, game, plain, Colour::White, refused);
         }
     }
-    assert!(rt; game.moves().is_empty());
+    assert_true(rt, game.moves().is_empty());
 }
 
 #[test]
@@ -159,8 +151,8 @@ fn games_of_legal_moves_go_as_plain_ones(rt: HostRuntime) {
         taken = taken.saturating_add(game.captured(Colour::Black));
         take_all_back(&rt, &mut game, &mut plain, &mut refused);
     }
-    assert!(rt; taken > 0);
-    assert!(rt; refused.occupied > 0);
-    assert!(rt; refused.suicide > 0);
-    assert!(rt; refused.ko > 0);
+    assert_true(&rt, taken > 0);
+    assert_true(&rt, refused.occupied > 0);
+    assert_true(&rt, refused.suicide > 0);
+    assert_true(&rt, refused.ko > 0);
 }

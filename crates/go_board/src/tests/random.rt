@@ -1,9 +1,9 @@
 //! Games of random moves, legal ones and others, beside the same games of a slow game.
-use super::new_game;
 use super::slow::SlowGame;
-use crate::equal::assert_equal;
+use super::{at, new_game};
+use crate::equal::{assert_equal, assert_equal_for, assert_true};
 use crate::{Game, NothingToUndo, PlayFault};
-use go_base::{Colour, Move, Point, Vertex};
+use go_base::{Colour, Move, Vertex};
 use std::process::Abort;
 use std::test::Fail;
 
@@ -43,10 +43,6 @@ impl Draws {
     }
 }
 
-fn at(rt: &impl Abort, column: u32, row: u32) -> Point {
-    Point::new(column, row).expect(rt, "a point")
-}
-
 /// Compares two games by their moves, captures and scores, and point by point.
 fn assert_same(rt: &impl Abort, game: &Game, slow: &SlowGame) {
     assert_equal(rt, game.moves(), slow.moves());
@@ -58,11 +54,7 @@ fn assert_same(rt: &impl Abort, game: &Game, slow: &SlowGame) {
     for row in 1..=lines {
         for column in 1..=lines {
             let point = at(rt, column, row);
-            assert_eq!(rt;
-                game.at(point),
-                slow.at(point),
-                "column {column}, row {row}"
-            );
+            assert_equal_for(rt, (column, row), game.at(point), slow.at(point));
         }
     }
 }
@@ -78,11 +70,8 @@ fn assert_same_legal(rt: &impl Abort, game: &Game, slow: &SlowGame) {
                     vertex: Vertex::At(at(rt, column, row)),
                 };
                 let wanted = slow.legal(made.colour, made.vertex);
-                assert_eq!(rt;
-                    game.legal(made.colour, made.vertex),
-                    wanted,
-                    "column {column}, row {row}"
-                );
+                let legal = game.legal(made.colour, made.vertex);
+                assert_equal_for(rt, (column, row), legal, wanted);
             }
         }
     }
@@ -156,7 +145,7 @@ fn random_games_go_as_slow_ones(rt: HostRuntime) -> Result<(), Fail> {
         }
         assert_same_legal(&rt, &game, &slow);
     }
-    assert!(rt; suicides > 0);
-    assert!(rt; kos > 0);
+    assert_true(&rt, suicides > 0);
+    assert_true(&rt, kos > 0);
     Ok(())
 }

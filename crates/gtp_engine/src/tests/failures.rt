@@ -76,48 +76,44 @@ fn the_status_stays_where_nothing_can_be_told(rt: HostRuntime) -> Result<(), Fai
     Ok(())
 }
 
-#[test]
-fn arguments_that_cannot_be_collected_are_told(rt: HostRuntime) -> Result<(), Fail> {
-    let cases = [
-        (ErrorKind::InvalidData, 2, "gtp_engine: bad argument\n"),
-        (ErrorKind::OutOfMemory, 3, "gtp_engine: out of memory\n"),
-    ];
-    for (kind, status, text) in cases {
-        let mut errors = Vec::new(rt.alloc());
-        let failure = Failure::of_arguments(kind);
-        assert_equal(&rt, tell(failure, &mut Counted::new(&mut errors)), status);
-        assert_equal(&rt, errors.as_slice(), text.as_bytes());
-    }
-    Ok(())
-}
+/// Failures, the status that follows each, and its line.
+static FAILURES: [(Failure, u8, &str); 6] = [
+    (Failure::BadArgument, 2, "gtp_engine: bad argument\n"),
+    (Failure::OutOfMemory, 3, "gtp_engine: out of memory\n"),
+    (
+        Failure::Serve(ServeFault::Read),
+        3,
+        "gtp_engine: read fault\n",
+    ),
+    (
+        Failure::Serve(ServeFault::Write),
+        3,
+        "gtp_engine: write fault\n",
+    ),
+    (
+        Failure::Serve(ServeFault::TooManyReads),
+        3,
+        "gtp_engine: too many reads\n",
+    ),
+    (
+        Failure::NoNullDevice,
+        3,
+        "gtp_engine: a standard stream is closed, and /dev/null can't be opened\n",
+    ),
+];
 
 #[test]
-fn each_fault_of_a_conversation_is_told(rt: HostRuntime) -> Result<(), Fail> {
-    let cases = [
-        (ServeFault::Read, "gtp_engine: read fault\n"),
-        (ServeFault::Write, "gtp_engine: write fault\n"),
-        (ServeFault::TooManyReads, "gtp_engine: too many reads\n"),
-    ];
-    for (fault, text) in cases {
+fn each_failure_is_told_in_a_line(rt: HostRuntime) {
+    for (failure, status, line) in &FAILURES {
         let mut errors = Vec::new(rt.alloc());
-        assert_equal(
-            &rt,
-            tell(Failure::Serve(fault), &mut Counted::new(&mut errors)),
-            3,
-        );
-        assert_equal(&rt, errors.as_slice(), text.as_bytes());
+        let told = tell(*failure, &mut Counted::new(&mut errors));
+        assert_equal_for(&rt, line, told, *status);
+        assert_equal(&rt, errors.as_slice(), line.as_bytes());
     }
-    Ok(())
-}
-
-#[test]
-fn a_closed_stream_without_a_null_device_is_told(rt: HostRuntime) -> Result<(), Fail> {
-    let mut errors = Vec::new(rt.alloc());
-    let status = tell(Failure::NoNullDevice, &mut Counted::new(&mut errors));
-    assert_equal(&rt, status, 3);
-    let line = "gtp_engine: a standard stream is closed, and /dev/null can't be opened\n";
-    assert_equal(&rt, errors.as_slice(), line.as_bytes());
-    Ok(())
+    let no_text = Failure::of_arguments(ErrorKind::InvalidData);
+    assert_equal(&rt, no_text, Failure::BadArgument);
+    let no_memory = Failure::of_arguments(ErrorKind::OutOfMemory);
+    assert_equal(&rt, no_memory, Failure::OutOfMemory);
 }
 
 #[test]

@@ -6,22 +6,39 @@ use std::test::Fail;
 /// Two genmoves that succeed, after one that fails.
 static GENMOVES: &[u8] = b"genmove\n1 genmove b\n2 name\n3 genmove w\n4 name\n";
 
+/// Arguments with a fault that stops, and what is written before.
+static STOPS: [(&[&str], &[u8]); 7] = [
+    (&["--fault", "stop:1"], b"? syntax error\n\n"),
+    (
+        &["--fault", "stop:2"],
+        b"? syntax error\n\n=1 A1\n\n=2 stepgo\n\n",
+    ),
+    (
+        &["--fault", "cut:2:6"],
+        b"? syntax error\n\n=1 A1\n\n=2 stepgo\n\n=3 B1\n",
+    ),
+    (&["--fault", "cut:1:0"], b"? syntax error\n\n"),
+    (
+        &["--policy", "first", "--fault", "stop:1"],
+        b"? syntax error\n\n",
+    ),
+    (
+        &["--policy", "random", "--seed", "7", "--fault", "stop:1"],
+        b"? syntax error\n\n",
+    ),
+    (
+        &["--policy", "book", "--book", "C3", "--fault", "stop:1"],
+        b"? syntax error\n\n",
+    ),
+];
+
 #[test]
 fn a_fault_that_stops_is_status_4_without_a_text(rt: HostRuntime) -> Result<(), Fail> {
-    let cases: [(&str, &[u8]); 4] = [
-        ("stop:1", b"? syntax error\n\n"),
-        ("stop:2", b"? syntax error\n\n=1 A1\n\n=2 stepgo\n\n"),
-        (
-            "cut:2:6",
-            b"? syntax error\n\n=1 A1\n\n=2 stepgo\n\n=3 B1\n",
-        ),
-        ("cut:1:0", b"? syntax error\n\n"),
-    ];
-    for (fault, output) in cases {
-        let ran = run_with(rt.alloc(), &["--fault", fault], GENMOVES)?;
-        assert_equal_for(&rt, fault, ran.output.as_slice(), output);
-        assert_equal_for(&rt, fault, ran.errors.len(), 0);
-        assert_equal_for(&rt, fault, ran.status, 4);
+    for (arguments, output) in &STOPS {
+        let ran = run_with(rt.alloc(), arguments, GENMOVES)?;
+        assert_equal_for(&rt, arguments, ran.output.as_slice(), output);
+        assert_equal_for(&rt, arguments, ran.errors.len(), 0);
+        assert_equal_for(&rt, arguments, ran.status, 4);
     }
     Ok(())
 }
@@ -55,27 +72,6 @@ fn a_bad_fault_is_told_after_a_bad_book(rt: HostRuntime) -> Result<(), Fail> {
             &["--fault", fault, "--book", "C3,D44"],
             "gtp_engine: bad book\n",
         )?;
-    }
-    Ok(())
-}
-
-#[test]
-fn a_fault_is_met_under_every_policy(rt: HostRuntime) -> Result<(), Fail> {
-    let lists: [&[&str]; 3] = [
-        &["--policy", "first", "--fault", "stop:1"],
-        &["--policy", "random", "--seed", "7", "--fault", "stop:1"],
-        &["--policy", "book", "--book", "C3", "--fault", "stop:1"],
-    ];
-    for arguments in lists {
-        let ran = run_with(rt.alloc(), arguments, b"1 name\ngenmove b\n2 name\n")?;
-        assert_equal_for(
-            &rt,
-            arguments,
-            ran.output.as_slice(),
-            b"=1 stepgo\n\n".as_slice(),
-        );
-        assert_equal_for(&rt, arguments, ran.errors.len(), 0);
-        assert_equal_for(&rt, arguments, ran.status, 4);
     }
     Ok(())
 }

@@ -1,35 +1,9 @@
 //! The help and the version.
-use super::{Holding, assert_answers, assert_refuses, run_with};
-use crate::equal::{assert_equal, assert_equal_for};
+use super::Holding;
+use crate::equal::assert_equal_for;
 use crate::run::run;
 use gtp_session::streams::Counted;
-use std::process::Abort;
-use std::str;
 use std::test::Fail;
-
-#[test]
-fn help_goes_to_the_output_with_status_0(rt: HostRuntime) -> Result<(), Fail> {
-    for word in ["--help", "-h"] {
-        let ran = run_with(rt.alloc(), &[word], b"1 name\n")?;
-        assert_equal(&rt, ran.status, 0);
-        assert_equal(&rt, ran.errors.len(), 0);
-        let text = str::from_utf8(ran.output.as_slice())?;
-        for part in [
-            "Usage: gtp_engine [OPTIONS]\n",
-            "--policy <POLICY>",
-            "--seed <N>",
-            "--ko <RULE>",
-            "--book <TEXT>",
-            "--fault <TEXT>",
-            "--help",
-            "--version",
-        ] {
-            assert!(rt; text.contains(part), "{part} in {text}");
-        }
-        assert_equal(&rt, text.matches("Usage: ").count(), 1);
-    }
-    Ok(())
-}
 
 /// The lines of the help.
 static HELP: [&str; 39] = [
@@ -74,50 +48,42 @@ static HELP: [&str; 39] = [
     "More: man gtp_engine",
 ];
 
-/// Run with this word, the program hands on the text once, whole.
-fn assert_hands_on<R: Abort + AllocGlobal>(rt: &R, word: &str, text: &[u8]) -> Result<(), Fail> {
-    let mut output = Holding::new(rt.alloc());
-    let mut errors = Vec::new(rt.alloc());
-    let words = ["gtp_engine", word];
-    let status = run(
-        rt.alloc(),
-        words.as_slice(),
-        &mut Counted::new(b"1 name\n".as_slice()),
-        &mut Counted::new(&mut output),
-        &mut Counted::new(&mut errors),
-    );
-    assert_equal_for(rt, word, status, 0);
-    assert_equal_for(rt, word, output.handed_on.as_slice(), text);
-    assert_equal_for(rt, word, output.held.len(), 0);
-    assert_equal_for(rt, word, output.flushes, 1);
-    assert_equal_for(rt, word, errors.len(), 0);
-    Ok(())
-}
+/// Words that ask for a text, and whether it is the help.
+static REQUESTS: [(&[&str], bool); 4] = [
+    (&["gtp_engine", "--help"], true),
+    (&["gtp_engine", "-h"], true),
+    (&["gtp_engine", "--version"], false),
+    (&["gtp_engine", "-V", "--policy", "third"], false),
+];
 
+/// It is handed on whole and once.
 #[test]
-fn what_is_asked_for_is_handed_on_whole_and_once(rt: HostRuntime) -> Result<(), Fail> {
+fn help_goes_to_the_output_with_status_0(rt: HostRuntime) -> Result<(), Fail> {
     let mut help = Vec::new(rt.alloc());
     for line in &HELP {
         help.extend_from_slice(line.as_bytes())?;
         help.push(b'\n')?;
     }
-    assert_hands_on(&rt, "--help", help.as_slice())?;
-    assert_hands_on(&rt, "-h", help.as_slice())?;
-    assert_hands_on(&rt, "--version", b"gtp_engine 1.0\n")
-}
-
-#[test]
-fn the_version_goes_to_the_output_with_status_0(rt: HostRuntime) -> Result<(), Fail> {
-    assert_answers(&rt, &["--version"], b"1 name\n", b"gtp_engine 1.0\n")?;
-    assert_answers(
-        &rt,
-        &["-V", "--policy", "third"],
-        b"1 name\n",
-        b"gtp_engine 1.0\n",
-    )?;
-    assert_refuses(
-        &rt,
-        &["--policy", "third", "--version"],
-        "error: invalid value 'third'",
-    )
+    for (words, is_help) in &REQUESTS {
+        let text = if *is_help {
+            help.as_slice()
+        } else {
+            b"gtp_engine 1.0\n".as_slice()
+        };
+        let mut output = Holding::new(rt.alloc());
+        let mut errors = Vec::new(rt.alloc());
+        let status = run(
+            rt.alloc(),
+            *words,
+            &mut Counted::new(b"1 name\n".as_slice()),
+            &mut Counted::new(&mut output),
+            &mut Counted::new(&mut errors),
+        );
+        assert_equal_for(&rt, words, status, 0);
+        assert_equal_for(&rt, words, output.handed_on.as_slice(), text);
+        assert_equal_for(&rt, words, output.held.len(), 0);
+        assert_equal_for(&rt, words, output.flushes, 1);
+        assert_equal_for(&rt, words, errors.len(), 0);
+    }
+    Ok(())
 }
