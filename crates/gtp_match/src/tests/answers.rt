@@ -1,6 +1,6 @@
-use super::steps::{answer, black_answered, ended, first_sent, send_and_wait};
+use super::steps::{answer, black_answered, ended, first_sent};
 use crate::equal::{assert_equal, assert_true};
-use crate::{Action, ForfeitCause, Verdict, record_line};
+use crate::{ForfeitCause, Verdict, record_line};
 use go_base::Side;
 use std::process::Abort;
 

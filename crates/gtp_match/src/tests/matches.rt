@@ -1,12 +1,11 @@
 use super::steps::{
     Exchange, answer, black_answered, black_asked, both_started, bring, converse, ended,
-    first_sent, hear, line, send, send_and_wait, setup_with, start, up,
+    first_sent, hear, send, send_and_wait, setup_with, start, up,
 };
 use crate::equal::{assert_equal, assert_true, some};
-use crate::{Action, Match, Status, Verdict, record_line, result_line};
+use crate::{Action, Status, Verdict, record_line, result_line};
 use arrayvec::ArrayVec;
 use go_base::Side;
-use std::process::Abort;
 
 #[test]
 fn two_passes_end_by_score(rt: HostRuntime) {
@@ -138,42 +137,23 @@ fn a_verdict_once_given_stays(rt: HostRuntime) {
     );
 }
 
-/// Sends a command as `send` does, and counts it.
-fn counted(rt: &impl Abort, played: &mut Match, side: Side, line: &[u8], so_far: u32) -> u32 {
-    send(rt, played, side, line);
-    so_far.saturating_add(1)
-}
-
-/// Brings a side through its script as `bring` does, and counts the commands.
-fn bring_counted(rt: &impl Abort, played: &mut Match, side: Side, so_far: u32) -> u32 {
-    let sent = counted(rt, played, side, b"1 boardsize 2\n", so_far);
-    answer(rt, played, side, b"=1\n\n");
-    let sent = counted(rt, played, side, b"2 komi 0\n", sent);
-    answer(rt, played, side, b"=2\n\n");
-    let sent = counted(rt, played, side, b"3 clear_board\n", sent);
-    answer(rt, played, side, b"=3\n\n");
-    sent
-}
-
 #[test]
 fn a_match_in_which_each_genmove_of_black_is_lost_stays_below_its_bound(rt: HostRuntime) {
     let mut played = both_started(&rt, setup_with(&rt, 2, 0, 0, 10, 1));
-    let sent = bring_counted(&rt, &mut played, Side::Black, 0);
-    let sent = bring_counted(&rt, &mut played, Side::White, sent);
-    let sent = counted(&rt, &mut played, Side::Black, b"4 genmove b\n", sent);
+    let black = bring(&rt, &mut played, Side::Black);
+    let white = bring(&rt, &mut played, Side::White);
+    send(&rt, &mut played, Side::Black, b"4 genmove b\n");
     played.lost(Side::Black);
     start(&rt, &mut played, Side::Black);
-    let sent = bring_counted(&rt, &mut played, Side::Black, sent);
-    let sent = counted(&rt, &mut played, Side::Black, b"4 genmove b\n", sent);
+    let again = bring(&rt, &mut played, Side::Black);
+    send(&rt, &mut played, Side::Black, b"4 genmove b\n");
     played.lost(Side::Black);
     let text = b"game 1: abandoned black moves 0 restarts 1 0";
-    ended(
-        &rt,
-        &played,
-        Verdict::Abandoned(Side::Black),
-        text.as_slice(),
-    );
+    let verdict = Verdict::Abandoned(Side::Black);
+    ended(&rt, &played, verdict, text.as_slice());
     // Black's script and `genmove` twice, and White's script.
+    let scripts = black.saturating_add(white).saturating_add(again);
+    let sent = scripts.saturating_add(2);
     assert_equal(&rt, sent, 2 * (3 + 1) + 3);
     // Of two sides, each started twice at most, and each engine sent at most 74.
     assert_true(&rt, sent <= 296);

@@ -3,7 +3,6 @@ use crate::equal::{assert_equal, some};
 use crate::{Setup, SetupFault};
 use go_base::{Colour, Komi, Move, Size, Vertex};
 use gtp_wire::Command;
-use std::test::Fail;
 
 #[test]
 fn a_setup_names_the_first_cause(rt: HostRuntime) {

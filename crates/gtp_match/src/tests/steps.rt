@@ -73,16 +73,19 @@ pub fn both_started(rt: &impl Abort, setup: Setup) -> Match {
 /// A command that a side is sent, and the bytes by which it answers.
 pub type Exchange<'a> = (Side, &'a [u8], &'a [u8]);
 
-/// These commands are sent, each answered before the next.
-pub fn converse(rt: &impl Abort, played: &mut Match, exchanges: &[Exchange]) {
+/// These commands are sent, each answered before the next. Returns how many.
+pub fn converse(rt: &impl Abort, played: &mut Match, exchanges: &[Exchange]) -> u32 {
+    let mut sent: u32 = 0;
     for (side, line, bytes) in exchanges {
         send(rt, played, *side, line);
+        sent = sent.saturating_add(1);
         answer(rt, played, *side, bytes);
     }
+    sent
 }
 
-/// Brings a side of size 2 and komi 0 through the three commands of its script, each answered before the next is sent.
-pub fn bring(rt: &impl Abort, played: &mut Match, side: Side) {
+/// Brings a side of size 2 and komi 0 through the three commands of its script, as `converse` does.
+pub fn bring(rt: &impl Abort, played: &mut Match, side: Side) -> u32 {
     converse(
         rt,
         played,
@@ -91,7 +94,7 @@ pub fn bring(rt: &impl Abort, played: &mut Match, side: Side) {
             (side, b"2 komi 0\n", b"=2\n\n"),
             (side, b"3 clear_board\n", b"=3\n\n"),
         ],
-    );
+    )
 }
 
 /// A match of size 2, komi 0 and 10 moves with both sides in step.
