@@ -6,7 +6,6 @@ use crate::precedence::Precedence;
 use crate::starter::{PipeFault, StartFault, StartReason};
 use crate::system::{pipe_fault_of, start_fault_of};
 use std::io::ErrorKind;
-use std::process::Abort;
 use std::test::Fail;
 use std::{io, str};
 
