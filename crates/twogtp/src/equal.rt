@@ -1,5 +1,5 @@
-//! What the tests share of `assert_eq!` and the like. The text that such a macro writes is proved anew wherever it stands,
-//! and a call isn't: so tests call these.
+//! What tests assert. What an assertion of std writes is proved anew wherever it stands, and a call isn't: so tests call
+//! these.
 use std::fmt::Debug;
 use std::process::Abort;
 
@@ -18,7 +18,7 @@ pub fn assert_equal_for<C: Debug + Drop, T: PartialEq + Debug + Drop>(
     assert_eq!(rt; left, right, "{case:?}");
 }
 
-/// It is so in this case.
-pub fn assert_true_for<C: Debug + Drop>(rt: &impl Abort, case: C, is_so: bool) {
-    assert!(rt; is_so, "{case:?}");
+/// It holds in this case.
+pub fn assert_true_for<C: Debug + Drop>(rt: &impl Abort, case: C, holds: bool) {
+    assert!(rt; holds, "{case:?}");
 }

@@ -321,21 +321,19 @@ pub type Log = Rc<Counts>;
 
 /// Nothing was done yet.
 pub fn new_log(alloc: Global) -> Result<Log, AllocError> {
-    Rc::new(
-        alloc,
-        Counts {
-            started: Cell::new(0),
-            ended: Cell::new(0),
-            quits: Cell::new(0),
-            ended_by_quit: Cell::new(0),
-            flushed: Cell::new(0),
-            flushed_by_quits: Cell::new(0),
-            flushed_by_starts: Cell::new(0),
-            writes: Cell::new(0),
-            let_run: Cell::new(0),
-            interrupted: Cell::new(0),
-        },
-    )
+    let counts = Counts {
+        started: Cell::new(0),
+        ended: Cell::new(0),
+        quits: Cell::new(0),
+        ended_by_quit: Cell::new(0),
+        flushed: Cell::new(0),
+        flushed_by_quits: Cell::new(0),
+        flushed_by_starts: Cell::new(0),
+        writes: Cell::new(0),
+        let_run: Cell::new(0),
+        interrupted: Cell::new(0),
+    };
+    Ok(Rc::new(alloc, counts)?)
 }
 
 /// Counts one more.
