@@ -1,5 +1,5 @@
-//! What the tests share of `assert_eq!` and the like. The text that such a macro writes is proved anew wherever it stands,
-//! and a call isn't: so tests call these.
+//! What tests assert. What an assertion of std writes is proved anew wherever it stands, and a call isn't: so tests call
+//! these.
 use std::fmt::Debug;
 use std::process::Abort;
 
@@ -8,12 +8,12 @@ pub fn assert_equal<T: PartialEq + Debug + Drop>(rt: &impl Abort, left: T, right
     assert_eq!(rt; left, right);
 }
 
-/// It is so.
-pub fn assert_true(rt: &impl Abort, is_so: bool) {
-    assert!(rt; is_so);
+/// It holds.
+pub fn assert_true(rt: &impl Abort, holds: bool) {
+    assert!(rt; holds);
 }
 
 /// What is there.
-pub fn some<T>(rt: &impl Abort, option: Option<T>) -> T {
-    option.expect(rt, "a value")
+pub fn some<T>(rt: &impl Abort, found: Option<T>) -> T {
+    found.expect(rt, "nothing is there")
 }

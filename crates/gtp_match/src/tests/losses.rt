@@ -41,7 +41,7 @@ pub fn told(rt: &impl Abort, loss: Option<Loss>, cause: LossCause, want: Owes)
 }
 
 /// A side is lost by these bytes, and no refusal in them is retaken.
-pub fn loses(
+fn loses(
     rt: &impl Abort,
     played: &mut Match,
     side: Side,
@@ -55,7 +55,7 @@ pub fn loses(
 }
 
 /// Nothing is reported of these bytes: no side is lost by them, and no refusal in them is retaken.
-pub fn goes_on(rt: &impl Abort, played: &mut Match, side: Side, bytes: &[u8]) {
+fn goes_on(rt: &impl Abort, played: &mut Match, side: Side, bytes: &[u8]) {
     let report = played.hear_telling(side, bytes);
     assert_true(rt, report.retake.is_none());
     assert_true(rt, report.loss.is_none());
@@ -71,7 +71,7 @@ fn side_owes(rt: &impl Abort, played: &Match, side: Side, want: Owes) {
 }
 
 /// Black, which was sent its first command alone, is lost by these bytes.
-pub fn first_loses(rt: &impl Abort, bytes: &[u8], cause: LossCause, shown: &[u8]) {
+fn first_loses(rt: &impl Abort, bytes: &[u8], cause: LossCause, shown: &[u8]) {
     let mut played = first_sent(rt, 1);
     loses(
         rt,
