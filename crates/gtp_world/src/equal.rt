@@ -1,8 +1,19 @@
-//! Equality in tests.
+//! What tests assert. What an assertion of std writes is proved anew wherever it stands, and a call isn't: so tests call
+//! these.
 use std::fmt::Debug;
 use std::process::Abort;
 
-/// Both are equal. What `assert_eq!` writes is proved anew wherever it stands, and a call isn't: so tests call this.
+/// Both are equal.
 pub fn assert_equal<T: PartialEq + Debug + Drop>(rt: &impl Abort, left: T, right: T) {
     assert_eq!(rt; left, right);
+}
+
+/// It holds.
+pub fn assert_true(rt: &impl Abort, holds: bool) {
+    assert!(rt; holds);
+}
+
+/// What is there.
+pub fn some<T>(rt: &impl Abort, found: Option<T>) -> T {
+    found.expect(rt, "nothing is there")
 }

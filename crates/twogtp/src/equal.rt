@@ -1,8 +1,9 @@
-//! Equality in tests.
+//! What tests assert. What an assertion of std writes is proved anew wherever it stands, and a call isn't: so tests call
+//! these.
 use std::fmt::Debug;
 use std::process::Abort;
 
-/// Both are equal. What `assert_eq!` writes is proved anew wherever it stands, and a call isn't: so tests call this.
+/// Both are equal.
 pub fn assert_equal<T: PartialEq + Debug + Drop>(rt: &impl Abort, left: T, right: T) {
     assert_eq!(rt; left, right);
 }
@@ -15,4 +16,9 @@ pub fn assert_equal_for<C: Debug + Drop, T: PartialEq + Debug + Drop>(
     right: T,
 ) {
     assert_eq!(rt; left, right, "{case:?}");
+}
+
+/// It holds in this case.
+pub fn assert_true_for<C: Debug + Drop>(rt: &impl Abort, case: C, holds: bool) {
+    assert!(rt; holds, "{case:?}");
 }

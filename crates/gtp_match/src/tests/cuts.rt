@@ -1,6 +1,6 @@
 //! Bytes that show a fault, heard whole and in two pieces.
 use super::steps::{black_asked, first_sent, hear, up};
-use crate::equal::assert_equal;
+use crate::equal::{assert_equal, assert_true, some};
 use crate::{Action, Match, SideFault, Status};
 use go_base::Side;
 use std::process::Abort;
@@ -45,7 +45,7 @@ impl Place {
     fn assert_down(self, rt: &impl Abort, played: &Match) {
         assert_equal(rt, played.status(self.side()), Status::Down);
         assert_equal(rt, played.next(), self.after_the_fault());
-        assert!(rt; played.game().moves().is_empty());
+        assert_true(rt, played.game().moves().is_empty());
     }
 }
 
@@ -68,8 +68,8 @@ fn assert_whole(rt: &impl Abort, place: Place, bytes: &[u8], fault: SideFault) {
 
 /// So do they in two pieces, of which the first shows nothing and leaves the side as it stands.
 fn assert_cut(rt: &impl Abort, place: Place, bytes: &[u8], at: usize, fault: SideFault) {
-    let first = bytes.get(..at).expect(rt, "the first piece");
-    let second = bytes.get(at..).expect(rt, "the second piece");
+    let first = some(rt, bytes.get(..at));
+    let second = some(rt, bytes.get(at..));
     let mut played = place.begin(rt);
     let (status, next) = (played.status(place.side()), played.next());
     hear(rt, &mut played, place.side(), first, first.len(), None);

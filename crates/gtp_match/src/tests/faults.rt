@@ -1,98 +1,51 @@
-use super::steps::{answer, black_asked, ended, first_sent, hear, up};
-use crate::equal::assert_equal;
+use super::steps::{answer, ended, first_sent, hear, up};
+use crate::equal::{assert_equal, assert_true};
 use crate::{Action, Match, SideFault, Status, Verdict, result_line};
 use go_base::Side;
 use std::process::Abort;
 use std::test::Fail;
 
-#[test]
-fn a_wrong_id_puts_the_side_down(rt: HostRuntime) {
-    let mut played = first_sent(&rt, 1);
-    hear(
-        &rt,
-        &mut played,
-        Side::Black,
-        b"=2 D4\n\n",
-        7,
-        Some(SideFault::WrongId),
-    );
-    assert_equal(&rt, played.status(Side::Black), Status::Down);
-    assert_equal(&rt, played.next(), Action::Start(Side::Black));
+/// Bytes of a side, how many of them are used, and the fault that they show where Black was sent its first command.
+type Shown<'a> = (Side, &'a [u8], usize, SideFault);
+
+/// Each fault that a side may show there.
+fn faults(newlines: &[u8]) -> [Shown; 5] {
+    [
+        (Side::Black, b"=2 D4\n\n", 7, SideFault::WrongId),
+        (Side::Black, b"= 1\n\n", 5, SideFault::WrongId),
+        (Side::Black, b"hello", 1, SideFault::NoStatus),
+        (Side::Black, newlines, 8193, SideFault::Overlong),
+        (Side::White, b"=1\n\n", 4, SideFault::Unasked),
+    ]
 }
 
 #[test]
-fn a_missing_id_puts_the_side_down(rt: HostRuntime) {
-    let mut played = first_sent(&rt, 1);
-    hear(
-        &rt,
-        &mut played,
-        Side::Black,
-        b"= 1\n\n",
-        5,
-        Some(SideFault::WrongId),
-    );
-    assert_equal(&rt, played.status(Side::Black), Status::Down);
+fn each_fault_puts_its_side_down_and_the_other_goes_on(rt: HostRuntime) {
+    for (side, bytes, used, fault) in faults(&[b'\n'; 8193]) {
+        let mut played = first_sent(&rt, 1);
+        hear(&rt, &mut played, side, bytes, used, Some(fault));
+        assert_equal(&rt, played.status(side), Status::Down);
+        // What White wrote leaves Black's script to be sent.
+        let next = match side {
+            Side::Black => Action::Start(Side::Black),
+            Side::White => Action::Send(Side::Black),
+        };
+        assert_equal(&rt, played.next(), next);
+    }
 }
 
 #[test]
-fn a_byte_that_begins_no_reply_puts_the_side_down(rt: HostRuntime) {
-    let mut played = first_sent(&rt, 1);
-    hear(
-        &rt,
-        &mut played,
-        Side::Black,
-        b"hello",
-        1,
-        Some(SideFault::NoStatus),
-    );
-    assert_equal(&rt, played.status(Side::Black), Status::Down);
-    assert_equal(&rt, played.next(), Action::Start(Side::Black));
-}
-
-#[test]
-fn a_reply_that_does_not_end_puts_the_side_down(rt: HostRuntime) {
-    let mut played = first_sent(&rt, 1);
-    hear(
-        &rt,
-        &mut played,
-        Side::Black,
-        &[b'\n'; 8193],
-        8193,
-        Some(SideFault::Overlong),
-    );
-    assert_equal(&rt, played.next(), Action::Start(Side::Black));
-}
-
-#[test]
-fn a_reply_that_nothing_asked_for_puts_its_side_down_and_the_other_goes_on(rt: HostRuntime) {
-    let mut played = first_sent(&rt, 1);
-    hear(
-        &rt,
-        &mut played,
-        Side::White,
-        b"=1\n\n",
-        4,
-        Some(SideFault::Unasked),
-    );
-    assert_equal(&rt, played.status(Side::White), Status::Down);
-    assert_equal(&rt, played.next(), Action::Send(Side::Black));
-}
-
-#[test]
-fn blank_lines_and_carriage_returns_before_and_in_a_reply(rt: HostRuntime) {
-    let mut played = first_sent(&rt, 1);
-    answer(&rt, &mut played, Side::Black, b"\n=1\r\n\r\n");
-    assert_equal(&rt, played.status(Side::Black), up(1, 0));
-    let mut played = first_sent(&rt, 1);
-    answer(&rt, &mut played, Side::Black, b"\r\n \n\r\n=1\r \r\n\r\n");
-    assert_equal(&rt, played.status(Side::Black), up(1, 0));
-}
-
-#[test]
-fn an_id_may_have_leading_zeros(rt: HostRuntime) {
-    let mut played = first_sent(&rt, 1);
-    answer(&rt, &mut played, Side::Black, b"=0000000001\n\n");
-    assert_equal(&rt, played.status(Side::Black), up(1, 0));
+fn blank_lines_carriage_returns_and_zeros_beside_an_id(rt: HostRuntime) {
+    let answers: [&[u8]; 3] = [
+        b"\n=1\r\n\r\n",
+        b"\r\n \n\r\n=1\r \r\n\r\n",
+        b"=0000000001\n\n",
+    ];
+    for bytes in answers {
+        let mut played = first_sent(&rt, 1);
+        answer(&rt, &mut played, Side::Black, bytes);
+        assert_equal(&rt, played.status(Side::Black), up(1, 0));
+    }
 }
 
 /// The side, which has no restart, is given up.
@@ -104,24 +57,14 @@ fn given_up(rt: &impl Abort, played: &Match, side: Side) {
     ended(rt, played, Verdict::Abandoned(side), text);
 }
 
-/// The first `used` of these bytes of a side show this fault, and it is given up.
-fn gives_up(rt: &impl Abort, side: Side, bytes: &[u8], used: usize, fault: SideFault) {
-    let mut played = first_sent(rt, 0);
-    assert!(rt; result_line(1, &played).is_none());
-    hear(rt, &mut played, side, bytes, used, Some(fault));
-    given_up(rt, &played, side);
-}
-
 #[test]
-fn without_restarts_each_fault_gives_the_side_up(rt: HostRuntime) {
-    gives_up(&rt, Side::Black, b"=2 D4\n\n", 7, SideFault::WrongId);
-    gives_up(&rt, Side::Black, b"hello", 1, SideFault::NoStatus);
-    gives_up(&rt, Side::Black, &[b'\n'; 8193], 8193, SideFault::Overlong);
-    gives_up(&rt, Side::White, b"=1\n\n", 4, SideFault::Unasked);
-}
-
-#[test]
-fn without_restarts_a_loss_gives_the_side_up(rt: HostRuntime) {
+fn without_restarts_each_fault_and_each_loss_gives_the_side_up(rt: HostRuntime) {
+    for (side, bytes, used, fault) in faults(&[b'\n'; 8193]) {
+        let mut played = first_sent(&rt, 0);
+        assert_true(&rt, result_line(1, &played).is_none());
+        hear(&rt, &mut played, side, bytes, used, Some(fault));
+        given_up(&rt, &played, side);
+    }
     let mut played = first_sent(&rt, 0);
     played.lost(Side::White);
     given_up(&rt, &played, Side::White);
@@ -136,31 +79,6 @@ fn a_side_that_is_down_is_not_heard(rt: HostRuntime) {
     assert_equal(&rt, played.next(), Action::Start(Side::Black));
     played.lost(Side::Black);
     assert_equal(&rt, played.next(), Action::Start(Side::Black));
-}
-
-#[test]
-fn all_bytes_of_a_read_are_heard(rt: HostRuntime) {
-    let mut played = black_asked(&rt, 1);
-    assert_equal(&rt, played.hear_all(Side::Black, b""), None);
-    assert_equal(&rt, played.hear_all(Side::Black, b"=4 A1\n"), None);
-    assert_equal(
-        &rt,
-        played.hear_all(Side::Black, b"\n=5\n\n?"),
-        Some(SideFault::Unasked),
-    );
-    assert_equal(&rt, played.status(Side::Black), Status::Down);
-    assert_equal(&rt, played.game().moves().len(), 1);
-    let mut played = black_asked(&rt, 1);
-    assert_equal(
-        &rt,
-        played.hear_all(Side::Black, b"=4 resign\n\nhello"),
-        None,
-    );
-    assert_equal(
-        &rt,
-        played.next(),
-        Action::Done(Verdict::Resign(Side::Black)),
-    );
 }
 
 #[test]

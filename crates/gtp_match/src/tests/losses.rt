@@ -1,15 +1,11 @@
-//! Why a side is lost by what it wrote, and what it owes.
+//! Why a side is lost by what it wrote, what is shown of that, and what it owes.
 ghost use Rattle.std.specs.Prelude.{IfSome};
 ghost use Rattle.gtp_match.specs.Losing.{CanBeShown};
 
-use super::steps::{
-    answer, black_answered, black_asked, both_started, bring, first_sent, handicap_sent, make_move,
-    refused, send, send_and_wait, setup_with, success, undo_sent,
-};
-use crate::equal::assert_equal;
-use crate::{Action, Loss, LossCause, Match, Owed, SideFault};
-use go_base::{Side, Vertex};
-use go_board::PlayFault;
+use super::steps::{answer, black_asked, first_sent, send, success};
+use crate::equal::{assert_equal, assert_true, some};
+use crate::{Loss, LossCause, Match, Owed, SideFault};
+use go_base::Side;
 use gtp_wire::write_command;
 use std::process::Abort;
 
@@ -24,7 +20,7 @@ pub fn owes(rt: &impl Abort, owed: &Owed, want: Owes)
     assert_equal(rt, owed.unanswered, unanswered);
     assert_equal(rt, owed.bytes.as_slice(), bytes);
     match owed.oldest {
-        None => assert!(rt; line.is_empty()),
+        None => assert_true(rt, line.is_empty()),
         Some(entry) => {
             assert!(rt; entry.id <= 2_147_483_647);
             let text = write_command(Some(entry.id), &entry.command);
@@ -45,7 +41,7 @@ pub fn told(rt: &impl Abort, loss: Option<Loss>, cause: LossCause, want: Owes)
 }
 
 /// A side is lost by these bytes, and no refusal in them is retaken.
-pub fn loses(
+fn loses(
     rt: &impl Abort,
     played: &mut Match,
     side: Side,
@@ -54,15 +50,15 @@ pub fn loses(
     want: Owes,
 ) {
     let report = played.hear_telling(side, bytes);
-    assert!(rt; report.retake.is_none());
+    assert_true(rt, report.retake.is_none());
     told(rt, report.loss, cause, want);
 }
 
 /// Nothing is reported of these bytes: no side is lost by them, and no refusal in them is retaken.
-pub fn goes_on(rt: &impl Abort, played: &mut Match, side: Side, bytes: &[u8]) {
+fn goes_on(rt: &impl Abort, played: &mut Match, side: Side, bytes: &[u8]) {
     let report = played.hear_telling(side, bytes);
-    assert!(rt; report.retake.is_none());
-    assert!(rt; report.loss.is_none());
+    assert_true(rt, report.retake.is_none());
+    assert_true(rt, report.loss.is_none());
 }
 
 /// A side that is up owes this.
@@ -75,7 +71,7 @@ fn side_owes(rt: &impl Abort, played: &Match, side: Side, want: Owes) {
 }
 
 /// Black, which was sent its first command alone, is lost by these bytes.
-pub fn first_loses(rt: &impl Abort, bytes: &[u8], cause: LossCause, shown: &[u8]) {
+fn first_loses(rt: &impl Abort, bytes: &[u8], cause: LossCause, shown: &[u8]) {
     let mut played = first_sent(rt, 1);
     loses(
         rt,
@@ -84,58 +80,6 @@ pub fn first_loses(rt: &impl Abort, bytes: &[u8], cause: LossCause, shown: &[u8]
         bytes,
         cause,
         (1, b"1 boardsize 2\n", shown),
-    );
-}
-
-/// Black, which was sent its first `genmove`, is lost by these bytes.
-pub fn asked_loses(rt: &impl Abort, bytes: &[u8], cause: LossCause, shown: &[u8]) {
-    let mut played = black_asked(rt, 1);
-    loses(
-        rt,
-        &mut played,
-        Side::Black,
-        bytes,
-        cause,
-        (1, b"4 genmove b\n", shown),
-    );
-}
-
-/// Sends a side its next command, whatever it is.
-fn send_next(rt: &impl Abort, played: &mut Match, side: Side) {
-    assert_eq!(rt; played.next(), Action::Send(side));
-    played.send(side);
-}
-
-/// Brings a side of size 3 through the three commands of its script.
-fn bring_3(rt: &impl Abort, played: &mut Match, side: Side) {
-    for id in 1..4 {
-        send_next(rt, played, side);
-        answer(rt, played, side, success(id, b"").as_slice());
-    }
-}
-
-/// On 3x3 these moves were made, Black's first. The side that is next answers its `genmove` with this vertex, which the
-/// board refuses for this cause.
-fn is_illegal(rt: &impl Abort, moves: &[&[u8]], line: &[u8], bytes: &[u8], fault: PlayFault) {
-    let mut played = both_started(rt, setup_with(rt, 3, 0, 0, 10, 1));
-    bring_3(rt, &mut played, Side::Black);
-    bring_3(rt, &mut played, Side::White);
-    let mut side = Side::Black;
-    let mut id: u32 = 4;
-    for name in moves {
-        let vertex = Vertex::read(name).expect(rt, "a vertex");
-        make_move(rt, &mut played, side, id, vertex);
-        side = side.other();
-        id = id.saturating_add(1);
-    }
-    send_next(rt, &mut played, side);
-    loses(
-        rt,
-        &mut played,
-        side,
-        bytes,
-        LossCause::Illegal(fault),
-        (1, line, bytes),
     );
 }
 
@@ -148,179 +92,69 @@ fn a_reply_of_another_id_is_told_whole(rt: HostRuntime) {
 }
 
 #[test]
-fn a_reply_that_nothing_asked_for_is_told_without_a_command(rt: HostRuntime) {
-    let mut played = first_sent(&rt, 1);
-    loses(
-        &rt,
-        &mut played,
-        Side::White,
-        b"=1\n\n",
-        LossCause::Shows(SideFault::Unasked),
-        (0, b"", b"=1\n\n"),
-    );
-}
-
-#[test]
-fn who_fails_at_the_script_is_unfit(rt: HostRuntime) {
-    first_loses(&rt, b"?1 no\n\n", LossCause::Unfit, b"?1 no\n\n");
-    for bytes in [
-        b"=4 C3 C3\n\n".as_slice(),
-        b"=4 C3\n\n".as_slice(),
-        b"?4 C3 G7\n\n".as_slice(),
-    ] {
-        let mut played = handicap_sent(&rt);
-        loses(
-            &rt,
-            &mut played,
-            Side::Black,
-            bytes,
-            LossCause::Unfit,
-            (1, b"4 fixed_handicap 2\n", bytes),
-        );
+fn of_a_text_that_is_no_reply_all_is_shown(rt: HostRuntime) {
+    // The last one has what would be a reply, after what is none.
+    let texts: [&[u8]; 6] = [
+        b"h",
+        b"hello",
+        b"\n\r\nhello",
+        b"\xe4\x00",
+        b"Welcome to MyGo 1.0\n",
+        b"MyGo 1.0\n=1\n\n",
+    ];
+    for bytes in texts {
+        let cause = LossCause::Shows(SideFault::NoStatus);
+        first_loses(&rt, bytes, cause, bytes);
     }
-    let mut played = handicap_sent(&rt);
-    goes_on(&rt, &mut played, Side::Black, b"=4 G7 c3\n\n");
 }
 
 #[test]
-fn who_refuses_its_own_move_is_lost(rt: HostRuntime) {
-    let mut played = black_answered(&rt, b"=4 A1\n\n");
-    played.lost(Side::Black);
-    assert_eq!(rt; played.next(), Action::Start(Side::Black));
-    played.started(Side::Black);
-    bring(&rt, &mut played, Side::Black);
-    send(&rt, &mut played, Side::Black, b"4 play b A1\n");
-    loses(
-        &rt,
-        &mut played,
-        Side::Black,
-        b"?4 no\n\n",
-        LossCause::RefusesPlay,
-        (1, b"4 play b A1\n", b"?4 no\n\n"),
-    );
-}
-
-#[test]
-fn a_refusal_that_is_met_by_a_retake_loses_nobody(rt: HostRuntime) {
-    let mut played = black_answered(&rt, b"=4 A1\n\n");
-    send_and_wait(&rt, &mut played, Side::White, b"4 play b A1\n");
-    let report = played.hear_telling(Side::White, b"?4 no\n\n");
-    assert!(rt; report.loss.is_none());
-    assert_equal(&rt, played.taking_back(), Some(Side::Black));
-    send_and_wait(&rt, &mut played, Side::Black, b"5 undo\n");
-    goes_on(&rt, &mut played, Side::Black, b"=5 done\n\n");
-}
-
-#[test]
-fn who_keeps_its_move_is_told_of(rt: HostRuntime) {
-    let mut played = undo_sent(&rt);
-    loses(
-        &rt,
-        &mut played,
-        Side::Black,
-        b"?5 cannot undo\n\n",
-        LossCause::KeepsMove,
-        (1, b"5 undo\n", b"?5 cannot undo\n\n"),
-    );
-}
-
-#[test]
-fn an_answer_that_is_no_move_is_told(rt: HostRuntime) {
-    asked_loses(&rt, b"?4 A1\n\n", LossCause::NoMove, b"?4 A1\n\n");
-    asked_loses(&rt, b"=4 I5\n\n", LossCause::NoVertex, b"=4 I5\n\n");
-    asked_loses(&rt, b"=4\n\n", LossCause::NoVertex, b"=4\n\n");
-    asked_loses(&rt, b"=4 A1 B2\n\n", LossCause::NoVertex, b"=4 A1 B2\n\n");
-}
-
-#[test]
-fn the_rule_that_a_move_breaks_is_told(rt: HostRuntime) {
-    is_illegal(
-        &rt,
-        &[],
-        b"4 genmove b\n",
-        b"=4 D1\n\n",
-        PlayFault::OffBoard,
-    );
-    is_illegal(
-        &rt,
-        &[b"A1"],
-        b"5 genmove w\n",
-        b"=5 a1\n\n",
-        PlayFault::Occupied,
-    );
-    is_illegal(
-        &rt,
-        &[b"A2", b"pass", b"B1"],
-        b"7 genmove w\n",
-        b"=7 A1\n\n",
-        PlayFault::Suicide,
-    );
-    // White takes the stone on B1 by A1, and Black would take it back at once.
-    is_illegal(
-        &rt,
-        &[b"A2", b"C1", b"B1", b"B2", b"C3", b"A1"],
-        b"10 genmove b\n",
-        b"=10 B1\n\n",
-        PlayFault::Ko,
-    );
-}
-
-#[test]
-fn a_move_and_a_resignation_lose_nothing(rt: HostRuntime) {
-    let mut played = black_asked(&rt, 1);
-    goes_on(&rt, &mut played, Side::Black, b"");
-    goes_on(&rt, &mut played, Side::Black, b"=4 pass\n\n");
-    let mut played = black_asked(&rt, 1);
-    goes_on(&rt, &mut played, Side::Black, b"=4 resign\n\n=5\n\nhello");
-}
-
-#[test]
-fn of_two_replies_in_one_piece_the_one_that_loses_is_told(rt: HostRuntime) {
+fn of_a_long_greeting_the_first_80_bytes_are_kept(rt: HostRuntime) {
+    let cause = LossCause::Shows(SideFault::NoStatus);
+    first_loses(&rt, &[b'W'; 80], cause, &[b'W'; 80]);
+    first_loses(&rt, &[b'W'; 81], cause, &[b'W'; 80]);
+    first_loses(&rt, &[b'W'; 9000], cause, &[b'W'; 80]);
+    // 76 newlines were heard before, so four letters are left of the 80 bytes.
     let mut played = first_sent(&rt, 1);
-    send(&rt, &mut played, Side::Black, b"2 komi 0\n");
-    send(&rt, &mut played, Side::Black, b"3 clear_board\n");
+    goes_on(&rt, &mut played, Side::Black, &[b'\n'; 76]);
+    let mut shown = [b'\n'; 80];
+    for (place, byte) in shown.iter_mut().skip(76).zip(b"hell") {
+        *place = *byte;
+    }
+    let want = (1, b"1 boardsize 2\n".as_slice(), shown.as_slice());
+    loses(&rt, &mut played, Side::Black, b"hello", cause, want);
+}
+
+/// A reply to Black's first `genmove` with `len` letters that comes in two pieces, the first of `cut` bytes, is told by
+/// its first 80 bytes.
+fn is_cut_short(rt: &impl Abort, len: usize, cut: usize) {
+    let reply = success(4, some(rt, [b'x'; 100].get(..len)));
+    let bytes = reply.as_slice();
+    let first = some(rt, bytes.get(..cut));
+    let second = some(rt, bytes.get(cut..));
+    let mut played = black_asked(rt, 1);
+    goes_on(rt, &mut played, Side::Black, first);
+    let shown = &bytes[..bytes.len().min(80)];
+    let want = (1, b"4 genmove b\n".as_slice(), shown);
     loses(
-        &rt,
+        rt,
         &mut played,
         Side::Black,
-        b"=1 a size\n\n?2 no\n\n=3\n\n",
-        LossCause::Unfit,
-        (2, b"2 komi 0\n", b"?2 no\n\n"),
-    );
-    let mut played = first_sent(&rt, 1);
-    loses(
-        &rt,
-        &mut played,
-        Side::Black,
-        b"=1\n\n=2\n\n=3\n\n",
-        LossCause::Shows(SideFault::Unasked),
-        (0, b"", b"=2\n\n"),
+        second,
+        LossCause::NoVertex,
+        want,
     );
 }
 
 #[test]
-fn what_comes_after_a_loss_is_not_told(rt: HostRuntime) {
-    let mut played = first_sent(&rt, 1);
-    loses(
-        &rt,
-        &mut played,
-        Side::Black,
-        b"?1 no\n\n?2 no\n\nhello",
-        LossCause::Unfit,
-        (1, b"1 boardsize 2\n", b"?1 no\n\n"),
-    );
-    goes_on(&rt, &mut played, Side::Black, b"hello");
-    goes_on(&rt, &mut played, Side::White, b"hello");
-    let mut played = first_sent(&rt, 1);
-    loses(
-        &rt,
-        &mut played,
-        Side::Black,
-        b"hello\n?1 no\n\n",
-        LossCause::Shows(SideFault::NoStatus),
-        (1, b"1 boardsize 2\n", b"hello\n?1 no\n\n"),
-    );
-    goes_on(&rt, &mut played, Side::Black, b"?1 no\n\n");
+fn of_an_answer_in_any_cut_the_first_80_bytes_are_kept(rt: HostRuntime) {
+    // `=4 `, 75 letters and two newlines are 80: all of them are kept. From 76 on the end isn't.
+    for (len, cut) in [(75, 0), (75, 79), (76, 0), (76, 80)] {
+        is_cut_short(&rt, len, cut);
+    }
+    for cut in [0, 1, 79, 80, 81, 104] {
+        is_cut_short(&rt, 100, cut);
+    }
 }
 
 #[test]
@@ -351,50 +185,11 @@ fn a_side_that_is_up_owes(rt: HostRuntime) {
 fn nothing_is_told_of_a_side_that_is_down_or_after_the_end(rt: HostRuntime) {
     let mut played = first_sent(&rt, 1);
     played.lost(Side::Black);
-    assert!(rt; played.owed(Side::Black).is_none());
+    assert_true(&rt, played.owed(Side::Black).is_none());
     side_owes(&rt, &played, Side::White, (0, b"", b""));
     let mut played = first_sent(&rt, 1);
     goes_on(&rt, &mut played, Side::White, b"\n");
     answer(&rt, &mut played, Side::Black, b"?1 no\n\n");
-    assert!(rt; played.owed(Side::Black).is_none());
-    assert!(rt; played.owed(Side::White).is_none());
-}
-
-/// Both matches stand alike, as far as a caller can see.
-fn alike(rt: &impl Abort, a: &Match, b: &Match) {
-    assert_equal(rt, a.next(), b.next());
-    assert_equal(rt, a.taking_back(), b.taking_back());
-    assert_equal(rt, a.game().moves(), b.game().moves());
-    assert_equal(rt, a.retakes(1), b.retakes(1));
-    for side in [Side::Black, Side::White] {
-        assert_equal(rt, a.status(side), b.status(side));
-        assert_equal(rt, a.restarts(side), b.restarts(side));
-    }
-}
-
-#[test]
-fn what_is_heard_and_told_of_is_heard_as_ever(rt: HostRuntime) {
-    for bytes in [
-        b"".as_slice(),
-        b"=4 A1\n\n".as_slice(),
-        b"=4 A1\n".as_slice(),
-        b"=4 A1\n\n=5\n\n".as_slice(),
-        b"=4 resign\n\nhello".as_slice(),
-        b"=4 C1\n\nhello".as_slice(),
-        b"hello".as_slice(),
-    ] {
-        let mut told = black_asked(&rt, 1);
-        let mut heard = black_asked(&rt, 1);
-        let _ = told.hear_telling(Side::Black, bytes);
-        let _ = heard.hear_all(Side::Black, bytes);
-        alike(&rt, &told, &heard);
-        let _ = told.hear_telling(Side::Black, b"\n");
-        let _ = heard.hear_all(Side::Black, b"\n");
-        alike(&rt, &told, &heard);
-    }
-    let told = refused(&rt);
-    let mut heard = black_answered(&rt, b"=4 A1\n\n");
-    send_and_wait(&rt, &mut heard, Side::White, b"4 play b A1\n");
-    let _ = heard.hear_telling(Side::White, b"?4 no\n\n");
-    alike(&rt, &told, &heard);
+    assert_true(&rt, played.owed(Side::Black).is_none());
+    assert_true(&rt, played.owed(Side::White).is_none());
 }

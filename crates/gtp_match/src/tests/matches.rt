@@ -1,34 +1,11 @@
 use super::steps::{
-    answer, black_answered, black_asked, both_started, bring, ended, first_sent, hear, line, send,
-    send_and_wait, setup_with, up,
+    Exchange, answer, black_answered, black_asked, both_started, bring, converse, ended,
+    first_sent, hear, send, send_and_wait, setup_with, start, up,
 };
-use crate::equal::assert_equal;
-use crate::{Action, Match, Status, Verdict, record_line, result_line};
+use crate::equal::{assert_equal, assert_true, some};
+use crate::{Action, Status, Verdict, record_line, result_line};
 use arrayvec::ArrayVec;
 use go_base::Side;
-use std::process::Abort;
-
-/// Brings a side of size 1 and the least komi through its script, of which these passes are the end.
-fn bring_small(rt: &impl Abort, played: &mut Match, side: Side) {
-    send(rt, played, side, b"1 boardsize 1\n");
-    answer(rt, played, side, b"=1\n\n");
-    send(rt, played, side, b"2 komi -999999999.5\n");
-    answer(rt, played, side, b"=2\n\n");
-    send(rt, played, side, b"3 clear_board\n");
-    answer(rt, played, side, b"=3\n\n");
-}
-
-/// Brings a side of size 9 with two handicap stones through the four commands of its script.
-fn bring_handicap(rt: &impl Abort, played: &mut Match, side: Side) {
-    send(rt, played, side, b"1 boardsize 9\n");
-    answer(rt, played, side, b"=1\n\n");
-    send(rt, played, side, b"2 komi -3.5\n");
-    answer(rt, played, side, b"=2\n\n");
-    send(rt, played, side, b"3 clear_board\n");
-    answer(rt, played, side, b"=3\n\n");
-    send(rt, played, side, b"4 fixed_handicap 2\n");
-    answer(rt, played, side, b"=4 C3 G7\n\n");
-}
 
 #[test]
 fn two_passes_end_by_score(rt: HostRuntime) {
@@ -43,12 +20,12 @@ fn two_passes_end_by_score(rt: HostRuntime) {
         },
     );
     answer(&rt, &mut played, Side::Black, b"=4 pass\n\n");
-    assert!(rt; played.in_step(Side::Black));
-    assert!(rt; !played.in_step(Side::White));
+    assert_true(&rt, played.in_step(Side::Black));
+    assert_true(&rt, !played.in_step(Side::White));
     send_and_wait(&rt, &mut played, Side::White, b"4 play b pass\n");
     answer(&rt, &mut played, Side::White, b"=4\n\n");
     send_and_wait(&rt, &mut played, Side::White, b"5 genmove w\n");
-    assert!(rt; result_line(1, &played).is_none());
+    assert_true(&rt, result_line(1, &played).is_none());
     answer(&rt, &mut played, Side::White, b"=5 pass\n\n");
     let text = b"game 1: 0 moves 2 restarts 0 0";
     ended(&rt, &played, Verdict::Score(0), text.as_slice());
@@ -61,48 +38,43 @@ fn two_passes_end_by_score(rt: HostRuntime) {
 
 #[test]
 fn score_comes_before_the_limit(rt: HostRuntime) {
+    let passes: [Exchange; 9] = [
+        (Side::Black, b"1 boardsize 1\n", b"=1\n\n"),
+        (Side::Black, b"2 komi -999999999.5\n", b"=2\n\n"),
+        (Side::Black, b"3 clear_board\n", b"=3\n\n"),
+        (Side::White, b"1 boardsize 1\n", b"=1\n\n"),
+        (Side::White, b"2 komi -999999999.5\n", b"=2\n\n"),
+        (Side::White, b"3 clear_board\n", b"=3\n\n"),
+        (Side::Black, b"4 genmove b\n", b"=4 pass\n\n"),
+        (Side::White, b"4 play b pass\n", b"=4\n\n"),
+        (Side::White, b"5 genmove w\n", b"=5 PaSs\n\n"),
+    ];
     let mut played = both_started(&rt, setup_with(&rt, 1, -1_999_999_999, 0, 2, 0));
-    bring_small(&rt, &mut played, Side::Black);
-    bring_small(&rt, &mut played, Side::White);
-    send_and_wait(&rt, &mut played, Side::Black, b"4 genmove b\n");
-    answer(&rt, &mut played, Side::Black, b"=4 pass\n\n");
-    send_and_wait(&rt, &mut played, Side::White, b"4 play b pass\n");
-    answer(&rt, &mut played, Side::White, b"=4\n\n");
-    send_and_wait(&rt, &mut played, Side::White, b"5 genmove w\n");
-    answer(&rt, &mut played, Side::White, b"=5 PaSs\n\n");
+    converse(&rt, &mut played, &passes);
+    let verdict = Action::Done(Verdict::Score(1_999_999_999));
+    assert_equal(&rt, played.next(), verdict);
     assert_equal(
         &rt,
-        played.next(),
-        Action::Done(Verdict::Score(1_999_999_999)),
-    );
-    assert_equal(
-        &rt,
-        result_line(4_294_967_295, &played)
-            .expect(&rt, "an end")
-            .as_slice(),
+        some(&rt, result_line(4_294_967_295, &played)).as_slice(),
         b"game 4294967295: B+999999999.5 moves 2 restarts 0 0".as_slice(),
     );
-    assert!(rt; played.in_step(Side::White));
-    assert!(rt; !played.in_step(Side::Black));
+    assert_true(&rt, played.in_step(Side::White));
+    assert_true(&rt, !played.in_step(Side::Black));
     played.lost(Side::White);
-    assert_equal(
-        &rt,
-        played.next(),
-        Action::Done(Verdict::Score(1_999_999_999)),
-    );
+    assert_equal(&rt, played.next(), verdict);
 }
 
 #[test]
 fn the_last_move_that_is_allowed_ends_by_the_limit(rt: HostRuntime) {
+    let moves: [Exchange; 3] = [
+        (Side::Black, b"4 genmove b\n", b"=4 pass\n\n"),
+        (Side::White, b"4 play b pass\n", b"=4\n\n"),
+        (Side::White, b"5 genmove w\n", b"=5 B2\n\n"),
+    ];
     let mut played = both_started(&rt, setup_with(&rt, 2, 0, 0, 2, 0));
     bring(&rt, &mut played, Side::Black);
     bring(&rt, &mut played, Side::White);
-    send_and_wait(&rt, &mut played, Side::Black, b"4 genmove b\n");
-    answer(&rt, &mut played, Side::Black, b"=4 pass\n\n");
-    send_and_wait(&rt, &mut played, Side::White, b"4 play b pass\n");
-    answer(&rt, &mut played, Side::White, b"=4\n\n");
-    send_and_wait(&rt, &mut played, Side::White, b"5 genmove w\n");
-    answer(&rt, &mut played, Side::White, b"=5 B2\n\n");
+    converse(&rt, &mut played, &moves);
     let text = b"game 1: limit moves 2 restarts 0 0";
     ended(&rt, &played, Verdict::Limit, text.as_slice());
     assert_equal(&rt, record_line(&played).as_slice(), b"pass B2".as_slice());
@@ -115,21 +87,10 @@ fn a_result_line_has_room_for_96_bytes_and_a_record_line_for_10_000(rt: HostRunt
     let record: ArrayVec<u8, 10_000> = record_line(&played);
     assert_equal(
         &rt,
-        told.expect(&rt, "an end").as_slice(),
+        some(&rt, told).as_slice(),
         b"game 1: W+R moves 0 restarts 0 0".as_slice(),
     );
     assert_equal(&rt, record.as_slice(), b"".as_slice());
-}
-
-#[test]
-fn white_moves_first_where_there_is_a_handicap(rt: HostRuntime) {
-    let mut played = both_started(&rt, setup_with(&rt, 9, -7, 2, 10, 0));
-    bring_handicap(&rt, &mut played, Side::Black);
-    bring_handicap(&rt, &mut played, Side::White);
-    send_and_wait(&rt, &mut played, Side::White, b"5 genmove w\n");
-    answer(&rt, &mut played, Side::White, b"=5 Q16\n\n");
-    let text = b"game 1: B+F(illegal move) moves 0 restarts 0 0";
-    assert_equal(&rt, line(&rt, &played).as_slice(), text.as_slice());
 }
 
 #[test]
@@ -138,38 +99,19 @@ fn a_side_that_went_down_gets_the_whole_script_again(rt: HostRuntime) {
     hear(&rt, &mut played, Side::Black, b"=4 A1\n", 6, None);
     played.lost(Side::Black);
     assert_equal(&rt, played.status(Side::Black), Status::Down);
-    assert!(rt; played.game().moves().is_empty());
-    assert!(rt; played.in_step(Side::White));
+    assert_true(&rt, played.game().moves().is_empty());
+    assert_true(&rt, played.in_step(Side::White));
     assert_equal(&rt, played.restarts(Side::Black), 0);
-    assert_eq!(rt; played.next(), Action::Start(Side::Black));
-    played.started(Side::Black);
+    start(&rt, &mut played, Side::Black);
     assert_equal(&rt, played.restarts(Side::Black), 1);
     assert_equal(&rt, played.status(Side::Black), up(0, 0));
     bring(&rt, &mut played, Side::Black);
-    assert!(rt; played.in_step(Side::Black));
+    assert_true(&rt, played.in_step(Side::Black));
     send_and_wait(&rt, &mut played, Side::Black, b"4 genmove b\n");
     hear(&rt, &mut played, Side::Black, b"=4 A1\n", 6, None);
     hear(&rt, &mut played, Side::Black, b"\n", 1, None);
     assert_equal(&rt, record_line(&played).as_slice(), b"A1".as_slice());
-    assert!(rt; played.in_step(Side::Black));
-}
-
-#[test]
-fn the_script_of_a_restarted_side_has_the_moves(rt: HostRuntime) {
-    let mut played = black_asked(&rt, 1);
-    answer(&rt, &mut played, Side::Black, b"=4 A1\n\n");
-    send_and_wait(&rt, &mut played, Side::White, b"4 play b A1\n");
-    played.lost(Side::White);
-    assert_eq!(rt; played.next(), Action::Start(Side::White));
-    played.started(Side::White);
-    bring(&rt, &mut played, Side::White);
-    assert!(rt; !played.in_step(Side::White));
-    send_and_wait(&rt, &mut played, Side::White, b"4 play b A1\n");
-    answer(&rt, &mut played, Side::White, b"=4\n\n");
-    assert!(rt; played.in_step(Side::White));
-    send_and_wait(&rt, &mut played, Side::White, b"5 genmove w\n");
-    assert_equal(&rt, played.restarts(Side::White), 1);
-    assert_equal(&rt, played.restarts(Side::Black), 0);
+    assert_true(&rt, played.in_step(Side::Black));
 }
 
 #[test]
@@ -195,44 +137,24 @@ fn a_verdict_once_given_stays(rt: HostRuntime) {
     );
 }
 
-/// Sends a command as `send` does, and counts it.
-fn counted(rt: &impl Abort, played: &mut Match, side: Side, line: &[u8], so_far: u32) -> u32 {
-    send(rt, played, side, line);
-    so_far.saturating_add(1)
-}
-
-/// Brings a side through its script as `bring` does, and counts the commands.
-fn bring_counted(rt: &impl Abort, played: &mut Match, side: Side, so_far: u32) -> u32 {
-    let sent = counted(rt, played, side, b"1 boardsize 2\n", so_far);
-    answer(rt, played, side, b"=1\n\n");
-    let sent = counted(rt, played, side, b"2 komi 0\n", sent);
-    answer(rt, played, side, b"=2\n\n");
-    let sent = counted(rt, played, side, b"3 clear_board\n", sent);
-    answer(rt, played, side, b"=3\n\n");
-    sent
-}
-
 #[test]
 fn a_match_in_which_each_genmove_of_black_is_lost_stays_below_its_bound(rt: HostRuntime) {
     let mut played = both_started(&rt, setup_with(&rt, 2, 0, 0, 10, 1));
-    let sent = bring_counted(&rt, &mut played, Side::Black, 0);
-    let sent = bring_counted(&rt, &mut played, Side::White, sent);
-    let sent = counted(&rt, &mut played, Side::Black, b"4 genmove b\n", sent);
+    let black = bring(&rt, &mut played, Side::Black);
+    let white = bring(&rt, &mut played, Side::White);
+    send(&rt, &mut played, Side::Black, b"4 genmove b\n");
     played.lost(Side::Black);
-    assert_eq!(rt; played.next(), Action::Start(Side::Black));
-    played.started(Side::Black);
-    let sent = bring_counted(&rt, &mut played, Side::Black, sent);
-    let sent = counted(&rt, &mut played, Side::Black, b"4 genmove b\n", sent);
+    start(&rt, &mut played, Side::Black);
+    let again = bring(&rt, &mut played, Side::Black);
+    send(&rt, &mut played, Side::Black, b"4 genmove b\n");
     played.lost(Side::Black);
     let text = b"game 1: abandoned black moves 0 restarts 1 0";
-    ended(
-        &rt,
-        &played,
-        Verdict::Abandoned(Side::Black),
-        text.as_slice(),
-    );
+    let verdict = Verdict::Abandoned(Side::Black);
+    ended(&rt, &played, verdict, text.as_slice());
     // Black's script and `genmove` twice, and White's script.
+    let scripts = black.saturating_add(white).saturating_add(again);
+    let sent = scripts.saturating_add(2);
     assert_equal(&rt, sent, 2 * (3 + 1) + 3);
     // Of two sides, each started twice at most, and each engine sent at most 74.
-    assert!(rt; sent <= 296);
+    assert_true(&rt, sent <= 296);
 }

@@ -1,8 +1,8 @@
 //! The steps that the tests of matches share.
-use crate::equal::assert_equal;
+use crate::equal::{assert_equal, assert_true, some};
 use crate::{Action, Heard, Match, ResultText, Setup, SideFault, Status, Verdict, result_line};
 use go_base::{Komi, Side, Size, Vertex};
-use gtp_wire::{ReplyText, write_reply_into};
+use gtp_wire::{CommandText, ReplyText, write_reply_into};
 use std::process::Abort;
 
 /// A setup of this size, komi and handicap.
@@ -14,15 +14,29 @@ pub fn setup_with(
     max_moves: u32,
     max_restarts: u32,
 ) -> Setup {
-    let size = Size::new(size).expect(rt, "a size");
-    let komi = Komi::from_half_points(half_points).expect(rt, "a komi");
-    Setup::new(size, komi, handicap, max_moves, max_restarts).expect(rt, "a setup")
+    let size = some(rt, Size::new(size));
+    let komi = some(rt, Komi::from_half_points(half_points));
+    some(
+        rt,
+        Setup::new(size, komi, handicap, max_moves, max_restarts).ok(),
+    )
+}
+
+/// A side is started, which has to come next.
+pub fn start(rt: &impl Abort, played: &mut Match, side: Side) {
+    assert_eq!(rt; played.next(), Action::Start(side));
+    played.started(side);
+}
+
+/// Sends a side its next command, which has to come next.
+pub fn send_next(rt: &impl Abort, played: &mut Match, side: Side) -> CommandText {
+    assert_eq!(rt; played.next(), Action::Send(side));
+    played.send(side)
 }
 
 /// Sends a side its next command, which has to be this line.
 pub fn send(rt: &impl Abort, played: &mut Match, side: Side, line: &[u8]) {
-    assert_eq!(rt; played.next(), Action::Send(side));
-    assert_equal(rt, played.send(side).as_slice(), line);
+    assert_equal(rt, send_next(rt, played, side).as_slice(), line);
 }
 
 /// Sends a side its next command, as `send` does, which the side has to answer before anything else is done.
@@ -51,21 +65,36 @@ pub fn hear(
 /// A match of which both sides are started.
 pub fn both_started(rt: &impl Abort, setup: Setup) -> Match {
     let mut played = Match::new(setup);
-    assert_eq!(rt; played.next(), Action::Start(Side::Black));
-    played.started(Side::Black);
-    assert_eq!(rt; played.next(), Action::Start(Side::White));
-    played.started(Side::White);
+    start(rt, &mut played, Side::Black);
+    start(rt, &mut played, Side::White);
     played
 }
 
-/// Brings a side of size 2 and komi 0 through the three commands of its script, each answered before the next is sent.
-pub fn bring(rt: &impl Abort, played: &mut Match, side: Side) {
-    send(rt, played, side, b"1 boardsize 2\n");
-    answer(rt, played, side, b"=1\n\n");
-    send(rt, played, side, b"2 komi 0\n");
-    answer(rt, played, side, b"=2\n\n");
-    send(rt, played, side, b"3 clear_board\n");
-    answer(rt, played, side, b"=3\n\n");
+/// A command that a side is sent, and the bytes by which it answers.
+pub type Exchange<'a> = (Side, &'a [u8], &'a [u8]);
+
+/// These commands are sent, each answered before the next. Returns how many.
+pub fn converse(rt: &impl Abort, played: &mut Match, exchanges: &[Exchange]) -> u32 {
+    let mut sent: u32 = 0;
+    for (side, line, bytes) in exchanges {
+        send(rt, played, *side, line);
+        sent = sent.saturating_add(1);
+        answer(rt, played, *side, bytes);
+    }
+    sent
+}
+
+/// Brings a side of size 2 and komi 0 through the three commands of its script, as `converse` does.
+pub fn bring(rt: &impl Abort, played: &mut Match, side: Side) -> u32 {
+    converse(
+        rt,
+        played,
+        &[
+            (side, b"1 boardsize 2\n", b"=1\n\n"),
+            (side, b"2 komi 0\n", b"=2\n\n"),
+            (side, b"3 clear_board\n", b"=3\n\n"),
+        ],
+    )
 }
 
 /// A match of size 2, komi 0 and 10 moves with both sides in step.
@@ -73,8 +102,8 @@ pub fn both_in_step(rt: &impl Abort, max_restarts: u32) -> Match {
     let mut played = both_started(rt, setup_with(rt, 2, 0, 0, 10, max_restarts));
     bring(rt, &mut played, Side::Black);
     bring(rt, &mut played, Side::White);
-    assert!(rt; played.in_step(Side::Black));
-    assert!(rt; played.in_step(Side::White));
+    assert_true(rt, played.in_step(Side::Black));
+    assert_true(rt, played.in_step(Side::White));
     played
 }
 
@@ -82,7 +111,7 @@ pub fn both_in_step(rt: &impl Abort, max_restarts: u32) -> Match {
 pub fn black_asked(rt: &impl Abort, max_restarts: u32) -> Match {
     let mut played = both_in_step(rt, max_restarts);
     send_and_wait(rt, &mut played, Side::Black, b"4 genmove b\n");
-    assert!(rt; !played.in_step(Side::Black));
+    assert_true(rt, !played.in_step(Side::Black));
     played
 }
 
@@ -100,29 +129,9 @@ pub fn first_sent(rt: &impl Abort, max_restarts: u32) -> Match {
     played
 }
 
-/// A match of size 9 with two handicap stones, in which Black was sent `fixed_handicap`.
-pub fn handicap_sent(rt: &impl Abort) -> Match {
-    let mut played = both_started(rt, setup_with(rt, 9, -7, 2, 10, 0));
-    send(rt, &mut played, Side::Black, b"1 boardsize 9\n");
-    answer(rt, &mut played, Side::Black, b"=1\n\n");
-    send(rt, &mut played, Side::Black, b"2 komi -3.5\n");
-    answer(rt, &mut played, Side::Black, b"=2 thanks\n\n");
-    send(rt, &mut played, Side::Black, b"3 clear_board\n");
-    answer(rt, &mut played, Side::Black, b"=3\n\n");
-    send(rt, &mut played, Side::Black, b"4 fixed_handicap 2\n");
-    played
-}
-
-/// The same, in which Black answered it with these bytes.
-pub fn handicap_answered(rt: &impl Abort, bytes: &[u8]) -> Match {
-    let mut played = handicap_sent(rt);
-    answer(rt, &mut played, Side::Black, bytes);
-    played
-}
-
 /// The line of a match that has ended, as game 1.
 pub fn line(rt: &impl Abort, played: &Match) -> ResultText {
-    result_line(1, played).expect(rt, "a match that has ended")
+    some(rt, result_line(1, played))
 }
 
 /// The match ended so, and is told by this line.
@@ -140,10 +149,16 @@ pub fn up(confirmed: u32, unanswered: u32) -> Status {
     }
 }
 
-/// Black moved at A1, and White, which was sent that as its command 4, refused it.
-pub fn refused(rt: &impl Abort) -> Match {
+/// Black moved at A1, and White was sent that.
+pub fn white_told(rt: &impl Abort) -> Match {
     let mut played = black_answered(rt, b"=4 A1\n\n");
     send_and_wait(rt, &mut played, Side::White, b"4 play b A1\n");
+    played
+}
+
+/// The same, and White refused it.
+pub fn refused(rt: &impl Abort) -> Match {
+    let mut played = white_told(rt);
     answer(rt, &mut played, Side::White, b"?4 no\n\n");
     played
 }
@@ -161,16 +176,6 @@ pub fn stands(rt: &impl Abort, played: &Match, moves: usize, retakes: u32) {
     assert_equal(rt, played.retakes(1), retakes);
 }
 
-/// Both sides go down and are started again, Black first.
-pub fn start_both_again(rt: &impl Abort, played: &mut Match) {
-    played.lost(Side::Black);
-    played.lost(Side::White);
-    assert_eq!(rt; played.next(), Action::Start(Side::Black));
-    played.started(Side::Black);
-    assert_eq!(rt; played.next(), Action::Start(Side::White));
-    played.started(Side::White);
-}
-
 /// A success of this id and text.
 pub fn success(id: u32, text: &[u8]) -> ReplyText {
     let mut reply = ReplyText::new();
@@ -180,8 +185,7 @@ pub fn success(id: u32, text: &[u8]) -> ReplyText {
 
 /// A side is sent a command, which it has to answer, and answers it by this id and text.
 fn send_and_answer(rt: &impl Abort, played: &mut Match, side: Side, id: u32, text: &[u8]) {
-    assert_eq!(rt; played.next(), Action::Send(side));
-    played.send(side);
+    let _ = send_next(rt, played, side);
     assert_equal(rt, played.next(), Action::Wait(side));
     answer(rt, played, side, success(id, text).as_slice());
 }

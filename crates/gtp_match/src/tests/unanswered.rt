@@ -1,10 +1,10 @@
 //! Commands that are sent before earlier ones are answered.
 use super::steps::{
-    answer, both_in_step, both_started, ended, first_sent, hear, make_move, send, send_and_wait,
-    setup_with, success, up,
+    answer, both_in_step, both_started, hear, make_move, send, send_and_wait, setup_with, start,
+    success, up,
 };
-use crate::equal::assert_equal;
-use crate::{Action, ForfeitCause, Match, SideFault, Status, Verdict};
+use crate::equal::{assert_equal, assert_true, some};
+use crate::{Action, Match};
 use go_base::{Point, Side, Vertex};
 use std::process::Abort;
 
@@ -19,55 +19,17 @@ fn a_script_is_sent_before_its_first_answer(rt: HostRuntime) {
     assert_equal(&rt, played.status(Side::Black), up(1, 2));
     assert_equal(&rt, played.next(), Action::Wait(Side::Black));
     assert_equal(&rt, played.hear_all(Side::Black, b"=2\n\n=3\n\n"), None);
-    assert!(rt; played.in_step(Side::Black));
+    assert_true(&rt, played.in_step(Side::Black));
     assert_equal(&rt, played.next(), Action::Send(Side::White));
-}
-
-#[test]
-fn a_side_that_goes_on_is_sent_more_before_the_other_starts_again(rt: HostRuntime) {
-    let mut played = first_sent(&rt, 1);
-    played.lost(Side::White);
-    send(&rt, &mut played, Side::Black, b"2 komi 0\n");
-    send_and_wait(&rt, &mut played, Side::Black, b"3 clear_board\n");
-    assert_equal(
-        &rt,
-        played.hear_all(Side::Black, b"=1\n\n=2\n\n=3\n\n"),
-        None,
-    );
-    assert_equal(&rt, played.next(), Action::Start(Side::White));
-}
-
-#[test]
-fn the_oldest_command_is_answered_first(rt: HostRuntime) {
-    let mut played = first_sent(&rt, 1);
-    send(&rt, &mut played, Side::Black, b"2 komi 0\n");
-    hear(
-        &rt,
-        &mut played,
-        Side::Black,
-        b"=2\n\n",
-        4,
-        Some(SideFault::WrongId),
-    );
-    assert_equal(&rt, played.status(Side::Black), Status::Down);
-    let mut played = first_sent(&rt, 1);
-    send(&rt, &mut played, Side::Black, b"2 komi 0\n");
-    assert_equal(
-        &rt,
-        played.hear_all(Side::Black, b"=1\n\n=1\n\n"),
-        Some(SideFault::WrongId),
-    );
 }
 
 /// Black and White make `moves` moves each: Black fills the lines from the first on, and White passes.
 fn fill(rt: &impl Abort, played: &mut Match, moves: u32) {
     let lines = played.setup().size().get();
     for number in 0..moves {
-        let column = number.checked_rem(lines).expect(rt, "a column");
-        let row = number.checked_div(lines).expect(rt, "a row");
-        let point = Point::new(column.saturating_add(1), row.saturating_add(1)).expect(
-            rt, "a point",
-        );
+        let column = some(rt, number.checked_rem(lines)).saturating_add(1);
+        let row = some(rt, number.checked_div(lines)).saturating_add(1);
+        let point = some(rt, Point::new(column, row));
         let id = number.saturating_mul(2).saturating_add(4);
         make_move(rt, played, Side::Black, id, Vertex::At(point));
         make_move(rt, played, Side::White, id.saturating_add(1), Vertex::Pass);
@@ -77,8 +39,7 @@ fn fill(rt: &impl Abort, played: &mut Match, moves: u32) {
 /// A side goes down, and is started again.
 fn start_again(rt: &impl Abort, played: &mut Match, side: Side) {
     played.lost(side);
-    assert_eq!(rt; played.next(), Action::Start(side));
-    played.started(side);
+    start(rt, played, side);
     assert_equal(rt, played.status(side), up(0, 0));
 }
 
@@ -88,13 +49,18 @@ fn a_side_started_again_is_sent_eight_commands_before_it_has_to_answer(rt: HostR
     fill(&rt, &mut played, 3);
     assert_equal(&rt, played.game().moves().len(), 6);
     start_again(&rt, &mut played, Side::Black);
-    send(&rt, &mut played, Side::Black, b"1 boardsize 2\n");
-    send(&rt, &mut played, Side::Black, b"2 komi 0\n");
-    send(&rt, &mut played, Side::Black, b"3 clear_board\n");
-    send(&rt, &mut played, Side::Black, b"4 play b A1\n");
-    send(&rt, &mut played, Side::Black, b"5 play w pass\n");
-    send(&rt, &mut played, Side::Black, b"6 play b B1\n");
-    send(&rt, &mut played, Side::Black, b"7 play w pass\n");
+    let lines: [&[u8]; 7] = [
+        b"1 boardsize 2\n",
+        b"2 komi 0\n",
+        b"3 clear_board\n",
+        b"4 play b A1\n",
+        b"5 play w pass\n",
+        b"6 play b B1\n",
+        b"7 play w pass\n",
+    ];
+    for line in lines {
+        send(&rt, &mut played, Side::Black, line);
+    }
     send_and_wait(&rt, &mut played, Side::Black, b"8 play b A2\n");
     assert_equal(&rt, played.status(Side::Black), up(0, 8));
     answer(&rt, &mut played, Side::Black, b"=1\n\n");
@@ -102,7 +68,7 @@ fn a_side_started_again_is_sent_eight_commands_before_it_has_to_answer(rt: HostR
     assert_equal(&rt, played.status(Side::Black), up(1, 8));
     let rest = b"=2\n\n=3\n\n=4\n\n=5\n\n=6\n\n=7\n\n=8\n\n=9\n\n";
     assert_equal(&rt, played.hear_all(Side::Black, rest.as_slice()), None);
-    assert!(rt; played.in_step(Side::Black));
+    assert_true(&rt, played.in_step(Side::Black));
     send_and_wait(&rt, &mut played, Side::Black, b"10 genmove b\n");
 }
 
@@ -150,57 +116,7 @@ fn trips_after_200_moves(rt: &impl Abort, most: u32) -> u32 {
 #[test]
 fn a_game_of_200_moves_is_replayed_in_26_round_trips(rt: HostRuntime) {
     // The script has size, komi, the empty board and the moves: 203 commands. They are sent eight at a time, 25 times,
-    // and then the last three.
+    // and then the last three. One answer at a time makes a round trip of each.
     assert_equal(&rt, trips_after_200_moves(&rt, 300), 26);
-}
-
-#[test]
-fn one_answer_at_a_time_makes_a_round_trip_of_each_command(rt: HostRuntime) {
     assert_equal(&rt, trips_after_200_moves(&rt, 1), 203);
-}
-
-/// A game of 8 moves, the last by White. Black is started again, has the empty board, and was sent all moves at once.
-fn eight_moves_unanswered(rt: &impl Abort) -> Match {
-    let mut played = both_started(rt, setup_with(rt, 19, 0, 0, 300, 1));
-    for side in [Side::Black, Side::White] {
-        assert_equal(rt, round_trip(rt, &mut played, side, 8, 0), 3);
-    }
-    fill(rt, &mut played, 4);
-    start_again(rt, &mut played, Side::Black);
-    assert_equal(rt, round_trip(rt, &mut played, Side::Black, 3, 0), 3);
-    for _ in 0..8 {
-        assert_eq!(rt; played.next(), Action::Send(Side::Black));
-        played.send(Side::Black);
-    }
-    assert_equal(rt, played.status(Side::Black), up(3, 8));
-    assert_equal(rt, played.next(), Action::Wait(Side::Black));
-    played
-}
-
-#[test]
-fn who_refuses_the_first_of_eight_moves_forfeits(rt: HostRuntime) {
-    let mut played = eight_moves_unanswered(&rt);
-    answer(&rt, &mut played, Side::Black, b"?4 no\n\n");
-    let text = b"game 1: W+F(refused play) moves 8 restarts 1 0";
-    let verdict = Verdict::Forfeit(Side::Black, ForfeitCause::RefusedPlay);
-    ended(&rt, &played, verdict, text.as_slice());
-    assert_equal(&rt, played.status(Side::Black), up(3, 8));
-    assert_equal(&rt, played.retakes(1), 0);
-    assert_equal(&rt, played.retakes(8), 0);
-}
-
-#[test]
-fn the_last_of_eight_moves_is_taken_back_where_it_is_refused(rt: HostRuntime) {
-    let mut played = eight_moves_unanswered(&rt);
-    let bytes = b"=4\n\n=5\n\n=6\n\n=7\n\n=8\n\n=9\n\n=10\n\n?11 no\n\n";
-    assert_equal(&rt, played.hear_all(Side::Black, bytes.as_slice()), None);
-    assert_equal(&rt, played.taking_back(), Some(Side::White));
-    assert_equal(&rt, played.retakes(8), 1);
-    assert_equal(&rt, played.status(Side::Black), up(10, 0));
-    send_and_wait(&rt, &mut played, Side::White, b"12 undo\n");
-    answer(&rt, &mut played, Side::White, b"=12\n\n");
-    assert_equal(&rt, played.game().moves().len(), 7);
-    assert!(rt; played.in_step(Side::Black));
-    assert!(rt; played.in_step(Side::White));
-    send(&rt, &mut played, Side::White, b"13 genmove w\n");
 }

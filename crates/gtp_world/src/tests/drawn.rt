@@ -4,7 +4,7 @@ ghost use Rattle.gtp_session.specs.Policy.{IsLawful};
 use super::SIDES;
 use super::same::{assert_same_game, assert_same_world};
 use super::told::Events;
-use crate::equal::assert_equal;
+use crate::equal::{assert_equal, assert_true, some};
 use crate::{Event, Maker, World};
 use go_base::{Colour, Komi, Side, Size, Vertex};
 use go_board::{Game, KoRule};
@@ -160,12 +160,12 @@ impl Draws {
         } else {
             self.below(3).saturating_add(1)
         };
-        let size = Size::new(lines).expect(rt, "a size");
+        let size = some(rt, Size::new(lines));
         let half_points = [0, 1, 13, -7].get(self.below(4) as usize).copied();
-        let komi = Komi::from_half_points(half_points.unwrap_or(0)).expect(rt, "a komi");
+        let komi = some(rt, Komi::from_half_points(half_points.unwrap_or(0)));
         let least = if far { 8 } else { 1 };
         let moves = self.below(12).saturating_add(least);
-        Setup::new(size, komi, 0, moves, self.below(3)).expect(rt, "a setup")
+        some(rt, Setup::new(size, komi, 0, moves, self.below(3)).ok())
     }
 
     /// The ko rules of both sides. In a match that is to get far they differ, so that one side may refuse a move of the
@@ -245,21 +245,26 @@ impl Seen {
 
     /// Everything was seen, and more than once.
     fn assert_all(&self, rt: &impl Abort) {
-        assert!(rt; self.both_in_step >= OFTEN);
-        assert!(rt; self.with_a_move >= OFTEN);
-        assert!(rt; self.starts >= OFTEN);
-        assert!(rt; self.sends >= OFTEN);
-        assert!(rt; self.broken_writes >= OFTEN);
-        assert!(rt; self.readings >= OFTEN);
-        assert!(rt; self.hearings >= OFTEN);
-        assert!(rt; self.crashes >= OFTEN);
-        assert!(rt; self.ends >= OFTEN);
-        assert!(rt; self.without_effect >= OFTEN);
-        assert!(rt; self.verdicts >= OFTEN);
-        assert!(rt; self.refusals >= OFTEN);
-        assert!(rt; self.taken_back >= OFTEN);
-        assert!(rt; self.dropped >= SELDOM);
-        assert!(rt; self.refused_for_good >= SELDOM);
+        for count in [
+            self.both_in_step,
+            self.with_a_move,
+            self.starts,
+            self.sends,
+            self.broken_writes,
+            self.readings,
+            self.hearings,
+            self.crashes,
+            self.ends,
+            self.without_effect,
+            self.verdicts,
+            self.refusals,
+            self.taken_back,
+        ] {
+            assert_true(rt, count >= OFTEN);
+        }
+        for count in [self.dropped, self.refused_for_good] {
+            assert_true(rt, count >= SELDOM);
+        }
     }
 }
 
@@ -271,8 +276,8 @@ fn count_up(count: &mut u64) {
 fn assert_agrees(rt: &impl Abort, world: &DrawnWorld, seen: &mut Seen) {
     let played = world.controller();
     for side in SIDES {
-        assert!(rt; world.to_engine(side).len() <= 512);
-        assert!(rt; world.to_controller(side).len() <= 16_384);
+        assert_true(rt, world.to_engine(side).len() <= 512);
+        assert_true(rt, world.to_controller(side).len() <= 16_384);
         if let Some(game) = world.running(side) {
             if played.in_step(side) {
                 assert_same_game(rt, game, played.game());
@@ -363,7 +368,10 @@ fn watch_end(rt: &impl Abort, world: &DrawnWorld, maker: Side, moves: usize, see
 /// A side takes its move back before anything else is done.
 fn watch_take_back(rt: &impl Abort, world: &DrawnWorld, maker: Side) {
     let next = world.controller().next();
-    assert!(rt; next == Action::Send(maker) || next == Action::Wait(maker));
+    assert_true(
+        rt,
+        next == Action::Send(maker) || next == Action::Wait(maker),
+    );
 }
 
 /// One event happens, before and after which it is looked at what is to be taken back.

@@ -2,7 +2,7 @@
 use super::same::assert_same_world;
 use super::told::{Told, black_lost, black_moved};
 use crate::Event;
-use crate::equal::assert_equal;
+use crate::equal::{assert_equal, assert_true};
 use go_base::Side;
 use gtp_match::{Action, Status};
 use std::process::Abort;
@@ -11,11 +11,11 @@ use std::process::Abort;
 fn a_move_that_was_made_and_not_heard_is_lost_with_its_engine(rt: HostRuntime) {
     let mut told = black_lost(&rt);
     told.step(&rt, Event::Act);
-    assert!(rt; told.world.running(Side::Black).is_some());
-    assert!(rt; !told.in_step(Side::Black));
+    assert_true(&rt, told.world.running(Side::Black).is_some());
+    assert_true(&rt, !told.in_step(Side::Black));
     told.rounds(&rt, Side::Black, 3);
-    assert!(rt; told.in_step(Side::Black));
-    assert!(rt; told.in_step(Side::White));
+    assert_true(&rt, told.in_step(Side::Black));
+    assert_true(&rt, told.in_step(Side::White));
     assert_equal(&rt, told.world.controller().restarts(Side::Black), 1);
     assert_equal(
         &rt,
@@ -59,11 +59,11 @@ fn the_last_byte_of_a_reply_answers(rt: HostRuntime) {
     let mut told = black_moved(&rt);
     told.step(&rt, Event::ToController(Side::Black, 6));
     assert_equal(&rt, told.record_len(), 0);
-    assert!(rt; !told.in_step(Side::Black));
+    assert_true(&rt, !told.in_step(Side::Black));
     told.step(&rt, Event::ToController(Side::Black, 1));
     assert_equal(&rt, told.record_len(), 1);
-    assert!(rt; told.in_step(Side::Black));
-    assert!(rt; !told.in_step(Side::White));
+    assert_true(&rt, told.in_step(Side::Black));
+    assert_true(&rt, !told.in_step(Side::White));
     told.assert_one_run(&rt);
 }
 
@@ -76,23 +76,15 @@ fn broken_after(rt: &impl Abort, sent: usize) -> Told {
 }
 
 #[test]
-fn a_broken_write_loses_the_side(rt: HostRuntime) {
-    let told = broken_after(&rt, 0);
-    assert_equal(&rt, told.status(Side::White), Status::Down);
-    assert_equal(
-        &rt,
-        told.world.controller().next(),
-        Action::Start(Side::White),
-    );
-    assert!(rt; told.world.running(Side::White).is_none());
-    assert_equal(&rt, told.record_len(), 1);
-    told.assert_one_run(&rt);
-}
-
-#[test]
-fn a_write_that_broke_anywhere_leaves_the_same(rt: HostRuntime) {
+fn a_write_that_broke_anywhere_loses_the_side_alike(rt: HostRuntime) {
     let none_sent = broken_after(&rt, 0);
+    assert_equal(&rt, none_sent.status(Side::White), Status::Down);
+    let world = &none_sent.world;
+    assert_equal(&rt, world.controller().next(), Action::Start(Side::White));
+    assert_true(&rt, world.running(Side::White).is_none());
+    assert_equal(&rt, none_sent.record_len(), 1);
+    none_sent.assert_one_run(&rt);
     for sent in 1..=64 {
-        assert_same_world(&rt, &none_sent.world, &broken_after(&rt, sent).world);
+        assert_same_world(&rt, world, &broken_after(&rt, sent).world);
     }
 }

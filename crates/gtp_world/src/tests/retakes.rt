@@ -2,7 +2,7 @@
 ghost use Rattle.gtp_session.specs.Policy.{IsLawful};
 
 use super::{Firsts, small_setup};
-use crate::equal::assert_equal;
+use crate::equal::{assert_equal, assert_true, some};
 use crate::{Event, Maker, World};
 use go_base::{Colour, Side, Vertex};
 use go_board::{Game, KoRule};
@@ -82,7 +82,7 @@ fn refused_world(rt: &impl Abort) -> World<Onces, Firsts> {
     assert_equal(rt, world.controller().taking_back(), Some(Side::Black));
     assert_equal(rt, world.controller().game().moves().len(), 7);
     assert_equal(rt, world.controller().retakes(7), 1);
-    assert!(rt; !world.controller().in_step(Side::White));
+    assert_true(rt, !world.controller().in_step(Side::White));
     assert_equal(rt, world.controller().next(), Action::Send(Side::Black));
     world
 }
@@ -96,8 +96,8 @@ fn a_refused_move_is_taken_back_and_the_match_goes_on(rt: HostRuntime) {
     go_on(&mut world);
     assert_equal(&rt, world.controller().taking_back(), None);
     assert_equal(&rt, world.controller().game().moves().len(), 6);
-    assert!(rt; world.controller().in_step(Side::Black));
-    assert!(rt; world.controller().in_step(Side::White));
+    assert_true(&rt, world.controller().in_step(Side::Black));
+    assert_true(&rt, world.controller().in_step(Side::White));
     for _ in 0..20 {
         go_on(&mut world);
     }
@@ -117,7 +117,7 @@ fn undo_read(rt: &impl Abort) -> World<Onces, Firsts> {
     world.step(Event::Act);
     world.step(Event::ToEngine(Side::Black, 100));
     assert_equal(rt, world.to_controller(Side::Black), b"=11\n\n".as_slice());
-    let game = world.running(Side::Black).expect(rt, "an engine");
+    let game = some(rt, world.running(Side::Black));
     assert_equal(rt, game.moves().len(), 6);
     assert_equal(rt, world.controller().game().moves().len(), 7);
     assert_equal(rt, world.controller().taking_back(), Some(Side::Black));
@@ -129,7 +129,7 @@ fn undo_read(rt: &impl Abort) -> World<Onces, Firsts> {
 fn is_asked_again(rt: &impl Abort, world: &mut World<Onces, Firsts>) {
     assert_equal(rt, world.controller().taking_back(), None);
     assert_equal(rt, world.controller().game().moves().len(), 6);
-    assert!(rt; world.controller().in_step(Side::White));
+    assert_true(rt, world.controller().in_step(Side::White));
     for _ in 0..60 {
         if !(world.controller().in_step(Side::Black) && world.controller().in_step(Side::White)) {
             go_on(world);
@@ -178,24 +178,4 @@ fn the_end_of_a_stream_with_the_answer_to_undo_unheard_takes_the_move_back(rt: H
     assert_equal(&rt, world.to_controller(Side::Black), b"".as_slice());
     is_asked_again(&rt, &mut world);
     is_refused_again(&rt, &mut world);
-}
-
-#[test]
-fn a_maker_that_goes_down_for_good_leaves_the_record_without_its_move(rt: HostRuntime) {
-    let mut world = refused_world(&rt);
-    world.step(Event::End(Side::Black));
-    for _ in 0..60 {
-        if world.controller().taking_back().is_none() {
-            go_on(&mut world);
-        }
-    }
-    assert_equal(&rt, world.controller().taking_back(), Some(Side::Black));
-    assert_equal(&rt, world.controller().retakes(7), 2);
-    world.step(Event::End(Side::Black));
-    assert_equal(&rt, world.controller().game().moves().len(), 6);
-    assert_equal(
-        &rt,
-        world.controller().next(),
-        Action::Done(Verdict::Abandoned(Side::Black)),
-    );
 }

@@ -1,6 +1,6 @@
 //! Games and worlds that are the same.
 use super::SIDES;
-use crate::equal::assert_equal;
+use crate::equal::{assert_equal, some};
 use crate::{Maker, World};
 use go_base::Point;
 use go_board::Game;
@@ -15,7 +15,7 @@ pub fn assert_same_game(rt: &impl Abort, one: &Game, two: &Game) {
     let lines = one.size().get();
     for row in 1..=lines {
         for column in 1..=lines {
-            let point = Point::new(column, row).expect(rt, "a point");
+            let point = some(rt, Point::new(column, row));
             assert_equal(rt, one.at(point), two.at(point));
         }
     }
@@ -48,7 +48,7 @@ pub fn assert_same_world<B: Maker, W: Maker>(
         assert_equal(rt, one.to_controller(side), two.to_controller(side));
         assert_equal(rt, one.running(side).is_some(), two.running(side).is_some());
         if let Some(first) = one.running(side) {
-            assert_same_game(rt, first, two.running(side).expect(rt, "an engine"));
+            assert_same_game(rt, first, some(rt, two.running(side)));
         }
     }
 }

@@ -2,7 +2,7 @@
 use super::SIDES;
 use super::same::assert_same_game;
 use super::told::{Events, Told, black_lost};
-use crate::equal::assert_equal;
+use crate::equal::{assert_equal, assert_true, some};
 use crate::{Event, Maker, World};
 use gtp_match::Status;
 use std::process::Abort;
@@ -40,8 +40,8 @@ fn assert_settles(rt: &impl Abort, told: &mut Told, count: usize) {
     let before = told.record_len();
     told.world.run(events.all(rt));
     for side in SIDES {
-        assert!(rt; told.in_step(side));
-        let game = told.world.running(side).expect(rt, "an engine");
+        assert_true(rt, told.in_step(side));
+        let game = some(rt, told.world.running(side));
         assert_same_game(rt, game, told.world.controller().game());
     }
     assert_equal(rt, told.record_len(), before);
@@ -54,12 +54,8 @@ fn a_new_world_settles_by_twenty_events(rt: HostRuntime) {
 
 #[test]
 fn a_world_that_lost_an_engine_settles_by_ten_events(rt: HostRuntime) {
-    assert_settles(&rt, &mut black_lost(&rt), 10);
-}
-
-#[test]
-fn a_settled_world_needs_no_event(rt: HostRuntime) {
     let mut told = black_lost(&rt);
     assert_settles(&rt, &mut told, 10);
+    // Then no event is left.
     assert_settles(&rt, &mut told, 0);
 }

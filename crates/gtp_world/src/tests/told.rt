@@ -1,7 +1,7 @@
 //! A world, and the events that led to it.
 use super::same::assert_same_world;
 use super::{Firsts, small_setup};
-use crate::equal::assert_equal;
+use crate::equal::{assert_equal, assert_true, some};
 use crate::{Event, World};
 use go_base::Side;
 use gtp_match::Status;
@@ -23,7 +23,7 @@ impl Events {
     }
 
     pub fn add(&mut self, rt: &impl Abort, event: Event) {
-        *self.places.get_mut(self.len).expect(rt, "a place") = event;
+        *some(rt, self.places.get_mut(self.len)) = event;
         self.len = self.len.saturating_add(1);
     }
 
@@ -35,7 +35,7 @@ impl Events {
     }
 
     pub fn all(&self, rt: &impl Abort) -> &[Event] {
-        self.places.get(..self.len).expect(rt, "the events")
+        some(rt, self.places.get(..self.len))
     }
 }
 
@@ -93,11 +93,11 @@ pub fn black_moved(rt: &impl Abort) -> Told {
     told.step(rt, Event::Act);
     told.step(rt, Event::Act);
     told.rounds(rt, Side::Black, 3);
-    assert!(rt; told.in_step(Side::Black));
-    assert!(rt; !told.in_step(Side::White));
+    assert_true(rt, told.in_step(Side::Black));
+    assert_true(rt, !told.in_step(Side::White));
     told.rounds(rt, Side::White, 3);
-    assert!(rt; told.in_step(Side::Black));
-    assert!(rt; told.in_step(Side::White));
+    assert_true(rt, told.in_step(Side::Black));
+    assert_true(rt, told.in_step(Side::White));
     assert_equal(rt, told.record_len(), 0);
     told.step(rt, Event::Act);
     assert_equal(
@@ -112,9 +112,9 @@ pub fn black_moved(rt: &impl Abort) -> Told {
         told.world.to_controller(Side::Black),
         b"=4 A1\n\n".as_slice(),
     );
-    let game = told.world.running(Side::Black).expect(rt, "an engine");
+    let game = some(rt, told.world.running(Side::Black));
     assert_equal(rt, game.moves().len(), 1);
-    assert!(rt; !told.in_step(Side::Black));
+    assert_true(rt, !told.in_step(Side::Black));
     told
 }
 
@@ -122,11 +122,11 @@ pub fn black_moved(rt: &impl Abort) -> Told {
 pub fn black_lost(rt: &impl Abort) -> Told {
     let mut told = black_moved(rt);
     told.step(rt, Event::Crash(Side::Black, 0));
-    assert!(rt; told.world.running(Side::Black).is_none());
+    assert_true(rt, told.world.running(Side::Black).is_none());
     assert_equal(rt, told.world.to_controller(Side::Black), b"".as_slice());
     told.step(rt, Event::End(Side::Black));
     assert_equal(rt, told.record_len(), 0);
     assert_equal(rt, told.status(Side::Black), Status::Down);
-    assert!(rt; told.in_step(Side::White));
+    assert_true(rt, told.in_step(Side::White));
     told
 }

@@ -1,9 +1,8 @@
 //! Commands that are on their way before earlier ones are answered.
 use super::SIDES;
-use super::same::assert_same_world;
 use super::told::Told;
 use crate::Event;
-use crate::equal::assert_equal;
+use crate::equal::{assert_equal, assert_true};
 use go_base::Side;
 use gtp_match::{Action, Status};
 use std::process::Abort;
@@ -57,17 +56,10 @@ fn a_whole_script_is_on_its_way_before_its_first_answer(rt: HostRuntime) {
     assert_equal(&rt, told.world.to_controller(Side::Black).len(), 12);
     told.step(&rt, Event::ToController(Side::Black, 6));
     assert_equal(&rt, told.status(Side::Black), up(1, 2));
-    assert!(rt; !told.in_step(Side::Black));
+    assert_true(&rt, !told.in_step(Side::Black));
     told.step(&rt, Event::ToController(Side::Black, 100));
-    assert!(rt; told.in_step(Side::Black));
+    assert_true(&rt, told.in_step(Side::Black));
     told.assert_one_run(&rt);
-}
-
-#[test]
-fn an_act_changes_nothing_while_answers_are_due(rt: HostRuntime) {
-    let mut told = black_sent(&rt, 3);
-    told.step(&rt, Event::Act);
-    assert_same_world(&rt, &told.world, &black_sent(&rt, 3).world);
 }
 
 /// The side to move makes a move, and the other side is told of it.
@@ -131,28 +123,6 @@ fn a_side_started_again_has_eight_commands_on_their_way(rt: HostRuntime) {
     );
     told.step(&rt, Event::ToEngine(Side::Black, 512));
     told.step(&rt, Event::ToController(Side::Black, 512));
-    assert!(rt; told.in_step(Side::Black));
+    assert_true(&rt, told.in_step(Side::Black));
     told.assert_one_run(&rt);
-}
-
-/// The world in which two commands are on their way to Black, and the write of the third broke after `sent` bytes.
-fn third_broken_after(rt: &impl Abort, sent: usize) -> Told {
-    let mut told = black_sent(rt, 2);
-    told.step(rt, Event::BrokenWrite(sent));
-    told
-}
-
-#[test]
-fn a_write_that_broke_behind_others_takes_them_along(rt: HostRuntime) {
-    let none_sent = third_broken_after(&rt, 0);
-    assert_equal(&rt, none_sent.status(Side::Black), Status::Down);
-    assert_equal(&rt, none_sent.world.to_engine(Side::Black), b"".as_slice());
-    assert_equal(
-        &rt,
-        none_sent.world.controller().next(),
-        Action::Start(Side::Black),
-    );
-    for sent in 1..=64 {
-        assert_same_world(&rt, &none_sent.world, &third_broken_after(&rt, sent).world);
-    }
 }

@@ -1,19 +1,18 @@
 //! What is said with engines: how they are started, read and written, interrupted, and ended.
 use super::fakes::Ticking;
-use super::runs::{FIRST, TO_THE_LIMIT, assert_plays, first_against_first, run_refusing, run_with};
-use crate::equal::{assert_equal, assert_equal_for};
+use super::runs::{FIRST, TO_THE_LIMIT, assert_plays, run_between, run_refusing};
+use crate::equal::{assert_equal, assert_equal_for, assert_true_for};
 use crate::precedence::Precedence;
 use crate::starter::{PipeFault, StartFault, StartReason};
 use crate::system::{pipe_fault_of, start_fault_of};
 use std::io::ErrorKind;
-use std::process::Abort;
 use std::test::Fail;
 use std::{io, str};
 
 #[test]
 fn a_side_whose_output_ends_or_breaks_is_started_again(rt: HostRuntime) -> Result<(), Fail> {
     for engine in ["says", "mute", "broken", "says hello"] {
-        let ran = run_with(rt.alloc(), ["--black", engine, "--white", FIRST].as_slice())?;
+        let ran = run_between(rt.alloc(), (engine, FIRST), &[])?;
         let line = str::from_utf8(ran.output.as_slice())?;
         assert_equal_for(
             &rt,
@@ -32,34 +31,24 @@ fn a_side_whose_output_ends_or_breaks_is_started_again(rt: HostRuntime) -> Resul
 
 #[test]
 fn an_engine_that_echoes_is_given_up(rt: HostRuntime) -> Result<(), Fail> {
-    let black = ["--black", "echoes", "--white", FIRST, "--restarts", "1"];
+    let once = ["--restarts", "1"];
     let line = "game 1: abandoned black moves 0 restarts 1 0\n";
-    assert_plays(&rt, black.as_slice(), line, 1)?;
-    let white = ["--black", FIRST, "--white", "echoes", "--restarts", "1"];
+    assert_plays(&rt, ("echoes", FIRST), once.as_slice(), line, 1)?;
     let line = "game 1: abandoned white moves 0 restarts 0 1\n";
-    assert_plays(&rt, white.as_slice(), line, 1)
+    assert_plays(&rt, (FIRST, "echoes"), once.as_slice(), line, 1)
 }
 
 #[test]
 fn an_interrupted_call_is_tried_again(rt: HostRuntime) -> Result<(), Fail> {
     let once = "interrupted once";
     let often = "interrupted often";
-    for (black, white) in [(once, FIRST), (FIRST, once), (often, once)] {
-        let mut arguments = Vec::new(rt.alloc());
-        arguments.extend_from_slice([
-            "--black",
-            black,
-            "--white",
-            white,
-            "--restarts",
-            "0",
-        ].as_slice())?;
-        arguments.extend_from_slice(TO_THE_LIMIT.as_slice())?;
+    for engines in [(once, FIRST), (FIRST, once), (often, once)] {
+        // No side is lost by an interruption.
         let line = "game 1: limit moves 10 restarts 0 0\n";
-        assert_plays(&rt, arguments.as_slice(), line, 0)?;
+        assert_plays(&rt, engines, TO_THE_LIMIT.as_slice(), line, 0)?;
         // At least each byte of `genmove b` and of its reply, five times.
-        let ran = run_with(rt.alloc(), arguments.as_slice())?;
-        assert!(rt; ran.log.interrupted.get() >= 5 * 18, "{black}, {white}");
+        let ran = run_between(rt.alloc(), engines, TO_THE_LIMIT.as_slice())?;
+        assert_true_for(&rt, engines, ran.log.interrupted.get() >= 5 * 18);
     }
     Ok(())
 }
@@ -158,8 +147,7 @@ fn limits_of_the_system_are_told_apart_by_their_numbers(rt: HostRuntime) -> Resu
 
 #[test]
 fn quit_is_said_where_all_was_answered(rt: HostRuntime) -> Result<(), Fail> {
-    let asked = first_against_first(rt.alloc(), ["--size", "1"].as_slice())?;
-    let ran = run_with(rt.alloc(), asked.as_slice())?;
+    let ran = run_between(rt.alloc(), (FIRST, FIRST), ["--size", "1"].as_slice())?;
     assert_equal(&rt, ran.log.started.get(), 2);
     assert_equal(&rt, ran.log.quits.get(), 2);
     assert_equal(&rt, ran.log.ended.get(), 2);
@@ -170,8 +158,7 @@ fn quit_is_said_where_all_was_answered(rt: HostRuntime) -> Result<(), Fail> {
 
 #[test]
 fn commands_that_come_next_go_out_in_one_write(rt: HostRuntime) -> Result<(), Fail> {
-    let asked = first_against_first(rt.alloc(), ["--size", "1"].as_slice())?;
-    let ran = run_with(rt.alloc(), asked.as_slice())?;
+    let ran = run_between(rt.alloc(), (FIRST, FIRST), ["--size", "1"].as_slice())?;
     // Each side's first three commands in one; then Black's `genmove`, the pass that White is told of, White's
     // `genmove`, and `quit` to both.
     assert_equal(&rt, ran.log.writes.get(), 7);
@@ -180,36 +167,36 @@ fn commands_that_come_next_go_out_in_one_write(rt: HostRuntime) -> Result<(), Fa
     Ok(())
 }
 
-/// One side refuses its first command, so it is unfit, and that command counts as unanswered: it is ended, and then the
-/// other is told to quit.
-fn assert_ends_the_unfit_first<R: Abort + AllocGlobal>(
-    rt: &R,
-    arguments: &[&str],
-    output: &str,
-) -> Result<(), Fail> {
-    let ran = run_with(rt.alloc(), arguments)?;
-    assert_equal(rt, ran.output.as_slice(), output.as_bytes());
-    assert_equal(rt, ran.status, 1);
-    assert_equal(rt, ran.log.started.get(), 2);
-    assert_equal(rt, ran.log.quits.get(), 1);
-    assert_equal(rt, ran.log.ended_by_quit.get(), 1);
-    assert_equal(rt, ran.log.ended.get(), 2);
+#[test]
+fn a_side_that_owes_an_answer_is_ended_before_the_other_quits(rt: HostRuntime) -> Result<(), Fail> {
+    // One side refuses its first command, so it is unfit, and that command counts as unanswered: it is ended, and then
+    // the other is told to quit.
+    for (engines, line) in [
+        (
+            ("refuses", FIRST),
+            "game 1: unfit black moves 0 restarts 0 0\n",
+        ),
+        (
+            (FIRST, "refuses"),
+            "game 1: unfit white moves 0 restarts 0 0\n",
+        ),
+    ] {
+        let ran = run_between(rt.alloc(), engines, &[])?;
+        assert_equal(&rt, str::from_utf8(ran.output.as_slice())?, line);
+        assert_equal(&rt, ran.status, 1);
+        assert_equal(&rt, ran.log.started.get(), 2);
+        assert_equal(&rt, ran.log.quits.get(), 1);
+        assert_equal(&rt, ran.log.ended_by_quit.get(), 1);
+        assert_equal(&rt, ran.log.ended.get(), 2);
+    }
     Ok(())
 }
 
 #[test]
-fn a_side_that_owes_an_answer_is_ended_before_the_other_quits(rt: HostRuntime) -> Result<(), Fail> {
-    let black = ["--black", "refuses", "--white", FIRST];
-    let line = "game 1: unfit black moves 0 restarts 0 0\n";
-    assert_ends_the_unfit_first(&rt, black.as_slice(), line)?;
-    let white = ["--black", FIRST, "--white", "refuses"];
-    let line = "game 1: unfit white moves 0 restarts 0 0\n";
-    assert_ends_the_unfit_first(&rt, white.as_slice(), line)
-}
-
-#[test]
 fn memory_refused_at_each_start_ends_the_program(rt: HostRuntime) -> Result<(), Fail> {
-    let asked = first_against_first(rt.alloc(), ["--size", "1", "--games", "2"].as_slice())?;
+    let asked = [
+        "--black", FIRST, "--white", FIRST, "--size", "1", "--games", "2",
+    ];
     let line = "game 1: W+6.5 moves 2 restarts 0 0\n";
     for (refused, output) in [(1, ""), (2, ""), (3, line), (4, line)] {
         let ran = run_refusing(rt.alloc(), asked.as_slice(), refused)?;

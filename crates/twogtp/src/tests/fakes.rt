@@ -292,46 +292,48 @@ impl Process for Talk {
 }
 
 /// What was done with the engines.
-#[derive(Clone, Drop)]
-pub struct Log {
+#[derive(Drop)]
+pub struct Counts {
     /// How many were started.
-    pub started: Rc<Cell<u32>>,
+    pub started: Cell<u32>,
     /// How many were ended.
-    pub ended: Rc<Cell<u32>>,
+    pub ended: Cell<u32>,
     /// How many were sent `quit`.
-    pub quits: Rc<Cell<u32>>,
+    pub quits: Cell<u32>,
     /// How many had been ended when the last `quit` was sent.
-    pub ended_by_quit: Rc<Cell<u32>>,
+    pub ended_by_quit: Cell<u32>,
     /// How many bytes a stream with this log had taken when it was last flushed.
-    pub flushed: Rc<Cell<usize>>,
+    pub flushed: Cell<usize>,
     /// The sum of these numbers at each `quit`.
-    pub flushed_by_quits: Rc<Cell<usize>>,
+    pub flushed_by_quits: Cell<usize>,
     /// The sum of these numbers at each start.
-    pub flushed_by_starts: Rc<Cell<usize>>,
+    pub flushed_by_starts: Cell<usize>,
     /// How many writes went through.
-    pub writes: Rc<Cell<u32>>,
+    pub writes: Cell<u32>,
     /// How often one was let run before it was read.
-    pub let_run: Rc<Cell<u32>>,
+    pub let_run: Cell<u32>,
     /// How many calls of pipes were interrupted.
-    pub interrupted: Rc<Cell<u32>>,
+    pub interrupted: Cell<u32>,
 }
 
-impl Log {
-    /// Nothing was done yet.
-    pub fn new(alloc: Global) -> Result<Log, AllocError> {
-        Ok(Log {
-            started: Rc::new(alloc, Cell::new(0))?,
-            ended: Rc::new(alloc, Cell::new(0))?,
-            quits: Rc::new(alloc, Cell::new(0))?,
-            ended_by_quit: Rc::new(alloc, Cell::new(0))?,
-            flushed: Rc::new(alloc, Cell::new(0))?,
-            flushed_by_quits: Rc::new(alloc, Cell::new(0))?,
-            flushed_by_starts: Rc::new(alloc, Cell::new(0))?,
-            writes: Rc::new(alloc, Cell::new(0))?,
-            let_run: Rc::new(alloc, Cell::new(0))?,
-            interrupted: Rc::new(alloc, Cell::new(0))?,
-        })
-    }
+/// What was done with the engines, as the starter, each engine and the test see it.
+pub type Log = Rc<Counts>;
+
+/// Nothing was done yet.
+pub fn new_log(alloc: Global) -> Result<Log, AllocError> {
+    let counts = Counts {
+        started: Cell::new(0),
+        ended: Cell::new(0),
+        quits: Cell::new(0),
+        ended_by_quit: Cell::new(0),
+        flushed: Cell::new(0),
+        flushed_by_quits: Cell::new(0),
+        flushed_by_starts: Cell::new(0),
+        writes: Cell::new(0),
+        let_run: Cell::new(0),
+        interrupted: Cell::new(0),
+    };
+    Ok(Rc::new(alloc, counts)?)
 }
 
 /// Counts one more.

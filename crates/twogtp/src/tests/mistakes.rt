@@ -1,7 +1,7 @@
 //! Mistakes in the words, and the lines of failures.
 use super::fakes::Full;
-use super::runs::{assert_refuses, assert_refuses_with, one_against_another, run_with};
-use crate::equal::assert_equal;
+use super::runs::{assert_refused, run_between, run_with};
+use crate::equal::{assert_equal, assert_true_for};
 use crate::failure::{Failure, tell};
 use std::io::ErrorKind;
 use std::str;
@@ -29,17 +29,32 @@ fn mistakes_in_the_words_are_told_in_their_order(rt: HostRuntime) -> Result<(), 
         ("x", "y", handicap.as_slice(), "twogtp: bad handicap\n"),
     ];
     for (black, white, more, text) in cases {
-        let asked = one_against_another(rt.alloc(), black, white, more)?;
-        assert_refuses(&rt, asked.as_slice(), text)?;
+        let ran = run_between(rt.alloc(), (black, white), more)?;
+        assert_refused(&rt, &ran, text)?;
+        assert_equal(&rt, ran.errors.len(), text.len());
     }
     Ok(())
 }
 
 #[test]
 fn mistakes_of_the_command_line_come_first(rt: HostRuntime) -> Result<(), Fail> {
-    let missing = "error: the following required arguments were not provided";
-    assert_refuses_with(&rt, ["--black", "x"].as_slice(), missing)?;
-    assert_refuses_with(&rt, ["--white", "x"].as_slice(), missing)?;
+    let cases: [(&[&str], &str); 3] = [
+        (
+            &["--black", "x"],
+            "error: the following required arguments were not provided",
+        ),
+        (
+            &["--white", "x"],
+            "error: the following required arguments were not provided",
+        ),
+        (
+            &["--black", "x", "--white", "y", "--komi", "-3.5"],
+            "error: unexpected argument",
+        ),
+    ];
+    for (words, text) in cases {
+        assert_refused(&rt, &run_with(rt.alloc(), words)?, text)?;
+    }
     let numbers = [
         ("--size", "0", "1..=25"),
         ("--size", "26", "1..=25"),
@@ -51,17 +66,12 @@ fn mistakes_of_the_command_line_come_first(rt: HostRuntime) -> Result<(), Fail> 
         ("--restarts", "1001", "0..=1000"),
     ];
     for (option, number, limits) in numbers {
-        let words = ["--black", "", "--white", "y", option, number];
-        let ran = run_with(rt.alloc(), words.as_slice())?;
+        let ran = run_between(rt.alloc(), ("", "y"), [option, number].as_slice())?;
+        assert_refused(&rt, &ran, "error: invalid value ")?;
         let told = str::from_utf8(ran.errors.as_slice())?;
-        assert!(rt; told.starts_with("error: invalid value "), "{told}");
-        assert!(rt; told.contains(option), "{told}");
-        assert!(rt; told.contains(limits), "{told}");
-        assert_equal(&rt, ran.output.len(), 0);
-        assert_equal(&rt, ran.status, 2);
+        assert_true_for(&rt, told, told.contains(option) && told.contains(limits));
     }
-    let below = ["--black", "x", "--white", "y", "--komi", "-3.5"];
-    assert_refuses_with(&rt, below.as_slice(), "error: unexpected argument")
+    Ok(())
 }
 
 #[test]

@@ -1,56 +1,43 @@
 //! A refused `play` that is retaken, as it is told on standard error.
-use super::fakes::{InMemory, Log, Narrow};
-use super::runs::FIRST;
+use super::fakes::{Narrow, new_log};
+use super::runs::{FIRST, narrow, run_into};
 use super::why::play;
 use crate::equal::{assert_equal, assert_equal_for};
-use crate::run::run;
 use std::alloc::Global;
-use std::process::Abort;
 use std::str;
 use std::test::Fail;
 
-/// Black plays the first candidate, and White gives these answers: these lines are told, and this result.
-fn assert_told<R: Abort + AllocGlobal>(
-    rt: &R,
-    white: &str,
-    errors: &str,
-    output: &str,
-) -> Result<(), Fail> {
-    let told = play(rt.alloc(), FIRST, white, "1")?;
-    assert_equal_for(rt, white, str::from_utf8(told.errors.as_slice())?, errors);
-    assert_equal_for(rt, white, str::from_utf8(told.output.as_slice())?, output);
-    Ok(())
-}
-
 #[test]
 fn moves_that_are_taken_back_are_reported(rt: HostRuntime) -> Result<(), Fail> {
-    // White refuses Black's first move twice, then takes it and resigns.
-    assert_told(
-        &rt,
-        "answers =1;=2;=3;?4_no;?5_illegal_move;=6;=7_resign;",
-        "twogtp: game 1: white: 1 unanswered, \"4 play b A1\": the play was refused (retake 1 of 3); \
-            it wrote \"?4 no\\n\\n\"\n\
-        twogtp: game 1: white: 1 unanswered, \"5 play b A1\": the play was refused (retake 2 of 3); \
-            it wrote \"?5 illegal move\\n\\n\"\n",
-        "game 1: B+R moves 1 restarts 0 0\n",
-    )
-}
-
-#[test]
-fn the_fourth_refusal_is_a_loss(rt: HostRuntime) -> Result<(), Fail> {
-    assert_told(
-        &rt,
-        "answers =1;=2;=3;?4;?5;?6;?7;",
-        "twogtp: game 1: white: 1 unanswered, \"4 play b A1\": the play was refused (retake 1 of 3); \
-            it wrote \"?4\\n\\n\"\n\
-        twogtp: game 1: white: 1 unanswered, \"5 play b A1\": the play was refused (retake 2 of 3); \
-            it wrote \"?5\\n\\n\"\n\
-        twogtp: game 1: white: 1 unanswered, \"6 play b A1\": the play was refused (retake 3 of 3); \
-            it wrote \"?6\\n\\n\"\n\
-        twogtp: game 1: white: 1 unanswered, \"7 play b A1\": the play was refused; \
-            it wrote \"?7\\n\\n\"\n",
-        "game 1: B+F(refused play) moves 1 restarts 0 0\n",
-    )
+    // Black plays the first candidate. White refuses it twice, then takes it and resigns; or it refuses it four times,
+    // and the fourth refusal is a loss.
+    for (white, errors, output) in [
+        (
+            "answers =1;=2;=3;?4_no;?5_illegal_move;=6;=7_resign;",
+            "twogtp: game 1: white: 1 unanswered, \"4 play b A1\": the play was refused (retake 1 of 3); \
+                it wrote \"?4 no\\n\\n\"\n\
+            twogtp: game 1: white: 1 unanswered, \"5 play b A1\": the play was refused (retake 2 of 3); \
+                it wrote \"?5 illegal move\\n\\n\"\n",
+            "game 1: B+R moves 1 restarts 0 0\n",
+        ),
+        (
+            "answers =1;=2;=3;?4;?5;?6;?7;",
+            "twogtp: game 1: white: 1 unanswered, \"4 play b A1\": the play was refused (retake 1 of 3); \
+                it wrote \"?4\\n\\n\"\n\
+            twogtp: game 1: white: 1 unanswered, \"5 play b A1\": the play was refused (retake 2 of 3); \
+                it wrote \"?5\\n\\n\"\n\
+            twogtp: game 1: white: 1 unanswered, \"6 play b A1\": the play was refused (retake 3 of 3); \
+                it wrote \"?6\\n\\n\"\n\
+            twogtp: game 1: white: 1 unanswered, \"7 play b A1\": the play was refused; \
+                it wrote \"?7\\n\\n\"\n",
+            "game 1: B+F(refused play) moves 1 restarts 0 0\n",
+        ),
+    ] {
+        let ran = play(rt.alloc(), FIRST, white, "1")?;
+        assert_equal_for(&rt, white, str::from_utf8(ran.errors.as_slice())?, errors);
+        assert_equal_for(&rt, white, str::from_utf8(ran.output.as_slice())?, output);
+    }
+    Ok(())
 }
 
 /// White refuses Black's first move, and in the same piece writes what is no reply.
@@ -67,19 +54,9 @@ const LOST: &str =
 
 /// Plays that game, with a standard error that has room for so many bytes, and returns the status and the stream.
 fn play_both(alloc: Global, room: usize) -> Result<(u8, Narrow), Fail> {
-    let log = Log::new(alloc)?;
+    let log = new_log(alloc)?;
     let mut output = Vec::new(alloc);
-    let mut errors = Narrow {
-        taken: Vec::new(alloc),
-        flushed: Vec::new(alloc),
-        room,
-        log: log.clone()?,
-    };
-    let mut starter = InMemory {
-        alloc,
-        log,
-        refused: 0,
-    };
+    let mut errors = narrow(alloc, room, &log)?;
     let words = [
         "twogtp",
         "--why",
@@ -90,13 +67,7 @@ fn play_both(alloc: Global, room: usize) -> Result<(u8, Narrow), Fail> {
         "--white",
         BOTH,
     ];
-    let status = run(
-        alloc,
-        words.as_slice(),
-        &mut output,
-        &mut errors,
-        &mut starter,
-    );
+    let status = run_into(alloc, words.as_slice(), &mut output, &mut errors, &log, 0)?;
     Ok((status, errors))
 }
 

@@ -1,11 +1,30 @@
 //! Runs of the program, with engines in memory.
-use super::fakes::{InMemory, Log};
-use crate::equal::assert_equal_for;
+use super::fakes::{InMemory, Log, Narrow, new_log};
+use crate::equal::{assert_equal_for, assert_true_for};
+use crate::output::Output;
 use crate::run::run;
 use std::alloc::Global;
 use std::process::Abort;
 use std::str;
 use std::test::Fail;
+
+/// Runs the program with these words and streams; this log has what is done with the engines. Memory is refused for the
+/// start of this number, if it is not 0.
+pub fn run_into<O: Output, E: Output>(
+    alloc: Global,
+    words: &[&str],
+    output: &mut O,
+    errors: &mut E,
+    log: &Log,
+    refused: u32,
+) -> Result<u8, Fail> {
+    let mut starter = InMemory {
+        alloc,
+        log: log.clone()?,
+        refused,
+    };
+    Ok(run(alloc, words, output, errors, &mut starter))
+}
 
 /// What a run of the program left behind.
 #[derive(Drop)]
@@ -22,21 +41,17 @@ pub fn run_refusing(alloc: Global, arguments: &[&str], refused: u32) -> Result<R
     let mut words = Vec::new(alloc);
     words.push("twogtp")?;
     words.extend_from_slice(arguments)?;
-    let log = Log::new(alloc)?;
+    let log = new_log(alloc)?;
     let mut output = Vec::new(alloc);
     let mut errors = Vec::new(alloc);
-    let mut starter = InMemory {
-        alloc,
-        log: log.clone()?,
-        refused,
-    };
-    let status = run(
+    let status = run_into(
         alloc,
         words.as_slice(),
         &mut output,
         &mut errors,
-        &mut starter,
-    );
+        &log,
+        refused,
+    )?;
     Ok(Ran {
         status,
         output,
@@ -50,74 +65,56 @@ pub fn run_with(alloc: Global, arguments: &[&str]) -> Result<Ran, Fail> {
     run_refusing(alloc, arguments, 0)
 }
 
-/// With these arguments the output and the status are these, nothing is told, and each engine that was started was
-/// ended.
-pub fn assert_plays<R: Abort + AllocGlobal>(
-    rt: &R,
-    arguments: &[&str],
-    output: &str,
-    status: u8,
-) -> Result<(), Fail> {
-    let ran = run_with(rt.alloc(), arguments)?;
-    assert_equal_for(
-        rt,
-        arguments,
-        str::from_utf8(ran.output.as_slice())?,
-        output,
-    );
-    assert_equal_for(rt, arguments, ran.errors.as_slice(), b"".as_slice());
-    assert_equal_for(rt, arguments, ran.status, status);
-    assert_equal_for(rt, arguments, ran.log.ended.get(), ran.log.started.get());
-    Ok(())
-}
-
-/// With these arguments nothing is written to the output and nothing started, the status is 2, and this text is told.
-pub fn assert_refuses<R: Abort + AllocGlobal>(
-    rt: &R,
-    arguments: &[&str],
-    text: &str,
-) -> Result<(), Fail> {
-    let ran = run_with(rt.alloc(), arguments)?;
-    assert_equal_for(rt, arguments, ran.output.len(), 0);
-    assert_equal_for(rt, arguments, str::from_utf8(ran.errors.as_slice())?, text);
-    assert_equal_for(rt, arguments, ran.status, 2);
-    assert_equal_for(rt, arguments, ran.log.started.get(), 0);
-    Ok(())
-}
-
-/// The same where only the beginning of the text is known.
-pub fn assert_refuses_with<R: Abort + AllocGlobal>(
-    rt: &R,
-    arguments: &[&str],
-    beginning: &str,
-) -> Result<(), Fail> {
-    let ran = run_with(rt.alloc(), arguments)?;
-    let told = str::from_utf8(ran.errors.as_slice())?;
-    assert_equal_for(rt, arguments, ran.output.len(), 0);
-    assert!(rt; told.starts_with(beginning), "{arguments:?}: {told}");
-    assert_equal_for(rt, arguments, ran.status, 2);
-    assert_equal_for(rt, arguments, ran.log.started.get(), 0);
-    Ok(())
+/// A stream that has room for so many bytes, with this log.
+pub fn narrow(alloc: Global, room: usize, log: &Log) -> Result<Narrow, Fail> {
+    Ok(Narrow {
+        taken: Vec::new(alloc),
+        flushed: Vec::new(alloc),
+        room,
+        log: log.clone()?,
+    })
 }
 
 pub const FIRST: &str = "gtp_engine --policy first";
 
-/// These two engines, and these arguments.
-pub fn one_against_another<'a>(
-    alloc: Global,
-    black: &'a str,
-    white: &'a str,
-    more: &[&'a str],
-) -> Result<Vec<&'a str>, Fail> {
+pub const TO_THE_LIMIT: [&str; 6] = ["--size", "2", "--komi", "0", "--max-moves", "10"];
+
+/// The commands of Black's engine and of White's.
+pub type Engines<'a> = (&'a str, &'a str);
+
+/// Runs the program with these engines and these arguments.
+pub fn run_between(alloc: Global, engines: Engines, more: &[&str]) -> Result<Ran, Fail> {
+    let (black, white) = engines;
     let mut arguments = Vec::new(alloc);
     arguments.extend_from_slice(["--black", black, "--white", white].as_slice())?;
     arguments.extend_from_slice(more)?;
-    Ok(arguments)
+    run_with(alloc, arguments.as_slice())
 }
 
-/// Two engines that play the first candidate, and these arguments.
-pub fn first_against_first<'a>(alloc: Global, more: &[&'a str]) -> Result<Vec<&'a str>, Fail> {
-    one_against_another(alloc, FIRST, FIRST, more)
+/// With these engines and arguments the output and the status are these, nothing is told, and each engine that was
+/// started was ended.
+pub fn assert_plays<R: Abort + AllocGlobal>(
+    rt: &R,
+    engines: Engines,
+    more: &[&str],
+    output: &str,
+    status: u8,
+) -> Result<(), Fail> {
+    let ran = run_between(rt.alloc(), engines, more)?;
+    let written = str::from_utf8(ran.output.as_slice())?;
+    assert_equal_for(rt, engines, written, output);
+    assert_equal_for(rt, engines, ran.errors.as_slice(), b"".as_slice());
+    assert_equal_for(rt, engines, ran.status, status);
+    assert_equal_for(rt, engines, ran.log.ended.get(), ran.log.started.get());
+    Ok(())
 }
 
-pub const TO_THE_LIMIT: [&str; 6] = ["--size", "2", "--komi", "0", "--max-moves", "10"];
+/// This run wrote nothing to the output and started nothing, its status is 2, and what it told begins with this text.
+pub fn assert_refused(rt: &impl Abort, ran: &Ran, beginning: &str) -> Result<(), Fail> {
+    let told = str::from_utf8(ran.errors.as_slice())?;
+    assert_true_for(rt, told, told.starts_with(beginning));
+    assert_equal_for(rt, told, ran.output.len(), 0);
+    assert_equal_for(rt, told, ran.status, 2);
+    assert_equal_for(rt, told, ran.log.started.get(), 0);
+    Ok(())
+}

@@ -1,201 +1,123 @@
 //! Why a side is lost, as it is told on standard error.
-use super::fakes::{Full, InMemory, Log, Narrow, Talk};
-use crate::equal::{assert_equal, assert_equal_for};
+use super::fakes::{Full, Talk, new_log};
+use super::runs::{Ran, narrow, run_between, run_into};
+use crate::equal::{assert_equal, assert_equal_for, assert_true_for};
 use crate::laws::{lines_are_few, losses_have_lines};
-use crate::run::run;
 use crate::why_text::shown_for_test;
 use std::alloc::Global;
-use std::process::Abort;
 use std::str;
 use std::test::Fail;
 
-/// What a match told, with `--why` and without another start.
-#[derive(Drop)]
-pub struct Told {
-    pub status: u8,
-    pub output: Vec<u8>,
-    pub errors: Vec<u8>,
-}
-
 /// Plays games between these engines, with `--why` and without another start.
-pub fn play(alloc: Global, black: &str, white: &str, games: &str) -> Result<Told, Fail> {
-    let words = [
-        "twogtp",
-        "--why",
-        "--restarts",
-        "0",
-        "--size",
-        "5",
-        "--games",
-        games,
-        "--black",
-        black,
-        "--white",
-        white,
-    ];
-    let mut output = Vec::new(alloc);
-    let mut errors = Vec::new(alloc);
-    let mut starter = InMemory {
-        alloc,
-        log: Log::new(alloc)?,
-        refused: 0,
-    };
-    let status = run(
-        alloc,
-        words.as_slice(),
-        &mut output,
-        &mut errors,
-        &mut starter,
-    );
-    Ok(Told {
-        status,
-        output,
-        errors,
-    })
+pub fn play(alloc: Global, black: &str, white: &str, games: &str) -> Result<Ran, Fail> {
+    let more = ["--why", "--restarts", "0", "--size", "5", "--games", games];
+    run_between(alloc, (black, white), more.as_slice())
 }
 
-/// This engine, as Black, is lost by this.
-fn assert_lost<R: Abort + AllocGlobal>(rt: &R, engine: &str, line: &str) -> Result<(), Fail> {
-    let told = play(rt.alloc(), engine, "gtp_engine", "1")?;
-    assert_equal_for(rt, engine, str::from_utf8(told.errors.as_slice())?, line);
+#[test]
+fn each_loss_is_told_in_a_line(rt: HostRuntime) -> Result<(), Fail> {
+    // The 80th byte of the name is the first one of two.
+    let long =
+        "0123456789012345678901234567890123456789012345678901234567890123456789012345678\u{e4} x";
+    let cases = [
+        (
+            "no_such_program",
+            "not started: no such file: \"no_such_program\"\n",
+        ),
+        (
+            "  a\"b\\\t\x01 no_such_program",
+            "not started: no such file: \"a\\\"b\\\\\\t\\x01\"\n",
+        ),
+        (
+            long,
+            "not started: no such file: \"0123456789012345678901234567890123456789012345678901234567890123456789012345678\\xC3\"\n",
+        ),
+        (
+            "stops =1",
+            "3 unanswered, the first \"1 boardsize 5\": reading failed, exit status 7; it wrote \"=1\"\n",
+        ),
+        (
+            "stops =1\n\n",
+            "2 unanswered, the first \"2 komi 6.5\": reading failed, exit status 7; nothing of it was read\n",
+        ),
+        (
+            "stops =1\n\n=2\n\n=3\n\n=",
+            "1 unanswered, \"4 genmove b\": writing failed, exit status 7; it wrote \"=\"\n",
+        ),
+        (
+            "stops =1\n\n=2\n\n=3\n\n",
+            "1 unanswered, \"4 genmove b\": writing failed, exit status 7; nothing of it was read\n",
+        ),
+        (
+            "says =1\n\n=2\n\n=3\n\n",
+            "1 unanswered, \"4 genmove b\": its output ended, exit status 7; it wrote \"\"\n",
+        ),
+        (
+            "says =1\n\n=2\n\n=3\n\n=4\n\n",
+            "0 unanswered: a reply to nothing that was asked; it wrote \"=4\\n\\n\"\n",
+        ),
+        (
+            "says",
+            "3 unanswered, the first \"1 boardsize 5\": its output ended, exit status 7; it wrote \"\"\n",
+        ),
+        (
+            "mute",
+            "3 unanswered, the first \"1 boardsize 5\": reading failed, exit status 7; nothing of it was read\n",
+        ),
+        (
+            "broken",
+            "3 unanswered, the first \"1 boardsize 5\": writing failed, exit status 7; nothing of it was read\n",
+        ),
+        (
+            "says hello",
+            "3 unanswered, the first \"1 boardsize 5\": not a GTP reply (it begins with neither = nor ?); \
+                it wrote \"hello\"\n",
+        ),
+        (
+            "says =1",
+            "3 unanswered, the first \"1 boardsize 5\": its output ended, exit status 7; it wrote \"=1\"\n",
+        ),
+        (
+            "refuses",
+            "3 unanswered, the first \"1 boardsize 5\": unfit: the command failed, or was answered wrongly; \
+                it wrote \"?1 no\\n\\n\"\n",
+        ),
+    ];
+    for (engine, line) in cases {
+        let ran = play(rt.alloc(), engine, "gtp_engine", "1")?;
+        let told = str::from_utf8(ran.errors.as_slice())?;
+        assert_equal_for(
+            &rt,
+            engine,
+            told.strip_prefix("twogtp: game 1: black: "),
+            Some(line),
+        );
+    }
     Ok(())
 }
 
 #[test]
-fn a_program_that_is_not_there(rt: HostRuntime) -> Result<(), Fail> {
-    let line = "twogtp: game 1: black: not started: no such file: \"no_such_program\"\n";
-    assert_lost(&rt, "no_such_program", line)
-}
-
-#[test]
-fn a_program_is_named_by_the_beginning_of_its_first_word(rt: HostRuntime) -> Result<(), Fail> {
-    let line = "twogtp: game 1: black: not started: no such file: \"a\\\"b\\\\\\t\\x01\"\n";
-    assert_lost(&rt, "  a\"b\\\t\x01 no_such_program", line)?;
-    // The 80th byte is the first one of two.
-    let long =
-        "0123456789012345678901234567890123456789012345678901234567890123456789012345678\u{e4} x";
-    let line = "twogtp: game 1: black: not started: no such file: \"012345678901234567890123456789\
-                0123456789012345678901234567890123456789012345678\\xC3\"\n";
-    assert_lost(&rt, long, line)
-}
-
-#[test]
-fn what_was_read_before_a_call_failed_is_shown(rt: HostRuntime) -> Result<(), Fail> {
-    let half = "twogtp: game 1: black: 3 unanswered, the first \"1 boardsize 5\": reading failed, \
-                exit status 7; it wrote \"=1\"\n";
-    assert_lost(&rt, "stops =1", half)?;
-    let whole = "twogtp: game 1: black: 2 unanswered, the first \"2 komi 6.5\": reading failed, \
-                exit status 7; nothing of it was read\n";
-    assert_lost(&rt, "stops =1\n\n", whole)?;
-    let more =
-        "twogtp: game 1: black: 1 unanswered, \"4 genmove b\": writing failed, exit status 7; \
-                it wrote \"=\"\n";
-    assert_lost(&rt, "stops =1\n\n=2\n\n=3\n\n=", more)?;
-    let none =
-        "twogtp: game 1: black: 1 unanswered, \"4 genmove b\": writing failed, exit status 7; \
-                nothing of it was read\n";
-    assert_lost(&rt, "stops =1\n\n=2\n\n=3\n\n", none)
-}
-
-#[test]
-fn one_command_or_none_is_unanswered(rt: HostRuntime) -> Result<(), Fail> {
-    let one =
-        "twogtp: game 1: black: 1 unanswered, \"4 genmove b\": its output ended, exit status 7; \
-                it wrote \"\"\n";
-    assert_lost(&rt, "says =1\n\n=2\n\n=3\n\n", one)?;
-    let none = "twogtp: game 1: black: 0 unanswered: a reply to nothing that was asked; \
-                it wrote \"=4\\n\\n\"\n";
-    assert_lost(&rt, "says =1\n\n=2\n\n=3\n\n=4\n\n", none)
-}
-
-#[test]
-fn an_output_that_ends(rt: HostRuntime) -> Result<(), Fail> {
-    let line =
-        "twogtp: game 1: black: 3 unanswered, the first \"1 boardsize 5\": its output ended, exit status 7; \
-                it wrote \"\"\n";
-    assert_lost(&rt, "says", line)
-}
-
-#[test]
-fn a_read_that_fails(rt: HostRuntime) -> Result<(), Fail> {
-    let line =
-        "twogtp: game 1: black: 3 unanswered, the first \"1 boardsize 5\": reading failed, exit status 7; \
-                nothing of it was read\n";
-    assert_lost(&rt, "mute", line)
-}
-
-#[test]
-fn a_write_that_fails(rt: HostRuntime) -> Result<(), Fail> {
-    let line =
-        "twogtp: game 1: black: 3 unanswered, the first \"1 boardsize 5\": writing failed, exit status 7; \
-                nothing of it was read\n";
-    assert_lost(&rt, "broken", line)
-}
-
-#[test]
-fn bytes_that_are_no_reply(rt: HostRuntime) -> Result<(), Fail> {
-    let line =
-        "twogtp: game 1: black: 3 unanswered, the first \"1 boardsize 5\": not a GTP reply (it begins with \
-                neither = nor ?); it wrote \"hello\"\n";
-    assert_lost(&rt, "says hello", line)
-}
-
-#[test]
-fn half_a_reply(rt: HostRuntime) -> Result<(), Fail> {
-    let line =
-        "twogtp: game 1: black: 3 unanswered, the first \"1 boardsize 5\": its output ended, exit status 7; \
-                it wrote \"=1\"\n";
-    assert_lost(&rt, "says =1", line)
-}
-
-#[test]
-fn a_setup_command_that_is_refused(rt: HostRuntime) -> Result<(), Fail> {
-    let line =
-        "twogtp: game 1: black: 3 unanswered, the first \"1 boardsize 5\": unfit: the command failed, or was \
-                answered wrongly; it wrote \"?1 no\\n\\n\"\n";
-    assert_lost(&rt, "refuses", line)
-}
-
-#[test]
 fn each_game_is_told_by_its_number_and_its_side(rt: HostRuntime) -> Result<(), Fail> {
-    let told = play(rt.alloc(), "gtp_engine", "no_such_program", "2")?;
-    assert_equal(&rt, told.status, 1);
+    let ran = play(rt.alloc(), "gtp_engine", "no_such_program", "2")?;
+    assert_equal(&rt, ran.status, 1);
     assert_equal(
         &rt,
-        str::from_utf8(told.errors.as_slice())?,
+        str::from_utf8(ran.errors.as_slice())?,
         "twogtp: game 1: white: not started: no such file: \"no_such_program\"\ntwogtp: game 2: white: not started: no such file: \"no_such_program\"\n",
     );
     assert_equal(
         &rt,
-        str::from_utf8(told.output.as_slice())?,
+        str::from_utf8(ran.output.as_slice())?,
         "game 1: abandoned white moves 0 restarts 0 0\ngame 2: abandoned white moves 0 restarts 0 0\n",
     );
     Ok(())
 }
 
 #[test]
-fn what_goes_well_is_not_told(rt: HostRuntime) -> Result<(), Fail> {
-    let told = play(
-        rt.alloc(),
-        "gtp_engine --policy book",
-        "gtp_engine --policy book",
-        "1",
-    )?;
-    assert_equal(&rt, told.status, 0);
-    assert_equal(&rt, told.errors.len(), 0);
-    Ok(())
-}
-
-#[test]
 fn a_line_that_can_not_be_written_ends_the_program(rt: HostRuntime) -> Result<(), Fail> {
     let alloc = rt.alloc();
-    let log = Log::new(alloc)?;
+    let log = new_log(alloc)?;
     let mut output = Vec::new(alloc);
-    let mut starter = InMemory {
-        alloc,
-        log: log.clone()?,
-        refused: 0,
-    };
     let words = [
         "twogtp",
         "--why",
@@ -204,13 +126,7 @@ fn a_line_that_can_not_be_written_ends_the_program(rt: HostRuntime) -> Result<()
         "--white",
         "refuses",
     ];
-    let status = run(
-        alloc,
-        words.as_slice(),
-        &mut output,
-        &mut Full,
-        &mut starter,
-    );
+    let status = run_into(alloc, words.as_slice(), &mut output, &mut Full, &log, 0)?;
     assert_equal(&rt, status, 3);
     assert_equal(&rt, output.len(), 0);
     assert_equal(&rt, log.ended.get(), log.started.get());
@@ -221,19 +137,9 @@ fn a_line_that_can_not_be_written_ends_the_program(rt: HostRuntime) -> Result<()
 #[test]
 fn each_line_is_flushed_before_the_next_start(rt: HostRuntime) -> Result<(), Fail> {
     let alloc = rt.alloc();
-    let log = Log::new(alloc)?;
+    let log = new_log(alloc)?;
     let mut output = Vec::new(alloc);
-    let mut errors = Narrow {
-        taken: Vec::new(alloc),
-        flushed: Vec::new(alloc),
-        room: 1000,
-        log: log.clone()?,
-    };
-    let mut starter = InMemory {
-        alloc,
-        log: log.clone()?,
-        refused: 0,
-    };
+    let mut errors = narrow(alloc, 1000, &log)?;
     let words = [
         "twogtp",
         "--why",
@@ -244,13 +150,7 @@ fn each_line_is_flushed_before_the_next_start(rt: HostRuntime) -> Result<(), Fai
         "--white",
         "gtp_engine",
     ];
-    let status = run(
-        alloc,
-        words.as_slice(),
-        &mut output,
-        &mut errors,
-        &mut starter,
-    );
+    let status = run_into(alloc, words.as_slice(), &mut output, &mut errors, &log, 0)?;
     let line =
         "twogtp: game 1: black: 3 unanswered, the first \"1 boardsize 5\": writing failed, exit status 7; \
                 nothing of it was read\n";
@@ -264,7 +164,7 @@ fn each_line_is_flushed_before_the_next_start(rt: HostRuntime) -> Result<(), Fai
         [len, 2 * len, 3 * len].as_slice(),
     );
     let text = str::from_utf8(errors.taken.as_slice())?;
-    assert!(rt; text.lines().all(|told| told == line.trim_end()), "{text}");
+    assert_true_for(&rt, text, text.lines().all(|told| told == line.trim_end()));
     // Both are started before anything is told, Black again behind the first line, and behind the second one.
     assert_equal(&rt, log.flushed_by_starts.get(), len + 2 * len);
     Ok(())

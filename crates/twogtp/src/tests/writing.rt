@@ -1,8 +1,7 @@
 //! What goes out: outputs that break, when they are flushed, the help and the version.
-use super::fakes::{Full, InMemory, Log, Narrow};
-use super::runs::{FIRST, run_with};
-use crate::equal::{assert_equal, assert_equal_for};
-use crate::run::run;
+use super::fakes::{Full, Narrow, new_log};
+use super::runs::{FIRST, narrow, run_into, run_with};
+use crate::equal::{assert_equal, assert_equal_for, assert_true_for};
 use std::alloc::Global;
 use std::str;
 use std::test::Fail;
@@ -18,16 +17,12 @@ fn an_output_that_breaks_ends_the_program(rt: HostRuntime) -> Result<(), Fail> {
     let lists: [&[&str]; 3] = [games.as_slice(), help.as_slice(), version.as_slice()];
     for words in lists {
         let mut errors = Vec::new(alloc);
-        let mut starter = InMemory {
-            alloc,
-            log: Log::new(alloc)?,
-            refused: 0,
-        };
-        let status = run(alloc, words, &mut Full, &mut errors, &mut starter);
+        let log = new_log(alloc)?;
+        let status = run_into(alloc, words, &mut Full, &mut errors, &log, 0)?;
         assert_equal(&rt, status, 3);
         assert_equal(&rt, errors.as_slice(), b"twogtp: write fault\n".as_slice());
-        assert_equal(&rt, starter.log.ended.get(), starter.log.started.get());
-        assert_equal(&rt, starter.log.quits.get(), 0);
+        assert_equal(&rt, log.ended.get(), log.started.get());
+        assert_equal(&rt, log.quits.get(), 0);
     }
     Ok(())
 }
@@ -38,26 +33,10 @@ fn play_into(alloc: Global, games: &str, room: usize) -> Result<(u8, Narrow), Fa
     let words = [
         "twogtp", "--black", FIRST, "--white", FIRST, "--size", "1", "--games", games,
     ];
-    let log = Log::new(alloc)?;
-    let mut output = Narrow {
-        taken: Vec::new(alloc),
-        flushed: Vec::new(alloc),
-        room,
-        log: log.clone()?,
-    };
+    let log = new_log(alloc)?;
+    let mut output = narrow(alloc, room, &log)?;
     let mut errors = Vec::new(alloc);
-    let mut starter = InMemory {
-        alloc,
-        log,
-        refused: 0,
-    };
-    let status = run(
-        alloc,
-        words.as_slice(),
-        &mut output,
-        &mut errors,
-        &mut starter,
-    );
+    let status = run_into(alloc, words.as_slice(), &mut output, &mut errors, &log, 0)?;
     Ok((status, output))
 }
 
@@ -68,7 +47,11 @@ fn what_goes_out_before_a_write_fault_is_a_beginning(rt: HostRuntime) -> Result<
         let (status, output) = play_into(rt.alloc(), "2", room)?;
         assert_equal(&rt, status, 3);
         assert_equal(&rt, output.taken.len(), room);
-        assert!(rt; whole.as_bytes().starts_with(output.taken.as_slice()));
+        assert_true_for(
+            &rt,
+            room,
+            whole.as_bytes().starts_with(output.taken.as_slice()),
+        );
         // All engines were ended, and those of the games that are told whole, and no others, after `quit`.
         assert_equal_for(&rt, room, output.log.started.get(), 2 * (told + 1));
         assert_equal_for(&rt, room, output.log.ended.get(), 2 * (told + 1));
@@ -114,11 +97,11 @@ fn help_goes_to_the_output(rt: HostRuntime) -> Result<(), Fail> {
             "write fault, out of memory, too many turns\n",
             "  twogtp --size 9 --black gtp_engine --white 'gtp_engine --policy random'\n",
         ] {
-            assert!(rt; text.contains(part), "{part} in {text}");
+            assert_true_for(&rt, part, text.contains(part));
         }
-        assert!(rt; text.ends_with("\nMore: man twogtp\n"), "{text}");
+        assert_true_for(&rt, text, text.ends_with("\nMore: man twogtp\n"));
         for line in text.lines() {
-            assert!(rt; line.len() < 80, "{line}");
+            assert_true_for(&rt, line, line.len() < 80);
         }
     }
     Ok(())
