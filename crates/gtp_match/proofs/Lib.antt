@@ -21,6 +21,7 @@ pub mod HeardLemmas
 pub mod OpeningLemmas
 pub mod MoveTextLemmas
 pub mod CallsLemmas
+pub mod LeavingLemmas
 pub mod JoinLemmas
 pub mod BoundLemmas
 pub mod VerdictLemmas

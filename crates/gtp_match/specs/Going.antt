@@ -27,7 +27,8 @@ use Rattle.gtp_match.specs.declared.verdicts.Action.{Action}
 use Rattle.gtp_match.specs.declared.verdicts.Action.TheVariants.{Start, Send, Wait, Done}
 use Rattle.gtp_match.specs.declared.verdicts.SideFault.{SideFault}
 use Rattle.gtp_match.specs.declared.verdicts.SideFault.TheVariants.{NoStatus, Overlong, WrongId, Unasked}
-use Rattle.gtp_match.specs.declared.verdicts.Verdict.TheVariants.{Unfit}
+use Rattle.gtp_match.specs.declared.verdicts.Verdict.{Verdict}
+use Rattle.gtp_match.specs.declared.verdicts.Verdict.TheVariants.{Score, Resign, Limit, Forfeit, Unfit, Abandoned}
 
 -- ---- what comes next
 
@@ -59,6 +60,14 @@ IsDue c (Send side) =
 -- what comes next of a sound match is due
 abbrev pub NextIsDue : Type 0
 NextIsDue = (c : Controller) → IsSound c → IsDue c (next c)
+
+-- Before a verdict, where a side is down, nothing is unanswered and no move is to be taken back, a side that is down is
+-- started: before anything is sent to the other.
+abbrev pub StartsComeFirst : Type 0
+StartsComeFirst =
+    (c : Controller) (side : Colour) → c.verdict ≡ None → c.pending ≡ None → IsIdle c.sides.black.up
+    → IsIdle c.sides.white.up → (side_of c.sides side).up ≡ None
+    → (down : Colour) × (next c ≡ Start down) × ((side_of c.sides down).up ≡ None)
 
 -- ---- who is in step
 
@@ -133,9 +142,20 @@ pub record Stands (c : Controller) (s : Colour) (left : List SentCommand) (numbe
   pub unanswered : engine.unanswered ≡ left
   pub confirmed : engine.confirmed ≡ number
 
--- What a reply to the first of the unanswered commands counts for. One command more is confirmed. Or it refused a
--- `play`, and the number of the last move has one retake more. Or it took a move back: one command less is confirmed,
--- the last move leaves the game, and nothing is to be taken back any more. Or a verdict is given.
+-- by this verdict a side failed
+abbrev pub IsFailure : Verdict → Type 0
+IsFailure (Score half_points) = ⊥
+IsFailure (Resign side) = ⊥
+IsFailure Limit = ⊥
+IsFailure (Forfeit side cause) = Unit {0}
+IsFailure (Unfit side) = Unit {0}
+IsFailure (Abandoned side) = ⊥
+
+-- What a reply to the first of the unanswered commands counts for. One command more is confirmed, also by the move that
+-- ends a match. Or it refused a `play`, and the number of the last move has one retake more. Or it took a move back: one
+-- command less is confirmed, the last move leaves the game, and nothing is to be taken back any more. Or its side
+-- resigned: the command is answered, and not confirmed. Or a side failed by it, and the command still counts as
+-- unanswered.
 pub data IsCounted (c new : Controller) (s : Colour) (engine : Incarnation) (entry : SentCommand)
     (later : List SentCommand) (reply : Reply) : Type 0 where
   confirmed : Stands new s later (engine.confirmed + 1) → IsCounted c new s engine entry later reply
@@ -143,7 +163,10 @@ pub data IsCounted (c new : Controller) (s : Colour) (engine : Incarnation) (ent
       → new.retakes ≡ with_retake (length c.game.moves) c.retakes → IsCounted c new s engine entry later reply
   taken_back : IsUndo entry.command → reply.ok ≡ true → Stands new s later (engine.confirmed - 1)
       → new.game ≡ without_last c.game → new.pending ≡ None → IsCounted c new s engine entry later reply
-  ended : IsSome new.verdict → IsCounted c new s engine entry later reply
+  resigned : new.verdict ≡ Some (Resign s) → Stands new s later engine.confirmed
+      → IsCounted c new s engine entry later reply
+  failed : (v : Verdict) → new.verdict ≡ Some v → IsFailure v → Stands new s (entry ∷ later) engine.confirmed
+      → IsCounted c new s engine entry later reply
 
 -- Before a verdict, a reply with the id of the first of the unanswered commands shows no fault, and counts.
 abbrev pub AnswersCount : Type 0
