@@ -44,6 +44,7 @@ pub mod StepLemmas
 pub mod UndoLemmas
 pub mod NeverLemmas
 pub mod FaultLemmas
+pub mod UsedLemmas
 pub mod AnswersLemmas
 pub mod GoneLemmas
 pub mod PointsLemmas

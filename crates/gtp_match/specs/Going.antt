@@ -5,7 +5,7 @@ use Rattle.go_base.specs.Colour.{other}
 use Rattle.go_base.specs.declared.colours.Colour.{Colour}
 use Rattle.go_base.specs.declared.moves.Move.{Move}
 use Rattle.go_board.specs.Game.{GameRecord, without_last}
-use Rattle.gtp_wire.specs.Replies.{IsFirst}
+use Rattle.gtp_wire.specs.Replies.{TellsNothing, IsFirst}
 use Rattle.gtp_wire.specs.declared.commands.Command.{Command}
 use Rattle.gtp_wire.specs.declared.replies.Reply.{Reply}
 use Rattle.gtp_wire.specs.declared.replies.ReplyFault.TheVariants as reply_fault
@@ -132,6 +132,33 @@ FaultsHaveCauses =
     (c new : Controller) (s : Colour) (bytes : List ℕ) (used : ℕ) (shown : SideFault)
     → Hears c s bytes used (Some shown) new
     → MatchOption (side_of c.sides s).up ⊥ (λ engine. ShowsFault engine bytes used shown)
+
+-- Of a match only this side's engine is another: it wrote more bytes, as many as these.
+pub record OnlyWrote (c new : Controller) (s : Colour) (engine : Incarnation) (bytes : List ℕ) : Type 0 where
+  pub reader : List ℕ
+  pub up : (side_of new.sides s).up ≡ Some (record engine { reader = reader })
+  pub longer : length reader ≡ length engine.reader + length bytes
+  pub same : new ≡ record c { sides = new.sides }
+
+-- How many of the bytes are used, of a side that is up and before a verdict: up to the end of a reply, where one ends;
+-- or up to the byte at which a fault has its cause, which is shown then; or else all, and nothing more is done.
+pub record BytesAreUsed : Type 0 where
+  pub reply : (c new : Controller) (s : Colour) (engine : Incarnation) (value : Reply) (bytes : List ℕ)
+      (place used : ℕ) (fault : Option SideFault) → Hears c s bytes used fault new
+      → c.verdict ≡ None → (side_of c.sides s).up ≡ Some engine → EndsReply engine bytes place value → used ≡ place
+  pub fault : (c new : Controller) (s : Colour) (engine : Incarnation) (shown : SideFault) (bytes : List ℕ)
+      (place used : ℕ) (fault : Option SideFault) → Hears c s bytes used fault new
+      → c.verdict ≡ None → (side_of c.sides s).up ≡ Some engine → ShowsFault engine bytes place shown
+      → (used ≡ place) × (fault ≡ Some shown)
+  pub nothing : (c new : Controller) (s : Colour) (engine : Incarnation) (bytes : List ℕ) (used : ℕ)
+      (fault : Option SideFault) → Hears c s bytes used fault new
+      → c.verdict ≡ None → (side_of c.sides s).up ≡ Some engine → TellsNothing (engine.reader ++ bytes)
+      → (used ≡ length bytes) × (fault ≡ None) × OnlyWrote c new s engine bytes
+  -- of a side that is down, and after a verdict, all are
+  pub down : (c new : Controller) (s : Colour) (bytes : List ℕ) (used : ℕ) (fault : Option SideFault)
+      → Hears c s bytes used fault new → (side_of c.sides s).up ≡ None → used ≡ length bytes
+  pub over : (c new : Controller) (s : Colour) (bytes : List ℕ) (used : ℕ) (fault : Option SideFault) (v : Verdict)
+      → Hears c s bytes used fault new → c.verdict ≡ Some v → used ≡ length bytes
 
 -- ---- what answers count for
 
