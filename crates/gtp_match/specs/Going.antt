@@ -179,8 +179,8 @@ IsFailure (Unfit side) = Unit {0}
 IsFailure (Abandoned side) = ⊥
 
 -- What a reply to the first of the unanswered commands counts for. One command more is confirmed, also by the move that
--- ends a match. Or it refused a `play`, and the number of the last move has one retake more. Or it took a move back: one
--- command less is confirmed, the last move leaves the game, and nothing is to be taken back any more. Or its side
+-- ends a match. Or it refused a `play`, and the number of the last move has one retake more. Or it took a move back:
+-- one command less is confirmed, the last move leaves the game, and nothing is to be taken back any more. Or its side
 -- resigned: the command is answered, and not confirmed. Or a side failed by it, and the command still counts as
 -- unanswered.
 pub data IsCounted (c new : Controller) (s : Colour) (engine : Incarnation) (entry : SentCommand)
