@@ -1,20 +1,19 @@
 -- Answers count.
 use Rattle.std.proofs.Common.{◌≡◌, ℕ, ◌+◌, ◌-◌, List, ◌∷◌, ◌++◌, length, Option, Some, None, Ok, Err, refl, sym}
 use Rattle.std.proofs.Common.{◌∙◌, Bool, true, false, ap, subst, drop, arith}
-use Rattle.std.specs.Prelude.{IsSome}
 use Rattle.std.proofs.lemmas.Bool.Decides.{nat_tests}
 use Rattle.go_base.specs.Colour.{other}
 use Rattle.go_base.specs.declared.colours.Colour.{Colour}
 use Rattle.gtp_wire.specs.Replies.{IsFirst, TellsNothing}
 use Rattle.gtp_wire.specs.declared.replies.Reply.{Reply}
 use Rattle.gtp_wire.proofs.ReplyLaws.{one_first}
-use Rattle.gtp_match.specs.Going.{Stands, IsCounted}
+use Rattle.gtp_match.specs.Going.{Stands, IsFailure, IsCounted}
 use Rattle.gtp_match.specs.Hearing.{Hears}
 use Rattle.gtp_match.specs.Replying.{EndsReply}
 use Rattle.gtp_match.specs.ReplyTable.{outcome, outcome_of}
 use Rattle.gtp_match.specs.ReplyTable.{has_id, after_outcome, fault_of, retaken_at, refused}
 use Rattle.gtp_match.specs.Sound.{IsPlay}
-use Rattle.gtp_match.specs.Sides.{side_of, heard_reply, answered, confirmed, taken_back}
+use Rattle.gtp_match.specs.Sides.{side_of, with_engine_of, heard_reply, answered, confirmed, taken_back}
 use Rattle.gtp_match.specs.Taking.{may_retake, has_all}
 use Rattle.gtp_match.specs.Unanswered.{oldest}
 use Rattle.gtp_match.specs.declared.controller.Controller.{Controller}
@@ -106,14 +105,23 @@ answers_count c new s engine entry later reply bytes used fault hears none up en
       confirmed = count;
     }
 
-    over : (v : Verdict) (x : Controller) → new ≡ x → x.verdict ≡ Some v → IsCounted c new s engine entry later reply
-    over v x new_is e =
-        IsCounted.ended
-        (subst (λ (w : Option Verdict). IsSome w) (sym (ap (λ (y : Controller). y.verdict) new_is ∙ e)) refl)
+    -- a side failed: nothing is answered
+    over : (v : Verdict) → IsFailure v → (x : Controller) → new ≡ x → x.verdict ≡ Some v
+        → (side_of x.sides s).up ≡ Some (heard_reply engine) → IsCounted c new s engine entry later reply
+    over v failure x new_is e up_after =
+        IsCounted.failed v (ap (λ (y : Controller). y.verdict) new_is ∙ e) failure (record {
+          engine = heard_reply engine;
+          up = ap (up_in s) new_is ∙ up_after;
+          unanswered = first_is;
+          confirmed = refl;
+        })
+
+    there : (side_of (with_engine_of s (heard_reply engine) c.sides) s).up ≡ Some (heard_reply engine)
+    there = up_there c.sides s (heard_reply engine)
 
     by_refusal : fault ≡ None → IsPlay entry.command × (reply.ok ≡ false) → (may : Bool)
         → new ≡ refused c s (heard_reply engine) may → (fault ≡ None) × IsCounted c new s engine entry later reply
-    by_refusal no_fault why false new_is = (no_fault, over (verdict.Forfeit s RefusedPlay) _ new_is refl)
+    by_refusal no_fault why false new_is = (no_fault, over (verdict.Forfeit s RefusedPlay) tt _ new_is refl there)
     by_refusal no_fault why true new_is = by_held (has_all c.game (side_of c.sides (other s)).up) new_is
       where
         by_held : (b : Bool) → new ≡ retaken_at c s (heard_reply engine) b
@@ -140,11 +148,16 @@ answers_count c new s engine entry later reply bytes used fault hears none up en
     by_outcome : (o : Outcome) → outcome_of c.game s entry.command reply ≡ o → fault ≡ fault_of o
         → new ≡ after_outcome c s (heard_reply engine) o → (fault ≡ None) × IsCounted c new s engine entry later reply
     by_outcome (Down f) e fault_is new_is = absurd (never c.game s entry.command reply f e)
-    by_outcome Unfit e fault_is new_is = (fault_is, over (verdict.Unfit s) _ new_is refl)
-    by_outcome (Forfeits cause) e fault_is new_is = (fault_is, over (verdict.Forfeit s cause) _ new_is refl)
+    by_outcome Unfit e fault_is new_is = (fault_is, over (verdict.Unfit s) tt _ new_is refl there)
+    by_outcome (Forfeits cause) e fault_is new_is =
+        (fault_is, over (verdict.Forfeit s cause) tt _ new_is refl there)
     by_outcome Confirms e fault_is new_is =
         (fault_is, confirms _ new_is (up_there c.sides s (confirmed (heard_reply engine))))
-    by_outcome Resigns e fault_is new_is = (fault_is, over (verdict.Resign s) _ new_is refl)
+    by_outcome Resigns e fault_is new_is = (
+      fault_is,
+      IsCounted.resigned (ap (λ (x : Controller). x.verdict) new_is) (stands (answered (heard_reply engine))
+          engine.confirmed (ap (up_in s) new_is ∙ up_there c.sides s (answered (heard_reply engine))) refl refl),
+    )
     by_outcome (Moves v) e fault_is new_is =
         (fault_is, confirms _ new_is (up_there c.sides s (confirmed (heard_reply engine))))
     by_outcome Refuses e fault_is new_is =
@@ -158,4 +171,4 @@ answers_count c new s engine entry later reply bytes used fault hears none up en
               (ap (λ (x : Controller). x.game) new_is) (ap (λ (x : Controller). x.pending) new_is),
         )
     by_outcome Keeps e fault_is new_is =
-        (fault_is, over (verdict.Forfeit (other s) RefusedPlay) _ new_is refl)
+        (fault_is, over (verdict.Forfeit (other s) RefusedPlay) tt _ new_is refl there)

@@ -36,7 +36,7 @@ use Rattle.gtp_match.proofs.ReplyingLemmas.{Heard, heard, up_there, up_in}
 use Rattle.gtp_match.proofs.ShorterLemmas.{same_is}
 
 -- what is no fault was said in reply to the oldest command
-told : (c : Controller) (s : Colour) (engine : Incarnation) (bytes : List ℕ) (used : ℕ) (reply : Reply)
+pub told : (c : Controller) (s : Colour) (engine : Incarnation) (bytes : List ℕ) (used : ℕ) (reply : Reply)
     → EndsReply engine bytes used reply → (o : Outcome) → IsNoFault o
     → outcome c.game s (oldest engine.unanswered) reply ≡ o
     → HearsReply engine bytes used (λ k r. Reason c.game s k r o)
@@ -74,7 +74,7 @@ made c new s engine bytes used reply v up ends e new_is =
 
 -- ---- who has confirmed the script
 
-confirmed_all : (game : GameRecord) (up : Option Incarnation) → has_all game up ≡ true → HasConfirmedAll game up
+pub confirmed_all : (game : GameRecord) (up : Option Incarnation) → has_all game up ≡ true → HasConfirmedAll game up
 confirmed_all game None e = cc
 confirmed_all game (Some engine) e = eqb-true engine.confirmed (length (script game)) e
 
@@ -87,7 +87,7 @@ not_confirmed game (Some engine) e as_many =
 
 -- ---- a move that leaves the game
 
-maker_is : (p : Option Colour) (s : Colour) → is_maker p s ≡ true → p ≡ Some s
+pub maker_is : (p : Option Colour) (s : Colour) → is_maker p s ≡ true → p ≡ Some s
 maker_is None s e = absurd (cc)
 maker_is (Some m) s e = ap (λ (x : Colour). Some x) (same_is m s e)
 

@@ -21,6 +21,7 @@ pub mod HeardLemmas
 pub mod OpeningLemmas
 pub mod MoveTextLemmas
 pub mod CallsLemmas
+pub mod LeavingLemmas
 pub mod JoinLemmas
 pub mod BoundLemmas
 pub mod VerdictLemmas
@@ -43,6 +44,7 @@ pub mod StepLemmas
 pub mod UndoLemmas
 pub mod NeverLemmas
 pub mod FaultLemmas
+pub mod UsedLemmas
 pub mod AnswersLemmas
 pub mod GoneLemmas
 pub mod PointsLemmas

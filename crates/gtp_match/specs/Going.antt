@@ -5,7 +5,7 @@ use Rattle.go_base.specs.Colour.{other}
 use Rattle.go_base.specs.declared.colours.Colour.{Colour}
 use Rattle.go_base.specs.declared.moves.Move.{Move}
 use Rattle.go_board.specs.Game.{GameRecord, without_last}
-use Rattle.gtp_wire.specs.Replies.{IsFirst}
+use Rattle.gtp_wire.specs.Replies.{TellsNothing, IsFirst}
 use Rattle.gtp_wire.specs.declared.commands.Command.{Command}
 use Rattle.gtp_wire.specs.declared.replies.Reply.{Reply}
 use Rattle.gtp_wire.specs.declared.replies.ReplyFault.TheVariants as reply_fault
@@ -27,7 +27,8 @@ use Rattle.gtp_match.specs.declared.verdicts.Action.{Action}
 use Rattle.gtp_match.specs.declared.verdicts.Action.TheVariants.{Start, Send, Wait, Done}
 use Rattle.gtp_match.specs.declared.verdicts.SideFault.{SideFault}
 use Rattle.gtp_match.specs.declared.verdicts.SideFault.TheVariants.{NoStatus, Overlong, WrongId, Unasked}
-use Rattle.gtp_match.specs.declared.verdicts.Verdict.TheVariants.{Unfit}
+use Rattle.gtp_match.specs.declared.verdicts.Verdict.{Verdict}
+use Rattle.gtp_match.specs.declared.verdicts.Verdict.TheVariants.{Score, Resign, Limit, Forfeit, Unfit, Abandoned}
 
 -- ---- what comes next
 
@@ -59,6 +60,14 @@ IsDue c (Send side) =
 -- what comes next of a sound match is due
 abbrev pub NextIsDue : Type 0
 NextIsDue = (c : Controller) → IsSound c → IsDue c (next c)
+
+-- Before a verdict, where a side is down, nothing is unanswered and no move is to be taken back, a side that is down is
+-- started: before anything is sent to the other.
+abbrev pub StartsComeFirst : Type 0
+StartsComeFirst =
+    (c : Controller) (side : Colour) → c.verdict ≡ None → c.pending ≡ None → IsIdle c.sides.black.up
+    → IsIdle c.sides.white.up → (side_of c.sides side).up ≡ None
+    → (down : Colour) × (next c ≡ Start down) × ((side_of c.sides down).up ≡ None)
 
 -- ---- who is in step
 
@@ -124,6 +133,33 @@ FaultsHaveCauses =
     → Hears c s bytes used (Some shown) new
     → MatchOption (side_of c.sides s).up ⊥ (λ engine. ShowsFault engine bytes used shown)
 
+-- Of a match only this side's engine is another: it wrote more bytes, as many as these.
+pub record OnlyWrote (c new : Controller) (s : Colour) (engine : Incarnation) (bytes : List ℕ) : Type 0 where
+  pub reader : List ℕ
+  pub up : (side_of new.sides s).up ≡ Some (record engine { reader = reader })
+  pub longer : length reader ≡ length engine.reader + length bytes
+  pub same : new ≡ record c { sides = new.sides }
+
+-- How many of the bytes are used, of a side that is up and before a verdict: up to the end of a reply, where one ends;
+-- or up to the byte at which a fault has its cause, which is shown then; or else all, and nothing more is done.
+pub record BytesAreUsed : Type 0 where
+  pub reply : (c new : Controller) (s : Colour) (engine : Incarnation) (value : Reply) (bytes : List ℕ)
+      (place used : ℕ) (fault : Option SideFault) → Hears c s bytes used fault new
+      → c.verdict ≡ None → (side_of c.sides s).up ≡ Some engine → EndsReply engine bytes place value → used ≡ place
+  pub fault : (c new : Controller) (s : Colour) (engine : Incarnation) (shown : SideFault) (bytes : List ℕ)
+      (place used : ℕ) (fault : Option SideFault) → Hears c s bytes used fault new
+      → c.verdict ≡ None → (side_of c.sides s).up ≡ Some engine → ShowsFault engine bytes place shown
+      → (used ≡ place) × (fault ≡ Some shown)
+  pub nothing : (c new : Controller) (s : Colour) (engine : Incarnation) (bytes : List ℕ) (used : ℕ)
+      (fault : Option SideFault) → Hears c s bytes used fault new
+      → c.verdict ≡ None → (side_of c.sides s).up ≡ Some engine → TellsNothing (engine.reader ++ bytes)
+      → (used ≡ length bytes) × (fault ≡ None) × OnlyWrote c new s engine bytes
+  -- of a side that is down, and after a verdict, all are
+  pub down : (c new : Controller) (s : Colour) (bytes : List ℕ) (used : ℕ) (fault : Option SideFault)
+      → Hears c s bytes used fault new → (side_of c.sides s).up ≡ None → used ≡ length bytes
+  pub over : (c new : Controller) (s : Colour) (bytes : List ℕ) (used : ℕ) (fault : Option SideFault) (v : Verdict)
+      → Hears c s bytes used fault new → c.verdict ≡ Some v → used ≡ length bytes
+
 -- ---- what answers count for
 
 -- the side is up, these commands of its engine are unanswered, and this number of them is confirmed
@@ -133,9 +169,20 @@ pub record Stands (c : Controller) (s : Colour) (left : List SentCommand) (numbe
   pub unanswered : engine.unanswered ≡ left
   pub confirmed : engine.confirmed ≡ number
 
--- What a reply to the first of the unanswered commands counts for. One command more is confirmed. Or it refused a
--- `play`, and the number of the last move has one retake more. Or it took a move back: one command less is confirmed,
--- the last move leaves the game, and nothing is to be taken back any more. Or a verdict is given.
+-- by this verdict a side failed
+abbrev pub IsFailure : Verdict → Type 0
+IsFailure (Score half_points) = ⊥
+IsFailure (Resign side) = ⊥
+IsFailure Limit = ⊥
+IsFailure (Forfeit side cause) = Unit {0}
+IsFailure (Unfit side) = Unit {0}
+IsFailure (Abandoned side) = ⊥
+
+-- What a reply to the first of the unanswered commands counts for. One command more is confirmed, also by the move that
+-- ends a match. Or it refused a `play`, and the number of the last move has one retake more. Or it took a move back:
+-- one command less is confirmed, the last move leaves the game, and nothing is to be taken back any more. Or its side
+-- resigned: the command is answered, and not confirmed. Or a side failed by it, and the command still counts as
+-- unanswered.
 pub data IsCounted (c new : Controller) (s : Colour) (engine : Incarnation) (entry : SentCommand)
     (later : List SentCommand) (reply : Reply) : Type 0 where
   confirmed : Stands new s later (engine.confirmed + 1) → IsCounted c new s engine entry later reply
@@ -143,7 +190,10 @@ pub data IsCounted (c new : Controller) (s : Colour) (engine : Incarnation) (ent
       → new.retakes ≡ with_retake (length c.game.moves) c.retakes → IsCounted c new s engine entry later reply
   taken_back : IsUndo entry.command → reply.ok ≡ true → Stands new s later (engine.confirmed - 1)
       → new.game ≡ without_last c.game → new.pending ≡ None → IsCounted c new s engine entry later reply
-  ended : IsSome new.verdict → IsCounted c new s engine entry later reply
+  resigned : new.verdict ≡ Some (Resign s) → Stands new s later engine.confirmed
+      → IsCounted c new s engine entry later reply
+  failed : (v : Verdict) → new.verdict ≡ Some v → IsFailure v → Stands new s (entry ∷ later) engine.confirmed
+      → IsCounted c new s engine entry later reply
 
 -- Before a verdict, a reply with the id of the first of the unanswered commands shows no fault, and counts.
 abbrev pub AnswersCount : Type 0
