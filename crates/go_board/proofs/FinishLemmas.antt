@@ -1,6 +1,7 @@
 -- A game is finished just where the last two moves of its record, by their numbers, are passes.
-use Rattle.std.proofs.Common.{◌≡◌, ℕ, zero, suc, ◌+◌, ◌-◌, ◌≤◌, List, [], ◌∷◌, ◌++◌, length, refl, sym, ◌∙◌, ap, arith}
-use Rattle.std.specs.Prelude.{Some, slice_get}
+use Rattle.std.proofs.Common.{◌≡◌, ℕ, zero, suc, ◌+◌, ◌-◌, ◌≤◌, List, [], ◌∷◌, ◌++◌, length, refl, sym, ◌∙◌, ap, arith, Bool, true, false, true≢false}
+use Rattle.std.specs.Prelude.{Some, slice_get, ◌↔◌, IsTrue}
+use Rattle.go_base.specs.Decide.{holds}
 use Rattle.std.proofs.lemmas.List.{length-append}
 use Rattle.go_base.specs.declared.colours.Colour.{Colour}
 use Rattle.go_base.specs.declared.moves.Move.{Move}
@@ -8,6 +9,7 @@ use Rattle.go_base.specs.declared.vertices.Vertex.{Vertex}
 use Rattle.go_base.specs.declared.vertices.Vertex.TheVariants.{Pass}
 use Rattle.go_board.specs.Game.{GameRecord, IsFinished}
 use Rattle.go_board.specs.Laws.{IsPassAt, EndsByTwoPasses}
+use Rattle.go_board.proofs.CaptureLemmas.{holds-yes, holds-no}
 
 -- ---- from the end of the list to the numbers
 
@@ -82,3 +84,8 @@ ends-finished game ends =
       second = b.colour;
       ends = two-passes game.moves split.0 a b split.1 ends.first.pass ends.second.pass;
     }
+
+-- a test of it decides it
+pub decided_by : {P : Type 0} (d : Dec P) (test : Bool) → IsTrue test ↔ P → test ≡ holds d
+decided_by d true is = sym (holds-yes d (is.0 refl))
+decided_by d false is = sym (holds-no d (λ p. true≢false (sym (is.1 p))))

@@ -1,7 +1,21 @@
-use Rattle.std.proofs.Common.{◌∙◌, arith}
+use Rattle.std.proofs.Common.{◌∙◌, ap, subst, arith}
+use Rattle.go_board.specs.Board.{stone}
+use Rattle.go_board.specs.private.Flood.{AreTouching}
+use Rattle.go_board.specs.declared.board.Cell.{Cell}
+use Rattle.go_board.specs.declared.board.Cell.TheVariants.{Empty}
 use Rattle.go_board.proofs.AreaLemmas.{counted-one, counted-none, area-from_count}
 use Rattle.go_board.proofs.board.Board.area.Goals as goal
 use Rattle.go_board.proofs.board.Board.area.Goals.{then-counts_for, else-counts_for}
+
+pub counts_for-requires-clause-mine : goal.counts_for-requires-clause-mine
+counts_for-requires-clause-mine c =
+    subst (λ (held : Cell). AreTouching c.args.self.now Empty held c.touching-mine.result) c.stone.ensures
+    c.touching-mine.ensures
+
+pub counts_for-requires-clause-theirs : goal.counts_for-requires-clause-theirs
+counts_for-requires-clause-theirs c =
+    subst (λ (held : Cell). AreTouching c.args.self.now Empty held c.touching-theirs.result)
+    (c.stone-2.ensures ∙ ap stone c.other.ensures) c.touching-theirs.ensures
 
 pub loop-place-preserved : goal.loop-place-preserved
 loop-place-preserved c =
