@@ -12,6 +12,7 @@ use Rattle.clap.specs.declared.builder.command.Command.{Command}
 use Rattle.clap.proofs.OnLiterals.{clap_on_literals}
 use Rattle.twogtp.specs.Options.{command_line}
 use Rattle.twogtp.specs.declared.options.OptionRow.{OptionRow}
+use Rattle.twogtp.specs.declared.options.Takes.TheVariants.{Engine}
 use Rattle.twogtp.specs.private.OptionRows.{rule_of_row, with_options}
 
 -- the command line uses nothing that changes how words are read
@@ -50,6 +51,14 @@ with_options-more : (app : App) (rows : List OptionRow) (row : OptionRow)
     → with_options app (rows ++ row ∷ []) ≡ with_rule (with_options app rows) (rule_of_row row)
 with_options-more app [] row = refl
 with_options-more app (first ∷ rest) row = with_options-more (with_rule app (rule_of_row first)) rest row
+
+-- the row that the checker takes past the end of a list
+abbrev pub some_row : OptionRow
+some_row = record {
+  name = record { ref_ptr = (0, 0); now = [] };
+  takes = Engine;
+  help = record { ref_ptr = (0, 0); now = [] };
+}
 
 -- a command line with the options of the first k rows has, with the next row's option, those of the first k + 1
 pub with_options-step : (app : App) (rows : List OptionRow) (k : ℕ) (d : OptionRow) (old new : Command) (option : Arg)
