@@ -8,14 +8,14 @@ pub fn assert_equal<T: PartialEq + Debug + Drop>(rt: &impl Abort, left: T, right
     assert_eq!(rt; left, right);
 }
 
-/// The same, where the case is told beside the two.
-pub fn assert_equal_for<C: Debug + Drop, T: PartialEq + Debug + Drop>(
+/// The same, where the case is printed beside each of the two.
+pub fn assert_equal_for<C: PartialEq + Debug + Drop, T: PartialEq + Debug + Drop>(
     rt: &impl Abort,
     case: C,
     left: T,
     right: T,
 ) {
-    assert_eq!(rt; left, right, "{case:?}");
+    assert_equal(rt, (&case, left), (&case, right));
 }
 
 /// It holds.
