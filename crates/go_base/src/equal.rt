@@ -8,7 +8,7 @@ pub fn assert_equal<T: PartialEq + Debug + Drop>(rt: &impl Abort, left: T, right
     assert_eq!(rt; left, right);
 }
 
-/// The same, where the case is told beside each of the two.
+/// The same, where the case is printed beside each of the two.
 pub fn assert_equal_for<C: PartialEq + Debug + Drop, T: PartialEq + Debug + Drop>(
     rt: &impl Abort,
     case: C,

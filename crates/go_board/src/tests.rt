@@ -33,7 +33,7 @@ fn at(rt: &impl Abort, column: u32, row: u32) -> Point {
     some(rt, Point::new(column, row))
 }
 
-/// The move of a word: the colour's letter, and behind it the vertex, as in `bD4` and `wpass`.
+/// The move of a word: the colour's letter, and after it the vertex, as in `bD4` and `wpass`.
 fn read_move(rt: &impl Abort, word: &str) -> Move {
     let (letter, vertex) = some(rt, word.as_bytes().split_first());
     Move {

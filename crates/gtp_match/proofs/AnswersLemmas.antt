@@ -1,17 +1,23 @@
 -- Answers count.
 use Rattle.std.proofs.Common.{◌≡◌, ℕ, ◌+◌, ◌-◌, List, ◌∷◌, ◌++◌, length, Option, Some, None, Ok, Err, refl, sym}
-use Rattle.std.proofs.Common.{◌∙◌, Bool, true, false, ap, subst, drop, arith}
+use Rattle.std.proofs.Common.{◌∙◌, Bool, true, false, ap, subst, drop, arith, cond, eqb}
+use Rattle.std.specs.Prelude.{IfSome}
 use Rattle.std.proofs.lemmas.Bool.Decides.{nat_tests}
 use Rattle.go_base.specs.Colour.{other}
+use Rattle.go_base.specs.Decide.{holds}
 use Rattle.go_base.specs.declared.colours.Colour.{Colour}
+use Rattle.go_board.specs.Area.{score}
+use Rattle.go_board.specs.decisions.Game.{finished?}
+use Rattle.go_board.specs.Game.{GameRecord, with_move}
 use Rattle.gtp_wire.specs.Replies.{IsFirst, TellsNothing}
 use Rattle.gtp_wire.specs.declared.replies.Reply.{Reply}
 use Rattle.gtp_wire.proofs.ReplyLaws.{one_first}
-use Rattle.gtp_match.specs.Going.{Stands, IsFailure, IsCounted}
+use Rattle.gtp_match.specs.Going.{Stands, IsEnd, IsFailure, IsCounted}
 use Rattle.gtp_match.specs.Hearing.{Hears}
 use Rattle.gtp_match.specs.Replying.{EndsReply}
 use Rattle.gtp_match.specs.ReplyTable.{outcome, outcome_of}
-use Rattle.gtp_match.specs.ReplyTable.{has_id, after_outcome, fault_of, retaken_at, refused}
+use Rattle.gtp_match.specs.ReplyTable.{has_id, after_outcome, fault_of, retaken_at, refused, verdict_after}
+use Rattle.gtp_match.specs.Setup.{SetupRecord}
 use Rattle.gtp_match.specs.Sound.{IsPlay}
 use Rattle.gtp_match.specs.Sides.{side_of, with_engine_of, heard_reply, answered, confirmed, taken_back}
 use Rattle.gtp_match.specs.Taking.{may_retake, has_all}
@@ -86,6 +92,24 @@ heard_answer c new s engine entry later reply bytes used fault hears none up end
     by_way (Heard.down up2 fault_is new_is) = let no : None ≡ Some engine = sym up2 ∙ up in absurd (cc)
     by_way (Heard.over v e fault_is new_is) = let no : None ≡ Some v = sym none ∙ e in absurd (cc)
 
+-- a match without a verdict has none that a side is blamed for
+none_ends : (verdict : Option Verdict) → verdict ≡ None → IfSome verdict IsEnd
+none_ends None e = tt
+none_ends (Some v) e = absurd (cc)
+
+-- nor has the verdict after a move
+move_ends : (setup : SetupRecord) (game : GameRecord) → IfSome (verdict_after setup game) IsEnd
+move_ends setup game = by_passes (holds (finished? game))
+  where
+    by_limit : (b : Bool) → IfSome (cond b (Some verdict.Limit) None) IsEnd
+    by_limit true = tt
+    by_limit false = tt
+
+    by_passes : (b : Bool) → IfSome (cond b (Some (verdict.Score (score game)))
+        (cond (eqb (length game.moves) setup.max_moves) (Some verdict.Limit) None)) IsEnd
+    by_passes true = tt
+    by_passes false = by_limit (eqb (length game.moves) setup.max_moves)
+
 pub answers_count : (c new : Controller) (s : Colour) (engine : Incarnation) (entry : SentCommand)
     (later : List SentCommand) (reply : Reply) (bytes : List ℕ) (used : ℕ) (fault : Option SideFault)
     → Hears c s bytes used fault new → c.verdict ≡ None → (side_of c.sides s).up ≡ Some engine
@@ -104,6 +128,10 @@ answers_count c new s engine entry later reply bytes used fault hears none up en
       unanswered = left ∙ ap (λ (asked : List SentCommand). drop 1 asked) first_is;
       confirmed = count;
     }
+
+    -- no verdict is given
+    goes_on : (x : Controller) → new ≡ x → x.verdict ≡ None → new.verdict ≡ None
+    goes_on x new_is goes = ap (λ (y : Controller). y.verdict) new_is ∙ goes
 
     -- a side failed: nothing is answered
     over : (v : Verdict) → IsFailure v → (x : Controller) → new ≡ x → x.verdict ≡ Some v
@@ -128,21 +156,21 @@ answers_count c new s engine entry later reply bytes used fault hears none up en
             → (fault ≡ None) × IsCounted c new s engine entry later reply
         by_held true new_is = (
           no_fault,
-          IsCounted.retaken why.0 why.1 (stands (answered (heard_reply engine)) engine.confirmed
+          IsCounted.retaken why.0 why.1 (goes_on _ new_is none) (stands (answered (heard_reply engine)) engine.confirmed
               (ap (up_in s) new_is ∙ up_there c.sides s (answered (heard_reply engine))) refl refl)
               (ap (λ (x : Controller). x.retakes) new_is),
         )
         by_held false new_is = (
           no_fault,
-          IsCounted.retaken why.0 why.1 (stands (answered (heard_reply engine)) engine.confirmed
+          IsCounted.retaken why.0 why.1 (goes_on _ new_is none) (stands (answered (heard_reply engine)) engine.confirmed
               (ap (up_in s) new_is ∙ up_there c.sides s (answered (heard_reply engine))) refl refl)
               (ap (λ (x : Controller). x.retakes) new_is),
         )
 
-    confirms : (x : Controller) → new ≡ x → (side_of x.sides s).up ≡ Some (confirmed (heard_reply engine))
-        → IsCounted c new s engine entry later reply
-    confirms x new_is up_after =
-        IsCounted.confirmed (stands (confirmed (heard_reply engine)) (engine.confirmed + 1)
+    confirms : (x : Controller) → new ≡ x → IfSome x.verdict IsEnd
+        → (side_of x.sides s).up ≡ Some (confirmed (heard_reply engine)) → IsCounted c new s engine entry later reply
+    confirms x new_is ends up_after =
+        IsCounted.confirmed (subst (λ (y : Controller). IfSome y.verdict IsEnd) (sym new_is) ends) (stands (confirmed (heard_reply engine)) (engine.confirmed + 1)
         (ap (up_in s) new_is ∙ up_after) refl refl)
 
     by_outcome : (o : Outcome) → outcome_of c.game s entry.command reply ≡ o → fault ≡ fault_of o
@@ -152,21 +180,21 @@ answers_count c new s engine entry later reply bytes used fault hears none up en
     by_outcome (Forfeits cause) e fault_is new_is =
         (fault_is, over (verdict.Forfeit s cause) tt _ new_is refl there)
     by_outcome Confirms e fault_is new_is =
-        (fault_is, confirms _ new_is (up_there c.sides s (confirmed (heard_reply engine))))
+        (fault_is, confirms _ new_is (none_ends c.verdict none) (up_there c.sides s (confirmed (heard_reply engine))))
     by_outcome Resigns e fault_is new_is = (
       fault_is,
       IsCounted.resigned (ap (λ (x : Controller). x.verdict) new_is) (stands (answered (heard_reply engine))
           engine.confirmed (ap (up_in s) new_is ∙ up_there c.sides s (answered (heard_reply engine))) refl refl),
     )
     by_outcome (Moves v) e fault_is new_is =
-        (fault_is, confirms _ new_is (up_there c.sides s (confirmed (heard_reply engine))))
+        (fault_is, confirms _ new_is (move_ends c.setup (with_move c.game s v)) (up_there c.sides s (confirmed (heard_reply engine))))
     by_outcome Refuses e fault_is new_is =
         by_refusal fault_is (subst (Reason c.game s entry.command reply) e (reason c.game s reply entry.command))
         (may_retake c s (heard_reply engine)) new_is
     by_outcome TakesBack e fault_is new_is =
         let why = subst (Reason c.game s entry.command reply) e (reason c.game s reply entry.command) in (
           fault_is,
-          IsCounted.taken_back why.0 why.1 (stands (taken_back (heard_reply engine)) (engine.confirmed - 1)
+          IsCounted.taken_back why.0 why.1 (goes_on _ new_is none) (stands (taken_back (heard_reply engine)) (engine.confirmed - 1)
               (ap (up_in s) new_is ∙ up_there c.sides s (taken_back (heard_reply engine))) refl refl)
               (ap (λ (x : Controller). x.game) new_is) (ap (λ (x : Controller). x.pending) new_is),
         )

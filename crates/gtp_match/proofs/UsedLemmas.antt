@@ -23,7 +23,6 @@ use Rattle.gtp_match.specs.declared.unanswered.SentCommand.{SentCommand}
 use Rattle.gtp_match.specs.declared.verdicts.SideFault.{SideFault}
 use Rattle.gtp_match.specs.declared.verdicts.SideFault.TheVariants.{NoStatus, Overlong, WrongId, Unasked}
 use Rattle.gtp_match.specs.declared.verdicts.Verdict.{Verdict}
-use Rattle.gtp_match.proofs.ReplyingLemmas.{up_there}
 
 -- of a side that is up, before a verdict
 hears_up : (c new : Controller) (s : Colour) (engine : Incarnation) (bytes : List ℕ) (used : ℕ)
@@ -140,9 +139,8 @@ nothing_is_used c new s engine bytes used fault hears none up quiet =
       refl,
       record {
         reader = kept;
-        up = up_there c.sides s (record engine { reader = kept });
-        longer = is.0 ∙ length-append engine.reader bytes;
         same = refl;
+        longer = is.0 ∙ length-append engine.reader bytes;
       },
     )
 

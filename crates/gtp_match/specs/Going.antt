@@ -1,6 +1,6 @@
 -- That a match goes on, and what a reply counts for: told without the tables.
 use Rattle.std.specs.Prelude.{◌≡◌, ◌≢◌, ℕ, ◌+◌, ◌-◌, ◌<◌, ◌≤◌, ◌↔◌, false, true, List, [], ◌∷◌, ◌++◌, length, slice_get}
-use Rattle.std.specs.Prelude.{Option, None, Some, IsSome, MatchOption, Err}
+use Rattle.std.specs.Prelude.{Option, None, Some, IsSome, IfSome, MatchOption, Err}
 use Rattle.go_base.specs.Colour.{other}
 use Rattle.go_base.specs.declared.colours.Colour.{Colour}
 use Rattle.go_base.specs.declared.moves.Move.{Move}
@@ -10,7 +10,7 @@ use Rattle.gtp_wire.specs.declared.commands.Command.{Command}
 use Rattle.gtp_wire.specs.declared.replies.Reply.{Reply}
 use Rattle.gtp_wire.specs.declared.replies.ReplyFault.TheVariants as reply_fault
 use Rattle.gtp_match.specs.Calls.{Call, Calls, count_starts}
-use Rattle.gtp_match.specs.Controller.{new, to_move, in_step, next_command, lost}
+use Rattle.gtp_match.specs.Controller.{new, to_move, in_step, next_command, lost, with_side_up}
 use Rattle.gtp_match.specs.Hearing.{Hears}
 use Rattle.gtp_match.specs.Next.{next}
 use Rattle.gtp_match.specs.Replying.{EndsReply, IsGenmove, NamesOtherPoints}
@@ -133,12 +133,11 @@ FaultsHaveCauses =
     → Hears c s bytes used (Some shown) new
     → MatchOption (side_of c.sides s).up ⊥ (λ engine. ShowsFault engine bytes used shown)
 
--- Of a match only this side's engine is another: it wrote more bytes, as many as these.
+-- Of a match only what this side's engine wrote is another: it is longer by as many bytes as these.
 pub record OnlyWrote (c new : Controller) (s : Colour) (engine : Incarnation) (bytes : List ℕ) : Type 0 where
   pub reader : List ℕ
-  pub up : (side_of new.sides s).up ≡ Some (record engine { reader = reader })
+  pub same : new ≡ with_side_up c s (record engine { reader = reader })
   pub longer : length reader ≡ length engine.reader + length bytes
-  pub same : new ≡ record c { sides = new.sides }
 
 -- How many of the bytes are used, of a side that is up and before a verdict: up to the end of a reply, where one ends;
 -- or up to the byte at which a fault has its cause, which is shown then; or else all, and nothing more is done.
@@ -178,17 +177,27 @@ IsFailure (Forfeit side cause) = Unit {0}
 IsFailure (Unfit side) = Unit {0}
 IsFailure (Abandoned side) = ⊥
 
+-- by this verdict no side failed and none resigned
+abbrev pub IsEnd : Verdict → Type 0
+IsEnd (Score half_points) = Unit {0}
+IsEnd (Resign side) = ⊥
+IsEnd Limit = Unit {0}
+IsEnd (Forfeit side cause) = ⊥
+IsEnd (Unfit side) = ⊥
+IsEnd (Abandoned side) = ⊥
+
 -- What a reply to the first of the unanswered commands counts for. One command more is confirmed, also by the move that
--- ends a match. Or it refused a `play`, and the number of the last move has one retake more. Or it took a move back:
+-- ends a match by its score or its limit. Or it refused a `play`, and the number of the last move has one retake more. Or it took a move back:
 -- one command less is confirmed, the last move leaves the game, and nothing is to be taken back any more. Or its side
 -- resigned: the command is answered, and not confirmed. Or a side failed by it, and the command still counts as
 -- unanswered.
 pub data IsCounted (c new : Controller) (s : Colour) (engine : Incarnation) (entry : SentCommand)
     (later : List SentCommand) (reply : Reply) : Type 0 where
-  confirmed : Stands new s later (engine.confirmed + 1) → IsCounted c new s engine entry later reply
-  retaken : IsPlay entry.command → reply.ok ≡ false → Stands new s later engine.confirmed
+  confirmed : IfSome new.verdict IsEnd → Stands new s later (engine.confirmed + 1)
+      → IsCounted c new s engine entry later reply
+  retaken : IsPlay entry.command → reply.ok ≡ false → new.verdict ≡ None → Stands new s later engine.confirmed
       → new.retakes ≡ with_retake (length c.game.moves) c.retakes → IsCounted c new s engine entry later reply
-  taken_back : IsUndo entry.command → reply.ok ≡ true → Stands new s later (engine.confirmed - 1)
+  taken_back : IsUndo entry.command → reply.ok ≡ true → new.verdict ≡ None → Stands new s later (engine.confirmed - 1)
       → new.game ≡ without_last c.game → new.pending ≡ None → IsCounted c new s engine entry later reply
   resigned : new.verdict ≡ Some (Resign s) → Stands new s later engine.confirmed
       → IsCounted c new s engine entry later reply

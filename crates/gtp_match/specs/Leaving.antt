@@ -1,5 +1,5 @@
--- What calls leave as it was, what is owed once a command is sent, and what begins and ends a take-back: told without
--- the tables.
+-- What calls leave as it was, what is owed once a command is sent, and what begins and ends a take-back, without the
+-- tables. What a start leaves.
 use Rattle.std.specs.Prelude.{◌≡◌, ◌⊎◌, ℕ, true, List, [], ◌∷◌, ◌++◌, Option, None, Some, IsSome}
 use Rattle.go_base.specs.Colour.{other}
 use Rattle.go_base.specs.declared.colours.Colour.{Colour}
@@ -29,10 +29,23 @@ pub record OthersLeaveTheOtherSide : Type 0 where
   pub loss : (c : Controller) (s : Colour) → side_of (lost c s).sides (other s) ≡ side_of c.sides (other s)
 
 -- a loss of a side that is down changes nothing, and neither does what is heard of it, which shows no fault
-pub record WhoIsDownChangesNothing : Type 0 where
+pub record DownSidesChangeNothing : Type 0 where
   pub loss : (c : Controller) (s : Colour) → (side_of c.sides s).up ≡ None → lost c s ≡ c
   pub heard : (c new : Controller) (s : Colour) (bytes : List ℕ) (used : ℕ) (fault : Option SideFault)
       → (side_of c.sides s).up ≡ None → Hears c s bytes used fault new → (fault ≡ None) × (new ≡ c)
+
+-- ---- a start
+
+-- a side that is started is up: its engine has confirmed nothing, has nothing unanswered, and wrote nothing yet
+pub record IsNewEngine (c : Controller) (s : Colour) : Type 0 where
+  pub engine : Incarnation
+  pub up : (side_of (started c s).sides s).up ≡ Some engine
+  pub confirmed : engine.confirmed ≡ 0
+  pub unanswered : engine.unanswered ≡ []
+  pub reader : engine.reader ≡ []
+
+abbrev pub StartsAreNew : Type 0
+StartsAreNew = (c : Controller) (s : Colour) → IsNewEngine c s
 
 -- ---- what is to be taken back
 
@@ -46,7 +59,7 @@ pub data WhyPending (c new : Controller) (s : Colour) (engine : Incarnation) (by
   undone : HearsReply engine bytes used TellsUndone → new.pending ≡ None → WhyPending c new s engine bytes used fault
   put_down : IsSome fault → taking_back c ≡ Some s → new.pending ≡ None → WhyPending c new s engine bytes used fault
 
-pub record TakeBacksAreTold : Type 0 where
+pub record TakeBacksHaveCauses : Type 0 where
   -- what is heard of a side leaves what is to be taken back, or changes it for one of these reasons
   pub heard : (c new : Controller) (s : Colour) (bytes : List ℕ) (used : ℕ) (fault : Option SideFault)
       → Hears c s bytes used fault new

@@ -164,7 +164,7 @@ pub fn read_options<'a, S: AsStr>(alloc: Global, words: &'a [S]) -> Result<Optio
     Ok(options_of(&matches))
 }
 
-/// The options of a command line. The defaults that stand here aren't met, since the command line has its own.
+/// The options of a command line. The defaults here aren't met, since the command line has its own.
 fn options_of<'a>(matches: &ArgMatches<'a>) -> Options<'a>
     ensures { Ask (rows_of (found_of matches.now)) result }
 {

@@ -6,8 +6,8 @@ use go_base::{Colour, Move, Vertex};
 use std::process::Abort;
 use std::test::Fail;
 
-/// The cause that a play is refused for is told before it, the play is refused for the same, and the game stays. Or no
-/// cause is told, and the play is accepted.
+/// The cause that a play is refused for is returned before it, the play is refused for the same, and the game stays. Or
+/// no cause is returned, and the play is accepted.
 fn assert_refusal(rt: &impl Abort, game: &mut Game, word: &str, fault: Option<PlayFault>) {
     let made = read_move(rt, word);
     let before = game.show();
@@ -57,7 +57,7 @@ fn each_refusal_of_a_play(rt: HostRuntime) {
     }
 }
 
-/// Plays on a full record, and the cause that is told of each: fullness is none, and the others are told as ever.
+/// Plays on a full record, and the cause that is returned of each: fullness is none, and the others are returned as ever.
 static FULL: [(&str, Option<PlayFault>); 3] = [
     ("bpass", None),
     ("wA1", None),

@@ -46,7 +46,7 @@ A B C D E F G H J K L M N O P Q R S T U V W X Y Z
 captures B 0 W 0";
 
 #[test]
-fn row_numbers_and_letters_are_not_padded(rt: HostRuntime) {
+fn boards_are_shown_as_text(rt: HostRuntime) {
     for (lines, moves, text) in &SHOWN {
         let mut game = new_game(&rt, *lines);
         play_all(&rt, &mut game, moves);

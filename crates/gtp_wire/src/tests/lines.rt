@@ -4,7 +4,7 @@ use crate::{Line, LineReader};
 use arrayvec::ArrayVec;
 use go_base::write_int;
 
-/// What a reader gave: each line's id in brackets, its words behind spaces, and a semicolon.
+/// What a reader gave: each line's id in brackets, a space before each word, and a semicolon.
 type Shown = ArrayVec<u8, 512>;
 
 fn show(line: &Line, shown: &mut Shown) {

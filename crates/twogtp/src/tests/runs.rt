@@ -26,7 +26,7 @@ pub fn run_into<O: Output, E: Output>(
     Ok(run(alloc, words, output, errors, &mut starter))
 }
 
-/// What a run of the program left behind.
+/// What a run of the program left.
 #[derive(Drop)]
 pub struct Ran {
     pub status: u8,
@@ -91,7 +91,7 @@ pub fn run_between(alloc: Global, engines: Engines, more: &[&str]) -> Result<Ran
     run_with(alloc, arguments.as_slice())
 }
 
-/// With these engines and arguments the output and the status are these, nothing is told, and each engine that was
+/// With these engines and arguments the output and the status are these, nothing is reported, and each engine that was
 /// started was ended.
 pub fn assert_plays<R: Abort + AllocGlobal>(
     rt: &R,
@@ -109,12 +109,12 @@ pub fn assert_plays<R: Abort + AllocGlobal>(
     Ok(())
 }
 
-/// This run wrote nothing to the output and started nothing, its status is 2, and what it told begins with this text.
+/// This run wrote nothing to the output and started nothing, its status is 2, and what it reported begins with this text.
 pub fn assert_refused(rt: &impl Abort, ran: &Ran, beginning: &str) -> Result<(), Fail> {
-    let told = str::from_utf8(ran.errors.as_slice())?;
-    assert_true_for(rt, told, told.starts_with(beginning));
-    assert_equal_for(rt, told, ran.output.len(), 0);
-    assert_equal_for(rt, told, ran.status, 2);
-    assert_equal_for(rt, told, ran.log.started.get(), 0);
+    let reported = str::from_utf8(ran.errors.as_slice())?;
+    assert_true_for(rt, reported, reported.starts_with(beginning));
+    assert_equal_for(rt, reported, ran.output.len(), 0);
+    assert_equal_for(rt, reported, ran.status, 2);
+    assert_equal_for(rt, reported, ran.log.started.get(), 0);
     Ok(())
 }
