@@ -1,5 +1,5 @@
 -- What calls leave as it was, what is owed once a command is sent, and what begins and ends a take-back.
-use Rattle.std.proofs.Common.{◌≡◌, ℕ, ◌+◌, List, length, Option, Some, None, Bool, true, false, cond, refl, sym, ◌∙◌}
+use Rattle.std.proofs.Common.{◌≡◌, ℕ, ◌+◌, List, Option, Some, None, Bool, true, false, cond, refl, sym, ◌∙◌}
 use Rattle.std.proofs.Common.{ap, subst, inl, inr}
 use Rattle.std.specs.Prelude.{◌⊎◌, IsSome}
 use Rattle.go_base.specs.Colour.{other}
@@ -9,7 +9,7 @@ use Rattle.gtp_wire.specs.declared.replies.Reply.{Reply}
 use Rattle.gtp_match.specs.Controller.{started, next_command, sent, sent_to, downed, lost, lost_engine}
 use Rattle.gtp_match.specs.Hearing.{Hears}
 use Rattle.gtp_match.specs.Leaving.{WhyPending, OwesWhatIsSent}
-use Rattle.gtp_match.specs.Next.{next_of_free, next_of_idle, next, is_down}
+use Rattle.gtp_match.specs.Next.{next_of_free, next_of_idle, next}
 use Rattle.gtp_match.specs.ReplyTable.{outcome, after_outcome, fault_of, refused, retaken_at}
 use Rattle.gtp_match.specs.Replying.{EndsReply, HearsReply, TellsRefusal}
 use Rattle.gtp_match.specs.Sides.{side_of, with_side, handed, heard_reply}
@@ -23,15 +23,12 @@ use Rattle.gtp_match.specs.declared.sides.SideState.{SideState}
 use Rattle.gtp_match.specs.declared.reply_table.Outcome.{Outcome}
 use Rattle.gtp_match.specs.declared.reply_table.Outcome.TheVariants.{Down, Unfit, Forfeits, Confirms, Resigns, Moves}
 use Rattle.gtp_match.specs.declared.reply_table.Outcome.TheVariants.{Refuses, TakesBack, Keeps}
-use Rattle.gtp_match.specs.declared.verdicts.Action.{Action}
 use Rattle.gtp_match.specs.declared.verdicts.Action.TheVariants.{Start, Send}
 use Rattle.gtp_match.specs.declared.verdicts.SideFault.{SideFault}
-use Rattle.gtp_match.specs.declared.verdicts.Verdict.{Verdict}
 use Rattle.gtp_match.proofs.CauseLemmas.{told, maker_is, confirmed_all}
 use Rattle.gtp_match.proofs.LimitLemmas.{sent_line}
 use Rattle.gtp_match.proofs.QuietLemmas.{free_next}
 use Rattle.gtp_match.proofs.ReplyingLemmas.{Heard, heard, up_there}
-use Rattle.gtp_match.proofs.SaysLemmas.{down_is_none}
 
 -- ---- the other side
 

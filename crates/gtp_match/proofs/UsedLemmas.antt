@@ -1,8 +1,7 @@
 -- How many bytes are used, and which fault is shown.
-use Rattle.std.proofs.Common.{◌≡◌, ℕ, ◌+◌, List, [], ◌∷◌, ◌++◌, length, Option, Some, None, Ok, Err, Bool, true, false}
-use Rattle.std.proofs.Common.{refl, sym, ◌∙◌, ap, subst, arith, length-append}
+use Rattle.std.proofs.Common.{◌≡◌, ℕ, ◌+◌, List, ◌++◌, length, Option, Some, None, Ok, Err, Bool, true, false}
+use Rattle.std.proofs.Common.{refl, ◌∙◌, ap, subst, arith, length-append}
 use Rattle.std.specs.Prelude.{Result, ◌≢◌}
-use Rattle.std.proofs.lemmas.Bool.Decides.{nat_tests}
 use Rattle.std.proofs.lemmas.Bool.{eqb-true}
 use Rattle.go_base.specs.declared.colours.Colour.{Colour}
 use Rattle.gtp_wire.specs.Replies.{IsFirst, TellsNothing}
@@ -10,11 +9,10 @@ use Rattle.gtp_wire.specs.declared.replies.Reply.{Reply}
 use Rattle.gtp_wire.specs.declared.replies.ReplyFault.{ReplyFault}
 use Rattle.gtp_wire.specs.declared.replies.ReplyFault.TheVariants as reply_fault
 use Rattle.gtp_wire.proofs.ReplyLaws.{one_first}
-use Rattle.gtp_match.specs.Controller.{with_side_up}
 use Rattle.gtp_match.specs.Going.{ShowsFault, OnlyWrote}
 use Rattle.gtp_match.specs.Hearing.{MayKeep, side_fault, HearsUp, HearsWhere, Hears}
 use Rattle.gtp_match.specs.Replying.{EndsReply}
-use Rattle.gtp_match.specs.ReplyTable.{outcome, outcome_of, has_id, fault_of}
+use Rattle.gtp_match.specs.ReplyTable.{outcome, has_id, fault_of}
 use Rattle.gtp_match.specs.Sides.{side_of}
 use Rattle.gtp_match.specs.Unanswered.{oldest}
 use Rattle.gtp_match.specs.declared.controller.Controller.{Controller}
