@@ -5,7 +5,8 @@ use crate::first::First;
 use crate::serve::{ServeFault, Served, serve, serve_with, serve_within};
 use crate::session::Session;
 use crate::streams::Counted;
-use crate::tests::memory::{Limited, Pieces, Stuck, Telling, Unflushed, Waiting};
+use crate::tests::memory::{Limited, Pieces, Stuck, StuckOnce, Telling, Unflushed, Waiting};
+use crate::tests::reader_of;
 use arrayvec::ArrayVec;
 use std::alloc::Global;
 use std::cell::Cell;
@@ -231,6 +232,30 @@ fn a_write_that_takes_nothing_is_a_write_fault(rt: HostRuntime) {
     assert_equal(&rt, answer, Err(ServeFault::Write));
     assert_equal(&rt, session.game().moves().len(), 1);
     assert_equal(&rt, pieces.turn, 1);
+}
+
+#[test]
+fn the_next_call_goes_on_after_a_write_that_took_nothing(rt: HostRuntime) {
+    let mut session = Session::new(First);
+    let mut reader = reader_of(b"1 play b D4\n2 play w E5\n", &[12], None);
+    let mut writer = Counted::new(StuckOnce {
+        taken: Vec::new(rt.alloc()),
+        stuck: true,
+    });
+    let answer = serve(&mut reader, &mut writer, &mut session);
+    assert_equal(&rt, answer, Err(ServeFault::Write));
+    assert_equal(&rt, (reader.reads, reader.failures), (1, 0));
+    assert_equal(&rt, (writer.failures, writer.waiting), (1, false));
+    assert_equal(&rt, session.game().moves().len(), 1);
+    assert_equal(&rt, writer.inner.taken.len(), 0);
+    let answer = serve(&mut reader, &mut writer, &mut session);
+    assert_equal(&rt, answer, Ok(Served::EndOfInput));
+    // The second move, and the end.
+    assert_equal(&rt, (reader.reads, reader.failures), (3, 0));
+    assert_equal(&rt, (writer.failures, writer.waiting), (1, false));
+    assert_equal(&rt, session.game().moves().len(), 2);
+    // The reply that was not taken isn't written again.
+    assert_equal(&rt, writer.inner.taken.as_slice(), b"=2\n\n".as_slice());
 }
 
 #[test]

@@ -73,6 +73,17 @@ fn a_read_that_fails_ends_the_conversation(rt: HostRuntime) {
 }
 
 #[test]
+fn nothing_is_read_after_quit(rt: HostRuntime) {
+    let mut taken = ArrayVec::new();
+    let mut session = Session::new(First);
+    let mut reader = reader_of(b"name\nquit\nname\n", &[10], Some(1));
+    let mut writer = writer_of(&mut taken, 4096, 100);
+    let answer = serve(&mut reader, &mut writer, &mut session);
+    assert_equal(&rt, answer, Ok(Served::Quit));
+    assert_equal(&rt, taken.as_slice(), b"= stepgo\n\n=\n\n".as_slice());
+}
+
+#[test]
 fn each_line_is_answered_and_flushed_before_the_next_is_read(rt: HostRuntime) -> Result<(), Fail> {
     let flushed = Rc::new(rt.alloc(), Cell::new(0))?;
     let lines: [&[u8]; 3] = [b"1 name\n", b"2 version\n", b"3 quit\n"];

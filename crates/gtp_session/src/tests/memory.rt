@@ -156,6 +156,28 @@ impl Write for Stuck {
     }
 }
 
+/// Takes no byte of its first text, and doesn't fail; takes all after that.
+#[derive(Drop)]
+pub struct StuckOnce {
+    pub taken: Vec<u8>,
+    pub stuck: bool,
+}
+
+impl Write for StuckOnce {
+    fn write(&mut self, buf: &[u8]) -> io::Result<usize> {
+        if self.stuck {
+            self.stuck = false;
+            return Ok(0);
+        }
+        self.taken.extend_from_slice(buf)?;
+        Ok(buf.len())
+    }
+
+    fn flush(&mut self) -> io::Result<()> {
+        Ok(())
+    }
+}
+
 /// Takes all, and fails each flush after the first `flushes`.
 #[derive(Drop)]
 pub struct Unflushed<'a> {
