@@ -27,6 +27,12 @@ def check(name, wanted, got):
         print(f"FAILED: {name}\n--- wanted\n{wanted}\n--- got\n{got}\n---", flush=True)
 
 
+def heed():
+    """Each signal that the tests send does again what it does where nobody asked otherwise."""
+    for number in (signal.SIGHUP, signal.SIGINT, signal.SIGTERM):
+        signal.signal(number, signal.SIG_DFL)
+
+
 class Room:
     """A folder in which scripts run, and an environment by which all that they start can be found."""
 
@@ -39,8 +45,8 @@ class Room:
         self.environment.pop("TOURNAMENT", None)
 
     def start(self, *words, **more):
-        """Starts a command in a session of its own."""
-        more = {"stdout": subprocess.PIPE, "stderr": subprocess.PIPE, "stdin": subprocess.DEVNULL, **more}
+        """Starts a command in a session of its own, which no signal passes by: nohup and a job of a shell leave some ignored."""
+        more = {"stdout": subprocess.PIPE, "stderr": subprocess.PIPE, "stdin": subprocess.DEVNULL, "preexec_fn": heed, **more}
         return subprocess.Popen(words, cwd=self.at, env=self.environment, encoding="utf-8", start_new_session=True, **more)
 
     def run(self, *words, **more):
