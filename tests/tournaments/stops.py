@@ -8,7 +8,7 @@ import signal
 import subprocess
 import time
 
-from .rooms import LIMIT, RANDOM, SLOW, SMALL, STUBBORN, check, lines, room, two_engines
+from .rooms import LIMIT, RANDOM, SLOW, SMALL, STUBBORN, check, heed, lines, room, two_engines
 
 
 # An engine that doesn't answer `quit`, and doesn't end.
@@ -121,6 +121,7 @@ def interrupted(programs, wanted):
         arguments = two_engines("all", f"{slow} --policy random --seed", f"{slow} --policy random --seed")
         process, terminal = pty.fork()
         if process == 0:
+            heed()
             os.chdir(here.at)
             os.execvpe("tournament", ["tournament", "play", *arguments, "--jobs", "2", *SMALL], here.environment)
         shown = b""
