@@ -14,6 +14,7 @@ mod moves;
 mod points;
 mod scores;
 mod sizes;
+mod texts;
 mod vertices;
 
 pub use choices::Choice;
@@ -25,6 +26,7 @@ pub use moves::Move;
 pub use points::Point;
 pub use scores::{write_half_points, write_score};
 pub use sizes::Size;
+pub use texts::{push, push_vertex};
 pub use vertices::Vertex;
 
 #[cfg(test)]

@@ -1,0 +1,29 @@
+//! Texts in lists with room for a fixed number of bytes, written piece by piece.
+ghost use Rattle.std.specs.Prelude.{◌≡◌, ◌+◌, ◌≤◌, ◌++◌, length};
+ghost use Rattle.arrayvec.specs.ArrayVec.{array_vec_len};
+ghost use Rattle.go_base.specs.Vertex.{joined, written_vertex};
+
+use crate::vertices::Vertex;
+use arrayvec::ArrayVec;
+
+/// Appends bytes, for which there is room.
+pub fn push<const ROOM: usize>(text: &mut ArrayVec<u8, ROOM>, bytes: &[u8])
+    requires { array_vec_len text.old + length bytes.now ≤ ROOM }
+    ensures bytes { text.new.items ≡ text.old.items ++ bytes.now }
+    ensures len { array_vec_len text.new ≡ array_vec_len text.old + length bytes.now }
+{
+    // There is room, so all is taken.
+    let _ = text.try_extend_from_slice(bytes);
+}
+
+/// Appends a vertex, after a space where the text isn't empty. There is room for five bytes.
+pub fn push_vertex<const ROOM: usize>(text: &mut ArrayVec<u8, ROOM>, vertex: Vertex)
+    requires { array_vec_len text.old + 5 ≤ ROOM }
+    ensures bytes { text.new.items ≡ joined text.old.items (written_vertex vertex) }
+    ensures len { array_vec_len text.new ≤ array_vec_len text.old + 5 }
+{
+    if !text.is_empty() {
+        text.push(b' ');
+    }
+    push(text, &vertex.write());
+}
