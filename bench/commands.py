@@ -12,7 +12,7 @@ The works:
               write a line
   pairs       a `play` and an `undo`, on an empty 19x19
   deep        an `undo` and the same `play`, after a game of 200 moves on 19x19 in which each colour has one chain; with
-              --half after the plays of a half full board, in which the stones stand scattered
+              --half after the plays of a half full board, in which the stones are scattered
   play        plays of one colour to and fro over an empty 19x19, taken back by `clear_board` every 200
   replay      a game of 200 moves on 19x19, from `clear_board` on
   full        2,000 times `genmove`, of both colours in turn, which fills our record; then `final_score`, `showboard` and

@@ -3,7 +3,7 @@
 #
 # Where bench/NAME/run is there, it is that program, with the other arguments. Else
 # the program is bench/NAME/main.txt (rt ci takes every .rt file for one of a crate's), and bench/NAME/needs names the
-# libraries that it stands on. It is proved like any other program, but in a copy of the repository's crates, so that rt ci
+# libraries that it depends on. It is proved like any other program, but in a copy of the repository's crates, so that rt ci
 # needn't run it.
 set -eu
 name=$1

@@ -15,10 +15,10 @@ play() {
     board=$(tac "$name.out" | sed -n '2,/^game /p' | head -n -2 | tac)
 }
 
-# told ENGINE..: tells an engine the last match, asks for the position and last for what `asked` names, and prints what it says
+# played_again ENGINE..: sends an engine the last match, asks for the position and last for what `asked` names, and prints what it says
 # in one line: how many commands it refused, then black stones, white stones, stones that Black took and that White took, and
 # the last answer. What the engine doesn't know of these is `-`.
-told() {
+played_again() {
     local colour=b vertex question
     [ "$handicap" = 0 ] || colour=w
     {
@@ -49,7 +49,7 @@ sorted() {
     echo "$1" | tr ' ' '\n' | sort | paste -s -d ,
 }
 
-# shown: the position of the last match as twogtp wrote it with --show, in the form of `told`, without refusals and score.
+# shown: the position of the last match as twogtp wrote it with --show, in the form of `played_again`, without refusals and score.
 shown() {
     local black white
     black=$(echo "$board" | stones X)
@@ -72,23 +72,23 @@ credited() {
     }'
 }
 
-# referees TITLE: the last match told to each engine that is here. Where there was a score, each has to say it too.
+# referees TITLE: the last match, played again by each engine that is here. Where there was a score, each has to say it too.
 referees() {
     local scored=1 asked=final_score said wanted=$verdict words
     [[ $verdict =~ ^[BW]\+[0-9] ]] || { scored='' asked=protocol_version; }
-    said=$(told ./gtp_engine)
-    check "$1: told to our engine, no move is refused${scored:+, and its score is ${said##* }}" \
+    said=$(played_again ./gtp_engine)
+    check "$1: played again by our engine, no move is refused${scored:+, and its score is ${said##* }}" \
         "${said%% *} ${scored:+${said##* }}" "0 ${scored:+$verdict}"
     [ -z "$scored" ] || wanted=$(credited "$verdict" "$handicap")
     if [ -x gnugo ]; then
-        said=$(told ./gnugo --mode gtp --level 1 --chinese-rules --capture-all-dead)
-        check "$1: told to GNU Go, no move is refused, and it has the stones and captures of --show" "${said% *}" "0 $(shown)"
+        said=$(played_again ./gnugo --mode gtp --level 1 --chinese-rules --capture-all-dead)
+        check "$1: played again by GNU Go, no move is refused, and it has the stones and captures of --show" "${said% *}" "0 $(shown)"
         [ -z "$scored" ] || check "$1: GNU Go's score is ${said##* }" "${said##* }" "$wanted"
     fi
     if [ -x leelaz ] && [ "$size" = 19 ]; then
         read -ra words <<< "$leela"
-        said=$(told "${words[@]}")
-        check "$1: told to Leela Zero, no move is refused${scored:+, and its score is ${said##* }}" \
+        said=$(played_again "${words[@]}")
+        check "$1: played again by Leela Zero, no move is refused${scored:+, and its score is ${said##* }}" \
             "${said%% *} ${scored:+${said##* }}" "0 ${scored:+$wanted}"
     fi
 }

@@ -88,7 +88,7 @@ game() {
     check "$1, $2: both sides' final_score: ${black:-none}" "$black" "$(answers "$name.white" final_score | xargs)"
 }
 
-# replayed: the last game again, told to our engine move by move.
+# replayed: the last game, sent to our engine move by move.
 replayed() {
     local theirs ours
     theirs=$(answers "$name.black" final_score)
@@ -97,7 +97,7 @@ replayed() {
         traffic "$name.black" | awk -F '\t' '/^play/ { print $1 } /^genmove/ { sub(/^= */, "", $2); print "play black " $2 }'
         echo final_score
     } | ./gtp_engine | tr -s '\n' | sed 's/^= *//')
-    check "the same game told to our engine: no move refused, final_score $theirs" "$(echo "$ours" | xargs)" "$theirs"
+    check "the same game sent to our engine: no move refused, final_score $theirs" "$(echo "$ours" | xargs)" "$theirs"
 }
 
 # handicaps FILE ARGUMENT..: the sizes and numbers of fixed_handicap that this engine takes, with the points in order.

@@ -1,6 +1,6 @@
 """The referee of a match: docs/controller.md in Python, as literal as can be.
 
-It is told what happened, and says what to do next. A side is named by the colour that it plays.
+It hears what happened, and says what to do next. A side is named by the colour that it plays.
 """
 from collections import namedtuple
 
@@ -18,7 +18,7 @@ MOST_RETAKES = 3  # of one move number in a match
 # A match's values: komi in half points, the other numbers as they are.
 Setup = namedtuple("Setup", "size komi handicap most_moves most_restarts")
 
-# Why a side is lost, or that it refused a move that is retaken: the side, and the texts of which one is told. The first is told where
+# Why a side fails, or that it refused a move that is retaken: the side, and the texts of which one is written. The first is written where
 # all runs as it does here; of a loss there are others where it is a question of time.
 Loss = namedtuple("Loss", "side texts")
 Retake = namedtuple("Retake", "side texts")
@@ -51,9 +51,9 @@ class Controller:
         self.retakes = {}  # of each move number, from 1, where there were any
         self.pending = None  # the maker of the last move, where that move is to be taken back
         self.verdict = None
-        self.told = []  # losses and retakes, as they came
-        self.pieces = []  # what was heard last: a whole reply with what stood before it; or each text that may be told of no reply
-        self.is_behind = False  # was it heard in one read with a reply before it?
+        self.reported = []  # losses and retakes, as they came
+        self.pieces = []  # what was heard last: a whole reply with what was before it; or each text that may be shown of no reply
+        self.follows_another = False  # was it heard in one read with a reply before it?
 
     # ---- what the tables speak of
 
@@ -171,36 +171,36 @@ class Controller:
         self.game.undo()
         self.pending = None
 
-    def heard(self, side, data, behind=lambda: [b""]):
+    def heard(self, side, data, following=lambda: [b""]):
         """This side wrote these bytes, which came in one read. Those of a side that is down change nothing, and so do all bytes after a
-        verdict. `behind` answers what that read might have brought besides, had it come later: nothing, and then what stands there
+        verdict. `following` answers what that read might have brought besides, had it come later: nothing, and then what is there
         with the answer to one command more each time, up to those to all commands that were sent."""
-        self.is_behind = False
+        self.follows_another = False
         while self.verdict is None and not self.is_down(side):
             up = self.sides[side]
-            told, used = replies.first(up.rest + data)
-            if told is None:
+            found, used = replies.first(up.rest + data)
+            if found is None:
                 up.rest += data
                 up.rests.append((up.confirmed, up.rest))
                 return
-            if told in (replies.NO_STATUS, replies.OVERLONG):
-                self.pieces = self.no_reply(up.rest, data, used, behind())
-                self.tell(side, why.NO_STATUS if told == replies.NO_STATUS else why.OVERLONG)
+            if found in (replies.NO_STATUS, replies.OVERLONG):
+                self.pieces = self.no_reply(up.rest, data, used, following())
+                self.report(side, why.NO_STATUS if found == replies.NO_STATUS else why.OVERLONG)
                 return self.lost(side)
             piece, data = self.cut(up.rest + data, used)
             self.pieces = [piece]
             up.rest = b""
-            self.judge(side, told)
-            self.is_behind = True
+            self.judge(side, found)
+            self.follows_another = True
 
     def cut(self, data, used):
         """What was heard, and what is left to hear."""
         return data[:used], data[used:]
 
-    def no_reply(self, rest, data, used, behind):
-        """What may be told of bytes that are no reply: all that was read since the last whole reply. That is more than the `used` bytes
-        up to the one that shows the fault: what stands behind it in this read is told too."""
-        return [rest + data + more for more in behind]
+    def no_reply(self, rest, data, used, following):
+        """What may be shown of bytes that are no reply: all that was read since the last whole reply. That is more than the `used` bytes
+        up to the one that shows the fault: what comes after it in this read is shown too."""
+        return [rest + data + more for more in following]
 
     # ---- what a reply does
 
@@ -208,11 +208,11 @@ class Controller:
         """A whole reply of a side that is up, before a verdict."""
         up = self.sides[side]
         if not up.unanswered:
-            self.tell(side, why.UNASKED)
+            self.report(side, why.UNASKED)
             return self.lost(side)
         number, command = up.unanswered[0]
         if not self.answers(reply, number):
-            self.tell(side, why.WRONG_ID)
+            self.report(side, why.WRONG_ID)
             return self.lost(side)
         if command[0] == "genmove":
             return self.judge_move(side, reply)
@@ -230,7 +230,7 @@ class Controller:
         if not reply.ok and command[0] == "play":
             self.judge_refusal(side)
         elif not reply.ok or (command[0] == "fixed_handicap" and not self.names_handicap(reply.text)):
-            self.tell(side, why.UNFIT)
+            self.report(side, why.UNFIT)
             self.verdict = f"unfit {side}"
         else:
             up.unanswered.pop(0)
@@ -241,10 +241,10 @@ class Controller:
         side that made it doesn't have the whole game, it leaves the record at once."""
         number = len(self.game.moves)
         if not self.is_last_of_the_other(side) or self.retakes.get(number, 0) >= MOST_RETAKES:
-            self.tell(side, why.REFUSED_PLAY)
+            self.report(side, why.REFUSED_PLAY)
             return self.forfeit(side, "refused play")
         self.retakes[number] = self.retakes.get(number, 0) + 1
-        self.tell_retake(side, self.retakes[number])
+        self.report_retake(side, self.retakes[number])
         self.sides[side].unanswered.pop(0)
         maker = values.other(side)
         if self.has_confirmed_all(maker):
@@ -255,7 +255,7 @@ class Controller:
     def judge_undo(self, side, reply):
         """A reply to an undo: the move is taken back, or the other side, which refused it, forfeits."""
         if not reply.ok:
-            self.tell(side, why.KEPT_MOVE)
+            self.report(side, why.KEPT_MOVE)
             return self.forfeit(values.other(side), "refused play")
         self.sides[side].unanswered.pop(0)
         self.sides[side].confirmed -= 1
@@ -269,7 +269,7 @@ class Controller:
     def judge_move(self, side, reply):
         """A reply to a genmove: a move, a resignation, or none of both."""
         if not reply.ok:
-            self.tell(side, why.NO_MOVE)
+            self.report(side, why.NO_MOVE)
             return self.forfeit(side, "no move")
         words = replies.words(reply.text)
         word = words[0] if len(words) == 1 else b""
@@ -279,10 +279,10 @@ class Controller:
             return None
         vertex = values.read_vertex(word)
         if vertex is None:
-            self.tell(side, why.NO_VERTEX)
+            self.report(side, why.NO_VERTEX)
             return self.forfeit(side, "no vertex")
         if not self.game.play(side, vertex):
-            self.tell(side, self.what_is_illegal(side, vertex))
+            self.report(side, self.what_is_illegal(side, vertex))
             return self.forfeit(side, "illegal move")
         self.sides[side].unanswered.pop(0)
         self.sides[side].confirmed += 1
@@ -307,40 +307,40 @@ class Controller:
         """This side loses by what it replied. Its command still counts as unanswered."""
         self.verdict = f"{winner_over(side)}+F({cause})"
 
-    # ---- why a side is lost
+    # ---- why a side fails
 
-    def tell(self, side, cause):
-        """A side is lost by what was heard, of which nothing has come yet. Where it was sent fewer commands by then, there are as many
-        answers fewer that may stand behind what is no reply."""
+    def report(self, side, cause):
+        """A side fails by what was heard, of which nothing has come yet. Where it was sent fewer commands by then, there are as many
+        answers fewer that may come after what is no reply."""
         texts = []
         sent = self.unanswered(side)
         for unanswered in [sent, *self.others_unanswered(side)]:
             is_strange = cause in (why.UNASKED, why.WRONG_ID)
-            told = (why.WRONG_ID if unanswered else why.UNASKED) if is_strange else cause
+            shown = (why.WRONG_ID if unanswered else why.UNASKED) if is_strange else cause
             fewer = len(sent) - len(unanswered)
-            texts += [why.lost(unanswered, told, piece) for piece in self.pieces[: max(1, len(self.pieces) - fewer)]]
-        self.told.append(Loss(side, texts))
+            texts += [why.lost(unanswered, shown, piece) for piece in self.pieces[: max(1, len(self.pieces) - fewer)]]
+        self.reported.append(Loss(side, texts))
 
-    def tell_retake(self, side, count):
+    def report_retake(self, side, count):
         """This side has refused the last move, which is retaken. That is no loss. The play still counts as unanswered. It is reported
         whether or not an undo follows."""
         texts = [why.lost(self.unanswered(side), why.retaken(count, MOST_RETAKES), piece) for piece in self.pieces]
-        self.told.append(Retake(side, texts))
+        self.reported.append(Retake(side, texts))
 
     def unanswered(self, side):
         """The unanswered commands of this side, which is up: pairs of an id and a text."""
         return [(number, spelled(command)) for number, command in self.sides[side].unanswered]
 
     def others_unanswered(self, side):
-        """Other commands that may be unanswered where this side has written what loses it. While an engine is told a script of more
+        """Other commands that may be unanswered where this side has written that by which it fails. While an engine is sent a script of more
         than eight commands, that is a question of time: as many are sent as replies came with the read before. To what is heard now
         all of them up to that command were sent, and those that could be sent when the reply before was read, unless both came in one
         read."""
         confirmed, length = self.sides[side].confirmed, len(self.script())
         if length - confirmed <= 1:
             return []
-        least = max(self.most, confirmed + (0 if self.is_behind else 1))
-        most = confirmed + self.most - (1 if self.is_behind else 0)
+        least = max(self.most, confirmed + (0 if self.follows_another else 1))
+        most = confirmed + self.most - (1 if self.follows_another else 0)
         return [self.of_script(confirmed, sent) for sent in range(min(least, length), min(most, length) + 1)]
 
     def of_script(self, confirmed, sent):
@@ -349,15 +349,15 @@ class Controller:
 
     def writes(self, side):
         """The last write to this side, or each that may be the first that fails, where its engine has ended: what is unanswered then,
-        and what came since the last whole reply. While an engine is told a script of more than eight commands, there may be a write
+        and what came since the last whole reply. While an engine is sent a script of more than eight commands, there may be a write
         after each reply; the command at which it ended was sent before."""
         up = self.sides[side]
         length = len(self.script())
-        told = [(self.unanswered(side), up.rest)]
+        found = [(self.unanswered(side), up.rest)]
         if length > max(self.most, up.confirmed + 1):
             first = max(1, up.confirmed + 2 - self.most)
-            told += [(self.of_script(heard, min(length, heard + self.most)), rest) for heard, rest in up.rests if heard >= first]
-        return told
+            found += [(self.of_script(heard, min(length, heard + self.most)), rest) for heard, rest in up.rests if heard >= first]
+        return found
 
     def what_is_illegal(self, side, point):
         """Why this play isn't legal."""
@@ -369,7 +369,7 @@ class Controller:
         after = put(board, self.game.size, side, point)
         return why.KO if has_liberty(after, self.game.size, joined(after, self.game.size, point)) else why.SUICIDE
 
-    # ---- what is told
+    # ---- what is reported
 
     def result_line(self, number):
         """The line of a game that is over."""

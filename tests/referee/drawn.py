@@ -3,12 +3,12 @@
 Drawn is only what has one outcome, whenever a process happens to run. So these are left out:
 - an engine that neither replies nor ends, which makes the controller wait, and one that closes its input while commands may be on
   their way to it;
-- a reply to a script command that the engine wasn't sent yet, behind another reply: whether the controller has sent that command by
+- a reply to a script command that the engine wasn't sent yet, after another reply: whether the controller has sent that command by
   then, where it sends several before the first is answered, is a question of time;
 - an engine that gives a script command a reply that ends the match, and then ends: the controller may meet its end first;
-- a reply and another behind it, from an engine that also writes thousands of bytes: they may come in two reads;
-- anything that an engine writes while it is told nothing;
-- an engine that refuses a move before the last one, and notes what it is told behind it.
+- a reply and another after it, from an engine that also writes thousands of bytes: they may come in two reads;
+- anything that an engine writes while it is sent nothing;
+- an engine that refuses a move before the last one, and notes what it is sent after it.
 """
 import random
 from collections import namedtuple
@@ -83,10 +83,10 @@ EARLY = [
     *(Turn([(1, ["p1", "p2"], *more)], moves=5) for more in faults.REFUSED_AND_MORE),
     *(Turn([(1, ["p1", "p2"], *more)], OURS, None, restarts, 5) for more in faults.REFUSED_AND_LOST for restarts in ([0], [2])),
     Turn([("*", ["p1"], REFUSAL + "hello", "on")], [], False, [0, 1, 2], 3),
-    # It is told to take a move back.
+    # It is asked to take a move back.
     *(undoing(template, then) for template, then in faults.ENDINGS + faults.UNDOES),
     Turn([("*", ["u1"], "", ENDS)], [(1, ["p1-3"], REFUSAL, REFUSES)], None, [0, 1, 2], 3),
-    # It refuses a move when it is told of the game again, the other side's or its own, which is the last one or isn't.
+    # It refuses a move when it is sent the game again, the other side's or its own, which is the last one or isn't.
     *(Turn([(1, ["g2"], "", ENDS), (2, [place], REFUSAL, "on")], [], None, [1, 2, 3], 6) for place in ("p1", "p2", "p3")),
     *(Turn([(1, *ONCE_MORE), (2, [place], REFUSAL, "on")], [], place == "p1", [1, 2, 3], 3) for place in ("p1", "p2")),
     # It refuses a move, is started again, and refuses it again.
@@ -179,10 +179,10 @@ def handicap_of(r, size, is_wanted, wrong):
 
 
 def engine_with(r, plan, handicap, lives, passes=None):
-    """An engine that does this first, and something else in most of the lives behind."""
+    """An engine that does this first, and something else in most of the later lives."""
     seen = {fault.split("/")[0] for fault in plan}
-    behind = [life for life in range(2, lives + 1) if not seen & {str(life), "*"}]
-    return faulty_engine(r, plan + [fault_of(r, life, handicap) for life in behind if r.random() < 0.6], passes=passes)
+    later = [life for life in range(2, lives + 1) if not seen & {str(life), "*"}]
+    return faulty_engine(r, plan + [fault_of(r, life, handicap) for life in later if r.random() < 0.6], passes=passes)
 
 
 def engine_of(r, size, handicap, lives):
@@ -224,10 +224,10 @@ def faulty_engine(r, plan, style=None, passes=None):
 
 
 def long_style(r):
-    """A style whose shorter replies have at most 8,192 bytes, with what stands behind the one before, and whose longer ones more."""
-    behind = r.randint(0, 4000)
-    before = 8192 - len("=1 A1\n\n") + r.randint(-3, 3) - behind
-    return r.choice(faults.LONG_STYLES) % (before, behind)
+    """A style whose shorter replies have at most 8,192 bytes, with what is after the one before, and whose longer ones more."""
+    after = r.randint(0, 4000)
+    before = 8192 - len("=1 A1\n\n") + r.randint(-3, 3) - after
+    return r.choice(faults.LONG_STYLES) % (before, after)
 
 
 # ---- faults

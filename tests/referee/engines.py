@@ -1,8 +1,8 @@
 """The engines of a match: the command by which `twogtp` starts one, and the same engine in memory.
 
-An engine in memory has `begins()`, what it writes before its first command, and `answers(line)`, what it writes when it is told this;
+An engine in memory has `begins()`, what it writes before its first command, and `answers(line)`, what it writes when it is sent this;
 each with what it does then, as faulty.py has it: it goes `on`, it `ends`, and so on. Its `status` is that with which it ends by itself
-before it is told to quit. Each answer is one write; where it `takes_all`, there is one to all that it was told at a time.
+before it is asked to quit. Each answer is one write; where it `takes_all`, there is one to all that it was sent at a time.
 """
 import sys
 from pathlib import Path
@@ -54,11 +54,11 @@ class Other:
         return None if OTHERS[self.name] is None else self
 
     def begins(self):
-        """What it writes, whatever it is told."""
+        """What it writes, whatever it is sent."""
         return OTHERS[self.name]
 
     def answers(self, text):
-        """One that goes on repeats what it is told."""
+        """One that goes on repeats what it is sent."""
         return text, "on"
 
 
@@ -115,24 +115,24 @@ class Remembering:
 
     def __init__(self, ours):
         self.ours = ours
-        self.told = ()
+        self.sent = ()
         self.engine = None
 
     def begins(self):
-        """It says nothing before it is told something."""
+        """It writes nothing before it is sent something."""
         return b"", "on"
 
     def answers(self, line):
         """What it replies to this."""
-        self.told += (line,)
-        if self.told not in self.ours.answered:
+        self.sent += (line,)
+        if self.sent not in self.ours.answered:
             if self.engine is None:
                 self.engine = self.ours.fresh()
-                self.behind = 0
-            for number in range(self.behind, len(self.told)):
-                self.ours.answered[self.told[: number + 1]] = self.engine.answers(self.told[number])
-            self.behind = len(self.told)
-        return self.ours.answered[self.told]
+                self.answered_to = 0
+            for number in range(self.answered_to, len(self.sent)):
+                self.ours.answered[self.sent[: number + 1]] = self.engine.answers(self.sent[number])
+            self.answered_to = len(self.sent)
+        return self.ours.answered[self.sent]
 
 
 class Bent:

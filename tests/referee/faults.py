@@ -37,9 +37,9 @@ HARMLESS = [
     r"=<id>_<text>\n_\n\n",
     r"<reply>\n\n_\t\r\n",
 ]
-# Words behind those that are due.
+# Words after those that are due.
 WORDY = [r"=<id>_<text>_more_words\n\n", r"=<id>_<text>\nmore_lines\nof_it\n\n", r"=<id>_<text>_#_a_comment\n\n"]
-# Ids that are missing, or strange; now and then with more behind, which is of no account.
+# Ids that are missing, or strange; now and then with more after it, which is of no account.
 STRANGE_IDS = [
     r"=<id+1>_<text>\n\n",
     r"=<id-1>_<text>\n\n",
@@ -182,5 +182,5 @@ STYLES = [
     r"\x07<reply>\x7f",
     r"<reply>\n\n\n",
 ]
-# With bytes before and behind each reply, as many as make the longer replies too long.
+# With bytes before and after each reply, as many as make the longer replies too long.
 LONG_STYLES = [r"<%d*\n><reply><%d*\n>", r"<%d*\x01><reply><%d*_>", r"<%d*_><reply><%d*\t>", r"<%d*\n><reply><%d*\x00>"]

@@ -1,5 +1,5 @@
 #!/usr/bin/env python3
-"""A small engine that misbehaves where it is told to, the same way each time.
+"""A small engine that misbehaves where it is asked to, the same way each time.
 
 usage: faulty.py NOTES SEED PASSES STYLE PLAN
 
@@ -11,9 +11,9 @@ LIFE/PLACE/TEMPLATE/THEN. LIFE counts the processes that were started with this 
 before the first command, cN at the N-th command of this life, gN at its N-th genmove, pN at its N-th play, uN at its N-th undo, h
 at a handicap, q at quit; pN-M is each play from the N-th to the M-th. There the template is written in place of the reply, in one
 write. THEN is `on`; `ends`, and the process ends; `closes`, and its output ends; `shuts`, and its input is closed before that
-write, and the process goes on; `forgets`, and it does not do what it was told; or `refuses`, which is the same, but the notes go on.
+write, and the process goes on; `forgets`, and it does not do what it was sent; or `refuses`, which is the same, but the notes go on.
 
-In a template `_` is a space, \\n \\r \\t and \\xHH are bytes, and in angle brackets stand
+In a template `_` is a space, \\n \\r \\t and \\xHH are bytes, and in angle brackets are
 
     <id> <id+1> <id-1> ..  the command's id, or a number beside it
     <reply> <reply:5>      the plain reply, or its first five bytes
@@ -23,7 +23,7 @@ In a template `_` is a space, \\n \\r \\t and \\xHH are bytes, and in angle brac
     <8193*\\n>              that byte, 8,193 times
     <fill:8192:\\n>         as many of that byte as make the whole template so long
 
-At its start it adds a line `start` to NOTES, and then each command that it is told, until a fault came. What it does at an undo is
+At its start it adds a line `start` to NOTES, and then each command that it is sent, until a fault came. What it does at an undo is
 to reply: what was taken back was named all the same, so it plays another point.
 
 It is run as a process by `twogtp`, and as an object by the reference. It imports little, so that it starts quickly.
@@ -68,7 +68,7 @@ def drawn_order(size, seed):
 class Faulty:
     """One life of the engine."""
 
-    takes_all = False  # of what it is told
+    takes_all = False  # of what it is sent
     status = 0  # with which it ends
 
     def __init__(self, seed, passes, style, plan, life):
@@ -78,7 +78,7 @@ class Faulty:
         self.points = []  # of the board, in the order in which it plays there
         self.named = []  # the vertices since the board was empty
         self.count = {}  # how many commands of each name there were, and of all
-        self.notes = "*" not in style  # is what it is told next to be noted? Not where each reply may be too long.
+        self.notes = "*" not in style  # is what it is sent next to be noted? Not where each reply may be too long.
 
     def begins(self):
         """What it writes before its first command, and what it does then."""
@@ -86,7 +86,7 @@ class Faulty:
         return (self.written(fault.template, b"", b""), fault.then) if fault else (b"", "on")
 
     def answers(self, line):
-        """What it writes when it is told this, and what it does then."""
+        """What it writes when it is sent this, and what it does then."""
         words = line.split()
         number = words.pop(0) if words[0].isdigit() else b""
         fault = self.fault_at(self.places(words[0].decode()))
@@ -161,7 +161,7 @@ class Faulty:
         return out
 
     def named_part(self, name, number, text):
-        """The bytes of what stands in angle brackets."""
+        """The bytes of what is in angle brackets."""
         reply = b"=" + number + (b" " + text if text else b"") + b"\n\n"
         if name.startswith("reply"):
             return reply[: int(name[6:] or len(reply))]
@@ -182,7 +182,7 @@ class Faulty:
 
 
 def parts(template):
-    """A template cut into what stands in angle brackets, and what stands between."""
+    """A template cut into what is in angle brackets, and what is between."""
     found = []
     for piece in template.split("<"):
         inside, closes, rest = piece.partition(">")
@@ -227,7 +227,7 @@ class Output:
         self.is_open = True
 
     def take(self, text, then):
-        """Writes this text, and does what comes then. Who doesn't read it is gone."""
+        """Writes this text, and does what comes then. A controller that doesn't read it is gone."""
         if then == SHUTS:
             os.close(0)
         try:

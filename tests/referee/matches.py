@@ -10,10 +10,10 @@ from .controller import DONE, MOST_UNANSWERED, SEND, SIDES, START, Controller, L
 from .faulty import CLOSES, ENDS, SHUTS
 
 # What is left to the controller, to the processes and to the pipes: how many script commands are unanswered at a time, whether an
-# engine answers as soon as it is told something or only when it is waited for, and whether a write to an engine that has ended
-# fails. What comes of a drawn match has to be the same for all of these, but for the standard error under `--why`, which tells how many
-# commands are unanswered. There `twogtp` sends as many as it may, in one write. And where what it tells is a question of time, the
-# timing in which each read brings what was written at once finds out all that may be told.
+# engine answers as soon as it is sent something or only when it is waited for, and whether a write to an engine that has ended
+# fails. What comes of a drawn match has to be the same for all of these, but for the standard error under `--why`, which says how many
+# commands are unanswered. There `twogtp` sends as many as it may, in one write. And where what it says is a question of time, the
+# timing in which each read brings what was written at once finds out all that may be written.
 Timing = namedtuple("Timing", "most is_quick breaks")
 PATIENT = Timing(MOST_UNANSWERED, False, False)
 TIMINGS = [
@@ -35,7 +35,7 @@ RETAKE_LINE = re.compile(
 Match = namedtuple("Match", "size komi handicap games most_moves restarts record show why engines")
 
 # What comes of it: the status, the standard output, the lines of the standard error, and what the engines of each side noted. By the
-# reference each of these lines is a list of texts: what is told in this timing, and what may be told in others.
+# reference each of these lines is a list of texts: what is written in this timing, and what may be written in others.
 Result = namedtuple("Result", "status output errors notes")
 
 
@@ -49,7 +49,7 @@ class Process:
     def __init__(self, engine, notes, timing):
         self.engine, self.notes, self.timing = engine, notes, timing
         self.output = b""
-        self.told = []  # commands that it didn't read yet
+        self.unread = []  # commands that it didn't read yet
         self.has_ended = False
         self.has_closed = False  # its output
         self.has_shut = False  # its input
@@ -69,24 +69,24 @@ class Process:
         self.has_shut = self.has_shut or then == SHUTS
 
     def write(self, lines):
-        """It is told these commands, in one write. False where the write fails."""
+        """It is sent these commands, in one write. False where the write fails."""
         self.writes += 1
         if self.has_shut or (self.has_ended and self.timing.breaks):
             return False
-        self.told += [(self.writes, line) for line in lines]
+        self.unread += [(self.writes, line) for line in lines]
         if self.timing.is_quick:
             self.reads_all()
         return True
 
     def reads_all(self):
-        """It reads and answers all that it was told."""
-        while self.told and not self.has_ended:
+        """It reads and answers all that it was sent."""
+        while self.unread and not self.has_ended:
             self.reads_on()
 
     def reads_on(self):
-        """It reads and answers one command, or all that it was told where it doesn't cut that into lines."""
-        taken = self.told if self.engine.takes_all else self.told[:1]
-        self.told = self.told[len(taken) :]
+        """It reads and answers one command, or all that it was sent where it doesn't cut that into lines."""
+        taken = self.unread if self.engine.takes_all else self.unread[:1]
+        self.unread = self.unread[len(taken) :]
         self.reading, _ = taken[-1]
         text = b"".join(line for _, line in taken)
         if self.engine.notes:
@@ -98,7 +98,7 @@ class Process:
         return self.has_ended and self.writes > self.last
 
     def endings(self):
-        """How it may have ended when it is lost by its pipes. One that goes on is killed; where only its output ended, it may end before
+        """How it may have ended when it fails by its pipes. One that goes on is killed; where only its output ended, it may end before
         that, since the end of its input comes first."""
         if self.has_ended:
             return [f"exit status {self.engine.status}"]
@@ -108,18 +108,18 @@ class Process:
         """Does it go on, and has it written nothing that a controller would take for a reply, or for none?"""
         return not self.has_closed and not self.has_shut and replies.first(self.output)[0] is None
 
-    def behind(self):
-        """What may stand behind all that was read, in the same read: nothing, and then what it has written when it has read one command
-        more each time, up to all that it was told. It is gone then."""
+    def following(self):
+        """What may come after all that was read, in the same read: nothing, and then what it has written when it has read one command
+        more each time, up to all that it was sent. It is gone then."""
         texts = [self.output]
-        while self.told:
+        while self.unread:
             self.reads_on()
             texts.append(self.output)
         return texts
 
     def read(self):
         """What it wrote; nothing at the end of its output."""
-        while self.told and not self.output and not self.has_ended:
+        while self.unread and not self.output and not self.has_ended:
             self.reads_on()
         if not self.output and not self.has_closed:
             raise Undetermined("the engine is silent")
@@ -163,7 +163,7 @@ def play(match, timing=TIMINGS[0]):
     status = 0
     for number in range(1, match.games + 1):
         played = play_game(setup, starter)
-        output += told(match, number, played)
+        output += text_of(match, number, played)
         errors += explained(number, played) if match.why else []
         status = max(status, status_of(played.verdict))
     return Result(status, output, errors, {side: b"".join(starter.notes[side]) for side in SIDES})
@@ -215,21 +215,21 @@ def all_for(referee, side):
 
 def hear(referee, side, process):
     """Reads what this side wrote. Where it loses the side, and the engine has ended, a write before may have failed."""
-    writes, before = referee.writes(side), len(referee.told)
+    writes, before = referee.writes(side), len(referee.reported)
     text = process.read()
     if text:
-        referee.heard(side, text, process.behind)
+        referee.heard(side, text, process.following)
     else:
         lose(referee, side, broken(process, why.OUTPUT_ENDED, writes[:1]))
     if process.may_have_broken():
-        for lost in referee.told[before:]:
+        for lost in referee.reported[before:]:
             if isinstance(lost, Loss):
                 lost.texts.extend(broken(process, why.WRITING_FAILED, writes))
 
 
 def lose(referee, side, texts):
-    """This side is lost, and one of these texts is told."""
-    referee.told.append(Loss(side, texts))
+    """This side fails, and one of these texts is reported."""
+    referee.reported.append(Loss(side, texts))
     referee.lost(side)
 
 
@@ -239,17 +239,17 @@ def broken(process, cause, writes):
 
 
 def say_quit(referee, processes):
-    """At the end each side that is up and has answered all is told to quit."""
+    """At the end each side that is up and has answered all is asked to quit."""
     for side in SIDES:
         if not referee.is_down(side) and not referee.has_unanswered(side):
             processes[side].write([b"quit\n"])
             processes[side].reads_all()
             if processes[side].is_silent():
-                raise Undetermined("the engine is silent when it is told to quit")
+                raise Undetermined("the engine is silent when it is asked to quit")
 
 
-def told(match, number, played):
-    """What is told of a game: its line, its record, its board and an empty line."""
+def text_of(match, number, played):
+    """What is written of a game: its line, its record, its board and an empty line."""
     lines = [played.result_line(number)]
     lines += [played.record_line()] if match.record else []
     lines += [played.game.show().decode(), ""] if match.show else []
@@ -257,8 +257,8 @@ def told(match, number, played):
 
 
 def explained(number, played):
-    """What `--why` tells of a game: for each line the texts of which one is told."""
-    return [[why.line(number, side, text) for text in texts] for side, texts in played.told]
+    """What `--why` reports of a game: for each line the texts of which one is written."""
+    return [[why.line(number, side, text) for text in texts] for side, texts in played.reported]
 
 
 def fits(result, wanted, may_owe_otherwise=False):
@@ -289,7 +289,7 @@ def may_be_counted_so(retakes, most_moves):
     return set(retakes) <= {1, 2, 3} and most_moves >= retakes[1] >= retakes[2] >= retakes[3]
 
 
-def as_told(result):
+def as_reported(result):
     """What comes of a match in the timing of this result alone."""
     return result._replace(errors=b"".join(texts[0] for texts in result.errors))
 

@@ -23,8 +23,8 @@ right_next = Controller.next
 right_read_reply = replies.read_reply
 right_script = Controller.script
 right_started = Controller.started
-right_tell = Controller.tell
-right_tell_retake = Controller.tell_retake
+right_report = Controller.report
+right_report_retake = Controller.report_retake
 right_hear = matches.hear
 right_broken = matches.broken
 right_explained = matches.explained
@@ -80,15 +80,15 @@ def white_is_started_late(self):
     return (SEND, BLACK) if (action, side) == (START, WHITE) and self.left(BLACK) else (action, side)
 
 
-def white_is_told_first(self):
+def white_is_sent_first(self):
     action, side = right_next(self)
     return (SEND, WHITE) if (action, side) == (SEND, BLACK) and self.left(BLACK) and self.left(WHITE) else (action, side)
 
 
-def one_reply_of_a_read(self, side, data, behind):
+def one_reply_of_a_read(self, side, data, following):
     rest = self.sides[side].rest
-    told, used = right_first(rest + data)
-    right_heard(self, side, data if told is None else data[: used - len(rest)], behind)
+    found, used = right_first(rest + data)
+    right_heard(self, side, data if found is None else data[: used - len(rest)], following)
 
 
 def any_id(self, reply, number):
@@ -175,11 +175,11 @@ def black_moves_first(self):
     return BLACK if len(self.game.moves) % 2 == 0 else WHITE
 
 
-def passes_are_not_told(self):
+def passes_are_not_sent(self):
     return [command for command in right_script(self) if command[-1] != b"pass"]
 
 
-def komi_is_not_told(self):
+def komi_is_not_sent(self):
     return [("komi", b"0") if command[0] == "komi" else command for command in right_script(self)]
 
 
@@ -216,15 +216,15 @@ def bytes_that_stay(data):
 
 
 def removed_bytes_do_not_count(data):
-    told, used = right_first(data)
-    if told == replies.OVERLONG and len(bytes_that_stay(data)) <= replies.MOST_BYTES:
+    found, used = right_first(data)
+    if found == replies.OVERLONG and len(bytes_that_stay(data)) <= replies.MOST_BYTES:
         return right_first(bytes_that_stay(data))[0], len(data)
-    return told, used
+    return found, used
 
 
 def skipped_bytes_do_not_count(data):
-    told, used = right_first(data)
-    return (right_first(data.lstrip(b"\n "))[0], len(data)) if told == replies.OVERLONG else (told, used)
+    found, used = right_first(data)
+    return (right_first(data.lstrip(b"\n "))[0], len(data)) if found == replies.OVERLONG else (found, used)
 
 
 def comments_are_removed(data):
@@ -232,8 +232,8 @@ def comments_are_removed(data):
 
 
 def junk_is_passed_over(data):
-    told, used = right_first(data)
-    return right_first(b" " * used + data[used:]) if told == replies.NO_STATUS else (told, used)
+    found, used = right_first(data)
+    return right_first(b" " * used + data[used:]) if found == replies.NO_STATUS else (found, used)
 
 
 def words_at_spaces(text):
@@ -392,7 +392,7 @@ def start_before_undo(self):
     return (START, down[0]) if self.verdict is None and self.pending and down else right_next(self)
 
 
-def nobody_is_told_to_quit(referee, processes):
+def nobody_is_asked_to_quit(referee, processes):
     pass
 
 
@@ -400,45 +400,45 @@ def never_status_1(verdict):
     return 0
 
 
-# ---- what `--why` tells
+# ---- what `--why` reports
 
 
-def unfit_is_not_told(self, side, cause):
+def unfit_is_not_reported(self, side, cause):
     if cause != why.UNFIT:
-        right_tell(self, side, cause)
+        right_report(self, side, cause)
 
 
-def forfeits_are_not_told(self, side, cause):
+def forfeits_are_not_reported(self, side, cause):
     if cause not in (why.REFUSED_PLAY, why.KEPT_MOVE, why.NO_MOVE, why.NO_VERTEX):
-        right_tell(self, side, cause)
+        right_report(self, side, cause)
 
 
-def retake_is_not_told(self, side, count):
+def retake_is_not_reported(self, side, count):
     pass
 
 
-def retake_is_told_where_an_undo_follows(self, side, count):
+def retake_is_reported_where_an_undo_follows(self, side, count):
     if self.has_confirmed_all(values.other(side)):
-        right_tell_retake(self, side, count)
+        right_report_retake(self, side, count)
 
 
-def retake_is_told_where_no_undo_follows(self, side, count):
+def retake_is_reported_where_no_undo_follows(self, side, count):
     if not self.has_confirmed_all(values.other(side)):
-        right_tell_retake(self, side, count)
+        right_report_retake(self, side, count)
 
 
-def first_retake_alone_is_told(self, side, count):
+def first_retake_alone_is_reported(self, side, count):
     if count == 1:
-        right_tell_retake(self, side, count)
+        right_report_retake(self, side, count)
 
 
-def retake_is_told_of_the_maker(self, side, count):
-    right_tell_retake(self, side, count)
-    self.told[-1] = self.told[-1]._replace(side=values.other(side))
+def retake_is_reported_of_the_maker(self, side, count):
+    right_report_retake(self, side, count)
+    self.reported[-1] = self.reported[-1]._replace(side=values.other(side))
 
 
-def retake_is_told_as_a_loss(self, side, count):
-    right_tell(self, side, why.REFUSED_PLAY)
+def retake_is_reported_as_a_loss(self, side, count):
+    right_report(self, side, why.REFUSED_PLAY)
 
 
 def retake_is_a_loss(self, side):
@@ -447,15 +447,15 @@ def retake_is_a_loss(self, side):
         self.lost(side)
 
 
-def retake_is_told_last(referee, side, process):
-    before = len(referee.told)
+def retake_is_reported_last(referee, side, process):
+    before = len(referee.reported)
     right_hear(referee, side, process)
-    referee.told[before:] = sorted(referee.told[before:], key=lambda told: isinstance(told, controller.Retake))
+    referee.reported[before:] = sorted(referee.reported[before:], key=lambda reported: isinstance(reported, controller.Retake))
 
 
 def retake_owes_nothing(self, side, count):
     unanswered, self.sides[side].unanswered = self.sides[side].unanswered, []
-    right_tell_retake(self, side, count)
+    right_report_retake(self, side, count)
     self.sides[side].unanswered = unanswered
 
 
@@ -468,28 +468,28 @@ def retakes_that_are_left(count, most):
 
 
 def retakes_of_a_game(self, side, count):
-    right_tell_retake(self, side, sum(self.retakes.values()))
+    right_report_retake(self, side, sum(self.retakes.values()))
 
 
 def retakes_of_a_side(self, side, count):
-    right_tell_retake(self, side, 1 + sum(isinstance(told, controller.Retake) and told.side == side for told in self.told))
+    right_report_retake(self, side, 1 + sum(isinstance(reported, controller.Retake) and reported.side == side for reported in self.reported))
 
 
-def each_retake_is_told_as_the_first(self, side, count):
-    right_tell_retake(self, side, 1)
+def each_retake_is_reported_as_the_first(self, side, count):
+    right_report_retake(self, side, 1)
 
 
-def loss_of_the_read_is_not_told(referee, side, process):
-    before = len(referee.told)
+def loss_of_the_read_is_not_reported(referee, side, process):
+    before = len(referee.reported)
     right_hear(referee, side, process)
-    if any(isinstance(told, controller.Retake) for told in referee.told[before:]):
-        del referee.told[before + 1 :]
+    if any(isinstance(reported, controller.Retake) for reported in referee.reported[before:]):
+        del referee.reported[before + 1 :]
 
 
-def retake_of_the_read_is_not_told(referee, side, process):
-    before = len(referee.told)
+def retake_of_the_read_is_not_reported(referee, side, process):
+    before = len(referee.reported)
     right_hear(referee, side, process)
-    referee.told[before:] = referee.told[before:][-1:]
+    referee.reported[before:] = referee.reported[before:][-1:]
 
 
 def it_wrote_nothing(unanswered, cause, ending, data):
@@ -497,15 +497,15 @@ def it_wrote_nothing(unanswered, cause, ending, data):
 
 
 def nothing_was_read_at_the_end_too(unanswered, cause, ending, data):
-    told = right_cut_off(unanswered, cause, ending, data)
-    return told if data else told.replace('it wrote ""', "nothing of it was read")
+    reported = right_cut_off(unanswered, cause, ending, data)
+    return reported if data else reported.replace('it wrote ""', "nothing of it was read")
 
 
 def nothing_was_read_of_a_write(unanswered, cause, ending, data):
     return right_cut_off(unanswered, cause, ending, b"" if cause == why.WRITING_FAILED else data)
 
 
-def program_is_not_told(reason, program):
+def program_is_not_reported(reason, program):
     return f"not started: {reason}"
 
 
@@ -513,7 +513,7 @@ def program_is_cut_at_tabs(reason, program):
     return right_not_started(reason, program.split()[0])
 
 
-def whole_program_is_told(reason, program):
+def whole_program_is_reported(reason, program):
     return f'not started: {reason}: "{why.escaped(program)}"'
 
 
@@ -529,26 +529,26 @@ def no_first_of_more(unanswered):
     return right_owed(unanswered).replace(", the first", ",")
 
 
-def who_refused_is_told(self, side, cause):
-    right_tell(self, side, cause)
+def who_refused_is_reported(self, side, cause):
+    right_report(self, side, cause)
     if cause == why.KEPT_MOVE:
-        self.told[-1] = self.told[-1]._replace(side=values.other(side))
+        self.reported[-1] = self.reported[-1]._replace(side=values.other(side))
 
 
-def other_side_is_told(number, side, text):
+def other_side_is_reported(number, side, text):
     return right_line(number, values.other(side), text)
 
 
-def told_when_it_is_abandoned(self, side):
+def reported_when_it_is_abandoned(self, side):
     before = self.verdict
     right_lost(self, side)
     if self.verdict != before:
-        self.told.append(controller.Loss(side, ["abandoned"]))
+        self.reported.append(controller.Loss(side, ["abandoned"]))
 
 
 def verdict_before_the_line(self, side, cause):
     if self.starts[side] <= self.setup.most_restarts:
-        right_tell(self, side, cause)
+        right_report(self, side, cause)
 
 
 def games_from_0(number, side, text):
@@ -571,57 +571,57 @@ def failed_write_is_not_owed(process, cause, writes):
     return right_broken(process, cause, [([] if cause == why.WRITING_FAILED else owed, rest) for owed, rest in writes])
 
 
-def whole_piece_is_told(self, data, used):
+def whole_piece_is_reported(self, data, used):
     return data, data[used:]
 
 
-def blank_lines_are_not_told(self, data, used):
+def blank_lines_are_not_reported(self, data, used):
     return data[:used].lstrip(b" \t\r\n"), data[used:]
 
 
-def end_of_a_reply_is_not_told(self, data, used):
+def end_of_a_reply_is_not_reported(self, data, used):
     return data[:used].rstrip(b"\n"), data[used:]
 
 
-def control_characters_are_not_told(self, data, used):
+def control_characters_are_not_reported(self, data, used):
     return bytes_that_stay(data[:used]), data[used:]
 
 
-def first_letter_alone_is_told(self, rest, data, used, behind):
+def first_letter_alone_is_reported(self, rest, data, used, following):
     return [(rest + data)[:used]]
 
 
-def fault_is_not_told(self, rest, data, used, behind):
+def fault_is_not_reported(self, rest, data, used, following):
     return [(rest + data)[: used - 1]]
 
 
-def blank_lines_before_a_fault_are_not_told(self, rest, data, used, behind):
-    return [(rest + data + more)[used - 1 :] for more in behind]
+def blank_lines_before_a_fault_are_not_reported(self, rest, data, used, following):
+    return [(rest + data + more)[used - 1 :] for more in following]
 
 
-def earlier_reads_are_not_told(self, rest, data, used, behind):
-    return [data + more for more in behind]
+def earlier_reads_are_not_reported(self, rest, data, used, following):
+    return [data + more for more in following]
 
 
-def last_byte_is_not_told(self, rest, data, used, behind):
-    return [(rest + data + more)[:-1] for more in behind]
+def last_byte_is_not_reported(self, rest, data, used, following):
+    return [(rest + data + more)[:-1] for more in following]
 
 
-def first_line_alone_is_told(self, rest, data, used, behind):
+def first_line_alone_is_reported(self, rest, data, used, following):
     before, letter = (rest + data)[: used - 1], (rest + data)[used - 1 :]
     return [before + letter.split(b"\n")[0] + b"\n"]
 
 
-def each_line_is_told_twice(number, played):
+def each_line_is_reported_twice(number, played):
     return [texts for texts in right_explained(number, played) for _ in range(2)]
 
 
-def last_line_is_told_twice(number, played):
+def last_line_is_reported_twice(number, played):
     lines = right_explained(number, played)
     return lines + lines[-1:]
 
 
-def front_is_not_told(process, cause, writes):
+def front_is_not_reported(process, cause, writes):
     return right_broken(process, cause, [(unanswered, b"") for unanswered, rest in writes])
 
 
@@ -650,8 +650,8 @@ MUTANTS = [
     ("the other side is abandoned", Controller, "lost", the_other_is_abandoned),
     ("ids go on after a restart", Controller, "started", ids_go_on),
     ("White is started when Black is in the game", Controller, "next", white_is_started_late),
-    ("White is told of the game before Black", Controller, "next", white_is_told_first),
-    ("what stands behind a reply is dropped", Controller, "heard", one_reply_of_a_read),
+    ("White is sent the game before Black", Controller, "next", white_is_sent_first),
+    ("what comes after a reply is dropped", Controller, "heard", one_reply_of_a_read),
     ("any id answers", Controller, "answers", any_id),
     ("a reply without an id answers", Controller, "answers", missing_id),
     ("the id of the next command answers", Controller, "answers", id_of_any_unanswered),
@@ -694,8 +694,8 @@ MUTANTS = [
     ("an own move is retaken", Controller, "is_last_of_the_other", own_last_move_is_retaken),
     ("an earlier move is retaken", Controller, "is_last_of_the_other", earlier_moves_are_retaken),
     ("a side is started before a move is taken back", Controller, "next", start_before_undo),
-    ("passes aren't told", Controller, "script", passes_are_not_told),
-    ("komi isn't told", Controller, "script", komi_is_not_told),
+    ("passes aren't sent", Controller, "script", passes_are_not_sent),
+    ("komi isn't sent", Controller, "script", komi_is_not_sent),
     ("passes don't count as moves", Controller, "look_for_the_end", passes_do_not_count),
     ("one pass ends the game", Controller, "look_for_the_end", one_pass_ends),
     ("the limit comes before the score", Controller, "look_for_the_end", limit_before_score),
@@ -712,68 +712,68 @@ MUTANTS = [
     ("spaces before an id are skipped", replies, "read_reply", spaces_before_an_id),
     ("an id is a whole word", replies, "read_reply", id_is_a_word),
     ("ids have 32 bits", replies, "read_reply", id_of_32_bits),
-    ("nobody is told to quit", matches, "say_quit", nobody_is_told_to_quit),
+    ("nobody is asked to quit", matches, "say_quit", nobody_is_asked_to_quit),
     ("the status is never 1", matches, "status_of", never_status_1),
 ]
 
-# The same, of what `--why` tells.
+# Wrong bodies of what `--why` reports.
 WHY_MUTANTS = [
-    ("a side that is unfit isn't told", Controller, "tell", unfit_is_not_told),
-    ("a forfeit isn't told", Controller, "tell", forfeits_are_not_told),
-    ("a retake isn't reported", Controller, "tell_retake", retake_is_not_told),
-    ("a retake is reported only where an undo follows", Controller, "tell_retake", retake_is_told_where_an_undo_follows),
-    ("a retake is reported only where no undo follows", Controller, "tell_retake", retake_is_told_where_no_undo_follows),
-    ("of a number's retakes the first alone is reported", Controller, "tell_retake", first_retake_alone_is_told),
-    ("a retake is reported of the side that made the move", Controller, "tell_retake", retake_is_told_of_the_maker),
-    ("a retake is reported as a loss is", Controller, "tell_retake", retake_is_told_as_a_loss),
+    ("a side that is unfit isn't reported", Controller, "report", unfit_is_not_reported),
+    ("a forfeit isn't reported", Controller, "report", forfeits_are_not_reported),
+    ("a retake isn't reported", Controller, "report_retake", retake_is_not_reported),
+    ("a retake is reported only where an undo follows", Controller, "report_retake", retake_is_reported_where_an_undo_follows),
+    ("a retake is reported only where no undo follows", Controller, "report_retake", retake_is_reported_where_no_undo_follows),
+    ("of a number's retakes the first alone is reported", Controller, "report_retake", first_retake_alone_is_reported),
+    ("a retake is reported of the side that made the move", Controller, "report_retake", retake_is_reported_of_the_maker),
+    ("a retake is reported as a loss is", Controller, "report_retake", retake_is_reported_as_a_loss),
     ("a retake is a loss", Controller, "judge_refusal", retake_is_a_loss),
-    ("a retake owes nothing", Controller, "tell_retake", retake_owes_nothing),
-    ("a retake is reported after the loss that the same read brings", matches, "hear", retake_is_told_last),
-    ("a retake is reported, and not the loss that the same read brings", matches, "hear", loss_of_the_read_is_not_told),
-    ("a loss is reported, and not the retake that the same read brings", matches, "hear", retake_of_the_read_is_not_told),
+    ("a retake owes nothing", Controller, "report_retake", retake_owes_nothing),
+    ("a retake is reported after the loss that the same read brings", matches, "hear", retake_is_reported_last),
+    ("a retake is reported, and not the loss that the same read brings", matches, "hear", loss_of_the_read_is_not_reported),
+    ("a loss is reported, and not the retake that the same read brings", matches, "hear", retake_of_the_read_is_not_reported),
     ("retakes are counted from 0", why, "retaken", retakes_are_counted_from_0),
     ("retakes are counted down", why, "retaken", retakes_that_are_left),
-    ("the retakes of all numbers are counted together", Controller, "tell_retake", retakes_of_a_game),
-    ("the retakes of a side are counted together", Controller, "tell_retake", retakes_of_a_side),
-    ("each retake is reported as the first", Controller, "tell_retake", each_retake_is_told_as_the_first),
+    ("the retakes of all numbers are counted together", Controller, "report_retake", retakes_of_a_game),
+    ("the retakes of a side are counted together", Controller, "report_retake", retakes_of_a_side),
+    ("each retake is reported as the first", Controller, "report_retake", each_retake_is_reported_as_the_first),
     ("where nothing was read, it is reported that it wrote nothing", why, "cut_off", it_wrote_nothing),
     ("at an end without a word it is reported that nothing was read", why, "cut_off", nothing_was_read_at_the_end_too),
     ("where a write fails, it is always reported that nothing was read", why, "cut_off", nothing_was_read_of_a_write),
-    ("the program that isn't there isn't named", why, "not_started", program_is_not_told),
+    ("the program that isn't there isn't named", why, "not_started", program_is_not_reported),
     ("a command is cut at tabs too", why, "not_started", program_is_cut_at_tabs),
-    ("the program is named in full", why, "not_started", whole_program_is_told),
+    ("the program is named in full", why, "not_started", whole_program_is_reported),
     ("the program isn't escaped", why, "not_started", program_is_not_escaped),
     ("the only command is reported as the first", why, "owed", first_of_one),
     ("the first of more commands isn't reported as that", why, "owed", no_first_of_more),
-    ("who refused the move is told where it isn't taken back", Controller, "tell", who_refused_is_told),
-    ("the other side is told", why, "line", other_side_is_told),
-    ("a side that is abandoned is told once more", Controller, "lost", told_when_it_is_abandoned),
-    ("a side without a start left isn't told", Controller, "tell", verdict_before_the_line),
+    ("the side that refused the move is named where it isn't taken back", Controller, "report", who_refused_is_reported),
+    ("the other side is named", why, "line", other_side_is_reported),
+    ("a side that is abandoned is reported once more", Controller, "lost", reported_when_it_is_abandoned),
+    ("a side without a start left isn't reported", Controller, "report", verdict_before_the_line),
     ("games count from 0", why, "line", games_from_0),
-    ("each line is told twice", matches, "explained", each_line_is_told_twice),
-    ("the last line of a game is told twice", matches, "explained", last_line_is_told_twice),
+    ("each line is written twice", matches, "explained", each_line_is_reported_twice),
+    ("the last line of a game is written twice", matches, "explained", last_line_is_reported_twice),
     ("a command too many is owed", why, "owed", one_is_owed_more),
     ("the newest command is named", why, "owed", newest_is_owed),
     ("the command is named without its id", why, "owed", owed_without_an_id),
     ("commands of a write that failed aren't owed", matches, "broken", failed_write_is_not_owed),
-    ("all that was read is told of a reply", Controller, "cut", whole_piece_is_told),
-    ("blank lines before a reply aren't told", Controller, "cut", blank_lines_are_not_told),
-    ("the end of a reply isn't told", Controller, "cut", end_of_a_reply_is_not_told),
-    ("control characters aren't told", Controller, "cut", control_characters_are_not_told),
-    ("of what is no reply the first letter is all that is told", Controller, "no_reply", first_letter_alone_is_told),
-    ("the byte that shows a fault isn't told", Controller, "no_reply", fault_is_not_told),
-    ("what stands before such a byte isn't told", Controller, "no_reply", blank_lines_before_a_fault_are_not_told),
-    ("of what is no reply the last read is all that is told", Controller, "no_reply", earlier_reads_are_not_told),
-    ("of what is no reply the last byte isn't told", Controller, "no_reply", last_byte_is_not_told),
-    ("of what is no reply the first line is all that is told", Controller, "no_reply", first_line_alone_is_told),
-    ("the front of a reply isn't told", matches, "broken", front_is_not_told),
-    ("79 bytes are told", why, "MOST_BYTES", 79),
-    ("81 bytes are told", why, "MOST_BYTES", 81),
+    ("all that was read is shown of a reply", Controller, "cut", whole_piece_is_reported),
+    ("blank lines before a reply aren't shown", Controller, "cut", blank_lines_are_not_reported),
+    ("the end of a reply isn't shown", Controller, "cut", end_of_a_reply_is_not_reported),
+    ("control characters aren't shown", Controller, "cut", control_characters_are_not_reported),
+    ("of what is no reply the first letter is all that is shown", Controller, "no_reply", first_letter_alone_is_reported),
+    ("the byte that shows a fault isn't shown", Controller, "no_reply", fault_is_not_reported),
+    ("what comes before such a byte isn't shown", Controller, "no_reply", blank_lines_before_a_fault_are_not_reported),
+    ("of what is no reply the last read is all that is shown", Controller, "no_reply", earlier_reads_are_not_reported),
+    ("of what is no reply the last byte isn't shown", Controller, "no_reply", last_byte_is_not_reported),
+    ("of what is no reply the first line is all that is shown", Controller, "no_reply", first_line_alone_is_reported),
+    ("the front of a reply isn't shown", matches, "broken", front_is_not_reported),
+    ("79 bytes are shown", why, "MOST_BYTES", 79),
+    ("81 bytes are shown", why, "MOST_BYTES", 81),
     ("bytes aren't escaped", why, "escaped", not_escaped),
     ("hex digits are small", why, "escaped", in_small_letters),
     ("bytes above 126 aren't escaped", why, "escaped", high_bytes_stand_as_they_are),
-    ("a point off the board is told as one that is occupied", why, "OFF_THE_BOARD", why.OCCUPIED),
-    ("an end by itself is told as one by force", matches.Process, "endings", ended_by_force),
-    ("unfit is told as a refused play", why, "UNFIT", why.REFUSED_PLAY),
-    ("who forfeits by an undo that fails isn't told", why, "KEPT_MOVE", why.KEPT_MOVE.partition(":")[0]),
+    ("a point off the board is reported as one that is occupied", why, "OFF_THE_BOARD", why.OCCUPIED),
+    ("an end by itself is reported as one by force", matches.Process, "endings", ended_by_force),
+    ("unfit is reported as a refused play", why, "UNFIT", why.REFUSED_PLAY),
+    ("the side that forfeits by an undo that fails isn't named", why, "KEPT_MOVE", why.KEPT_MOVE.partition(":")[0]),
 ]

@@ -16,7 +16,7 @@ Reply = namedtuple("Reply", "ok id text")
 
 
 def first(data):
-    """The first thing that these bytes tell, and how many of them it takes: a Reply, NO_STATUS or OVERLONG; None where there is
+    """The first thing in these bytes, and how many of them it takes: a Reply, NO_STATUS or OVERLONG; None where there is
     nothing yet.
 
     The bytes are all that came since the last reply. They are counted as they came, and byte 8,193 is too many, whatever it is (own).

@@ -1,4 +1,4 @@
-"""What `--why` prints on standard error: a line for each time that a side is lost, and one for each move that is retaken.
+"""What `--why` prints on standard error: a line for each time that a side fails, and one for each move that is retaken.
 
     twogtp: game N: SIDE: OWED: CAUSE; it wrote "BYTES"
     twogtp: game N: SIDE: OWED: CAUSE; nothing of it was read
@@ -7,7 +7,7 @@
 
 MOST_BYTES = 80
 
-# The causes. After those of a pipe stands how the process ended.
+# The causes. After those of a pipe comes how the process ended.
 OUTPUT_ENDED = "its output ended"
 WRITING_FAILED = "writing failed"
 NO_STATUS = "not a GTP reply (it begins with neither = nor ?)"
@@ -34,18 +34,18 @@ def line(number, side, text):
 
 
 def not_started(reason, program):
-    """What is told of a side whose engine can't be started: why, and the first word of its command."""
+    """What is reported of a side whose engine can't be started: why, and the first word of its command."""
     return f"not started: {reason}: {quoted(program)}"
 
 
 def lost(unanswered, cause, data):
-    """What is told of a side that is lost by what it wrote: with these commands unanswered, each a pair of its id and its text without a
+    """What is reported of a side that fails by what it wrote: with these commands unanswered, each a pair of its id and its text without a
     newline, the oldest first; for this cause; and having written this since its last whole reply."""
     return f"{owed(unanswered)}: {cause}; it wrote {quoted(data)}"
 
 
 def cut_off(unanswered, cause, ending, data):
-    """The same of a side whose pipe is broken, and whose process ended so. Only at the end of its output all that it wrote was read."""
+    """What is reported of a side whose pipe is broken, and whose process ended so. Only at the end of its output all that it wrote was read."""
     if data or cause == OUTPUT_ENDED:
         return lost(unanswered, f"{cause}, {ending}", data)
     return f"{owed(unanswered)}: {cause}, {ending}; nothing of it was read"

@@ -419,7 +419,7 @@ def start_comes_back(r, talk, size, stones):
 
 
 def taken_and_returned(r, talk, size, stone):
-    """One of the patterns around this stone of Black, which may stand there already, turned and mirrored, as far as it is on the board;
+    """One of the patterns around this stone of Black, which may be there already, turned and mirrored, as far as it is on the board;
     then plays at its points, passes, undos and some other moves."""
     swapped, left, down = (r.random() < 0.5 for _ in range(3))
     plays = {mark: [] for mark in "XO12H"}

@@ -126,7 +126,7 @@ class Engine:
             raise Failure(b"illegal move")
 
     def genmove(self, arguments):
-        """Adds and tells the move that the policy chooses, or tells that it resigns, which changes nothing. The policy is asked only
+        """Adds and answers the move that the policy chooses, or answers that it resigns, which changes nothing. The policy is asked only
         where the record has room. (The standard, core play commands; what is chosen is own.)"""
         colour = argument(arguments, 0, values.read_colour)
         if self.game.is_full():
@@ -139,7 +139,7 @@ class Engine:
         return values.write_vertex(chosen)
 
     def fixed_handicap(self, arguments):
-        """Places a handicap, where there is no stone and no move, and tells its points. (The standard, setup commands; own points.)"""
+        """Places a handicap, where there is no stone and no move, and answers its points. (The standard, setup commands; own points.)"""
         number = argument(arguments, 0, values.read_int)
         if self.game.moves or self.game.board():
             raise Failure(b"board not empty")
@@ -206,7 +206,7 @@ def start(policy, seed, book, rule=SIMPLE):
 
 
 def run(policy, seed, book, data, rule=SIMPLE):
-    """What the program does with these options and this input: its status, its output, and what it tells on standard error. (Own.)"""
+    """What the program does with these options and this input: its status, its output, and what it writes to standard error. (Own.)"""
     engine = start(policy, seed, book, rule)
     if engine is None:
         return 2, b"", b"gtp_engine: bad book\n"

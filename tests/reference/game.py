@@ -100,7 +100,7 @@ class Game:
         self.boards = [{}]  # boards[k] is the board after k moves
 
     def board(self):
-        """The board as it stands."""
+        """The board as it is."""
         return self.boards[-1]
 
     def after(self, colour, vertex):
@@ -134,7 +134,7 @@ class Game:
         return len(self.moves) >= MOST_MOVES
 
     def play(self, colour, vertex):
-        """Adds this move, and tells whether it is legal; where it isn't, nothing changes."""
+        """Adds this move, and returns whether it is legal; where it isn't, nothing changes."""
         board = self.after(colour, vertex)
         if board is None:
             return False

@@ -136,9 +136,9 @@ def rule_lost_by_undo(game):
 
 
 def rule_lost_by_a_handicap(self, arguments):
-    told = Engine.fixed_handicap(self, arguments)
+    answered = Engine.fixed_handicap(self, arguments)
     self.game.rule = SIMPLE
-    return told
+    return answered
 
 
 def policies_know_simple_ko(self, arguments):

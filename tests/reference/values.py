@@ -62,7 +62,7 @@ def read_komi(text):
     """The half points that this text spells as a komi, or None.
 
     A komi is a plus, a minus or neither; at most nine digits; then nothing, or a point and at most nine digits, which are zeros
-    alone, or a 5 and zeros behind it; at least one digit in all. (The standard, komi, has a float; the rest is own.)
+    alone, or a 5 and zeros after it; at least one digit in all. (The standard, komi, has a float; the rest is own.)
     """
     spelled = re.fullmatch(rb"([+-]?)([0-9]{0,9})(?:\.(0{0,9}|50{0,8}))?", text)
     if not spelled:
@@ -83,7 +83,7 @@ def handicap_points(size, number):
     """The points of this many handicap stones in their order, or None where the size doesn't allow the number.
 
     Odd sizes from 9 up allow 2 to 9 stones, size 7 and even sizes from 8 up 2 to 4, sizes below 7 none. The low line is the third
-    on sizes below 13 and the fourth from 13 up, and the high line stands as far from the other edge. (The standard, fixed handicap
+    on sizes below 13 and the fourth from 13 up, and the high line is as far from the other edge. (The standard, fixed handicap
     placement, describes such points; the table, its order and its sizes are own.)
     """
     most = 0 if size < 7 else 9 if size % 2 == 1 and size >= 9 else 4

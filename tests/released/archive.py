@@ -21,7 +21,7 @@ def starts_without_help(program):
 
 
 def check_tree(what, tree, copies):
-    """No file has a builder's path; the notices and the scripts for tournaments are there; the programs stand alone."""
+    """No file has a builder's path; the notices and the scripts for tournaments are there; the programs need no library."""
     paths = [str(it).encode() for it in copies] + [str(TOP).encode()]
     files = [it for it in tree.rglob("*") if it.is_file()]
     check(f"{what}: no file has a path of whoever built it", [], [str(it) for it in files if any(path in it.read_bytes() for path in paths)])
@@ -33,18 +33,18 @@ def check_tree(what, tree, copies):
 def check_scripts(what, folder, copy):
     """The scripts for tournaments are those of the commit, and those may be executed that may be there."""
     wanted = {it.relative_to(copy / "tournament"): it for it in (copy / "tournament").rglob("*") if it.is_file()}
-    told = {it.relative_to(folder): it for it in folder.rglob("*") if it.is_file()}
-    check(f"{what}: the scripts for tournaments are those of the commit", {at: sum_of(it) for at, it in wanted.items()}, {at: sum_of(it) for at, it in told.items()})
+    found = {it.relative_to(folder): it for it in folder.rglob("*") if it.is_file()}
+    check(f"{what}: the scripts for tournaments are those of the commit", {at: sum_of(it) for at, it in wanted.items()}, {at: sum_of(it) for at, it in found.items()})
     modes = {at: 0o755 if os.access(it, os.X_OK) else 0o644 for at, it in wanted.items()}
-    check(f"{what}: they may be executed as in the repository", modes, {at: it.stat().st_mode & 0o777 for at, it in told.items()})
+    check(f"{what}: they may be executed as in the repository", modes, {at: it.stat().st_mode & 0o777 for at, it in found.items()})
     check(f"{what}: some of them may be executed", True, 0o755 in modes.values())
 
 
 def check_tournament(what, scripts, engine, folder, **how):
     """The scripts find twogtp from where they lie, and play."""
     words = ["play", folder, "--engine", f"a={engine}", "--engine", f"b={engine} --policy random --seed %s", "--seeds", "1"]
-    status, told, errors = run(["env", scripts / "tournament", *words, "--", "--size", "3", "--max-moves", "4"], **how)
-    check(f"{what}: its script plays a tournament of two games", (0, ["2 of 2 games have a result"], ""), (status, told.splitlines()[-1:], errors))
+    status, output, errors = run(["env", scripts / "tournament", *words, "--", "--size", "3", "--max-moves", "4"], **how)
+    check(f"{what}: its script plays a tournament of two games", (0, ["2 of 2 games have a result"], ""), (status, output.splitlines()[-1:], errors))
 
 
 def check_pages(what, root, top, folders):
@@ -76,7 +76,7 @@ def provenance_of(tree):
 
 
 def check_provenance(trees, names, copies):
-    """What PROVENANCE tells: of a release of a commit, of one with the word of the gate, and of a final one."""
+    """What PROVENANCE says: of a release of a commit, of one with the word of the gate, and of a final one."""
     commit = run(["git", "rev-parse", "HEAD"], cwd=copies[0])[1].strip()
     known = [f"commit   {commit}", f"kit      {run(['rt', 'version'])[1].strip()}", f"version  {names[1]}, as the programs print it"]
     for tree, name in zip(trees, (names[0], names[0], names[1])):
@@ -84,11 +84,11 @@ def check_provenance(trees, names, copies):
         check(f"PROVENANCE of {tree.parent.name}: {wanted}", [], [it for it in wanted if it not in provenance_of(tree)])
     one, third, final = (provenance_of(tree) for tree in trees)
     of_commit = f"release  of this commit, and not final: ./release --final alone names one {names[1]}"
-    check("PROVENANCE tells that a release is not final", (True, True, False), tuple(of_commit in it for it in (one, third, final)))
+    check("PROVENANCE says that a release is not final", (True, True, False), tuple(of_commit in it for it in (one, third, final)))
     of_version = f"release  final: by ./release --final, {names[1]} is this commit and no other"
-    check("PROVENANCE tells that a release is final", (False, False, True), tuple(of_version in it for it in (one, third, final)))
+    check("PROVENANCE says that a release is final", (False, False, True), tuple(of_version in it for it in (one, third, final)))
     check("PROVENANCE doesn't make up what the gate said", True, any(it.startswith("gate     not run, or not known") for it in one))
-    check("PROVENANCE tells what the gate said where it is known", True, f"gate     {GATE}" in third)
+    check("PROVENANCE says what the gate said where it is known", True, f"gate     {GATE}" in third)
     again = [next(it for it in lines if it.startswith("    ./release")) for lines in (one, third, final)]
     check("PROVENANCE has the command that made it", ["    ./release", f"    ./release --gate '{GATE}'", f"    ./release --final --gate '{GATE}'"], again)
     differ = [it for it in third if it not in one]
@@ -102,10 +102,10 @@ def check_archive(tree, copies):
     check_pages("the archive", tree, tree, [])
     named = [f"{page.name}: {it}" for page in pages.pages_of(tree) for it in pages.installed_files(page)]
     check("the archive: no page names a place of the package", [], named)
-    told = (tree / "PROVENANCE").read_text()
+    text = (tree / "PROVENANCE").read_text()
     for program in PROGRAMS:
         sums = [sum_of(object_of(program)), sum_of(copies[0] / "bin" / program), sum_of(tree / "bin" / program)]
-        check(f"PROVENANCE has the sums of {program}", [], [it for it in sums if it not in told])
+        check(f"PROVENANCE has the sums of {program}", [], [it for it in sums if it not in text])
         words = ["cc", "-static-pie", "-o", tree.parent / program, tree / "objects" / f"{program}.o"]
         run(words)
         check(f"{program} can be linked again from objects/", run([tree / "bin" / program, "--version"]), run([tree.parent / program, "--version"]))
@@ -130,7 +130,7 @@ def first_conversation():
 
 
 def matches():
-    """Command lines with what they are sent: the demo's matches, and what tells of mistakes and losses."""
+    """Command lines with what they are sent: the demo's matches, and what shows mistakes and losses."""
     book = re.search(r"engine='(bin/gtp_engine [^']*)'", (TOP / "demo").read_text())[1]
     shown = ["bin/twogtp", "--size", "5", "--komi", "0.5", "--record", "--show", "--white", book, "--black"]
     drawn = "bin/gtp_engine --policy random --seed "
@@ -207,6 +207,6 @@ def check_readme(folder, room):
     readme = (TOP / "README.md").read_text()
     block = re.search(r"^```\n(sha256sum .*?)^```$", readme, re.MULTILINE | re.DOTALL)
     shutil.copytree(folder / "dist", room)
-    status, told, errors = run(["bash", "-ec", block[1] if block else "exit 1"], cwd=room)
-    lines = [re.sub(r" .*", "", it) for it in told.splitlines()[-1:]]
+    status, output, errors = run(["bash", "-ec", block[1] if block else "exit 1"], cwd=room)
+    lines = [re.sub(r" .*", "", it) for it in output.splitlines()[-1:]]
     check(f"README's way to a release, {folder.name}, ends with the line of a game", (0, ["game"], ""), (status, lines, errors))

@@ -1,4 +1,4 @@
-"""What each check of a release stands on: its line, and how a command is run."""
+"""What each check of a release uses: its line, and how a command is run."""
 import hashlib
 import os
 import signal
@@ -30,12 +30,12 @@ def run(words, **how):
         words, stdin=subprocess.PIPE, stderr=subprocess.PIPE, encoding="utf-8", errors="replace", start_new_session=True, **how
     )
     try:
-        told, errors = process.communicate(text, LIMIT)
+        output, errors = process.communicate(text, LIMIT)
     except subprocess.TimeoutExpired:
         os.killpg(process.pid, signal.SIGKILL)
-        told, errors = process.communicate()
+        output, errors = process.communicate()
         errors += "\nit did not end"
-    return process.returncode, told or "", errors
+    return process.returncode, output or "", errors
 
 
 def sum_of(file):

@@ -14,8 +14,8 @@ DATE = "2026-11-25T00:00:00Z"
 
 def object_of(program):
     """The object file of the built program, if ./build or ./test kept it."""
-    status, told, _ = run([TOP / "packaging/cache", "--object", TOP / "bin" / program])
-    return Path(told.rstrip("\n")) if status == 0 else None
+    status, output, _ = run([TOP / "packaging/cache", "--object", TOP / "bin" / program])
+    return Path(output.rstrip("\n")) if status == 0 else None
 
 
 def cache_with(room, objects):
@@ -54,7 +54,7 @@ def copy_of(folder):
 
 
 def release(folder, *words, umask=0o022, **environment):
-    """Runs ./release: its status, and what it told."""
+    """Runs ./release: its status, and what it wrote."""
     before = [] if umask is None else ["bash", "-c", f'umask {umask:03o}; exec "$@"', "release"]
     return run([*before, "./release", *words], cwd=folder, env={**os.environ, **environment})
 

@@ -35,8 +35,8 @@ def check_package_pages(folder):
     docs = folder / DOCS
     check_pages("the package", docs, folder, ["/usr/bin"])
     found = pages.pages_of(docs)
-    told = [f"{page.name}: {it}" for page in found for it in re.findall(r"(?<![\w/])(?:\./)?(?:bin/twogtp|bin/gtp_engine|interop/\w*|/home/me/vintsaky)", page.read_text())]
-    check("the package: no page names programs as they lie in a clone", [], told)
+    named = [f"{page.name}: {it}" for page in found for it in re.findall(r"(?<![\w/])(?:\./)?(?:bin/twogtp|bin/gtp_engine|interop/\w*|/home/me/vintsaky)", page.read_text())]
+    check("the package: no page names programs as they lie in a clone", [], named)
     lost = [f"{page.name}: {it}" for page in found for it in pages.installed_files(page) if not (folder / it[1:]).exists()]
     check("the package: what its pages name below /usr/share is there", [], lost)
     named = {it for page in found for it in pages.installed_files(page)}
@@ -54,13 +54,13 @@ def check_package_manuals(folder):
 
 
 def check_control(package, tree):
-    """What Debian is told of the package."""
+    """What Debian reads of the package."""
     for field, wanted in (("Depends", ""), ("Homepage", ""), ("Suggests", "gnugo, parallel, python3"), ("Package", "vintsaky"), ("Architecture", "amd64")):
         check(f"the package's {field}", wanted, run(["dpkg-deb", "-f", package, field])[1].strip())
     name = package.name.split("_")[1]
     check("the package has the version of its name", name, run(["dpkg-deb", "-f", package, "Version"])[1].strip())
-    told = run(["zcat", tree / DOCS / "changelog.gz"])[1].partition("\n")[0]
-    check("the package's changelog has the version of its name", f"vintsaky ({name}) unstable; urgency=medium", told)
+    first = run(["zcat", tree / DOCS / "changelog.gz"])[1].partition("\n")[0]
+    check("the package's changelog has the version of its name", f"vintsaky ({name}) unstable; urgency=medium", first)
     if shutil.which("lintian"):
         check("lintian finds nothing in the package", (0, ""), run(["lintian", "--fail-on", "error,warning", package])[:2])
     else:

@@ -22,7 +22,7 @@ def blocks_of(text):
 
 
 def code_of(text):
-    """The code of a page: its blocks, and what stands between single backquotes."""
+    """The code of a page: its blocks, and what is between single backquotes."""
     rest = re.sub(r"^```\w*\n.*?^```$", "", text, flags=re.MULTILINE | re.DOTALL)
     return blocks_of(text) + re.findall(r"(?<!`)`([^`\n]+)`(?!`)", rest)
 
@@ -63,7 +63,7 @@ def installed_files(page):
 
 
 def parts_of(line):
-    """The simple commands of a line of bash, each without what stands in quotes."""
+    """The simple commands of a line of bash, each without what is in quotes."""
     line = re.sub(r"\\\n", " ", line)
     line = re.sub(r"'[^']*'", "''", line)
     inner = re.findall(r"\$\(([^()]*)\)", line)

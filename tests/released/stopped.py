@@ -26,7 +26,7 @@ def path_without(name, folder):
 def check_stopped(what, folder, ran, wanted):
     """Did ./release stop with this on its standard error, and leave nothing?"""
     check(f"{what}: status 1, and nothing in dist/", (1, []), (ran[0], made(folder)))
-    check(f"{what}: it is told, by {wanted}", True, wanted in ran[2])
+    check(f"{what}: it is reported, by {wanted}", True, wanted in ran[2])
 
 
 def check_changed(folder):
@@ -69,13 +69,13 @@ def check_full(folder):
         script = f'mount -t tmpfs -o size={size} none dist || exit 77; ./release; status=$?; echo "left: $(ls -A dist)"; exit "$status"'
         words = ["unshare", "--mount", *([] if os.geteuid() == 0 else ["--map-root-user"]), "bash", "-c", script]
         (folder / "dist").mkdir(exist_ok=True)
-        status, told, errors = run(words, cwd=folder)
+        status, output, errors = run(words, cwd=folder)
         if status == 77 or "unshare failed" in errors:
             skip(f"a disk of {size}", f"nothing can be mounted here: {errors.strip()}")
             continue
-        check(f"a disk of {size}: status 1, and nothing in dist/", (1, "left: \n"), (status, told))
+        check(f"a disk of {size}: status 1, and nothing in dist/", (1, "left: \n"), (status, output))
         lines = [it for it in errors.splitlines() if it.startswith("release: ")]
-        check(f"a disk of {size}: one line tells it: {' '.join(lines)}", (1, True), (len(lines), "No space left on device" in errors))
+        check(f"a disk of {size}: one line reports it: {' '.join(lines)}", (1, True), (len(lines), "No space left on device" in errors))
 
 
 def check_ended(folder):
@@ -85,19 +85,19 @@ def check_ended(folder):
     while not (folder / "dist/.making/notices").exists() and process.poll() is None and time.monotonic() < until:
         time.sleep(0.01)
     other = release(folder)
-    check("another release beside it: status 1, and it is told", (1, "release: another ./release runs in this clone\n"), other[::2])
+    check("another release beside it: status 1, and it is reported", (1, "release: another ./release runs in this clone\n"), other[::2])
     process.send_signal(signal.SIGTERM)
     check("a release that is ended: its status, and nothing in dist/", (143, []), (process.wait(LIMIT), made(folder)))
 
 
 def check_words(folder):
     """The words on its command line."""
-    status, told, _ = release(folder, "--help")
-    check("--help tells it in six lines", (0, 6, "usage: ./release [--final] "), (status, len(told.splitlines()), told[:27]))
+    status, output, _ = release(folder, "--help")
+    check("--help says it in six lines", (0, 6, "usage: ./release [--final] "), (status, len(output.splitlines()), output[:27]))
     mistakes = [["--gate"], ["--gate", "fine"], ["--gate", "1 passed, 0 failed\n2"], ["now"], ["--final", "now"], ["--final", "--final"]]
     mistakes += [["--final", "--gate"], ["--gate", "--final"], ["--gate", GATE, "--gate", GATE], ["--final=1.0"], ["--help", "--final"], [""]]
     for words in mistakes:
-        check(f"a mistake: {words}", (2, "", told), release(folder, *words))
+        check(f"a mistake: {words}", (2, "", output), release(folder, *words))
 
 
 def check_page(folder):
@@ -123,7 +123,7 @@ def check_version(folder):
 
 
 def release_other_commit(folder):
-    """Releases another commit of the same version: the status, and what was told."""
+    """Releases another commit of the same version: the status, and what was written."""
     (folder / "docs/rules.md").write_text((folder / "docs/rules.md").read_text() + "\n")
     commit(folder, "One more")
     return release(folder)

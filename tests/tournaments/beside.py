@@ -34,9 +34,9 @@ def taps(programs):
             "a folder that is a file": ["log0.1.replies/log", "gtp_engine"],
         }
         for what, arguments in mistakes.items():
-            status, output, told = here.run("tap", *arguments)
+            status, output, errors = here.run("tap", *arguments)
             check(f"tap with {what}: status 2, a text, nothing left", (2, "", True, before),
-                  (status, output, told != "", sorted(here.at.iterdir())))
+                  (status, output, errors != "", sorted(here.at.iterdir())))
         check("tap --help: status 0", (0, ""), here.run("tap", "--help")[::2])
 
 
@@ -95,14 +95,14 @@ def games(here, engine):
     score = r"game 1: ([BW]\+[\d.]+|0|limit) moves \d+ restarts 0 0\n"
     for size, handicap in [(1, 0), (2, 0), (3, 0), (5, 0), (7, 4), (9, 0), (9, 5), (13, 9), (19, 0), (19, 2), (25, 0)]:
         for black, white in [(f"{engine} 1", f"{RANDOM} 2"), (f"{RANDOM} 3", f"{engine} 4")]:
-            status, output, told = here.run("twogtp", "--why", "--black", black, "--white", white,
+            status, output, errors = here.run("twogtp", "--why", "--black", black, "--white", white,
                                             "--size", str(size), "--handicap", str(handicap))
             who = "Black" if engine in black else "White"
             check(f"a whole game as {who} on {size}x{size}, handicap {handicap}", (0, "", True),
-                  (status, told, bool(re.fullmatch(score, output))))
+                  (status, errors, bool(re.fullmatch(score, output))))
     # Its moves draw on from the seed, so after a restart the game goes on otherwise, but it goes on.
     for kept in (0, 4, 100):
-        status, output, told = here.run("twogtp", "--black", f"{TOP}/tests/dies 9 {kept} {engine} 5", "--white", f"{RANDOM} 6",
+        status, output, errors = here.run("twogtp", "--black", f"{TOP}/tests/dies 9 {kept} {engine} 5", "--white", f"{RANDOM} 6",
                                         "--size", "5", "--restarts", "9")
         check(f"killed at its ninth genmove, after {kept} bytes of the reply: the game has its end", (0, True),
               (status, bool(re.fullmatch(r"game 1: ([BW]\+[\d.]+|0) moves \d+ restarts [1-9] 0\n", output))))

@@ -113,5 +113,5 @@ def tallies(programs):
             check(f"the interval of {won} of {count}", f"{100 * abs(low):.1f} to {100 * high:.1f}", re.search(r"\S+ to \S+", row)[0])
         wrong = {"no folder": [], "two folders": ["two", "three"], "a folder without a plan": ["."], "an option": ["-x"]}
         for what, arguments in wrong.items():
-            status, output, told = here.run("tally", *arguments)
-            check(f"the tally of {what}: status 2", (2, "", True), (status, output, told != ""))
+            status, output, errors = here.run("tally", *arguments)
+            check(f"the tally of {what}: status 2", (2, "", True), (status, output, errors != ""))

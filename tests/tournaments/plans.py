@@ -20,9 +20,9 @@ def plans(programs):
             "no options": two_engines("all")[1:5],
         }
         for what, arguments in changed.items():
-            status, output, told = here.run("tournament", "play", "all", *arguments)
+            status, output, errors = here.run("tournament", "play", "all", *arguments)
             check(f"{what} in the same folder is refused", (2, "", "tournament: all was begun with other engines or options. It has"),
-                  (status, output, told.splitlines()[0]))
+                  (status, output, errors.splitlines()[0]))
         check("fewer seeds are refused", (2, "", "tournament: all was begun with 4 seeds: there may be more, but not fewer\n"),
               here.run("tournament", "play", "all", "--seeds", "3"))
         check("then the plan is as it was, and nothing was played", (plan, {}), ((here.at / "all/plan").read_text(), here.games("all")))
@@ -46,11 +46,11 @@ def plans(programs):
             "a folder without a plan": ["list", "."],
         }
         for what, arguments in wrong.items():
-            status, output, told = here.run("tournament", *arguments)
-            check(f"{what}: status 2, and a text on standard error", (2, "", True), (status, output, told != ""))
+            status, output, errors = here.run("tournament", *arguments)
+            check(f"{what}: status 2, and a text on standard error", (2, "", True), (status, output, errors != ""))
         check("none of these made a folder", False, (here.at / "x").exists())
-        status, output, told = here.run("tournament", "--help")
-        check("help: status 0, on the standard output", (0, "usage: tournament play FOLDER", ""), (status, output[:29], told))
+        status, output, errors = here.run("tournament", "--help")
+        check("help: status 0, on the standard output", (0, "usage: tournament play FOLDER", ""), (status, output[:29], errors))
         here.environment["TWOGTP"] = "/no/such/twogtp"
         check("without twogtp: status 2", (2, "", "tournament: there is no /no/such/twogtp: name it by TWOGTP\n"),
               here.run("tournament", "play", "all"))
@@ -61,7 +61,7 @@ def lost(programs):
     with room(programs) as here:
         arguments = ["all", "--engine", f"one={RANDOM} %s", "--engine", "two=./two %s", "--seeds", "1",
                      "--", "--size", "5", "--restarts", "0"]
-        status, output, told = here.run("tournament", "play", *arguments)
+        status, output, errors = here.run("tournament", "play", *arguments)
         check("an engine that isn't there: status 1, and both games have a line", (1, ["1_one_two", "1_two_one"]),
               (status, sorted(here.games("all"))))
         check("an engine that isn't there: the line", "game 1: abandoned white moves 0 restarts 0 0\n\n",
@@ -71,8 +71,8 @@ def lost(programs):
         here.script("two", f"#!/bin/bash\nexec {RANDOM} \"$@\"\n")
         check("played again it plays nothing, and has status 1", (1, "2 of 2 games have a result\n", ""),
               here.run("tournament", "play", "all"))
-        status, output, told = here.run("tournament", "play", "all", "--again")
-        check("--again plays them", (0, ""), (status, told))
+        status, output, errors = here.run("tournament", "play", "all", "--again")
+        check("--again plays them", (0, ""), (status, errors))
         check("--again: the old logs are gone", [], list((here.at / "all/logs").iterdir()))
 
 
@@ -93,12 +93,12 @@ def cut_at_spaces(programs):
     """A command is cut as twogtp cuts it: at spaces, and quotes are letters like others."""
     with room(programs) as here:
         engine = here.script("args", f"#!/bin/bash\nprintf '<%s>' \"$@\" > {here.at}/\"${{@: -1}}\"\nexec gtp_engine\n")
-        status, _, told = here.run("tournament", "play", "all", "--engine", f"one=  {engine}   \"a b\"  'c%s' $HOME %s%s one%s ",
+        status, _, errors = here.run("tournament", "play", "all", "--engine", f"one=  {engine}   \"a b\"  'c%s' $HOME %s%s one%s ",
                                    "--engine", "two=gtp_engine", "--seeds", "1", "--", "--size", "1")
-        check("a command with spaces and quotes: status", (0, ""), (status, told))
+        check("a command with spaces and quotes: status", (0, ""), (status, errors))
         check("a command with spaces and quotes: its arguments", "<\"a><b\"><'c1'><$HOME><11><one1>", (here.at / "one1").read_text())
-        status, _, told = here.run("tournament", "play", "a folder", *two_engines("")[1:], *SMALL)
-        check("a folder with a space", (0, "", 8), (status, told, len(here.games("a folder"))))
+        status, _, errors = here.run("tournament", "play", "a folder", *two_engines("")[1:], *SMALL)
+        check("a folder with a space", (0, "", 8), (status, errors, len(here.games("a folder"))))
         check("a folder with a space: the tally", 0, here.run("tally", "a folder")[0])
 
 
@@ -112,8 +112,8 @@ def elsewhere(programs, wanted):
         check("one game again plays nothing", (0, "", ""), here.run("tournament", "game", "all", "1_one_two"))
         check("the list without it", sorted(set(wanted) - {"1_one_two"}), lines(here.run("tournament", "list", "all")[1]))
         check("the list of all", sorted(wanted), lines(here.run("tournament", "list", "all", "--all")[1]))
-        status, _, told = here.run("bash", "-c", "tournament list all | xargs -n 1 -P 3 tournament game all")
-        check("by xargs: the same results", (0, "", wanted), (status, told, here.games("all")))
+        status, _, errors = here.run("bash", "-c", "tournament list all | xargs -n 1 -P 3 tournament game all")
+        check("by xargs: the same results", (0, "", wanted), (status, errors, here.games("all")))
         here.run("tournament", "plan", *two_engines("array"), *SMALL)
         for task in range(1, 9):
             here.environment["SLURM_ARRAY_TASK_ID"] = str(task)
@@ -149,8 +149,8 @@ def machines(here, wanted):
         shutil.copytree(here.at / "far", here.at / machine / "far")
     # A login sets both. Without SHELL, GNU Parallel starts nothing and ends with status 0.
     here.environment |= {"SHELL": "/bin/bash", "HOME": str(here.at)}
-    status, _, told = here.run("bash", "-c", f"tournament list far | parallel --will-cite --ssh {ssh} --sshlogin 2/one,2/two tournament game far")
-    check("two machines by GNU Parallel: the status", (0, ""), (status, told))
+    status, _, errors = here.run("bash", "-c", f"tournament list far | parallel --will-cite --ssh {ssh} --sshlogin 2/one,2/two tournament game far")
+    check("two machines by GNU Parallel: the status", (0, ""), (status, errors))
     check("two machines by GNU Parallel: each plays some", True, all(here.games(f"{machine}/far") for machine in ("one", "two")))
     for machine in ("one", "two"):
         shutil.copytree(here.at / machine / "far/games", here.at / "far/games", dirs_exist_ok=True)

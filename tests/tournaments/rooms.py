@@ -50,14 +50,14 @@ class Room:
         return subprocess.Popen(words, cwd=self.at, env=self.environment, encoding="utf-8", start_new_session=True, **more)
 
     def run(self, *words, **more):
-        """Runs a command: its status, its output, and what it told."""
+        """Runs a command: its status, its output, and its standard error."""
         process = self.start(*words, **more)
         try:
-            output, told = process.communicate(timeout=LIMIT)
+            output, errors = process.communicate(timeout=LIMIT)
         except subprocess.TimeoutExpired:
             self.end()
             return "it doesn't end", *process.communicate()
-        return process.returncode, output, told
+        return process.returncode, output, errors
 
     def left(self):
         """The processes that live and were started here: pid and command line."""

@@ -22,25 +22,25 @@ sleep 100
 def whole(programs):
     """A tournament of two engines that nobody stops. Its results are those of twogtp by hand."""
     with room(programs) as here:
-        status, output, told = here.run("tournament", "play", *two_engines("all"), *SMALL)
+        status, output, errors = here.run("tournament", "play", *two_engines("all"), *SMALL)
         names = sorted(f"{seed}_{pair}" for seed in range(1, 5) for pair in ("one_two", "two_one"))
-        check("a tournament: status and what it tells", (0, ""), (status, told))
+        check("a tournament: status and what it writes", (0, ""), (status, errors))
         check("a tournament: both colours of each seed have a result", names, sorted(here.games("all")))
-        told_lines = [line.split(": ", 1)[1] for line in output.splitlines()[:-1]]
+        printed_lines = [line.split(": ", 1)[1] for line in output.splitlines()[:-1]]
         check("a tournament: a line for each game",
               sorted(f"{name}: {text.splitlines()[0][8:]}" for name, text in here.games("all").items()),
-              sorted(told_lines))
+              sorted(printed_lines))
         check("a tournament: the last line", "8 of 8 games have a result", output.splitlines()[-1])
         _, by_hand, _ = here.run("twogtp", "--black", f"{RANDOM} 103", "--white", f"{RANDOM} 3", *SMALL[1:], "--record")
         check("a tournament: a result and its record are those of twogtp", by_hand, here.games("all")["3_two_one"])
-        check("a tournament: no log is kept where nothing was told", [], list((here.at / "all/logs").iterdir()))
+        check("a tournament: no log is kept where nothing was written", [], list((here.at / "all/logs").iterdir()))
         check("a tournament: nothing is left beside", [], list((here.at / "all/running").iterdir()))
         check("a tournament: no process is left", [], here.left())
         before = {name: (here.at / "all/games" / name).stat().st_mtime_ns for name in names}
         check("played again it plays nothing", (0, "8 of 8 games have a result\n", ""), here.run("tournament", "play", "all"))
         check("played again it leaves the results", before, {name: (here.at / "all/games" / name).stat().st_mtime_ns for name in names})
-        status, output, told = here.run("tournament", "play", "all", "--seeds", "5")
-        check("with more seeds it plays those", (0, 10, ""), (status, len(here.games("all")), told))
+        status, output, errors = here.run("tournament", "play", "all", "--seeds", "5")
+        check("with more seeds it plays those", (0, 10, ""), (status, len(here.games("all")), errors))
         return {name: text for name, text in here.games("all").items() if name[0] < "5"}
 
 
@@ -53,7 +53,7 @@ def stopped(programs, wanted):
             process = here.start("tournament", "play", *arguments, "--jobs", "2", *SMALL)
             here.until(lambda: (here.at / "all/games").exists() and len(here.games("all")) >= 3)
             process.send_signal(getattr(signal, f"SIG{name}"))
-            output, told = process.communicate(timeout=LIMIT)
+            output, errors = process.communicate(timeout=LIMIT)
             if name == "KILL":
                 here.until(lambda: not here.left(), 20)
             check(f"{name}: the status", status, process.returncode)
@@ -62,8 +62,8 @@ def stopped(programs, wanted):
             check(f"{name}: it was stopped in the middle", True, 3 <= len(played) < 8)
             check(f"{name}: what was played is whole", {game: wanted[game] for game in played}, played)
             if name != "KILL":
-                check(f"{name}: it tells so",
-                      f"tournament: stopped: {len(played)} of 8 games have a result; the same command goes on\n", told)
+                check(f"{name}: it says so",
+                      f"tournament: stopped: {len(played)} of 8 games have a result; the same command goes on\n", errors)
             check(f"{name}: it is gone on with", (0, ""), here.run("tournament", "play", *arguments, *SMALL)[::2])
             check(f"{name}: then the results are those of one that wasn't stopped", wanted, here.games("all"))
             check(f"{name}: nothing is left beside", [], list((here.at / "all/running").iterdir()))
@@ -79,12 +79,12 @@ def stubborn(programs):
         process.terminate()
         process.communicate(timeout=LIMIT)
         check("engines that can only be killed: none is left after TERM", (143, []), (process.returncode, here.left()))
-        status, output, told = here.run("tournament", "play", "all", "--limit", "1")
+        status, output, errors = here.run("tournament", "play", "all", "--limit", "1")
         check("at the limit of a game: the status", 1, status)
         check("at the limit of a game: none is left", [], here.left())
         names = ["1_one_two", "1_two_one", "2_one_two", "2_two_one"]
-        check("at the limit of a game: it tells so", [f"tournament: {name}: no result: not over in 1 seconds" for name in names],
-              lines(told))
+        check("at the limit of a game: it says so", [f"tournament: {name}: no result: not over in 1 seconds" for name in names],
+              lines(errors))
         check("at the limit of a game: the last line", "0 of 4 games have a result\n", output)
         check("at the limit of a game: the log has it", ["tournament: not over in 1 seconds"] * 4,
               [(here.at / "all/logs" / name).read_text().splitlines()[-1] for name in names])
@@ -138,7 +138,7 @@ def interrupted(programs, wanted):
         check("Ctrl-C: no process is left", [], here.left())
         played = here.games("all")
         check("Ctrl-C: it was stopped in the middle", True, 2 <= len(played) < 8)
-        check("Ctrl-C: it tells so", True, f"stopped: {len(played)} of 8 games have a result".encode() in shown)
+        check("Ctrl-C: it says so", True, f"stopped: {len(played)} of 8 games have a result".encode() in shown)
         check("Ctrl-C: it is gone on with", 0, here.run("tournament", "play", "all")[0])
         check("Ctrl-C: then the results are those of one that wasn't stopped", wanted, here.games("all"))
         os.close(terminal)
@@ -163,10 +163,10 @@ def silent(programs):
         deaf = here.script("deaf", DEAF)
         check("the line is there where `quit` isn't answered, under timeout -k", (0, "game 1: W+6.5 moves 2 restarts 0 0\n", ""),
               here.run("twogtp", "--white", "gtp_engine", "--size", "1", "--black", f"timeout -k 1 3 {deaf}"))
-        status, _, told = here.run("tournament", "play", "all", "--engine", f"one={deaf}", "--engine", "two=gtp_engine", "--seeds", "1",
+        status, _, errors = here.run("tournament", "play", "all", "--engine", f"one={deaf}", "--engine", "two=gtp_engine", "--seeds", "1",
                                    "--limit", "3", "--", "--size", "1")
         check("and under the limit of a tournament", (0, "", {"game 1: W+6.5 moves 2 restarts 0 0\npass pass\n"}),
-              (status, told, set(here.games("all").values())))
+              (status, errors, set(here.games("all").values())))
 
 
 def full(programs, wanted):
@@ -184,12 +184,12 @@ def full(programs, wanted):
                 while True:
                     filler.write(bytes(4096))
             os.truncate(here.at / "disk/filler", (here.at / "disk/filler").stat().st_size - 4 * 4096)  # four files more
-            status, output, told = here.run("tournament", "play", "disk/all")
+            status, output, errors = here.run("tournament", "play", "disk/all")
             played = here.games("disk/all")
             check("a full disk: the status", 1, status)
             check("a full disk: some games are played, and not all", True, 0 < len(played) < 8)
             check("a full disk: what was played is whole", {game: wanted[game] for game in played}, played)
-            reported = {re.match(r"tournament: (\w+): ", line)[1] for line in told.splitlines() if re.match(r"tournament: \d", line)}
+            reported = {re.match(r"tournament: (\w+): ", line)[1] for line in errors.splitlines() if re.match(r"tournament: \d", line)}
             check("a full disk: each other game is reported", sorted(set(wanted) - set(played)), sorted(reported))
             check("a full disk: the last line", f"{len(played)} of 8 games have a result", output.splitlines()[-1])
             (here.at / "disk/filler").unlink()
@@ -207,13 +207,13 @@ def limited(programs, wanted):
               here.run("bash", "-c", "ulimit -f 0; tournament plan all --engine a=x --engine b=y")[0])
         check("no room for the plan: none is left", False, (here.at / "all/plan").exists())
         here.run("tournament", "plan", *two_engines("all"), *SMALL)
-        status, output, told = here.run("bash", "-c", "ulimit -f 0; tournament game all 1_one_two")
-        check("no room for a result: the status, the output and what is told", (1, "", True),
-              (status, output, told.startswith("tournament: 1_one_two: no result: status 3 of twogtp: is the disk full?")))
+        status, output, errors = here.run("bash", "-c", "ulimit -f 0; tournament game all 1_one_two")
+        check("no room for a result: the status, the output and what is reported", (1, "", True),
+              (status, output, errors.startswith("tournament: 1_one_two: no result: status 3 of twogtp: is the disk full?")))
         check("no room for a result: none is there", {}, here.games("all"))
-        status, output, told = here.run("bash", "-c", "ulimit -f 0; tournament list all | xargs -r -n 1 -P 4 tournament game all")
+        status, output, errors = here.run("bash", "-c", "ulimit -f 0; tournament list all | xargs -r -n 1 -P 4 tournament game all")
         check("no room for any result: each game is reported", sorted(wanted),
-              sorted(re.findall(r"^tournament: (\w+): no result: ", told, re.MULTILINE)))
+              sorted(re.findall(r"^tournament: (\w+): no result: ", errors, re.MULTILINE)))
         check("no room for any result: none is there", {}, here.games("all"))
         check("with room they are played", 0, here.run("tournament", "play", "all")[0])
         check("with room the results are the same", wanted, here.games("all"))
