@@ -9,6 +9,7 @@ ghost use Rattle.go_base.specs.Komi.{front_digits, behind_digits, decimals_of, h
 
 use crate::ints::read_int;
 use crate::scores::write_half_points;
+use crate::texts::push;
 use arrayvec::ArrayVec;
 use std::marker::Model;
 
@@ -84,8 +85,7 @@ impl Komi {
         }
         let mut text = ArrayVec::new();
         text.push(b'-');
-        // There is room: a komi has at most nine digits before its point.
-        let _ = text.try_extend_from_slice(&points);
+        push(&mut text, &points);
         text
     }
 }

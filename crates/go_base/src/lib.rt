@@ -26,7 +26,7 @@ pub use moves::Move;
 pub use points::Point;
 pub use scores::{write_half_points, write_score};
 pub use sizes::Size;
-pub use texts::{push, push_vertex};
+pub use texts::{push, push_vertex, push_word};
 pub use vertices::Vertex;
 
 #[cfg(test)]
