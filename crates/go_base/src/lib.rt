@@ -20,7 +20,7 @@ mod vertices;
 pub use choices::Choice;
 pub use colours::{Colour, Side};
 pub use handicaps::handicap;
-pub use ints::{read_int, write_int};
+pub use ints::{read_int, split_digits, write_int};
 pub use komis::Komi;
 pub use moves::Move;
 pub use points::Point;
