@@ -58,6 +58,23 @@ skip_while-append p (x ∷ xs) ys all =
     let parts = and_parts (p x) (list_all p xs) all in
     rw parts.0 (skip_while-append p xs ys parts.1)
 
+-- with more after what is left
+pub skip_while-none : {X : Type 0} (p : X → Bool) (xs ys : List X) → skip_while p xs ≡ []
+    → skip_while p (xs ++ ys) ≡ skip_while p ys
+skip_while-none p [] ys e = refl
+skip_while-none p (x ∷ xs) ys e = elim (cases_Bool (p x)) [
+  | inl t ↦ let none : skip_while p xs ≡ [] = rw t at e in rw t (skip_while-none p xs ys none)
+  | inr t ↦ let some : x ∷ xs ≡ [] = rw t at e in absurd (cc)
+]
+
+pub skip_while-some : {X : Type 0} (p : X → Bool) (xs ys : List X) (v : X) (vs : List X) → skip_while p xs ≡ v ∷ vs
+    → skip_while p (xs ++ ys) ≡ v ∷ (vs ++ ys)
+skip_while-some p [] ys v vs e = absurd (cc)
+skip_while-some p (x ∷ xs) ys v vs e = elim (cases_Bool (p x)) [
+  | inl t ↦ let some : skip_while p xs ≡ v ∷ vs = rw t at e in rw t (skip_while-some p xs ys v vs some)
+  | inr t ↦ let same : x ∷ xs ≡ v ∷ vs = rw t at e in rw t (ap (λ l. l ++ ys) same)
+]
+
 -- what is left begins with an element that doesn't pass
 pub skip_while-first : {X : Type 0} (p : X → Bool) (xs more : List X) (x : X) → skip_while p xs ≡ x ∷ more
     → p x ≡ false

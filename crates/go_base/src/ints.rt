@@ -1,5 +1,5 @@
 //! Ints of the protocol.
-ghost use Rattle.std.specs.Prelude.{◌≡◌, ◌≤◌, ℕ, IfSome, IfNone, length};
+ghost use Rattle.std.specs.Prelude.{◌≡◌, ◌+◌, ◌≤◌, ℕ, IfSome, IfNone, length};
 ghost use Rattle.std.specs.Char.{is_ascii_digit};
 ghost use Rattle.std.specs.List.{prefix_len};
 ghost use Rattle.go_base.specs.Int.{SpellsInt, int_of, written_int};
@@ -39,6 +39,7 @@ pub fn read_int(text: &[u8]) -> Option<u32>
 pub fn split_digits(text: &[u8]) -> (&[u8], &[u8])
     ensures digits { result.0.now ≡ front_while is_ascii_digit text.now }
     ensures rest { result.1.now ≡ skip_while is_ascii_digit text.now }
+    ensures len { length result.0.now + length result.1.now ≡ length text.now }
 {
     text.split_at(digits_len(text))
 }
