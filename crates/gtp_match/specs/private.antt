@@ -2,4 +2,3 @@
 pub mod Conditions
 pub mod Feeding
 pub mod Lending
-pub mod Words
