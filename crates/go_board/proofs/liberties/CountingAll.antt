@@ -1,0 +1,99 @@
+-- Counts made anew, place by place.
+use Rattle.std.proofs.Common.{◌≡◌, ℕ, ◌+◌, ◌<◌, ◌≤◌, List, length, replicate, sym, ◌∙◌, ap, subst, arith, inl, inr}
+use Rattle.std.proofs.Common.{add-one, Bool, true, false, cond, get_or-set_other, get_or-set_same}
+use Rattle.std.specs.Prelude.{◌≢◌, ◌==◌, ◌&&◌}
+use Rattle.std.proofs.lemmas.List.{get_or-replicate}
+use Rattle.std.proofs.lemmas.Bool.Decides.{nat_tests}
+use Rattle.std.proofs.Math.ListN.{set, length-set}
+use Rattle.go_board.specs.Board.{at}
+use Rattle.go_board.specs.private.ChainId.{id_of, is_stone, empty_beside, share, ArePseudoLiberties, count_at}
+use Rattle.go_board.specs.declared.board.Cell.{Cell}
+use Rattle.go_board.proofs.boards.Cells.{same_or_other}
+use Rattle.go_board.proofs.Sums.{total, total-suc, total-zero, total-at_most}
+use Rattle.go_board.proofs.liberties.FillingPoints.{pseudo_liberties-total}
+use Rattle.go_board.proofs.liberties.MergingIds.{share-four}
+
+-- each id counts the shares of the places below n
+pub record IsCounting (board : List Cell) (ids : List ℕ) (n : ℕ) (counts : List ℕ) : Type 0 where
+  pub length_is : length counts ≡ 702
+  pub each : (k : ℕ) → k < 702 → count_at counts k ≡ total (share board ids k) n
+
+pub IsCounting-none : (board : List Cell) (ids counts : List ℕ) → counts ≡ replicate 702 0
+    → IsCounting board ids 0 counts
+IsCounting-none board ids counts none = record {
+  length_is = ap length none;
+  each =
+      λ k below. ap (λ (cs : List ℕ). count_at cs k) none ∙ get_or-replicate 702 k 0 0 below
+      ∙ sym (total-zero (share board ids k));
+}
+
+equal-test : (j p : ℕ) → j ≡ p → (j == p) ≡ true
+equal-test j p e = grind (arith, nat_tests)
+
+other-test : (j p : ℕ) → j ≢ p → (j == p) ≡ false
+other-test j p e = grind (arith, nat_tests)
+
+more-total : (f : ℕ → ℕ) (n : ℕ) → total f (n + 1) ≡ total f n + f n
+more-total f n = rw (← add-one) at (total-suc f n)
+
+share-none : (board : List Cell) (ids : List ℕ) (k p : ℕ) → is_stone (at board p) ≡ false
+    → share board ids k p ≡ 0
+share-none board ids k p e = ap (λ (b : Bool). cond (b && (id_of ids p == k)) (empty_beside board p) 0) e
+
+share-stone : (board : List Cell) (ids : List ℕ) (k p : ℕ) → is_stone (at board p) ≡ true
+    → share board ids k p ≡ cond (id_of ids p == k) (empty_beside board p) 0
+share-stone board ids k p e = ap (λ (b : Bool). cond (b && (id_of ids p == k)) (empty_beside board p) 0) e
+
+pub IsCounting-past : (board : List Cell) (ids : List ℕ) (n : ℕ) (counts : List ℕ) → is_stone (at board n) ≡ false
+    → IsCounting board ids n counts → IsCounting board ids (n + 1) counts
+IsCounting-past board ids n counts none c = record {
+  length_is = c.length_is;
+  each = λ k below. let so_far = c.each k below in
+      let zero_share = share-none board ids k n none in
+      omega (arith, so_far, zero_share, more-total (share board ids k) n);
+}
+
+pub IsCounting-stone : (board : List Cell) (ids : List ℕ) (n id more : ℕ) (counts new : List ℕ)
+    → is_stone (at board n) ≡ true → id ≡ id_of ids n → id < 702 → more ≡ empty_beside board n
+    → new ≡ set counts id (count_at counts id + more) → IsCounting board ids n counts
+    → IsCounting board ids (n + 1) new
+IsCounting-stone board ids n id more counts new stone is l more_is made c =
+    subst (IsCounting board ids (n + 1)) (sym made) (record {
+      length_is = length-set counts id (count_at counts id + more) ∙ c.length_is;
+      each = λ k below. elim (same_or_other k id) [
+        | inl e ↦
+            let own : share board ids k n ≡ more =
+            share-stone board ids k n stone
+            ∙ ap (λ (t : Bool). cond t (empty_beside board n) 0) (equal-test (id_of ids n) k (sym is ∙ sym e))
+            ∙ sym more_is in
+            let x : count_at (set counts id (count_at counts id + more)) k ≡ count_at counts id + more =
+            ap (count_at (set counts id (count_at counts id + more))) e
+            ∙ get_or-set_same counts id (count_at counts id + more) 0 (omega (arith, l, c.length_is)) in
+            let y : count_at counts id ≡ total (share board ids k) n =
+            ap (count_at counts) (sym e) ∙ c.each k below in
+            omega (arith, own, x, y, more-total (share board ids k) n)
+        | inr o ↦
+            let own : share board ids k n ≡ 0 =
+            share-stone board ids k n stone
+            ∙ ap (λ (t : Bool). cond t (empty_beside board n) 0)
+            (other-test (id_of ids n) k (λ e. o (sym e ∙ sym is))) in
+            let x : count_at (set counts id (count_at counts id + more)) k ≡ count_at counts k =
+            get_or-set_other counts id k (count_at counts id + more) 0 o in
+            let y = c.each k below in
+            omega (arith, own, x, y, more-total (share board ids k) n)
+      ];
+    })
+
+pub IsCounting-few : (board : List Cell) (ids : List ℕ) (n k : ℕ) (counts : List ℕ) → n ≤ 702 → k < 702
+    → IsCounting board ids n counts → count_at counts k ≤ 2808
+IsCounting-few board ids n k counts h below c =
+    let is = c.each k below in
+    let most = total-at_most (share board ids k) 4 n (λ p. share-four board ids k p) in
+    omega (arith, is, most, h)
+
+pub ArePseudoLiberties-counted : (board : List Cell) (ids : List ℕ) (n : ℕ) (counts : List ℕ) → n ≡ 702
+    → IsCounting board ids n counts → ArePseudoLiberties board ids counts
+ArePseudoLiberties-counted board ids n counts all c = record {
+  length_is = c.length_is;
+  each = λ k below. c.each k below ∙ ap (total (share board ids k)) all ∙ sym (pseudo_liberties-total board ids k);
+}
