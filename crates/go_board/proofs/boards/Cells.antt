@@ -28,12 +28,6 @@ stone-differs colour.White = λ e. cc
 pub same_or_other : (a b : ℕ) → (a ≡ b) ⊎ (a ≢ b)
 same_or_other a b = grind arith
 
--- a liberty beside the stone itself
-pub IsFree-beside : (board : List Cell) (c : Colour) (p : ℕ) → at board p ≡ stone c → HasBeside board p Empty
-    → IsFree board p
-IsFree-beside board c p holds beside =
-    record { point = p; joined = itself (λ e. stone-point c (sym holds ∙ e)); beside = beside }
-
 -- what a point holds may change
 pub IsFramed-set : (board : List Cell) (p : ℕ) (x : Cell) → at board p ≢ Edge → IsFramed board
     → IsFramed (set board p x)

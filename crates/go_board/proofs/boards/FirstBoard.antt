@@ -20,32 +20,6 @@ pub record IsAdding (board : List Cell) (points : List ℕ) (cells : List Cell) 
   pub cells_are : cells ≡ with_black board points
   pub same_edge : SameEdge board cells
 
-pub IsAdding-none : (board : List Cell) → IsAdding board [] board
-IsAdding-none board =
-    record { length_is = refl; cells_are = refl; same_edge = record { kept = λ p e. e; back = λ p e. e } }
-
-pub IsAdding-more : (board : List Cell) (points : List ℕ) (k p : ℕ) (cells : List Cell) → IsFramed board
-    → k < length points → p ≡ get_or points k p
-    → All (λ q. at board q ≢ Edge) points → IsOn most_size p → IsAdding board (take k points) cells
-    → IsAdding board (take (k + 1) points) (set cells p Black)
-IsAdding-more board points k p cells framed below is on_board inside a =
-    let point : at board p ≢ Edge = subst (λ q. at board q ≢ Edge) (sym is) (on_board k p below) in
-    record {
-      length_is = length-set cells p Black ∙ a.length_is;
-      cells_are = ap (λ b. set b p Black) a.cells_are
-          ∙ ap (λ q. set (with_black board (take k points)) q Black) is
-          ∙ sym (fold_more (λ b q. slice_set b q Black) board points k p below);
-      same_edge = SameEdge-trans board cells (set cells p Black) a.same_edge
-          (SameEdge-set cells p Black (λ e. point (a.same_edge.back p e)) (λ e. cc));
-    }
-
-pub IsFramed-same_edge : (old new : List Cell) → length new ≡ length old → SameEdge old new → IsFramed old
-    → IsFramed new
-IsFramed-same_edge old new long same framed = record {
-  length_is = long ∙ framed.length_is;
-  inside = λ p held. framed.inside p (λ e. held (same.kept p e));
-}
-
 pub start-none : (size : ℕ) → start size 0 ≡ empty_board size
 unfolding start handicap_points
 start-none size = refl

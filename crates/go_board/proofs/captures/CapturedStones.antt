@@ -43,66 +43,8 @@ pub record IsClearing (board : List Cell) (c : Colour) (n : ℕ) (cells : List C
   pub counted : stack ≡ count_by (is_captured board c) (range_with_len 0 n)
   pub few : stack ≤ n
 
-pub IsClearing-none : (board : List Cell) (c : Colour) → IsClearing board c 0 board 0
-IsClearing-none board c = record {
-  length_is = refl;
-  done = λ k none. absurd (omega arith);
-  rest = λ k _. refl;
-  counted = refl;
-  few = omega arith;
-}
-
 earlier_or_last : (k n : ℕ) → k < n + 1 → (k < n) ⊎ (k ≡ n)
 earlier_or_last k n h = grind arith
-
--- the place n held a stone that isn't among the free ones, and it was removed
-pub IsClearing-stack : (board : List Cell) (c : Colour) (s : Cell) (free : List ℕ) (n : ℕ) (old new : List Cell)
-    (before stack : ℕ) → s ≡ stone c → AreTouching board s Empty free
-    → n < length board → IsClearing board c n old before → at old n ≡ s → ¬ Contains free n → new ≡ set old n Empty
-    → stack ≡ before + 1 → IsClearing board c (n + 1) new stack
-IsClearing-stack board c s free n old new before stack is among in_range k held out fewer one_more =
-    let here : at board n ≡ s = sym (k.rest n (omega arith)) ∙ held in
-    let captured : IsCaptured board c n = (here ∙ is, λ liberty. out ((among n).1 (here, liberty))) in
-    let taken : is_captured board c n ≡ true = holds-yes (captured? board c n) captured in
-    let few = k.few in
-    let long = k.length_is in
-    rw (fewer, one_more) (record {
-      length_is = length-set old n Empty ∙ long;
-      done = λ j below. elim (earlier_or_last j n below) [
-        | inl earlier ↦ get_or-set_other old n j Empty Edge (omega arith) ∙ k.done j earlier
-        | inr last ↦ subst (λ i. at (set old n Empty) i ≡ left_at board c i) (sym last)
-            (get_or-set_same old n Empty Edge (omega arith) ∙ ap (λ (b : Bool). cond b Empty (at board n)) (sym taken))
-      ];
-      rest = λ j past. get_or-set_other old n j Empty Edge (omega arith) ∙ k.rest j (omega arith);
-      counted =
-          ap (λ m. m + 1) k.counted
-          ∙ sym (count_by-more (is_captured board c) n
-          ∙ ap (λ (b : Bool). count_by (is_captured board c) (range_with_len 0 n) + cond b 1 0) taken);
-      few = omega arith;
-    })
-
--- the place n held no such stone, or a free one
-pub IsClearing-kept : (board : List Cell) (c : Colour) (s : Cell) (free : List ℕ) (n : ℕ) (old new : List Cell)
-    (before stack : ℕ) → s ≡ stone c → AreTouching board s Empty free
-    → IsClearing board c n old before → (at old n ≡ s → Contains free n) → new ≡ old → stack ≡ before
-    → IsClearing board c (n + 1) new stack
-IsClearing-kept board c s free n old new before stack is among k member same none =
-    let here : at old n ≡ at board n = k.rest n (omega arith) in
-    let free_one : ¬ IsCaptured board c n = λ h. h.1 ((among n).0 (member (here ∙ h.0 ∙ sym is))).1 in
-    let left : is_captured board c n ≡ false = holds-no (captured? board c n) free_one in
-    let few = k.few in
-    rw (same, none) (record {
-      length_is = k.length_is;
-      done = λ j below. elim (earlier_or_last j n below) [
-        | inl earlier ↦ k.done j earlier
-        | inr last ↦ subst (λ i. at old i ≡ left_at board c i) (sym last)
-            (here ∙ ap (λ (b : Bool). cond b Empty (at board n)) (sym left))
-      ];
-      rest = λ j past. k.rest j (omega arith);
-      counted = k.counted ∙ sym (count_by-more (is_captured board c) n
-          ∙ ap (λ (b : Bool). count_by (is_captured board c) (range_with_len 0 n) + cond b 1 0) left ∙ omega arith);
-      few = omega arith;
-    })
 
 pub IsClearing-done : (board : List Cell) (c : Colour) (n : ℕ) (cells : List Cell) (stack : ℕ) → n ≡ length board
     → IsClearing board c n cells stack

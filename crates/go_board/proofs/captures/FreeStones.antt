@@ -265,9 +265,6 @@ empty-no_stone size p s = elim (inside p 702) [
     by_case true e = stone-filled s.0 (sym e)
     by_case false e = stone-point s.0 (sym e)
 
-pub AreFree-empty : (size : ℕ) (board : List Cell) → board ≡ empty_board size → AreFree board
-AreFree-empty size board is p s = absurd (empty-no_stone size p (subst (λ (b : List Cell). IsStone (at b p)) is s))
-
 -- ---- the code's test
 
 pub free-beside : (board : List Cell) (c : Colour) (p : ℕ) → at board p ≡ Empty → AreFree board

@@ -86,12 +86,6 @@ IsReaching-done board sought s next found held f done p = (
   (λ path. complete board sought s next found f done path held f.start),
 )
 
-pub IsReaching-inside : (board : List Cell) (sought : Cell) (s next : ℕ) (found : List ℕ)
-    → IsReaching board sought s next found → next < length found → IsInside (slice_index found next)
-IsReaching-inside board sought s next found f h =
-    let here : IsReached board s (slice_index found next) = f.sound next 0 h in
-    IsOn-inside (slice_index found next) here.on_board
-
 -- what is put into an empty list is all that is there
 pub one-put_in : (old new : List ℕ) (s : ℕ) → old ≡ [] → Contains new s → (new ≡ old) ⊎ (new ≡ old ++ s ∷ [])
     → new ≡ [] ++ s ∷ []

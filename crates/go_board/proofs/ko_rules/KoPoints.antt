@@ -90,14 +90,3 @@ pub IsKo-many : (game : GameRecord) (c : Colour) (p : ℕ) → at (board_of game
     → ((q : ℕ) → ¬ TakesOnly (board_of game) c p q) → IsKo (with_move game c (At p)) None
 IsKo-many game c p empty none d r free =
     ((λ repeats. none r ((repeats-back game c d p r empty free).0 repeats).first), (λ h. absurd h))
-
--- nor does a play whose stone isn't alone
-pub IsKo-crowded : (game : GameRecord) (c : Colour) (p : ℕ) → at (board_of game) p ≡ Empty
-    → HasBeside (board_of (with_move game c (At p))) p (stone c) → IsKo (with_move game c (At p)) None
-IsKo-crowded game c p empty crowded d r free = (
-  (λ repeats.
-      let b = (repeats-back game c d p r empty free).0 repeats in
-      alone-from (board_of (with_move game c (At p))) d c r p free
-      (other-other c d (other-twice d c b.colours)) b.second crowded),
-  (λ h. absurd h),
-)

@@ -21,13 +21,6 @@ use Rattle.go_board.proofs.undo.PoppedStones.{popped-all, not_last-numbers}
 use Rattle.go_board.proofs.records.TakenStack.{stack_of-with_move}
 use Rattle.go_board.proofs.undo.UnmadePlays.{counted-all}
 
-pub ko_after-start : (moves : List Move) (stones : List TakenStone) → length moves ≡ 0 → IsKoAfter moves stones None
-ko_after-start moves stones none game g is gone = IsKo-start game (sym is ∙ empty moves none)
-  where
-    empty : (ms : List Move) → length ms ≡ 0 → ms ≡ []
-    empty [] e = refl
-    empty (m ∷ ms) e = absurd (omega (arith, e))
-
 pub ko_after-pass : (moves earlier : List Move) (last : Move) (stones : List TakenStone) → moves ≡ earlier ++ last ∷ []
     → last.vertex ≡ Pass → IsKoAfter moves stones None
 ko_after-pass moves earlier last stones ends pass game g is gone =

@@ -69,11 +69,6 @@ part-rest s n l to from k not_to not_from = elim (same_or_other l from) [
   | inr o ↦ ap (λ (m : ℕ). part s n m k) (rename-other to from l o)
 ]
 
-share-part : (board : List Cell) (ids : List ℕ) (k p : ℕ)
-    → share board ids k p ≡ part (is_stone (at board p)) (empty_beside board p) (id_of ids p) k
-unfolding part
-share-part board ids k p = refl
-
 -- the ids are those of before, renamed
 abbrev AreRenamed : List ℕ → List ℕ → ℕ → ℕ → Type 0
 AreRenamed ids new to from = (p : ℕ) → p < 702 → id_of new p ≡ rename to from (id_of ids p)

@@ -303,15 +303,3 @@ repeats-from game board kept ko c p stone b same ko_is board_is empty here stone
       (λ r. takes_any.1 (subst (λ (s : ℕ). TakesOnly board c p s) (sym stone_is)
           (subst (λ (cs : List Cell). TakesOnly cs c p ko.stone) (sym board_is) (is.0 r).1))),
     )
-
--- a play that is allowed by each test is legal
-pub legal-tested : (game : GameRecord) (board : List Cell) (c : Colour) (p place : ℕ) → place ≡ p
-    → board ≡ board_of game → HasSize game.size board → at board place ≡ Empty
-    → IsFree (play board c place) place → ¬ Repeats game (play (board_of game) c place) → IsLegal game c (At p)
-legal-tested game board c p place same board_is has empty free no_ko =
-    subst (λ (q : ℕ). IsLegal game c (At q)) same (record {
-      on_board = (has place).0 (empty-point board place empty);
-      empty = subst (λ (b : List Cell). at b place ≡ Empty) board_is empty;
-      free = subst (λ (b : List Cell). IsFree (play b c place) place) board_is free;
-      no_ko = no_ko;
-    })

@@ -48,14 +48,6 @@ places-count : (board : List Cell) (c : Colour) → length (captured_places boar
 unfolding captured_count
 places-count board c = length-filter (is_captured board c) (range_with_len 0 (length board))
 
--- there is room for what a play takes, since each stone was put down by a move or as handicap
-pub room-for_play : (board : List Cell) (c : Colour) (p : ℕ) (stack : List TakenStone) (moves : ℕ) → length board ≡ 702
-    → at board p ≡ Empty → moves < 2000
-    → length stack + stone_count board ≤ 9 + moves → length stack + captures board c p ≤ 2009
-room-for_play board c p stack moves long empty room few =
-    let sum = stones-play board c p long empty in
-    omega (arith, sum, room, few)
-
 -- and it stays so
 pub few-after_play : (board : List Cell) (c : Colour) (p number moves : ℕ) (stack new : List TakenStone)
     → length board ≡ 702 → at board p ≡ Empty → length stack + stone_count board ≤ 9 + moves

@@ -91,36 +91,12 @@ end-of rest t place number place_is number_is =
     sym (ap (λ (p : ℕ). rest ++ record { place = p; number = number } ∷ []) place_is
     ∙ ap (λ (n : ℕ). rest ++ record { place = t.place; number = n } ∷ []) number_is)
 
--- the last stone was popped
-pub popped-last : (old new rest : List TakenStone) (t : TakenStone) (place number by : ℕ) → old ≡ rest ++ t ∷ []
-    → new ≡ take (length old - 1) old → place ≡ t.place → by ≡ t.number → by ≡ number
-    → old ≡ new ++ record { place = place; number = number } ∷ []
-popped-last old new rest t place number by ends shorter place_is by_is is =
-    let long : length old ≡ length rest + 1 = ap length ends ∙ length_push rest t in
-    let kept : new ≡ rest =
-    shorter ∙ ap (λ (n : ℕ). take n old) (omega (arith, long)) ∙ ap (λ (ts : List TakenStone). take (length rest) ts) ends
-    ∙ take_at rest (t ∷ []) (length rest) refl in
-    ends ∙ end-of rest t place number place_is (sym is ∙ by_is)
-    ∙ ap (λ (ts : List TakenStone). ts ++ record { place = place; number = number } ∷ []) (sym kept)
-
 -- ---- the only stone of a move
 
 pub IsOnlyTaken-last : (stones rest : List TakenStone) (t : TakenStone) (place number by : ℕ) → stones ≡ rest ++ t ∷ []
     → place ≡ t.place → by ≡ t.number → by ≡ number → IsNotLast rest number → IsOnlyTaken stones number place
 IsOnlyTaken-last stones rest t place number by ends place_is by_is is alone =
     record { before = rest; ends = ends ∙ end-of rest t place number place_is (sym is ∙ by_is); alone = alone }
-
-pub not_only-none : (stones : List TakenStone) (number : ℕ) → length stones ≡ 0 → (place : ℕ) → ¬ IsOnlyTaken stones number place
-not_only-none stones number none place o =
-    let long : length stones ≡ length o.before + 1 =
-    ap length o.ends ∙ length_push o.before (record { place = place; number = number }) in
-    absurd (omega (arith, long, none))
-
-pub not_only-other : (stones rest : List TakenStone) (t : TakenStone) (number by : ℕ) → stones ≡ rest ++ t ∷ [] → by ≡ t.number
-    → by ≢ number → (place : ℕ) → ¬ IsOnlyTaken stones number place
-not_only-other stones rest t number by ends is another place o =
-    another (is ∙ ap (λ (s : TakenStone). s.number)
-    (ends-same rest o.before t (record { place = place; number = number }) (sym ends ∙ o.ends)).1)
 
 pub not_only-two : (stones rest earlier : List TakenStone) (t s : TakenStone) (number by : ℕ) → stones ≡ rest ++ t ∷ []
     → rest ≡ earlier ++ s ∷ [] → by ≡ s.number → by ≡ number → (place : ℕ) → ¬ IsOnlyTaken stones number place

@@ -152,8 +152,3 @@ IsUnmade-play board cells new stones left c p number count this is this_is b h =
       back.counted
           ∙ counted-all (set h.before p (stone c)) (other c),
     )
-
--- a pass changed nothing
-pub IsUnmade-pass : (board : List Cell) (stones : List TakenStone) (c : Colour) (number : ℕ)
-    → IsUnmade board stones (record { colour = c; vertex = Pass }) number board stones 0
-IsUnmade-pass board stones c number h = (h.board_is, h.stones_are ∙ append-nil h.earlier, refl)
