@@ -12,6 +12,7 @@ use Rattle.go_board.specs.private.Frame.{IsFramed}
 use Rattle.go_board.specs.Chain.{itself, HasBeside, IsFree}
 use Rattle.go_board.specs.declared.board.Cell.{Cell}
 use Rattle.go_board.specs.declared.board.Cell.TheVariants.{Edge, Empty}
+use Rattle.std.proofs.lemmas.Bool.{cases_eq}
 
 pub stone-point : (c : Colour) → stone c ≢ Edge
 stone-point colour.Black = λ e. cc
@@ -25,15 +26,12 @@ pub stone-differs : (c : Colour) → stone c ≢ stone (other c)
 stone-differs colour.Black = λ e. cc
 stone-differs colour.White = λ e. cc
 
-pub same_or_other : (a b : ℕ) → (a ≡ b) ⊎ (a ≢ b)
-same_or_other a b = grind arith
-
 -- what a point holds may change
 pub IsFramed-set : (board : List Cell) (p : ℕ) (x : Cell) → at board p ≢ Edge → IsFramed board
     → IsFramed (set board p x)
 IsFramed-set board p x point f = record {
   length_is = length-set board p x ∙ f.length_is;
-  inside = λ q held. elim (same_or_other q p) [
+  inside = λ q held. elim (cases_eq q p) [
     | inl same ↦ subst (λ r. IsOn most_size r) (sym same) (f.inside p point)
     | inr another ↦ f.inside q (λ e. held (get_or-set_other board p q x Edge another ∙ e))
   ];

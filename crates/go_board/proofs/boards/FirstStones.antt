@@ -10,7 +10,6 @@ use Rattle.go_board.specs.Game.{start}
 use Rattle.go_board.specs.private.ChainId.{is_stone}
 use Rattle.go_board.specs.declared.board.Cell.{Cell}
 use Rattle.go_board.specs.declared.board.Cell.TheVariants.{Edge, Black}
-use Rattle.go_board.proofs.boards.Cells.{same_or_other}
 use Rattle.go_board.proofs.liberties.FillingPoints.{one_at, one_at-same, one_at-other}
 use Rattle.go_board.proofs.boards.HandicapPoints.{by_number}
 use Rattle.go_board.proofs.captures.FreeStones.{empty-no_stone}
@@ -18,6 +17,7 @@ use Rattle.go_board.proofs.liberties.PseudoLiberties.{stone-from_test}
 use Rattle.go_board.proofs.boards.FirstBoard.{start-none}
 use Rattle.go_board.proofs.Sums.{total, total-add, total-le, total-none, total-only}
 use Rattle.go_board.proofs.undo.BoardsBefore.{one, stone_count, stone_total}
+use Rattle.std.proofs.lemmas.Bool.{cases_eq, cases_lt}
 
 one-few : (b : Bool) → cond {A = ℕ} b 1 0 ≤ 1
 one-few true = omega arith
@@ -25,7 +25,7 @@ one-few false = omega arith
 
 -- one more number is at most one more
 one_at-total : (p n : ℕ) → total (one_at p) n ≤ 1
-one_at-total p n = elim (inside p n) [
+one_at-total p n = elim (cases_lt p n) [
   | inl below ↦ let is = total-only (one_at p) p n below (λ q another. one_at-other p q another) in
       let at_p = one_at-same p p refl in
       omega (arith, is, at_p)
@@ -34,9 +34,6 @@ one_at-total p n = elim (inside p n) [
       omega
       (arith, is)
 ]
-  where
-    inside : (k n : ℕ) → (k < n) ⊎ (n ≤ k)
-    inside k n = grind arith
 
 stones-set : (board : List Cell) (p : ℕ) (x : Cell) → stone_count (set board p x) ≤ stone_count board + 1
 unfolding one
@@ -52,7 +49,7 @@ stones-set board p x =
     omega (arith, least, sum, few, t1, t2)
   where
     each : (q : ℕ) → one (is_stone (at (set board p x) q)) ≤ one (is_stone (at board q)) + one_at p q
-    each q = elim (same_or_other q p) [
+    each q = elim (cases_eq q p) [
       | inl is ↦ let a = one-few (is_stone (at (set board p x) q)) in let b = one_at-same p q is in omega (arith, a, b)
       | inr another ↦
           let a : one (is_stone (at (set board p x) q)) ≡ one (is_stone (at board q)) =

@@ -15,10 +15,10 @@ use Rattle.go_board.specs.Game.{start}
 use Rattle.go_board.specs.private.ChainId.{AreFree}
 use Rattle.go_board.specs.declared.board.Cell.{Cell}
 use Rattle.go_board.specs.declared.board.Cell.TheVariants.{Edge, Black}
-use Rattle.go_board.proofs.boards.Cells.{same_or_other}
 use Rattle.go_board.proofs.boards.FirstBoard.{start-none}
 use Rattle.go_board.proofs.ids.Paths.{IsStone-point}
 use Rattle.go_board.proofs.captures.FreeStones.{empty-no_stone, empty-on}
+use Rattle.std.proofs.lemmas.Bool.{cases_eq}
 
 -- a stone was there or is one of the points
 stones-from : (P : ℕ → Type 0) (board : List Cell) (points : List ℕ) (q : ℕ) → AllByRecursion P points
@@ -26,7 +26,7 @@ stones-from : (P : ℕ → Type 0) (board : List Cell) (points : List ℕ) (q : 
 stones-from P board [] q all s = inl s
 stones-from P board (p ∷ ps) q all s = elim (stones-from P (set board p Black) ps q all.1 s) [
   | inr here ↦ inr here
-  | inl stone ↦ elim (same_or_other q p) [
+  | inl stone ↦ elim (cases_eq q p) [
     | inl is ↦ inr (subst P (sym is) all.0)
     | inr another ↦ inl (stone.0, sym (get_or-set_other board p q Black Edge another) ∙ stone.1)
   ]
@@ -225,19 +225,19 @@ crossings size stones l m h s =
 
 -- what holds of 2 to 9
 pub by_number : (Q : ℕ → Type 0) → Q 2 → Q 3 → Q 4 → Q 5 → Q 6 → Q 7 → Q 8 → Q 9 → (n : ℕ) → 2 ≤ n → n ≤ 9 → Q n
-by_number Q two three four five six seven eight nine n least most = elim (same_or_other n 2) [
+by_number Q two three four five six seven eight nine n least most = elim (cases_eq n 2) [
   | inl e ↦ subst Q (sym e) two
-  | inr not2 ↦ elim (same_or_other n 3) [
+  | inr not2 ↦ elim (cases_eq n 3) [
     | inl e ↦ subst Q (sym e) three
-    | inr not3 ↦ elim (same_or_other n 4) [
+    | inr not3 ↦ elim (cases_eq n 4) [
       | inl e ↦ subst Q (sym e) four
-      | inr not4 ↦ elim (same_or_other n 5) [
+      | inr not4 ↦ elim (cases_eq n 5) [
         | inl e ↦ subst Q (sym e) five
-        | inr not5 ↦ elim (same_or_other n 6) [
+        | inr not5 ↦ elim (cases_eq n 6) [
           | inl e ↦ subst Q (sym e) six
-          | inr not6 ↦ elim (same_or_other n 7) [
+          | inr not6 ↦ elim (cases_eq n 7) [
             | inl e ↦ subst Q (sym e) seven
-            | inr not7 ↦ elim (same_or_other n 8)
+            | inr not7 ↦ elim (cases_eq n 8)
                 [ inl e ↦ subst Q (sym e) eight | inr not8 ↦ subst Q (omega arith) nine ]
           ]
         ]

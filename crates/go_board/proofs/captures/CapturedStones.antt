@@ -18,7 +18,8 @@ use Rattle.go_board.specs.decisions.Chain.{captured?}
 use Rattle.go_board.specs.Play.{is_captured, left_at, without_captured, captured_count, play}
 use Rattle.go_board.specs.declared.board.Cell.{Cell}
 use Rattle.go_board.specs.declared.board.Cell.TheVariants.{Edge, Empty}
-use Rattle.go_board.proofs.boards.Cells.{stone-point, stone-differs, same_or_other}
+use Rattle.go_board.proofs.boards.Cells.{stone-point, stone-differs}
+use Rattle.std.proofs.lemmas.Bool.{cases_eq, cases_lt, false≢true}
 
 -- a decision is for a fact that holds, and not for one that doesn't
 pub holds-yes : {A : Type 0} (d : Dec A) → A → holds d ≡ true
@@ -28,6 +29,10 @@ holds-yes (no k) h = absurd (k h)
 pub holds-no : {A : Type 0} (d : Dec A) → ¬ A → holds d ≡ false
 holds-no (yes a) h = absurd (h a)
 holds-no (no k) h = refl
+
+pub holds-true : {A : Type 0} (d : Dec A) → holds d ≡ true → A
+holds-true (yes a) e = a
+holds-true (no k) e = absurd (false≢true e)
 
 -- the count among the numbers below n, and one number more
 pub count_by-more : (p : ℕ → Bool) (n : ℕ)
@@ -42,9 +47,6 @@ pub record IsClearing (board : List Cell) (c : Colour) (n : ℕ) (cells : List C
   pub rest : (k : ℕ) → n ≤ k → at cells k ≡ at board k
   pub counted : stack ≡ count_by (is_captured board c) (range_with_len 0 n)
   pub few : stack ≤ n
-
-earlier_or_last : (k n : ℕ) → k < n + 1 → (k < n) ⊎ (k ≡ n)
-earlier_or_last k n h = grind arith
 
 pub IsClearing-done : (board : List Cell) (c : Colour) (n : ℕ) (cells : List Cell) (stack : ℕ) → n ≡ length board
     → IsClearing board c n cells stack
@@ -65,10 +67,7 @@ IsClearing-count board c n cells stack all k =
 -- what isn't edge is on the list
 pub in_list : (board : List Cell) (p : ℕ) → at board p ≢ Edge → p < length board
 in_list board p point =
-    elim (inside p (length board)) [ inl below ↦ below | inr past ↦ absurd (point (get_or_past board p Edge past)) ]
-  where
-    inside : (k n : ℕ) → (k < n) ⊎ (n ≤ k)
-    inside k n = grind arith
+    elim (cases_lt p (length board)) [ inl below ↦ below | inr past ↦ absurd (point (get_or_past board p Edge past)) ]
 
 -- an edge stays an edge
 pub left_at-edge : (board : List Cell) (c : Colour) (p : ℕ) → at board p ≡ Edge → left_at board c p ≡ Edge
@@ -86,16 +85,13 @@ edge-from_left_at board c p = by_case (is_captured board c p)
 
 pub at-without_captured : (board : List Cell) (c : Colour) (p : ℕ) → at (without_captured board c) p ≡ left_at board c p
 unfolding without_captured
-at-without_captured board c p = elim (inside p (length board)) [
+at-without_captured board c p = elim (cases_lt p (length board)) [
   | inl below ↦ get_or-map-range_with_len (left_at board c) 0 (length board) p p Edge below (omega arith)
   | inr past ↦
       let long = length-map-range_with_len (left_at board c) 0 (length board) in
       get_or_past (map (left_at board c) (range_with_len 0 (length board))) p Edge (omega (arith, long, past))
       ∙ sym (left_at-edge board c p (get_or_past board p Edge past))
 ]
-  where
-    inside : (k n : ℕ) → (k < n) ⊎ (n ≤ k)
-    inside k n = grind arith
 
 pub SameEdge-trans : (a b c : List Cell) → SameEdge a b → SameEdge b c → SameEdge a c
 SameEdge-trans a b c x y = record {
@@ -112,11 +108,11 @@ SameEdge-without_captured board c = record {
 pub SameEdge-set : (board : List Cell) (p : ℕ) (x : Cell) → at board p ≢ Edge → x ≢ Edge
     → SameEdge board (set board p x)
 SameEdge-set board p x point filled = record {
-  kept = λ q e. elim (same_or_other q p) [
+  kept = λ q e. elim (cases_eq q p) [
     | inl same ↦ absurd (point (ap (λ r. at board r) (sym same) ∙ e))
     | inr another ↦ get_or-set_other board p q x Edge another ∙ e
   ];
-  back = λ q e. elim (same_or_other q p) [
+  back = λ q e. elim (cases_eq q p) [
     | inl same ↦ absurd (filled
         (sym (get_or-set_same board p x Edge (in_list board p point)) ∙ ap (λ r. at (set board p x) r) (sym same) ∙ e))
     | inr another ↦ sym (get_or-set_other board p q x Edge another) ∙ e

@@ -17,7 +17,7 @@ use Rattle.std.proofs.lemmas.List.{get_or_past}
 use Rattle.go_board.specs.private.Legal.{TakesAny, ReachesLiberty}
 use Rattle.go_board.specs.declared.board.Cell.{Cell}
 use Rattle.go_board.specs.declared.board.Cell.TheVariants.{Edge, Empty}
-use Rattle.go_board.proofs.boards.Cells.{stone-point, stone-filled, stone-differs, same_or_other}
+use Rattle.go_board.proofs.boards.Cells.{stone-point, stone-filled, stone-differs}
 use Rattle.go_board.proofs.captures.CapturedStones.{at-play}
 use Rattle.go_board.proofs.floods.Regions.{Neighbours-sym}
 use Rattle.go_board.proofs.ids.Paths.{Joined-then, Joined-same, Joined-back, Joined-kept, set-same}
@@ -25,6 +25,7 @@ use Rattle.go_board.proofs.ko_rules.PlaysTakenBack.{IsAfter, taken, left, after-
 use Rattle.go_board.proofs.liberties.PseudoLiberties.{captured-other, captured-beside}
 use Rattle.go_board.proofs.boards.Cells.{empty-point}
 use Rattle.go_board.proofs.captures.MakingPlays.{captured-joined}
+use Rattle.std.proofs.lemmas.Bool.{cases_eq, cases_lt}
 
 -- a stone of the colour that plays stays
 own-stays : (board : List Cell) (c : Colour) (p q : ℕ) → q ≢ p → at board q ≡ stone c
@@ -71,7 +72,7 @@ data IsFrom (board : List Cell) (c : Colour) (p s t : ℕ) : Type 0 where
 
 path-from : (board : List Cell) (c : Colour) (p : ℕ) {s t : ℕ} → Joined (play board c p) s t
     → at (play board c p) s ≡ stone c → IsFrom board c p s t
-path-from board c p (itself {p = s} point) held = elim (same_or_other s p) [
+path-from board c p (itself {p = s} point) held = elim (cases_eq s p) [
   | inl is ↦ at_point is
   | inr another ↦ elsewhere another (itself (λ e. stone-point c (sym (own-was board c p s another held) ∙ e)))
 ]
@@ -81,7 +82,7 @@ path-from board c p (by_way_of {p = s} {q = t} r point next same rest) held =
     by_case : IsFrom board c p r t → IsFrom board c p s t
     by_case (at_point e) = at_point e
     by_case (from_own q beside holds path) = from_own q beside holds path
-    by_case (elsewhere away path) = elim (same_or_other s p) [
+    by_case (elsewhere away path) = elim (cases_eq s p) [
       | inl is ↦ from_own r (subst (λ (k : ℕ). Neighbours k r) is next) (own-was board c p r away (same ∙ held)) path
       | inr another ↦
           let here = own-was board c p s another held in
@@ -184,7 +185,7 @@ same_colour_or_other colour.White colour.Black = inr refl
 -- after a legal play each stone is free
 pub AreFree-play : (board : List Cell) (c : Colour) (p : ℕ) → at board p ≡ Empty → AreFree board
     → IsFree (play board c p) p → AreFree (play board c p)
-AreFree-play board c p empty are_free free q s = elim (same_or_other q p) [
+AreFree-play board c p empty are_free free q s = elim (cases_eq q p) [
   | inl is ↦ subst (λ (k : ℕ). IsFree (play board c p) k) (sym is) free
   | inr another ↦ elim (same_colour_or_other s.0 c) [
     | inl own ↦ own_free another (own-was board c p q another (s.1 ∙ ap stone own))
@@ -195,7 +196,7 @@ AreFree-play board c p empty are_free free q s = elim (same_or_other q p) [
     own_free : q ≢ p → at board q ≡ stone c → IsFree (play board c p) q
     own_free another held =
         let was : IsFree board q = are_free q (c, held) in
-        elim (same_or_other was.beside.place p) [
+        elim (cases_eq was.beside.place p) [
           | inl is ↦ record {
             point = free.point;
             joined = Joined-then (own-joined board c p q was.point empty held was.joined)
@@ -251,16 +252,13 @@ AreFree-play board c p empty are_free free q s = elim (same_or_other q p) [
 -- ---- a board without stones
 
 pub empty-no_stone : (size p : ℕ) → ¬ IsStone (at (empty_board size) p)
-empty-no_stone size p s = elim (inside p 702) [
+empty-no_stone size p s = elim (cases_lt p 702) [
   | inl below ↦ by_case (is_point size p) (sym (at-empty_board size p below) ∙ s.1)
   | inr past ↦ stone-point s.0
       (sym s.1 ∙ get_or_past (empty_board size) p Edge
       (let long = length-empty_board size in omega (arith, long, past)))
 ]
   where
-    inside : (k n : ℕ) → (k < n) ⊎ (n ≤ k)
-    inside k n = grind arith
-
     by_case : (b : Bool) → cond b Empty Edge ≡ stone s.0 → ⊥
     by_case true e = stone-filled s.0 (sym e)
     by_case false e = stone-point s.0 (sym e)

@@ -19,9 +19,7 @@ use Rattle.go_board.specs.declared.board.Cell.{Cell}
 use Rattle.go_board.specs.declared.board.Cell.TheVariants.{Edge, Empty}
 use Rattle.go_board.specs.declared.taken_stack.TakenStone.{TakenStone}
 use Rattle.go_board.proofs.captures.CapturedStones.{holds-yes, holds-no, count_by-more, IsClearing}
-
-earlier_or_last : (k n : ℕ) → k < n + 1 → (k < n) ⊎ (k ≡ n)
-earlier_or_last k n h = grind arith
+use Rattle.go_board.proofs.General.{earlier_or_last}
 
 pub IsClearing-taken : (board : List Cell) (c : Colour) (n : ℕ) (old : List Cell) (before : ℕ) → n < length board
     → IsCaptured board c n → IsClearing board c n old before

@@ -12,6 +12,7 @@ use Rattle.std.proofs.lemmas.List.Elements.{Contains-append_left}
 use Rattle.arrayvec.specs.ArrayVec.{ArrayVec}
 use Rattle.go_board.specs.private.Places.{AreMarked}
 use Rattle.go_board.specs.declared.places.Places.TheInside.{Inside}
+use Rattle.std.proofs.lemmas.Bool.{cases_eq}
 
 count_by-set : (marks : List Bool) (i : ℕ) → i < length marks → get_or marks i false ≡ false
     → count_by (λ m. m) (set marks i true) ≡ count_by (λ m. m) marks + 1
@@ -40,13 +41,10 @@ AreMarked-room f place a long h e =
     let counted = a.counted in
     omega arith
 
-same_or_other : (a b : ℕ) → (a ≡ b) ⊎ (a ≢ b)
-same_or_other a b = grind arith
-
 marked_still : (marks : List Bool) (place p : ℕ) → place < length marks → get_or marks p false ≡ true
     → get_or (set marks place true) p false ≡ true
 marked_still marks place p h e =
-    elim (same_or_other p place) [
+    elim (cases_eq p place) [
       | inl same ↦ subst (λ (q : ℕ). get_or (set marks place true) q false ≡ true) (sym same)
           (get_or-set_same marks place true false h)
       | inr other ↦ get_or-set_other marks place p true false other ∙ e
@@ -56,7 +54,7 @@ listed_still : (marks : List Bool) (xs : List ℕ) (place p : ℕ) → place < l
     → (get_or marks p false ≡ true → Contains xs p)
     → get_or (set marks place true) p false ≡ true → Contains (xs ++ place ∷ []) p
 listed_still marks xs place p h was e =
-    elim (same_or_other p place) [
+    elim (cases_eq p place) [
       | inl same ↦ subst (λ (q : ℕ). Contains (xs ++ place ∷ []) q) (sym same) (Contains-push xs place)
       | inr other ↦ Contains-append_left xs (place ∷ []) p
           (was (sym (get_or-set_other marks place p true false other) ∙ e))
@@ -133,7 +131,7 @@ pub IsClearing-more : (had : List ℕ) (index place : ℕ) (order : List ℕ) (m
 IsClearing-more had index place order marks l h few is = record {
   same = l.same;
   long = length-set marks place false ∙ l.long;
-  later = λ p m. elim (same_or_other p place) [
+  later = λ p m. elim (cases_eq p place) [
     | inl same ↦
         let gone : get_or (set marks place false) p false ≡ false =
         subst (λ (q : ℕ). get_or (set marks place false) q false ≡ false) (sym same)

@@ -11,10 +11,11 @@ use Rattle.go_board.specs.decisions.Chain.{joined?}
 use Rattle.go_board.specs.private.ChainId.{id_of, AreChainIds, IsChainOf}
 use Rattle.go_board.specs.private.Steps.{AreGiven, AreOthersKept, HasFragmentId}
 use Rattle.go_board.specs.declared.board.Cell.{Cell}
-use Rattle.go_board.proofs.boards.Cells.{same_or_other}
 use Rattle.go_board.proofs.captures.CapturedStones.{in_list}
 use Rattle.go_board.proofs.floods.Regions.{IsOn-inside, index_of}
 use Rattle.go_board.proofs.ids.Paths.{Joined-then, Joined-back, IsStone-point, AreChainIds-steps}
+use Rattle.std.proofs.lemmas.Bool.{cases_eq}
+use Rattle.go_board.proofs.General.{earlier_or_last}
 
 -- the first `n` places were given the id
 pub record IsGiving (old : List ℕ) (places : List ℕ) (id n : ℕ) (new : List ℕ) : Type 0 where
@@ -47,9 +48,6 @@ AreIdsSoFar-none board ids none long =
       part = record { own = λ p s some. absurd (some (all p)); closed = λ p q s path. all p ∙ sym (all q) };
       done = λ p none. absurd (omega arith);
     }
-
-earlier_or_last : (k n : ℕ) → k < n + 1 → (k < n) ⊎ (k ≡ n)
-earlier_or_last k n h = grind arith
 
 -- a chain gets a place of its own as its id
 pub IsPart-named : (board : List Cell) (n : ℕ) (old new : List ℕ) → IsFramed board → IsStone (at board n)
@@ -159,7 +157,7 @@ pub IsGiving-more : (old places ids new : List ℕ) (id n p : ℕ) → n < lengt
 IsGiving-more old places ids new id n p in_range p_is below made g =
     subst (λ (ls : List ℕ). IsGiving old places id (n + 1) ls) (sym made) (record {
       length_is = length-set ids p id ∙ g.length_is;
-      given = λ k under. elim (same_or_other (slice_index places k) p) [
+      given = λ k under. elim (cases_eq (slice_index places k) p) [
         | inl same ↦ ap (id_of (set ids p id)) same
             ∙ get_or-set_same ids p id 0 (let long = g.length_is in omega (arith, below, long))
         | inr another ↦ get_or-set_other ids p (slice_index places k) id 0 another

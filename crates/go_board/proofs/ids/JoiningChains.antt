@@ -14,12 +14,13 @@ use Rattle.go_board.specs.private.ChainId.{id_of, ArePseudoLiberties, AreChains,
 use Rattle.go_board.specs.private.Steps.{rename, rename_three, IsMoved, IsIdOr}
 use Rattle.go_board.specs.declared.board.Cell.{Cell}
 use Rattle.go_board.specs.declared.board.Cell.TheVariants.{Edge, Empty}
-use Rattle.go_board.proofs.boards.Cells.{same_or_other, IsFramed-set}
+use Rattle.go_board.proofs.boards.Cells.{IsFramed-set}
 use Rattle.go_board.proofs.captures.CapturedStones.{in_list}
 use Rattle.go_board.proofs.floods.Regions.{IsOn-inside}
 use Rattle.go_board.proofs.ids.Paths.{IsStone-point, IsStone-filled, IsOwn, IsJoining, AreLocalIds-joining}
 use Rattle.go_board.proofs.ids.Paths.{AreLocalIds-of, AreChainIds-steps}
 use Rattle.go_board.proofs.liberties.MergingIds.{rename-same, rename-other, ArePseudoLiberties-rename, pseudo_liberties-few}
+use Rattle.std.proofs.lemmas.Bool.{cases_eq}
 
 -- ---- the counts
 
@@ -29,12 +30,12 @@ map-same f (x ∷ xs) h = ap (λ (y : ℕ). y ∷ map f xs) (h x) ∙ ap (λ (ys
 
 rename-one : (to from l : ℕ) → to ≡ from → rename to from l ≡ l
 rename-one to from l e =
-    elim (same_or_other l from) [ inl is ↦ rename-same to from l is ∙ e ∙ sym is | inr o ↦ rename-other to from l o ]
+    elim (cases_eq l from) [ inl is ↦ rename-same to from l is ∙ e ∙ sym is | inr o ↦ rename-other to from l o ]
 
 ArePseudoLiberties-moved : (board : List Cell) (ids counts new : List ℕ) (to from : ℕ) → to < 702 → from < 702
     → length ids ≡ 702 → IsMoved counts new to from → ArePseudoLiberties board ids counts
     → ArePseudoLiberties board (map (rename to from) ids) new
-ArePseudoLiberties-moved board ids counts new to from t f long m a = elim (same_or_other to from) [
+ArePseudoLiberties-moved board ids counts new to from t f long m a = elim (cases_eq to from) [
   | inl e ↦ subst (λ (ls : List ℕ). ArePseudoLiberties board ls new)
       (sym (map-same (rename to from) ids (λ l. rename-one to from l e)))
       (subst (ArePseudoLiberties board ids) (sym (m.one e)) a)
@@ -79,7 +80,7 @@ room-for_two board ids counts to from t f a =
 -- ---- the ids
 
 rename-to : (to x : ℕ) → rename to x to ≡ to
-rename-to to x = elim (same_or_other to x) [ inl e ↦ rename-same to x to e | inr o ↦ rename-other to x to o ]
+rename-to to x = elim (cases_eq to x) [ inl e ↦ rename-same to x to e | inr o ↦ rename-other to x to o ]
 
 pub rename_three-to : (to a b c : ℕ) → rename_three to a b c to ≡ to
 rename_three-to to a b c =
@@ -92,16 +93,16 @@ rename_three-a to a b c l e =
     ∙ rename-to to c
 
 pub rename_three-b : (to a b c l : ℕ) → l ≡ b → rename_three to a b c l ≡ to
-rename_three-b to a b c l e = elim (same_or_other l a) [
+rename_three-b to a b c l e = elim (cases_eq l a) [
   | inl is ↦ rename_three-a to a b c l is
   | inr x ↦ ap (λ (k : ℕ). rename to c (rename to b k)) (rename-other to a l x)
       ∙ ap (rename to c) (rename-same to b l e) ∙ rename-to to c
 ]
 
 pub rename_three-third : (to a b c l : ℕ) → l ≡ c → rename_three to a b c l ≡ to
-rename_three-third to a b c l e = elim (same_or_other l a) [
+rename_three-third to a b c l e = elim (cases_eq l a) [
   | inl is ↦ rename_three-a to a b c l is
-  | inr x ↦ elim (same_or_other l b) [
+  | inr x ↦ elim (cases_eq l b) [
     | inl is ↦ rename_three-b to a b c l is
     | inr y ↦ ap (λ (k : ℕ). rename to c (rename to b k)) (rename-other to a l x)
         ∙ ap (rename to c) (rename-other to b l y) ∙ rename-same to c l e
@@ -116,9 +117,9 @@ pub data IsOfThree (to a b c l : ℕ) : Type 0 where
   none : rename_three to a b c l ≡ l → IsOfThree to a b c l
 
 pub of_three : (to a b c l : ℕ) → IsOfThree to a b c l
-of_three to a b c l = elim (same_or_other l a) [
+of_three to a b c l = elim (cases_eq l a) [
   | inl e ↦ first e (rename_three-a to a b c l e)
-  | inr x ↦ elim (same_or_other l b) [
+  | inr x ↦ elim (cases_eq l b) [
     | inl e ↦
         second e (ap (λ (k : ℕ). rename to c (rename to b k)) (rename-other to a l x)
         ∙ ap (rename to c) (rename-same to b l e) ∙ rename-to to c)
@@ -126,7 +127,7 @@ of_three to a b c l = elim (same_or_other l a) [
         let two =
         ap (λ (k : ℕ). rename to c (rename to b k)) (rename-other to a l x)
         ∙ ap (rename to c) (rename-other to b l y) in
-        elim (same_or_other l c)
+        elim (cases_eq l c)
         [ inl e ↦ third e (two ∙ rename-same to c l e) | inr z ↦ none (two ∙ rename-other to c l z) ]
   ]
 ]

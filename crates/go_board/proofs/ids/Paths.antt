@@ -10,9 +10,10 @@ use Rattle.go_board.specs.Chain.{Joined, itself, by_way_of}
 use Rattle.go_board.specs.private.ChainId.{id_of, AreChainIds}
 use Rattle.go_board.specs.declared.board.Cell.{Cell}
 use Rattle.go_board.specs.declared.board.Cell.TheVariants.{Edge, Empty}
-use Rattle.go_board.proofs.boards.Cells.{stone-point, stone-filled, same_or_other}
+use Rattle.go_board.proofs.boards.Cells.{stone-point, stone-filled}
 use Rattle.go_board.proofs.captures.CapturedStones.{in_list}
 use Rattle.go_board.proofs.floods.Regions.{Neighbours-sym}
+use Rattle.std.proofs.lemmas.Bool.{cases_eq}
 
 pub Joined-then : {board : List Cell} {p q r : ℕ} → Joined board p q → Joined board q r → Joined board p r
 Joined-then (itself point) rest = rest
@@ -140,20 +141,20 @@ pub AreLocalIds-joining : (board : List Cell) (ids new : List ℕ) (c : Colour) 
     → AreLocalIds board ids → IsJoining board ids new c p id
     → AreLocalIds (set board p (stone c)) new
 AreLocalIds-joining board ids new c p id empty l j = record {
-  own = λ q s. elim (same_or_other q p) [
+  own = λ q s. elim (cases_eq q p) [
     | inl is ↦ subst (λ (k : ℕ). Joined cells k (id_of new k)) (sym is)
         (subst (λ (k : ℕ). Joined cells p k) (sym j.here) to_id)
     | inr another ↦ own_other q another (stays q another s)
   ];
-  alike = λ q r s next same. elim (same_or_other q p) [
-    | inl is ↦ elim (same_or_other r p) [
+  alike = λ q r s next same. elim (cases_eq q p) [
+    | inl is ↦ elim (cases_eq r p) [
       | inl too ↦ ap (id_of new) (is ∙ sym too)
       | inr another ↦
           ap (id_of new) is ∙ j.here
           ∙ sym (j.joins r (subst (λ (k : ℕ). Neighbours k r) is next)
           (sym (other_cell r another) ∙ same ∙ ap (λ (k : ℕ). at cells k) is ∙ here))
     ]
-    | inr another ↦ elim (same_or_other r p) [
+    | inr another ↦ elim (cases_eq r p) [
       | inl is ↦
           j.joins q (Neighbours-sym (subst (λ (k : ℕ). Neighbours q k) is next))
           (sym (other_cell q another) ∙ sym same ∙ ap (λ (k : ℕ). at cells k) is ∙ here)

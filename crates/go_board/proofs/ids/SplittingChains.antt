@@ -13,7 +13,7 @@ use Rattle.go_board.specs.private.ChainId.{id_of, ids_at, ids_beside, AreChainId
 use Rattle.go_board.specs.private.Steps.{rename, rename_three, IsFragmentSet, IsCut}
 use Rattle.go_board.specs.declared.board.Cell.{Cell}
 use Rattle.go_board.specs.declared.board.Cell.TheVariants.{Edge, Empty}
-use Rattle.go_board.proofs.boards.Cells.{same_or_other, IsFramed-set}
+use Rattle.go_board.proofs.boards.Cells.{IsFramed-set}
 use Rattle.go_board.proofs.captures.CapturedStones.{in_list}
 use Rattle.go_board.proofs.floods.Regions.{IsOn-inside}
 use Rattle.go_board.proofs.ids.Paths.{Joined-then, Joined-same, Joined-back, Joined-kept, IsStone-point}
@@ -22,6 +22,7 @@ use Rattle.go_board.proofs.ids.FindingIds.{IsPart, IsPart-named, named-has, AreC
 use Rattle.go_board.proofs.ids.JoiningChains.{rename_three-a}
 use Rattle.go_board.proofs.liberties.PseudoLiberties.{stone-test}
 use Rattle.go_board.proofs.liberties.MergingIds.{rename-other}
+use Rattle.std.proofs.lemmas.Bool.{eq-eqb, cases_eq}
 
 -- ---- paths without a place
 
@@ -49,7 +50,7 @@ with_or_without board p off (by_way_of {p = q} {q = r} s point next same rest) =
         to = by_way_of s point next same way.to;
         rest = way.rest;
       })
-      | inl without ↦ elim (same_or_other q p) [
+      | inl without ↦ elim (cases_eq q p) [
         | inl is ↦ inr (record {
           side = s;
           neighbours = subst (λ (k : ℕ). Neighbours k s) is next;
@@ -83,14 +84,11 @@ Joined-without board p q r one q_off r_off path = elim (with_or_without board p 
 
 -- ---- one neighbour in the chain at most
 
-equal-test : (j p : ℕ) → j ≡ p → (j == p) ≡ true
-equal-test j p e = grind (arith, nat_tests)
-
 ids_at-one : (board : List Cell) (ids : List ℕ) (id q : ℕ) → IsStone (at board q) → id_of ids q ≡ id
     → ids_at board ids id q ≡ 1
 ids_at-one board ids id q s e =
     ap (λ (b : Bool). cond (b && (id_of ids q == id)) 1 0) (stone-test (at board q) s)
-    ∙ ap (λ (b : Bool). cond b 1 0) (equal-test (id_of ids q) id e)
+    ∙ ap (λ (b : Bool). cond b 1 0) (eq-eqb (id_of ids q) id e)
 
 -- which neighbour it is, and that it counts
 abbrev pub IsSide : (ℕ → ℕ) → ℕ → ℕ → Type 0
@@ -252,7 +250,7 @@ pub IsSplitting-start : (board : List Cell) (ids new : List ℕ) (place id : ℕ
     → IsSplitting board new place
 IsSplitting-start board ids new place id framed c made = record {
   part = record {
-    own = λ q s some. elim (same_or_other (id_of ids q) id) [
+    own = λ q s some. elim (cases_eq (id_of ids q) id) [
       | inl e ↦ absurd (some (off q s e))
       | inr o ↦ subst (λ (k : ℕ). Joined board q k) (sym (kept q s o)) (c.own q s o)
     ];
@@ -260,7 +258,7 @@ IsSplitting-start board ids new place id framed c made = record {
         λ q r s path. at_stone q s ∙ ap (rename_three 0 id id id) (along-path board ids c.alike path s)
         ∙ sym (at_stone r (IsStone-joined board q r path s));
   };
-  cut = λ q s none. elim (same_or_other (id_of ids q) id) [
+  cut = λ q s none. elim (cases_eq (id_of ids q) id) [
     | inl e ↦ c.cut q s e
     | inr o ↦ absurd (not_zero q s o (sym (kept q s o) ∙ none))
   ];
@@ -299,7 +297,7 @@ pub IsFurther-named : (board : List Cell) (old new : List ℕ) (place n : ℕ) �
 IsFurther-named board old new place n framed (inl named) l = record {
   splitting = record {
     part = IsPart-named board n old new framed named.0 named.1 l.part;
-    cut = λ p s none. elim (same_or_other (id_of old p) 0) [
+    cut = λ p s none. elim (cases_eq (id_of old p) 0) [
       | inl e ↦ l.cut p s e
       | inr o ↦ absurd (named-has board n p old new framed named.0 named.1 (inl o) none)
     ];

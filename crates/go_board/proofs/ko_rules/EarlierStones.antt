@@ -23,7 +23,7 @@ use Rattle.go_board.specs.private.TakenStack.{taken_places, stack_from, stack_of
 use Rattle.go_board.specs.declared.board.Cell.{Cell}
 use Rattle.go_board.specs.declared.board.Cell.TheVariants.{Edge, Empty}
 use Rattle.go_board.specs.declared.taken_stack.TakenStone.{TakenStone}
-use Rattle.go_board.proofs.boards.Cells.{same_or_other, stone-point, stone-filled, stone-differs}
+use Rattle.go_board.proofs.boards.Cells.{stone-point, stone-filled, stone-differs}
 use Rattle.go_board.proofs.captures.CapturedStones.{holds-yes, in_list}
 use Rattle.go_board.proofs.ko_rules.PlaysTakenBack.{IsAfter, taken as gone, left as stays, after-play}
 use Rattle.go_board.proofs.records.Moves.{board-push, by_moves, IsBeforeMove, first_moves-with_move, slice_get-longer}
@@ -36,6 +36,7 @@ use denote.Enum.Bare.{sameb}
 use mathlib.Core.Bool.{not}
 use Rattle.go_base.specs.contracts.colours.Colour.{the_type}
 use Rattle.go_base.specs.declared.colours.Colour.TheVariants as colour
+use Rattle.std.proofs.lemmas.Bool.{cases_eq}
 
 -- ---- what stood on a place and stands there no more was taken
 
@@ -63,7 +64,7 @@ taken-picked test number a (suc n) q least most passes =
     by_test : (t : Bool) → test a ≡ t
         → (a + 1 ≤ q → Contains (taken_at number (filter test (range_with_len (a + 1) n))) sought)
         → Contains (taken_at number (cond t (a ∷ ps) ps)) sought
-    by_test true e go = elim (same_or_other q a) [
+    by_test true e go = elim (cases_eq q a) [
       | inl same ↦
           (0, omega arith, ap (λ (p : ℕ). let t : TakenStone = record { place = p; number = number } in t) (sym same))
       | inr another ↦ behind (record { place = a; number = number }) (taken_at number ps) (go (apart another))

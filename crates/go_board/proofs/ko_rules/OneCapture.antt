@@ -17,19 +17,15 @@ use Rattle.go_board.specs.Play.{is_captured, captured_count, captures}
 use Rattle.go_board.specs.private.TakenStack.{captured_places}
 use Rattle.go_board.specs.declared.board.Cell.{Cell}
 use Rattle.go_board.proofs.boards.Cells.{stone-point}
-use Rattle.go_board.proofs.captures.CapturedStones.{holds-yes, holds-no, in_list}
+use Rattle.go_board.proofs.captures.CapturedStones.{holds-yes, holds-no, in_list, holds-true}
 use Rattle.go_board.proofs.captures.RemovingLoop.{counted-one}
 use Rattle.go_board.proofs.Sums.{total, total-only}
-
--- a decision that is for a fact
-held-by : {A : Type 0} (d : Dec A) → holds d ≡ true → A
-held-by (yes a) e = a
-held-by (no k) e = cc
+use Rattle.std.proofs.lemmas.Bool.{cases_order}
 
 -- two places that count are one, where one is counted
 same-one : (p : ℕ → Bool) (n q r : ℕ) → q < n → r < n → p q ≡ true → p r ≡ true → count_by p (range_with_len 0 n) ≡ 1
     → r ≡ q
-same-one p n q r bq br hq hr one = elim (order q r) [
+same-one p n q r bq br hq hr one = elim (cases_order q r) [
   | inl is ↦ sym is
   | inr (inl less) ↦
       let a = counted-one p q r less hq in
@@ -40,9 +36,6 @@ same-one p n q r bq br hq hr one = elim (order q r) [
       let b = counted-one p q n bq hq in
       absurd (omega (arith, a, b, one))
 ]
-  where
-    order : (q r : ℕ) → (q ≡ r) ⊎ ((q < r) ⊎ (r < q))
-    order q r = grind arith
 
 -- the one place of the list is the one stone that the play takes
 pub TakesOnly-places : (board : List Cell) (c : Colour) (p q : ℕ)
@@ -71,7 +64,7 @@ TakesOnly-places board c p q places r = (
         (range_with_len 0 (length (set board p (stone c)))))) 0 0 (omega arith)
 
     captured : IsCaptured (set board p (stone c)) (other c) q
-    captured = held-by (captured? (set board p (stone c)) (other c) q) passes
+    captured = holds-true (captured? (set board p (stone c)) (other c) q) passes
 
     one : count_by (is_captured (set board p (stone c)) (other c)) (range_with_len 0 (length (set board p (stone c))))
         ≡ 1

@@ -14,10 +14,11 @@ use Rattle.go_board.specs.decisions.Chain.{captured?}
 use Rattle.go_board.specs.Play.{left_at, without_captured, play}
 use Rattle.go_board.specs.declared.board.Cell.{Cell}
 use Rattle.go_board.specs.declared.board.Cell.TheVariants.{Edge, Empty}
-use Rattle.go_board.proofs.boards.Cells.{stone-filled, stone-differs, same_or_other}
+use Rattle.go_board.proofs.boards.Cells.{stone-filled, stone-differs}
 use Rattle.go_board.proofs.captures.CapturedStones.{holds-yes, holds-no, at-without_captured, at-play}
 use Rattle.go_board.proofs.ids.Paths.{set-same}
 use Rattle.go_board.proofs.boards.Cells.{empty-point}
+use Rattle.std.proofs.lemmas.Bool.{cases_eq}
 
 -- what a place holds after a play: nothing where its stone was taken, else what the new stone left there
 pub data IsAfter (board : List Cell) (c : Colour) (p q : ℕ) : Type 0 where
@@ -109,12 +110,12 @@ IsBack-from board next c d p q empty is free back = record {
   colours = other-other d c (sym was ∙ taken-held board c p q empty first_took);
   first =
       λ r. (
-        (λ h. elim (same_or_other r q) [ inl e ↦ e | inr another ↦ absurd (first_no_more r another h) ]),
+        (λ h. elim (cases_eq r q) [ inl e ↦ e | inr another ↦ absurd (first_no_more r another h) ]),
         (λ e. subst (IsCaptured (set board p (stone c)) (other c)) (sym e) first_took),
       );
   second =
       λ r. (
-        (λ h. elim (same_or_other r p) [ inl e ↦ e | inr another ↦ absurd (second_no_more r another h) ]),
+        (λ h. elim (cases_eq r p) [ inl e ↦ e | inr another ↦ absurd (second_no_more r another h) ]),
         (λ e. subst (IsCaptured (set next q (stone d)) (other d)) (sym e) second_took),
       );
 }
@@ -176,11 +177,11 @@ back-from board next c d p q empty is free b =
     second_took = (b.second p).1 refl
 
     each : (r : ℕ) → at (play next d q) r ≡ at board r
-    each r = elim (same_or_other r q) [
+    each r = elim (cases_eq r q) [
       | inl e ↦
           ap (λ (k : ℕ). at (play next d q) k) e ∙ at-play next d q (empty-point next q free) ∙ ap stone b.colours
           ∙ sym (taken-held board c p q empty first_took) ∙ ap (λ (k : ℕ). at board k) (sym e)
-      | inr not_q ↦ elim (same_or_other r p) [
+      | inr not_q ↦ elim (cases_eq r p) [
         | inl e ↦ ap (λ (k : ℕ). at (play next d q) k) e ∙ gone (after-play next d q p) ∙ sym empty
             ∙ ap (λ (k : ℕ). at board k) (sym e)
         | inr not_p ↦

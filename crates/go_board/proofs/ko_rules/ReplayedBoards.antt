@@ -31,7 +31,6 @@ use Rattle.go_board.specs.private.TakenStack.{taken_places, stack_from, stack_of
 use Rattle.go_board.specs.declared.board.Cell.{Cell}
 use Rattle.go_board.specs.declared.board.Cell.TheVariants.{Edge, Empty, Black, White}
 use Rattle.go_board.specs.declared.taken_stack.TakenStone.{TakenStone}
-use Rattle.go_board.proofs.boards.Cells.{same_or_other}
 use Rattle.go_board.proofs.captures.CapturedStones.{at-without_captured, SameEdge-play}
 use Rattle.go_board.proofs.ko_rules.PlaysTakenBack.{taken-empty}
 use Rattle.go_board.proofs.records.Moves.{board-push, by_moves}
@@ -40,6 +39,7 @@ use Rattle.go_board.proofs.records.EveryGame.{legal-open, board-with_move, stack
 use Rattle.go_board.proofs.undo.RestoredStones.{length-with_stones, filled-in, filled-out}
 use Rattle.go_board.proofs.records.TakenStack.{stack_of-with_move}
 use Rattle.go_board.proofs.undo.UnmadePlays.{all-captured}
+use Rattle.std.proofs.lemmas.Bool.{cases_eq}
 
 -- ---- equal boards
 
@@ -84,7 +84,7 @@ later-same n t ts e = ap (λ (x : Bool). cond x (later_than n ts) (t ∷ ts)) e
 
 -- a place that is no edge stays one where a point is cleared
 point-kept : (b : List Cell) (p q : ℕ) (x : Cell) → x ≢ Edge → at b p ≢ Edge → at b q ≢ Edge → at (set b p x) q ≢ Edge
-point-kept b p q x filled here there = elim (same_or_other q p) [
+point-kept b p q x filled here there = elim (cases_eq q p) [
   | inl same ↦ λ e. filled (sym (get_or-set_same b p x Edge (inside b p here)) ∙ ap (at (set b p x)) (sym same) ∙ e)
   | inr another ↦ λ e. there (sym (get_or-set_other b p q x Edge another) ∙ e)
 ]

@@ -7,28 +7,22 @@ use Rattle.std.proofs.Math.ListN.{set, length-set}
 use Rattle.go_board.specs.Board.{at, IsStone}
 use Rattle.go_board.specs.private.ChainId.{id_of, is_stone, empty_beside, share, pseudo_liberties, ArePseudoLiberties, count_at}
 use Rattle.go_board.specs.declared.board.Cell.{Cell}
-use Rattle.go_board.proofs.boards.Cells.{same_or_other}
 use Rattle.go_board.proofs.Sums.{total-changed, total-at_least}
 use Rattle.go_board.proofs.liberties.FillingPoints.{pseudo_liberties-total}
 use Rattle.go_board.proofs.liberties.PseudoLiberties.{stone-test}
-
-equal-test : (j p : ℕ) → j ≡ p → (j == p) ≡ true
-equal-test j p e = grind (arith, nat_tests)
-
-other-test : (j p : ℕ) → j ≢ p → (j == p) ≡ false
-other-test j p e = grind (arith, nat_tests)
+use Rattle.std.proofs.lemmas.Bool.{eq-eqb, ne_eqb, cases_eq}
 
 share-own : (board : List Cell) (ids : List ℕ) (k p : ℕ) → IsStone (at board p) → id_of ids p ≡ k
     → share board ids k p ≡ empty_beside board p
 share-own board ids k p s e =
     ap (λ (b : Bool). cond (b && (id_of ids p == k)) (empty_beside board p) 0) (stone-test (at board p) s)
-    ∙ ap (λ (t : Bool). cond t (empty_beside board p) 0) (equal-test (id_of ids p) k e)
+    ∙ ap (λ (t : Bool). cond t (empty_beside board p) 0) (eq-eqb (id_of ids p) k e)
 
 share-other : (board : List Cell) (ids : List ℕ) (k p : ℕ) → IsStone (at board p) → id_of ids p ≢ k
     → share board ids k p ≡ 0
 share-other board ids k p s o =
     ap (λ (b : Bool). cond (b && (id_of ids p == k)) (empty_beside board p) 0) (stone-test (at board p) s)
-    ∙ ap (λ (t : Bool). cond t (empty_beside board p) 0) (other-test (id_of ids p) k o)
+    ∙ ap (λ (t : Bool). cond t (empty_beside board p) 0) (ne_eqb (id_of ids p) k o)
 
 -- what a id counts changes by the stone's share
 pseudo_liberties-id_changed : (board : List Cell) (ids : List ℕ) (k p id : ℕ) → p < 702
@@ -77,7 +71,7 @@ ArePseudoLiberties-id_changed board ids c0 c1 c2 p from to own below s long a fr
     new_id = get_or-set_same ids p to 0 (omega (arith, below, long))
 
     first : (k : ℕ) → count_at c1 k ≡ count_at c0 k - share board ids k p
-    first k = elim (same_or_other k from) [
+    first k = elim (cases_eq k from) [
       | inl e ↦
           let x : count_at c1 k ≡ count_at c0 from - own =
           ap (λ (cs : List ℕ). count_at cs k) taken ∙ ap (count_at (set c0 from (count_at c0 from - own))) e
@@ -92,7 +86,7 @@ ArePseudoLiberties-id_changed board ids c0 c1 c2 p from to own below s long a fr
     ]
 
     second : (k : ℕ) → count_at c2 k ≡ count_at c1 k + share board (set ids p to) k p
-    second k = elim (same_or_other k to) [
+    second k = elim (cases_eq k to) [
       | inl e ↦
           let x : count_at c2 k ≡ count_at c1 to + own =
           ap (λ (cs : List ℕ). count_at cs k) added ∙ ap (count_at (set c1 to (count_at c1 to + own))) e

@@ -8,10 +8,10 @@ use Rattle.std.proofs.Math.ListN.{set, length-set}
 use Rattle.go_board.specs.Board.{at}
 use Rattle.go_board.specs.private.ChainId.{id_of, is_stone, empty_beside, share, ArePseudoLiberties, count_at}
 use Rattle.go_board.specs.declared.board.Cell.{Cell}
-use Rattle.go_board.proofs.boards.Cells.{same_or_other}
 use Rattle.go_board.proofs.Sums.{total, total-suc, total-zero, total-at_most}
 use Rattle.go_board.proofs.liberties.FillingPoints.{pseudo_liberties-total}
 use Rattle.go_board.proofs.liberties.MergingIds.{share-four}
+use Rattle.std.proofs.lemmas.Bool.{eq-eqb, ne_eqb, cases_eq}
 
 -- each id counts the shares of the places below n
 pub record IsCounting (board : List Cell) (ids : List ℕ) (n : ℕ) (counts : List ℕ) : Type 0 where
@@ -26,12 +26,6 @@ IsCounting-none board ids counts none = record {
       λ k below. ap (λ (cs : List ℕ). count_at cs k) none ∙ get_or-replicate 702 k 0 0 below
       ∙ sym (total-zero (share board ids k));
 }
-
-equal-test : (j p : ℕ) → j ≡ p → (j == p) ≡ true
-equal-test j p e = grind (arith, nat_tests)
-
-other-test : (j p : ℕ) → j ≢ p → (j == p) ≡ false
-other-test j p e = grind (arith, nat_tests)
 
 more-total : (f : ℕ → ℕ) (n : ℕ) → total f (n + 1) ≡ total f n + f n
 more-total f n = rw (← add-one) at (total-suc f n)
@@ -60,11 +54,11 @@ pub IsCounting-stone : (board : List Cell) (ids : List ℕ) (n id more : ℕ) (c
 IsCounting-stone board ids n id more counts new stone is l more_is made c =
     subst (IsCounting board ids (n + 1)) (sym made) (record {
       length_is = length-set counts id (count_at counts id + more) ∙ c.length_is;
-      each = λ k below. elim (same_or_other k id) [
+      each = λ k below. elim (cases_eq k id) [
         | inl e ↦
             let own : share board ids k n ≡ more =
             share-stone board ids k n stone
-            ∙ ap (λ (t : Bool). cond t (empty_beside board n) 0) (equal-test (id_of ids n) k (sym is ∙ sym e))
+            ∙ ap (λ (t : Bool). cond t (empty_beside board n) 0) (eq-eqb (id_of ids n) k (sym is ∙ sym e))
             ∙ sym more_is in
             let x : count_at (set counts id (count_at counts id + more)) k ≡ count_at counts id + more =
             ap (count_at (set counts id (count_at counts id + more))) e
@@ -76,7 +70,7 @@ IsCounting-stone board ids n id more counts new stone is l more_is made c =
             let own : share board ids k n ≡ 0 =
             share-stone board ids k n stone
             ∙ ap (λ (t : Bool). cond t (empty_beside board n) 0)
-            (other-test (id_of ids n) k (λ e. o (sym e ∙ sym is))) in
+            (ne_eqb (id_of ids n) k (λ e. o (sym e ∙ sym is))) in
             let x : count_at (set counts id (count_at counts id + more)) k ≡ count_at counts k =
             get_or-set_other counts id k (count_at counts id + more) 0 o in
             let y = c.each k below in

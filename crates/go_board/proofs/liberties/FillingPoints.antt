@@ -9,33 +9,27 @@ use Rattle.go_board.specs.private.ChainId.{id_of, is_empty, is_stone, empty_at, 
 use Rattle.go_board.specs.private.ChainId.{ids_beside, pseudo_liberties}
 use Rattle.go_board.specs.declared.board.Cell.{Cell}
 use Rattle.go_board.specs.declared.board.Cell.TheVariants.{Edge, Empty}
-use Rattle.go_board.proofs.boards.Cells.{same_or_other}
 use Rattle.go_board.proofs.captures.CapturedStones.{in_list}
 use Rattle.go_board.proofs.floods.Regions.{IsInside}
 use Rattle.go_board.proofs.Sums.{total, total-add, total-same, total-only}
+use Rattle.std.proofs.lemmas.Bool.{eq-eqb, ne_eqb, cases_eq}
 
 -- 1 where a number is p
 pub one_at : ℕ → ℕ → ℕ
 one_at p j = if j == p then 1 else 0
 
-same-test : (j p : ℕ) → j ≡ p → (j == p) ≡ true
-same-test j p e = grind (arith, nat_tests)
-
-other-test : (j p : ℕ) → j ≢ p → (j == p) ≡ false
-other-test j p e = grind (arith, nat_tests)
-
 pub one_at-same : (p j : ℕ) → j ≡ p → one_at p j ≡ 1
 unfolding one_at
-one_at-same p j e = ap (λ (b : Bool). cond b 1 0) (same-test j p e)
+one_at-same p j e = ap (λ (b : Bool). cond b 1 0) (eq-eqb j p e)
 
 pub one_at-other : (p j : ℕ) → j ≢ p → one_at p j ≡ 0
 unfolding one_at
-one_at-other p j e = ap (λ (b : Bool). cond b 1 0) (other-test j p e)
+one_at-other p j e = ap (λ (b : Bool). cond b 1 0) (ne_eqb j p e)
 
 -- the point is no more empty, and all else is as it was
 empty_at-filled : (board : List Cell) (p j : ℕ) (x : Cell) → at board p ≡ Empty → is_empty x ≡ false
     → empty_at board j ≡ empty_at (set board p x) j + one_at p j
-empty_at-filled board p j x empty filled = elim (same_or_other j p) [
+empty_at-filled board p j x empty filled = elim (cases_eq j p) [
   | inl is ↦
       let point : at board p ≢ Edge = λ e. filled_edge (sym empty ∙ e) in
       let was : empty_at board j ≡ 1 =
@@ -177,8 +171,8 @@ pseudo_liberties-filled board ids ids' id p x inside empty filled same =
     let s2 = total-add (share cells ids' id) lost after 702 (λ q _. refl) in
     let s3 = total-same before after 702 (λ q _. at_place q) in
     let s4 : total only 702 ≡ own =
-    total-only only p 702 (omega arith) (λ q another. ap (λ (b : Bool). cond b own 0) (other-test q p another))
-    ∙ ap (λ (b : Bool). cond b own 0) (same-test p p refl) in
+    total-only only p 702 (omega arith) (λ q another. ap (λ (b : Bool). cond b own 0) (ne_eqb q p another))
+    ∙ ap (λ (b : Bool). cond b own 0) (eq-eqb p p refl) in
     let s5 : total lost 702 ≡ ids_beside board ids id p = total-beside has p inside in
     let c1 = pseudo_liberties-total board ids id in
     let c2 = pseudo_liberties-total cells ids' id in
@@ -196,13 +190,13 @@ pseudo_liberties-filled board ids ids' id p x inside empty filled same =
 
     at_place : (q : ℕ) → share board ids id q + cond (q == p) (share (set board p x) ids' id p) 0
         ≡ share (set board p x) ids' id q + cond (has_id board ids id q) (beside p q) 0
-    at_place q = elim (same_or_other q p) [
+    at_place q = elim (cases_eq q p) [
       | inl is ↦
           let was : has_id board ids id q ≡ false =
           ap (λ (r : ℕ). has_id board ids id r) is ∙ no_stone in
           let own = share (set board p x) ids' id p in
           let a : share board ids id q ≡ 0 = ap (λ (b : Bool). cond b (empty_beside board q) 0) was in
-          let b : cond (q == p) own 0 ≡ own = ap (λ (b : Bool). cond b own 0) (same-test q p is) in
+          let b : cond (q == p) own 0 ≡ own = ap (λ (b : Bool). cond b own 0) (eq-eqb q p is) in
           let c : share (set board p x) ids' id q ≡ own =
           ap (λ (r : ℕ). share (set board p x) ids' id r) is in
           let d : cond (has_id board ids id q) (beside p q) 0 ≡ 0 =
@@ -215,6 +209,6 @@ pseudo_liberties-filled board ids ids' id p x inside empty filled same =
           ap (λ (c : Cell). is_stone c && (id_of ids' q == id)) cell
           ∙ ap (λ (l : ℕ). is_stone (at board q) && (l == id)) (same q another) in
           let a = at_other (has_id board ids id q) (has_id (set board p x) ids' id q) q still in
-          let b : cond (q == p) own 0 ≡ 0 = ap (λ (b : Bool). cond b own 0) (other-test q p another) in
+          let b : cond (q == p) own 0 ≡ 0 = ap (λ (b : Bool). cond b own 0) (ne_eqb q p another) in
           omega (arith, a, b)
     ]

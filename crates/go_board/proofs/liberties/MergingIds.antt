@@ -10,21 +10,15 @@ use Rattle.go_board.specs.private.ChainId.{id_of, is_empty, is_stone, empty_besi
 use Rattle.go_board.specs.private.ChainId.{ArePseudoLiberties, count_at}
 use Rattle.go_board.specs.private.Steps.{rename}
 use Rattle.go_board.specs.declared.board.Cell.{Cell}
-use Rattle.go_board.proofs.boards.Cells.{same_or_other}
 use Rattle.go_board.proofs.Sums.{total-add, total-same, total-none, total-at_most}
 use Rattle.go_board.proofs.liberties.FillingPoints.{pseudo_liberties-total}
-
-equal-test : (j p : ℕ) → j ≡ p → (j == p) ≡ true
-equal-test j p e = grind (arith, nat_tests)
-
-other-test : (j p : ℕ) → j ≢ p → (j == p) ≡ false
-other-test j p e = grind (arith, nat_tests)
+use Rattle.std.proofs.lemmas.Bool.{eq-eqb, ne_eqb, cases_eq}
 
 pub rename-same : (to from id : ℕ) → id ≡ from → rename to from id ≡ to
-rename-same to from id e = ap (λ (b : Bool). cond b to id) (equal-test id from e)
+rename-same to from id e = ap (λ (b : Bool). cond b to id) (eq-eqb id from e)
 
 pub rename-other : (to from id : ℕ) → id ≢ from → rename to from id ≡ id
-rename-other to from id e = ap (λ (b : Bool). cond b to id) (other-test id from e)
+rename-other to from id e = ap (λ (b : Bool). cond b to id) (ne_eqb id from e)
 
 -- a share, by whether there is a stone, its id and its empty neighbours
 part : Bool → ℕ → ℕ → ℕ → ℕ
@@ -32,17 +26,17 @@ part s n l k = cond (s && (l == k)) n 0
 
 part-same : (s : Bool) (n l k : ℕ) → l ≡ k → part s n l k ≡ cond s n 0
 unfolding part
-part-same true n l k e = ap (λ (b : Bool). cond b n 0) (equal-test l k e)
+part-same true n l k e = ap (λ (b : Bool). cond b n 0) (eq-eqb l k e)
 part-same false n l k e = refl
 
 part-other : (s : Bool) (n l k : ℕ) → l ≢ k → part s n l k ≡ 0
 unfolding part
-part-other true n l k e = ap (λ (b : Bool). cond b n 0) (other-test l k e)
+part-other true n l k e = ap (λ (b : Bool). cond b n 0) (ne_eqb l k e)
 part-other false n l k e = refl
 
 -- the id that stays gets both shares, the one that goes none, and the others have theirs
 part-to : (s : Bool) (n l to from : ℕ) → to ≢ from → part s n (rename to from l) to ≡ part s n l to + part s n l from
-part-to s n l to from apart = elim (same_or_other l from) [
+part-to s n l to from apart = elim (cases_eq l from) [
   | inl e ↦
       let a = part-same s n (rename to from l) to (rename-same to from l e) in
       let b = part-other s n l to (λ (k : l ≡ to). apart (sym k ∙ e)) in
@@ -55,13 +49,13 @@ part-to s n l to from apart = elim (same_or_other l from) [
 ]
 
 part-from : (s : Bool) (n l to from : ℕ) → to ≢ from → part s n (rename to from l) from ≡ 0
-part-from s n l to from apart = part-other s n (rename to from l) from (λ e. elim (same_or_other l from) [
+part-from s n l to from apart = part-other s n (rename to from l) from (λ e. elim (cases_eq l from) [
   | inl is ↦ apart (sym (rename-same to from l is) ∙ e)
   | inr o ↦ o (sym (rename-other to from l o) ∙ e)
 ])
 
 part-rest : (s : Bool) (n l to from k : ℕ) → k ≢ to → k ≢ from → part s n (rename to from l) k ≡ part s n l k
-part-rest s n l to from k not_to not_from = elim (same_or_other l from) [
+part-rest s n l to from k not_to not_from = elim (cases_eq l from) [
   | inl e ↦
       let a = part-other s n (rename to from l) k (λ h. not_to (sym h ∙ rename-same to from l e)) in
       let b = part-other s n l k (λ h. not_from (sym h ∙ e)) in
@@ -113,12 +107,12 @@ ArePseudoLiberties-rename board ids counts new to from t f apart long is a =
       length_is =
           length-set (set counts to (count_at counts to + count_at counts from)) from 0
           ∙ length-set counts to (count_at counts to + count_at counts from) ∙ a.length_is;
-      each = λ k below. elim (same_or_other k from) [
+      each = λ k below. elim (cases_eq k from) [
         | inl e ↦
             ap (count_at (set first from 0)) e ∙ get_or-set_same first from 0 0 (in_first f)
             ∙ sym (ap (pseudo_liberties board (map (rename to from) ids)) e
             ∙ pseudo_liberties-from board ids (map (rename to from) ids) to from apart renamed_all)
-        | inr not_from ↦ get_or-set_other first from k 0 0 not_from ∙ elim (same_or_other k to) [
+        | inr not_from ↦ get_or-set_other first from k 0 0 not_from ∙ elim (cases_eq k to) [
           | inl e ↦
               ap (count_at first) e
               ∙ get_or-set_same counts to (count_at counts to + count_at counts from) 0 (in_counts t)

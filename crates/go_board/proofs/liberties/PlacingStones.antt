@@ -15,12 +15,12 @@ use Rattle.go_board.specs.private.Frame.{IsFramed}
 use Rattle.go_board.specs.private.Steps.{IsLowered, IsRaised, AreLowered, AreRaised}
 use Rattle.go_board.specs.declared.board.Cell.{Cell}
 use Rattle.go_board.specs.declared.board.Cell.TheVariants.{Edge, Empty}
-use Rattle.go_board.proofs.boards.Cells.{same_or_other}
 use Rattle.go_board.proofs.captures.CapturedStones.{in_list}
 use Rattle.go_board.proofs.floods.Regions.{IsOn-inside}
 use Rattle.go_board.proofs.ids.Paths.{set-same, IsStone-point}
 use Rattle.go_board.proofs.liberties.FillingPoints.{pseudo_liberties-filled}
 use Rattle.go_board.proofs.liberties.PseudoLiberties.{other-count}
+use Rattle.std.proofs.lemmas.Bool.{eq-eqb, ne_eqb, cases_eq}
 
 pub stone_in : (board : List Cell) (p : ℕ) → IsFramed board → IsStone (at board p) → p < 702
 stone_in board p framed s = let below = in_list board p (IsStone-point (at board p) s) in
@@ -47,12 +47,6 @@ has_other_liberty-test board ids p q id beside counted chains empty s is b e =
     let told = other-count board ids p q chains.framed chains.ids empty s in
     (λ h. told.0 (test.0 h), λ h. test.1 (told.1 h))
 
-equal-test : (j p : ℕ) → j ≡ p → (j == p) ≡ true
-equal-test j p e = grind (arith, nat_tests)
-
-other-test : (j p : ℕ) → j ≢ p → (j == p) ≡ false
-other-test j p e = grind (arith, nat_tests)
-
 -- whether the stone on a place has a id
 ids_at-stone : (board : List Cell) (ids : List ℕ) (k p : ℕ) → is_stone (at board p) ≡ true
     → ids_at board ids k p ≡ cond (id_of ids p == k) 1 0
@@ -64,18 +58,18 @@ pub IsRaised-stone : (board : List Cell) (ids old new : List ℕ) (p id : ℕ) �
 IsRaised-stone board ids old new p id s is below made =
     subst (λ (xs : List ℕ). IsRaised board ids old xs p) (sym made) (record {
       length_is = length-set old id (count_at old id + 1);
-      each = λ k _. elim (same_or_other k id) [
+      each = λ k _. elim (cases_eq k id) [
         | inl e ↦
             let a = get_or-set_same old id (count_at old id + 1) 0 below in
             let b =
             ids_at-stone board ids k p s
-            ∙ ap (λ (t : Bool). cond t 1 0) (equal-test (id_of ids p) k (sym is ∙ sym e)) in
+            ∙ ap (λ (t : Bool). cond t 1 0) (eq-eqb (id_of ids p) k (sym is ∙ sym e)) in
             ap (count_at (set old id (count_at old id + 1))) e ∙ a ∙ ap (λ (i : ℕ). count_at old i + 1) (sym e)
             ∙ ap (λ (n : ℕ). count_at old k + n) (sym b)
         | inr o ↦
             let b =
             ids_at-stone board ids k p s
-            ∙ ap (λ (t : Bool). cond t 1 0) (other-test (id_of ids p) k (λ e. o (sym e ∙ sym is))) in
+            ∙ ap (λ (t : Bool). cond t 1 0) (ne_eqb (id_of ids p) k (λ e. o (sym e ∙ sym is))) in
             let a : count_at (set old id (count_at old id + 1)) k ≡ count_at old k =
             get_or-set_other old id k (count_at old id + 1) 0 o in
             omega (arith, a, b)
@@ -128,7 +122,7 @@ pub ArePseudoLiberties-placed : (board : List Cell) (ids c0 c4 new : List ℕ) (
 ArePseudoLiberties-placed board ids c0 c4 new c p id more on empty l long a four more_is made =
     subst (ArePseudoLiberties (set board p (stone c)) (set ids p id)) (sym made) (record {
       length_is = length-set c4 id (count_at c4 id + more) ∙ four.length_is ∙ a.length_is;
-      each = λ k below. elim (same_or_other k id) [
+      each = λ k below. elim (cases_eq k id) [
         | inl e ↦
             let x : count_at (set c4 id (count_at c4 id + more)) id ≡ count_at c4 id + more =
             get_or-set_same c4 id (count_at c4 id + more) 0 (in_counts l) in
@@ -137,7 +131,7 @@ ArePseudoLiberties-placed board ids c0 c4 new c p id more on empty l long a four
             let w = filled id in
             let own =
             own_share id
-            ∙ ap (λ (t : Bool). cond t (empty_beside cells p) 0) (equal-test id id refl) in
+            ∙ ap (λ (t : Bool). cond t (empty_beside cells p) 0) (eq-eqb id id refl) in
             ap (count_at (set c4 id (count_at c4 id + more))) e
             ∙ sum_up _ _ _ _ _ _ _ _ _ (ids_beside-few board ids id p on empty) x y z w own more_is
             ∙ ap (pseudo_liberties cells new_ids) (sym e)
@@ -148,7 +142,7 @@ ArePseudoLiberties-placed board ids c0 c4 new c p id more on empty l long a four
             let z = a.each k below in
             let w = filled k in
             let own =
-            own_share k ∙ ap (λ (t : Bool). cond t (empty_beside cells p) 0) (other-test id k (λ e. o (sym e))) in
+            own_share k ∙ ap (λ (t : Bool). cond t (empty_beside cells p) 0) (ne_eqb id k (λ e. o (sym e))) in
             sum_other _ _ _ _ _ _ _ x y z w own
       ];
     })

@@ -15,13 +15,14 @@ use Rattle.go_board.specs.private.ChainId.{id_of, AreChainIds, is_empty, is_ston
 use Rattle.go_board.specs.private.ChainId.{share, ids_beside, pseudo_liberties, AreFree, HasOtherLiberty}
 use Rattle.go_board.specs.declared.board.Cell.{Cell}
 use Rattle.go_board.specs.declared.board.Cell.TheVariants.{Edge, Empty, Black, White}
-use Rattle.go_board.proofs.boards.Cells.{stone-filled, stone-differs, same_or_other}
+use Rattle.go_board.proofs.boards.Cells.{stone-filled, stone-differs}
 use Rattle.go_board.proofs.captures.CapturedStones.{in_list}
 use Rattle.go_board.proofs.floods.Regions.{IsOn-inside, Neighbours-sym}
 use Rattle.go_board.proofs.Sums.{total, total-positive, total-at_least}
 use Rattle.go_board.proofs.liberties.FillingPoints.{pseudo_liberties-total, pseudo_liberties-filled}
 use Rattle.go_board.proofs.ids.Paths.{Joined-then, Joined-same, Joined-kept, Joined-set, IsStone-point}
 use Rattle.go_board.proofs.ids.Paths.{IsStone-filled, IsStone-joined, set-same}
+use Rattle.std.proofs.lemmas.Bool.{eq-eqb, eqb-true, and_parts, cases_eq}
 
 -- ---- tests and facts
 
@@ -43,16 +44,6 @@ empty-from_test Empty e = refl
 empty-from_test Edge e = cc
 empty-from_test Black e = cc
 empty-from_test White e = cc
-
-equal-test : (j p : ℕ) → j ≡ p → (j == p) ≡ true
-equal-test j p e = grind (arith, nat_tests)
-
-equal-from_test : (j p : ℕ) → (j == p) ≡ true → j ≡ p
-equal-from_test j p e = grind (arith, nat_tests)
-
-both-true : (a b : Bool) → (a && b) ≡ true → (a ≡ true) × (b ≡ true)
-both-true true b e = (refl, e)
-both-true false b e = cc
 
 -- ---- an empty neighbour, and a share that isn't 0
 
@@ -124,7 +115,7 @@ share-some : (board : List Cell) (ids : List ℕ) (id : ℕ) (o : IsOpen board i
 share-some board ids id o =
     let has : has_id board ids id o.point ≡ true =
     ap (λ (b : Bool). b && (id_of ids o.point == id)) (stone-test (at board o.point) o.stone)
-    ∙ equal-test (id_of ids o.point) id o.id_is in
+    ∙ eq-eqb (id_of ids o.point) id o.id_is in
     let some = empty_beside-some board o.point o.beside.place o.beside.neighbours o.beside.holds in
     let same : share board ids id o.point ≡ empty_beside board o.point =
     ap (λ (b : Bool). cond b (empty_beside board o.point) 0) has in
@@ -134,12 +125,12 @@ share-from : (board : List Cell) (ids : List ℕ) (id p : ℕ) → IsFramed boar
     → IsOpen board ids id
 share-from board ids id p framed h =
     let facts = by_case (has_id board ids id p) h in
-    let tests = both-true (is_stone (at board p)) (id_of ids p == id) facts.0 in
+    let tests = and_parts (is_stone (at board p)) (id_of ids p == id) facts.0 in
     let s : IsStone (at board p) = stone-from_test (at board p) tests.0 in
     record {
       point = p;
       stone = s;
-      id_is = equal-from_test (id_of ids p) id tests.1;
+      id_is = eqb-true (id_of ids p) id tests.1;
       beside = empty_beside-from board p (IsOn-inside p (framed.inside p (IsStone-point (at board p) s))).low facts.1;
     }
   where
@@ -185,7 +176,7 @@ free-count board ids p framed a s = (
 IsFramed-edge : (board : List Cell) (p : ℕ) → at board p ≡ Empty → IsFramed board → IsFramed (set board p Edge)
 IsFramed-edge board p empty framed = record {
   length_is = length-set board p Edge ∙ framed.length_is;
-  inside = λ q held. elim (same_or_other q p) [
+  inside = λ q held. elim (cases_eq q p) [
     | inl is ↦ absurd (held (edge_there q is))
     | inr another ↦ framed.inside q (λ e. held (get_or-set_other board p q Edge Edge another ∙ e))
   ];
@@ -234,7 +225,7 @@ other-count board ids p q framed a empty s = (
 
     -- what isn't edge once p is edge is as it was
     as_before : (r : ℕ) → at (set board p Edge) r ≢ Edge → (r ≢ p) × (at (set board p Edge) r ≡ at board r)
-    as_before r held = elim (same_or_other r p) [
+    as_before r held = elim (cases_eq r p) [
       | inl is ↦ absurd (held (ap (λ (j : ℕ). at (set board p Edge) j) is ∙ edge_there))
       | inr another ↦ (another, get_or-set_other board p r Edge Edge another)
     ]
@@ -332,7 +323,7 @@ pub captured-beside : (board : List Cell) (c : Colour) (p q : ℕ) → at board 
 captured-beside board c p q empty are_free h =
     let facts = (captured-other board c p q empty).0 h in
     let free : IsFree board q = are_free q (other c, facts.0) in
-    let only : free.beside.place ≡ p = elim (same_or_other free.beside.place p) [
+    let only : free.beside.place ≡ p = elim (cases_eq free.beside.place p) [
       | inl is ↦ is
       | inr another ↦ absurd (facts.1 (record {
         point = free.point;

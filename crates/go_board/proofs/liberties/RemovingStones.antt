@@ -13,7 +13,6 @@ use Rattle.go_board.specs.private.ChainId.{pseudo_liberties, ArePseudoLiberties,
 use Rattle.go_board.specs.private.Steps.{IsRaised, AreRaised, IsBelow}
 use Rattle.go_board.specs.declared.board.Cell.{Cell}
 use Rattle.go_board.specs.declared.board.Cell.TheVariants.{Edge, Empty, Black, White}
-use Rattle.go_board.proofs.boards.Cells.{same_or_other}
 use Rattle.go_board.proofs.captures.CapturedStones.{in_list}
 use Rattle.go_board.proofs.floods.Regions.{IsOn-inside}
 use Rattle.go_board.proofs.ids.Paths.{IsStone-point}
@@ -21,12 +20,13 @@ use Rattle.go_board.proofs.Sums.{total-at_least}
 use Rattle.go_board.proofs.liberties.FillingPoints.{pseudo_liberties-filled, pseudo_liberties-total}
 use Rattle.go_board.proofs.liberties.MergingIds.{pseudo_liberties-few}
 use Rattle.go_board.proofs.liberties.PseudoLiberties.{stone-test}
+use Rattle.std.proofs.lemmas.Bool.{eq-eqb, ne_eqb, cases_eq}
 
 -- a stone put back gives the board of before
 restore : (board : List Cell) (p : ℕ) → p < length board → set (set board p Empty) p (at board p) ≡ board
 restore board p below =
     ext_get_or Edge (set (set board p Empty) p (at board p)) board
-    (length-set (set board p Empty) p (at board p) ∙ length-set board p Empty) (λ q _. elim (same_or_other q p) [
+    (length-set (set board p Empty) p (at board p) ∙ length-set board p Empty) (λ q _. elim (cases_eq q p) [
       | inl is ↦
           ap (at (set (set board p Empty) p (at board p))) is
           ∙ get_or-set_same (set board p Empty) p (at board p) Edge
@@ -35,12 +35,6 @@ restore board p below =
       | inr another ↦ get_or-set_other (set board p Empty) p q (at board p) Edge another
           ∙ get_or-set_other board p q Empty Edge another
     ])
-
-equal-test : (j p : ℕ) → j ≡ p → (j == p) ≡ true
-equal-test j p e = grind (arith, nat_tests)
-
-other-test : (j p : ℕ) → j ≢ p → (j == p) ≡ false
-other-test j p e = grind (arith, nat_tests)
 
 -- what the counts become
 pub pseudo_liberties-removed : (board : List Cell) (ids : List ℕ) (k p : ℕ) → IsOn most_size p → IsStone (at board p)
@@ -88,7 +82,7 @@ IsBelow-raised board ids old new p m n h few r k below =
 pub IsBelow-lessened : (board : List Cell) (ids counts new : List ℕ) (id less : ℕ) → ArePseudoLiberties board ids counts
     → new ≡ set counts id (count_at counts id - less) → id < 702
     → IsBelow 2808 new
-IsBelow-lessened board ids counts new id less a made l k below = elim (same_or_other k id) [
+IsBelow-lessened board ids counts new id less a made l k below = elim (cases_eq k id) [
   | inl e ↦
       let x : count_at new k ≡ count_at counts id - less =
       ap (λ (cs : List ℕ). count_at cs k) made ∙ ap (count_at (set counts id (count_at counts id - less))) e
@@ -128,14 +122,14 @@ ArePseudoLiberties-removed board cells ids c0 c1 c2 p id less on s a is own l le
 
     -- the id's count without the stone's share
     first : (k : ℕ) → k < 702 → count_at c1 k ≡ count_at c0 k - share board ids k p
-    first k below = elim (same_or_other k id) [
+    first k below = elim (cases_eq k id) [
       | inl e ↦
           let x : count_at c1 k ≡ count_at c0 id - less =
           ap (λ (cs : List ℕ). count_at cs k) taken ∙ ap (count_at (set c0 id (count_at c0 id - less))) e
           ∙ get_or-set_same c0 id (count_at c0 id - less) 0 (omega (arith, l, a.length_is)) in
           let y : share board ids k p ≡ less =
           share-stone board ids k p s
-          ∙ ap (λ (t : Bool). cond t (empty_beside board p) 0) (equal-test (id_of ids p) k (sym own ∙ sym e))
+          ∙ ap (λ (t : Bool). cond t (empty_beside board p) 0) (eq-eqb (id_of ids p) k (sym own ∙ sym e))
           ∙ sym less_is in
           x ∙ ap (λ (i : ℕ). count_at c0 i - less) (sym e) ∙ ap (λ (n : ℕ). count_at c0 k - n) (sym y)
       | inr o ↦
@@ -144,7 +138,7 @@ ArePseudoLiberties-removed board cells ids c0 c1 c2 p id less on s a is own l le
           let y : share board ids k p ≡ 0 =
           share-stone board ids k p s
           ∙ ap (λ (t : Bool). cond t (empty_beside board p) 0)
-          (other-test (id_of ids p) k (λ e. o (sym e ∙ sym own))) in
+          (ne_eqb (id_of ids p) k (λ e. o (sym e ∙ sym own))) in
           omega (arith, x, y)
     ]
 

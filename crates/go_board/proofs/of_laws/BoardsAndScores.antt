@@ -29,14 +29,16 @@ use Rattle.go_board.specs.Laws.{AddsTaken, IsScore}
 use Rattle.go_board.specs.decisions.Board.{on?}
 use Rattle.go_board.specs.decisions.Chain.{captured?}
 use Rattle.go_board.specs.decisions.Counting.{counts_for?}
-use Rattle.go_board.proofs.boards.Cells.{stone-point, stone-filled, same_or_other}
+use Rattle.go_board.proofs.boards.Cells.{stone-point, stone-filled}
 use Rattle.go_board.proofs.captures.CapturedStones.{holds-yes, holds-no, in_list, at-without_captured, at-play}
 use Rattle.go_board.proofs.boards.EmptyBoard.{HasSize-empty_board, length-empty_board}
 use Rattle.go_board.proofs.boards.HandicapPoints.{points-on}
 use Rattle.go_board.proofs.captures.FreeStones.{empty-on}
-use Rattle.go_board.proofs.scores.HowMany.{holds-true, many-passing}
+use Rattle.go_board.proofs.scores.HowMany.{many-passing}
 use Rattle.go_board.proofs.records.EveryGame.{length-with_black, board-start, board-with_move, IsOrderly-game}
 use Rattle.go_board.proofs.records.TakenCounts.{taken-push}
+use Rattle.std.proofs.lemmas.Bool.{cases_eq}
+use Rattle.go_board.proofs.captures.CapturedStones.{holds-true}
 
 -- ---- what a play leaves
 
@@ -59,7 +61,7 @@ play-leaves board c p empty =
 -- two boards that are left so hold the same
 same-left : (old : List Cell) (c : Colour) (p : ℕ) (new more : List Cell) → IsLeftByPlay old c p new
     → IsLeftByPlay old c p more → new ≡ more
-same-left old c p new more a b = ext_get_or Edge new more (a.long ∙ sym b.long) (λ q _. elim (same_or_other q p) [
+same-left old c p new more a b = ext_get_or Edge new more (a.long ∙ sym b.long) (λ q _. elim (cases_eq q p) [
   | inl same ↦ subst (λ (r : ℕ). at new r ≡ at more r) (sym same) (a.played ∙ sym b.played)
   | inr away ↦ by_case q away (captured? (set old p (stone c)) (other c) q)
 ])
@@ -104,7 +106,7 @@ contains? (x ∷ xs) q = step (number? x q) (contains? xs q)
 black-stays : (board : List Cell) (points : List ℕ) (q : ℕ) → at board q ≡ Black
     → at (with_black board points) q ≡ Black
 black-stays board [] q is = is
-black-stays board (p ∷ ps) q is = black-stays (set board p Black) ps q (elim (same_or_other q p) [
+black-stays board (p ∷ ps) q is = black-stays (set board p Black) ps q (elim (cases_eq q p) [
   | inl same ↦
       let point : at board p ≢ Edge = λ e. let bad = sym is ∙ ap (at board) same ∙ e in cc in
       ap (at (set board p Black)) same ∙ get_or-set_same board p Black Edge (in_list board p point)

@@ -10,9 +10,8 @@ use Rattle.go_board.specs.decisions.Chain.{joined?}
 use Rattle.go_board.specs.declared.board.Cell.{Cell}
 use Rattle.go_board.specs.declared.board.Cell.TheVariants.{Edge, Empty}
 use Rattle.go_board.proofs.boards.Cells.{stone-point}
-use Rattle.go_board.proofs.captures.CapturedStones.{holds-yes}
+use Rattle.go_board.proofs.captures.CapturedStones.{holds-yes, holds-true}
 use Rattle.go_board.proofs.ids.Paths.{Joined-then, Joined-same}
-use Rattle.go_board.proofs.scores.HowMany.{holds-true}
 
 -- a path from a point of the set stays in the set
 stays : (board : List Cell) (p q r : ℕ) (set : ℕ → Bool) → IsClosed board p set → set q ≡ true

@@ -17,6 +17,7 @@ use Rattle.go_board.specs.declared.faults.PlayFault.TheVariants.{Full, OffBoard,
 use Rattle.go_board.specs.decisions.Board.{on?, cell?}
 use Rattle.go_board.specs.decisions.Chain.{touches?}
 use Rattle.go_board.proofs.records.EveryGame.{board-with_move}
+use Rattle.std.proofs.lemmas.Bool.{cases_lt}
 
 -- the board that a play leaves
 left-free : (game : GameRecord) (c : Colour) (p : ℕ) → IsFree (play (board_of game) c p) p
@@ -68,10 +69,7 @@ by-decision (yes a) k = a
 by-decision (no n) k = absurd (k n)
 
 room? : (game : GameRecord) → ¬ (2000 ≤ length game.moves) → HasRoom game
-room? game few = elim (either (length game.moves)) [ inl less ↦ less | inr full ↦ absurd (few full) ]
-  where
-    either : (n : ℕ) → (n < 2000) ⊎ (2000 ≤ n)
-    either n = grind arith
+room? game few = elim (cases_lt (length game.moves) 2000) [ inl less ↦ less | inr full ↦ absurd (few full) ]
 
 pub refused-first : (game : GameRecord) (c : Colour) (p : ℕ) (fault : PlayFault)
     → IsCause game c p fault × ((cause : PlayFault) → rank cause < rank fault → ¬ IsCause game c p cause)

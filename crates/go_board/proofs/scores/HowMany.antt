@@ -11,13 +11,7 @@ use Rattle.std.proofs.lemmas.List.Sums.{length-filter}
 use Rattle.go_base.specs.Decide.{holds}
 use Rattle.go_board.specs.Laws.{IsOfSoMany}
 use Rattle.go_board.proofs.captures.RemovingLoop.{places-more}
-
-pub holds-true : {A : Type 0} (d : Dec A) → holds d ≡ true → A
-holds-true (yes a) e = a
-holds-true (no k) e = absurd (false≢true e)
-
-earlier_or_last : (k n : ℕ) → k < n + 1 → (k < n) ⊎ (k ≡ n)
-earlier_or_last k n h = grind arith
+use Rattle.go_board.proofs.General.{earlier_or_last}
 
 -- the list has the numbers below n that pass, each once
 record IsListed (f : ℕ → Bool) (n : ℕ) (xs : List ℕ) : Type 0 where

@@ -14,7 +14,6 @@ use Rattle.go_board.specs.Play.{is_captured, captured_count, play, captures}
 use Rattle.go_board.specs.private.ChainId.{is_stone}
 use Rattle.go_board.specs.declared.board.Cell.{Cell}
 use Rattle.go_board.specs.declared.board.Cell.TheVariants.{Edge, Empty}
-use Rattle.go_board.proofs.boards.Cells.{same_or_other}
 use Rattle.go_board.proofs.captures.CapturedStones.{holds-yes, holds-no, in_list}
 use Rattle.go_board.proofs.ids.Paths.{set-same}
 use Rattle.go_board.proofs.ko_rules.PlaysTakenBack.{IsAfter, taken, left, after-play, taken-held}
@@ -22,6 +21,7 @@ use Rattle.go_board.proofs.liberties.PseudoLiberties.{stone-test}
 use Rattle.go_board.proofs.boards.Cells.{empty-point}
 use Rattle.go_board.proofs.liberties.FillingPoints.{one_at, one_at-same, one_at-other}
 use Rattle.go_board.proofs.Sums.{total, total-add, total-only}
+use Rattle.std.proofs.lemmas.Bool.{cases_eq}
 
 -- The new stone is gone, each stone that it took stands again, and all else is as the play left it: that is the board
 -- before the play.
@@ -35,7 +35,7 @@ undo-board board back c p empty long gone again rest =
   where
     each : (q : ℕ) → IsAfter board c p q → at back q ≡ at board q
     each q (taken h _) = again q h ∙ sym (taken-held board c p q empty h)
-    each q (left k e) = elim (same_or_other q p) [
+    each q (left k e) = elim (cases_eq q p) [
       | inl is ↦ ap (at back) is ∙ gone ∙ sym empty ∙ ap (at board) (sym is)
       | inr another ↦ rest q another k ∙ e ∙ get_or-set_other board p q (stone c) Edge another
     ]
@@ -82,7 +82,7 @@ stones-play board c p long empty =
     in_board q point = let below = in_list board q point in omega (arith, below, long)
 
     with_new : (q : ℕ) → one (is_stone (at board q)) + one_at p q ≡ one (is_stone (at (set board p (stone c)) q))
-    with_new q = elim (same_or_other q p) [
+    with_new q = elim (cases_eq q p) [
       | inl is ↦
           let a : one (is_stone (at board q)) ≡ 0 =
           ap (λ (k : ℕ). one (is_stone (at board k))) is ∙ ap (λ (x : Cell). one (is_stone x)) empty in

@@ -10,7 +10,7 @@ use Rattle.go_board.specs.private.TakenStack.{taken_at, with_stones, IsNotLast, 
 use Rattle.go_board.specs.declared.board.Cell.{Cell}
 use Rattle.go_board.specs.declared.board.Cell.TheVariants.{Edge, Empty}
 use Rattle.go_board.specs.declared.taken_stack.TakenStone.{TakenStone}
-use Rattle.go_board.proofs.boards.Cells.{same_or_other}
+use Rattle.std.proofs.lemmas.Bool.{cases_eq}
 
 -- ---- the loop
 
@@ -125,7 +125,7 @@ filled-in board this test a (suc n) q least most inside passes =
 
     by_test : (t : Bool) → test a ≡ t → (a + 1 ≤ q → at rest q ≡ this)
         → at (with_stones board this (cond t (a ∷ ps) ps)) q ≡ this
-    by_test true e go = elim (same_or_other q a) [
+    by_test true e go = elim (cases_eq q a) [
       | inl same ↦ ap (at (set rest a this)) same
           ∙ get_or-set_same rest a this Edge
           (let long = length-with_stones board this ps in omega (arith, long, same, inside))
