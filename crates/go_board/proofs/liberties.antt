@@ -7,3 +7,4 @@ pub mod RemovingStones
 pub mod MergingIds
 pub mod ChangingIds
 pub mod StonesFields
+pub mod Shares

@@ -19,13 +19,13 @@ use Rattle.go_board.specs.declared.board.Cell.{Cell}
 use Rattle.go_board.specs.declared.board.Cell.TheVariants.{Edge, Empty}
 use Rattle.go_board.proofs.boards.Cells.{stone-point, stone-filled, stone-differs}
 use Rattle.go_board.proofs.captures.CapturedStones.{at-play}
-use Rattle.go_board.proofs.floods.Regions.{Neighbours-sym}
 use Rattle.go_board.proofs.ids.Paths.{Joined-then, Joined-same, Joined-back, Joined-kept, set-same}
 use Rattle.go_board.proofs.ko_rules.PlaysTakenBack.{IsAfter, taken, left, after-play, empty-after}
 use Rattle.go_board.proofs.liberties.PseudoLiberties.{captured-other, captured-beside}
 use Rattle.go_board.proofs.boards.Cells.{empty-point}
 use Rattle.go_board.proofs.captures.MakingPlays.{captured-joined}
 use Rattle.std.proofs.lemmas.Bool.{cases_eq, cases_lt}
+use Rattle.go_board.proofs.boards.Neighbours.{Neighbours-sym, not_itself}
 
 -- a stone of the colour that plays stays
 own-stays : (board : List Cell) (c : Colour) (p q : ℕ) → q ≢ p → at board q ≡ stone c
@@ -89,12 +89,6 @@ path-from board c p (by_way_of {p = s} {q = t} r point next same rest) held =
           let there = own-was board c p r away (same ∙ held) in
           elsewhere another (by_way_of r (λ e. stone-point c (sym here ∙ e)) next (there ∙ sym here) path)
     ]
-
-pub not_itself : (p q : ℕ) → Neighbours p q → q ≢ p
-not_itself p q (inl e) is = absurd (omega arith)
-not_itself p q (inr (inl e)) is = absurd (omega arith)
-not_itself p q (inr (inr (inl e))) is = absurd (omega arith)
-not_itself p q (inr (inr (inr e))) is = absurd (omega arith)
 
 -- The new stone's chain has a liberty just where the point has an empty neighbour, or the play takes a neighbour, or a
 -- neighbour of its colour has a further liberty.

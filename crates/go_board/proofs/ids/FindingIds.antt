@@ -12,10 +12,11 @@ use Rattle.go_board.specs.private.ChainId.{id_of, AreChainIds, IsChainOf}
 use Rattle.go_board.specs.private.Steps.{AreGiven, AreOthersKept, HasFragmentId}
 use Rattle.go_board.specs.declared.board.Cell.{Cell}
 use Rattle.go_board.proofs.captures.CapturedStones.{in_list}
-use Rattle.go_board.proofs.floods.Regions.{IsOn-inside, index_of}
+use Rattle.go_board.proofs.floods.Regions.{index_of}
 use Rattle.go_board.proofs.ids.Paths.{Joined-then, Joined-back, IsStone-point, AreChainIds-steps}
 use Rattle.std.proofs.lemmas.Bool.{cases_eq}
 use Rattle.go_board.proofs.General.{earlier_or_last}
+use Rattle.go_board.proofs.boards.Neighbours.{IsOn-inside}
 
 -- the first `n` places were given the id
 pub record IsGiving (old : List ℕ) (places : List ℕ) (id n : ℕ) (new : List ℕ) : Type 0 where

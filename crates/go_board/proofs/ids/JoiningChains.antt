@@ -14,13 +14,13 @@ use Rattle.go_board.specs.private.ChainId.{id_of, ArePseudoLiberties, AreChains,
 use Rattle.go_board.specs.private.Steps.{rename, rename_three, IsMoved, IsIdOr}
 use Rattle.go_board.specs.declared.board.Cell.{Cell}
 use Rattle.go_board.specs.declared.board.Cell.TheVariants.{Edge, Empty}
-use Rattle.go_board.proofs.boards.Cells.{IsFramed-set}
+use Rattle.go_board.proofs.boards.Cells.{IsFramed-set, empty-point}
 use Rattle.go_board.proofs.captures.CapturedStones.{in_list}
-use Rattle.go_board.proofs.floods.Regions.{IsOn-inside}
 use Rattle.go_board.proofs.ids.Paths.{IsStone-point, IsStone-filled, IsOwn, IsJoining, AreLocalIds-joining}
 use Rattle.go_board.proofs.ids.Paths.{AreLocalIds-of, AreChainIds-steps}
 use Rattle.go_board.proofs.liberties.MergingIds.{rename-same, rename-other, ArePseudoLiberties-rename, pseudo_liberties-few}
 use Rattle.std.proofs.lemmas.Bool.{cases_eq}
+use Rattle.go_board.proofs.boards.Neighbours.{IsOn-inside}
 
 -- ---- the counts
 
@@ -290,15 +290,12 @@ AreChains-set board ids new c p id x y z on empty chains own made =
     let joining =
     IsJoining-code board ids new c p id x y z chains.framed long low (omega (arith, high)) empty own made in
     record {
-      framed = IsFramed-set board p (stone c) (λ e. empty_edge (sym empty ∙ e)) chains.framed;
+      framed = IsFramed-set board p (stone c) (empty-point board p empty) chains.framed;
       ids = AreChainIds-steps (set board p (stone c)) new
           (ap length made ∙ length-map (set ids p id) (rename_three id x y z) ∙ length-set ids p id
           ∙ long)
           (AreLocalIds-joining board ids new c p id empty (AreLocalIds-of board ids chains.ids) joining);
     }
-  where
-    empty_edge : Empty ≡ Edge → ⊥
-    empty_edge e = cc
 
 -- the code's ids, with the stone as the code has it
 pub AreOwn-code : (board : List Cell) (ids : List ℕ) (c : Colour) (s : Cell) (p under above left id x y z : ℕ)

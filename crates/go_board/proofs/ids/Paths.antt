@@ -10,10 +10,10 @@ use Rattle.go_board.specs.Chain.{Joined, itself, by_way_of}
 use Rattle.go_board.specs.private.ChainId.{id_of, AreChainIds}
 use Rattle.go_board.specs.declared.board.Cell.{Cell}
 use Rattle.go_board.specs.declared.board.Cell.TheVariants.{Edge, Empty}
-use Rattle.go_board.proofs.boards.Cells.{stone-point, stone-filled}
+use Rattle.go_board.proofs.boards.Cells.{stone-point, stone-filled, empty-point}
 use Rattle.go_board.proofs.captures.CapturedStones.{in_list}
-use Rattle.go_board.proofs.floods.Regions.{Neighbours-sym}
 use Rattle.std.proofs.lemmas.Bool.{cases_eq}
+use Rattle.go_board.proofs.boards.Neighbours.{Neighbours-sym}
 
 pub Joined-then : {board : List Cell} {p q r : ℕ} → Joined board p q → Joined board q r → Joined board p r
 Joined-then (itself point) rest = rest
@@ -108,10 +108,7 @@ pub record IsJoining (board : List Cell) (ids new : List ℕ) (c : Colour) (p id
       → (id_of new q ≡ id_of ids q) ⊎ ((id_of new q ≡ id) × IsOwn board ids c p (id_of ids q))
 
 pub set-same : (board : List Cell) (p : ℕ) (x : Cell) → at board p ≡ Empty → at (set board p x) p ≡ x
-set-same board p x empty = get_or-set_same board p x Edge (in_list board p (λ e. filled_edge (sym empty ∙ e)))
-  where
-    filled_edge : Empty ≡ Edge → ⊥
-    filled_edge e = cc
+set-same board p x empty = get_or-set_same board p x Edge (in_list board p (empty-point board p empty))
 
 -- the paths between stones don't go through an empty point
 pub Joined-set : (board : List Cell) (p : ℕ) (x : Cell) {q r : ℕ} → at board p ≡ Empty → IsStone (at board q)

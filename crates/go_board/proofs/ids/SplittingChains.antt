@@ -15,7 +15,6 @@ use Rattle.go_board.specs.declared.board.Cell.{Cell}
 use Rattle.go_board.specs.declared.board.Cell.TheVariants.{Edge, Empty}
 use Rattle.go_board.proofs.boards.Cells.{IsFramed-set}
 use Rattle.go_board.proofs.captures.CapturedStones.{in_list}
-use Rattle.go_board.proofs.floods.Regions.{IsOn-inside}
 use Rattle.go_board.proofs.ids.Paths.{Joined-then, Joined-same, Joined-back, Joined-kept, IsStone-point}
 use Rattle.go_board.proofs.ids.Paths.{IsStone-filled, IsStone-joined, AreChainIds-steps, along-path}
 use Rattle.go_board.proofs.ids.FindingIds.{IsPart, IsPart-named, named-has, AreChainIds-part}
@@ -23,6 +22,7 @@ use Rattle.go_board.proofs.ids.JoiningChains.{rename_three-a}
 use Rattle.go_board.proofs.liberties.PseudoLiberties.{stone-test}
 use Rattle.go_board.proofs.liberties.MergingIds.{rename-other}
 use Rattle.std.proofs.lemmas.Bool.{eq-eqb, cases_eq}
+use Rattle.go_board.proofs.boards.Neighbours.{IsOn-inside, all_beside}
 
 -- ---- paths without a place
 
@@ -90,59 +90,23 @@ ids_at-one board ids id q s e =
     ap (λ (b : Bool). cond (b && (id_of ids q == id)) 1 0) (stone-test (at board q) s)
     ∙ ap (λ (b : Bool). cond b 1 0) (eq-eqb (id_of ids q) id e)
 
--- which neighbour it is, and that it counts
-abbrev pub IsSide : (ℕ → ℕ) → ℕ → ℕ → Type 0
-IsSide f p q =
-    ((q ≡ p + 1) × (f (p + 1) ≡ 1)) ⊎ ((q ≡ p - 1) × (f (p - 1) ≡ 1)) ⊎ ((q ≡ p + 26) × (f (p + 26) ≡ 1))
-    ⊎ ((q ≡ p - 26) × (f (p - 26) ≡ 1))
-
-side : (f : ℕ → ℕ) (p q : ℕ) → Neighbours p q → f q ≡ 1 → IsSide f p q
-side f p q (inl e) h = inl (e, ap f (sym e) ∙ h)
-side f p q (inr (inl e)) h = let is : q ≡ p - 1 = omega (arith, e) in inr (inl (is, ap f (sym is) ∙ h))
-side f p q (inr (inr (inl e))) h = inr (inr (inl (e, ap f (sym e) ∙ h)))
-side f p q (inr (inr (inr e))) h = let is : q ≡ p - 26 = omega (arith, e) in inr (inr (inr (is, ap f (sym is) ∙ h)))
-
-two-few : (a b rest : ℕ) {A : Type 0} → a ≡ 1 → b ≡ 1 → a + b + rest ≤ 1 → A
-two-few a b rest e f h = absurd (omega (arith, e, f, h))
-
 -- two neighbours that count are one, where the neighbours count 1 at most
-one-side : (f : ℕ → ℕ) (p a b : ℕ) → f (p + 1) + f (p - 1) + f (p + 26) + f (p - 26) ≤ 1 → IsSide f p a → IsSide f p b
-    → a ≡ b
-one-side f p a b few (inl x) (inl y) = x.0 ∙ sym y.0
-one-side f p a b few (inl x) (inr (inl y)) =
-    two-few (f (p + 1)) (f (p - 1)) (f (p + 26) + f (p - 26)) x.1 y.1 (omega (arith, few))
-one-side f p a b few (inl x) (inr (inr (inl y))) =
-    two-few (f (p + 1)) (f (p + 26)) (f (p - 1) + f (p - 26)) x.1 y.1 (omega (arith, few))
-one-side f p a b few (inl x) (inr (inr (inr y))) =
-    two-few (f (p + 1)) (f (p - 26)) (f (p - 1) + f (p + 26)) x.1 y.1 (omega (arith, few))
-one-side f p a b few (inr (inl x)) (inl y) =
-    two-few (f (p - 1)) (f (p + 1)) (f (p + 26) + f (p - 26)) x.1 y.1 (omega (arith, few))
-one-side f p a b few (inr (inl x)) (inr (inl y)) = x.0 ∙ sym y.0
-one-side f p a b few (inr (inl x)) (inr (inr (inl y))) =
-    two-few (f (p - 1)) (f (p + 26)) (f (p + 1) + f (p - 26)) x.1 y.1 (omega (arith, few))
-one-side f p a b few (inr (inl x)) (inr (inr (inr y))) =
-    two-few (f (p - 1)) (f (p - 26)) (f (p + 1) + f (p + 26)) x.1 y.1 (omega (arith, few))
-one-side f p a b few (inr (inr (inl x))) (inl y) =
-    two-few (f (p + 26)) (f (p + 1)) (f (p - 1) + f (p - 26)) x.1 y.1 (omega (arith, few))
-one-side f p a b few (inr (inr (inl x))) (inr (inl y)) =
-    two-few (f (p + 26)) (f (p - 1)) (f (p + 1) + f (p - 26)) x.1 y.1 (omega (arith, few))
-one-side f p a b few (inr (inr (inl x))) (inr (inr (inl y))) = x.0 ∙ sym y.0
-one-side f p a b few (inr (inr (inl x))) (inr (inr (inr y))) =
-    two-few (f (p + 26)) (f (p - 26)) (f (p + 1) + f (p - 1)) x.1 y.1 (omega (arith, few))
-one-side f p a b few (inr (inr (inr x))) (inl y) =
-    two-few (f (p - 26)) (f (p + 1)) (f (p - 1) + f (p + 26)) x.1 y.1 (omega (arith, few))
-one-side f p a b few (inr (inr (inr x))) (inr (inl y)) =
-    two-few (f (p - 26)) (f (p - 1)) (f (p + 1) + f (p + 26)) x.1 y.1 (omega (arith, few))
-one-side f p a b few (inr (inr (inr x))) (inr (inr (inl y))) =
-    two-few (f (p - 26)) (f (p + 26)) (f (p + 1) + f (p - 1)) x.1 y.1 (omega (arith, few))
-one-side f p a b few (inr (inr (inr x))) (inr (inr (inr y))) = x.0 ∙ sym y.0
+one-side : (f : ℕ → ℕ) (p : ℕ) → f (p + 1) + f (p - 1) + f (p + 26) + f (p - 26) ≤ 1
+    → (a : ℕ) → Neighbours p a → f a ≡ 1 → (b : ℕ) → Neighbours p b → f b ≡ 1 → a ≡ b
+one-side f p few = all_beside (λ a. f a ≡ 1 → (b : ℕ) → Neighbours p b → f b ≡ 1 → a ≡ b) p
+    (λ x. all_beside (λ b. f b ≡ 1 → p + 1 ≡ b) p (λ y. refl) (λ y. absurd (omega arith)) (λ y. absurd (omega arith))
+    (λ y. absurd (omega arith)))
+    (λ x. all_beside (λ b. f b ≡ 1 → p - 1 ≡ b) p (λ y. absurd (omega arith)) (λ y. refl) (λ y. absurd (omega arith))
+    (λ y. absurd (omega arith)))
+    (λ x. all_beside (λ b. f b ≡ 1 → p + 26 ≡ b) p (λ y. absurd (omega arith)) (λ y. absurd (omega arith)) (λ y. refl)
+    (λ y. absurd (omega arith)))
+    (λ x. all_beside (λ b. f b ≡ 1 → p - 26 ≡ b) p (λ y. absurd (omega arith)) (λ y. absurd (omega arith))
+    (λ y. absurd (omega arith)) (λ y. refl))
 
 -- a neighbour that counts makes the count more than 0
-some-side : (f : ℕ → ℕ) (p a : ℕ) → IsSide f p a → 0 < f (p + 1) + f (p - 1) + f (p + 26) + f (p - 26)
-some-side f p a (inl x) = let one = x.1 in omega (arith, one)
-some-side f p a (inr (inl x)) = let one = x.1 in omega (arith, one)
-some-side f p a (inr (inr (inl x))) = let one = x.1 in omega (arith, one)
-some-side f p a (inr (inr (inr x))) = let one = x.1 in omega (arith, one)
+some-side : (f : ℕ → ℕ) (p a : ℕ) → Neighbours p a → f a ≡ 1 → 0 < f (p + 1) + f (p - 1) + f (p + 26) + f (p - 26)
+some-side f p = all_beside (λ a. f a ≡ 1 → 0 < f (p + 1) + f (p - 1) + f (p + 26) + f (p - 26)) p (λ one. omega arith)
+    (λ one. omega arith) (λ one. omega arith) (λ one. omega arith)
 
 -- ---- the chain stays whole
 
@@ -197,9 +161,8 @@ AreChainIds-whole board ids p id beside s a is b few =
 
     one : (x y : ℕ) → Neighbours p x → Neighbours p y → at board x ≡ at board p → at board y ≡ at board p → x ≡ y
     one x y next next2 same same2 =
-        one-side (ids_at board ids (id_of ids p)) p x y (at_most counted few)
-        (side (ids_at board ids (id_of ids p)) p x next (side-id board ids p x s a next same))
-        (side (ids_at board ids (id_of ids p)) p y next2 (side-id board ids p y s a next2 same2))
+        one-side (ids_at board ids (id_of ids p)) p (at_most counted few) x next (side-id board ids p x s a next same) y
+        next2 (side-id board ids p y s a next2 same2)
       where
         at_most : {n : ℕ} → beside ≡ n → (beside ≡ 0) ⊎ ((beside ≡ 1) × (id ≢ p)) → n ≤ 1
         at_most e (inl none) = omega (arith, e, none)
@@ -214,9 +177,8 @@ AreChainIds-whole board ids p id beside s a is b few =
         by_few : (beside ≡ 0) ⊎ ((beside ≡ 1) × (id ≢ p)) → ⊥
         by_few (inl none) =
             let way = side-of board p q off path in
-            let some = some-side (ids_at board ids (id_of ids p)) p way.side
-            (side (ids_at board ids (id_of ids p)) p way.side way.neighbours
-            (side-id board ids p way.side s a way.neighbours way.same)) in
+            let some = some-side (ids_at board ids (id_of ids p)) p way.side way.neighbours
+            (side-id board ids p way.side s a way.neighbours way.same) in
             absurd (omega (arith, some, none, counted))
         by_few (inr h) = h.1 (is ∙ sym ((a.same q p t s).1 path) ∙ e)
 
@@ -326,23 +288,9 @@ AreChainIds-split board ids l1 l2 l3 l4 l5 place id framed c made n2 n3 n4 n5 lo
     AreChainIds-part board l5 long f5.splitting.part (λ p s none.
     let way = f5.splitting.cut p s none in
     let t = IsStone-joined board p way.0 way.2 s in
-    by_side way.0 way.1 t
+    all_beside (λ q. IsStone (at board q) → id_of l5 q ≡ 0 → ⊥) place
     (λ u. f5.kept (place + 1) u (f4.kept (place + 1) u (f3.kept (place + 1) u (f2.here u))))
     (λ u. f5.kept (place - 1) u (f4.kept (place - 1) u (f3.here u)))
     (λ u. f5.kept (place + 26) u (f4.here u))
-    f5.here
+    f5.here way.0 way.1 t
     (sym (f5.splitting.part.closed p way.0 s way.2) ∙ none))
-  where
-    at_place : (r q : ℕ) → q ≡ r → IsStone (at board q) → (IsStone (at board r) → id_of l5 r ≢ 0) → id_of l5 q ≡ 0
-        → ⊥
-    at_place r q e t has none = has (subst (λ (k : ℕ). IsStone (at board k)) e t) (ap (id_of l5) (sym e) ∙ none)
-
-    by_side : (q : ℕ) → Neighbours place q → IsStone (at board q)
-        → (IsStone (at board (place + 1)) → id_of l5 (place + 1) ≢ 0)
-        → (IsStone (at board (place - 1)) → id_of l5 (place - 1) ≢ 0)
-        → (IsStone (at board (place + 26)) → id_of l5 (place + 26) ≢ 0)
-        → (IsStone (at board (place - 26)) → id_of l5 (place - 26) ≢ 0) → id_of l5 q ≡ 0 → ⊥
-    by_side q (inl e) t a b d f none = at_place (place + 1) q e t a none
-    by_side q (inr (inl e)) t a b d f none = at_place (place - 1) q (omega (arith, e)) t b none
-    by_side q (inr (inr (inl e))) t a b d f none = at_place (place + 26) q e t d none
-    by_side q (inr (inr (inr e))) t a b d f none = at_place (place - 26) q (omega (arith, e)) t f none

@@ -13,9 +13,9 @@ use Rattle.go_board.specs.declared.board.Cell.{Cell}
 use Rattle.go_board.specs.declared.board.Cell.TheVariants.{Empty}
 use Rattle.go_board.proofs.boards.Cells.{stone-point}
 use Rattle.go_board.proofs.ids.Paths.{Joined-back, Joined-set}
-use Rattle.go_board.proofs.captures.FreeStones.{not_itself}
 use Rattle.go_board.proofs.liberties.PseudoLiberties.{captured-other, captured-beside}
 use Rattle.go_board.proofs.captures.MakingPlays.{captured-joined}
+use Rattle.go_board.proofs.boards.Neighbours.{not_itself, all_beside}
 
 -- a stone without a neighbour of its colour is a chain of its own
 lone : (board : List Cell) (x : Cell) {p q : ℕ} → at board p ≡ x → ¬ HasBeside board p x → Joined board p q → q ≡ p
@@ -61,27 +61,7 @@ pub no_other_taken-from : (board : List Cell) (c d : Colour) (p q : ℕ) → at 
 no_other_taken-from board c d p q empty is only r next atari =
     (only r).0 ((captured-other board c p r empty).1 (subst (λ (t : Colour). IsInAtari board t p r) is atari))
 
--- the four neighbours are all
-pub all_beside : (P : ℕ → Type 0) (p : ℕ) → P (p + 1) → P (p - 1) → P (p + 26) → P (p - 26)
-    → (r : ℕ) → Neighbours p r → P r
-all_beside P p right left above under r (inl e) = subst P (sym e) right
-all_beside P p right left above under r (inr (inl e)) = subst P (before r e) left
-  where
-    before : (r : ℕ) → p ≡ r + 1 → p - 1 ≡ r
-    before r e = omega arith
-all_beside P p right left above under r (inr (inr (inl e))) = subst P (sym e) above
-all_beside P p right left above under r (inr (inr (inr e))) = subst P (before r e) under
-  where
-    before : (r : ℕ) → p ≡ r + 26 → p - 26 ≡ r
-    before r e = omega arith
-
 pub spared-all : (board : List Cell) (c : Colour) (p q : ℕ) → 27 ≤ p → TakesNoOtherAt board c p q (p + 1)
     → TakesNoOtherAt board c p q (p - 1) → TakesNoOtherAt board c p q (p + 26) → TakesNoOtherAt board c p q (p - 26)
     → TakesNoOther board c p q
 spared-all board c p q low = all_beside (TakesNoOtherAt board c p q) p
-
-pub left_of : (p : ℕ) → 27 ≤ p → Neighbours p (p - 1)
-left_of p low = inr (inl (omega arith))
-
-pub under_of : (p : ℕ) → 27 ≤ p → Neighbours p (p - 26)
-under_of p low = inr (inr (inr (omega arith)))

@@ -8,10 +8,12 @@ use Rattle.std.proofs.Math.ListN.{set, length-set}
 use Rattle.go_board.specs.Board.{at}
 use Rattle.go_board.specs.private.ChainId.{id_of, is_stone, empty_beside, share, ArePseudoLiberties, count_at}
 use Rattle.go_board.specs.declared.board.Cell.{Cell}
-use Rattle.go_board.proofs.Sums.{total, total-suc, total-zero, total-at_most}
+use Rattle.go_board.proofs.Sums.{total, total-suc, total-zero, total-at_most, total-more}
 use Rattle.go_board.proofs.liberties.FillingPoints.{pseudo_liberties-total}
 use Rattle.go_board.proofs.liberties.MergingIds.{share-four}
 use Rattle.std.proofs.lemmas.Bool.{eq-eqb, ne_eqb, cases_eq}
+use Rattle.go_board.proofs.liberties.Shares.{gains-share}
+use Rattle.go_board.proofs.liberties.PseudoLiberties.{stone-from_test}
 
 -- each id counts the shares of the places below n
 pub record IsCounting (board : List Cell) (ids : List ℕ) (n : ℕ) (counts : List ℕ) : Type 0 where
@@ -27,16 +29,9 @@ IsCounting-none board ids counts none = record {
       ∙ sym (total-zero (share board ids k));
 }
 
-more-total : (f : ℕ → ℕ) (n : ℕ) → total f (n + 1) ≡ total f n + f n
-more-total f n = rw (← add-one) at (total-suc f n)
-
 share-none : (board : List Cell) (ids : List ℕ) (k p : ℕ) → is_stone (at board p) ≡ false
     → share board ids k p ≡ 0
 share-none board ids k p e = ap (λ (b : Bool). cond (b && (id_of ids p == k)) (empty_beside board p) 0) e
-
-share-stone : (board : List Cell) (ids : List ℕ) (k p : ℕ) → is_stone (at board p) ≡ true
-    → share board ids k p ≡ cond (id_of ids p == k) (empty_beside board p) 0
-share-stone board ids k p e = ap (λ (b : Bool). cond (b && (id_of ids p == k)) (empty_beside board p) 0) e
 
 pub IsCounting-past : (board : List Cell) (ids : List ℕ) (n : ℕ) (counts : List ℕ) → is_stone (at board n) ≡ false
     → IsCounting board ids n counts → IsCounting board ids (n + 1) counts
@@ -44,39 +39,21 @@ IsCounting-past board ids n counts none c = record {
   length_is = c.length_is;
   each = λ k below. let so_far = c.each k below in
       let zero_share = share-none board ids k n none in
-      omega (arith, so_far, zero_share, more-total (share board ids k) n);
+      omega (arith, so_far, zero_share, total-more (share board ids k) n);
 }
 
 pub IsCounting-stone : (board : List Cell) (ids : List ℕ) (n id more : ℕ) (counts new : List ℕ)
     → is_stone (at board n) ≡ true → id ≡ id_of ids n → id < 702 → more ≡ empty_beside board n
     → new ≡ set counts id (count_at counts id + more) → IsCounting board ids n counts
     → IsCounting board ids (n + 1) new
-IsCounting-stone board ids n id more counts new stone is l more_is made c =
-    subst (IsCounting board ids (n + 1)) (sym made) (record {
-      length_is = length-set counts id (count_at counts id + more) ∙ c.length_is;
-      each = λ k below. elim (cases_eq k id) [
-        | inl e ↦
-            let own : share board ids k n ≡ more =
-            share-stone board ids k n stone
-            ∙ ap (λ (t : Bool). cond t (empty_beside board n) 0) (eq-eqb (id_of ids n) k (sym is ∙ sym e))
-            ∙ sym more_is in
-            let x : count_at (set counts id (count_at counts id + more)) k ≡ count_at counts id + more =
-            ap (count_at (set counts id (count_at counts id + more))) e
-            ∙ get_or-set_same counts id (count_at counts id + more) 0 (omega (arith, l, c.length_is)) in
-            let y : count_at counts id ≡ total (share board ids k) n =
-            ap (count_at counts) (sym e) ∙ c.each k below in
-            omega (arith, own, x, y, more-total (share board ids k) n)
-        | inr o ↦
-            let own : share board ids k n ≡ 0 =
-            share-stone board ids k n stone
-            ∙ ap (λ (t : Bool). cond t (empty_beside board n) 0)
-            (ne_eqb (id_of ids n) k (λ e. o (sym e ∙ sym is))) in
-            let x : count_at (set counts id (count_at counts id + more)) k ≡ count_at counts k =
-            get_or-set_other counts id k (count_at counts id + more) 0 o in
-            let y = c.each k below in
-            omega (arith, own, x, y, more-total (share board ids k) n)
-      ];
-    })
+IsCounting-stone board ids n id more counts new stone is l more_is made c = record {
+  length_is = ap length made ∙ length-set counts id (count_at counts id + more) ∙ c.length_is;
+  each = λ k below.
+      let now = gains-share board ids counts new n id more k (stone-from_test (at board n) stone) is more_is
+      (omega (arith, l, c.length_is)) made in
+      let so_far = c.each k below in
+      omega (arith, now, so_far, total-more (share board ids k) n);
+}
 
 pub IsCounting-few : (board : List Cell) (ids : List ℕ) (n k : ℕ) (counts : List ℕ) → n ≤ 702 → k < 702
     → IsCounting board ids n counts → count_at counts k ≤ 2808

@@ -10,9 +10,10 @@ use Rattle.go_board.specs.private.ChainId.{ids_beside, pseudo_liberties}
 use Rattle.go_board.specs.declared.board.Cell.{Cell}
 use Rattle.go_board.specs.declared.board.Cell.TheVariants.{Edge, Empty}
 use Rattle.go_board.proofs.captures.CapturedStones.{in_list}
-use Rattle.go_board.proofs.floods.Regions.{IsInside}
 use Rattle.go_board.proofs.Sums.{total, total-add, total-same, total-only}
 use Rattle.std.proofs.lemmas.Bool.{eq-eqb, ne_eqb, cases_eq}
+use Rattle.go_board.proofs.boards.Neighbours.{IsInside}
+use Rattle.go_board.proofs.boards.Cells.{empty-point}
 
 -- 1 where a number is p
 pub one_at : ℕ → ℕ → ℕ
@@ -31,7 +32,7 @@ empty_at-filled : (board : List Cell) (p j : ℕ) (x : Cell) → at board p ≡ 
     → empty_at board j ≡ empty_at (set board p x) j + one_at p j
 empty_at-filled board p j x empty filled = elim (cases_eq j p) [
   | inl is ↦
-      let point : at board p ≢ Edge = λ e. filled_edge (sym empty ∙ e) in
+      let point : at board p ≢ Edge = empty-point board p empty in
       let was : empty_at board j ≡ 1 =
       ap (λ (q : ℕ). empty_at board q) is ∙ ap (λ (c : Cell). cond (is_empty c) 1 0) empty in
       let now : empty_at (set board p x) j ≡ 0 =
@@ -44,9 +45,6 @@ empty_at-filled board p j x empty filled = elim (cases_eq j p) [
       ap (λ (c : Cell). cond (is_empty c) 1 0) (get_or-set_other board p j x Edge another) in
       omega (arith, still, one_at-other p j another)
 ]
-  where
-    filled_edge : Empty ≡ Edge → ⊥
-    filled_edge e = cc
 
 -- how often the point is beside another
 beside : ℕ → ℕ → ℕ

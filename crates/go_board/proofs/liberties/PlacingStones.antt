@@ -16,11 +16,12 @@ use Rattle.go_board.specs.private.Steps.{IsLowered, IsRaised, AreLowered, AreRai
 use Rattle.go_board.specs.declared.board.Cell.{Cell}
 use Rattle.go_board.specs.declared.board.Cell.TheVariants.{Edge, Empty}
 use Rattle.go_board.proofs.captures.CapturedStones.{in_list}
-use Rattle.go_board.proofs.floods.Regions.{IsOn-inside}
 use Rattle.go_board.proofs.ids.Paths.{set-same, IsStone-point}
 use Rattle.go_board.proofs.liberties.FillingPoints.{pseudo_liberties-filled}
 use Rattle.go_board.proofs.liberties.PseudoLiberties.{other-count}
 use Rattle.std.proofs.lemmas.Bool.{eq-eqb, ne_eqb, cases_eq}
+use Rattle.go_board.proofs.boards.Neighbours.{IsOn-inside}
+use Rattle.go_board.proofs.liberties.Shares.{gains-share, count_at-changed}
 
 pub stone_in : (board : List Cell) (p : ℕ) → IsFramed board → IsStone (at board p) → p < 702
 stone_in board p framed s = let below = in_list board p (IsStone-point (at board p) s) in
@@ -55,26 +56,13 @@ ids_at-stone board ids k p s = ap (λ (b : Bool). cond (b && (id_of ids p == k))
 pub IsRaised-stone : (board : List Cell) (ids old new : List ℕ) (p id : ℕ) → is_stone (at board p) ≡ true
     → id ≡ id_of ids p → id < length old
     → new ≡ set old id (count_at old id + 1) → IsRaised board ids old new p
-IsRaised-stone board ids old new p id s is below made =
-    subst (λ (xs : List ℕ). IsRaised board ids old xs p) (sym made) (record {
-      length_is = length-set old id (count_at old id + 1);
-      each = λ k _. elim (cases_eq k id) [
-        | inl e ↦
-            let a = get_or-set_same old id (count_at old id + 1) 0 below in
-            let b =
-            ids_at-stone board ids k p s
-            ∙ ap (λ (t : Bool). cond t 1 0) (eq-eqb (id_of ids p) k (sym is ∙ sym e)) in
-            ap (count_at (set old id (count_at old id + 1))) e ∙ a ∙ ap (λ (i : ℕ). count_at old i + 1) (sym e)
-            ∙ ap (λ (n : ℕ). count_at old k + n) (sym b)
-        | inr o ↦
-            let b =
-            ids_at-stone board ids k p s
-            ∙ ap (λ (t : Bool). cond t 1 0) (ne_eqb (id_of ids p) k (λ e. o (sym e ∙ sym is))) in
-            let a : count_at (set old id (count_at old id + 1)) k ≡ count_at old k =
-            get_or-set_other old id k (count_at old id + 1) 0 o in
-            omega (arith, a, b)
-      ];
-    })
+IsRaised-stone board ids old new p id s is below made = record {
+  length_is = ap length made ∙ length-set old id (count_at old id + 1);
+  each = λ k _. ap (λ (cs : List ℕ). count_at cs k) made
+      ∙ count_at-changed (λ n m. n + m) (λ n. omega arith) old id 1 k below
+      ∙ ap (λ (i : ℕ). count_at old k + cond (i == k) 1 0) is
+      ∙ ap (λ (n : ℕ). count_at old k + n) (sym (ids_at-stone board ids k p s));
+}
 
 -- after four neighbours' ids count one less
 pub lowered-four : (board : List Cell) (ids c0 c1 c2 c3 c4 : List ℕ) (p : ℕ) → IsLowered board ids c0 c1 (p + 1)
@@ -119,74 +107,21 @@ pub ArePseudoLiberties-placed : (board : List Cell) (ids c0 c4 new : List ℕ) (
     → AreLowered board ids c0 c4 p → more ≡ empty_beside (set board p (stone c)) p
     → new ≡ set c4 id (count_at c4 id + more)
     → ArePseudoLiberties (set board p (stone c)) (set ids p id) new
-ArePseudoLiberties-placed board ids c0 c4 new c p id more on empty l long a four more_is made =
-    subst (ArePseudoLiberties (set board p (stone c)) (set ids p id)) (sym made) (record {
-      length_is = length-set c4 id (count_at c4 id + more) ∙ four.length_is ∙ a.length_is;
-      each = λ k below. elim (cases_eq k id) [
-        | inl e ↦
-            let x : count_at (set c4 id (count_at c4 id + more)) id ≡ count_at c4 id + more =
-            get_or-set_same c4 id (count_at c4 id + more) 0 (in_counts l) in
-            let y = four.each id l in
-            let z = a.each id l in
-            let w = filled id in
-            let own =
-            own_share id
-            ∙ ap (λ (t : Bool). cond t (empty_beside cells p) 0) (eq-eqb id id refl) in
-            ap (count_at (set c4 id (count_at c4 id + more))) e
-            ∙ sum_up _ _ _ _ _ _ _ _ _ (ids_beside-few board ids id p on empty) x y z w own more_is
-            ∙ ap (pseudo_liberties cells new_ids) (sym e)
-        | inr o ↦
-            let x : count_at (set c4 id (count_at c4 id + more)) k ≡ count_at c4 k =
-            get_or-set_other c4 id k (count_at c4 id + more) 0 o in
-            let y = four.each k below in
-            let z = a.each k below in
-            let w = filled k in
-            let own =
-            own_share k ∙ ap (λ (t : Bool). cond t (empty_beside cells p) 0) (ne_eqb id k (λ e. o (sym e))) in
-            sum_other _ _ _ _ _ _ _ x y z w own
-      ];
-    })
+ArePseudoLiberties-placed board ids c0 c4 new c p id more on empty l long a four more_is made = record {
+  length_is = ap length made ∙ length-set c4 id (count_at c4 id + more) ∙ four.length_is ∙ a.length_is;
+  each = λ k below. sum_up _ _ _ _ _ _ _ (ids_beside-few board ids k p on empty)
+      (gains-share (set board p (stone c)) (set ids p id) c4 new p id more k (c, set-same board p (stone c) empty)
+      (sym (get_or-set_same ids p id 0 (let high = (IsOn-inside p on).high in omega (arith, high, long)))) more_is
+      (omega (arith, l, four.length_is, a.length_is)) made)
+      (four.each k below) (a.each k below)
+      (pseudo_liberties-filled board ids (set ids p id) k p (stone c) (IsOn-inside p on) empty (no_empty c)
+      (λ q o. get_or-set_other ids p q id 0 o));
+}
   where
-    cells : List Cell
-    cells = set board p (stone c)
-
-    new_ids : List ℕ
-    new_ids = set ids p id
-
-    in_counts : {i : ℕ} → i < 702 → i < length c4
-    in_counts h = omega (arith, h, four.length_is, a.length_is)
-
-    place_in : (p : ℕ) → IsOn most_size p → p < 702
-    place_in p on = let inside = (IsOn-inside p on).high in omega (arith, inside)
-
     no_empty : (c : Colour) → is_empty (stone c) ≡ false
     no_empty colour.Black = refl
     no_empty colour.White = refl
 
-    a_stone : (c : Colour) → is_stone (stone c) ≡ true
-    a_stone colour.Black = refl
-    a_stone colour.White = refl
-
-    filled : (k : ℕ) → pseudo_liberties board ids k + share (set board p (stone c)) (set ids p id) k p
-        ≡ pseudo_liberties (set board p (stone c)) (set ids p id) k + ids_beside board ids k p
-    filled k =
-        pseudo_liberties-filled board ids (set ids p id) k p (stone c) (IsOn-inside p on) empty (no_empty c)
-        (λ q o. get_or-set_other ids p q id 0 o)
-
-    own_share : (k : ℕ) → share (set board p (stone c)) (set ids p id) k p
-        ≡ cond (id == k) (empty_beside (set board p (stone c)) p) 0
-    own_share k =
-        ap (λ (x : Cell). cond (is_stone x && (id_of (set ids p id) p == k))
-        (empty_beside (set board p (stone c)) p) 0) (set-same board p (stone c) empty)
-        ∙ ap (λ (b : Bool). cond (b && (id_of (set ids p id) p == k))
-        (empty_beside (set board p (stone c)) p) 0) (a_stone c)
-        ∙ ap (λ (i : ℕ). cond (i == k) (empty_beside (set board p (stone c)) p) 0)
-        (get_or-set_same ids p id 0 (let below = place_in p on in omega (arith, below, long)))
-
-    sum_up : (n c4 c0 beside before own after more e : ℕ) → beside ≤ before → n ≡ c4 + more → c4 ≡ c0 - beside
-        → c0 ≡ before → before + own ≡ after + beside → own ≡ e → more ≡ e → n ≡ after
-    sum_up n c4 c0 beside before own after more e b x y z w o m = omega (arith, b, x, y, z, w, o, m)
-
-    sum_other : (n c4 c0 beside before own after : ℕ) → n ≡ c4 → c4 ≡ c0 - beside → c0 ≡ before
-        → before + own ≡ after + beside → own ≡ 0 → n ≡ after
-    sum_other n c4 c0 beside before own after x y z w o = omega (arith, x, y, z, w, o)
+    sum_up : (n c4 c0 beside before own after : ℕ) → beside ≤ before → n ≡ c4 + own → c4 ≡ c0 - beside → c0 ≡ before
+        → before + own ≡ after + beside → n ≡ after
+    sum_up n c4 c0 beside before own after b x y z w = omega (arith, b, x, y, z, w)

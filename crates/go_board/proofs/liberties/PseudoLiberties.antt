@@ -15,14 +15,14 @@ use Rattle.go_board.specs.private.ChainId.{id_of, AreChainIds, is_empty, is_ston
 use Rattle.go_board.specs.private.ChainId.{share, ids_beside, pseudo_liberties, AreFree, HasOtherLiberty}
 use Rattle.go_board.specs.declared.board.Cell.{Cell}
 use Rattle.go_board.specs.declared.board.Cell.TheVariants.{Edge, Empty, Black, White}
-use Rattle.go_board.proofs.boards.Cells.{stone-filled, stone-differs}
+use Rattle.go_board.proofs.boards.Cells.{stone-filled, stone-differs, IsFramed-set, empty-point}
 use Rattle.go_board.proofs.captures.CapturedStones.{in_list}
-use Rattle.go_board.proofs.floods.Regions.{IsOn-inside, Neighbours-sym}
 use Rattle.go_board.proofs.Sums.{total, total-positive, total-at_least}
 use Rattle.go_board.proofs.liberties.FillingPoints.{pseudo_liberties-total, pseudo_liberties-filled}
 use Rattle.go_board.proofs.ids.Paths.{Joined-then, Joined-same, Joined-kept, Joined-set, IsStone-point}
 use Rattle.go_board.proofs.ids.Paths.{IsStone-filled, IsStone-joined, set-same}
 use Rattle.std.proofs.lemmas.Bool.{eq-eqb, eqb-true, and_parts, cases_eq}
+use Rattle.go_board.proofs.boards.Neighbours.{Neighbours-sym, IsOn-inside, all_beside, left_of, under_of}
 
 -- ---- tests and facts
 
@@ -58,24 +58,11 @@ empty_at-from board p h = empty-from_test (at board p) (by_case (is_empty (at bo
     by_case false h = absurd (omega arith)
 
 empty_beside-some : (board : List Cell) (p q : ℕ) → Neighbours p q → at board q ≡ Empty → 0 < empty_beside board p
-empty_beside-some board p q (inl e) h =
-    let one = empty_at-one board (p + 1) (ap (λ (k : ℕ). at board k) (sym e) ∙ h) in
-    omega (arith, one)
-empty_beside-some board p q (inr (inl e)) h =
-    let one = empty_at-one board (p - 1) (ap (λ (k : ℕ). at board k) (before p q e) ∙ h) in
-    omega (arith, one)
-  where
-    before : (p q : ℕ) → p ≡ q + 1 → p - 1 ≡ q
-    before p q e = omega arith
-empty_beside-some board p q (inr (inr (inl e))) h =
-    let one = empty_at-one board (p + 26) (ap (λ (k : ℕ). at board k) (sym e) ∙ h) in
-    omega (arith, one)
-empty_beside-some board p q (inr (inr (inr e))) h =
-    let one = empty_at-one board (p - 26) (ap (λ (k : ℕ). at board k) (before p q e) ∙ h) in
-    omega (arith, one)
-  where
-    before : (p q : ℕ) → p ≡ q + 26 → p - 26 ≡ q
-    before p q e = omega arith
+empty_beside-some board p = all_beside (λ q. at board q ≡ Empty → 0 < empty_beside board p) p
+    (λ h. let one = empty_at-one board (p + 1) h in omega (arith, one))
+    (λ h. let one = empty_at-one board (p - 1) h in omega (arith, one))
+    (λ h. let one = empty_at-one board (p + 26) h in omega (arith, one))
+    (λ h. let one = empty_at-one board (p - 26) h in omega (arith, one))
 
 empty_beside-from : (board : List Cell) (p : ℕ) → 27 ≤ p → 0 < empty_beside board p → HasBeside board p Empty
 empty_beside-from board p low h =
@@ -85,23 +72,17 @@ empty_beside-from board p low h =
       | inl a ↦ record { place = p + 1; neighbours = inl refl; holds = empty_at-from board (p + 1) a }
       | inr (inl b) ↦ record {
         place = p - 1;
-        neighbours = inr (inl (back_one p low));
+        neighbours = left_of p low;
         holds = empty_at-from board (p - 1) b;
       }
       | inr (inr (inl c)) ↦ record
           { place = p + 26; neighbours = inr (inr (inl refl)); holds = empty_at-from board (p + 26) c }
       | inr (inr (inr d)) ↦ record
-          { place = p - 26; neighbours = inr (inr (inr (back_row p low))); holds = empty_at-from board (p - 26) d }
+          { place = p - 26; neighbours = under_of p low; holds = empty_at-from board (p - 26) d }
     ]
   where
     four : (a b c d : ℕ) → 0 < a + b + c + d → (0 < a) ⊎ (0 < b) ⊎ (0 < c) ⊎ (0 < d)
     four a b c d h = grind arith
-
-    back_one : (p : ℕ) → 27 ≤ p → p ≡ (p - 1) + 1
-    back_one p low = omega arith
-
-    back_row : (p : ℕ) → 27 ≤ p → p ≡ (p - 26) + 26
-    back_row p low = omega arith
 
 -- a stone with this id that has an empty neighbour
 pub record IsOpen (board : List Cell) (ids : List ℕ) (id : ℕ) : Type 0 where
@@ -173,26 +154,14 @@ free-count board ids p framed a s = (
 
 -- ---- a liberty besides a point
 
-IsFramed-edge : (board : List Cell) (p : ℕ) → at board p ≡ Empty → IsFramed board → IsFramed (set board p Edge)
-IsFramed-edge board p empty framed = record {
-  length_is = length-set board p Edge ∙ framed.length_is;
-  inside = λ q held. elim (cases_eq q p) [
-    | inl is ↦ absurd (held (edge_there q is))
-    | inr another ↦ framed.inside q (λ e. held (get_or-set_other board p q Edge Edge another ∙ e))
-  ];
-}
-  where
-    edge_there : (q : ℕ) → q ≡ p → at (set board p Edge) q ≡ Edge
-    edge_there q is = ap (λ (j : ℕ). at (set board p Edge) j) is ∙ set-same board p Edge empty
-
 -- the count is more than the neighbours of p with that id just where the chain has a liberty besides p
 pub other-count : (board : List Cell) (ids : List ℕ) (p q : ℕ) → IsFramed board → AreChainIds board ids
     → at board p ≡ Empty → IsStone (at board q)
     → (ids_beside board ids (id_of ids q) p < pseudo_liberties board ids (id_of ids q)) ↔ HasOtherLiberty board q p
 other-count board ids p q framed a empty s = (
-  (λ h. from_open ((count-open without ids k (IsFramed-edge board p empty framed)).0
+  (λ h. from_open ((count-open without ids k (IsFramed-set board p Edge (empty-point board p empty) framed)).0
       (let e = counted in omega (arith, e, h)))),
-  (λ o. let more = (count-open without ids k (IsFramed-edge board p empty framed)).1 (to_open o) in
+  (λ o. let more = (count-open without ids k (IsFramed-set board p Edge (empty-point board p empty) framed)).1 (to_open o) in
       let e = counted in
       omega (arith, e, more)),
 )
@@ -216,12 +185,9 @@ other-count board ids p q framed a empty s = (
     counted =
         let filled =
         pseudo_liberties-filled board ids ids (id_of ids q) p Edge
-        (IsOn-inside p (framed.inside p (λ e. empty_edge (sym empty ∙ e)))) empty refl (λ _ _. refl) in
+        (IsOn-inside p (framed.inside p (empty-point board p empty))) empty refl (λ _ _. refl) in
         let none = no_share in
         omega (arith, filled, none)
-      where
-        empty_edge : Empty ≡ Edge → ⊥
-        empty_edge e = cc
 
     -- what isn't edge once p is edge is as it was
     as_before : (r : ℕ) → at (set board p Edge) r ≢ Edge → (r ≢ p) × (at (set board p Edge) r ≡ at board r)
@@ -234,7 +200,7 @@ other-count board ids p q framed a empty s = (
     from_open o =
         let there = as_before o.point (IsStone-point (at (set board p Edge) o.point) o.stone) in
         let t : IsStone (at board o.point) = (o.stone.0, sym there.1 ∙ o.stone.1) in
-        let beside = as_before o.beside.place (λ e. empty_edge (sym o.beside.holds ∙ e)) in
+        let beside = as_before o.beside.place (empty-point (set board p Edge) o.beside.place o.beside.holds) in
         record {
           point = o.point;
           joined = (a.same q o.point s t).0 (sym o.id_is);
@@ -243,9 +209,6 @@ other-count board ids p q framed a empty s = (
           empty = sym beside.1 ∙ o.beside.holds;
           another = beside.0;
         }
-      where
-        empty_edge : Empty ≡ Edge → ⊥
-        empty_edge e = cc
 
     to_open : HasOtherLiberty board q p → IsOpen (set board p Edge) ids (id_of ids q)
     to_open o =

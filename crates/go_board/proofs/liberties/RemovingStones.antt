@@ -14,13 +14,14 @@ use Rattle.go_board.specs.private.Steps.{IsRaised, AreRaised, IsBelow}
 use Rattle.go_board.specs.declared.board.Cell.{Cell}
 use Rattle.go_board.specs.declared.board.Cell.TheVariants.{Edge, Empty, Black, White}
 use Rattle.go_board.proofs.captures.CapturedStones.{in_list}
-use Rattle.go_board.proofs.floods.Regions.{IsOn-inside}
 use Rattle.go_board.proofs.ids.Paths.{IsStone-point}
 use Rattle.go_board.proofs.Sums.{total-at_least}
 use Rattle.go_board.proofs.liberties.FillingPoints.{pseudo_liberties-filled, pseudo_liberties-total}
 use Rattle.go_board.proofs.liberties.MergingIds.{pseudo_liberties-few}
 use Rattle.go_board.proofs.liberties.PseudoLiberties.{stone-test}
 use Rattle.std.proofs.lemmas.Bool.{eq-eqb, ne_eqb, cases_eq}
+use Rattle.go_board.proofs.boards.Neighbours.{IsOn-inside}
+use Rattle.go_board.proofs.liberties.Shares.{loses-share, count_at-changed, share-few}
 
 -- a stone put back gives the board of before
 restore : (board : List Cell) (p : ℕ) → p < length board → set (set board p Empty) p (at board p) ≡ board
@@ -56,16 +57,6 @@ pseudo_liberties-removed board ids k p on s =
         by_cell Edge e = refl
         by_cell Empty e = cc
 
-share-stone : (board : List Cell) (ids : List ℕ) (k p : ℕ) → IsStone (at board p)
-    → share board ids k p ≡ cond (id_of ids p == k) (empty_beside board p) 0
-share-stone board ids k p s =
-    ap (λ (b : Bool). cond (b && (id_of ids p == k)) (empty_beside board p) 0) (stone-test (at board p) s)
-
-share-few : (board : List Cell) (ids : List ℕ) (k p : ℕ) → p < 702 → share board ids k p ≤ pseudo_liberties board ids k
-share-few board ids k p below = let least = total-at_least (share board ids k) p 702 below in
-    let is = pseudo_liberties-total board ids k in
-    omega (arith, least, is)
-
 pub IsBelow-raised : (board : List Cell) (ids old new : List ℕ) (p m n : ℕ) → m + 1 ≤ n → IsBelow m old
     → IsRaised board ids old new p → IsBelow n new
 IsBelow-raised board ids old new p m n h few r k below =
@@ -82,20 +73,12 @@ IsBelow-raised board ids old new p m n h few r k below =
 pub IsBelow-lessened : (board : List Cell) (ids counts new : List ℕ) (id less : ℕ) → ArePseudoLiberties board ids counts
     → new ≡ set counts id (count_at counts id - less) → id < 702
     → IsBelow 2808 new
-IsBelow-lessened board ids counts new id less a made l k below = elim (cases_eq k id) [
-  | inl e ↦
-      let x : count_at new k ≡ count_at counts id - less =
-      ap (λ (cs : List ℕ). count_at cs k) made ∙ ap (count_at (set counts id (count_at counts id - less))) e
-      ∙ get_or-set_same counts id (count_at counts id - less) 0 (omega (arith, l, a.length_is)) in
-      let y = a.each id l in
-      omega (arith, x, y, pseudo_liberties-few board ids id)
-  | inr o ↦
-      let x : count_at new k ≡ count_at counts k =
-      ap (λ (cs : List ℕ). count_at cs k) made
-      ∙ get_or-set_other counts id k (count_at counts id - less) 0 o in
-      let y = a.each k below in
-      omega (arith, x, y, pseudo_liberties-few board ids k)
-]
+IsBelow-lessened board ids counts new id less a made l k below =
+    let now : count_at new k ≡ count_at counts k - cond (id == k) less 0 =
+    ap (λ (cs : List ℕ). count_at cs k) made
+    ∙ count_at-changed (λ n m. n - m) (λ n. omega arith) counts id less k (omega (arith, l, a.length_is)) in
+    let is = a.each k below in
+    omega (arith, now, is, pseudo_liberties-few board ids k)
 
 -- A stone is lifted: its id's count goes down by its share, and the neighbours' ids each count one more.
 pub ArePseudoLiberties-removed : (board cells : List Cell) (ids c0 c1 c2 : List ℕ) (p id less : ℕ) → IsOn most_size p
@@ -112,35 +95,13 @@ ArePseudoLiberties-removed board cells ids c0 c1 c2 p id less on s a is own l le
       subst (λ (b : List Cell). pseudo_liberties b ids k + share board ids k p
       ≡ pseudo_liberties board ids k + ids_beside b ids k p) (sym is) (pseudo_liberties-removed board ids k p on s) in
       let was = a.each k below in
-      let gone = first k below in
+      let gone = loses-share board ids c0 c1 p id less k s own less_is (omega (arith, l, a.length_is)) taken in
       let few = share-few board ids k p (in_range p on) in
       up _ _ _ _ _ _ more now was gone few;
 }
   where
     in_range : (p : ℕ) → IsOn most_size p → p < 702
     in_range p on = let high = (IsOn-inside p on).high in omega (arith, high)
-
-    -- the id's count without the stone's share
-    first : (k : ℕ) → k < 702 → count_at c1 k ≡ count_at c0 k - share board ids k p
-    first k below = elim (cases_eq k id) [
-      | inl e ↦
-          let x : count_at c1 k ≡ count_at c0 id - less =
-          ap (λ (cs : List ℕ). count_at cs k) taken ∙ ap (count_at (set c0 id (count_at c0 id - less))) e
-          ∙ get_or-set_same c0 id (count_at c0 id - less) 0 (omega (arith, l, a.length_is)) in
-          let y : share board ids k p ≡ less =
-          share-stone board ids k p s
-          ∙ ap (λ (t : Bool). cond t (empty_beside board p) 0) (eq-eqb (id_of ids p) k (sym own ∙ sym e))
-          ∙ sym less_is in
-          x ∙ ap (λ (i : ℕ). count_at c0 i - less) (sym e) ∙ ap (λ (n : ℕ). count_at c0 k - n) (sym y)
-      | inr o ↦
-          let x : count_at c1 k ≡ count_at c0 k =
-          ap (λ (cs : List ℕ). count_at cs k) taken ∙ get_or-set_other c0 id k (count_at c0 id - less) 0 o in
-          let y : share board ids k p ≡ 0 =
-          share-stone board ids k p s
-          ∙ ap (λ (t : Bool). cond t (empty_beside board p) 0)
-          (ne_eqb (id_of ids p) k (λ e. o (sym e ∙ sym own))) in
-          omega (arith, x, y)
-    ]
 
     up : (n2 n1 n0 beside share after : ℕ) → n2 ≡ n1 + beside → {before : ℕ} → after + share ≡ before + beside
         → n0 ≡ before → n1 ≡ n0 - share → share ≤ before → n2 ≡ after

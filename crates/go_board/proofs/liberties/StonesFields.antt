@@ -14,7 +14,7 @@ use Rattle.go_board.specs.private.Stones.{AreCounted}
 use Rattle.go_board.specs.declared.board.Cell.{Cell}
 use Rattle.go_board.specs.declared.board.Cell.TheVariants.{Edge, Empty}
 use Rattle.go_board.specs.declared.stones.Stones.TheInside.{Inside}
-use Rattle.go_board.proofs.boards.Cells.{IsFramed-set}
+use Rattle.go_board.proofs.boards.Cells.{IsFramed-set, empty-point}
 use Rattle.go_board.proofs.ids.Paths.{IsStone-point}
 use Rattle.go_board.proofs.ids.JoiningChains.{ArePseudoLiberties-first, ArePseudoLiberties-second, ArePseudoLiberties-rename_three, room-for_two}
 use Rattle.go_board.proofs.liberties.PlacingStones.{stone_in, stone_on, ArePseudoLiberties-placed}
@@ -40,15 +40,12 @@ AreCounted-placed f cells ls c1 c2 c p id more kept on empty l lowered board ids
     subst (λ (b : List Cell). AreCounted (record { board = b; ids = ls; counts = c2 })) (sym board)
     (subst (λ (k : List ℕ). AreCounted (record { board = set f.board p (stone c); ids = k; counts = c2 }))
     (sym ids) (record {
-      framed = IsFramed-set f.board p (stone c) (λ e. empty_edge (sym empty ∙ e)) kept.framed;
+      framed = IsFramed-set f.board p (stone c) (empty-point f.board p empty) kept.framed;
       length_is = length-set f.ids p id ∙ kept.length_is;
       counts =
           ArePseudoLiberties-placed f.board f.ids f.counts c1 c2 c p id more on empty l kept.length_is kept.counts lowered
           (more_is ∙ ap (λ (b : List Cell). empty_beside b p) board) added;
     }))
-  where
-    empty_edge : Empty ≡ Edge → ⊥
-    empty_edge e = cc
 
 -- ---- a stone is lifted
 

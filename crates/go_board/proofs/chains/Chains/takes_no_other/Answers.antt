@@ -1,7 +1,7 @@
 use Rattle.std.proofs.Common.{◌-◌}
-use Rattle.go_board.proofs.floods.Regions.{IsOn-inside}
-use Rattle.go_board.proofs.ko_rules.LoneStones.{spared-all, under_of}
+use Rattle.go_board.proofs.ko_rules.LoneStones.{spared-all}
 use Rattle.go_board.proofs.chains.Chains.takes_no_other.Goals as goal
+use Rattle.go_board.proofs.boards.Neighbours.{IsOn-inside, under_of}
 
 pub returns : goal.returns
 returns c =

@@ -1,9 +1,8 @@
 use Rattle.std.proofs.Common.{◌≡◌, sym, ◌∙◌, refl, inl, inr, Bool, false, true≢false}
 use Rattle.std.specs.Prelude.{◌↔◌, IsTrue}
 use Rattle.go_board.specs.Chain.{IsCaptured}
-use Rattle.go_board.proofs.floods.Regions.{IsOn-inside}
-use Rattle.go_board.proofs.ko_rules.LoneStones.{left_of, under_of, all_beside}
 use Rattle.go_board.proofs.stones.Stones.captured_beside.Goals as goal
+use Rattle.go_board.proofs.boards.Neighbours.{IsOn-inside, all_beside, left_of, under_of}
 
 -- what was tested, and isn't so
 refuted : {P : Type 0} (test : Bool) → IsTrue test ↔ P → test ≡ false → ¬ P
