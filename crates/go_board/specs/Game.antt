@@ -16,7 +16,7 @@ use Rattle.go_board.specs.declared.rules.KoRule.{KoRule}
 use Rattle.go_board.specs.declared.rules.KoRule.TheVariants.{Simple, Positional}
 use Rattle.go_board.specs.Board.{at, empty_board, with_black}
 use Rattle.go_board.specs.Chain.{IsFree}
-use Rattle.go_board.specs.Put.{put}
+use Rattle.go_board.specs.Play.{play}
 
 -- what a game is: its komi is in half points, and its handicap is 0 where there is none
 pub record GameRecord : Type 0 where
@@ -55,7 +55,7 @@ start size handicap = with_black (empty_board size) (handicap_points size handic
 -- the board after a colour plays a vertex
 abbrev pub after_vertex : List Cell → Colour → Vertex → List Cell
 after_vertex board c Pass = board
-after_vertex board c (At p) = put board c p
+after_vertex board c (At p) = play board c p
 
 -- the board after a move; a pass changes nothing
 abbrev pub after : List Cell → Move → List Cell
@@ -97,8 +97,8 @@ Repeats game next = RepeatsBy game.rule game next
 pub record IsLegalPlay (game : GameRecord) (c : Colour) (p : ℕ) : Type 0 where
   pub on_board : IsOn game.size p
   pub empty : at (board_of game) p ≡ Empty
-  pub free : IsFree (put (board_of game) c p) p
-  pub no_ko : ¬ Repeats game (put (board_of game) c p)
+  pub free : IsFree (play (board_of game) c p) p
+  pub no_ko : ¬ Repeats game (play (board_of game) c p)
 
 -- a move is legal: a pass always is
 abbrev pub IsLegal : GameRecord → Colour → Vertex → Type 0

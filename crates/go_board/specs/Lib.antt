@@ -1,6 +1,6 @@
 pub mod Board
 pub mod Chain
-pub mod Put
+pub mod Play
 pub mod Game
 pub mod Taken
 pub mod Counting

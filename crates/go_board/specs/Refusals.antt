@@ -12,7 +12,7 @@ use Rattle.go_board.specs.declared.faults.PlayFault.{PlayFault}
 use Rattle.go_board.specs.declared.faults.PlayFault.TheVariants.{Full, OffBoard, Occupied, Suicide, Ko}
 use Rattle.go_board.specs.Board.{at, HasStone}
 use Rattle.go_board.specs.Chain.{IsFree}
-use Rattle.go_board.specs.Put.{put}
+use Rattle.go_board.specs.Play.{play}
 use Rattle.go_board.specs.Game.{GameRecord, most_moves, HasRoom, board_of, Repeats}
 
 -- why a play on a point is refused where the record has room: each cause leaves out those that are checked before it
@@ -21,10 +21,10 @@ RefusesPoint game c p Full = ⊥
 RefusesPoint game c p OffBoard = ¬ IsOn game.size p
 RefusesPoint game c p Occupied = IsOn game.size p × (at (board_of game) p ≢ Empty)
 RefusesPoint game c p Suicide =
-    IsOn game.size p × ((at (board_of game) p ≡ Empty) × ¬ IsFree (put (board_of game) c p) p)
+    IsOn game.size p × ((at (board_of game) p ≡ Empty) × ¬ IsFree (play (board_of game) c p) p)
 RefusesPoint game c p Ko =
     IsOn game.size p × ((at (board_of game) p ≡ Empty)
-    × (IsFree (put (board_of game) c p) p × Repeats game (put (board_of game) c p)))
+    × (IsFree (play (board_of game) c p) p × Repeats game (play (board_of game) c p)))
 
 -- the same of a vertex: a pass is never refused where the record has room
 abbrev pub RefusesVertex : GameRecord → Colour → Vertex → PlayFault → Type 0

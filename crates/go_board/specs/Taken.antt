@@ -6,7 +6,7 @@ use Rattle.go_base.specs.declared.vertices.Vertex.{Vertex}
 use Rattle.go_base.specs.declared.vertices.Vertex.TheVariants.{Pass, At}
 use Rattle.go_base.specs.declared.moves.Move.{Move}
 use Rattle.go_board.specs.declared.board.Cell.{Cell}
-use Rattle.go_board.specs.Put.{captures}
+use Rattle.go_board.specs.Play.{captures}
 use Rattle.go_board.specs.Game.{GameRecord, start, after}
 
 -- how many stones a move takes: none where it is a pass

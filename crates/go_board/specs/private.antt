@@ -2,9 +2,9 @@
 pub mod Frame
 pub mod Places
 pub mod Flood
-pub mod Label
+pub mod ChainId
 pub mod Steps
-pub mod Removed
+pub mod TakenStack
 pub mod Ko
 pub mod Legal
 pub mod Kept

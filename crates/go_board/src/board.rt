@@ -5,7 +5,7 @@ ghost use Rattle.go_base.specs.Size.{most_size, IsSize};
 ghost use Rattle.go_board.specs.Board.{is_point};
 
 use crate::places::Places;
-use crate::removed::Taken;
+use crate::taken_stack::TakenStone;
 use go_base::{Colour, Point, Size, Vertex, handicap};
 use std::marker::Model;
 
@@ -34,7 +34,7 @@ pub enum Cell {
 
 impl Cell {
     ghost use Rattle.go_board.specs.Board.{stone, IsStone};
-    ghost use Rattle.go_board.specs.private.Label.{is_stone, is_empty};
+    ghost use Rattle.go_board.specs.private.ChainId.{is_stone, is_empty};
 
     /// The stone of this colour.
     #[inline]
@@ -113,7 +113,7 @@ impl Model for Board {
 
 impl Board {
     ghost use Rattle.std.specs.Prelude.{slice_set};
-    ghost use Rattle.go_board.specs.private.Label.{IsChainOf, empty_at, empty_beside};
+    ghost use Rattle.go_board.specs.private.ChainId.{IsChainOf, empty_at, empty_beside};
     ghost use Rattle.go_board.specs.Board.{place_count, at, stone, empty_board, with_black, HasStone};
     ghost use Rattle.go_board.specs.private.Frame.{HasSize, SameEdge};
     ghost use Rattle.go_base.specs.Colour.{other};
@@ -123,7 +123,7 @@ impl Board {
     ghost use Rattle.go_board.specs.Chain.{HasBeside};
     ghost use Rattle.go_board.specs.private.Flood.{IsSpread, AreSpread, AreTouching};
     ghost use Rattle.go_board.specs.Game.{start, after_vertex};
-    ghost use Rattle.go_board.specs.private.Removed.{ArePoints, AreTakenBy, IsVacant, cleared, later_than};
+    ghost use Rattle.go_board.specs.private.TakenStack.{ArePoints, AreTakenBy, IsVacant, cleared, later_than};
     ghost use Rattle.go_board.specs.declared.board.Cell.TheVariants.{Edge};
 
     /// The board of this size without a stone.
@@ -149,13 +149,13 @@ impl Board {
     {
         let mut board = Board::empty(size);
         if let Some(points) = handicap(size, stones) {
-            board.add_black(&points);
+            board.place_black(&points);
         }
         board
     }
 
     /// Sets black stones on points of the board.
-    fn add_black(&mut self, points: &[Point])
+    fn place_black(&mut self, points: &[Point])
         requires { All (λ p. at self.old p ≢ Edge) points.now }
         ensures board { self.new ≡ with_black self.old points.now }
         ensures edge { SameEdge self.old self.new }
@@ -193,7 +193,7 @@ impl Board {
 
     /// Whether all places hold the same on another board. A place that may well differ is looked at first.
     #[inline]
-    pub fn is(&self, other: &Board, place: usize) -> bool
+    pub fn equals(&self, other: &Board, place: usize) -> bool
         requires { place < place_count }
         ensures { IsTrue result ↔ (self.now ≡ other.now) }
     {
@@ -202,7 +202,7 @@ impl Board {
 
     /// Clears the points of the stones at the front that the move with this number took. Returns the stones that later
     /// moves took.
-    pub fn clear_taken<'a>(&mut self, number: usize, stones: &'a [Taken]) -> &'a [Taken]
+    pub fn clear_taken<'a>(&mut self, number: usize, stones: &'a [TakenStone]) -> &'a [TakenStone]
         requires { ArePoints self.old stones.now }
         ensures board { self.new ≡ cleared self.old number stones.now }
         ensures left { result.now ≡ later_than number stones.now }
@@ -222,13 +222,13 @@ impl Board {
     /// Makes a move again, where these stones were taken by it and by later moves. Returns the stones that later moves
     /// took.
     #[inline]
-    pub fn make_again<'a>(
+    pub fn make<'a>(
         &mut self,
         colour: Colour,
         vertex: Vertex,
         number: usize,
-        stones: &'a [Taken],
-    ) -> &'a [Taken]
+        stones: &'a [TakenStone],
+    ) -> &'a [TakenStone]
         requires open { IsVacant self.old vertex }
         requires points { ArePoints self.old stones.now }
         ensures board { AreTakenBy self.old colour vertex number stones.now

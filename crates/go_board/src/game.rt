@@ -6,15 +6,15 @@ ghost use Rattle.go_base.specs.Handicap.{AllowsHandicap, handicap_points};
 ghost use Rattle.go_base.specs.Point.{IsOn};
 ghost use Rattle.go_base.specs.Size.{most_size};
 ghost use Rattle.go_board.specs.Board.{place_count};
-ghost use Rattle.go_board.specs.private.Removed.{most_removed};
+ghost use Rattle.go_board.specs.private.TakenStack.{most_taken};
 ghost use Rattle.go_board.specs.Taken.{same_colour};
 
 use crate::board::{Board, Cell, place_of};
 use crate::chains::Chains;
 use crate::faults::{HandicapFault, NothingToUndo, PlayFault};
 use crate::ko::{Ko, ko_after};
-use crate::removed::Removed;
 use crate::rules::KoRule;
+use crate::taken_stack::TakenStack;
 use arrayvec::ArrayVec;
 use go_base::{Colour, Komi, Move, Point, Size, Vertex, handicap};
 use std::marker::Model;
@@ -38,7 +38,7 @@ pub struct Game {
     moves: ArrayVec<Move, MOST_MOVES>,
     chains: Chains,
     ko: Option<Ko>,
-    removed: Removed,
+    stack: TakenStack,
     taken_by_black: u32,
     taken_by_white: u32,
 }
@@ -57,7 +57,7 @@ impl Model for Game {
 
 impl Game {
     ghost use Rattle.go_board.specs.Board.{at, stone_at};
-    ghost use Rattle.go_board.specs.Put.{put};
+    ghost use Rattle.go_board.specs.Play.{play};
     ghost use Rattle.go_board.specs.declared.board.Cell.TheVariants.{Empty};
     ghost use Rattle.go_board.specs.Game.{HasRoom, without_last, with_move, board_of, RepeatsLast, RepeatsAny};
     ghost use Rattle.go_board.specs.Game.{Repeats, IsLegal};
@@ -68,7 +68,7 @@ impl Game {
     ghost use Rattle.go_board.specs.Area.{score};
     ghost use Rattle.go_board.specs.Refusals.{RefusesPoint, RefusesVertex, Refuses, IsTouched, RefusesHandicap};
     ghost use Rattle.go_base.specs.declared.vertices.Vertex.TheVariants.{At};
-    ghost use Rattle.go_board.specs.private.Removed.{StoodBelow, RepeatsBelow, IsAlsoBelow};
+    ghost use Rattle.go_board.specs.private.TakenStack.{StoodBelow, RepeatsBelow, IsAlsoBelow};
 
     /// A game under simple ko, without handicap and moves.
     pub fn new(size: Size, komi: Komi) -> Self
@@ -94,8 +94,8 @@ impl Game {
     {
         // For the proof alone (decision 79): the contract of this call tells that komi is in its limits.
         let _ = komi.half_points();
-        let chains = Chains::of(Board::start(size, stones));
-        let removed = Removed::new();
+        let chains = Chains::from_board(Board::start(size, stones));
+        let stack = TakenStack::new();
         Game {
             size,
             komi,
@@ -104,7 +104,7 @@ impl Game {
             moves: ArrayVec::new(),
             chains,
             ko: None,
-            removed,
+            stack,
             taken_by_black: 0,
             taken_by_white: 0,
         }
@@ -206,11 +206,11 @@ impl Game {
         let number = self.moves.len();
         let taken = self
             .chains
-            .make(made.colour, made.vertex, number, &mut self.removed);
+            .make(made.colour, made.vertex, number, &mut self.stack);
         self.taken_by_black = with_taken(self.taken_by_black, taken, colour, Colour::Black);
         self.taken_by_white = with_taken(self.taken_by_white, taken, colour, Colour::White);
         self.moves.push(made);
-        self.ko = ko_after(&self.moves, &self.removed);
+        self.ko = ko_after(&self.moves, &self.stack);
         Ok(())
     }
 
@@ -254,7 +254,7 @@ impl Game {
     #[inline]
     fn repeats(&self, colour: Colour, point: Point) -> bool
         requires { at (board_of self.now) point ≡ Empty }
-        ensures { IsTrue result ↔ Repeats self.now (put (board_of self.now) colour point) }
+        ensures { IsTrue result ↔ Repeats self.now (play (board_of self.now) colour point) }
     {
         match self.rule {
             KoRule::Simple => self.repeats_last(colour, place_of(point)),
@@ -266,37 +266,37 @@ impl Game {
     #[inline(never)]
     fn repeats_any(&self, colour: Colour, point: Point) -> bool
         requires { at (board_of self.now) point ≡ Empty }
-        ensures { IsTrue result ↔ RepeatsAny self.now (put (board_of self.now) colour point) }
+        ensures { IsTrue result ↔ RepeatsAny self.now (play (board_of self.now) colour point) }
     {
-        self.boards_like(colour, point) > 0
-            && self.was(&self.board_after(colour, point), place_of(point))
+        self.boards_to_compare(colour, point) > 0
+            && self.had_board(&self.board_after(colour, point), place_of(point))
     }
 
     /// How many boards of the record, from the first on, may be the one that a play on an empty point leaves. That
     /// board has a stone of the colour on the point, and one on each point where the colour's last moves put one.
-    fn boards_like(&self, colour: Colour, point: Point) -> usize
+    fn boards_to_compare(&self, colour: Colour, point: Point) -> usize
         requires { at (board_of self.now) point ≡ Empty }
         ensures { RepeatsBelow self.now colour point result }
     {
-        let mut few = self.boards_with(colour, place_of(point));
+        let mut few = self.boards_with_stone(colour, place_of(point));
         let mut number = self.moves.len();
         let end = self.moves.len().saturating_sub(LAST_MOVES);
         while 0 < few && few <= number && end < number {
             number -= 1;
             let made = self.moves[number];
-            few = self.boards_also(colour, made.colour, made.vertex, few);
+            few = self.boards_with_move(colour, made.colour, made.vertex, few);
         }
         few
     }
 
     /// How many of the first `few` boards of the record may have had the stone of a move, where the move is of this
     /// colour. A pass and a move of the other colour leave all.
-    fn boards_also(&self, colour: Colour, mover: Colour, vertex: Vertex, few: usize) -> usize
+    fn boards_with_move(&self, colour: Colour, mover: Colour, vertex: Vertex, few: usize) -> usize
         ensures { IsAlsoBelow self.now colour mover vertex few result }
     {
         match vertex {
             Vertex::At(point) if mover == colour => {
-                self.boards_with(colour, place_of(point)).min(few)
+                self.boards_with_stone(colour, place_of(point)).min(few)
             }
             _ => few,
         }
@@ -304,10 +304,10 @@ impl Game {
 
     /// How many boards of the record, from the first on, may have had a stone of this colour on a place that was taken
     /// since: those up to the last move of the other colour that took one there.
-    fn boards_with(&self, colour: Colour, place: usize) -> usize
+    fn boards_with_stone(&self, colour: Colour, place: usize) -> usize
         ensures { StoodBelow self.now colour place result }
     {
-        let mut left = self.removed.stones();
+        let mut left = self.stack.stones();
         while let Some((last, earlier)) = left.split_last() {
             let number = usize::from(last.number);
             if usize::from(last.place) == place && self.moves[number].colour != colour {
@@ -321,30 +321,30 @@ impl Game {
     /// The board after a play on an empty point.
     fn board_after(&self, colour: Colour, point: Point) -> Board
         requires { at (board_of self.now) point ≡ Empty }
-        ensures { result ≡ put (board_of self.now) colour point }
+        ensures { result ≡ play (board_of self.now) colour point }
     {
-        let mut chains = self.chains.copied();
-        let mut removed = Removed::new();
+        let mut chains = self.chains.copy();
+        let mut stack = TakenStack::new();
         // How many stones it takes doesn't matter here.
-        let _ = chains.put(colour, place_of(point), 0, &mut removed);
+        let _ = chains.make_play(colour, place_of(point), 0, &mut stack);
         *chains.board()
     }
 
     /// Whether the board was this one after some number of moves, from none to all: the record is played again on
     /// another board. The place is one where earlier boards may well differ.
-    fn was(&self, wanted: &Board, place: usize) -> bool
+    fn had_board(&self, wanted: &Board, place: usize) -> bool
         requires { IsOn most_size place }
         ensures { IsTrue result ↔ RepeatsAny self.now wanted.now }
     {
         let mut board = Board::start(self.size, self.handicap);
-        let mut stones = self.removed.stones();
+        let mut stones = self.stack.stones();
         for (number, made) in self.moves.iter().enumerate() {
-            if board.is(wanted, place) {
+            if board.equals(wanted, place) {
                 return true;
             }
-            stones = board.make_again(made.colour, made.vertex, number, stones);
+            stones = board.make(made.colour, made.vertex, number, stones);
         }
-        board.is(wanted, place)
+        board.equals(wanted, place)
     }
 
     /// Whether a play on an empty point would bring back the board before the previous move.
@@ -352,7 +352,7 @@ impl Game {
     fn repeats_last(&self, colour: Colour, place: usize) -> bool
         requires point { IsOn most_size place }
         requires empty { at (board_of self.now) place ≡ Empty }
-        ensures { IsTrue result ↔ RepeatsLast self.now (put (board_of self.now) colour place) }
+        ensures { IsTrue result ↔ RepeatsLast self.now (play (board_of self.now) colour place) }
     {
         let Some(ko) = self.ko else {
             return false;
@@ -377,11 +377,11 @@ impl Game {
         let number = self.moves.len();
         let taken = self
             .chains
-            .unmake(last.colour, last.vertex, number, &mut self.removed);
+            .unmake(last.colour, last.vertex, number, &mut self.stack);
         let colour = last.colour;
         self.taken_by_black = without_taken(self.taken_by_black, taken, colour, Colour::Black);
         self.taken_by_white = without_taken(self.taken_by_white, taken, colour, Colour::White);
-        self.ko = ko_after(&self.moves, &self.removed);
+        self.ko = ko_after(&self.moves, &self.stack);
         Ok(last)
     }
 
@@ -475,7 +475,7 @@ impl Game {
 /// What a colour has taken after a move of `mover` that took `taken` stones.
 #[inline]
 fn with_taken(had: u32, taken: u32, mover: Colour, colour: Colour) -> u32
-    requires had { had ≤ most_removed }
+    requires had { had ≤ most_taken }
     requires taken { taken ≤ place_count }
     ensures { result ≡ had + (if same_colour mover colour then taken else 0) }
 {

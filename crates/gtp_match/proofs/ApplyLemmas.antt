@@ -7,7 +7,7 @@ use Rattle.go_board.specs.Game.{GameRecord, HasRoom, IsLegal, with_move}
 use Rattle.go_board.specs.Refusals.{Refuses}
 use Rattle.go_board.specs.declared.faults.PlayFault.{PlayFault}
 use Rattle.go_board.specs.declared.faults.PlayFault.TheVariants.{Full, OffBoard, Occupied, Suicide, Ko}
-use Rattle.go_board.proofs.GameLemmas.{legal-or_refused}
+use Rattle.go_board.proofs.records.Moves.{legal-or_refused}
 use Rattle.gtp_match.specs.ReplyTable.{verdict_after, after_outcome}
 use Rattle.gtp_match.specs.Sides.{side_of, with_side, with_engine, with_engine_of, confirmed}
 use Rattle.gtp_match.specs.declared.controller.Controller.{Controller}

@@ -13,7 +13,7 @@ use Rattle.go_base.specs.declared.vertices.Vertex.{Vertex}
 use Rattle.go_board.specs.Game.{GameRecord, HasRoom, IsGame, IsLegal, with_move, without_last, first_moves}
 use Rattle.go_board.specs.declared.rules.KoRule.{KoRule}
 use Rattle.go_board.specs.declared.rules.KoRule.TheVariants.{Simple, Positional}
-use Rattle.go_board.proofs.GameLemmas.{IsGame-with_move}
+use Rattle.go_board.proofs.records.Moves.{IsGame-with_move}
 use Rattle.gtp_wire.specs.declared.commands.Command.{Command}
 use Rattle.gtp_wire.specs.declared.commands.Command.TheVariants.{Genmove, Play, Undo}
 use Rattle.gtp_wire.specs.declared.replies.Reply.{Reply}

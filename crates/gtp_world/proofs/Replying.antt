@@ -16,7 +16,7 @@ use Rattle.go_base.specs.declared.vertices.Vertex.{Vertex}
 use Rattle.go_base.specs.declared.vertices.Vertex.TheVariants.{Pass, At}
 use Rattle.go_board.specs.Game.{GameRecord, HasRoom, IsGame, IsLegal, with_move, without_last, board_of}
 use Rattle.go_board.specs.Game.{RepeatsLast, RepeatsBy}
-use Rattle.go_board.specs.Put.{put}
+use Rattle.go_board.specs.Play.{play}
 use Rattle.go_board.specs.Taken.{same_colour}
 use Rattle.go_board.specs.declared.board.Cell.{Cell}
 use Rattle.go_board.specs.declared.rules.KoRule.{KoRule}
@@ -155,9 +155,9 @@ legal_simply rule game s (At p) is legal = record {
   empty = legal.empty;
   free = legal.free;
   no_ko = λ repeats.
-      let last : RepeatsBy Simple game (put (board_of game) s p) =
-      subst (λ (k : KoRule). RepeatsBy k game (put (board_of game) s p)) is repeats in
-      legal.no_ko (simple_repeats rule game (put (board_of game) s p) last);
+      let last : RepeatsBy Simple game (play (board_of game) s p) =
+      subst (λ (k : KoRule). RepeatsBy k game (play (board_of game) s p)) is repeats in
+      legal.no_ko (simple_repeats rule game (play (board_of game) s p) last);
 }
 
 lawful_simply : (rule : KoRule) (game : GameRecord) (s : Colour) (ch : Choice) → game.rule ≡ Simple

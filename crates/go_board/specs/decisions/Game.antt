@@ -13,7 +13,7 @@ use Rattle.go_board.specs.declared.board.Cell.TheVariants.{Edge, Empty, Black, W
 use Rattle.go_board.specs.declared.rules.KoRule.{KoRule}
 use Rattle.go_board.specs.declared.rules.KoRule.TheVariants.{Simple, Positional}
 use Rattle.go_board.specs.Board.{at, IsStone, HasStone}
-use Rattle.go_board.specs.Put.{put}
+use Rattle.go_board.specs.Play.{play}
 use Rattle.go_board.specs.decisions.Board.{on?, cell?, boards?}
 use Rattle.go_board.specs.decisions.Chain.{some_below?, touches?}
 use Rattle.go_board.specs.Game.{GameRecord, first_moves, without_last, board_of, RepeatsLast, RepeatsAny, RepeatsBy}
@@ -52,7 +52,7 @@ legal? game c (At p) =
     (λ l. (l.on_board, (l.empty, (l.free, l.no_ko))))
     (both? (on? game.size p)
     (both? (cell? (at (board_of game) p) Empty)
-    (both? (touches? (put (board_of game) c p) p Empty) (not? (repeats? game (put (board_of game) c p))))))
+    (both? (touches? (play (board_of game) c p) p Empty) (not? (repeats? game (play (board_of game) c p))))))
 
 -- ---- touched
 

@@ -1,4 +1,4 @@
-use Rattle.go_board.proofs.LawLemmas.{left-there, left-back}
+use Rattle.go_board.proofs.of_laws.BoardsAndScores.{left-there, left-back}
 use Rattle.go_board.proofs.laws.boards_left.Goals as goal
 
 pub returns : goal.returns

@@ -1,4 +1,4 @@
-use Rattle.go_board.proofs.LawLemmas.{counts-belongs, belongs-counts, belongs-one}
+use Rattle.go_board.proofs.of_laws.BoardsAndScores.{counts-belongs, belongs-counts, belongs-one}
 use Rattle.go_board.proofs.laws.counted_points.Goals as goal
 
 pub returns-clause-counts : goal.returns-clause-counts

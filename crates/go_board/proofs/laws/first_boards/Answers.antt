@@ -1,4 +1,4 @@
-use Rattle.go_board.proofs.LawLemmas.{first-there, first-back}
+use Rattle.go_board.proofs.of_laws.BoardsAndScores.{first-there, first-back}
 use Rattle.go_board.proofs.laws.first_boards.Goals as goal
 
 pub returns : goal.returns

@@ -1,4 +1,4 @@
-use Rattle.go_board.proofs.CauseLemmas.{first-cause, refused-first}
+use Rattle.go_board.proofs.of_laws.FirstCauses.{first-cause, refused-first}
 use Rattle.go_board.proofs.laws.first_causes.Goals as goal
 
 pub returns : goal.returns

@@ -1,5 +1,5 @@
-use Rattle.go_board.proofs.ReplayLemmas.{stricter, allowed-new, never-back}
-use Rattle.go_board.proofs.RuleLemmas.{not-at-once, others-legal}
+use Rattle.go_board.proofs.ko_rules.ReplayedBoards.{stricter, allowed-new, never-back}
+use Rattle.go_board.proofs.of_laws.KoRules.{not-at-once, others-legal}
 use Rattle.go_board.proofs.laws.ko_rules.Goals as goal
 
 pub returns-clause-stricter : goal.returns-clause-stricter

@@ -1,4 +1,4 @@
-use Rattle.go_board.proofs.LawLemmas.{none-first, adds-taken}
+use Rattle.go_board.proofs.of_laws.BoardsAndScores.{none-first, adds-taken}
 use Rattle.go_board.proofs.laws.taken_stones.Goals as goal
 
 pub returns-clause-first : goal.returns-clause-first

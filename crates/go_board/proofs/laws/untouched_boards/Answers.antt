@@ -1,4 +1,4 @@
-use Rattle.go_board.proofs.UntouchedLemmas.{untouched-blank, blank-untouched}
+use Rattle.go_board.proofs.of_laws.UntouchedGames.{untouched-blank, blank-untouched}
 use Rattle.go_board.proofs.laws.untouched_boards.Goals as goal
 
 pub returns : goal.returns

@@ -1,6 +1,6 @@
 use Rattle.std.proofs.Common.{◌+◌, [], ◌∷◌, ◌++◌, arith, ap, ◌∙◌}
 use Rattle.go_base.specs.Vertex.{letter_of}
-use Rattle.go_board.proofs.ShowLemmas.{letters_before-first, letters_before-more, letters_before-all}
+use Rattle.go_board.proofs.BoardText.{letters_before-first, letters_before-more, letters_before-all}
 use Rattle.go_board.proofs.show.push_letters.Goals as goal
 
 pub loop-column-init : goal.loop-column-init

@@ -1,6 +1,6 @@
 use Rattle.std.proofs.Common.{◌≡◌, ◌+◌, ◌*◌, ◌≤◌, ◌++◌}
 use Rattle.arrayvec.specs.ArrayVec.{array_vec_len}
-use Rattle.go_board.proofs.ShowLemmas.{letters_before}
+use Rattle.go_board.proofs.BoardText.{letters_before}
 use Rattle.go_board.proofs.show.push_letters.Given as goal
 
 abbrev pub invariant-loop-column : goal.invariant-loop-column

@@ -3,7 +3,7 @@ use Rattle.go_board.specs.Board.{stone}
 use Rattle.go_board.specs.private.Flood.{AreTouching}
 use Rattle.go_board.specs.declared.board.Cell.{Cell}
 use Rattle.go_board.specs.declared.board.Cell.TheVariants.{Empty}
-use Rattle.go_board.proofs.AreaLemmas.{counted-one, counted-none, area-from_count}
+use Rattle.go_board.proofs.scores.Areas.{counted-one, counted-none, area-from_count}
 use Rattle.go_board.proofs.board.Board.area.Goals as goal
 use Rattle.go_board.proofs.board.Board.area.Goals.{then-counts_for, else-counts_for}
 

@@ -1,10 +1,10 @@
 use Rattle.std.proofs.Common.{rules, subst, ◌∷◌, sym, ℕ, List}
 use Rattle.std.specs.Prelude.{◌≢◌}
 use Rattle.go_board.specs.Board.{at}
-use Rattle.go_board.specs.private.Removed.{ArePoints}
+use Rattle.go_board.specs.private.TakenStack.{ArePoints}
 use Rattle.go_board.specs.declared.board.Cell.{Cell}
 use Rattle.go_board.specs.declared.board.Cell.TheVariants.{Edge, Empty}
-use Rattle.go_board.proofs.ReplayLemmas.{points-kept}
+use Rattle.go_board.proofs.ko_rules.ReplayedBoards.{points-kept}
 use Rattle.go_board.proofs.board.Board.clear_taken.Goals as goal
 
 pub loop-first-preserved : goal.loop-first-preserved

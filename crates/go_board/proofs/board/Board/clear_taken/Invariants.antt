@@ -1,5 +1,5 @@
 use Rattle.std.proofs.Common.{◌≡◌, length}
-use Rattle.go_board.specs.private.Removed.{ArePoints, cleared, later_than}
+use Rattle.go_board.specs.private.TakenStack.{ArePoints, cleared, later_than}
 use Rattle.go_board.proofs.board.Board.clear_taken.Given as goal
 
 abbrev pub invariant-loop-first : goal.invariant-loop-first

@@ -4,7 +4,7 @@ use Rattle.go_board.specs.Board.{at, stone}
 use Rattle.go_board.specs.Chain.{Touches}
 use Rattle.go_board.specs.contracts.board.Cell.{the_type}
 use Rattle.go_board.specs.declared.board.Cell.TheVariants.{Empty}
-use Rattle.go_board.proofs.AreaLemmas.{counts-region, counts-nowhere}
+use Rattle.go_board.proofs.scores.Areas.{counts-region, counts-nowhere}
 use Rattle.go_board.proofs.board.Board.counts_for.Goals as goal
 use Rattle.go_board.proofs.board.Board.counts_for.Goals.{then-eq-2, else-eq-2}
 

@@ -1,4 +1,4 @@
-use Rattle.go_board.proofs.FloodLemmas.{AreSpread-four}
+use Rattle.go_board.proofs.floods.Regions.{AreSpread-four}
 use Rattle.go_board.proofs.board.Board.spread_round.Goals as goal
 
 pub returns : goal.returns

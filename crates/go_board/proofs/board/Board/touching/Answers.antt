@@ -1,7 +1,7 @@
 use Rattle.std.proofs.Common.{◌<◌, arith, length, rules}
 use Rattle.std.specs.Prelude.{slice_index}
 use Rattle.go_board.specs.private.Flood.{AreSpread}
-use Rattle.go_board.proofs.FloodLemmas.{IsSeeded, IsSown-more, IsFlooded-more, IsFlooded-done}
+use Rattle.go_board.proofs.floods.Regions.{IsSeeded, IsSown-more, IsFlooded-more, IsFlooded-done}
 use Rattle.go_board.proofs.board.Board.touching.Goals as goal
 use Rattle.go_board.proofs.board.Board.touching.Goals.{then-eq+then-has_beside, else-eq}
 use Rattle.go_board.proofs.board.Board.touching.Goals.{else-eq-via-then-eq+else-has_beside, else-eq-via-else-eq}

@@ -1,5 +1,5 @@
 use Rattle.std.proofs.Common.{◌-◌}
-use Rattle.go_board.proofs.FloodLemmas.{IsSown, IsFlooded}
+use Rattle.go_board.proofs.floods.Regions.{IsSown, IsFlooded}
 use Rattle.go_board.proofs.board.Board.touching.Given as goal
 
 abbrev pub invariant-loop-place : goal.invariant-loop-place

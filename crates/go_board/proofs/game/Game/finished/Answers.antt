@@ -1,7 +1,7 @@
 use Rattle.std.proofs.Common.{arith}
 use Rattle.std.proofs.lemmas.Grind.{common_steps}
 use Rattle.go_board.specs.decisions.Game.{finished?}
-use Rattle.go_board.proofs.FinishLemmas.{decided_by}
+use Rattle.go_board.proofs.of_laws.GameEnds.{decided_by}
 use Rattle.go_board.proofs.game.Game.finished.Goals as goal
 
 pub returns-in_default-clause-passes : goal.returns-in_default-clause-passes

@@ -1,4 +1,4 @@
-use Rattle.go_board.proofs.GameLemmas.{legal-from_test}
+use Rattle.go_board.proofs.records.Moves.{legal-from_test}
 use Rattle.go_board.proofs.game.Game.legal.Goals as goal
 
 pub returns-clause-legal : goal.returns-clause-legal

@@ -1,5 +1,5 @@
 use Rattle.std.proofs.Common.{◌+◌, ◌++◌, [], ◌∷◌, arith, ap, ◌∙◌}
-use Rattle.go_board.proofs.ShowLemmas.{points_before-first, points_before-more, points_before-all}
+use Rattle.go_board.proofs.BoardText.{points_before-first, points_before-more, points_before-all}
 use Rattle.go_board.proofs.game.Game.push_points.Goals as goal
 
 pub loop-column-init : goal.loop-column-init

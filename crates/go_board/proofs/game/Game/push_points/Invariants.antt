@@ -1,6 +1,6 @@
 use Rattle.std.proofs.Common.{◌≡◌, ◌+◌, ◌*◌, ◌++◌}
 use Rattle.arrayvec.specs.ArrayVec.{array_vec_len}
-use Rattle.go_board.proofs.ShowLemmas.{points_before}
+use Rattle.go_board.proofs.BoardText.{points_before}
 use Rattle.go_board.proofs.game.Game.push_points.Given as goal
 
 abbrev pub invariant-loop-column : goal.invariant-loop-column

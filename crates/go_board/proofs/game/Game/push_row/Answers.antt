@@ -1,7 +1,7 @@
 use Rattle.std.proofs.Common.{rules, ◌≡◌, ◌≤◌, ◌+◌, ◌++◌, length, append_assoc, arith, ap, ◌∙◌}
 use Rattle.arrayvec.specs.ArrayVec.{array_vec_len}
 use Rattle.go_board.specs.Show.{shown_points}
-use Rattle.go_board.proofs.ShowLemmas.{written_int-two}
+use Rattle.go_board.proofs.BoardText.{written_int-two}
 use Rattle.go_board.proofs.game.Game.push_row.Goals as goal
 
 pub returns-clause-row : goal.returns-clause-row

@@ -1,7 +1,7 @@
 use Rattle.std.proofs.Common.{◌≡◌, subst}
 use Rattle.go_board.specs.Game.{GameRecord, board_of}
 use Rattle.go_board.specs.private.Ko.{IsKo}
-use Rattle.go_board.proofs.KeptLemmas.{repeats-from}
+use Rattle.go_board.proofs.records.GameFields.{repeats-from}
 use Rattle.go_board.proofs.game.Game.repeats_last.Goals as goal
 
 pub returns-then-place-ko : goal.returns-then-place-ko

@@ -1,7 +1,7 @@
 use Rattle.std.proofs.Common.{◌≡◌, ◌∙◌, subst, ap, arith}
 use Rattle.std.proofs.lemmas.Int.{ints}
 use Rattle.go_board.specs.Game.{GameRecord, board_of}
-use Rattle.go_board.proofs.AreaLemmas.{score-from_areas}
+use Rattle.go_board.proofs.scores.Areas.{score-from_areas}
 use Rattle.go_board.proofs.game.Game.score.Goals as goal
 
 pub returns : goal.returns

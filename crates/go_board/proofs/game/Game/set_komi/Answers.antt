@@ -1,4 +1,4 @@
-use Rattle.go_board.proofs.KeptLemmas.{IsKept-komi}
+use Rattle.go_board.proofs.records.GameFields.{IsKept-komi}
 use Rattle.go_board.proofs.game.Game.set_komi.Goals as goal
 
 pub invariant_of-self : goal.invariant_of-self

@@ -1,6 +1,6 @@
 use Rattle.std.proofs.Common.{◌≡◌, List, ℕ, [], ◌∷◌, ◌++◌, length, arith, ap, ◌∙◌}
 use Rattle.go_board.specs.Show.{shown_row, shown_letters, shown_captures}
-use Rattle.go_board.proofs.ShowLemmas.{rows_above, rows_above-first, rows_above-more, board_text-from_front}
+use Rattle.go_board.proofs.BoardText.{rows_above, rows_above-first, rows_above-more, board_text-from_front}
 use Rattle.go_board.proofs.game.Game.show.Goals as goal
 
 pub loop-row-init : goal.loop-row-init

@@ -1,6 +1,6 @@
 use Rattle.std.proofs.Common.{◌≡◌, ◌+◌, ◌*◌, ◌≤◌}
 use Rattle.arrayvec.specs.ArrayVec.{array_vec_len}
-use Rattle.go_board.proofs.ShowLemmas.{rows_above}
+use Rattle.go_board.proofs.BoardText.{rows_above}
 use Rattle.go_board.proofs.game.Game.show.Given as goal
 
 abbrev pub invariant-loop-row : goal.invariant-loop-row

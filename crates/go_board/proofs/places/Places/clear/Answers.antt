@@ -1,5 +1,5 @@
 use Rattle.std.proofs.Common.{ℕ, List, length, get_or, ap, sym, ◌∙◌, arith}
-use Rattle.go_board.proofs.PlacesLemmas.{IsClearing-start, IsClearing-below, IsClearing-more, AreMarked-cleared}
+use Rattle.go_board.proofs.floods.PlaceSets.{IsClearing-start, IsClearing-below, IsClearing-more, AreMarked-cleared}
 use Rattle.go_board.proofs.places.Places.clear.Goals as goal
 
 pub loop-index-init : goal.loop-index-init

@@ -1,4 +1,4 @@
-use Rattle.go_board.proofs.PlacesLemmas.{IsClearing}
+use Rattle.go_board.proofs.floods.PlaceSets.{IsClearing}
 use Rattle.go_board.proofs.places.Places.clear.Given as goal
 
 abbrev pub invariant-loop-index : goal.invariant-loop-index

@@ -1,7 +1,7 @@
 use Rattle.std.proofs.Common.{◌<◌, length, List, ℕ, rules, subst, sym}
 use Rattle.std.specs.Prelude.{Contains}
 use Rattle.std.proofs.lemmas.List.Elements.{Contains-push}
-use Rattle.go_board.proofs.PlacesLemmas.{AreMarked-room, AreMarked-insert}
+use Rattle.go_board.proofs.floods.PlaceSets.{AreMarked-room, AreMarked-insert}
 use Rattle.go_board.proofs.places.Places.insert.Goals as goal
 
 pub push-requires : goal.push-requires

@@ -1,6 +1,0 @@
-use Rattle.std.proofs.Common.{take}
-use Rattle.go_board.proofs.StartLemmas.{IsAdding}
-use Rattle.go_board.proofs.board.Board.add_black.Given as goal
-
-abbrev pub invariant-loop-point : goal.invariant-loop-point
-invariant-loop-point l = IsAdding l.fn.self (take l.point-index l.points) l.self-inside.cells

@@ -1,0 +1,4 @@
+-- Floods: chains and regions found from their points.
+pub mod PlaceSets
+pub mod Regions
+pub mod OneChain

@@ -1,0 +1,296 @@
+-- ChainIds when a stone is lifted from its place: its chain may fall apart.
+use Rattle.std.proofs.Common.{◌≡◌, ℕ, ◌+◌, ◌-◌, ◌<◌, ◌≤◌, List, length, refl, sym, ◌∙◌, ap, subst, arith, inl, inr}
+use Rattle.std.proofs.Common.{Bool, true, cond, get_or-set_other, get_or-set_same}
+use Rattle.std.specs.Prelude.{◌⊎◌, ◌≢◌, ◌==◌, ◌&&◌, map}
+use Rattle.std.proofs.lemmas.Bool.Decides.{nat_tests}
+use Rattle.std.proofs.lemmas.List.{get_or-map}
+use Rattle.std.proofs.Math.ListN.{set}
+use Rattle.go_base.specs.Point.{Neighbours}
+use Rattle.go_board.specs.Board.{at, IsStone}
+use Rattle.go_board.specs.private.Frame.{IsFramed}
+use Rattle.go_board.specs.Chain.{Joined, itself, by_way_of}
+use Rattle.go_board.specs.private.ChainId.{id_of, ids_at, ids_beside, AreChainIds}
+use Rattle.go_board.specs.private.Steps.{rename, rename_three, IsFragmentSet, IsCut}
+use Rattle.go_board.specs.declared.board.Cell.{Cell}
+use Rattle.go_board.specs.declared.board.Cell.TheVariants.{Edge, Empty}
+use Rattle.go_board.proofs.boards.Cells.{IsFramed-set}
+use Rattle.go_board.proofs.captures.CapturedStones.{in_list}
+use Rattle.go_board.proofs.ids.Paths.{Joined-then, Joined-same, Joined-back, Joined-kept, IsStone-point}
+use Rattle.go_board.proofs.ids.Paths.{IsStone-filled, IsStone-joined, AreChainIds-steps, along-path}
+use Rattle.go_board.proofs.ids.FindingIds.{IsPart, IsPart-named, named-has, AreChainIds-part}
+use Rattle.go_board.proofs.ids.JoiningChains.{rename_three-a}
+use Rattle.go_board.proofs.liberties.PseudoLiberties.{stone-test}
+use Rattle.go_board.proofs.liberties.MergingIds.{rename-other}
+use Rattle.std.proofs.lemmas.Bool.{eq-eqb, cases_eq}
+use Rattle.go_board.proofs.boards.Neighbours.{IsOn-inside, all_beside}
+
+-- ---- paths without a place
+
+-- a path by way of p: behind p it goes on from a neighbour of p
+pub record IsByWayOf (board : List Cell) (p q r : ℕ) : Type 0 where
+  pub side : ℕ
+  pub neighbours : Neighbours p side
+  pub same : at board side ≡ at board p
+  pub to : Joined board q p
+  pub rest : Joined (set board p Empty) side r
+
+still : (board : List Cell) (p q : ℕ) → q ≢ p → at (set board p Empty) q ≡ at board q
+still board p q another = get_or-set_other board p q Empty Edge another
+
+-- a path to another place goes by way of p, or stands without it
+pub with_or_without : (board : List Cell) (p : ℕ) {q r : ℕ} → r ≢ p → Joined board q r
+    → ((q ≢ p) × Joined (set board p Empty) q r) ⊎ IsByWayOf board p q r
+with_or_without board p off (itself {p = q} point) = inl (off, itself (λ e. point (sym (still board p q off) ∙ e)))
+with_or_without board p off (by_way_of {p = q} {q = r} s point next same rest) =
+    elim (with_or_without board p off rest) [
+      | inr way ↦ inr (record {
+        side = way.side;
+        neighbours = way.neighbours;
+        same = way.same;
+        to = by_way_of s point next same way.to;
+        rest = way.rest;
+      })
+      | inl without ↦ elim (cases_eq q p) [
+        | inl is ↦ inr (record {
+          side = s;
+          neighbours = subst (λ (k : ℕ). Neighbours k s) is next;
+          same = same ∙ ap (at board) is;
+          to = subst (λ (k : ℕ). Joined board q k) is (itself point);
+          rest = without.1;
+        })
+        | inr another ↦
+            let here = still board p q another in
+            let there = still board p s without.0 in
+            inl (another, by_way_of s (λ e. point (sym here ∙ e)) next (there ∙ same ∙ sym here) without.1)
+      ]
+    ]
+
+-- a stone that is joined to p is joined to a neighbour of p without it
+pub side-of : (board : List Cell) (p q : ℕ) → q ≢ p → Joined board q p → IsByWayOf board p p q
+side-of board p q off path =
+    elim (with_or_without board p off (Joined-back path)) [ inl without ↦ absurd (without.0 refl) | inr way ↦ way ]
+
+-- where one neighbour of p at most is of its chain, no other stones need it
+pub Joined-without : (board : List Cell) (p q r : ℕ)
+    → ((a b : ℕ) → Neighbours p a → Neighbours p b → at board a ≡ at board p → at board b ≡ at board p → a ≡ b)
+    → q ≢ p → r ≢ p → Joined board q r → Joined (set board p Empty) q r
+Joined-without board p q r one q_off r_off path = elim (with_or_without board p r_off path) [
+  | inl without ↦ without.1
+  | inr way ↦
+      let back = side-of board p q q_off way.to in
+      let same : back.side ≡ way.side = one back.side way.side back.neighbours way.neighbours back.same way.same in
+      Joined-then (Joined-back back.rest) (subst (λ (k : ℕ). Joined (set board p Empty) k r) (sym same) way.rest)
+]
+
+-- ---- one neighbour in the chain at most
+
+ids_at-one : (board : List Cell) (ids : List ℕ) (id q : ℕ) → IsStone (at board q) → id_of ids q ≡ id
+    → ids_at board ids id q ≡ 1
+ids_at-one board ids id q s e =
+    ap (λ (b : Bool). cond (b && (id_of ids q == id)) 1 0) (stone-test (at board q) s)
+    ∙ ap (λ (b : Bool). cond b 1 0) (eq-eqb (id_of ids q) id e)
+
+-- two neighbours that count are one, where the neighbours count 1 at most
+one-side : (f : ℕ → ℕ) (p : ℕ) → f (p + 1) + f (p - 1) + f (p + 26) + f (p - 26) ≤ 1
+    → (a : ℕ) → Neighbours p a → f a ≡ 1 → (b : ℕ) → Neighbours p b → f b ≡ 1 → a ≡ b
+one-side f p few = all_beside (λ a. f a ≡ 1 → (b : ℕ) → Neighbours p b → f b ≡ 1 → a ≡ b) p
+    (λ x. all_beside (λ b. f b ≡ 1 → p + 1 ≡ b) p (λ y. refl) (λ y. absurd (omega arith)) (λ y. absurd (omega arith))
+    (λ y. absurd (omega arith)))
+    (λ x. all_beside (λ b. f b ≡ 1 → p - 1 ≡ b) p (λ y. absurd (omega arith)) (λ y. refl) (λ y. absurd (omega arith))
+    (λ y. absurd (omega arith)))
+    (λ x. all_beside (λ b. f b ≡ 1 → p + 26 ≡ b) p (λ y. absurd (omega arith)) (λ y. absurd (omega arith)) (λ y. refl)
+    (λ y. absurd (omega arith)))
+    (λ x. all_beside (λ b. f b ≡ 1 → p - 26 ≡ b) p (λ y. absurd (omega arith)) (λ y. absurd (omega arith))
+    (λ y. absurd (omega arith)) (λ y. refl))
+
+-- a neighbour that counts makes the count more than 0
+some-side : (f : ℕ → ℕ) (p a : ℕ) → Neighbours p a → f a ≡ 1 → 0 < f (p + 1) + f (p - 1) + f (p + 26) + f (p - 26)
+some-side f p = all_beside (λ a. f a ≡ 1 → 0 < f (p + 1) + f (p - 1) + f (p + 26) + f (p - 26)) p (λ one. omega arith)
+    (λ one. omega arith) (λ one. omega arith) (λ one. omega arith)
+
+-- ---- the chain stays whole
+
+gone : (board : List Cell) (p : ℕ) → IsStone (at board p) → at (set board p Empty) p ≡ Empty
+gone board p s = get_or-set_same board p Empty Edge (in_list board p (IsStone-point (at board p) s))
+
+-- a stone that is left stands elsewhere, and stood before
+left-stone : (board : List Cell) (p q : ℕ) → IsStone (at board p) → IsStone (at (set board p Empty) q)
+    → (q ≢ p) × IsStone (at board q)
+left-stone board p q s t =
+    let off : q ≢ p =
+    λ e. IsStone-filled (at (set board p Empty) q) t (ap (at (set board p Empty)) e ∙ gone board p s) in
+    (off, (t.0, sym (still board p q off) ∙ t.1))
+
+-- neighbours that are left have the ids of before
+left-alike : (board : List Cell) (ids : List ℕ) (p : ℕ) → IsStone (at board p) → AreChainIds board ids → (q r : ℕ)
+    → IsStone (at (set board p Empty) q) → Neighbours q r
+    → at (set board p Empty) r ≡ at (set board p Empty) q → id_of ids q ≡ id_of ids r
+left-alike board ids p s a q r t next same =
+    let u : IsStone (at (set board p Empty) r) = (t.0, same ∙ t.1) in
+    let here = left-stone board p q s t in
+    let there = left-stone board p r s u in
+    let alike : at board r ≡ at board q = sym (still board p r there.0) ∙ same ∙ still board p q here.0 in
+    (a.same q r here.1 there.1).1
+    (by_way_of r (IsStone-point (at board q) here.1) next alike (itself (IsStone-point (at board r) there.1)))
+
+-- a neighbour of the same colour has the stone's id
+side-id : (board : List Cell) (ids : List ℕ) (p q : ℕ) → IsStone (at board p) → AreChainIds board ids
+    → Neighbours p q → at board q ≡ at board p
+    → ids_at board ids (id_of ids p) q ≡ 1
+side-id board ids p q s a next same =
+    let t : IsStone (at board q) = (s.0, same ∙ s.1) in
+    ids_at-one board ids (id_of ids p) q t
+    (sym ((a.same p q s t).1
+    (by_way_of q (IsStone-point (at board p) s) next same (itself (IsStone-point (at board q) t)))))
+
+pub AreChainIds-whole : (board : List Cell) (ids : List ℕ) (p id beside : ℕ) → IsStone (at board p)
+    → AreChainIds board ids → id ≡ id_of ids p
+    → beside ≡ ids_beside board ids id p → (beside ≡ 0) ⊎ ((beside ≡ 1) × (id ≢ p))
+    → AreChainIds (set board p Empty) ids
+AreChainIds-whole board ids p id beside s a is b few =
+    AreChainIds-steps (set board p Empty) ids a.length_is (record {
+      own = λ q t.
+          let known = left-stone board p q s t in
+          Joined-without board p q (id_of ids q) one known.0 (away q known.0 known.1)
+          (a.own q known.1);
+      alike = left-alike board ids p s a;
+    })
+  where
+    counted : beside ≡ ids_beside board ids (id_of ids p) p
+    counted = b ∙ ap (λ (l : ℕ). ids_beside board ids l p) is
+
+    one : (x y : ℕ) → Neighbours p x → Neighbours p y → at board x ≡ at board p → at board y ≡ at board p → x ≡ y
+    one x y next next2 same same2 =
+        one-side (ids_at board ids (id_of ids p)) p (at_most counted few) x next (side-id board ids p x s a next same) y
+        next2 (side-id board ids p y s a next2 same2)
+      where
+        at_most : {n : ℕ} → beside ≡ n → (beside ≡ 0) ⊎ ((beside ≡ 1) × (id ≢ p)) → n ≤ 1
+        at_most e (inl none) = omega (arith, e, none)
+        at_most e (inr h) = let is_one = h.0 in omega (arith, e, is_one)
+
+    away : (q : ℕ) → q ≢ p → IsStone (at board q) → id_of ids q ≢ p
+    away q off t e = by_few few
+      where
+        path : Joined board q p
+        path = subst (λ (k : ℕ). Joined board q k) e (a.own q t)
+
+        by_few : (beside ≡ 0) ⊎ ((beside ≡ 1) × (id ≢ p)) → ⊥
+        by_few (inl none) =
+            let way = side-of board p q off path in
+            let some = some-side (ids_at board ids (id_of ids p)) p way.side way.neighbours
+            (side-id board ids p way.side s a way.neighbours way.same) in
+            absurd (omega (arith, some, none, counted))
+        by_few (inr h) = h.1 (is ∙ sym ((a.same q p t s).1 path) ∙ e)
+
+-- ---- the chain falls apart
+
+pub IsCut-removed : (board : List Cell) (ids : List ℕ) (p id : ℕ) → IsStone (at board p) → IsFramed board
+    → AreChainIds board ids → id ≡ id_of ids p → IsCut (set board p Empty) ids p id
+IsCut-removed board ids p id s framed a is = record {
+  framed = IsFramed-set board p Empty (IsStone-point (at board p) s) framed;
+  length_is = a.length_is;
+  alike = left-alike board ids p s a;
+  own = λ q t o.
+      let known = left-stone board p q s t in
+      Joined-kept board (set board p Empty)
+      (λ r path. still board p r
+      (λ e. o ((a.same q p known.1 s).1 (subst (λ (k : ℕ). Joined board q k) e path) ∙ sym is))) (a.own q known.1);
+  cut = λ q t e.
+      let known = left-stone board p q s t in
+      let way = side-of board p q known.0 ((a.same q p known.1 s).0 (e ∙ is)) in
+      (way.side, way.neighbours, Joined-back way.rest);
+}
+
+-- part of the chain may be without ids, and is joined to neighbours of the place
+pub record IsSplitting (board : List Cell) (ids : List ℕ) (place : ℕ) : Type 0 where
+  pub part : IsPart board ids
+  pub cut : (p : ℕ) → IsStone (at board p) → id_of ids p ≡ 0 → (q : ℕ) × Neighbours place q × Joined board p q
+
+-- the chain's id was cleared
+pub IsSplitting-start : (board : List Cell) (ids new : List ℕ) (place id : ℕ) → IsFramed board
+    → IsCut board ids place id → new ≡ map (rename_three 0 id id id) ids
+    → IsSplitting board new place
+IsSplitting-start board ids new place id framed c made = record {
+  part = record {
+    own = λ q s some. elim (cases_eq (id_of ids q) id) [
+      | inl e ↦ absurd (some (off q s e))
+      | inr o ↦ subst (λ (k : ℕ). Joined board q k) (sym (kept q s o)) (c.own q s o)
+    ];
+    closed =
+        λ q r s path. at_stone q s ∙ ap (rename_three 0 id id id) (along-path board ids c.alike path s)
+        ∙ sym (at_stone r (IsStone-joined board q r path s));
+  };
+  cut = λ q s none. elim (cases_eq (id_of ids q) id) [
+    | inl e ↦ c.cut q s e
+    | inr o ↦ absurd (not_zero q s o (sym (kept q s o) ∙ none))
+  ];
+}
+  where
+    at_stone : (q : ℕ) → IsStone (at board q) → id_of new q ≡ rename_three 0 id id id (id_of ids q)
+    at_stone q s =
+        let below = in_list board q (IsStone-point (at board q) s) in
+        ap (λ (ls : List ℕ). id_of ls q) made
+        ∙ get_or-map (rename_three 0 id id id) ids q 0 0
+        (omega (arith, below, framed.length_is, c.length_is))
+
+    off : (q : ℕ) → IsStone (at board q) → id_of ids q ≡ id → id_of new q ≡ 0
+    off q s e = at_stone q s ∙ rename_three-a 0 id id id (id_of ids q) e
+
+    kept : (q : ℕ) → IsStone (at board q) → id_of ids q ≢ id → id_of new q ≡ id_of ids q
+    kept q s o =
+        let one = rename-other 0 id (id_of ids q) o in
+        at_stone q s ∙ ap (λ (k : ℕ). rename 0 id (rename 0 id k)) one ∙ ap (rename 0 id) one ∙ one
+
+    not_zero : (q : ℕ) → IsStone (at board q) → id_of ids q ≢ id → id_of ids q ≢ 0
+    not_zero q s o e =
+        let point : at board (id_of ids q) ≢ Edge =
+        λ h. IsStone-point (at board q) s (sym (Joined-same (c.own q s o)) ∙ h) in
+        let low = (IsOn-inside (id_of ids q) (framed.inside (id_of ids q) point)).low in
+        absurd (omega (arith, low, e))
+
+-- the chain of one place was named: ids stay, and a stone there has one
+pub record IsFurther (board : List Cell) (old new : List ℕ) (place n : ℕ) : Type 0 where
+  pub splitting : IsSplitting board new place
+  pub kept : (p : ℕ) → IsStone (at board p) → id_of old p ≢ 0 → id_of new p ≢ 0
+  pub here : IsStone (at board n) → id_of new n ≢ 0
+
+pub IsFurther-named : (board : List Cell) (old new : List ℕ) (place n : ℕ) → IsFramed board → IsFragmentSet board old new n
+    → IsSplitting board old place → IsFurther board old new place n
+IsFurther-named board old new place n framed (inl named) l = record {
+  splitting = record {
+    part = IsPart-named board n old new framed named.0 named.1 l.part;
+    cut = λ p s none. elim (cases_eq (id_of old p) 0) [
+      | inl e ↦ l.cut p s e
+      | inr o ↦ absurd (named-has board n p old new framed named.0 named.1 (inl o) none)
+    ];
+  };
+  kept = λ p s some. named-has board n p old new framed named.0 named.1 (inl some);
+  here = λ s. named-has board n n old new framed named.0 named.1 (inr (itself (IsStone-point (at board n) s)));
+}
+IsFurther-named board old new place n framed (inr same) l = record {
+  splitting = subst (λ (ls : List ℕ). IsSplitting board ls place) (sym same.1) l;
+  kept = λ p s some. subst (λ (ls : List ℕ). id_of ls p ≢ 0) (sym same.1) some;
+  here = λ s. subst (λ (ls : List ℕ). id_of ls n ≢ 0) (sym same.1) (same.0 s);
+}
+
+-- once the chains of all four neighbours are named, all stones have ids
+pub AreChainIds-split : (board : List Cell) (ids l1 l2 l3 l4 l5 : List ℕ) (place id : ℕ) → IsFramed board
+    → IsCut board ids place id
+    → l1 ≡ map (rename_three 0 id id id) ids → IsFragmentSet board l1 l2 (place + 1)
+    → IsFragmentSet board l2 l3 (place - 1) → IsFragmentSet board l3 l4 (place + 26) → IsFragmentSet board l4 l5 (place - 26)
+    → length l5 ≡ 702 → AreChainIds board l5
+AreChainIds-split board ids l1 l2 l3 l4 l5 place id framed c made n2 n3 n4 n5 long =
+    let f1 = IsSplitting-start board ids l1 place id framed c made in
+    let f2 = IsFurther-named board l1 l2 place (place + 1) framed n2 f1 in
+    let f3 = IsFurther-named board l2 l3 place (place - 1) framed n3 f2.splitting in
+    let f4 = IsFurther-named board l3 l4 place (place + 26) framed n4 f3.splitting in
+    let f5 = IsFurther-named board l4 l5 place (place - 26) framed n5 f4.splitting in
+    AreChainIds-part board l5 long f5.splitting.part (λ p s none.
+    let way = f5.splitting.cut p s none in
+    let t = IsStone-joined board p way.0 way.2 s in
+    all_beside (λ q. IsStone (at board q) → id_of l5 q ≡ 0 → ⊥) place
+    (λ u. f5.kept (place + 1) u (f4.kept (place + 1) u (f3.kept (place + 1) u (f2.here u))))
+    (λ u. f5.kept (place - 1) u (f4.kept (place - 1) u (f3.here u)))
+    (λ u. f5.kept (place + 26) u (f4.here u))
+    f5.here way.0 way.1 t
+    (sym (f5.splitting.part.closed p way.0 s way.2) ∙ none))

@@ -1,0 +1,7 @@
+-- What the laws of `laws.rt` say.
+pub mod BoardsAndScores
+pub mod FirstCauses
+pub mod KoRules
+pub mod ChainsAsSets
+pub mod GameEnds
+pub mod UntouchedGames

@@ -1,0 +1,6 @@
+-- The record of a game, and what a game keeps beside it.
+pub mod Moves
+pub mod GameFields
+pub mod TakenCounts
+pub mod TakenStack
+pub mod EveryGame

@@ -1,0 +1,3 @@
+-- Points that count for a colour.
+pub mod Areas
+pub mod HowMany

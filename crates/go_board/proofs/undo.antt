@@ -1,0 +1,5 @@
+-- A play taken back.
+pub mod PoppedStones
+pub mod RestoredStones
+pub mod BoardsBefore
+pub mod UnmadePlays

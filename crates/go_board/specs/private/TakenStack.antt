@@ -1,0 +1,170 @@
+-- The stones that moves have taken.
+use Rattle.std.specs.Prelude.{◌≡◌, ◌≢◌, ◌==◌, ℕ, ◌+◌, ◌<◌, ◌⊎◌, ◌↔◌, List, [], ◌∷◌, ◌++◌, slice_set, map, filter}
+use Rattle.std.specs.Prelude.{length, Contains, if◌then◌else◌, ◌≤◌, slice_get, Some}
+use Rattle.std.specs.List.{range_with_len, AllByRecursion}
+use Rattle.go_base.specs.Colour.{other}
+use Rattle.go_base.specs.Point.{Neighbours}
+use Rattle.go_base.specs.declared.moves.Move.{Move}
+use Rattle.go_base.specs.declared.vertices.Vertex.{Vertex}
+use Rattle.go_base.specs.declared.vertices.Vertex.TheVariants.{Pass, At}
+use Rattle.go_board.specs.Game.{GameRecord, start, after, board_of, first_moves}
+use Rattle.go_base.specs.declared.colours.Colour.{Colour}
+use Rattle.go_board.specs.declared.board.Cell.{Cell}
+use Rattle.go_board.specs.declared.board.Cell.TheVariants.{Edge, Empty}
+use Rattle.go_board.specs.declared.taken_stack.TakenStone.{TakenStone}
+use Rattle.go_board.specs.Board.{at, stone}
+use Rattle.go_board.specs.private.Frame.{IsFramed}
+use Rattle.go_board.specs.Chain.{IsCaptured}
+use Rattle.go_board.specs.Play.{is_captured, play}
+use Rattle.go_board.specs.Taken.{captures_of_vertex}
+use Rattle.go_board.specs.private.ChainId.{id_of}
+
+-- how many taken stones there is room for
+abbrev pub most_taken : ℕ
+most_taken = 2009
+
+-- the places of the stones of this colour that have no liberty
+abbrev pub captured_places : List Cell → Colour → List ℕ
+captured_places board c = filter (is_captured board c) (range_with_len 0 (length board))
+
+-- stones that one move took
+abbrev pub taken_at : ℕ → List ℕ → List TakenStone
+taken_at number places = map (λ place. record { place = place; number = number }) places
+
+-- the stones of this colour without a liberty are just those with this id
+abbrev pub HaveCapturedId : List Cell → List ℕ → Colour → ℕ → Type 0
+HaveCapturedId board ids c id = (p : ℕ) → IsCaptured board c p ↔ ((at board p ≡ stone c) × (id_of ids p ≡ id))
+
+-- the id of a stone of this colour without a liberty on a place, or another where there is none
+pub record IsCapturedIdOr (board : List Cell) (ids : List ℕ) (c : Colour) (p other id : ℕ) : Type 0 where
+  pub there : IsCaptured board c p → id ≡ id_of ids p
+  pub absent : ¬ IsCaptured board c p → id ≡ other
+
+-- a neighbour with such a stone, the right one where it has one
+pub record IsCapturedBeside (board : List Cell) (c : Colour) (p q : ℕ) : Type 0 where
+  pub neighbours : Neighbours p q
+  pub captured : IsCaptured board c q
+  pub first : (q ≡ p + 1) ⊎ ¬ IsCaptured board c (p + 1)
+
+-- no neighbour has such a stone
+abbrev pub AreNoneCaptured : List Cell → Colour → ℕ → Type 0
+AreNoneCaptured board c p = (q : ℕ) → Neighbours p q → ¬ IsCaptured board c q
+
+-- the places whose stones a move takes
+abbrev pub taken_places : List Cell → Colour → Vertex → List ℕ
+taken_places board c Pass = []
+taken_places board c (At p) = captured_places (slice_set board p (stone c)) (other c)
+
+-- the stones that moves take, from this board and this number of moves on
+abbrev pub stack_from : List Cell → ℕ → List Move → List TakenStone
+stack_from board n [] = []
+stack_from board n (move ∷ moves) =
+    taken_at n (taken_places board move.colour move.vertex) ++ stack_from (after board move) (n + 1) moves
+
+-- the stones that the moves of the record have taken
+unfoldable pub stack_of : GameRecord → List TakenStone
+stack_of game = stack_from (start game.size game.handicap) 0 game.moves
+
+-- a pass, or a play on an empty point
+abbrev pub IsVacant : List Cell → Vertex → Type 0
+IsVacant board Pass = Unit {0}
+IsVacant board (At p) = at board p ≡ Empty
+
+-- the last stone isn't one that the move with this number took
+unfoldable pub IsNotLast : List TakenStone → ℕ → Type 0
+IsNotLast stones number = (before : List TakenStone) (last : TakenStone) → stones ≡ before ++ last ∷ [] → last.number ≢ number
+
+-- The last stone stands on this place and was taken by the move with this number, and the one under it wasn't. As later
+-- moves lie above earlier ones, it is the only one that this move took.
+pub record IsOnlyTaken (stones : List TakenStone) (number place : ℕ) : Type 0 where
+  pub before : List TakenStone
+  pub ends : stones ≡ before ++ record { place = place; number = number } ∷ []
+  pub alone : IsNotLast before number
+
+-- the board and the taken stones after a move, before which `number` others were made
+pub record IsAfterMove (board : List Cell) (stones : List TakenStone) (move : Move) (number : ℕ) : Type 0 where
+  pub before : List Cell
+  pub earlier : List TakenStone
+  pub framed : IsFramed before
+  pub empty : IsVacant before move.vertex
+  pub board_is : board ≡ after before move
+  pub stones_are : stones ≡ earlier ++ taken_at number (taken_places before move.colour move.vertex)
+  pub numbers : AllByRecursion (λ t. t.number < number) earlier
+
+-- that move is unmade: the board and the taken stones are those before it, and it had taken `count`
+abbrev pub IsUnmade : List Cell → List TakenStone → Move → ℕ → List Cell → List TakenStone → ℕ → Type 0
+IsUnmade board stones move number new left count =
+    (h : IsAfterMove board stones move number)
+    → (new ≡ h.before) × (left ≡ h.earlier) × (count ≡ captures_of_vertex h.before move.colour move.vertex)
+
+-- the board with stones like this set on these points, and nothing removed
+abbrev pub with_stones : List Cell → Cell → List ℕ → List Cell
+with_stones board this [] = board
+with_stones board this (p ∷ ps) = slice_set (with_stones board this ps) p this
+
+-- the stones at the end that the move with this number took stood on points that are empty, in the order of their
+-- places
+abbrev pub AreLastPoints : List Cell → List TakenStone → ℕ → Type 0
+AreLastPoints board stones number =
+    (before : List TakenStone) (p : ℕ) (later : List ℕ)
+    → stones ≡ before ++ record { place = p; number = number } ∷ taken_at number later
+    → (at board p ≡ Empty) × AllByRecursion (λ r. p < r) later
+
+-- those stones were put back, as stones like this, and none is left
+pub record IsRestored (board : List Cell) (this : Cell) (number : ℕ) (stones left : List TakenStone) (new : List Cell)
+    (count : ℕ) : Type 0 where
+  pub places : List ℕ
+  pub board_is : new ≡ with_stones board this places
+  pub stones_are : stones ≡ left ++ taken_at number places
+  pub counted : count ≡ length places
+  pub all : IsNotLast left number
+
+-- ---- which boards may have had a stone
+
+-- Of these stones, one of this colour was taken from the place, when `k` moves or more had been made.
+pub record WasTaken (game : GameRecord) (stones : List TakenStone) (c : Colour) (place k : ℕ) : Type 0 where
+  pub number : ℕ
+  pub later : k ≤ number
+  pub there : Contains stones (record { place = place; number = number })
+  pub mover : Move
+  pub made : slice_get game.moves number ≡ Some mover
+  pub differs : mover.colour ≢ c
+
+-- such a stone stood there only on boards of fewer moves than this
+abbrev pub StoodBelow : GameRecord → Colour → ℕ → ℕ → Type 0
+StoodBelow game c place few = (k : ℕ) → WasTaken game (stack_of game) c place k → k < few
+
+-- `less` is `few`, or the move's stone is of this colour, and one like it that was taken from its point stood there
+-- only on boards of fewer moves than `less`.
+abbrev pub IsAlsoBelow : GameRecord → Colour → Colour → Vertex → ℕ → ℕ → Type 0
+IsAlsoBelow game c mover Pass few less = less ≡ few
+IsAlsoBelow game c mover (At p) few less = (less ≡ few) ⊎ ((mover ≡ c) × StoodBelow game c p less)
+
+-- a play brings back only boards of fewer moves than this
+abbrev pub RepeatsBelow : GameRecord → Colour → ℕ → ℕ → Type 0
+RepeatsBelow game c p few =
+    (k : ℕ) → k ≤ length game.moves → play (board_of game) c p ≡ board_of (first_moves k game) → k < few
+
+-- ---- a move made again
+
+-- the stones stood on points of the board
+abbrev pub ArePoints : List Cell → List TakenStone → Type 0
+ArePoints board stones = AllByRecursion (λ t. at board t.place ≢ Edge) stones
+
+-- the board once the points are cleared of the stones at the front that the move with this number took
+abbrev pub cleared : List Cell → ℕ → List TakenStone → List Cell
+cleared board number [] = board
+cleared board number (taken ∷ stones) =
+    if taken.number == number then cleared (slice_set board taken.place Empty) number stones else board
+
+-- the stones behind those
+abbrev pub later_than : ℕ → List TakenStone → List TakenStone
+later_than number [] = []
+later_than number (taken ∷ stones) = if taken.number == number then later_than number stones else taken ∷ stones
+
+-- On this board the move, before which `number` others were made, took the stones at the front, and later moves the
+-- others.
+pub record AreTakenBy (board : List Cell) (c : Colour) (v : Vertex) (number : ℕ) (stones : List TakenStone) : Type 0 where
+  pub later : List TakenStone
+  pub are : stones ≡ taken_at number (taken_places board c v) ++ later
+  pub others : AllByRecursion (λ t. number < t.number) later

@@ -1,0 +1,132 @@
+//! The id of each place of a board.
+ghost use Rattle.std.specs.Prelude.{◌≡◌, ◌<◌, ◌↔◌, IsTrue};
+ghost use Rattle.go_board.specs.Board.{place_count};
+ghost use Rattle.go_board.specs.private.Steps.{rename};
+
+use crate::board::{Board, PLACES, ROW};
+use crate::places::Places;
+use std::marker::Model;
+
+/// A id for each place of a board. A id is a place too.
+#[derive(Clone, Copy)]
+pub struct ChainIds {
+    ids: [u16; PLACES],
+}
+
+impl Model for ChainIds {
+    ghost use Rattle.std.specs.Prelude.{List, ℕ};
+
+    ghost Value = { List ℕ };
+
+    ghost view = { λ l. l.ids };
+
+    ghost use Rattle.go_board.specs.private.ChainId.{AreOnBoard};
+
+    ghost invariant = { λ l. AreOnBoard l.ids };
+
+    ghost inverse = { λ ids. record { ids = ids } };
+}
+
+impl ChainIds {
+    ghost use Rattle.std.specs.Prelude.{length, replicate, slice_set, map};
+    ghost use Rattle.go_board.specs.private.ChainId.{id_of, AreChainIds};
+    ghost use Rattle.go_board.specs.private.Steps.{rename_three, HasInRow, AreGiven, AreOthersKept};
+    ghost use Rattle.go_board.specs.private.Frame.{IsFramed};
+
+    /// Each place has id 0, which is no stone's.
+    pub fn none() -> Self
+        ensures { result ≡ replicate place_count 0 }
+    {
+        ChainIds { ids: [0; PLACES] }
+    }
+
+    /// The id of a place.
+    #[inline]
+    pub fn at(&self, place: usize) -> usize
+        requires { place < place_count }
+        ensures value { result ≡ id_of self.now place }
+        ensures below { result < place_count }
+    {
+        usize::from(self.ids[place])
+    }
+
+    /// Gives a place a id.
+    #[inline]
+    pub fn set(&mut self, place: usize, id: usize)
+        requires place { place < place_count }
+        requires id { id < place_count }
+        ensures value { self.new ≡ slice_set self.old place id }
+        ensures long { length self.old ≡ place_count }
+    {
+        self.ids[place] = id as u16;
+    }
+
+    /// Gives places a id.
+    pub fn set_all(&mut self, places: &Places, id: usize)
+        requires { id < place_count }
+        ensures given { AreGiven self.new places.now id }
+        ensures others { AreOthersKept self.old self.new places.now }
+        ensures long { length self.new ≡ place_count }
+    {
+        // For the proof alone (decision 79): looked at, it tells by its invariant how many ids there are.
+        let _ = &self.ids;
+        for index in 0..places.len() {
+            self.set(places.get(index), id);
+        }
+    }
+
+    /// The ids of the chains of a board, made anew: each chain's is its first place.
+    pub fn from_board(board: &Board) -> ChainIds
+        requires { IsFramed board.now }
+        ensures { AreChainIds board.now result }
+    {
+        let mut ids = ChainIds::none();
+        let mut chain = Places::new();
+        for place in 0..PLACES {
+            if board.at(place).is_stone() && ids.at(place) == 0 {
+                board.chain_into(place, &mut chain);
+                ids.set_all(&chain, place);
+            }
+        }
+        ids
+    }
+
+    /// Whether a place of a row has a id.
+    #[inline]
+    pub fn has_in_row(&self, row: usize, id: usize) -> bool
+        requires row { row < 27 }
+        requires id { id < place_count }
+        ensures { IsTrue result ↔ HasInRow self.now row id }
+    {
+        let id = id as u16;
+        let mut has = false;
+        for place in ROW * row..ROW * row + ROW {
+            if self.ids[place] == id {
+                has = true;
+            }
+        }
+        has
+    }
+
+    /// Turns three ids into one, in one pass.
+    pub fn join(&mut self, to: usize, a: usize, b: usize, c: usize)
+        requires to { to < place_count }
+        requires a { a < place_count }
+        requires b { b < place_count }
+        requires c { c < place_count }
+        ensures { self.new ≡ map (rename_three to a b c) self.old }
+    {
+        let (to, a, b, c) = (to as u16, a as u16, b as u16, c as u16);
+        for id in &mut self.ids {
+            *id = rename(to, c, rename(to, b, rename(to, a, *id)));
+        }
+    }
+}
+
+/// What a id becomes where one id turns into another.
+#[inline]
+fn rename(to: u16, from: u16, id: u16) -> u16
+    ensures { result ≡ rename to from id }
+{
+    if id == from { to } else { id }
+}

@@ -1,0 +1,154 @@
+//! The count of each id: its stones' empty neighbours, added up.
+ghost use Rattle.std.specs.Prelude.{◌≡◌, ◌+◌, ◌-◌, ◌<◌, ◌≤◌};
+ghost use Rattle.go_base.specs.Point.{IsOn};
+ghost use Rattle.go_base.specs.Size.{most_size};
+ghost use Rattle.go_board.specs.Board.{place_count};
+
+use crate::board::{Board, PLACES, ROW};
+use crate::chain_ids::ChainIds;
+use std::marker::Model;
+
+/// A number for each id.
+#[derive(Clone, Copy)]
+pub struct PseudoLiberties {
+    counts: [u16; PLACES],
+}
+
+impl Model for PseudoLiberties {
+    ghost use Rattle.std.specs.Prelude.{◌≡◌, List, ℕ, length};
+
+    ghost Value = { List ℕ };
+
+    ghost view = { λ c. c.counts };
+
+    ghost use Rattle.go_board.specs.Board.{place_count};
+
+    ghost invariant = { λ c. length c.counts ≡ place_count };
+
+    ghost inverse = { λ counts. record { counts = counts } };
+}
+
+impl PseudoLiberties {
+    ghost use Rattle.std.specs.Prelude.{replicate, slice_set};
+    ghost use Rattle.go_board.specs.private.Frame.{IsFramed};
+    ghost use Rattle.go_board.specs.private.ChainId.{count_at, ArePseudoLiberties};
+    ghost use Rattle.go_board.specs.private.Steps.{most_pseudo_liberties, IsBelow, IsLowered, AreLowered, IsRaised, AreRaised};
+    ghost use Rattle.go_board.specs.private.Steps.{IsMoved};
+
+    /// Each id counts 0.
+    pub fn zero() -> Self
+        ensures { result ≡ replicate place_count 0 }
+    {
+        PseudoLiberties {
+            counts: [0; PLACES],
+        }
+    }
+
+    /// The counts of a board with these ids, made anew.
+    pub fn new(board: &Board, ids: &ChainIds) -> Self
+        requires { IsFramed board.now }
+        ensures { ArePseudoLiberties board.now ids.now result }
+    {
+        let mut counts = PseudoLiberties::zero();
+        for place in 0..PLACES {
+            if board.at(place).is_stone() {
+                let more = board.empty_beside(place);
+                counts.add(ids.at(place), more);
+            }
+        }
+        counts
+    }
+
+    /// What a id counts.
+    #[inline]
+    pub fn at(&self, id: usize) -> u32
+        requires { id < place_count }
+        ensures { result ≡ count_at self.now id }
+    {
+        u32::from(self.counts[id])
+    }
+
+    /// A id counts `more` more.
+    #[inline]
+    pub fn add(&mut self, id: usize, more: u32)
+        requires id { id < place_count }
+        requires room { count_at self.old id + more ≤ 65535 }
+        ensures { self.new ≡ slice_set self.old id (count_at self.old id + more) }
+    {
+        self.counts[id] += more as u16;
+    }
+
+    /// A id counts `less` less, and not less than 0.
+    #[inline]
+    pub fn lessen(&mut self, id: usize, less: u32)
+        requires id { id < place_count }
+        requires less { less ≤ 65535 }
+        ensures { self.new ≡ slice_set self.old id (count_at self.old id - less) }
+    {
+        self.counts[id] = self.counts[id].saturating_sub(less as u16);
+    }
+
+    /// What a id counts goes over to another id, unless they are one.
+    #[inline]
+    pub fn merge(&mut self, to: usize, from: usize)
+        requires to { to < place_count }
+        requires from { from < place_count }
+        requires room { count_at self.old to + count_at self.old from ≤ 65535 }
+        ensures { IsMoved self.old self.new to from }
+    {
+        if to != from {
+            self.counts[to] += self.counts[from];
+            self.counts[from] = 0;
+        }
+    }
+
+    /// The id of the stone on a place, if one is there, counts one less.
+    #[inline]
+    fn lower(&mut self, board: &Board, ids: &ChainIds, place: usize)
+        requires { place < place_count }
+        ensures { IsLowered board.now ids.now self.old self.new place }
+    {
+        if board.at(place).is_stone() {
+            self.lessen(ids.at(place), 1);
+        }
+    }
+
+    /// The ids of the stones beside a point count one less for each of them.
+    #[inline]
+    pub fn lower_beside(&mut self, board: &Board, ids: &ChainIds, place: usize)
+        requires { IsOn most_size place }
+        ensures { AreLowered board.now ids.now self.old self.new place }
+    {
+        self.lower(board, ids, place + 1);
+        self.lower(board, ids, place - 1);
+        self.lower(board, ids, place + ROW);
+        self.lower(board, ids, place - ROW);
+    }
+
+    /// The id of the stone on a place, if one is there, counts one more. Three such calls may have come before.
+    #[inline]
+    fn raise(&mut self, board: &Board, ids: &ChainIds, place: usize)
+        requires place { place < place_count }
+        requires room { IsBelow (most_pseudo_liberties + 3) self.old }
+        ensures { IsRaised board.now ids.now self.old self.new place }
+    {
+        // For the proof alone (decision 79): looked at, they tell by the invariant how many they are.
+        let _ = &self.counts;
+        if board.at(place).is_stone() {
+            self.add(ids.at(place), 1);
+        }
+    }
+
+    /// The ids of the stones beside a point count one more for each of them.
+    #[inline]
+    pub fn raise_beside(&mut self, board: &Board, ids: &ChainIds, place: usize)
+        requires point { IsOn most_size place }
+        requires room { IsBelow most_pseudo_liberties self.old }
+        ensures { AreRaised board.now ids.now self.old self.new place }
+    {
+        self.raise(board, ids, place + 1);
+        self.raise(board, ids, place - 1);
+        self.raise(board, ids, place + ROW);
+        self.raise(board, ids, place - ROW);
+    }
+}

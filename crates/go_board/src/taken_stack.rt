@@ -1,0 +1,119 @@
+//! The stones that moves have taken.
+ghost use Rattle.std.specs.Prelude.{◌≡◌, ◌<◌, ◌≤◌, ◌++◌, ◌↔◌, [], ◌∷◌, length, IsTrue};
+ghost use Rattle.go_board.specs.Board.{place_count};
+ghost use Rattle.go_board.specs.private.TakenStack.{most_taken};
+
+use arrayvec::ArrayVec;
+use std::marker::Model;
+
+/// How many stones there is room for: each was put down by one of 2,000 moves, or is one of 9 of a handicap.
+pub const MOST_TAKEN: usize = 2009;
+
+/// A stone that a move took.
+#[derive(Clone, Copy, Debug, PartialEq, Eq)]
+pub struct TakenStone {
+    /// Where it stood.
+    pub place: u16,
+    /// How many moves came before the move that took it.
+    pub number: u16,
+}
+
+impl Default for TakenStone {
+    ghost use Rattle.std.specs.Prelude.{◌≡◌};
+
+    ghost is_default = { λ taken. taken ≡ record { place = 0; number = 0 } };
+
+    /// Place 0, before all moves.
+    fn default() -> TakenStone {
+        TakenStone {
+            place: 0,
+            number: 0,
+        }
+    }
+}
+
+/// The stones that moves have taken, the latest last.
+#[derive(Drop)]
+pub struct TakenStack {
+    stones: ArrayVec<TakenStone, MOST_TAKEN>,
+}
+
+impl Model for TakenStack {
+    ghost use Rattle.std.specs.Prelude.{List};
+    ghost use Rattle.go_board.specs.declared.taken_stack.TakenStone.{TakenStone};
+
+    ghost Value = { List TakenStone };
+
+    ghost view = { λ r. r.stones.items };
+}
+
+impl TakenStack {
+    ghost use Rattle.std.specs.Prelude.{IfSome, IfNone, ℕ};
+    ghost use Rattle.go_board.specs.private.TakenStack.{IsNotLast, IsOnlyTaken};
+
+    /// No stone.
+    pub fn new() -> Self
+        ensures { result ≡ [] }
+    {
+        TakenStack {
+            stones: ArrayVec::new(),
+        }
+    }
+
+    /// Adds a stone.
+    #[inline]
+    pub fn push(&mut self, place: usize, number: usize)
+        requires place { place < place_count }
+        requires number { number < 65536 }
+        requires room { length self.old < most_taken }
+        ensures { self.new ≡ self.old ++ record { place = place; number = number } ∷ [] }
+    {
+        self.stones.push(TakenStone {
+            place: place as u16,
+            number: number as u16,
+        });
+    }
+
+    /// Pops the last stone, if the move with this number took it, and returns its place.
+    pub fn pop_taken_by(&mut self, number: usize) -> Option<usize>
+        ensures some { IfSome result
+            (λ place. self.old ≡ self.new ++ record { place = place; number = number } ∷ []) }
+        ensures none { IfNone result (IsNotLast self.old number) }
+        ensures unchanged { IfNone result (self.new ≡ self.old) }
+        ensures few { length self.old ≤ most_taken }
+    {
+        let (last, _) = self.stones.split_last()?;
+        let last = *last;
+        if usize::from(last.number) != number {
+            return None;
+        }
+        // It is the one that was looked at.
+        let _ = self.stones.pop();
+        Some(usize::from(last.place))
+    }
+
+    /// The stones, the latest last.
+    #[inline]
+    pub fn stones(&self) -> &[TakenStone]
+        ensures { result.now ≡ self.now }
+    {
+        &self.stones
+    }
+
+    /// The place of the last stone, if it is the only one that the move with this number took.
+    pub fn only_taken_by(&self, number: usize) -> Option<usize>
+        ensures some { IfSome result (IsOnlyTaken self.now number) }
+        ensures none { IfNone result ((place : ℕ) → ¬ IsOnlyTaken self.now number place) }
+    {
+        let (last, earlier) = self.stones.split_last()?;
+        if usize::from(last.number) != number {
+            return None;
+        }
+        if let Some((before, _)) = earlier.split_last() {
+            if usize::from(before.number) == number {
+                return None;
+            }
+        }
+        Some(usize::from(last.place))
+    }
+}
