@@ -13,7 +13,12 @@ from .faulty import CLOSES, ENDS, SHUTS
 # engine answers as soon as it is sent something or only when it is waited for, and whether a write to an engine that has ended
 # fails. What comes of a drawn match has to be the same for all of these, but for the standard error under `--why`, which says how many
 # commands are unanswered. There `twogtp` sends as many as it may, in one write. And where what it says is a question of time, the
-# timing in which each read brings what was written at once finds out all that may be written.
+# timing in which each read brings what was written at once finds out all that may be written. That is so
+# - where an engine writes what is no reply and has other commands to answer: some of those answers may be read with it;
+# - where an engine is sent a script of more than eight commands: how many of them were sent when it fails goes by how many replies each
+#   read brought;
+# - where an engine ends by itself, and is written to after that: the write may fail, or the end of its output is met first;
+# - where an engine closes its output and goes on: it may end at the end of its input, before it is killed.
 Timing = namedtuple("Timing", "most is_quick breaks")
 PATIENT = Timing(MOST_UNANSWERED, False, False)
 TIMINGS = [

@@ -12,13 +12,13 @@ results = []
 
 
 def check(what, wanted, got):
-    """Tells whether the two are the same."""
+    """Prints whether the two are the same."""
     results.append(wanted == got)
     print(f"ok: {what}" if wanted == got else f"FAILED: {what}\n--- wanted\n{wanted}\n--- got\n{got}\n---", flush=True)
 
 
 def skip(what, why):
-    """Tells what isn't looked at, and why."""
+    """Prints what isn't looked at, and why."""
     print(f"skipped: {what}: {why}", flush=True)
 
 
