@@ -1,6 +1,7 @@
 //! Laws of the values and their texts.
 //!
-//! Each function does nothing: that it is proved is the law in its contract.
+//! Each function does nothing, or only compares: that it is proved is the law in its contract.
+ghost use Rattle.std.specs.Prelude.{◌≡◌, ◌↔◌, IsTrue};
 ghost use Rattle.go_base.specs.Int.{IntOfTells, IntsReadBack, SpellsOneInt};
 ghost use Rattle.go_base.specs.Colour.{ColourOfTells, ColoursReadBack, SpellsOneColour};
 ghost use Rattle.go_base.specs.Vertex.{VertexOfTells, VerticesReadBack, SpellsOneVertex};
@@ -9,6 +10,73 @@ ghost use Rattle.go_base.specs.Komi.{KomiOfTells, KomisReadBack, SpellsOneKomi};
 ghost use Rattle.go_base.specs.Point.{NeighboursAreBeside};
 ghost use Rattle.go_base.specs.Decimal.{IntsAreCounted, PointsAreCounted, PointsOnBoardsAreWithin};
 ghost use Rattle.go_base.specs.Decimal.{KomisAreTwiceTheirValue};
+
+use crate::choices::Choice;
+use crate::colours::Colour;
+use crate::komis::Komi;
+use crate::moves::Move;
+use crate::points::Point;
+use crate::sizes::Size;
+use crate::vertices::Vertex;
+
+/// A value of each kind.
+#[derive(Clone, Copy)]
+pub struct Values {
+    /// A size.
+    pub size: Size,
+    /// A colour.
+    pub colour: Colour,
+    /// A point.
+    pub point: Point,
+    /// A vertex.
+    pub vertex: Vertex,
+    /// A move.
+    pub played: Move,
+    /// A komi.
+    pub komi: Komi,
+    /// A choice.
+    pub choice: Choice,
+}
+
+/// Of which kinds the values are equal (`==`).
+#[derive(Clone, Copy)]
+pub struct Equal {
+    /// The sizes are.
+    pub size: bool,
+    /// The colours are.
+    pub colour: bool,
+    /// The points are.
+    pub point: bool,
+    /// The vertices are.
+    pub vertex: bool,
+    /// The moves are.
+    pub played: bool,
+    /// The komis are.
+    pub komi: bool,
+    /// The choices are.
+    pub choice: bool,
+}
+
+/// Two values are equal (`==`) exactly where they are one and the same. The function only compares.
+pub fn equality_law(one: Values, another: Values) -> Equal
+    ensures sizes { IsTrue result.size ↔ (one.size ≡ another.size) }
+    ensures colours { IsTrue result.colour ↔ (one.colour ≡ another.colour) }
+    ensures points { IsTrue result.point ↔ (one.point ≡ another.point) }
+    ensures vertices { IsTrue result.vertex ↔ (one.vertex ≡ another.vertex) }
+    ensures moves { IsTrue result.played ↔ (one.played ≡ another.played) }
+    ensures komis { IsTrue result.komi ↔ (one.komi ≡ another.komi) }
+    ensures choices { IsTrue result.choice ↔ (one.choice ≡ another.choice) }
+{
+    Equal {
+        size: one.size == another.size,
+        colour: one.colour == another.colour,
+        point: one.point == another.point,
+        vertex: one.vertex == another.vertex,
+        played: one.played == another.played,
+        komi: one.komi == another.komi,
+        choice: one.choice == another.choice,
+    }
+}
 
 /// A written int is read back, and a text spells at most one int.
 pub fn int_laws()

@@ -5,7 +5,6 @@ mod choices;
 mod colours;
 #[cfg(test)]
 mod equal;
-pub mod equality;
 mod handicaps;
 mod ints;
 mod komis;

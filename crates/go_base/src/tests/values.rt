@@ -1,6 +1,7 @@
 //! Ints, sizes and colours in every spelling.
-use crate::equal::{assert_equal, assert_equal_for};
-use crate::{Colour, Side, Size, read_int, write_int};
+use crate::equal::{assert_equal, assert_equal_for, some};
+use crate::laws::{Values, equality_law};
+use crate::{Choice, Colour, Komi, Move, Point, Side, Size, Vertex, read_int, write_int};
 
 /// Texts, and the int that each spells, if it spells one.
 static INTS: [(&str, Option<u32>); 15] = [
@@ -83,4 +84,30 @@ fn colours_in_every_spelling(rt: HostRuntime) {
     assert_equal(&rt, Colour::White.write(), b'w');
     assert_equal(&rt, Colour::Black.other(), Colour::White);
     assert_equal(&rt, Side::White.other(), Side::Black);
+}
+
+#[test]
+fn values_are_equal_kind_by_kind(rt: HostRuntime) {
+    let one = Values {
+        size: some(&rt, Size::new(9)),
+        colour: Colour::Black,
+        point: Point::default(),
+        vertex: Vertex::Pass,
+        played: Move::default(),
+        komi: some(&rt, Komi::from_half_points(13)),
+        choice: Choice::Resign,
+    };
+    let another = Values {
+        colour: Colour::White,
+        komi: some(&rt, Komi::from_half_points(-13)),
+        ..one
+    };
+    let equal = equality_law(one, another);
+    assert_equal(
+        &rt,
+        (equal.size, equal.colour, equal.point),
+        (true, false, true),
+    );
+    assert_equal(&rt, (equal.vertex, equal.played), (true, true));
+    assert_equal(&rt, (equal.komi, equal.choice), (false, true));
 }
