@@ -49,14 +49,14 @@ fn loses(
     cause: LossCause,
     want: Owes,
 ) {
-    let report = played.hear_telling(side, bytes);
+    let report = played.hear_reporting(side, bytes);
     assert_true(rt, report.retake.is_none());
     told(rt, report.loss, cause, want);
 }
 
 /// Nothing is reported of these bytes: no side is lost by them, and no refusal in them is retaken.
 fn goes_on(rt: &impl Abort, played: &mut Match, side: Side, bytes: &[u8]) {
-    let report = played.hear_telling(side, bytes);
+    let report = played.hear_reporting(side, bytes);
     assert_true(rt, report.retake.is_none());
     assert_true(rt, report.loss.is_none());
 }

@@ -22,7 +22,7 @@ fn retaken(rt: &impl Abort, retake: Option<Retake>, count: u32, want: Owes)
 
 /// These bytes of White end a refusal that is retaken, and nobody is lost by them.
 fn retakes(rt: &impl Abort, played: &mut Match, bytes: &[u8], count: u32, want: Owes) {
-    let report = played.hear_telling(Side::White, bytes);
+    let report = played.hear_reporting(Side::White, bytes);
     assert_true(rt, report.loss.is_none());
     retaken(rt, report.retake, count, want);
 }
@@ -80,10 +80,10 @@ fn assert_cut(rt: &impl Abort, bytes: &[u8], at: usize) {
     let first = some(rt, bytes.get(..at));
     let second = some(rt, bytes.get(at..));
     let mut played = white_told(rt);
-    let early = played.hear_telling(Side::White, first);
+    let early = played.hear_reporting(Side::White, first);
     assert_equal(rt, early.retake.is_some(), at >= 7);
     assert_equal(rt, early.loss.is_some(), at >= 11);
-    let late = played.hear_telling(Side::White, second);
+    let late = played.hear_reporting(Side::White, second);
     assert_equal(rt, late.retake.is_some(), at < 7);
     assert_equal(rt, late.loss.is_some(), at < 11);
     let refusal = (1, b"4 play b A1\n".as_slice(), b"?4 no\n\n".as_slice());
