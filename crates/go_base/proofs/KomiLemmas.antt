@@ -6,7 +6,7 @@ use Rattle.std.specs.Prelude.{codes, nat_le, nat_lt, unwrap_or}
 use Rattle.std.specs.Char.{is_ascii_digit, digit_value}
 use Rattle.std.specs.Str.Parse.{AllDigits, digits_value}
 use Rattle.std.proofs.lemmas.Bool.{cases_Bool, and_parts}
-use Rattle.std.proofs.lemmas.List.{length-replicate, length-append}
+use Rattle.std.proofs.lemmas.List.{length-replicate, length-append, append-nil}
 use Rattle.std.proofs.lemmas.Bool.Decides.{nat_tests}
 use Rattle.std.proofs.lemmas.Fmt.{decimal_is_IsNumeral, length-decimal-le}
 use Rattle.std.proofs.lemmas.Int.{ints}
@@ -15,47 +15,17 @@ use Rattle.go_base.specs.Int.{SpellsInt, int_of, written_int}
 use Rattle.go_base.specs.HalfPoints.{written_points, written_half_points}
 use Rattle.go_base.specs.Komi.{most_half_points, IsKomi, Sign, no_sign, plus, minus, sign_text, with_sign, Fraction}
 use Rattle.go_base.specs.Komi.{no_point, zeros, half, fraction_text, fraction_digits, fraction_value, SpellsKomi}
-use Rattle.go_base.specs.Komi.{sign_of, without_sign, front_digits, behind_digits, decimals_of, are_zeros, half_of}
+use Rattle.go_base.specs.Komi.{sign_of, without_sign, decimals_of, are_zeros, half_of}
 use Rattle.go_base.specs.Komi.{half_points_where, half_points_of_parts, unsigned_half_points_of, with_sign_where}
 use Rattle.go_base.specs.Komi.{komi_of}
+use Rattle.go_base.specs.Text.{front_while, skip_while}
+use Rattle.go_base.proofs.TextLemmas.{front_while-skip_while, list_all-front_while, front_while-append, skip_while-append, digits_model}
 use Rattle.go_base.proofs.IntLemmas.{digit_texts, int_of_spelled, digit_bounds, digit_value-digit}
 
 -- ---- digits
 
--- what `AllDigits` says of a byte, as the test
-digit_test : (b : ℕ) → digit_value b < 10 → is_ascii_digit b ≡ true
-digit_test b small = let range = digit_from_value b small in let low : 48 ≤ b = range.0 in
-    let high : b ≤ 57 = range.1 in
-    grind (arith, nat_tests)
-
-digit_value_small : (b : ℕ) → is_ascii_digit b ≡ true → digit_value b < 10
-digit_value_small b e = let range = digit_bounds b e in
-    let value = digit_value-digit b range.0 range.1 in
-    omega (arith, range.1)
-
-pub front_digits_are : (text : List ℕ) → AllDigits 10 (front_digits text)
-front_digits_are [] = tt
-front_digits_are (b ∷ bs) =
-    elim (cases_Bool (is_ascii_digit b)) [ inl e ↦ rw e (digit_value_small b e, front_digits_are bs) | inr e ↦ rw e tt ]
-
--- digits are all in front of what begins with none
-front_digits-append : (whole rest : List ℕ) → AllDigits 10 whole → front_digits rest ≡ []
-    → front_digits (whole ++ rest) ≡ whole
-front_digits-append [] rest digits none = none
-front_digits-append (b ∷ whole) rest digits none =
-    rw (digit_test b digits.0) (ap (λ t. b ∷ t) (front_digits-append whole rest digits.1 none))
-
-behind_digits-append : (whole rest : List ℕ) → AllDigits 10 whole → behind_digits rest ≡ rest
-    → behind_digits (whole ++ rest) ≡ rest
-behind_digits-append [] rest digits none = none
-behind_digits-append (b ∷ whole) rest digits none =
-    rw (digit_test b digits.0) (behind_digits-append whole rest digits.1 none)
-
--- a text is its digits in front and what is behind them
-digits_split : (text : List ℕ) → text ≡ front_digits text ++ behind_digits text
-digits_split [] = refl
-digits_split (b ∷ bs) =
-    elim (cases_Bool (is_ascii_digit b)) [ inl e ↦ rw e (ap (λ t. b ∷ t) (digits_split bs)) | inr e ↦ rw e refl ]
+pub front_digits_are : (text : List ℕ) → AllDigits 10 (front_while is_ascii_digit text)
+front_digits_are text = digits_model.to _ (list_all-front_while is_ascii_digit text)
 
 pub digits_value_few : (whole : List ℕ) → AllDigits 10 whole → length whole ≤ 9 → digits_value 10 whole ≤ 999999999
 digits_value_few whole digits few =
@@ -98,15 +68,15 @@ decimals_of_fraction no_point = refl
 decimals_of_fraction (zeros n) = refl
 decimals_of_fraction (half n) = refl
 
-front_of_fraction : (fraction : Fraction) → front_digits (fraction_text fraction) ≡ []
+front_of_fraction : (fraction : Fraction) → front_while is_ascii_digit (fraction_text fraction) ≡ []
 front_of_fraction no_point = refl
 front_of_fraction (zeros n) = refl
 front_of_fraction (half n) = refl
 
-behind_of_fraction : (fraction : Fraction) → behind_digits (fraction_text fraction) ≡ fraction_text fraction
-behind_of_fraction no_point = refl
-behind_of_fraction (zeros n) = refl
-behind_of_fraction (half n) = refl
+rest_of_fraction : (fraction : Fraction) → skip_while is_ascii_digit (fraction_text fraction) ≡ fraction_text fraction
+rest_of_fraction no_point = refl
+rest_of_fraction (zeros n) = refl
+rest_of_fraction (half n) = refl
 
 pub length_of_fraction : (fraction : Fraction) → length (fraction_decimals fraction) ≡ fraction_digits fraction
 length_of_fraction no_point = refl
@@ -188,11 +158,13 @@ unsigned_of_spelled : (n : ℕ) (text : List ℕ) → SpellsUnsigned n text → 
 unsigned_of_spelled n text s =
     let f = s.fraction in
     let count = length_of_fraction f in
+    let digits = digits_model.from s.whole s.digits in
     ap unsigned_half_points_of s.shape
-    ∙ ap (λ w. half_points_of_parts w (decimals_of (behind_digits (s.whole ++ fraction_text f))))
-    (front_digits-append s.whole (fraction_text f) s.digits (front_of_fraction f))
+    ∙ ap (λ w. half_points_of_parts w (decimals_of (skip_while is_ascii_digit (s.whole ++ fraction_text f))))
+    (front_while-append is_ascii_digit s.whole (fraction_text f) digits ∙ ap (λ t. s.whole ++ t) (front_of_fraction f)
+    ∙ append-nil s.whole)
     ∙ ap (λ r. half_points_of_parts s.whole (decimals_of r))
-    (behind_digits-append s.whole (fraction_text f) s.digits (behind_of_fraction f))
+    (skip_while-append is_ascii_digit s.whole (fraction_text f) digits ∙ rest_of_fraction f)
     ∙ ap (half_points_of_parts s.whole) (decimals_of_fraction f)
     ∙ ap (half_points_where s.whole (fraction_decimals f)) (half_of_fraction f)
     ∙ half_points_here s.whole (fraction_decimals f) (digits_value 10 s.whole) (fraction_value f)
@@ -200,23 +172,23 @@ unsigned_of_spelled n text s =
     ∙ ap Some (sym s.value)
 
 -- the number that the code makes of the parts of a text
-pub unsigned_read : (text decimals : List ℕ) (points halves : ℕ) → Some decimals ≡ decimals_of (behind_digits text)
+pub unsigned_read : (text decimals : List ℕ) (points halves : ℕ) → Some decimals ≡ decimals_of (skip_while is_ascii_digit text)
     → Some halves ≡ half_of decimals
-    → 0 < length (front_digits text) + length decimals → length (front_digits text) ≤ 9 → length decimals ≤ 9
-    → points ≡ unwrap_or (int_of (front_digits text)) 0
+    → 0 < length (front_while is_ascii_digit text) + length decimals → length (front_while is_ascii_digit text) ≤ 9 → length decimals ≤ 9
+    → points ≡ unwrap_or (int_of (front_while is_ascii_digit text)) 0
     → Some (2 * points + halves) ≡ unsigned_half_points_of text
 unsigned_read text decimals points halves decimals_is halves_is some few_before few_behind points_is =
-    let whole = front_digits text in
+    let whole = front_while is_ascii_digit text in
     sym
     (ap (half_points_of_parts whole) (sym decimals_is)
     ∙ ap (half_points_where whole decimals) (sym halves_is)
     ∙ half_points_here whole decimals points halves some few_before few_behind
     (points_is ∙ value_of_digits whole (front_digits_are text) few_before))
 
-pub unsigned_read_limit : (text : List ℕ) (points halves : ℕ) → halves ≤ 1 → length (front_digits text) ≤ 9
-    → points ≡ unwrap_or (int_of (front_digits text)) 0 → 2 * points + halves ≤ most_half_points
+pub unsigned_read_limit : (text : List ℕ) (points halves : ℕ) → halves ≤ 1 → length (front_while is_ascii_digit text) ≤ 9
+    → points ≡ unwrap_or (int_of (front_while is_ascii_digit text)) 0 → 2 * points + halves ≤ most_half_points
 unsigned_read_limit text points halves few_halves few_before points_is =
-    let whole = front_digits text in
+    let whole = front_while is_ascii_digit text in
     omega (
       arith,
       points_is ∙ value_of_digits whole (front_digits_are text) few_before,
@@ -264,13 +236,13 @@ parts_of whole (Some decimals) n e = parts_where whole decimals (half_of decimal
 
 spells_unsigned_of : (n : ℕ) (text : List ℕ) → unsigned_half_points_of text ≡ Some n → SpellsUnsigned n text
 spells_unsigned_of n text e =
-    let whole = front_digits text in
-    let parts = parts_of whole (decimals_of (behind_digits text)) n e in
-    let f = fraction_of_rest (behind_digits text) parts.decimals parts.halves parts.behind_is parts.half_is in
+    let whole = front_while is_ascii_digit text in
+    let parts = parts_of whole (decimals_of (skip_while is_ascii_digit text)) n e in
+    let f = fraction_of_rest (skip_while is_ascii_digit text) parts.decimals parts.halves parts.behind_is parts.half_is in
     record {
       whole = whole;
       fraction = f.fraction;
-      shape = digits_split text ∙ ap (λ r. whole ++ r) f.text_is;
+      shape = front_while-skip_while is_ascii_digit text ∙ ap (λ r. whole ++ r) f.text_is;
       digits = front_digits_are text;
       few_before = parts.few_before;
       few_behind = omega (arith, parts.few_behind, f.count_is);

@@ -7,6 +7,7 @@ use Rattle.std.specs.List.{list_all}
 use Rattle.std.specs.Str.Parse.{AllDigits, digits_value}
 use Rattle.go_base.specs.Bytes.{plus_sign, minus_sign, decimal_point, digit_0, digit_5}
 use Rattle.go_base.specs.HalfPoints.{written_half_points}
+use Rattle.go_base.specs.Text.{front_while, skip_while}
 
 -- the greatest number of half points, either way: 999,999,999.5 points
 abbrev pub most_half_points : ℕ
@@ -43,7 +44,7 @@ with_sign no_sign n = pos n
 with_sign plus n = pos n
 with_sign minus n = neg_ℤ (pos n)
 
--- what stands behind the whole part: nothing; a point and zeros, by their number; or a point, a 5 and zeros
+-- what follows the whole part: nothing; a point and zeros, by their number; or a point, a 5 and zeros
 pub data Fraction : Type 0 where
   no_point : Fraction
   zeros : ℕ → Fraction
@@ -54,7 +55,7 @@ fraction_text no_point = []
 fraction_text (zeros n) = codes "." ++ replicate n digit_0
 fraction_text (half n) = codes ".5" ++ replicate n digit_0
 
--- how many digits stand behind the point
+-- how many digits are after the point
 abbrev pub fraction_digits : Fraction → ℕ
 fraction_digits no_point = 0
 fraction_digits (zeros n) = n
@@ -88,17 +89,7 @@ sign_of (b ∷ bs) = if b == plus_sign then plus else (if b == minus_sign then m
 abbrev pub without_sign : List ℕ → List ℕ
 without_sign text = drop (length (sign_text (sign_of text))) text
 
--- the digits in front
-abbrev pub front_digits : List ℕ → List ℕ
-front_digits [] = []
-front_digits (b ∷ bs) = if is_ascii_digit b then b ∷ front_digits bs else []
-
--- what follows them
-abbrev pub behind_digits : List ℕ → List ℕ
-behind_digits [] = []
-behind_digits (b ∷ bs) = if is_ascii_digit b then behind_digits bs else b ∷ bs
-
--- the digits behind the point, where what follows the whole part is nothing or begins with a point
+-- the digits after the point, where what follows the whole part is nothing or begins with a point
 abbrev pub decimals_of : List ℕ → Option (List ℕ)
 decimals_of [] = Some []
 decimals_of (b ∷ bs) = if b == decimal_point then Some bs else None
@@ -106,13 +97,13 @@ decimals_of (b ∷ bs) = if b == decimal_point then Some bs else None
 abbrev pub are_zeros : List ℕ → Bool
 are_zeros digits = list_all (λ digit. digit == digit_0) digits
 
--- the half points of the digits behind the point, where they are none, zeros alone, or 5 and zeros
+-- the half points of the digits after the point, where they are none, zeros alone, or 5 and zeros
 abbrev pub half_of : List ℕ → Option ℕ
 half_of [] = Some 0
 half_of (b ∷ bs) =
     if are_zeros bs then (if b == digit_0 then Some 0 else (if b == digit_5 then Some 1 else None)) else None
 
--- the half points of a whole part and the digits behind the point, where there is a digit and not too many
+-- the half points of a whole part and the digits after the point, where there is a digit and not too many
 abbrev pub half_points_where : List ℕ → List ℕ → Option ℕ → Option ℕ
 half_points_where whole decimals None = None
 half_points_where whole decimals (Some halves) =
@@ -126,7 +117,8 @@ half_points_of_parts whole (Some decimals) = half_points_where whole decimals (h
 
 -- the half points that a text without a sign spells, where it spells some
 abbrev pub unsigned_half_points_of : List ℕ → Option ℕ
-unsigned_half_points_of text = half_points_of_parts (front_digits text) (decimals_of (behind_digits text))
+unsigned_half_points_of text = half_points_of_parts (front_while is_ascii_digit text)
+    (decimals_of (skip_while is_ascii_digit text))
 
 abbrev pub with_sign_where : Sign → Option ℕ → Option ℤ
 with_sign_where sign None = None

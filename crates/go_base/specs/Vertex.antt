@@ -1,9 +1,9 @@
 -- Vertices, and the texts that spell them. (The standard's simple entities: vertex. That a row has no leading zeros is
 -- own.)
-use Rattle.std.specs.Prelude.{◌≡◌, ℕ, ◌+◌, ◌-◌, ◌↔◌, Bool, false, ◌&&◌, ◌==◌, nat_le, List, [], ◌∷◌, ◌++◌}
+use Rattle.std.specs.Prelude.{◌≡◌, ℕ, ◌+◌, ◌-◌, ◌↔◌, Bool, false, ◌&&◌, ◌==◌, nat_le, List, [], ◌∷◌}
 use Rattle.std.specs.Prelude.{Option, Some, None, option_map, codes, if◌then◌else◌}
 use Rattle.std.specs.Char.{to_ascii_uppercase}
-use Rattle.go_base.specs.Bytes.{digit_0, space, capital_a, capital_h, capital_j, capital_z}
+use Rattle.go_base.specs.Bytes.{digit_0, capital_a, capital_h, capital_j, capital_z}
 use Rattle.go_base.specs.Int.{int_of, written_int}
 use Rattle.go_base.specs.Size.{most_size}
 use Rattle.go_base.specs.Point.{point, column_of, row_of, IsOn}
@@ -31,11 +31,6 @@ SpellsVertex (At p) text = SpellsPoint p text
 abbrev pub written_vertex : Vertex → List ℕ
 written_vertex Pass = codes "pass"
 written_vertex (At p) = letter_of (column_of p) ∷ written_int (row_of p)
-
--- the text with a word more: after a space, where the text isn't empty
-abbrev pub joined : List ℕ → List ℕ → List ℕ
-joined [] word = word
-joined (byte ∷ text) word = (byte ∷ text) ++ (space ∷ word)
 
 -- the column of a letter, capital or small, where it has one
 abbrev pub column_of_letter : ℕ → Option ℕ

@@ -1,6 +1,9 @@
 //! Ints of the protocol.
-ghost use Rattle.std.specs.Prelude.{◌≡◌, ℕ, IfSome, IfNone};
+ghost use Rattle.std.specs.Prelude.{◌≡◌, ◌+◌, ◌≤◌, ℕ, IfSome, IfNone, length};
+ghost use Rattle.std.specs.Char.{is_ascii_digit};
+ghost use Rattle.std.specs.List.{prefix_len};
 ghost use Rattle.go_base.specs.Int.{SpellsInt, int_of, written_int};
+ghost use Rattle.go_base.specs.Text.{front_while, skip_while};
 
 use arrayvec::ArrayVec;
 
@@ -29,6 +32,24 @@ pub fn read_int(text: &[u8]) -> Option<u32>
         value = value * 10 + digit;
     }
     Some(value)
+}
+
+/// The digits in front of a text, and what follows them.
+#[tactic(auto, using(crate::proofs::TextLemmas::take_prefix_len, crate::proofs::TextLemmas::drop_prefix_len))]
+pub fn split_digits(text: &[u8]) -> (&[u8], &[u8])
+    ensures digits { result.0.now ≡ front_while is_ascii_digit text.now }
+    ensures rest { result.1.now ≡ skip_while is_ascii_digit text.now }
+    ensures len { length result.0.now + length result.1.now ≡ length text.now }
+{
+    text.split_at(digits_len(text))
+}
+
+/// How many digits are in front of a text.
+fn digits_len(text: &[u8]) -> usize
+    ensures value { result ≡ prefix_len is_ascii_digit text.now }
+    ensures within { result ≤ length text.now }
+{
+    text.iter().take_while(|byte| byte.is_ascii_digit()).count()
 }
 
 /// Writes a number in decimal, without leading zeros. Up to 2,147,483,647 this is the written spelling of an int.

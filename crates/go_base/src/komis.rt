@@ -5,10 +5,11 @@ ghost use Rattle.std.specs.Option.{option_copied};
 ghost use Rattle.go_base.specs.HalfPoints.{written_half_points};
 ghost use Rattle.go_base.specs.Komi.{IsKomi, SpellsKomi, komi_of, most_half_points};
 ghost use Rattle.go_base.specs.Komi.{sign_of, minus, without_sign, unsigned_half_points_of};
-ghost use Rattle.go_base.specs.Komi.{front_digits, behind_digits, decimals_of, half_of, are_zeros};
+ghost use Rattle.go_base.specs.Komi.{decimals_of, half_of, are_zeros};
 
-use crate::ints::read_int;
+use crate::ints::{read_int, split_digits};
 use crate::scores::write_half_points;
+use crate::texts::push;
 use arrayvec::ArrayVec;
 use std::marker::Model;
 
@@ -84,8 +85,7 @@ impl Komi {
         }
         let mut text = ArrayVec::new();
         text.push(b'-');
-        // There is room: a komi has at most nine digits before its point.
-        let _ = text.try_extend_from_slice(&points);
+        push(&mut text, &points);
         text
     }
 }
@@ -135,18 +135,6 @@ fn may_stand(before: usize, behind: usize) -> bool
     ensures { IsTrue result ↔ ((0 < before + behind) × (before ≤ 9) × (behind ≤ 9)) }
 {
     (before > 0 || behind > 0) && before <= MOST_DIGITS && behind <= MOST_DIGITS
-}
-
-/// The digits in front, and what follows them.
-fn split_digits(text: &[u8]) -> (&[u8], &[u8])
-    ensures front { result.0.now ≡ front_digits text.now }
-    ensures behind { result.1.now ≡ behind_digits text.now }
-{
-    let mut end = 0;
-    while end < text.len() && text[end].is_ascii_digit() {
-        end += 1;
-    }
-    text.split_at(end)
 }
 
 /// What follows the point.

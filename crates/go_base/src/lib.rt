@@ -20,13 +20,13 @@ mod vertices;
 pub use choices::Choice;
 pub use colours::{Colour, Side};
 pub use handicaps::handicap;
-pub use ints::{read_int, write_int};
+pub use ints::{read_int, split_digits, write_int};
 pub use komis::Komi;
 pub use moves::Move;
 pub use points::Point;
 pub use scores::{write_half_points, write_score};
 pub use sizes::Size;
-pub use texts::{push, push_vertex};
+pub use texts::{push, push_vertex, push_word};
 pub use vertices::Vertex;
 
 #[cfg(test)]

@@ -3,6 +3,7 @@ ghost use Rattle.std.specs.Prelude.{◌≡◌, ◌≤◌, pos, length};
 ghost use Rattle.go_base.specs.HalfPoints.{written_half_points, leader, score_text};
 
 use crate::ints::write_int;
+use crate::texts::push;
 use arrayvec::ArrayVec;
 
 /// Writes a number of half points in points: the whole part without leading zeros, and `.5` where there is a half.
@@ -10,10 +11,9 @@ pub fn write_half_points(half_points: u32) -> ArrayVec<u8, 12>
     ensures { result.items ≡ written_half_points (pos half_points) }
 {
     let mut text = ArrayVec::new();
-    // There is room for ten digits, a point and a 5.
-    let _ = text.try_extend_from_slice(&write_int(half_points / 2));
+    push(&mut text, &write_int(half_points / 2));
     if half_points % 2 == 1 {
-        let _ = text.try_extend_from_slice(b".5");
+        push(&mut text, b".5");
     }
     text
 }
@@ -24,9 +24,8 @@ pub fn write_score(half_points: i32) -> ArrayVec<u8, 14>
     ensures { result.items ≡ score_text half_points }
 {
     let mut text = ArrayVec::new();
-    // There is room for a letter, a plus and the points.
-    let _ = text.try_extend_from_slice(leader(half_points));
-    let _ = text.try_extend_from_slice(&write_half_points(half_points.unsigned_abs()));
+    push(&mut text, leader(half_points));
+    push(&mut text, &write_half_points(half_points.unsigned_abs()));
     text
 }
 

@@ -1,7 +1,9 @@
 //! Texts in lists with room for a fixed number of bytes, written piece by piece.
 ghost use Rattle.std.specs.Prelude.{◌≡◌, ◌+◌, ◌≤◌, ◌++◌, length};
 ghost use Rattle.arrayvec.specs.ArrayVec.{array_vec_len};
-ghost use Rattle.go_base.specs.Vertex.{joined, written_vertex};
+ghost use Rattle.go_base.specs.Bytes.{space};
+ghost use Rattle.go_base.specs.Text.{joined};
+ghost use Rattle.go_base.specs.Vertex.{written_vertex};
 
 use crate::vertices::Vertex;
 use arrayvec::ArrayVec;
@@ -16,14 +18,23 @@ pub fn push<const ROOM: usize>(text: &mut ArrayVec<u8, ROOM>, bytes: &[u8])
     let _ = text.try_extend_from_slice(bytes);
 }
 
+/// Appends a word, after the separator where the text isn't empty. There is room for both.
+pub fn push_word<const ROOM: usize>(text: &mut ArrayVec<u8, ROOM>, separator: u8, word: &[u8])
+    requires { array_vec_len text.old + 1 + length word.now ≤ ROOM }
+    ensures bytes { text.new.items ≡ joined separator text.old.items word.now }
+    ensures len { array_vec_len text.new ≤ array_vec_len text.old + 1 + length word.now }
+{
+    if !text.is_empty() {
+        text.push(separator);
+    }
+    push(text, word);
+}
+
 /// Appends a vertex, after a space where the text isn't empty. There is room for five bytes.
 pub fn push_vertex<const ROOM: usize>(text: &mut ArrayVec<u8, ROOM>, vertex: Vertex)
     requires { array_vec_len text.old + 5 ≤ ROOM }
-    ensures bytes { text.new.items ≡ joined text.old.items (written_vertex vertex) }
+    ensures bytes { text.new.items ≡ joined space text.old.items (written_vertex vertex) }
     ensures len { array_vec_len text.new ≤ array_vec_len text.old + 5 }
 {
-    if !text.is_empty() {
-        text.push(b' ');
-    }
-    push(text, &vertex.write());
+    push_word(text, b' ', &vertex.write());
 }

@@ -6,6 +6,7 @@ ghost use Rattle.go_base.specs.declared.vertices.Vertex.TheVariants.{At};
 
 use crate::ints::{read_int, write_int};
 use crate::points::Point;
+use crate::texts::push;
 use arrayvec::ArrayVec;
 
 /// A point, or a pass.
@@ -87,8 +88,7 @@ fn write_point(point: Point) -> ArrayVec<u8, 4>
 {
     let mut text = ArrayVec::new();
     text.push(point.letter());
-    // There is room: a row has at most two digits.
-    let _ = text.try_extend_from_slice(&write_int(point.row()));
+    push(&mut text, &write_int(point.row()));
     text
 }
 

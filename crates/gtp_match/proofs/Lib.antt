@@ -1,4 +1,3 @@
-pub mod WordLemmas
 pub mod CutLemmas
 pub mod SetupLemmas
 pub mod NameLemmas

@@ -11,7 +11,7 @@ use Rattle.go_board.specs.decisions.Game.{legal?}
 use Rattle.gtp_wire.specs.declared.commands.Command.{Command}
 use Rattle.gtp_wire.specs.declared.commands.Command.TheVariants as command
 use Rattle.gtp_wire.specs.declared.replies.Reply.{Reply}
-use Rattle.gtp_wire.proofs.LineLemmas.{AllByRecursion-append}
+use Rattle.go_base.proofs.General.{AllByRecursion-append}
 use Rattle.gtp_match.specs.declared.sides.Incarnation.{Incarnation}
 use Rattle.gtp_match.specs.declared.reply_table.Outcome.{Outcome}
 use Rattle.gtp_match.specs.declared.reply_table.Outcome.TheVariants.{Down, Unfit, Forfeits, Confirms, Resigns, Moves}

@@ -6,7 +6,7 @@ use Rattle.go_base.specs.Decide.{allows?}
 use Rattle.go_base.specs.Handicap.{AllowsHandicap}
 use Rattle.go_base.specs.Komi.{IsKomi}
 use Rattle.go_base.specs.Size.{IsSize}
-use Rattle.gtp_wire.proofs.LineLemmas.{test_cases}
+use Rattle.std.proofs.lemmas.Bool.{cases_Bool}
 use Rattle.gtp_match.specs.Setup.{SetupRecord, IsSetup, HandicapFits, RefusesSetup, IsOutOfLimits, IsFirstFault}
 use Rattle.gtp_match.specs.Setup.{SetupsHaveLimits}
 use Rattle.gtp_match.specs.declared.setup.SetupFault.{SetupFault}
@@ -22,7 +22,7 @@ handicap_unfit setup out (inl none) = out.0 none
 handicap_unfit setup out (inr allowed) = out.1 allowed
 
 zero_or : (n : ℕ) → (n ≡ 0) ⊎ (n ≢ 0)
-zero_or n = elim (test_cases (n == 0)) [
+zero_or n = elim (cases_Bool (n == 0)) [
   | inl e ↦ inl (grind (arith, nat_tests))
   | inr e ↦ inr (λ is. absurd (grind (arith, nat_tests)))
 ]
@@ -43,7 +43,7 @@ moves_within m fits (inl none) = let least = fits.0 in omega (arith, none, least
 moves_within m fits (inr many) = let most = fits.1 in omega (arith, many, most)
 
 moves_fit : (m : ℕ) → ¬ ((m ≡ 0) ⊎ (2000 < m)) → (1 ≤ m) × (m ≤ 2000)
-moves_fit m within = (by_least (test_cases (nat_le 1 m)), by_most (test_cases (nat_le m 2000)))
+moves_fit m within = (by_least (cases_Bool (nat_le 1 m)), by_most (cases_Bool (nat_le m 2000)))
   where
     by_least : (nat_le 1 m ≡ true) ⊎ (nat_le 1 m ≡ false) → 1 ≤ m
     by_least (inl e) = grind (arith, nat_tests)
@@ -54,7 +54,7 @@ moves_fit m within = (by_least (test_cases (nat_le 1 m)), by_most (test_cases (n
     by_most (inr e) = let many : 2000 < m = grind (arith, nat_tests) in absurd (within (inr many))
 
 moves_out : (m : ℕ) → ¬ ((1 ≤ m) × (m ≤ 2000)) → (m ≡ 0) ⊎ (2000 < m)
-moves_out m unfit = by_least (test_cases (nat_le 1 m)) (test_cases (nat_le m 2000))
+moves_out m unfit = by_least (cases_Bool (nat_le 1 m)) (cases_Bool (nat_le m 2000))
   where
     by_least : (nat_le 1 m ≡ true) ⊎ (nat_le 1 m ≡ false) → (nat_le m 2000 ≡ true) ⊎ (nat_le m 2000 ≡ false)
         → (m ≡ 0) ⊎ (2000 < m)
@@ -68,7 +68,7 @@ moves_out m unfit = by_least (test_cases (nat_le 1 m)) (test_cases (nat_le m 200
 -- ---- the restarts
 
 restarts_fit : (n : ℕ) → ¬ (1000 < n) → n ≤ 1000
-restarts_fit n within = by_most (test_cases (nat_le n 1000))
+restarts_fit n within = by_most (cases_Bool (nat_le n 1000))
   where
     by_most : (nat_le n 1000 ≡ true) ⊎ (nat_le n 1000 ≡ false) → n ≤ 1000
     by_most (inl e) = grind (arith, nat_tests)

@@ -2,5 +2,4 @@
 pub mod Conditions
 pub mod Feeding
 pub mod Lending
-pub mod Words
 pub mod Notices

@@ -24,7 +24,7 @@ use Rattle.go_board.specs.Game.{GameRecord, board_of, IsLegal}
 use Rattle.go_board.specs.Taken.{taken}
 use Rattle.go_board.specs.Show.{shown_point, shown_points, shown_row, shown_letters, shown_captures, rows_down, board_text}
 use Rattle.gtp_wire.specs.Bytes.{is_newline, is_blank}
-use Rattle.gtp_wire.proofs.LineLemmas.{AllByRecursion-append}
+use Rattle.go_base.proofs.General.{AllByRecursion-append}
 use Rattle.gtp_wire.specs.Replies.{has_two_newlines, is_shown, begins_blank, IsReplyText}
 
 -- ---- neat texts: bytes 33 to 126, with at most one space or newline between each two

@@ -1,19 +1,20 @@
 -- Where something is told: a reply at two newlines, and a fault at the first byte that begins none.
+use Rattle.go_base.specs.Text.{front_while}
+use Rattle.go_base.proofs.TextLemmas.{front_while-skip_while}
 use Rattle.std.proofs.Common.{◌≡◌, ℕ, ◌+◌, ◌≤◌, List, [], ◌∷◌, ◌++◌, length, take, Bool, true, false, Err}
 use Rattle.std.proofs.Common.{refl, sym, ◌∙◌, ap, subst, arith, eqb, ◌⊎◌, inl, inr, append_assoc, length-append}
-use Rattle.std.proofs.lemmas.Bool.{eqb-true}
+use Rattle.std.proofs.lemmas.Bool.{eqb-true, cases_Bool, or_parts}
 use Rattle.std.proofs.lemmas.Bool.Decides.{nat_tests}
 use Rattle.std.proofs.lemmas.List.{same_from_push, length-take-le, nil_from_length}
 use Rattle.std.proofs.lemmas.List.Elements.{All-from_recursion}
 use Rattle.std.specs.List.{AllByRecursion}
+use Rattle.go_base.specs.Text.{skip_while}
 use Rattle.gtp_wire.specs.declared.replies.Reply.{Reply}
 use Rattle.gtp_wire.specs.declared.replies.ReplyFault.TheVariants.{NoStatus}
 use Rattle.gtp_wire.specs.Bytes.{is_kept, space_for_tab, is_newline, is_space, is_blank}
-use Rattle.gtp_wire.specs.Replies.{prepared, behind, past_blanks, is_status, IsReply, IsFirst, IsNoStatus}
+use Rattle.gtp_wire.specs.Replies.{prepared, past_blanks, is_status, IsReply, IsFirst, IsNoStatus}
 use Rattle.gtp_wire.specs.AnyText.{IsControl, IsPassedOver, BeginsNone, BeginsWithStatus, EndsWithTwoNewlines}
 use Rattle.gtp_wire.specs.AnyText.{EndsStrangely, AnswersHaveShapes}
-use Rattle.gtp_wire.proofs.LineLemmas.{test_cases}
-use Rattle.gtp_wire.proofs.NewlineLemmas.{or_parts}
 use Rattle.gtp_wire.proofs.ReplyLemmas.{no_status_begun}
 use Rattle.gtp_wire.proofs.ReplyLaws.{one_first, prepared-append, past_blanks_behind}
 use Rattle.gtp_wire.proofs.ReplyReadingLemmas.{read_nothing, no_status_blank, no_reply_blank, first_byte, past_copy}
@@ -22,24 +23,10 @@ use Rattle.gtp_wire.proofs.Controls.{control_byte}
 
 -- ---- a reply
 
--- what is behind a front stands at the end
-record IsEnd (end whole : List ℕ) : Type 0 where
-  front : List ℕ
-  shape : whole ≡ front ++ end
-
-behind_end : (p : ℕ → Bool) (xs : List ℕ) → IsEnd (behind p xs) xs
-behind_end p [] = record { front = []; shape = refl }
-behind_end p (x ∷ xs) = elim (test_cases (p x)) [
-  | inl e ↦
-      let rest = behind_end p xs in
-      rw e (record { front = x ∷ rest.front; shape = ap (λ t. x ∷ t) rest.shape })
-  | inr e ↦ rw e (record { front = []; shape = refl })
-]
-
 -- where nothing is left, all are control characters
 none_left : (f : List ℕ) → prepared f ≡ [] → AllByRecursion IsControl f
 none_left [] none = tt
-none_left (b ∷ f) none = elim (test_cases (is_kept b)) [
+none_left (b ∷ f) none = elim (cases_Bool (is_kept b)) [
   | inl e ↦ let some : space_for_tab b ∷ prepared f ≡ [] = rw e at none in absurd (cc)
   | inr e ↦ let rest : prepared f ≡ [] = rw e at none in (control_byte b e, none_left f rest)
 ]
@@ -48,7 +35,7 @@ abbrev Same : ℕ → ℕ → Type 0
 Same a b = a ≡ b
 
 newline_prepared : (b : ℕ) → space_for_tab b ≡ 10 → b ≡ 10
-newline_prepared b same = elim (test_cases (eqb b 9)) [
+newline_prepared b same = elim (cases_Bool (eqb b 9)) [
   | inl e ↦ let wrong : Same 32 10 = rw e at same in absurd (omega arith)
   | inr e ↦ rw e at same
 ]
@@ -62,7 +49,7 @@ record HasLastNewline (f : List ℕ) : Type 0 where
 
 last_newline : (f g : List ℕ) → prepared f ≡ g ++ 10 ∷ [] → HasLastNewline f
 last_newline [] g same = absurd (omega (arith, ap length same, length-append g (10 ∷ [])))
-last_newline (b ∷ f) g same = elim (test_cases (is_kept b)) [
+last_newline (b ∷ f) g same = elim (cases_Bool (is_kept b)) [
   | inr e ↦
       let rest : prepared f ≡ g ++ 10 ∷ [] = rw e at same in
       let found = last_newline f g rest in
@@ -101,17 +88,17 @@ ends_with_two : (raw : List ℕ) (value : Reply) → IsReply raw value → EndsW
 ends_with_two raw value reply =
     let f : List ℕ = reply.whole.front in
     let body : List ℕ = reply.whole.body in
-    let end = behind_end is_blank (prepared raw) in
+    let blanks : List ℕ = front_while is_blank (prepared raw) in
     let left : prepared raw ≡ prepared f ++ 10 ∷ [] =
     ap prepared reply.whole.last ∙ prepared-append f (10 ∷ []) in
-    let right : prepared raw ≡ (end.front ++ reply.whole.status ∷ (body ++ 10 ∷ [])) ++ 10 ∷ [] =
-    end.shape ∙ ap (λ t. end.front ++ t) (sym (past_copy raw) ∙ reply.whole.shape
+    let right : prepared raw ≡ (blanks ++ reply.whole.status ∷ (body ++ 10 ∷ [])) ++ 10 ∷ [] =
+    front_while-skip_while is_blank (prepared raw) ∙ ap (λ t. blanks ++ t) (sym (past_copy raw) ∙ reply.whole.shape
     ∙ ap (λ t. reply.whole.status ∷ t) (sym (append_assoc body (10 ∷ []) (10 ∷ []))))
-    ∙ sym (append_assoc end.front (reply.whole.status ∷ (body ++ 10 ∷ [])) (10 ∷ [])) in
-    let same = same_from_push (prepared f) (end.front ++ reply.whole.status ∷ (body ++ 10 ∷ [])) 10 10
+    ∙ sym (append_assoc blanks (reply.whole.status ∷ (body ++ 10 ∷ [])) (10 ∷ [])) in
+    let same = same_from_push (prepared f) (blanks ++ reply.whole.status ∷ (body ++ 10 ∷ [])) 10 10
     (sym left ∙ right) in
-    let found = last_newline f (end.front ++ reply.whole.status ∷ body)
-    (same.0 ∙ sym (append_assoc end.front (reply.whole.status ∷ body) (10 ∷ []))) in
+    let found = last_newline f (blanks ++ reply.whole.status ∷ body)
+    (same.0 ∙ sym (append_assoc blanks (reply.whole.status ∷ body) (10 ∷ []))) in
     record {
       front = found.front;
       between = found.between;
@@ -129,13 +116,13 @@ pub record IsBegun (b : ℕ) : Type 0 where
   pub blank : is_blank b ≡ false
 
 byte_cases : (b : ℕ) → IsPassedOver b ⊎ IsBegun b
-byte_cases b = elim (test_cases (is_kept b)) [
+byte_cases b = elim (cases_Bool (is_kept b)) [
   | inr removed ↦ inl (inl (control_byte b removed))
-  | inl kept ↦ elim (test_cases (eqb b 9)) [
+  | inl kept ↦ elim (cases_Bool (eqb b 9)) [
     | inl tab ↦ inl (inr (inl (eqb-true b 9 tab)))
-    | inr no_tab ↦ elim (test_cases (is_newline b)) [
+    | inr no_tab ↦ elim (cases_Bool (is_newline b)) [
       | inl newline ↦ inl (inr (inr (inl (eqb-true b 10 newline))))
-      | inr no_newline ↦ elim (test_cases (is_space b)) [
+      | inr no_newline ↦ elim (cases_Bool (is_space b)) [
         | inl space ↦ inl (inr (inr (inr (eqb-true b 32 space))))
         | inr no_space ↦ inr (record { kept = kept; tab = no_tab; blank = rw (no_space, no_newline) refl })
       ]
@@ -212,7 +199,7 @@ strange_end raw first fault = elim (first_begun raw) [
         let shape = begun_shape raw fault.fits found in
         let long : length raw ≡ length found.front + 1 + length found.end =
         omega (arith, ap length found.shape, length-append found.front (found.byte ∷ found.end)) in
-        elim (test_cases (is_status found.byte)) [
+        elim (cases_Bool (is_status found.byte)) [
           | inl known ↦ absurd (no_status_begun raw found.byte (prepared found.end) shape known fault)
           | inr other ↦
               let none = begins_none found.byte found.begun other in
@@ -234,7 +221,7 @@ strange_end raw first fault = elim (first_begun raw) [
         ]
 
 pub status_cases : (b : ℕ) → is_status b ≡ true → (b ≡ 61) ⊎ (b ≡ 63)
-status_cases b known = elim (test_cases (eqb b 61)) [
+status_cases b known = elim (cases_Bool (eqb b 61)) [
   | inl e ↦ inl (eqb-true b 61 e)
   | inr other ↦ let rest : eqb b 63 ≡ true = rw other at known in inr (eqb-true b 63 rest)
 ]

@@ -1,4 +1,6 @@
 -- What a byte does to the lines of a text, wherever it stands.
+use Rattle.go_base.proofs.General.{AllByRecursion-append}
+use Rattle.std.proofs.lemmas.Bool.{cases_Bool}
 use Rattle.std.proofs.Common.{◌≡◌, ◌≢◌, ℕ, ◌≤◌, List, [], ◌∷◌, ◌++◌, Some, None, true, false, refl}
 use Rattle.std.proofs.Common.{sym, ◌∙◌, ap, arith, eqb, ◌⊎◌, inl, inr, append_assoc, append-nil, filter}
 use Rattle.std.proofs.lemmas.Bool.Decides.{nat_tests}
@@ -14,7 +16,7 @@ use Rattle.gtp_wire.specs.Words.{words}
 use Rattle.gtp_wire.specs.Lines.{lines, line_of, line_of_words}
 use Rattle.gtp_wire.specs.private.LineReading.{is_plain, HoldsWords}
 use Rattle.gtp_wire.specs.AnyText.{IsPrinted, IsLineWord, SpacesSeparate, WordsAreALine}
-use Rattle.gtp_wire.proofs.LineLemmas.{AllByRecursion-append, NoNewline, test_cases, cut_lines, cut_lines_same}
+use Rattle.gtp_wire.proofs.LineLemmas.{NoNewline, cut_lines, cut_lines_same}
 use Rattle.gtp_wire.proofs.LineLemmas.{cut_lines_newline, lines_front, lines_same, lines_newline, lines_nothing}
 use Rattle.gtp_wire.proofs.WordLemmas.{cleaned, words_space, words_two_spaces}
 use Rattle.gtp_wire.proofs.StepLemmas.{end_long, front_skips}
@@ -75,7 +77,7 @@ end_alike u nu same text later =
 cleaned_cases : (t : List ℕ)
     → ((l : List ℕ) → cleaned (t ++ l) ≡ cleaned t) ⊎ ((l : List ℕ) → cleaned (t ++ l) ≡ cleaned t ++ cleaned l)
 cleaned_cases [] = inr (λ l. refl)
-cleaned_cases (b ∷ t) = elim (test_cases (eqb b 35)) [
+cleaned_cases (b ∷ t) = elim (cases_Bool (eqb b 35)) [
   | inl e ↦ inl (λ l. rw e refl)
   | inr e ↦ elim (cleaned_cases t) [
     | inl past ↦ inl (λ l. rw e (ap (λ w. space_for_tab b ∷ w) (past l)))

@@ -1,4 +1,5 @@
 -- The words of a command line by their numbers.
+use Rattle.std.proofs.lemmas.Option.{slice_get_past}
 use Rattle.std.proofs.Common.{◌≡◌, ℕ, suc, ◌+◌, ◌<◌, ◌≤◌, List, [], ◌∷◌, length, length-drop, drop, zero, Option, None}
 use Rattle.std.proofs.Common.{true, false, cond, refl, sym, ◌∙◌, ap, arith, add-one}
 use Rattle.std.specs.Prelude.{slice_get, is_some}
@@ -29,11 +30,6 @@ word_with_id id text number index joined some has e =
     (ap (λ ws. slice_get ws index) (sym (words_joined text joined some))
     ∙ slice_get-drop_one (words text) number index e)
 
-slice_get_past : {X : Type 0} (xs : List X) (i : ℕ) → length xs ≤ i → None ≡ slice_get xs i
-slice_get_past [] i h = refl
-slice_get_past (x ∷ xs) zero h = absurd (omega arith)
-slice_get_past (x ∷ xs) (suc i) h = slice_get_past xs i (omega arith)
-
 -- there are at most as many words as bytes
 pub word_past : (id : Option ℕ) (text : List ℕ) (number : ℕ) → HoldsWords text → 0 < length text → is_some id ≡ true
     → length text ≤ number
@@ -42,5 +38,5 @@ word_past id text number joined some has past =
     let parts : length (words text) ≡ count_by is_space text + 1 =
     ap length (words_joined text joined some) ∙ length-slice_split is_space text in
     rw has
-    (slice_get_past (drop 1 (words text)) number
-    (omega (arith, length-drop 1 (words text), parts, count_by-le-length is_space text)))
+    (sym (slice_get_past (drop 1 (words text)) number
+    (omega (arith, length-drop 1 (words text), parts, count_by-le-length is_space text))))

@@ -1,8 +1,9 @@
 -- Each text tells something, or is read on; and one that begins and ends as a reply does tells something.
+use Rattle.go_base.proofs.General.{last_of}
 use Rattle.std.proofs.Common.{◌≡◌, ℕ, ◌<◌, ◌≤◌, List, [], ◌∷◌, ◌++◌, length}
 use Rattle.std.proofs.Common.{true, false, refl, sym, ◌∙◌, ap, subst, arith, eqb, ◌⊎◌, inl, inr, Result, Ok, Err}
 use Rattle.std.proofs.Common.{append_assoc, append-nil}
-use Rattle.std.proofs.lemmas.Bool.{cases_lt, eqb-true}
+use Rattle.std.proofs.lemmas.Bool.{cases_lt, eqb-true, cases_Bool}
 use Rattle.std.proofs.lemmas.List.{same_from_push}
 use Rattle.std.proofs.lemmas.List.Elements.{recursion_from_All}
 use Rattle.std.specs.List.{AllByRecursion}
@@ -16,9 +17,7 @@ use Rattle.gtp_wire.specs.Replies.{prepared, past_blanks, is_status, has_two_new
 use Rattle.gtp_wire.specs.Replies.{reply_of}
 use Rattle.gtp_wire.specs.private.ReplyReading.{IsReading}
 use Rattle.gtp_wire.specs.AnyText.{IsControl, BeginsWithStatus, EndsWithTwoNewlines}
-use Rattle.gtp_wire.proofs.LineLemmas.{test_cases}
 use Rattle.gtp_wire.proofs.NewlineLemmas.{has_two_newlines_front, two_newlines}
-use Rattle.gtp_wire.proofs.WrittenLemmas.{last_of}
 use Rattle.gtp_wire.proofs.ReplyLaws.{prepared-append}
 use Rattle.gtp_wire.proofs.ReplyReadingLemmas.{read_removed, read_blank, read_status, read_no_status, read_body}
 use Rattle.gtp_wire.proofs.ReplyReadingLemmas.{read_newline, read_after_newline, read_done, read_nothing, reading_quiet}
@@ -42,9 +41,9 @@ IsEither text = IsTold text ⊎ IsUntold text
 
 byte_before : (raw : List ℕ) (b : ℕ) → length raw < 8192 → is_kept b ≡ true → IsReading raw Before
     → IsEither (raw ++ b ∷ [])
-byte_before raw b room kept reading = elim (test_cases (is_blank (space_for_tab b))) [
+byte_before raw b room kept reading = elim (cases_Bool (is_blank (space_for_tab b))) [
   | inl blank ↦ inr (record { phase = Before; reading = read_blank raw b room kept blank reading })
-  | inr other ↦ elim (test_cases (is_status (space_for_tab b))) [
+  | inr other ↦ elim (cases_Bool (is_status (space_for_tab b))) [
     | inl known ↦ inr (record { phase = Body; reading = read_status raw b room kept other known reading })
     | inr strange ↦ inl (record {
       count = length (raw ++ b ∷ []);
@@ -57,13 +56,13 @@ byte_before raw b room kept reading = elim (test_cases (is_blank (space_for_tab 
 byte_after : (phase : Phase) (raw : List ℕ) (b : ℕ) → length raw < 8192 → is_kept b ≡ true → IsReading raw phase
     → IsEither (raw ++ b ∷ [])
 byte_after Before raw b room kept reading = byte_before raw b room kept reading
-byte_after Body raw b room kept reading = elim (test_cases (is_newline b)) [
+byte_after Body raw b room kept reading = elim (cases_Bool (is_newline b)) [
   | inl e ↦
       let same : b ≡ 10 = eqb-true b 10 e in
       inr (record { phase = Newline; reading = rw same (read_newline raw room reading) })
   | inr other ↦ inr (record { phase = Body; reading = read_body raw b room kept other reading })
 ]
-byte_after Newline raw b room kept reading = elim (test_cases (is_newline b)) [
+byte_after Newline raw b room kept reading = elim (cases_Bool (is_newline b)) [
   | inl e ↦
       let same : b ≡ 10 = eqb-true b 10 e in
       let ended = read_done raw room reading in
@@ -87,7 +86,7 @@ byte_more raw b untold =
         first = first_overlong raw b 8193 (omega (arith, fits, full)) (omega (arith, fits, full))
             (reading_quiet phase raw untold.reading);
       })
-      | inl room ↦ elim (test_cases (is_kept b)) [
+      | inl room ↦ elim (cases_Bool (is_kept b)) [
         | inr removed ↦
             inr (record { phase = phase; reading = read_removed phase raw b room removed untold.reading })
         | inl kept ↦ byte_after phase raw b room kept untold.reading

@@ -1,19 +1,15 @@
 -- How the lines of a text come from its front.
+use Rattle.go_base.proofs.General.{AllByRecursion-append, split_parts}
+use Rattle.std.proofs.lemmas.Bool.{cases_Bool}
 use Rattle.std.proofs.Common.{◌≡◌, ℕ, List, [], ◌∷◌, ◌++◌, Option, Some, None, Bool, true, false, refl, sym, ◌∙◌, ap}
 use Rattle.std.proofs.Common.{cond, ◌⊎◌, inl, inr, append_assoc, append-nil, filter}
-use Rattle.std.proofs.lemmas.List.Elements.{filter-append}
-use Rattle.std.proofs.lemmas.List.Splits.{slice_split-cons_yes, slice_split-cons_no}
+use Rattle.std.proofs.lemmas.List.Elements.{filter-append, All-from_recursion}
+use Rattle.std.proofs.lemmas.List.Splits.{slice_split_at, slice_split_none}
 use Rattle.std.specs.List.{slice_split, onto_first, filter_map, cons_option, AllByRecursion}
 use Rattle.std.specs.Option.{option_to_list}
 use Rattle.gtp_wire.specs.declared.lines.Line.{Line}
 use Rattle.gtp_wire.specs.Bytes.{is_kept, is_newline}
 use Rattle.gtp_wire.specs.Lines.{lines, line_of, but_last}
-
--- P of each element of both
-pub AllByRecursion-append : {X : Type 0} (P : X → Type 0) (xs ys : List X) → AllByRecursion P xs → AllByRecursion P ys
-    → AllByRecursion P (xs ++ ys)
-AllByRecursion-append P [] ys a b = b
-AllByRecursion-append P (x ∷ xs) ys a b = (a.0, AllByRecursion-append P xs ys a.1 b)
 
 -- a text without a newline
 abbrev pub NoNewline : List ℕ → Type 0
@@ -23,33 +19,15 @@ NoNewline u = AllByRecursion (λ b. is_newline b ≡ false) u
 unfoldable pub cut_lines : List ℕ → List Line
 cut_lines text = filter_map line_of (but_last (slice_split is_newline text))
 
--- the parts are at least one
-pub split_parts : {X : Type 0} (p : X → Bool) (xs : List X)
-    → (w : List X) × (ws : List (List X)) × (slice_split p xs ≡ w ∷ ws)
-split_parts p [] = ([], [], refl)
-split_parts p (x ∷ xs) =
-    let rest = split_parts p xs in
-    elim (p x) as (λ t. (w : List _) × (ws : List (List _))
-    × (cond t ([] ∷ slice_split p xs) (onto_first x (slice_split p xs)) ≡ w ∷ ws))
-    [ true ↦ ([], slice_split p xs, refl) | false ↦ (x ∷ rest.0, rest.1, ap (onto_first x) rest.2) ]
-
--- either a test passes or it fails
-pub test_cases : (t : Bool) → (t ≡ true) ⊎ (t ≡ false)
-test_cases true = inl refl
-test_cases false = inr refl
-
 -- the first part ends at the first element that passes
 pub split_at : {X : Type 0} (p : X → Bool) (u : List X) (y : X) (s : List X) → AllByRecursion (λ b. p b ≡ false) u
     → p y ≡ true
     → slice_split p (u ++ y ∷ s) ≡ u ∷ slice_split p s
-split_at p [] y s none e = slice_split-cons_yes p y s e
-split_at p (x ∷ u) y s none e =
-    slice_split-cons_no p x (u ++ y ∷ s) none.0 ∙ ap (onto_first x) (split_at p u y s none.1 e)
+split_at p u y s none e = slice_split_at p u y s (All-from_recursion _ u none) e
 
 pub split_none : {X : Type 0} (p : X → Bool) (u : List X) → AllByRecursion (λ b. p b ≡ false) u
     → slice_split p u ≡ u ∷ []
-split_none p [] none = refl
-split_none p (x ∷ u) none = slice_split-cons_no p x u none.0 ∙ ap (onto_first x) (split_none p u none.1)
+split_none p u none = slice_split_none p u (All-from_recursion _ u none)
 
 lines_of_parts : (u : List ℕ) (parts : List (List ℕ)) (w : List ℕ) (ws : List (List ℕ)) → parts ≡ w ∷ ws
     → filter_map line_of (but_last (u ∷ parts)) ≡ cons_option (line_of u) (filter_map line_of (but_last parts))
@@ -77,7 +55,7 @@ cut_lines_same u v [] nu nv same =
     rw (append-nil u, append-nil v) (cut_lines_open u nu ∙ sym (cut_lines_open v nv))
 cut_lines_same u v (b ∷ s) nu nv same =
     let at_end : line_of u ≡ line_of v = ap line_of (sym (append-nil u)) ∙ same [] ∙ ap line_of (append-nil v) in
-    elim (test_cases (is_newline b)) [
+    elim (cases_Bool (is_newline b)) [
       | inl e ↦ cut_lines_newline u b s nu e ∙ ap (λ o. cons_option o (cut_lines s)) at_end
           ∙ sym (cut_lines_newline v b s nv e)
       | inr e ↦

@@ -1,28 +1,16 @@
 -- Two newlines in a row, in a text that grows at its end.
+use Rattle.std.proofs.lemmas.Bool.{or_cases, and_parts, and_right, or_from, or_right}
 use Rattle.std.proofs.Common.{◌≡◌, ℕ, List, [], ◌∷◌, ◌++◌, Bool, true, false, refl, sym, ◌∙◌, ap, ◌&&◌, ◌||◌}
 use Rattle.std.proofs.Common.{append_assoc, ◌⊎◌, inl, inr}
-use Rattle.std.proofs.lemmas.Bool.{eqb-true}
+use Rattle.std.proofs.lemmas.Bool.{eqb-true, cases_Bool, or_parts}
 use Rattle.std.proofs.Math.Bool.{or-false, or_assoc}
 use Rattle.gtp_wire.specs.Bytes.{is_newline}
 use Rattle.gtp_wire.specs.Replies.{has_two_newlines}
-use Rattle.gtp_wire.proofs.LineLemmas.{test_cases}
 
 or_regroup : (a b : Bool) → (a || (b || false)) ≡ ((a || false) || b)
 or_regroup true b = refl
 or_regroup false true = refl
 or_regroup false false = refl
-
-and_off : (a c : Bool) → c ≡ false → ((a && c) || false) ≡ false
-and_off true c e = rw e refl
-and_off false c e = refl
-
-pub or_parts : (a b : Bool) → (a || b) ≡ false → (a ≡ false) × (b ≡ false)
-or_parts true b e = absurd (cc)
-or_parts false b e = (refl, e)
-
-or_true : (a : Bool) → (a || true) ≡ true
-or_true true = refl
-or_true false = refl
 
 -- two newlines in a row, at the end
 has_two_newlines_two : (xs : List ℕ) (c d : ℕ)
@@ -37,7 +25,7 @@ has_two_newlines_two (x ∷ y ∷ xs) c d =
 has_two_newlines_push : (xs : List ℕ) (c : ℕ) → is_newline c ≡ false
     → has_two_newlines (xs ++ c ∷ []) ≡ has_two_newlines xs
 has_two_newlines_push [] c other = refl
-has_two_newlines_push (x ∷ []) c other = and_off (is_newline x) (is_newline c) other
+has_two_newlines_push (x ∷ []) c other = or_from (is_newline x && is_newline c) false (and_right (is_newline x) (is_newline c) other) refl
 has_two_newlines_push (x ∷ y ∷ xs) c other =
     ap (λ t. (is_newline x && is_newline y) || t) (has_two_newlines_push (y ∷ xs) c other)
 
@@ -59,7 +47,7 @@ body_more body c none other =
 pub two_newlines : (body : List ℕ) → has_two_newlines ((body ++ 10 ∷ []) ++ 10 ∷ []) ≡ true
 two_newlines body =
     ap has_two_newlines (append_assoc body (10 ∷ []) (10 ∷ [])) ∙ has_two_newlines_two body 10 10
-    ∙ or_true (has_two_newlines (body ++ 10 ∷ []))
+    ∙ or_right (has_two_newlines (body ++ 10 ∷ [])) true refl
 
 -- two newlines in a row stand somewhere
 record HasTwo (l : List ℕ) : Type 0 where
@@ -80,17 +68,9 @@ two_found (x ∷ y ∷ more) two = elim (or_cases (is_newline x && is_newline y)
       let found = two_found (y ∷ more) later in
       record { front = x ∷ found.front; end = found.end; shape = ap (λ t. x ∷ t) found.shape }
 ]
-  where
-    or_cases : (a b : Bool) → (a || b) ≡ true → (a ≡ true) ⊎ (b ≡ true)
-    or_cases true b e = inl refl
-    or_cases false b e = inr e
-
-    and_parts : (a b : Bool) → (a && b) ≡ true → (a ≡ true) × (b ≡ true)
-    and_parts true b e = (refl, e)
-    and_parts false b e = absurd (cc)
 
 pub no_two : (l : List ℕ) → ((a c : List ℕ) → l ≡ a ++ 10 ∷ 10 ∷ c → ⊥) → has_two_newlines l ≡ false
-no_two l none = elim (test_cases (has_two_newlines l)) [
+no_two l none = elim (cases_Bool (has_two_newlines l)) [
   | inl two ↦ let found = two_found l two in absurd (none found.front found.end found.shape)
   | inr e ↦ e
 ]

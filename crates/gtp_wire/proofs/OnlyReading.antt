@@ -2,7 +2,7 @@
 use Rattle.std.proofs.Common.{◌≡◌, ◌≢◌, ℕ, ◌+◌, ◌<◌, List, [], ◌∷◌, ◌++◌, length, Some, None, Bool, true, false}
 use Rattle.std.proofs.Common.{zero, suc, refl, sym, ◌∙◌, ap, subst, arith, eqb, ◌⊎◌, inl, inr, append_assoc}
 use Rattle.std.proofs.Common.{length-append}
-use Rattle.std.proofs.lemmas.Bool.{cases_lt, eqb-true, ne_eqb}
+use Rattle.std.proofs.lemmas.Bool.{cases_lt, eqb-true, ne_eqb, cases_Bool}
 use Rattle.std.proofs.lemmas.Bool.Decides.{nat_tests}
 use Rattle.std.proofs.lemmas.List.Elements.{All-from_recursion}
 use Rattle.std.proofs.lemmas.List.Splits.{slice_split-cons_yes, slice_split-cons_no}
@@ -14,7 +14,7 @@ use Rattle.gtp_wire.specs.Bytes.{is_kept, is_newline, is_space}
 use Rattle.gtp_wire.specs.Lines.{lines}
 use Rattle.gtp_wire.specs.private.LineReading.{is_plain, HoldsWords}
 use Rattle.gtp_wire.specs.AnyText.{IsPrinted, IsLineWord, ReadsLines, LinesAreTheOnlyReading}
-use Rattle.gtp_wire.proofs.LineLemmas.{test_cases, lines_removed, lines_nothing}
+use Rattle.gtp_wire.proofs.LineLemmas.{lines_removed, lines_nothing}
 use Rattle.gtp_wire.proofs.WordLemmas.{plain_byte, words_joined, join_words, some_word}
 use Rattle.gtp_wire.proofs.StepLemmas.{joined_push, joined_push_gap}
 use Rattle.gtp_wire.proofs.ReadingLemmas.{lines_without_newline, lines_anew}
@@ -54,7 +54,7 @@ parts_inside : (xs : List ℕ) → AllByRecursion (λ b. is_plain b ≡ true) xs
 parts_inside [] plain = (tt, tt)
 parts_inside (x ∷ xs) plain =
     let P : List (List ℕ) → Type 0 = λ ps. AllByRecursion AreInside ps in
-    elim (test_cases (is_space x)) [
+    elim (cases_Bool (is_space x)) [
       | inl e ↦ subst P (sym (slice_split-cons_yes is_space x xs e)) (tt, parts_inside xs plain.1)
       | inr e ↦ subst P (sym (slice_split-cons_no is_space x xs e))
           (inside_more x (slice_split is_space xs) plain.0 e (parts_inside xs plain.1))
@@ -180,14 +180,14 @@ read_as (b ∷ c) held gap joined some none =
     let rest : List ℕ = c ++ 10 ∷ [] in
     let before : List ℕ = held ++ space_if gap in
     let P : ℕ → Type 0 = λ x. ReadAs (held ++ (space_if gap ++ x ∷ (c ++ 10 ∷ []))) in
-    elim (test_cases (is_kept b)) [
+    elim (cases_Bool (is_kept b)) [
       | inr removed ↦
           goes_on (held ++ (space_if gap ++ b ∷ (c ++ 10 ∷ []))) (held ++ (space_if gap ++ (c ++ 10 ∷ [])))
           (λ read reads. ap read (sym (append_assoc held (space_if gap) (b ∷ (c ++ 10 ∷ []))))
           ∙ reads.controls (held ++ space_if gap) (c ++ 10 ∷ []) b (control_byte b removed)
           ∙ ap read (append_assoc held (space_if gap) (c ++ 10 ∷ [])))
           (read_as c held gap joined some none.1)
-      | inl kept ↦ elim (test_cases (eqb b 35)) [
+      | inl kept ↦ elim (cases_Bool (eqb b 35)) [
         | inl hash ↦
             subst P (sym (eqb-true b 35 hash))
             (goes_on (held ++ (space_if gap ++ 35 ∷ (c ++ 10 ∷ []))) (held ++ (space_if gap ++ 10 ∷ []))
@@ -195,7 +195,7 @@ read_as (b ∷ c) held gap joined some none =
             ∙ reads.comments (held ++ space_if gap) c [] (All-from_recursion _ c none.1)
             ∙ ap read (append_assoc held (space_if gap) (10 ∷ [])))
             (at_end held gap joined))
-        | inr no_hash ↦ elim (test_cases (eqb b 9)) [
+        | inr no_hash ↦ elim (cases_Bool (eqb b 9)) [
           | inl tab ↦
               subst P (sym (eqb-true b 9 tab))
               (goes_on (held ++ (space_if gap ++ 9 ∷ (c ++ 10 ∷ []))) (held ++ (space_if gap ++ 32 ∷ (c ++ 10 ∷ [])))
@@ -203,7 +203,7 @@ read_as (b ∷ c) held gap joined some none =
               ∙ reads.tabs (held ++ space_if gap) (c ++ 10 ∷ [])
               ∙ ap read (append_assoc held (space_if gap) (32 ∷ (c ++ 10 ∷ []))))
               (read_space c held gap joined some (λ h g j s. read_as c h g j s none.1)))
-          | inr no_tab ↦ elim (test_cases (is_space b)) [
+          | inr no_tab ↦ elim (cases_Bool (is_space b)) [
             | inl space ↦
                 subst P (sym (eqb-true b 32 space))
                 (read_space c held gap joined some (λ h g j s. read_as c h g j s none.1))
@@ -227,7 +227,7 @@ record HasNewline (text : List ℕ) : Type 0 where
 
 first_newline : (text : List ℕ) → NoneEnds text ⊎ HasNewline text
 first_newline [] = inl tt
-first_newline (b ∷ text) = elim (test_cases (is_newline b)) [
+first_newline (b ∷ text) = elim (cases_Bool (is_newline b)) [
   | inl e ↦ inr (record { front = []; end = text; shape = ap (λ x. x ∷ text) (eqb-true b 10 e); none = tt })
   | inr other ↦
       let no_newline : b ≢ 10 = λ (e : b ≡ 10). let is : is_newline 10 ≡ false = rw e at other in cc in

@@ -1,19 +1,20 @@
 -- The laws of replies hold of no other way to tell.
+use Rattle.go_base.proofs.TextLemmas.{length-skip_while}
 use Rattle.std.proofs.Common.{◌≡◌, ℕ, ◌+◌, ◌<◌, ◌≤◌, List, [], ◌∷◌, ◌++◌, length, take, drop, Option, Some}
 use Rattle.std.proofs.Common.{Bool, true, false, refl, sym, ◌∙◌, ap, subst, arith, cond, eqb, ◌⊎◌, inl, inr, Result, Ok}
 use Rattle.std.proofs.Common.{Err, append_assoc, append-nil, length-append, length-drop}
-use Rattle.std.proofs.lemmas.Bool.{cases_lt, eqb-true}
+use Rattle.std.proofs.lemmas.Bool.{cases_lt, eqb-true, cases_Bool}
 use Rattle.std.proofs.lemmas.List.{same_from_push, take-append-drop, take_all, take-take, length-take-le}
 use Rattle.std.proofs.lemmas.List.Elements.{All-from_recursion}
+use Rattle.go_base.specs.Text.{skip_while}
 use Rattle.gtp_wire.specs.declared.replies.Reply.{Reply}
 use Rattle.gtp_wire.specs.declared.replies.ReplyFault.{ReplyFault}
 use Rattle.gtp_wire.specs.declared.replies.ReplyFault.TheVariants.{Overlong, NoStatus}
 use Rattle.gtp_wire.specs.Bytes.{is_kept, is_newline, is_space, is_blank}
-use Rattle.gtp_wire.specs.Replies.{prepared, behind, past_blanks, is_status, has_two_newlines, IsReply, IsFirst}
+use Rattle.gtp_wire.specs.Replies.{prepared, past_blanks, is_status, has_two_newlines, IsReply, IsFirst}
 use Rattle.gtp_wire.specs.Replies.{Tells, TellsNothing}
 use Rattle.gtp_wire.specs.AnyText.{ReadsReplies}
 use Rattle.gtp_wire.specs.AnyText.{RepliesAreTheOnlyReading}
-use Rattle.gtp_wire.proofs.LineLemmas.{test_cases}
 use Rattle.gtp_wire.proofs.NewlineLemmas.{has_two_newlines_front, two_newlines}
 use Rattle.gtp_wire.proofs.ReplyLaws.{one_value, reply_is_first, told_longer}
 use Rattle.gtp_wire.proofs.ReplyReadingLemmas.{reading_quiet}
@@ -80,18 +81,18 @@ At told raw value = told raw ≡ Some (length raw, Ok value)
 
 -- blanks in front
 past_front : (told : List ℕ → Option (ℕ × Result Reply ReplyFault)) → ReadsReplies (Told told) → (xs : List ℕ)
-    → (value : Reply) → length xs ≤ 8192 → At told (behind is_blank xs) value → At told xs value
+    → (value : Reply) → length xs ≤ 8192 → At told (skip_while is_blank xs) value → At told xs value
 past_front told reads [] value fits is = is
-past_front told reads (x ∷ xs) value fits is = elim (test_cases (is_blank x)) [
+past_front told reads (x ∷ xs) value fits is = elim (cases_Bool (is_blank x)) [
   | inl e ↦
-      let rest : At told (behind is_blank xs) value = rw e at is in
+      let rest : At told (skip_while is_blank xs) value = rw e at is in
       reads.replies.blank x xs value (blank_cases x e) (omega arith)
       (past_front told reads xs value (omega arith) rest)
   | inr e ↦ rw e at is
 ]
   where
     blank_cases : (b : ℕ) → is_blank b ≡ true → (b ≡ 32) ⊎ (b ≡ 10)
-    blank_cases b blank = elim (test_cases (is_space b)) [
+    blank_cases b blank = elim (cases_Bool (is_space b)) [
       | inl e ↦ inl (eqb-true b 32 e)
       | inr e ↦ let newline : is_newline b ≡ true = rw e at blank in inr (eqb-true b 10 newline)
     ]
@@ -101,11 +102,11 @@ unprepared : (told : List ℕ → Option (ℕ × Result Reply ReplyFault)) → R
     → (value : Reply) → length (done ++ rest) ≤ 8192 → ((x : ℕ) (xs : List ℕ) → rest ≡ x ∷ xs → EndsWithNewline rest)
     → At told (done ++ prepared rest) value → At told (done ++ rest) value
 unprepared told reads [] done value fits ends is = is
-unprepared told reads (b ∷ rest) done value fits ends is = elim (test_cases (is_kept b)) [
+unprepared told reads (b ∷ rest) done value fits ends is = elim (cases_Bool (is_kept b)) [
   | inr removed ↦
       let left : At told (done ++ prepared rest) value = rw removed at is in
       control removed (ends b rest refl) left (λ t e fits. unprepared told reads rest done value fits e t)
-  | inl kept ↦ elim (test_cases (eqb b 9)) [
+  | inl kept ↦ elim (cases_Bool (eqb b 9)) [
     | inl tab ↦
         let left : At told (done ++ 32 ∷ prepared rest) value = rw (kept, tab) at is in
         let more : At told (done ++ 32 ∷ rest) value =
@@ -176,16 +177,9 @@ status_of b known = elim (status_cases b known) [ inl e ↦ (true, e) | inr e �
 
 prepared_short : (raw : List ℕ) → length (prepared raw) ≤ length raw
 prepared_short [] = omega arith
-prepared_short (b ∷ raw) = elim (test_cases (is_kept b)) [
+prepared_short (b ∷ raw) = elim (cases_Bool (is_kept b)) [
   | inl e ↦ rw e (omega (arith, prepared_short raw))
   | inr e ↦ rw e (omega (arith, prepared_short raw))
-]
-
-behind_short : (p : ℕ → Bool) (xs : List ℕ) → length (behind p xs) ≤ length xs
-behind_short p [] = omega arith
-behind_short p (x ∷ xs) = elim (test_cases (p x)) [
-  | inl e ↦ rw e (omega (arith, behind_short p xs))
-  | inr e ↦ rw e (omega arith)
 ]
 
 two_within : (a c : List ℕ) → has_two_newlines (a ++ 10 ∷ 10 ∷ c) ≡ false → ⊥
@@ -223,7 +217,7 @@ is_plain_reply raw value reply = record { ok = status.0; body = body; shape = sh
       arith,
       count,
       ap length (sym (past_copy raw) ∙ shape),
-      behind_short is_blank (prepared raw),
+      length-skip_while is_blank (prepared raw),
       prepared_short raw,
       reply.whole.fits,
     )

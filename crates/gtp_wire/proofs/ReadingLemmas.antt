@@ -1,7 +1,8 @@
 -- Texts that are read one after the other.
+use Rattle.go_base.proofs.General.{AllByRecursion-append}
 use Rattle.std.proofs.Common.{◌≡◌, ◌≢◌, ℕ, List, [], ◌∷◌, ◌++◌, Option, true, false, refl, sym, ◌∙◌, ap, subst, cond}
 use Rattle.std.proofs.Common.{inl, inr, append_assoc, append-nil, filter}
-use Rattle.std.proofs.lemmas.Bool.{ne_eqb}
+use Rattle.std.proofs.lemmas.Bool.{ne_eqb, cases_Bool}
 use Rattle.std.proofs.lemmas.List.{take-append-drop, append_cancel_left}
 use Rattle.std.proofs.lemmas.List.Elements.{filter-append, recursion_from_All}
 use Rattle.std.specs.Prelude.{All}
@@ -12,8 +13,8 @@ use Rattle.gtp_wire.specs.Lines.{lines, line_of, Finds, SameFuture}
 use Rattle.gtp_wire.specs.Laws.{IsFed, AreFed}
 use Rattle.gtp_wire.specs.Laws.IsFed.{used_up, used}
 use Rattle.gtp_wire.specs.Laws.AreFed.{all_fed, fed}
-use Rattle.gtp_wire.proofs.LineLemmas.{AllByRecursion-append, NoNewline, cut_lines, cut_lines_newline, cut_lines_open}
-use Rattle.gtp_wire.proofs.LineLemmas.{test_cases, lines_cut, lines_front, lines_open}
+use Rattle.gtp_wire.proofs.LineLemmas.{NoNewline, cut_lines, cut_lines_newline, cut_lines_open}
+use Rattle.gtp_wire.proofs.LineLemmas.{lines_cut, lines_front, lines_open}
 
 -- what stands behind the last newline, with a text without one before it
 tail_from : List ℕ → List ℕ → List ℕ
@@ -35,7 +36,7 @@ tail_kept held (b ∷ t) kh kt =
 tail_open : (held t : List ℕ) → NoNewline held → NoNewline (tail_from held t)
 unfolding tail_from
 tail_open held [] nh = nh
-tail_open held (b ∷ t) nh = elim (test_cases (is_newline b)) [
+tail_open held (b ∷ t) nh = elim (cases_Bool (is_newline b)) [
   | inl e ↦ rw e (tail_open [] t tt)
   | inr e ↦ rw e (tail_open (held ++ b ∷ []) t (AllByRecursion-append _ held (b ∷ []) nh (e, tt)))
 ]
@@ -50,7 +51,7 @@ cut_lines_more : (held t u : List ℕ) → NoNewline held
 unfolding tail_from
 cut_lines_more held [] u nh =
     sym (ap (λ ls. ls ++ cut_lines (held ++ u)) (ap cut_lines (append-nil held) ∙ cut_lines_open held nh))
-cut_lines_more held (b ∷ t) u nh = elim (test_cases (is_newline b)) [
+cut_lines_more held (b ∷ t) u nh = elim (cases_Bool (is_newline b)) [
   | inl e ↦ rw e (
       cut_lines_newline held b (t ++ u) nh e
       ∙ ap (cons_option (line_of held)) (cut_lines_more [] t u tt)
@@ -68,7 +69,7 @@ tail_of text = tail_from [] (filter is_kept text)
 
 all_kept : (t : List ℕ) → AllKept (filter is_kept t)
 all_kept [] = tt
-all_kept (b ∷ t) = elim (test_cases (is_kept b)) [ inl e ↦ rw e (e, all_kept t) | inr e ↦ rw e (all_kept t) ]
+all_kept (b ∷ t) = elim (cases_Bool (is_kept b)) [ inl e ↦ rw e (e, all_kept t) | inr e ↦ rw e (all_kept t) ]
 
 -- the lines of a longer text are those of its front, and those of the rest behind what the front leaves unfinished
 pub lines_more : (text later : List ℕ) → lines (text ++ later) ≡ lines text ++ lines (tail_of text ++ later)
@@ -106,7 +107,7 @@ Finds-all old text = record {
 -- bytes without a newline end no line
 pub no_newlines : (later : List ℕ) → AllByRecursion (λ b. b ≢ 10) later → NoNewline (filter is_kept later)
 no_newlines [] none = tt
-no_newlines (b ∷ later) none = elim (test_cases (is_kept b)) [
+no_newlines (b ∷ later) none = elim (cases_Bool (is_kept b)) [
   | inl e ↦ rw e (ne_eqb b 10 none.0, no_newlines later none.1)
   | inr e ↦ rw e (no_newlines later none.1)
 ]
@@ -166,15 +167,10 @@ Finds-pieces none (fed piece more) =
     let finds = Finds-piece none piece in
     Finds-join finds (Finds-pieces finds.no_line more)
 
--- texts with one future, each with the same behind it
-pub SameFuture-append : (a b text : List ℕ) → SameFuture a b → SameFuture (a ++ text) (b ++ text)
-SameFuture-append a b text same later =
-    ap lines (append_assoc a text later) ∙ same (text ++ later) ∙ ap lines (sym (append_assoc b text later))
-
 tail_newline : (held t : List ℕ) → tail_from held (t ++ 10 ∷ []) ≡ []
 unfolding tail_from
 tail_newline held [] = refl
-tail_newline held (b ∷ t) = elim (test_cases (is_newline b)) [
+tail_newline held (b ∷ t) = elim (cases_Bool (is_newline b)) [
   | inl e ↦ rw e (tail_newline [] t)
   | inr e ↦ rw e (tail_newline (held ++ b ∷ []) t)
 ]

@@ -1,17 +1,18 @@
 -- Bytes that change nothing of a reply.
+use Rattle.go_base.proofs.General.{last_of}
 use Rattle.std.proofs.Common.{◌≡◌, ℕ, ◌<◌, ◌≤◌, List, [], ◌∷◌, ◌++◌, length}
 use Rattle.std.proofs.Common.{false, refl, sym, ◌∙◌, ap, arith, ◌⊎◌, inl, inr, map, filter}
 use Rattle.std.proofs.Common.{append_assoc, length-append, Result, Ok, Err}
 use Rattle.std.proofs.lemmas.List.{same_from_push, map-append}
 use Rattle.std.proofs.lemmas.List.Elements.{filter-append}
+use Rattle.go_base.specs.Text.{skip_while}
 use Rattle.gtp_wire.specs.declared.replies.Reply.{Reply}
 use Rattle.gtp_wire.specs.declared.replies.ReplyFault.{ReplyFault}
 use Rattle.gtp_wire.specs.declared.replies.ReplyFault.TheVariants.{Overlong, NoStatus}
 use Rattle.gtp_wire.specs.Bytes.{is_kept, space_for_tab, is_blank}
-use Rattle.gtp_wire.specs.Replies.{prepared, behind, past_blanks}
+use Rattle.gtp_wire.specs.Replies.{prepared, past_blanks}
 use Rattle.gtp_wire.specs.Replies.{IsReply, IsNoStatus, Tells}
 use Rattle.gtp_wire.specs.AnyText.{IsControl, BytesChangeNothing}
-use Rattle.gtp_wire.proofs.WrittenLemmas.{last_of}
 use Rattle.gtp_wire.proofs.Controls.{control_removed}
 
 -- bytes that leave as much behind the blanks, and end with a newline, are the same reply
@@ -58,7 +59,7 @@ past_removed : (front : List ℕ) (b : ℕ) (later : List ℕ) → is_kept b ≡
     → past_blanks (front ++ b ∷ later) ≡ past_blanks (front ++ later)
 unfolding past_blanks
 past_removed front b later removed =
-    ap (λ l. behind is_blank (map space_for_tab l))
+    ap (λ l. skip_while is_blank (map space_for_tab l))
     (filter-append is_kept front (b ∷ later) ∙ ap (λ l. filter is_kept front ++ l) (none b later removed)
     ∙ sym (filter-append is_kept front later))
   where
@@ -67,7 +68,7 @@ past_removed front b later removed =
 
 past_tab : (front later : List ℕ) → past_blanks (front ++ 9 ∷ later) ≡ past_blanks (front ++ 32 ∷ later)
 unfolding past_blanks
-past_tab front later = ap (behind is_blank) (one 9 ∙ sym (one 32))
+past_tab front later = ap (skip_while is_blank) (one 9 ∙ sym (one 32))
   where
     one : (b : ℕ) → prepared (front ++ b ∷ later) ≡ prepared front ++ prepared (b ∷ later)
     one b =

@@ -1,4 +1,6 @@
 -- A text tells one thing first, and no reply begins another.
+use Rattle.go_base.proofs.General.{last_of}
+use Rattle.go_base.proofs.TextLemmas.{skip_while-some}
 use Rattle.std.proofs.Common.{◌≡◌, ℕ, ◌<◌, ◌≤◌, List, [], ◌∷◌, ◌++◌, length, take, drop, Result, Ok, Err, true, false}
 use Rattle.std.proofs.Common.{refl, sym, ◌∙◌, ap, subst, arith, inl, inr, map, filter, append_assoc, length-append}
 use Rattle.std.proofs.Common.{length-drop, append-nil}
@@ -6,15 +8,15 @@ use Rattle.std.proofs.lemmas.Bool.{cases_lt}
 use Rattle.std.proofs.lemmas.List.{same_from_push, append_cancel_right, map-append, take-append-le, take-append-drop}
 use Rattle.std.proofs.lemmas.List.{take_all, take-take, length-take-le}
 use Rattle.std.proofs.lemmas.List.Elements.{filter-append}
+use Rattle.go_base.specs.Text.{skip_while}
 use Rattle.gtp_wire.specs.declared.replies.Reply.{Reply}
 use Rattle.gtp_wire.specs.declared.replies.ReplyFault.{ReplyFault}
 use Rattle.gtp_wire.specs.declared.replies.ReplyFault.TheVariants.{Overlong, NoStatus}
 use Rattle.gtp_wire.specs.Bytes.{is_kept, space_for_tab, is_blank}
-use Rattle.gtp_wire.specs.Replies.{prepared, behind, past_blanks, has_two_newlines, IsWhole, IsReply, IsNoStatus, Tells}
+use Rattle.gtp_wire.specs.Replies.{prepared, past_blanks, has_two_newlines, IsWhole, IsReply, IsNoStatus, Tells}
 use Rattle.gtp_wire.specs.Replies.{TellsNothing, IsFirst, reply_of, is_status}
 use Rattle.gtp_wire.proofs.NewlineLemmas.{has_two_newlines_front, two_newlines}
-use Rattle.gtp_wire.proofs.ReplyLemmas.{no_status_begun, behind_some}
-use Rattle.gtp_wire.proofs.WrittenLemmas.{last_of}
+use Rattle.gtp_wire.proofs.ReplyLemmas.{no_status_begun}
 
 -- one reply has one value
 pub one_value : (raw : List ℕ) (v w : Reply) → IsReply raw v → IsReply raw w → v ≡ w
@@ -62,7 +64,7 @@ pub past_blanks_behind : (raw more : List ℕ) (x : ℕ) (xs : List ℕ) → pas
     → past_blanks (raw ++ more) ≡ x ∷ (xs ++ prepared more)
 unfolding past_blanks
 past_blanks_behind raw more x xs shape =
-    ap (behind is_blank) (prepared-append raw more) ∙ behind_some is_blank (prepared raw) (prepared more) x xs shape
+    ap (skip_while is_blank) (prepared-append raw more) ∙ skip_while-some is_blank (prepared raw) (prepared more) x xs shape
 
 pub no_reply_in_reply : (raw : List ℕ) (b : ℕ) (bs : List ℕ) → IsWhole raw → IsWhole (raw ++ b ∷ bs) → ⊥
 no_reply_in_reply raw b bs short long =

@@ -1,9 +1,11 @@
 -- Every body says an id or none, and a text; and the bytes that are left are newlines or printed.
+use Rattle.go_base.proofs.TextLemmas.{skip_while-first, list_all-front_while, digits_model}
+use Rattle.go_base.proofs.TextLemmas.{front_while-skip_while}
 use Rattle.std.proofs.Common.{◌≡◌, ℕ, ◌<◌, List, [], ◌∷◌, ◌++◌, length, Option, Some, None}
 use Rattle.std.proofs.Common.{Bool, true, refl, sym, ◌∙◌, ap, subst, arith, eqb, ◌⊎◌, inl, inr}
 use Rattle.std.proofs.Common.{length-append}
 use Rattle.std.proofs.lemmas.Bool.Decides.{nat_tests}
-use Rattle.std.proofs.lemmas.Bool.{eqb-true}
+use Rattle.std.proofs.lemmas.Bool.{eqb-true, cases_Bool}
 use Rattle.std.proofs.lemmas.List.{same_from_push}
 use Rattle.std.proofs.lemmas.List.Elements.{All-from_recursion, recursion_from_All}
 use Rattle.std.specs.Char.{is_ascii_digit, digit_value}
@@ -12,42 +14,16 @@ use Rattle.std.specs.Str.Parse.{AllDigits}
 use Rattle.go_base.specs.Int.{SpellsInt, int_of}
 use Rattle.go_base.proofs.IntLemmas.{spells_int_of, int_of_spelled, option_cases, digit_bounds, not_digit_bounds}
 use Rattle.go_base.proofs.IntLemmas.{digit_value-digit}
+use Rattle.go_base.specs.Text.{front_while, skip_while}
 use Rattle.gtp_wire.specs.Bytes.{is_kept, space_for_tab, is_newline, is_space, is_blank}
-use Rattle.gtp_wire.specs.Replies.{prepared, front_of, behind}
+use Rattle.gtp_wire.specs.Replies.{prepared}
 use Rattle.gtp_wire.specs.AnyText.{IsPrinted}
 use Rattle.gtp_wire.specs.AnyText.{NoDigitFirst, HasId, IsAround}
 use Rattle.gtp_wire.specs.AnyText.HasId.{an_int, no_int}
-use Rattle.gtp_wire.proofs.LineLemmas.{test_cases}
 
--- every body has an id or none
-front_split : (p : ℕ → Bool) (xs : List ℕ) → xs ≡ front_of p xs ++ behind p xs
-front_split p [] = refl
-front_split p (x ∷ xs) = elim (test_cases (p x)) [
-  | inl e ↦ rw e (ap (λ t. x ∷ t) (front_split p xs))
-  | inr e ↦ rw e refl
-]
-
-front_digits : (xs : List ℕ) → AllDigits 10 (front_of is_ascii_digit xs)
-front_digits [] = tt
-front_digits (x ∷ xs) = elim (test_cases (is_ascii_digit x)) [
-  | inl e ↦
-      let bounds = digit_bounds x e in
-      let small : digit_value x < 10 = omega (arith, digit_value-digit x bounds.0 bounds.1, bounds.1) in
-      rw e (small, front_digits xs)
-  | inr e ↦ rw e tt
-]
-
-no_digit_behind : (xs : List ℕ) → NoDigitFirst (behind is_ascii_digit xs)
-no_digit_behind [] b more same low high = absurd (cc)
-no_digit_behind (x ∷ xs) b more same low high = elim (test_cases (is_ascii_digit x)) [
-  | inl e ↦
-      let rest : behind is_ascii_digit xs ≡ b ∷ more = rw e at same in
-      no_digit_behind xs b more rest low high
-  | inr e ↦
-      let here : x ∷ xs ≡ b ∷ more = rw e at same in
-      let first : x ≡ b = cc in
-      not_digit_bounds x e (omega (arith, first, low)) (omega (arith, first, high))
-]
+no_digit_after : (xs : List ℕ) → NoDigitFirst (skip_while is_ascii_digit xs)
+no_digit_after xs b more same low high =
+    not_digit_bounds b (skip_while-first is_ascii_digit xs more b same) low high
 
 pub record SaysId (body : List ℕ) : Type 0 where
   pub id : Option ℕ
@@ -55,33 +31,23 @@ pub record SaysId (body : List ℕ) : Type 0 where
   pub has : HasId body id bytes
 
 pub says_id : (body : List ℕ) → SaysId body
-says_id body = subst SaysId (sym (front_split is_ascii_digit body)) (by_digits (option_cases (int_of digits)))
+says_id body =
+    subst SaysId (sym (front_while-skip_while is_ascii_digit body))
+    (by_digits (front_while is_ascii_digit body) (skip_while is_ascii_digit body)
+    (digits_model.to _ (list_all-front_while is_ascii_digit body)) (no_digit_after body))
   where
-    digits : List ℕ
-    digits = front_of is_ascii_digit body
-
-    rest : List ℕ
-    rest = behind is_ascii_digit body
-
-    by_digits : (int_of (front_of is_ascii_digit body) ≡ None)
-        ⊎ ((n : ℕ) × (int_of (front_of is_ascii_digit body) ≡ Some n))
-        → SaysId (front_of is_ascii_digit body ++ behind is_ascii_digit body)
-    by_digits (inl none) =
-        let unspelled : (n : ℕ) → SpellsInt n (front_of is_ascii_digit body) → ⊥ =
-        λ n spells. let some : None ≡ Some n = sym none ∙ int_of_spelled n (front_of is_ascii_digit body) spells in
-        absurd (cc) in
-        record {
-          id = None;
-          bytes = front_of is_ascii_digit body ++ behind is_ascii_digit body;
-          has = no_int (front_of is_ascii_digit body) (behind is_ascii_digit body) (front_digits body) unspelled
-              (no_digit_behind body);
-        }
-    by_digits (inr some) = record {
-      id = Some some.0;
-      bytes = behind is_ascii_digit body;
-      has = an_int some.0 (front_of is_ascii_digit body) (behind is_ascii_digit body)
-          (spells_int_of some.0 (front_of is_ascii_digit body) some.1) (no_digit_behind body);
-    }
+    by_digits : (digits rest : List ℕ) → AllDigits 10 digits → NoDigitFirst rest → SaysId (digits ++ rest)
+    by_digits digits rest are none = elim (option_cases (int_of digits)) [
+      | inl no_value ↦
+          let unspelled : (n : ℕ) → SpellsInt n digits → ⊥ =
+          λ n spells. let some : None ≡ Some n = sym no_value ∙ int_of_spelled n digits spells in absurd (cc) in
+          record { id = None; bytes = digits ++ rest; has = no_int digits rest are unspelled none }
+      | inr some ↦ record {
+        id = Some some.0;
+        bytes = rest;
+        has = an_int some.0 digits rest (spells_int_of some.0 digits some.1) none;
+      }
+    ]
 
 -- all bytes are a text with spaces around it
 abbrev IsSpaceByte : ℕ → Type 0
@@ -102,7 +68,7 @@ no_last more e = omega (arith, ap length e, length-append more (32 ∷ []))
 
 one_more : (x : ℕ) (text end : List ℕ) → AreSpaces end → ((more : List ℕ) → text ≡ more ++ 32 ∷ [] → ⊥)
     → HasEnd (x ∷ (text ++ end))
-one_more x [] end spaces last = elim (test_cases (is_space x)) [
+one_more x [] end spaces last = elim (cases_Bool (is_space x)) [
   | inl e ↦
       record { text = []; end = x ∷ end; shape = refl; spaces = (eqb-true x 32 e, spaces); last = no_last }
   | inr e ↦ record {
@@ -152,7 +118,7 @@ says_text [] =
         last = no_last;
       };
     }
-says_text (x ∷ xs) = elim (test_cases (is_space x)) [
+says_text (x ∷ xs) = elim (cases_Bool (is_space x)) [
   | inl e ↦
       let rest = says_text xs in
       let space : x ≡ 32 = eqb-true x 32 e in
@@ -195,9 +161,9 @@ abbrev pub AreLeft : List ℕ → Type 0
 AreLeft l = AllByRecursion (λ b. (b ≡ 10) ⊎ IsPrinted b) l
 
 left_byte : (b : ℕ) → is_kept b ≡ true → (space_for_tab b ≡ 10) ⊎ IsPrinted (space_for_tab b)
-left_byte b kept = elim (test_cases (eqb b 9)) [
+left_byte b kept = elim (cases_Bool (eqb b 9)) [
   | inl e ↦ rw e (inr (omega arith, λ (e : ◌≡◌ {A = ℕ} 32 127). omega (arith, e)))
-  | inr no_tab ↦ rw no_tab (elim (test_cases (is_newline b)) [
+  | inr no_tab ↦ rw no_tab (elim (cases_Bool (is_newline b)) [
     | inl e ↦ inl (eqb-true b 10 e)
     | inr no_newline ↦
         inr (grind (arith, nat_tests), λ (e : b ≡ 127). let control : is_kept 127 ≡ true = rw e at kept in absurd (cc))
@@ -206,14 +172,14 @@ left_byte b kept = elim (test_cases (eqb b 9)) [
 
 pub are_left : (raw : List ℕ) → AreLeft (prepared raw)
 are_left [] = tt
-are_left (b ∷ raw) = elim (test_cases (is_kept b)) [
+are_left (b ∷ raw) = elim (cases_Bool (is_kept b)) [
   | inl e ↦ rw e (left_byte b e, are_left raw)
   | inr e ↦ rw e (are_left raw)
 ]
 
-pub behind_left : (xs : List ℕ) → AreLeft xs → AreLeft (behind is_blank xs)
+pub behind_left : (xs : List ℕ) → AreLeft xs → AreLeft (skip_while is_blank xs)
 behind_left [] all = tt
-behind_left (x ∷ xs) all = elim (test_cases (is_blank x)) [
+behind_left (x ∷ xs) all = elim (cases_Bool (is_blank x)) [
   | inl e ↦ rw e (behind_left xs all.1)
   | inr e ↦ rw e all
 ]

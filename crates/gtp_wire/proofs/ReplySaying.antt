@@ -1,4 +1,7 @@
 -- What a reply says.
+use Rattle.go_base.proofs.General.{AllByRecursion-append, last_of}
+use Rattle.go_base.proofs.TextLemmas.{front_while-append, skip_while-append, digits_model}
+use Rattle.std.proofs.lemmas.Bool.{cases_Bool}
 use Rattle.std.proofs.Common.{◌≡◌, ◌≢◌, ℕ, ◌≤◌, List, [], ◌∷◌, ◌++◌, Option}
 use Rattle.std.proofs.Common.{Bool, true, false, refl, sym, ◌∙◌, ap, subst, arith, cond, eqb, ◌⊎◌, inl, inr}
 use Rattle.std.proofs.Common.{append_assoc, append-nil, length-append, reverse}
@@ -10,15 +13,14 @@ use Rattle.std.specs.Char.{is_ascii_digit}
 use Rattle.std.specs.List.{AllByRecursion}
 use Rattle.go_base.specs.Int.{int_of}
 use Rattle.go_base.proofs.IntLemmas.{int_of_spelled, int_of_unspelled, digit_bounds}
+use Rattle.go_base.specs.Text.{front_while, skip_while}
 use Rattle.gtp_wire.specs.Bytes.{is_kept, space_for_tab, is_space}
-use Rattle.gtp_wire.specs.Replies.{prepared, front_of, behind, past_blanks, is_status, trim}
+use Rattle.gtp_wire.specs.Replies.{prepared, past_blanks, is_status, trim}
 use Rattle.gtp_wire.specs.Replies.{IsWhole}
 use Rattle.gtp_wire.specs.AnyText.{IsPrinted}
 use Rattle.gtp_wire.specs.AnyText.{NoDigitFirst, HasId, IsAround, RepliesSay}
 use Rattle.gtp_wire.specs.AnyText.HasId.{an_int, no_digits, no_int}
-use Rattle.gtp_wire.proofs.LineLemmas.{AllByRecursion-append, test_cases}
 use Rattle.gtp_wire.proofs.ReplyLemmas.{reply_made}
-use Rattle.gtp_wire.proofs.WrittenLemmas.{last_of, digits_of_value, front_of_digits, behind_digits}
 use Rattle.gtp_wire.proofs.NewlineLemmas.{no_two}
 
 pub prepared_printed : (l : List ℕ) → AllByRecursion (λ b. (b ≡ 10) ⊎ IsPrinted b) l → prepared l ≡ l
@@ -37,26 +39,26 @@ prepared_printed (b ∷ l) all =
 
 -- a text behind its digits
 no_digit_test : (b : ℕ) (more : List ℕ) → NoDigitFirst (b ∷ more) → is_ascii_digit b ≡ false
-no_digit_test b more none = elim (test_cases (is_ascii_digit b)) [
+no_digit_test b more none = elim (cases_Bool (is_ascii_digit b)) [
   | inl e ↦ let bounds = digit_bounds b e in absurd (none b more refl bounds.0 bounds.1)
   | inr e ↦ e
 ]
 
-front_none : (rest : List ℕ) → NoDigitFirst rest → front_of is_ascii_digit rest ≡ []
+front_none : (rest : List ℕ) → NoDigitFirst rest → front_while is_ascii_digit rest ≡ []
 front_none [] none = refl
 front_none (b ∷ more) none = rw (no_digit_test b more none) refl
 
-behind_all : (rest : List ℕ) → NoDigitFirst rest → behind is_ascii_digit rest ≡ rest
-behind_all [] none = refl
-behind_all (b ∷ more) none = rw (no_digit_test b more none) refl
+skip_none : (rest : List ℕ) → NoDigitFirst rest → skip_while is_ascii_digit rest ≡ rest
+skip_none [] none = refl
+skip_none (b ∷ more) none = rw (no_digit_test b more none) refl
 
 -- spaces around a text
 abbrev AreSpaces : List ℕ → Type 0
 AreSpaces l = AllByRecursion (λ b. b ≡ 32) l
 
-behind_spaces : (l t : List ℕ) → AreSpaces l → behind is_space (l ++ t) ≡ behind is_space t
-behind_spaces [] t all = refl
-behind_spaces (b ∷ l) t all = rw all.0 (behind_spaces l t all.1)
+skip_spaces : (l t : List ℕ) → AreSpaces l → skip_while is_space (l ++ t) ≡ skip_while is_space t
+skip_spaces [] t all = refl
+skip_spaces (b ∷ l) t all = rw all.0 (skip_spaces l t all.1)
 
 reverse_spaces : (l : List ℕ) → AreSpaces l → AreSpaces (reverse l)
 reverse_spaces [] all = tt
@@ -64,28 +66,28 @@ reverse_spaces (b ∷ l) all =
     subst AreSpaces (sym (reverse-append (b ∷ []) l))
     (AllByRecursion-append _ (reverse l) (b ∷ []) (reverse_spaces l all.1) (all.0, tt))
 
-behind_other : (b : ℕ) (l : List ℕ) → b ≢ 32 → behind is_space (b ∷ l) ≡ b ∷ l
-behind_other b l other = let test : is_space b ≡ false = grind (arith, nat_tests) in rw test refl
+skip_other : (b : ℕ) (l : List ℕ) → b ≢ 32 → skip_while is_space (b ∷ l) ≡ b ∷ l
+skip_other b l other = let test : is_space b ≡ false = grind (arith, nat_tests) in rw test refl
 
 trim_around : (text front end : List ℕ) → AreSpaces front → AreSpaces end
     → ((more : List ℕ) → text ≡ 32 ∷ more → ⊥) → ((more : List ℕ) → text ≡ more ++ 32 ∷ [] → ⊥)
     → trim (front ++ (text ++ end)) ≡ text
 trim_around [] front end spaces_front spaces_end first last =
-    ap (λ t. reverse (behind is_space (reverse t)))
-    (behind_spaces front end spaces_front ∙ ap (behind is_space) (sym (append-nil end))
-    ∙ behind_spaces end [] spaces_end)
+    ap (λ t. reverse (skip_while is_space (reverse t)))
+    (skip_spaces front end spaces_front ∙ ap (skip_while is_space) (sym (append-nil end))
+    ∙ skip_spaces end [] spaces_end)
 trim_around (x ∷ xs) front end spaces_front spaces_end first last =
     let z = last_of x xs in
     let text : List ℕ = x ∷ xs in
     let no_first : x ≢ 32 = λ (e : x ≡ 32). first xs (ap (λ b. b ∷ xs) e) in
     let no_last : z.1 ≢ 32 = λ (e : z.1 ≡ 32). last z.0 (z.2 ∙ ap (λ b. z.0 ++ b ∷ []) e) in
     let turned : reverse text ≡ z.1 ∷ reverse z.0 = ap reverse z.2 ∙ reverse-append z.0 (z.1 ∷ []) in
-    ap (λ t. reverse (behind is_space (reverse t)))
-    (behind_spaces front (text ++ end) spaces_front ∙ behind_other x (xs ++ end) no_first)
-    ∙ ap (λ t. reverse (behind is_space t)) (reverse-append text end)
-    ∙ ap reverse (behind_spaces (reverse end) (reverse text) (reverse_spaces end spaces_end))
-    ∙ ap (λ t. reverse (behind is_space t)) turned
-    ∙ ap reverse (behind_other z.1 (reverse z.0) no_last ∙ sym turned)
+    ap (λ t. reverse (skip_while is_space (reverse t)))
+    (skip_spaces front (text ++ end) spaces_front ∙ skip_other x (xs ++ end) no_first)
+    ∙ ap (λ t. reverse (skip_while is_space t)) (reverse-append text end)
+    ∙ ap reverse (skip_spaces (reverse end) (reverse text) (reverse_spaces end spaces_end))
+    ∙ ap (λ t. reverse (skip_while is_space t)) turned
+    ∙ ap reverse (skip_other z.1 (reverse z.0) no_last ∙ sym turned)
     ∙ reverse-reverse text
 
 trim_is : (text bytes : List ℕ) → IsAround text bytes → trim bytes ≡ text
@@ -96,22 +98,22 @@ trim_is text bytes around =
 
 -- the id and the text of a body
 record IsSaid (id : Option ℕ) (body bytes : List ℕ) : Type 0 where
-  id_is : id ≡ int_of (front_of is_ascii_digit body)
-  text_is : bytes ≡ cond (is_some id) (behind is_ascii_digit body) body
+  id_is : id ≡ int_of (front_while is_ascii_digit body)
+  text_is : bytes ≡ cond (is_some id) (skip_while is_ascii_digit body) body
 
 said : (id : Option ℕ) (body bytes : List ℕ) → HasId body id bytes → IsSaid id body bytes
 said id body bytes (an_int n digits rest spells none) =
-    let all = digits_of_value digits spells.numeral.1 in
+    let all = digits_model.from digits spells.numeral.1 in
     record {
-      id_is = sym (ap int_of (front_of_digits digits rest all ∙ ap (λ t. digits ++ t) (front_none rest none)
+      id_is = sym (ap int_of (front_while-append is_ascii_digit digits rest all ∙ ap (λ t. digits ++ t) (front_none rest none)
           ∙ append-nil digits) ∙ int_of_spelled n digits spells);
-      text_is = sym (behind_digits digits rest all ∙ behind_all rest none);
+      text_is = sym (skip_while-append is_ascii_digit digits rest all ∙ skip_none rest none);
     }
 said id body bytes (no_digits rest none) = record { id_is = sym (ap int_of (front_none rest none)); text_is = refl }
 said id body bytes (no_int digits rest are none_spelled none) =
-    let all = digits_of_value digits are in
+    let all = digits_model.from digits are in
     record {
-      id_is = sym (ap int_of (front_of_digits digits rest all ∙ ap (λ t. digits ++ t) (front_none rest none)
+      id_is = sym (ap int_of (front_while-append is_ascii_digit digits rest all ∙ ap (λ t. digits ++ t) (front_none rest none)
           ∙ append-nil digits) ∙ sym (int_of_unspelled digits none_spelled));
       text_is = refl;
     }
@@ -149,4 +151,4 @@ replies_say ok id body bytes value printed single fits has around ok_is id_is =
     reply_made (cond ok 61 63 ∷ (body ++ 10 ∷ 10 ∷ [])) whole value.ok value.id value.text
     (ok_is ∙ status_ok ok) (id_is ∙ is_said.id_is)
     (sym (trim_is value.text.items bytes around) ∙ ap trim is_said.text_is
-    ∙ ap (λ i. trim (cond (is_some i) (behind is_ascii_digit body) body)) (sym id_is))
+    ∙ ap (λ i. trim (cond (is_some i) (skip_while is_ascii_digit body) body)) (sym id_is))

@@ -1,4 +1,5 @@
 -- What each byte does to the line that a reader holds.
+use Rattle.go_base.proofs.General.{AllByRecursion-append, split_between}
 use Rattle.std.proofs.Common.{◌≡◌, ℕ, ◌<◌, ◌≤◌, List, [], ◌∷◌, ◌++◌, length, Some, true, false, refl, sym, ◌∙◌, ap}
 use Rattle.std.proofs.Common.{arith, eqb, ◌⊎◌, inl, inr, append_assoc, append-nil, length-append, lit<}
 use Rattle.std.proofs.lemmas.Bool.{le-ltb}
@@ -13,9 +14,9 @@ use Rattle.gtp_wire.specs.Words.{words, command_of}
 use Rattle.gtp_wire.specs.Lines.{lines, line_of, line_of_words}
 use Rattle.gtp_wire.specs.private.LineReading.{is_plain, HoldsWords, HoldsLine, IsKind, ending}
 use Rattle.gtp_wire.specs.declared.lines.Kind.TheVariants.{Space}
-use Rattle.gtp_wire.proofs.LineLemmas.{AllByRecursion-append, NoNewline, lines_same, lines_newline, lines_open}
+use Rattle.gtp_wire.proofs.LineLemmas.{NoNewline, lines_same, lines_newline, lines_open}
 use Rattle.gtp_wire.proofs.WordLemmas.{cleaned, cleaned_plain, plain_byte, words_space, words_two_spaces, join_words}
-use Rattle.gtp_wire.proofs.WordLemmas.{some_word, too_long_line, too_long_words, split_push, push_last, split_between}
+use Rattle.gtp_wire.proofs.WordLemmas.{some_word, too_long_line, too_long_words, split_push, push_last}
 use Rattle.gtp_wire.proofs.WordLemmas.{weight_joined}
 
 -- what a reader is seen as
@@ -273,7 +274,7 @@ pub joined_push_gap : (held : List ℕ) (b : ℕ) → HoldsWords held → 0 < le
 joined_push_gap held b joined some plain other = rw (append_assoc held (32 ∷ []) (b ∷ [])) (record {
   plain = AllByRecursion-append _ held (32 ∷ b ∷ []) joined.plain (refl, (plain, tt));
   single =
-      λ h. rw (split_between held (b ∷ []), split_push [] b other)
+      λ h. rw (split_between is_space held (b ∷ []) 32 refl, split_push [] b other)
       (AllByRecursion-append _ (slice_split is_space held) ((b ∷ []) ∷ []) (joined.single some) (lit< tt, tt));
 })
 

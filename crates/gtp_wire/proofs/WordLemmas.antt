@@ -1,8 +1,9 @@
 -- The words of a text that grows at its end, and the line that they are.
+use Rattle.go_base.proofs.General.{split_parts, split_between}
 use Rattle.std.proofs.Common.{◌≡◌, ℕ, ◌+◌, ◌<◌, ◌≤◌, List, [], ◌∷◌, ◌++◌, length, Some, Bool, true, false, refl, sym}
 use Rattle.std.proofs.Common.{◌∙◌, ap, arith, cond, eqb, ltb, inl, inr, ◌&&◌, not, map, append_assoc, append-nil}
 use Rattle.std.proofs.Common.{length-append, filter}
-use Rattle.std.proofs.lemmas.Bool.{lt-ltb, eqb-true}
+use Rattle.std.proofs.lemmas.Bool.{lt-ltb, eqb-true, cases_Bool}
 use Rattle.std.proofs.lemmas.List.Elements.{filter-append}
 use Rattle.std.proofs.lemmas.List.Splits.{slice_split-cons_yes, slice_split-cons_no, join_with_byte-slice_split}
 use Rattle.std.specs.List.{slice_split, onto_first, join_with_byte, AllByRecursion}
@@ -11,34 +12,14 @@ use Rattle.gtp_wire.specs.Bytes.{is_kept, is_newline, is_space, before_hash, spa
 use Rattle.gtp_wire.specs.Words.{words}
 use Rattle.gtp_wire.specs.Lines.{line_of, line_of_words}
 use Rattle.gtp_wire.specs.private.LineReading.{is_plain, HoldsWords}
-use Rattle.gtp_wire.proofs.LineLemmas.{split_parts, test_cases}
 
 abbrev pub some_bytes : List ℕ → Bool
 some_bytes part = ltb 0 (length part)
 
--- the parts of two texts with a separator between them
-pub split_between : (xs : List ℕ) (ys : List ℕ)
-    → slice_split is_space (xs ++ 32 ∷ ys) ≡ slice_split is_space xs ++ slice_split is_space ys
-split_between [] ys = refl
-split_between (x ∷ xs) ys =
-    let parts = split_parts is_space xs in
-    elim (test_cases (is_space x)) [
-      | inl e ↦ slice_split-cons_yes is_space x (xs ++ 32 ∷ ys) e ∙ ap (λ ps. [] ∷ ps) (split_between xs ys)
-          ∙ ap (λ ps. ps ++ slice_split is_space ys) (sym (slice_split-cons_yes is_space x xs e))
-      | inr e ↦ slice_split-cons_no is_space x (xs ++ 32 ∷ ys) e ∙ ap (onto_first x) (split_between xs ys)
-          ∙ onto_first_append x (slice_split is_space xs) (slice_split is_space ys) parts.0 parts.1 parts.2
-          ∙ ap (λ ps. ps ++ slice_split is_space ys) (sym (slice_split-cons_no is_space x xs e))
-    ]
-  where
-    onto_first_append : (x : ℕ) (ps qs : List (List ℕ)) (w : List ℕ) (ws : List (List ℕ)) → ps ≡ w ∷ ws
-        → onto_first x (ps ++ qs) ≡ onto_first x ps ++ qs
-    onto_first_append x [] qs w ws e = absurd (cc)
-    onto_first_append x (p ∷ ps) qs w ws e = refl
-
 -- the words on both sides of a space
 pub words_between : (xs ys : List ℕ) → words (xs ++ 32 ∷ ys) ≡ words xs ++ words ys
 words_between xs ys =
-    ap (filter some_bytes) (split_between xs ys)
+    ap (filter some_bytes) (split_between is_space xs ys 32 refl)
     ∙ filter-append some_bytes (slice_split is_space xs) (slice_split is_space ys)
 
 -- two spaces are as one
@@ -71,7 +52,7 @@ pub split_push : (xs : List ℕ) (c : ℕ) → is_space c ≡ false
 split_push [] c other = slice_split-cons_no is_space c [] other
 split_push (x ∷ xs) c other =
     let parts = split_parts is_space xs in
-    elim (test_cases (is_space x)) [
+    elim (cases_Bool (is_space x)) [
       | inl e ↦ slice_split-cons_yes is_space x (xs ++ c ∷ []) e ∙ ap (λ ps. [] ∷ ps) (split_push xs c other)
           ∙ sym (push_last_behind [] (slice_split is_space xs) c parts.0 parts.1 parts.2)
           ∙ ap (λ ps. push_last ps c) (sym (slice_split-cons_yes is_space x xs e))
@@ -112,7 +93,7 @@ weight_push_last (w ∷ v ∷ more) c =
     (weight_push_last (v ∷ more) c)
 
 weight_push : (xs : List ℕ) (c : ℕ) → weight (words xs) ≤ weight (words (xs ++ c ∷ []))
-weight_push xs c = elim (test_cases (is_space c)) [
+weight_push xs c = elim (cases_Bool (is_space c)) [
   | inl e ↦ let space : c ≡ 32 = eqb-true c 32 e in
       rw space (let same : words (xs ++ 32 ∷ []) ≡ words xs = words_space xs in omega (arith, ap weight same))
   | inr e ↦ let same : weight (words (xs ++ c ∷ []))

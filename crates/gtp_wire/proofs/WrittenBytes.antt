@@ -1,4 +1,8 @@
 -- What is written has no byte to spare, and no more bytes than are allowed.
+use Rattle.std.specs.Str.Parse.{AllDigits}
+use Rattle.std.proofs.lemmas.Str.Parse.{digit_from_value}
+use Rattle.go_base.proofs.General.{AllByRecursion-append, last_of}
+use Rattle.std.proofs.lemmas.Bool.{or_parts}
 use Rattle.std.proofs.Common.{◌≡◌, ◌≢◌, ℕ, ◌+◌, ◌≤◌, List, [], ◌∷◌, ◌++◌, length, Option, None, Bool, true, false}
 use Rattle.std.proofs.Common.{refl, sym, ◌∙◌, ap, arith, cond, eqb, ◌⊎◌, inl, inr, append_assoc, length-append, reverse, get_or}
 use Rattle.std.proofs.Common.{zero, suc, ◌&&◌}
@@ -19,12 +23,11 @@ use Rattle.gtp_wire.specs.Replies.{IsReplyText}
 use Rattle.gtp_wire.specs.private.LineReading.{is_plain}
 use Rattle.gtp_wire.specs.AnyText.{IsPrinted, HasInts, CommandsHaveNoByteToSpare, RepliesHaveNoByteToSpare}
 use Rattle.gtp_wire.specs.AnyText.{LimitsAreThese, AreDigitsOf, IsTextOfLines}
-use Rattle.gtp_wire.proofs.LineLemmas.{AllByRecursion-append}
 use Rattle.gtp_wire.proofs.WordLemmas.{weight, length-join, plain_byte}
-use Rattle.gtp_wire.proofs.WrittenLemmas.{IsDigit, id_text, last_of, all_shown}
+use Rattle.gtp_wire.proofs.WrittenLemmas.{id_text, all_shown}
 use Rattle.gtp_wire.proofs.WrittenReplies.{reply_short}
 use Rattle.gtp_wire.proofs.CommandWords.{line_plain, command_short}
-use Rattle.gtp_wire.proofs.NewlineLemmas.{no_two, or_parts}
+use Rattle.gtp_wire.proofs.NewlineLemmas.{no_two}
 
 -- ---- commands
 
@@ -103,10 +106,11 @@ status_printed : (ok : Bool) → IsReplyByte (cond ok 61 63)
 status_printed true = printed_byte 61 (omega arith) (omega arith)
 status_printed false = printed_byte 63 (omega arith) (omega arith)
 
-digits_printed : (l : List ℕ) → AllByRecursion IsDigit l → AllByRecursion IsReplyByte l
+digits_printed : (l : List ℕ) → AllDigits 10 l → AllByRecursion IsReplyByte l
 digits_printed [] all = tt
 digits_printed (c ∷ l) all =
-    (printed_byte c (omega (arith, all.0.0)) (omega (arith, all.0.1)), digits_printed l all.1)
+    let range = digit_from_value c all.0 in
+    (printed_byte c (omega (arith, range.0)) (omega (arith, range.1)), digits_printed l all.1)
 
 spaced_printed : (text : List ℕ) → AllByRecursion IsReplyByte text → AllByRecursion IsReplyByte (spaced text)
 spaced_printed [] all = tt

@@ -36,6 +36,10 @@ abbrev pub before_hash : List ℕ → List ℕ
 before_hash [] = []
 before_hash (b ∷ bs) = if b == hash then [] else b ∷ before_hash bs
 
--- what may stand before a reply (own), and separates the words of its text: spaces and newlines
+-- what may be before a reply (own), and separates the words of its text: spaces and newlines
 abbrev pub is_blank : ℕ → Bool
 is_blank b = is_space b || is_newline b
+
+-- a byte of a word of a reply's text
+abbrev pub is_inside : ℕ → Bool
+is_inside b = not (is_blank b)

@@ -5,6 +5,7 @@ use Rattle.std.specs.Prelude.{Option, Some, None, is_some, IfSome, IfNone, Resul
 use Rattle.std.specs.Char.{is_ascii_digit}
 use Rattle.std.specs.List.{list_all}
 use Rattle.go_base.specs.Bytes.{newline, space}
+use Rattle.go_base.specs.Text.{front_while, skip_while}
 use Rattle.go_base.specs.Int.{int_of, written_int}
 use Rattle.gtp_wire.specs.declared.replies.Reply.{Reply}
 use Rattle.gtp_wire.specs.declared.replies.ReplyFault.{ReplyFault}
@@ -29,19 +30,9 @@ most_written_bytes = 2048
 abbrev pub prepared : List ℕ → List ℕ
 prepared raw = map space_for_tab (filter is_kept raw)
 
--- the longest front of elements that pass
-abbrev pub front_of : {X : Type 0} → (X → Bool) → List X → List X
-front_of p [] = []
-front_of p (x ∷ xs) = if p x then x ∷ front_of p xs else []
-
--- what is behind the longest front of elements that pass
-abbrev pub behind : {X : Type 0} → (X → Bool) → List X → List X
-behind p [] = []
-behind p (x ∷ xs) = if p x then behind p xs else x ∷ xs
-
 -- the prepared bytes without the spaces and newlines before the reply
 unfoldable pub past_blanks : List ℕ → List ℕ
-past_blanks raw = behind is_blank (prepared raw)
+past_blanks raw = skip_while is_blank (prepared raw)
 
 -- `=` for success, or `?` for failure
 abbrev pub is_status : ℕ → Bool
@@ -55,15 +46,15 @@ has_two_newlines (x ∷ y ∷ more) = (is_newline x && is_newline y) || has_two_
 
 -- without the spaces at the front and at the end
 abbrev pub trim : List ℕ → List ℕ
-trim text = reverse (behind is_space (reverse (behind is_space text)))
+trim text = reverse (skip_while is_space (reverse (skip_while is_space text)))
 
 -- What a status and a body say: the run of digits at the body's front is the id where it is an int, and the rest is the
 -- text; where it is none, there is no id and the whole body is the text. Single newlines stay in the text, and the
 -- spaces at its ends are dropped.
 abbrev pub reply_of : ℕ → List ℕ → Reply
 reply_of status body =
-    let id = int_of (front_of is_ascii_digit body) in
-    let text = if is_some id then behind is_ascii_digit body else body in
+    let id = int_of (front_while is_ascii_digit body) in
+    let text = if is_some id then skip_while is_ascii_digit body else body in
     record { ok = status == equals_sign; id = id; text = record { items = trim text } }
 
 -- The raw bytes are one reply: at most 8,192, the last of them a newline; and prepared, they are spaces and newlines, a

@@ -2,8 +2,8 @@
 ghost use Rattle.std.specs.Prelude.{◌≡◌, not};
 ghost use Rattle.gtp_wire.specs.Bytes.{is_kept, space_for_tab, is_blank};
 
-/// Whether the byte is a space or a newline: what may stand before a reply, and separates the words of its text.
-pub fn is_blank(byte: u8) -> bool
+/// Whether the byte is a space or a newline: what may be before a reply, and separates the words of its text.
+pub(crate) fn is_blank(byte: u8) -> bool
     ensures { result ≡ is_blank byte }
 {
     byte == b' ' || byte == b'\n'

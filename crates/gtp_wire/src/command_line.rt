@@ -8,7 +8,7 @@ ghost use Rattle.gtp_wire.specs.private.LineReading.{IsLineText, id_of_words};
 ghost use Rattle.gtp_wire.specs.Words.{words, command_of};
 
 use arrayvec::ArrayVec;
-use go_base::read_int;
+use go_base::{push, read_int};
 use std::marker::Model;
 
 /// The most bytes that the words of a line have, the id's word included, joined by single spaces.
@@ -46,8 +46,7 @@ impl CommandLine {
         ensures { result ≡ command_of (words line.now) }
     {
         let mut text = ArrayVec::new();
-        // There is room: the text of a line has at most 1,000 bytes.
-        let _ = text.try_extend_from_slice(line);
+        push(&mut text, line);
         CommandLine {
             id: first_int(line),
             text,
@@ -61,8 +60,7 @@ impl CommandLine {
     {
         self.id = first_int(text);
         self.text.clear();
-        // There is room: the text of a line has at most 1,000 bytes.
-        let _ = self.text.try_extend_from_slice(text);
+        push(&mut self.text, text);
     }
 
     /// The id, where the line has one: an int of the protocol, at most 2,147,483,647.

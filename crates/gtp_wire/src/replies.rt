@@ -6,7 +6,7 @@ ghost use Rattle.gtp_wire.specs.Replies.{IsReply, IsReplyText, most_text_bytes, 
 ghost use Rattle.gtp_wire.specs.declared.replies.Reply.{Reply};
 
 use arrayvec::ArrayVec;
-use go_base::write_int;
+use go_base::{push, write_int};
 
 /// The most bytes of a reply that is read, what is removed and skipped included.
 pub(crate) const MOST_REPLY_BYTES: usize = 8192;
@@ -122,9 +122,7 @@ fn push_id(out: &mut ReplyText, id: Option<u32>)
     ensures len { array_vec_len out.new ≤ MOST_FRONT_BYTES }
 {
     if let Some(id) = id {
-        let digits = write_int(id);
-        // There is room for ten digits.
-        let _ = out.try_extend_from_slice(&digits);
+        push(out, &write_int(id));
     }
 }
 
@@ -136,7 +134,6 @@ fn push_text(out: &mut ReplyText, text: &[u8])
 {
     if !text.is_empty() {
         out.push(b' ');
-        // There is room, as this function requires.
-        let _ = out.try_extend_from_slice(text);
+        push(out, text);
     }
 }
