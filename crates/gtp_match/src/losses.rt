@@ -1,4 +1,4 @@
-//! Why a side is lost by what it writes: it goes down, is unfit or forfeits.
+//! Why a side fails by what it writes: it goes down, is unfit or forfeits.
 ghost use Rattle.std.specs.Prelude.{◌≡◌, take};
 ghost use Rattle.gtp_match.specs.Losing.{most_shown, owed_of, BreaksRule};
 ghost use Rattle.gtp_match.specs.private.Notices.{owed_then};
@@ -18,7 +18,7 @@ pub const MOST_SHOWN: usize = 80;
 /// The beginning of what a side wrote.
 pub type ShownBytes = ArrayVec<u8, MOST_SHOWN>;
 
-/// Why a side is lost by what it writes.
+/// Why a side fails by what it writes.
 #[derive(Clone, Copy, Debug, PartialEq, Eq)]
 pub enum LossCause {
     /// Its bytes show this fault. It goes down.
@@ -49,14 +49,14 @@ pub struct Owed {
     pub bytes: ShownBytes,
 }
 
-/// That a side is lost by what it wrote.
+/// A side failed by what it wrote.
 #[derive(Drop)]
 pub struct Loss {
     /// Why.
     pub cause: LossCause,
-    /// What it owed when its bytes ended the reply, or showed the fault, that loses it. The bytes are those of this
-    /// reply, without what follows it. Where they are no reply, they are the first 80 of all that was heard since
-    /// the last whole reply, also of what follows the fault.
+    /// What it owed when its bytes ended the reply, or showed the fault, by which it fails. The bytes are those of this
+    /// reply, without what follows it. Where they are no reply, they are the first 80 of all that was heard since the
+    /// last whole reply, also of what follows the fault.
     pub owed: Owed,
 }
 

@@ -23,7 +23,7 @@ pub struct Retake {
 pub struct Report {
     /// The refused `play` that is retaken, if any.
     pub retake: Option<Retake>,
-    /// Why the side is lost, if it is: by what follows the refusal, where there is one.
+    /// Why the side fails, if it does. Where a refusal is retaken, it fails by what follows.
     pub loss: Option<Loss>,
 }
 
