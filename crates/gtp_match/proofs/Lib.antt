@@ -18,7 +18,6 @@ pub mod ReplySound
 pub mod HeardSound
 pub mod HeardLemmas
 pub mod OpeningLemmas
-pub mod MoveTextLemmas
 pub mod CallsLemmas
 pub mod LeavingLemmas
 pub mod JoinLemmas

@@ -2,3 +2,4 @@
 pub mod Conditions
 pub mod Feeding
 pub mod Lending
+pub mod Notices

@@ -1,5 +1,5 @@
-//! What tests assert. What an assertion of std writes is proved anew wherever it stands, and a call isn't: so tests call
-//! these.
+//! What tests assert. The code that an assertion of std writes is proved anew at each place, and a call isn't. So tests
+//! call these functions.
 use std::fmt::Debug;
 use std::process::Abort;
 

@@ -1,14 +1,14 @@
-//! Why a side is lost by what it writes: it goes down, is unfit or forfeits.
-ghost use Rattle.std.specs.Prelude.{◌≡◌, ◌+◌, ◌≤◌, ◌++◌, length, take};
-ghost use Rattle.arrayvec.specs.ArrayVec.{array_vec_len};
-ghost use Rattle.gtp_match.specs.Losing.{most_shown, owed_of, BreaksRule, first_of};
+//! Why a side fails by what it writes: it goes down, is unfit or forfeits.
+ghost use Rattle.std.specs.Prelude.{◌≡◌, take};
+ghost use Rattle.gtp_match.specs.Losing.{most_shown, owed_of, BreaksRule};
+ghost use Rattle.gtp_match.specs.private.Notices.{owed_then};
 
 use crate::reply_table::{Outcome, judge};
 use crate::sides::Incarnation;
 use crate::unanswered::SentCommand;
 use crate::verdicts::{ForfeitCause, SideFault};
 use arrayvec::ArrayVec;
-use go_base::{Choice, Side};
+use go_base::{Choice, Side, push};
 use go_board::{Game, PlayFault};
 use gtp_wire::Reply;
 
@@ -18,7 +18,7 @@ pub const MOST_SHOWN: usize = 80;
 /// The beginning of what a side wrote.
 pub type ShownBytes = ArrayVec<u8, MOST_SHOWN>;
 
-/// Why a side is lost by what it writes.
+/// Why a side fails by what it writes.
 #[derive(Clone, Copy, Debug, PartialEq, Eq)]
 pub enum LossCause {
     /// Its bytes show this fault. It goes down.
@@ -49,55 +49,51 @@ pub struct Owed {
     pub bytes: ShownBytes,
 }
 
-/// That a side is lost by what it wrote.
+/// A side failed by what it wrote.
 #[derive(Drop)]
 pub struct Loss {
     /// Why.
     pub cause: LossCause,
-    /// What it owed when its bytes ended the reply, or showed the fault, that loses it. The bytes are those of this
-    /// reply, without what follows it. Where they are no reply, they are the first 80 of all that was heard since
-    /// the last whole reply, also of what follows the fault.
+    /// What it owed when its bytes ended the reply, or showed the fault, by which it fails. The bytes are those of this
+    /// reply, without what follows it. Where they are no reply, they are the first 80 of all that was heard since the
+    /// last whole reply, also of what follows the fault.
     pub owed: Owed,
 }
 
-/// The first of two losses.
-pub(crate) fn first_of(loss: Option<Loss>, later: Option<Loss>) -> Option<Loss>
-    ensures { result ≡ first_of loss later }
-{
-    match loss {
-        None => later,
-        Some(loss) => Some(loss),
+impl Owed {
+    /// The same once these bytes more were written.
+    pub(crate) fn then(self, more: &[u8]) -> Owed
+        ensures { result ≡ owed_then self more.now }
+    {
+        let mut bytes = self.bytes;
+        let room = MOST_SHOWN - bytes.len();
+        push(&mut bytes, &more[..room.min(more.len())]);
+        Owed {
+            unanswered: self.unanswered,
+            oldest: self.oldest,
+            bytes,
+        }
     }
 }
 
-/// What an engine owes that wrote these bytes more since its last whole reply.
-pub(crate) fn owed_with(engine: &Incarnation, more: &[u8]) -> Owed
-    ensures { result ≡ owed_of engine.now (engine.now.reader ++ more.now) }
+/// What an engine owes.
+pub(crate) fn owed_by(engine: &Incarnation) -> Owed
+    ensures { result ≡ owed_of engine.now engine.now.reader }
 {
     Owed {
         unanswered: engine.unanswered.len() as u32,
         oldest: engine.unanswered.oldest(),
-        bytes: first_bytes(engine.reader.bytes(), more),
+        bytes: first_bytes(engine.reader.bytes()),
     }
 }
 
-/// The first bytes of two texts, joined.
-fn first_bytes(text: &[u8], more: &[u8]) -> ShownBytes
-    ensures { result.items ≡ take most_shown (text.now ++ more.now) }
+/// The first bytes of a text.
+fn first_bytes(text: &[u8]) -> ShownBytes
+    ensures { result.items ≡ take most_shown text.now }
 {
     let mut bytes = ArrayVec::new();
-    append(&mut bytes, &text[..MOST_SHOWN.min(text.len())]);
-    let room = MOST_SHOWN - bytes.len();
-    append(&mut bytes, &more[..room.min(more.len())]);
+    push(&mut bytes, &text[..MOST_SHOWN.min(text.len())]);
     bytes
-}
-
-/// Appends bytes, for which there is room.
-fn append(bytes: &mut ShownBytes, more: &[u8])
-    requires { array_vec_len bytes.old + length more.now ≤ MOST_SHOWN }
-    ensures { bytes.new.items ≡ bytes.old.items ++ more.now }
-{
-    let _ = bytes.try_extend_from_slice(more);
 }
 
 /// The rule that a chosen vertex breaks, if any.

@@ -1,20 +1,11 @@
 //! What a match reports of bytes of a side that were heard: a refused `play` that is retaken, and a loss.
-ghost use Rattle.std.specs.Prelude.{◌≡◌, ◌++◌, None, Option, Some, option_map};
-ghost use Rattle.gtp_match.specs.Hearing.{side_fault};
-ghost use Rattle.gtp_match.specs.Losing.{HasLossCause, Loses, loss_of};
-ghost use Rattle.gtp_match.specs.ReplyTable.{outcome};
-ghost use Rattle.gtp_match.specs.Retaking.{RetakesOnce, retake_by};
-ghost use Rattle.gtp_match.specs.Sides.{side_of};
-ghost use Rattle.gtp_match.specs.Unanswered.{oldest};
-ghost use Rattle.gtp_match.specs.declared.losses.LossCause.{LossCause};
-ghost use Rattle.gtp_match.specs.private.Conditions.{MayHear};
+ghost use Rattle.std.specs.Prelude.{◌≡◌, None, Some};
+ghost use Rattle.std.specs.Option.{option_or};
+ghost use Rattle.gtp_match.specs.Losing.{first_of};
+ghost use Rattle.gtp_match.specs.private.Notices.{retake_in, loss_in};
 
-use crate::controller::{Controller, side_fault};
-use crate::losses::{Loss, LossCause, Owed, owed_with};
-use crate::reply_table::{Outcome, judge};
-use crate::sides::Incarnation;
-use go_base::Side;
-use gtp_wire::{Reply, ReplyFedInto};
+use crate::losses::{Loss, LossCause, Owed};
+use crate::verdicts::SideFault;
 
 /// That a refused `play` is retaken. The move that was refused leaves the record, and its maker is asked for another,
 /// unless the match ends before that. This is no loss.
@@ -32,106 +23,93 @@ pub struct Retake {
 pub struct Report {
     /// The refused `play` that is retaken, if any.
     pub retake: Option<Retake>,
-    /// Why the side is lost, if it is: by what follows the refusal, where there is one.
+    /// Why the side fails, if it does. Where a refusal is retaken, it fails by what follows.
     pub loss: Option<Loss>,
 }
 
 impl Report {
     /// Nothing is reported.
     pub(crate) fn nothing() -> Report
-        ensures retake { result.retake ≡ None }
-        ensures loss { result.loss ≡ None }
+        ensures { result ≡ record { retake = None; loss = None } }
     {
         Report {
             retake: None,
             loss: None,
         }
     }
+
+    /// Adds what is reported of bytes that were heard, of a side that owed this before them and wrote this text then.
+    /// The first retake and the first loss stay.
+    pub(crate) fn add(&mut self, owed: Option<Owed>, text: &[u8], notice: Option<Notice>)
+        ensures retake { self.new.retake ≡ option_or self.old.retake (retake_in owed text.now notice) }
+        ensures loss { self.new.loss ≡ first_of self.old.loss (loss_in owed text.now notice) }
+    {
+        let Some(notice) = notice else {
+            return;
+        };
+        let Some(owed) = owed else {
+            return;
+        };
+        let owed = owed.then(text);
+        match notice {
+            Notice::Retakes(count) => self.add_retake(Retake { count, owed }),
+            Notice::Fails(cause) => self.add_loss(Loss { cause, owed }),
+        }
+    }
+
+    /// A retake is reported, unless one was before.
+    fn add_retake(&mut self, retake: Retake)
+        ensures retake { self.new.retake ≡ option_or self.old.retake (Some retake) }
+        ensures loss { self.new.loss ≡ self.old.loss }
+    {
+        if self.retake.is_none() {
+            self.retake = Some(retake);
+        }
+    }
+
+    /// A loss is reported, unless one was before.
+    fn add_loss(&mut self, loss: Loss)
+        ensures loss { self.new.loss ≡ first_of self.old.loss (Some loss) }
+        ensures retake { self.new.retake ≡ self.old.retake }
+    {
+        if self.loss.is_none() {
+            self.loss = Some(loss);
+        }
+    }
 }
 
-impl Controller {
-    /// What these bytes of a side would report, heard once and before any verdict. The reply handed in is written over.
-    pub fn report(&self, side: Side, bytes: &[u8], reply: &mut Reply) -> Report
-        requires verdict { self.now.verdict ≡ None }
-        requires may { MayHear self.now side }
-        ensures retake { RetakesOnce self.now side bytes.now result.retake }
-        ensures loss { Loses self.now side bytes.now result.loss }
-    {
-        let Some(engine) = &self.sides.side_of(side).up else {
-            return Report::nothing();
-        };
-        let mut reader = engine.reader.copied();
-        let ReplyFedInto { used, got } = reader.feed_into(bytes, reply);
-        let Some(told) = got else {
-            return Report::nothing();
-        };
-        match told {
-            Ok(()) => self.reply_report(side, engine, reply, &bytes[..used]),
-            Err(fault) => Report {
-                retake: None,
-                loss: Some(Loss {
-                    cause: LossCause::Shows(side_fault(fault)),
-                    owed: owed_with(engine, bytes),
-                }),
-            },
-        }
-    }
+/// What is reported of bytes of a side that were heard once.
+#[derive(Clone, Copy, Debug, PartialEq, Eq)]
+pub enum Notice {
+    /// They end a refused `play` that is retaken. It is the retake of this count, of its number of a move.
+    Retakes(u32),
+    /// By them the side fails, for this cause.
+    Fails(LossCause),
+}
 
-    /// What a reply reports that these bytes end, of a side that is up.
-    fn reply_report(&self, side: Side, engine: &Incarnation, reply: &Reply, bytes: &[u8]) -> Report
-        requires up { (side_of self.now.sides side).up ≡ Some engine.now }
-        requires may { MayHear self.now side }
-        ensures retake { let told = outcome self.now.game side (oldest engine.now.unanswered) reply.now in
-            let text = engine.now.reader ++ bytes.now in
-            result.retake ≡ retake_by self.now side engine.now text told }
-        ensures loss { let told = outcome self.now.game side (oldest engine.now.unanswered) reply.now in
-            let text = engine.now.reader ++ bytes.now in
-            (cause : Option LossCause) × HasLossCause self.now side engine.now reply.now told cause
-            × (result.loss ≡ option_map (loss_of engine.now text) cause) }
-    {
-        let outcome = judge(&self.game, side, engine.unanswered.oldest(), reply);
-        Report {
-            retake: self.retake_by(side, engine, outcome, bytes),
-            loss: match self.cause(side, outcome, reply) {
-                None => None,
-                Some(cause) => Some(Loss {
-                    cause,
-                    owed: owed_with(engine, bytes),
-                }),
-            },
-        }
-    }
+/// What was heard of bytes of a side: up to the end of one reply or a fault, or all of them.
+#[derive(Clone, Copy, Debug, PartialEq, Eq)]
+pub struct HeardOnce {
+    /// How many of the bytes were used.
+    pub used: usize,
+    /// The fault that put the side down, if any.
+    pub fault: Option<SideFault>,
+    /// What is reported of them, if anything.
+    pub notice: Option<Notice>,
+    /// How many of the bytes are shown with it: those of the reply, or all where they are no reply.
+    pub shown: usize,
+}
 
-    /// The retake that a reply with this outcome reports, which these bytes end, if it does.
-    fn retake_by(
-        &self,
-        side: Side,
-        engine: &Incarnation,
-        outcome: Outcome,
-        bytes: &[u8],
-    ) -> Option<Retake>
-        requires up { (side_of self.now.sides side).up ≡ Some engine.now }
-        ensures { result
-            ≡ retake_by self.now side engine.now (engine.now.reader ++ bytes.now) outcome }
+impl HeardOnce {
+    /// As many bytes were used, and show nothing.
+    pub fn nothing(used: usize) -> HeardOnce
+        ensures { result ≡ record { used = used; fault = None; notice = None; shown = used } }
     {
-        match outcome {
-            Outcome::Refuses => {
-                if !self.may_retake(side) {
-                    return None;
-                }
-                Some(Retake {
-                    count: self.retakes.of(self.number()) + 1,
-                    owed: owed_with(engine, bytes),
-                })
-            }
-            Outcome::Down(_)
-            | Outcome::Unfit
-            | Outcome::Forfeits(_)
-            | Outcome::Confirms
-            | Outcome::Resigns
-            | Outcome::Moves(_)
-            | Outcome::TakesBack
-            | Outcome::Keeps => None,
+        HeardOnce {
+            used,
+            fault: None,
+            notice: None,
+            shown: used,
         }
     }
 }

@@ -101,7 +101,7 @@ fn hear_bytes(game: &mut Match, side: Side, bytes: &[u8], telling: bool) -> Turn
         let _ = game.hear_all(side, bytes);
         return TurnReport::only_lost(None);
     }
-    let Report { retake, loss } = game.hear_telling(side, bytes);
+    let Report { retake, loss } = game.hear_reporting(side, bytes);
     TurnReport {
         retake,
         lost: match loss {

@@ -5,7 +5,7 @@ use crate::{Action, Match, SideFault, Status};
 use go_base::Side;
 use std::process::Abort;
 
-/// How a side stands whose bytes are heard.
+/// What was done of a side before its bytes are heard.
 #[derive(Clone, Copy)]
 enum Place {
     /// Black was sent the first command of its script.
@@ -17,7 +17,7 @@ enum Place {
 }
 
 impl Place {
-    /// A match with one restart of which a side stands so.
+    /// A match with one restart in which that was done.
     fn begin(self, rt: &impl Abort) -> Match {
         match self {
             Place::InScript | Place::Unasked => first_sent(rt, 1),
@@ -25,7 +25,7 @@ impl Place {
         }
     }
 
-    /// The side that stands so.
+    /// The side of which it was done.
     fn side(self) -> Side {
         match self {
             Place::InScript | Place::Asked => Side::Black,
@@ -66,7 +66,7 @@ fn assert_whole(rt: &impl Abort, place: Place, bytes: &[u8], fault: SideFault) {
     place.assert_down(rt, &played);
 }
 
-/// So do they in two pieces, of which the first shows nothing and leaves the side as it stands.
+/// The fault is shown in two pieces too, of which the first shows nothing and leaves the side as it is.
 fn assert_cut(rt: &impl Abort, place: Place, bytes: &[u8], at: usize, fault: SideFault) {
     let first = some(rt, bytes.get(..at));
     let second = some(rt, bytes.get(at..));
@@ -90,7 +90,7 @@ fn assert_cut(rt: &impl Abort, place: Place, bytes: &[u8], at: usize, fault: Sid
     place.assert_down(rt, &played);
 }
 
-/// The fault is shown by the whole, and so it is with a cut after the first, a middle and the last byte but one.
+/// The fault is shown by the whole, and with a cut after the first, a middle and the last byte but one.
 fn assert_shown(rt: &impl Abort, place: Place, bytes: &[u8], fault: SideFault) {
     assert_whole(rt, place, bytes, fault);
     assert_cut(rt, place, bytes, 1, fault);

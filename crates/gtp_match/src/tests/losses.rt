@@ -1,4 +1,4 @@
-//! Why a side is lost by what it wrote, what is shown of that, and what it owes.
+//! Why a side fails by what it wrote, what is shown of that, and what it owes.
 ghost use Rattle.std.specs.Prelude.{IfSome};
 ghost use Rattle.gtp_match.specs.Losing.{CanBeShown};
 
@@ -30,7 +30,7 @@ pub fn owes(rt: &impl Abort, owed: &Owed, want: Owes)
 }
 
 /// It is a loss of this cause, where this is owed.
-pub fn told(rt: &impl Abort, loss: Option<Loss>, cause: LossCause, want: Owes)
+pub fn is_loss(rt: &impl Abort, loss: Option<Loss>, cause: LossCause, want: Owes)
     requires { IfSome loss (λ l. CanBeShown l.owed) }
 {
     let Some(loss) = loss else {
@@ -40,8 +40,8 @@ pub fn told(rt: &impl Abort, loss: Option<Loss>, cause: LossCause, want: Owes)
     owes(rt, &loss.owed, want);
 }
 
-/// A side is lost by these bytes, and no refusal in them is retaken.
-fn loses(
+/// A side fails by these bytes, and no refusal in them is retaken.
+fn fails(
     rt: &impl Abort,
     played: &mut Match,
     side: Side,
@@ -49,14 +49,14 @@ fn loses(
     cause: LossCause,
     want: Owes,
 ) {
-    let report = played.hear_telling(side, bytes);
+    let report = played.hear_reporting(side, bytes);
     assert_true(rt, report.retake.is_none());
-    told(rt, report.loss, cause, want);
+    is_loss(rt, report.loss, cause, want);
 }
 
-/// Nothing is reported of these bytes: no side is lost by them, and no refusal in them is retaken.
+/// Nothing is reported of these bytes: no side fails by them, and no refusal in them is retaken.
 fn goes_on(rt: &impl Abort, played: &mut Match, side: Side, bytes: &[u8]) {
-    let report = played.hear_telling(side, bytes);
+    let report = played.hear_reporting(side, bytes);
     assert_true(rt, report.retake.is_none());
     assert_true(rt, report.loss.is_none());
 }
@@ -65,15 +65,15 @@ fn goes_on(rt: &impl Abort, played: &mut Match, side: Side, bytes: &[u8]) {
 fn side_owes(rt: &impl Abort, played: &Match, side: Side, want: Owes) {
     let owed = played.owed(side);
     let Some(owed) = &owed else {
-        panic!(rt; "nothing is told");
+        panic!(rt; "nothing is owed");
     };
     owes(rt, owed, want);
 }
 
-/// Black, which was sent its first command alone, is lost by these bytes.
-fn first_loses(rt: &impl Abort, bytes: &[u8], cause: LossCause, shown: &[u8]) {
+/// Black, which was sent its first command alone, fails by these bytes.
+fn first_fails(rt: &impl Abort, bytes: &[u8], cause: LossCause, shown: &[u8]) {
     let mut played = first_sent(rt, 1);
-    loses(
+    fails(
         rt,
         &mut played,
         Side::Black,
@@ -84,11 +84,11 @@ fn first_loses(rt: &impl Abort, bytes: &[u8], cause: LossCause, shown: &[u8]) {
 }
 
 #[test]
-fn a_reply_of_another_id_is_told_whole(rt: HostRuntime) {
+fn a_reply_of_another_id_is_shown_whole(rt: HostRuntime) {
     let cause = LossCause::Shows(SideFault::WrongId);
-    first_loses(&rt, b"=2 D4\n\nmore", cause, b"=2 D4\n\n");
-    first_loses(&rt, b"\n= 1\n\n", cause, b"\n= 1\n\n");
-    first_loses(&rt, b"?2 no\r\n\r\n", cause, b"?2 no\r\n\r\n");
+    first_fails(&rt, b"=2 D4\n\nmore", cause, b"=2 D4\n\n");
+    first_fails(&rt, b"\n= 1\n\n", cause, b"\n= 1\n\n");
+    first_fails(&rt, b"?2 no\r\n\r\n", cause, b"?2 no\r\n\r\n");
 }
 
 #[test]
@@ -104,16 +104,16 @@ fn of_a_text_that_is_no_reply_all_is_shown(rt: HostRuntime) {
     ];
     for bytes in texts {
         let cause = LossCause::Shows(SideFault::NoStatus);
-        first_loses(&rt, bytes, cause, bytes);
+        first_fails(&rt, bytes, cause, bytes);
     }
 }
 
 #[test]
 fn of_a_long_greeting_the_first_80_bytes_are_kept(rt: HostRuntime) {
     let cause = LossCause::Shows(SideFault::NoStatus);
-    first_loses(&rt, &[b'W'; 80], cause, &[b'W'; 80]);
-    first_loses(&rt, &[b'W'; 81], cause, &[b'W'; 80]);
-    first_loses(&rt, &[b'W'; 9000], cause, &[b'W'; 80]);
+    first_fails(&rt, &[b'W'; 80], cause, &[b'W'; 80]);
+    first_fails(&rt, &[b'W'; 81], cause, &[b'W'; 80]);
+    first_fails(&rt, &[b'W'; 9000], cause, &[b'W'; 80]);
     // 76 newlines were heard before, so four letters are left of the 80 bytes.
     let mut played = first_sent(&rt, 1);
     goes_on(&rt, &mut played, Side::Black, &[b'\n'; 76]);
@@ -122,11 +122,11 @@ fn of_a_long_greeting_the_first_80_bytes_are_kept(rt: HostRuntime) {
         *place = *byte;
     }
     let want = (1, b"1 boardsize 2\n".as_slice(), shown.as_slice());
-    loses(&rt, &mut played, Side::Black, b"hello", cause, want);
+    fails(&rt, &mut played, Side::Black, b"hello", cause, want);
 }
 
-/// A reply to Black's first `genmove` with `len` letters that comes in two pieces, the first of `cut` bytes, is told by
-/// its first 80 bytes.
+/// Of a reply to Black's first `genmove` with `len` letters that comes in two pieces, the first of `cut` bytes, the first
+/// 80 bytes are shown.
 fn is_cut_short(rt: &impl Abort, len: usize, cut: usize) {
     let reply = success(4, some(rt, [b'x'; 100].get(..len)));
     let bytes = reply.as_slice();
@@ -136,7 +136,7 @@ fn is_cut_short(rt: &impl Abort, len: usize, cut: usize) {
     goes_on(rt, &mut played, Side::Black, first);
     let shown = &bytes[..bytes.len().min(80)];
     let want = (1, b"4 genmove b\n".as_slice(), shown);
-    loses(
+    fails(
         rt,
         &mut played,
         Side::Black,
@@ -182,7 +182,7 @@ fn a_side_that_is_up_owes(rt: HostRuntime) {
 }
 
 #[test]
-fn nothing_is_told_of_a_side_that_is_down_or_after_the_end(rt: HostRuntime) {
+fn nothing_is_owed_by_a_side_that_is_down_or_after_the_end(rt: HostRuntime) {
     let mut played = first_sent(&rt, 1);
     played.lost(Side::Black);
     assert_true(&rt, played.owed(Side::Black).is_none());

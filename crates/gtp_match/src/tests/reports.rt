@@ -2,8 +2,8 @@
 ghost use Rattle.std.specs.Prelude.{IfSome};
 ghost use Rattle.gtp_match.specs.Losing.{CanBeShown};
 
-use super::losses::{Owes, owes, told};
-use super::steps::{black_answered, send, stands, start, white_told};
+use super::losses::{Owes, is_loss, owes};
+use super::steps::{black_answered, send, has_moves, start, white_sent_a1};
 use crate::equal::{assert_equal, assert_true, some};
 use crate::{LossCause, Match, Retake, SideFault};
 use go_base::Side;
@@ -20,9 +20,9 @@ fn retaken(rt: &impl Abort, retake: Option<Retake>, count: u32, want: Owes)
     owes(rt, &retake.owed, want);
 }
 
-/// These bytes of White end a refusal that is retaken, and nobody is lost by them.
+/// These bytes of White end a refusal that is retaken, and no side fails by them.
 fn retakes(rt: &impl Abort, played: &mut Match, bytes: &[u8], count: u32, want: Owes) {
-    let report = played.hear_telling(Side::White, bytes);
+    let report = played.hear_reporting(Side::White, bytes);
     assert_true(rt, report.loss.is_none());
     retaken(rt, report.retake, count, want);
 }
@@ -70,7 +70,7 @@ fn of_a_long_refusal_the_first_80_bytes_are_kept(rt: HostRuntime) {
     shown[1] = b'4';
     shown[2] = b' ';
     let want = (1, b"4 play b A1\n".as_slice(), shown.as_slice());
-    let mut played = white_told(&rt);
+    let mut played = white_sent_a1(&rt);
     retakes(&rt, &mut played, bytes.as_slice(), 1, want);
 }
 
@@ -79,20 +79,20 @@ fn of_a_long_refusal_the_first_80_bytes_are_kept(rt: HostRuntime) {
 fn assert_cut(rt: &impl Abort, bytes: &[u8], at: usize) {
     let first = some(rt, bytes.get(..at));
     let second = some(rt, bytes.get(at..));
-    let mut played = white_told(rt);
-    let early = played.hear_telling(Side::White, first);
+    let mut played = white_sent_a1(rt);
+    let early = played.hear_reporting(Side::White, first);
     assert_equal(rt, early.retake.is_some(), at >= 7);
     assert_equal(rt, early.loss.is_some(), at >= 11);
-    let late = played.hear_telling(Side::White, second);
+    let late = played.hear_reporting(Side::White, second);
     assert_equal(rt, late.retake.is_some(), at < 7);
     assert_equal(rt, late.loss.is_some(), at < 11);
     let refusal = (1, b"4 play b A1\n".as_slice(), b"?4 no\n\n".as_slice());
     retaken(rt, early.retake.or(late.retake), 1, refusal);
     let stray = (0, b"".as_slice(), b"=5\n\n".as_slice());
     let cause = LossCause::Shows(SideFault::Unasked);
-    told(rt, early.loss.or(late.loss), cause, stray);
+    is_loss(rt, early.loss.or(late.loss), cause, stray);
     assert_equal(rt, played.taking_back(), Some(Side::Black));
-    stands(rt, &played, 1, 1);
+    has_moves(rt, &played, 1, 1);
 }
 
 #[test]

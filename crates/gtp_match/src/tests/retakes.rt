@@ -1,5 +1,5 @@
 use super::steps::{
-    Exchange, answer, black_answered, bring, converse, ended, refused, send, send_and_wait, stands,
+    Exchange, answer, black_answered, bring, converse, ended, refused, send, send_and_wait, has_moves,
     start, undo_sent, up,
 };
 use crate::equal::{assert_equal, assert_true};
@@ -10,7 +10,7 @@ use go_base::Side;
 fn a_refused_move_is_taken_back_at_its_maker(rt: HostRuntime) {
     let mut played = refused(&rt);
     assert_equal(&rt, played.taking_back(), Some(Side::Black));
-    stands(&rt, &played, 1, 1);
+    has_moves(&rt, &played, 1, 1);
     assert_true(&rt, played.in_step(Side::Black));
     assert_true(&rt, !played.in_step(Side::White));
     assert_equal(&rt, played.status(Side::White), up(3, 0));
@@ -18,7 +18,7 @@ fn a_refused_move_is_taken_back_at_its_maker(rt: HostRuntime) {
     assert_equal(&rt, played.status(Side::Black), up(4, 1));
     answer(&rt, &mut played, Side::Black, b"=5\n\n");
     assert_equal(&rt, played.taking_back(), None);
-    stands(&rt, &played, 0, 1);
+    has_moves(&rt, &played, 0, 1);
     assert_true(&rt, played.in_step(Side::Black));
     assert_true(&rt, played.in_step(Side::White));
     send(&rt, &mut played, Side::Black, b"6 genmove b\n");
@@ -51,13 +51,13 @@ fn the_fourth_refusal_of_a_number_forfeits(rt: HostRuntime) {
     let text = b"game 1: B+F(refused play) moves 1 restarts 0 0";
     let verdict = Verdict::Forfeit(Side::White, ForfeitCause::RefusedPlay);
     ended(&rt, &played, verdict, text.as_slice());
-    stands(&rt, &played, 1, 3);
+    has_moves(&rt, &played, 1, 3);
     assert_equal(&rt, played.taking_back(), None);
     assert_true(&rt, !played.in_step(Side::White));
 }
 
 #[test]
-fn who_refuses_its_own_move_forfeits(rt: HostRuntime) {
+fn a_side_that_refuses_its_own_move_forfeits(rt: HostRuntime) {
     let mut played = black_answered(&rt, b"=4 A1\n\n");
     played.lost(Side::Black);
     start(&rt, &mut played, Side::Black);
@@ -67,5 +67,5 @@ fn who_refuses_its_own_move_forfeits(rt: HostRuntime) {
     let text = b"game 1: W+F(refused play) moves 1 restarts 1 0";
     let verdict = Verdict::Forfeit(Side::Black, ForfeitCause::RefusedPlay);
     ended(&rt, &played, verdict, text.as_slice());
-    stands(&rt, &played, 1, 0);
+    has_moves(&rt, &played, 1, 0);
 }

@@ -107,7 +107,7 @@ pub fn both_in_step(rt: &impl Abort, max_restarts: u32) -> Match {
     played
 }
 
-/// The same, with the first `genmove` sent to Black.
+/// A match of size 2, komi 0 and 10 moves with both sides in step, and the first `genmove` sent to Black.
 pub fn black_asked(rt: &impl Abort, max_restarts: u32) -> Match {
     let mut played = both_in_step(rt, max_restarts);
     send_and_wait(rt, &mut played, Side::Black, b"4 genmove b\n");
@@ -134,7 +134,7 @@ pub fn line(rt: &impl Abort, played: &Match) -> ResultText {
     some(rt, result_line(1, played))
 }
 
-/// The match ended so, and is told by this line.
+/// The match ended by this verdict, and has this line.
 pub fn ended(rt: &impl Abort, played: &Match, verdict: Verdict, text: &[u8]) {
     assert_equal(rt, played.next(), Action::Done(verdict));
     assert_equal(rt, line(rt, played).as_slice(), text);
@@ -150,20 +150,20 @@ pub fn up(confirmed: u32, unanswered: u32) -> Status {
 }
 
 /// Black moved at A1, and White was sent that.
-pub fn white_told(rt: &impl Abort) -> Match {
+pub fn white_sent_a1(rt: &impl Abort) -> Match {
     let mut played = black_answered(rt, b"=4 A1\n\n");
     send_and_wait(rt, &mut played, Side::White, b"4 play b A1\n");
     played
 }
 
-/// The same, and White refused it.
+/// Black moved at A1, and White refused that.
 pub fn refused(rt: &impl Abort) -> Match {
-    let mut played = white_told(rt);
+    let mut played = white_sent_a1(rt);
     answer(rt, &mut played, Side::White, b"?4 no\n\n");
     played
 }
 
-/// The same, and Black was sent `undo`.
+/// Black moved at A1, White refused that, and Black was sent `undo`.
 pub fn undo_sent(rt: &impl Abort) -> Match {
     let mut played = refused(rt);
     send_and_wait(rt, &mut played, Side::Black, b"5 undo\n");
@@ -171,7 +171,7 @@ pub fn undo_sent(rt: &impl Abort) -> Match {
 }
 
 /// The record has `moves` moves, and the first move was retaken `retakes` times.
-pub fn stands(rt: &impl Abort, played: &Match, moves: usize, retakes: u32) {
+pub fn has_moves(rt: &impl Abort, played: &Match, moves: usize, retakes: u32) {
     assert_equal(rt, played.game().moves().len(), moves);
     assert_equal(rt, played.retakes(1), retakes);
 }
@@ -190,7 +190,7 @@ fn send_and_answer(rt: &impl Abort, played: &mut Match, side: Side, id: u32, tex
     answer(rt, played, side, success(id, text).as_slice());
 }
 
-/// A side makes this move by its command of this id, and the other side is told of it.
+/// A side makes this move by its command of this id, and the other side is sent it.
 pub fn make_move(rt: &impl Abort, played: &mut Match, side: Side, id: u32, vertex: Vertex) {
     send_and_answer(rt, played, side, id, vertex.write().as_slice());
     send_and_answer(rt, played, side.other(), id, b"");

@@ -9,7 +9,7 @@ use Rattle.gtp_match.specs.Losing.{HearsTelling, CanBeShown, first_of}
 use Rattle.gtp_match.specs.Retaking.{HearsRetakes}
 use Rattle.gtp_match.specs.Sides.{side_of}
 use Rattle.gtp_match.specs.Sound.{IsIdle}
-use Rattle.gtp_match.proofs.matches.Match.hear_telling.Given as goal
+use Rattle.gtp_match.proofs.matches.Match.hear_each.Given as goal
 
 -- Whatever is heard and told of what is left is heard of all, after the loss and the retake so far. Once there is a
 -- retake, nothing of the side is unanswered.
@@ -17,13 +17,13 @@ abbrev pub invariant-loop-rest : goal.invariant-loop-rest
 invariant-loop-rest l = record {
   tells : (shown : Option SideFault) (later : Option Loss) (new : Controller)
       → HearsTelling l.side l.self l.rest shown later new
-      → HearsTelling l.side l.fn.self l.bytes shown (first_of l.loss later) new;
+      → HearsTelling l.side l.fn.self l.bytes shown (first_of l.report.loss later) new;
   retakes : (shown : Option SideFault) (later : List Retake) (new : Controller)
       → HearsRetakes l.side l.self l.rest shown later new
-      → HearsRetakes l.side l.fn.self l.bytes shown (option_to_list l.retake ++ later) new;
-  idle : IsSome l.retake → IsIdle (side_of l.self.sides l.side).up;
-  shown : IfSome l.loss (λ loss. CanBeShown loss.owed);
-  retake_shown : IfSome l.retake (λ retake. CanBeShown retake.owed);
+      → HearsRetakes l.side l.fn.self l.bytes shown (option_to_list l.report.retake ++ later) new;
+  idle : IsSome l.report.retake → IsIdle (side_of l.self.sides l.side).up;
+  loss_shown : IfSome l.report.loss (λ loss. CanBeShown loss.owed);
+  retake_shown : IfSome l.report.retake (λ retake. CanBeShown retake.owed);
 }
 
 abbrev pub decreases-loop-rest : goal.decreases-loop-rest

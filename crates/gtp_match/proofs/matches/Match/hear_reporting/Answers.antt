@@ -1,0 +1,5 @@
+use Rattle.gtp_match.proofs.TellingLemmas.{telling_hears}
+use Rattle.gtp_match.proofs.matches.Match.hear_reporting.Goals as goal
+
+pub returns-clause-exact : goal.returns-clause-exact
+returns-clause-exact c = (c.hear_each.result.0, telling_hears _ _ _ _ _ _ c.hear_each.ensures.loss)
