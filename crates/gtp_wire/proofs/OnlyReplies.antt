@@ -16,8 +16,8 @@ use Rattle.gtp_wire.specs.Replies.{Tells, TellsNothing}
 use Rattle.gtp_wire.specs.AnyText.{ReadsReplies}
 use Rattle.gtp_wire.specs.AnyText.{RepliesAreTheOnlyReading}
 use Rattle.gtp_wire.proofs.NewlineLemmas.{has_two_newlines_front, two_newlines}
-use Rattle.gtp_wire.proofs.ReplyLaws.{one_value, reply_is_first, told_longer}
-use Rattle.gtp_wire.proofs.ReplyReadingLemmas.{reading_quiet}
+use Rattle.gtp_wire.proofs.ReplyLaws.{one_value, first_at}
+use Rattle.gtp_wire.proofs.ReplyReadingLemmas.{first_more}
 use Rattle.gtp_wire.proofs.ReplyReadingLemmas.{past_copy}
 use Rattle.gtp_wire.proofs.ReplyBytes.{EndsWithNewline, newline_last, reply_alike, bytes_change_nothing}
 use Rattle.gtp_wire.proofs.ReplyFaults.{faults_have_places}
@@ -330,15 +330,10 @@ first_alike told reads text count answer is = elim (either_way text) [
       let Q : Result Reply ReplyFault → Type 0 = λ a. IsFirst text known.count a in
       subst P counts (subst Q answers known.first)
   | inr untold ↦
-      absurd (quiet_alike told reads text (reading_quiet untold.phase text untold.reading) count answer is)
+      absurd (quiet_alike told reads text untold.reading.quiet count answer is)
 ]
 
 -- ---- what is told first is such a way to tell
-
-first_at : (raw : List ℕ) (value : Reply) → IsReply raw value → IsFirst raw (length raw) (Ok value)
-first_at raw value reply =
-    let P : List ℕ → Type 0 = λ t. IsFirst t (length raw) (Ok value) in
-    subst P (append-nil raw) (reply_is_first raw [] value reply)
 
 reply_at : (raw : List ℕ) (value : Reply) → IsFirst raw (length raw) (Ok value) → IsReply raw value
 reply_at raw value first =
@@ -349,14 +344,14 @@ quiet_of : (text : List ℕ) → ((count : ℕ) (answer : Result Reply ReplyFaul
     → TellsNothing text
 quiet_of text none = elim (either_way text) [
   | inl known ↦ absurd (none known.count known.answer known.first)
-  | inr untold ↦ reading_quiet untold.phase text untold.reading
+  | inr untold ↦ untold.reading.quiet
 ]
 
 first_reads : ReadsReplies IsFirst
 first_reads = record {
   good = record {
     inside = λ text count answer first. first.inside;
-    stays = λ text later count answer first. told_longer text later count answer first;
+    stays = λ text later count answer first. first_more text later count answer first;
   };
   place = record {
     begin = λ text count value first. answers_have_shapes.begin (take count text) value first.told;

@@ -10,7 +10,7 @@ use Rattle.gtp_wire.specs.declared.replies.ReplyFault.{ReplyFault}
 use Rattle.gtp_wire.specs.Replies.{IsFirst, TellsNothing, ReadsFirst, rest_after}
 use Rattle.gtp_wire.specs.Laws.{AreRead}
 use Rattle.gtp_wire.specs.Laws.AreRead.{all_read, quiet, told}
-use Rattle.gtp_wire.proofs.ReplyLaws.{told_longer}
+use Rattle.gtp_wire.proofs.ReplyReadingLemmas.{first_more}
 
 -- nothing was read
 reads_nothing : (old : List ℕ) → TellsNothing old → ReadsFirst old [] 0 None old
@@ -25,7 +25,7 @@ reads_longer : (old piece later : List ℕ) (used : ℕ) (answer : Result Reply 
 reads_longer old piece later used answer new reads = record {
   first =
       let P : List ℕ → Type 0 = λ t. IsFirst t (length old + used) answer in
-      subst P (append_assoc old piece later) (told_longer (old ++ piece) later (length old + used) answer reads.first);
+      subst P (append_assoc old piece later) (first_more (old ++ piece) later (length old + used) answer reads.first);
   nothing = tt;
   all = tt;
   within = omega (arith, reads.within, length-append piece later);

@@ -134,6 +134,11 @@ reply_is_first raw later value reply =
         behind_front [] some whole told = omega arith
         behind_front (b ∷ more) some whole told = front_is_quiet (take n raw) b more other whole told
 
+pub first_at : (raw : List ℕ) (value : Reply) → IsReply raw value → IsFirst raw (length raw) (Ok value)
+first_at raw value reply =
+    let P : List ℕ → Type 0 = λ t. IsFirst t (length raw) (Ok value) in
+    subst P (append-nil raw) (reply_is_first raw [] value reply)
+
 -- a reply that is cut short tells nothing
 pub front_tells_nothing : (raw : List ℕ) (value : Reply) (k : ℕ) → IsReply raw value → k < length raw
     → TellsNothing (take k raw)
@@ -142,15 +147,3 @@ front_tells_nothing raw value k reply less n answer inside told =
     let short : n ≤ k = omega (arith, inside, length-take-le k raw (omega arith)) in
     let T : List ℕ → Type 0 = λ t. Tells t answer in
     first.before n answer (omega arith) (subst T (take-take n k raw short ∙ ap (take n) (sym (append-nil raw))) told)
-
--- what a text tells first a longer one tells first
-pub told_longer : (text later : List ℕ) (count : ℕ) (answer : Result Reply ReplyFault) → IsFirst text count answer
-    → IsFirst (text ++ later) count answer
-told_longer text later count answer first =
-    let inside = first.inside in
-    record {
-      inside = omega (arith, inside, length-append text later);
-      told = subst (λ (t : List ℕ). Tells t answer) (sym (take-append-le count text later inside)) first.told;
-      before = λ n other less told. first.before n other less
-          (subst (λ (t : List ℕ). Tells t other) (take-append-le n text later (omega (arith, inside, less))) told);
-    }
