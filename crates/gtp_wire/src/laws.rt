@@ -18,11 +18,13 @@ pub fn lines_go_on()
 {}
 
 /// Only a newline ends a line: bytes without one add no line.
+#[tactic(auto, using(crate::proofs::ReadingLemmas::lines_without_newline))]
 pub fn only_newlines_end_lines()
     ensures { OnlyNewlinesEndLines }
 {}
 
 /// What stands behind a newline is read by itself.
+#[tactic(auto, using(crate::proofs::ReadingLemmas::lines_anew))]
 pub fn newlines_begin_anew()
     ensures { NewlinesBeginAnew }
 {}
@@ -48,11 +50,13 @@ pub fn any_pieces_read_alike()
 {}
 
 /// Words that are written with single spaces and a newline are one line, of that id and those words.
+#[tactic(auto, using(crate::proofs::WrittenLines::written_words_are_read))]
 pub fn written_lines_are_read()
     ensures { WrittenLinesAreRead }
 {}
 
 /// A command that is written is, with anything behind it, one line of its id and words, and then the lines of the rest.
+#[tactic(auto, using(crate::proofs::CommandWords::commands_are_lines))]
 pub fn written_commands_are_lines()
     ensures { WrittenCommandsAreLines }
 {}
@@ -63,6 +67,7 @@ pub fn command_fronts_are_open()
 {}
 
 /// A command that is written has at most 64 bytes.
+#[tactic(auto, using(crate::proofs::CommandWords::command_short))]
 pub fn commands_are_short()
     ensures { CommandsAreShort }
 {}
@@ -73,6 +78,7 @@ pub fn replies_have_one_value()
 {}
 
 /// A text tells one thing first, at one byte.
+#[tactic(auto, using(crate::proofs::ReplyLaws::one_first))]
 pub fn one_thing_is_told_first()
     ensures { OneThingIsToldFirst }
 {}
@@ -98,6 +104,7 @@ pub fn fronts_tell_nothing()
 {}
 
 /// What a text tells first, every text that it begins tells first, at the same byte.
+#[tactic(auto, using(crate::proofs::ReplyReadingLemmas::first_more))]
 pub fn told_stays_told()
     ensures { ToldStaysTold }
 {}
@@ -119,21 +126,25 @@ pub fn any_pieces_tell_alike()
 
 /// Control characters and comments are nothing, HT is a space, spaces only separate, newlines end lines, and words are
 /// a line of an id and words or one that is too long. The lines of a text are the only reading that does all of this.
+#[tactic(auto, using(crate::proofs::OnlyReading::only_reading))]
 pub fn lines_are_the_only_reading()
     ensures { LinesAreTheOnlyReading }
 {}
 
 /// A control character, HT for a space, or a blank in front changes nothing of a reply but the count of its bytes.
+#[tactic(auto, using(crate::proofs::ReplyBytes::bytes_change_nothing))]
 pub fn bytes_change_nothing()
     ensures { BytesChangeNothing }
 {}
 
 /// `NoStatus` is told at the first byte that begins no reply, and `Overlong` at byte 8,193.
+#[tactic(auto, using(crate::proofs::ReplyFaults::faults_have_places))]
 pub fn faults_have_places()
     ensures { FaultsHavePlaces }
 {}
 
 /// A reply that `=` or `?` began is told at two newlines, and `NoStatus` at the first byte that begins none.
+#[tactic(auto, using(crate::proofs::AnswerShapes::answers_have_shapes))]
 pub fn answers_have_shapes()
     ensures { AnswersHaveShapes }
 {}
@@ -145,6 +156,7 @@ pub fn replies_say()
 
 /// What a text tells first is as the laws of shapes, of faults and of what replies say have it. Every function of texts
 /// that tells as they have it tells just that.
+#[tactic(auto, using(crate::proofs::OnlyReplies::replies_are_the_only_reading))]
 pub fn replies_are_the_only_reading()
     ensures { RepliesAreTheOnlyReading }
 {}
@@ -160,17 +172,20 @@ pub fn replies_leave_nothing()
 {}
 
 /// A command's line has no byte to spare: its words, one byte behind each, and an id's digits and a space in front.
+#[tactic(auto, using(crate::proofs::WrittenBytes::commands_to_spare))]
 pub fn commands_have_no_byte_to_spare()
     ensures { CommandsHaveNoByteToSpare }
 {}
 
 /// A reply that is written has no byte to spare: the status, the id's digits, a space and the text, two newlines.
+#[tactic(auto, using(crate::proofs::WrittenBytes::replies_to_spare))]
 pub fn replies_have_no_byte_to_spare()
     ensures { RepliesHaveNoByteToSpare }
 {}
 
 /// What may be the text of a reply: at most 2,000 bytes, each a newline or 32 to 126, in lines without an empty one. A
 /// reply then has at most 2,048 bytes, and a command's line at most 64.
+#[tactic(auto, using(crate::proofs::WrittenBytes::limits_are_these))]
 pub fn limits_are_these()
     ensures { LimitsAreThese }
 {}
