@@ -164,9 +164,9 @@ two_at_end p (x ∷ xs) q s other same =
 prepared_status : (b : ℕ) (more : List ℕ) → is_kept b ≡ true → eqb b 9 ≡ false → prepared (b ∷ more) ≡ b ∷ prepared more
 prepared_status b more kept no_tab = rw kept (rw no_tab refl)
 
-two_behind : (raw : List ℕ) (begins : BeginsWithStatus raw) → EndsWithTwoNewlines raw
+two_after : (raw : List ℕ) (begins : BeginsWithStatus raw) → EndsWithTwoNewlines raw
     → has_two_newlines (prepared begins.more) ≡ true
-two_behind raw begins ends =
+two_after raw begins ends =
     let tests = status_byte begins.status begins.known in
     let left : prepared raw ≡ prepared begins.front ++ begins.status ∷ prepared begins.more =
     ap prepared begins.shape ∙ prepared-append begins.front (begins.status ∷ begins.more)
@@ -185,7 +185,7 @@ unfolding begun
 reply_inside raw begins ends untold = at untold.phase untold.reading
   where
     two : has_two_newlines (prepared begins.more) ≡ true
-    two = two_behind raw begins ends
+    two = two_after raw begins ends
 
     shape : length raw ≤ 8192 → past_blanks raw ≡ begins.status ∷ prepared begins.more
     shape fits = begun_shape raw fits (begun raw begins)

@@ -25,7 +25,7 @@ use Rattle.gtp_wire.proofs.ReplySaying.{replies_say, prepared_printed, status_pa
 use Rattle.gtp_wire.proofs.AnswerShapes.{answers_have_shapes, status_cases}
 use Rattle.gtp_wire.proofs.Controls.{control_byte}
 use Rattle.gtp_wire.proofs.EitherWay.{IsUntold, either_way, reply_inside}
-use Rattle.gtp_wire.proofs.ReplyParts.{SaysId, SaysText, says_id, says_text, AreLeft, are_left, behind_left, left_front}
+use Rattle.gtp_wire.proofs.ReplyParts.{SaysId, SaysText, says_id, says_text, AreLeft, are_left, left_after_blanks, left_front}
 
 -- what tells nothing is told nothing by any other way to tell
 abbrev Told : (List ℕ → Option (ℕ × Result Reply ReplyFault)) → List ℕ → ℕ → Result Reply ReplyFault → Type 0
@@ -119,8 +119,8 @@ unprepared told reads (b ∷ rest) done value fits ends is = elim (cases_Bool (i
   ]
 ]
   where
-    ends_behind : (x : ℕ) (xs : List ℕ) → rest ≡ x ∷ xs → EndsWithNewline rest
-    ends_behind x xs same =
+    ends_after : (x : ℕ) (xs : List ℕ) → rest ≡ x ∷ xs → EndsWithNewline rest
+    ends_after x xs same =
         let end = ends b rest refl in
         let P : List ℕ → Type 0 = λ t. EndsWithNewline t in
         subst P (sym same)
@@ -134,7 +134,7 @@ unprepared told reads (b ∷ rest) done value fits ends is = elim (cases_Bool (i
     byte c left more =
         let P : List ℕ → Type 0 = λ t. At told t value in
         subst P (append_assoc done (c ∷ []) rest)
-        (more (subst P (sym (append_assoc done (c ∷ []) (prepared rest))) left) ends_behind
+        (more (subst P (sym (append_assoc done (c ∷ []) (prepared rest))) left) ends_after
         (omega (
           arith,
           fits,
@@ -148,15 +148,15 @@ unprepared told reads (b ∷ rest) done value fits ends is = elim (cases_Bool (i
         → length (done ++ rest) ≤ 8192 → At told (done ++ rest) value)
         → At told (done ++ b ∷ rest) value
     control removed end left more =
-        behind rest refl
-        (more left ends_behind (omega (arith, fits, length-append done (b ∷ rest), length-append done rest)))
+        after rest refl
+        (more left ends_after (omega (arith, fits, length-append done (b ∷ rest), length-append done rest)))
       where
-        behind : (l : List ℕ) → rest ≡ l → At told (done ++ rest) value → At told (done ++ b ∷ rest) value
-        behind [] same is =
+        after : (l : List ℕ) → rest ≡ l → At told (done ++ rest) value → At told (done ++ b ∷ rest) value
+        after [] same is =
             let last = same_from_push [] end.front b 10 (ap (λ t. b ∷ t) (sym same) ∙ end.shape) in
             let kept : is_kept b ≡ true = rw last.1 refl in
             absurd (cc)
-        behind (c ∷ later) same is =
+        after (c ∷ later) same is =
             let P : List ℕ → Type 0 = λ t. At told (done ++ b ∷ t) value in
             let Q : List ℕ → Type 0 = λ t. At told (done ++ t) value in
             subst P (sym same)
@@ -207,7 +207,7 @@ is_plain_reply raw value reply = record { ok = status.0; body = body; shape = sh
     shape = reply.whole.shape ∙ ap (λ s. s ∷ (body ++ 10 ∷ 10 ∷ [])) status.1
 
     left : AreLeft (body ++ 10 ∷ 10 ∷ [])
-    left = (subst AreLeft (sym (past_copy raw) ∙ shape) (behind_left (prepared raw) (are_left raw))).1
+    left = (subst AreLeft (sym (past_copy raw) ∙ shape) (left_after_blanks (prepared raw) (are_left raw))).1
 
     count : length body + 3 ≡ length plain
     count = omega (arith, length-append body (10 ∷ 10 ∷ []))

@@ -4,10 +4,10 @@
 ghost use Rattle.gtp_wire.specs.Laws.{LinesGoOn, OnlyNewlinesEndLines, NewlinesBeginAnew, TextsAreRead};
 ghost use Rattle.gtp_wire.specs.Laws.{FindsAgree, FindsJoin, AnyPiecesReadAlike, WrittenLinesAreRead};
 ghost use Rattle.gtp_wire.specs.Laws.{WrittenCommandsAreLines, CommandFrontsAreOpen, CommandsAreShort};
-ghost use Rattle.gtp_wire.specs.Laws.{RepliesHaveOneValue, OneThingIsToldFirst, NoReplyBeginsAnother};
-ghost use Rattle.gtp_wire.specs.Laws.{RepliesAreToldFirst, WrittenRepliesAreReplies, FrontsTellNothing};
-ghost use Rattle.gtp_wire.specs.Laws.{ToldStaysTold, WrittenRepliesAreToldFirst, RepliesAreShort};
-ghost use Rattle.gtp_wire.specs.Laws.{AnyPiecesTellAlike};
+ghost use Rattle.gtp_wire.specs.Laws.{RepliesHaveOneValue, OneAnswerComesFirst, NoReplyBeginsAnother};
+ghost use Rattle.gtp_wire.specs.Laws.{RepliesComeFirst, WrittenRepliesAreReplies, FrontsAreNoAnswers};
+ghost use Rattle.gtp_wire.specs.Laws.{FirstStaysFirst, WrittenRepliesComeFirst, RepliesAreShort};
+ghost use Rattle.gtp_wire.specs.Laws.{AnyPiecesAnswerAlike};
 ghost use Rattle.gtp_wire.specs.AnyText.{LinesAreTheOnlyReading, BytesChangeNothing, FaultsHavePlaces, FaultsStay};
 ghost use Rattle.gtp_wire.specs.AnyText.{RepliesLeaveNothing, AnswersHaveShapes, RepliesSay, RepliesAreTheOnlyReading};
 ghost use Rattle.gtp_wire.specs.AnyText.{CommandsHaveNoByteToSpare, RepliesHaveNoByteToSpare, LimitsAreThese};
@@ -23,7 +23,7 @@ pub fn only_newlines_end_lines()
     ensures { OnlyNewlinesEndLines }
 {}
 
-/// What stands behind a newline is read by itself.
+/// What follows a newline is read by itself.
 #[tactic(auto, using(crate::proofs::ReadingLemmas::lines_anew))]
 pub fn newlines_begin_anew()
     ensures { NewlinesBeginAnew }
@@ -55,7 +55,7 @@ pub fn written_lines_are_read()
     ensures { WrittenLinesAreRead }
 {}
 
-/// A command that is written is, with anything behind it, one line of its id and words, and then the lines of the rest.
+/// A command that is written is, with anything after it, one line of its id and words, and then the lines of the rest.
 #[tactic(auto, using(crate::proofs::CommandWords::commands_are_lines))]
 pub fn written_commands_are_lines()
     ensures { WrittenCommandsAreLines }
@@ -77,10 +77,10 @@ pub fn replies_have_one_value()
     ensures { RepliesHaveOneValue }
 {}
 
-/// A text tells one thing first, at one byte.
+/// In a text one reply or fault comes first, at one byte.
 #[tactic(auto, using(crate::proofs::ReplyLaws::one_first))]
-pub fn one_thing_is_told_first()
-    ensures { OneThingIsToldFirst }
+pub fn one_answer_comes_first()
+    ensures { OneAnswerComesFirst }
 {}
 
 /// No reply is a proper front of another.
@@ -88,9 +88,9 @@ pub fn no_reply_begins_another()
     ensures { NoReplyBeginsAnother }
 {}
 
-/// A reply is told first, at its own end, whatever follows it.
-pub fn replies_are_told_first()
-    ensures { RepliesAreToldFirst }
+/// A reply comes first, at its own end, whatever follows it.
+pub fn replies_come_first()
+    ensures { RepliesComeFirst }
 {}
 
 /// What is written as a reply is one reply, of that status, id and text.
@@ -98,20 +98,20 @@ pub fn written_replies_are_replies()
     ensures { WrittenRepliesAreReplies }
 {}
 
-/// A reply that is cut short tells nothing.
-pub fn fronts_tell_nothing()
-    ensures { FrontsTellNothing }
+/// A reply that is cut short is neither a reply nor a fault, and nor is any front of it.
+pub fn fronts_are_no_answers()
+    ensures { FrontsAreNoAnswers }
 {}
 
-/// What a text tells first, every text that it begins tells first, at the same byte.
+/// What comes first in a text comes first in every longer text that it begins, at the same byte.
 #[tactic(auto, using(crate::proofs::ReplyReadingLemmas::first_more))]
-pub fn told_stays_told()
-    ensures { ToldStaysTold }
+pub fn first_stays_first()
+    ensures { FirstStaysFirst }
 {}
 
-/// What is written as a reply is told first, at its own end, whatever follows it.
-pub fn written_replies_are_told_first()
-    ensures { WrittenRepliesAreToldFirst }
+/// What is written as a reply comes first, at its own end, whatever follows it.
+pub fn written_replies_come_first()
+    ensures { WrittenRepliesComeFirst }
 {}
 
 /// A reply that is written has at most 2,048 bytes.
@@ -119,9 +119,9 @@ pub fn replies_are_short()
     ensures { RepliesAreShort }
 {}
 
-/// In whatever pieces a text is read, the same thing is told first.
-pub fn any_pieces_tell_alike()
-    ensures { AnyPiecesTellAlike }
+/// In whatever pieces a text is read, the same reply or fault comes first.
+pub fn any_pieces_answer_alike()
+    ensures { AnyPiecesAnswerAlike }
 {}
 
 /// Control characters and comments are nothing, HT is a space, spaces only separate, newlines end lines, and words are
@@ -137,13 +137,13 @@ pub fn bytes_change_nothing()
     ensures { BytesChangeNothing }
 {}
 
-/// `NoStatus` is told at the first byte that begins no reply, and `Overlong` at byte 8,193.
+/// `NoStatus` comes at the first byte that begins no reply, and `Overlong` at byte 8,193.
 #[tactic(auto, using(crate::proofs::ReplyFaults::faults_have_places))]
 pub fn faults_have_places()
     ensures { FaultsHavePlaces }
 {}
 
-/// A reply that `=` or `?` began is told at two newlines, and `NoStatus` at the first byte that begins none.
+/// A reply that `=` or `?` began ends at two newlines, and `NoStatus` comes at the first byte that begins none.
 #[tactic(auto, using(crate::proofs::AnswerShapes::answers_have_shapes))]
 pub fn answers_have_shapes()
     ensures { AnswersHaveShapes }
@@ -154,14 +154,14 @@ pub fn replies_say()
     ensures { RepliesSay }
 {}
 
-/// What a text tells first is as the laws of shapes, of faults and of what replies say have it. Every function of texts
-/// that tells as they have it tells just that.
+/// What comes first in a text is as the laws of shapes, of faults and of what replies say have it. Every function of
+/// texts that returns an answer as they have it returns just that.
 #[tactic(auto, using(crate::proofs::OnlyReplies::replies_are_the_only_reading))]
 pub fn replies_are_the_only_reading()
     ensures { RepliesAreTheOnlyReading }
 {}
 
-/// A fault stays: no byte is used after it, and the same is told again.
+/// A fault stays: no byte is used after it, and the same fault is returned again.
 pub fn faults_stay()
     ensures { FaultsStay }
 {}
@@ -171,7 +171,7 @@ pub fn replies_leave_nothing()
     ensures { RepliesLeaveNothing }
 {}
 
-/// A command's line has no byte to spare: its words, one byte behind each, and an id's digits and a space in front.
+/// A command's line has no byte to spare: its words, one byte after each, and an id's digits and a space in front.
 #[tactic(auto, using(crate::proofs::WrittenBytes::commands_to_spare))]
 pub fn commands_have_no_byte_to_spare()
     ensures { CommandsHaveNoByteToSpare }
