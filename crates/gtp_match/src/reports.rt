@@ -14,7 +14,7 @@ use crate::losses::{Loss, LossCause, Owed, owed_with};
 use crate::reply_table::{Outcome, judge};
 use crate::sides::Incarnation;
 use go_base::Side;
-use gtp_wire::{Reply, ReplyFedInto};
+use gtp_wire::{Reply, ReplyRead};
 
 /// That a refused `play` is retaken. The move that was refused leaves the record, and its maker is asked for another,
 /// unless the match ends before that. This is no loss.
@@ -61,7 +61,7 @@ impl Controller {
             return Report::nothing();
         };
         let mut reader = engine.reader.copied();
-        let ReplyFedInto { used, got } = reader.feed_into(bytes, reply);
+        let ReplyRead { used, got } = reader.feed_into(bytes, reply);
         let Some(told) = got else {
             return Report::nothing();
         };
