@@ -27,9 +27,9 @@ all_front : (ds es : List ℕ) → AllDigits 10 (ds ++ es) → AllDigits 10 ds
 all_front [] es all = tt
 all_front (d ∷ ds) es all = (all.0, all_front ds es all.1)
 
-all_behind : (ds es : List ℕ) → AllDigits 10 (ds ++ es) → AllDigits 10 es
-all_behind [] es all = all
-all_behind (d ∷ ds) es all = all_behind ds es all.1
+all_after : (ds es : List ℕ) → AllDigits 10 (ds ++ es) → AllDigits 10 es
+all_after [] es all = all
+all_after (d ∷ ds) es all = all_after ds es all.1
 
 digit_is : (d : ℕ) → d ≤ 9 → digit_value (48 + d) ≡ d
 digit_is d few = omega (arith, digit_value-digit (48 + d) (omega arith) (omega (arith, few)))
@@ -108,7 +108,7 @@ ints_are_counted n text = (
       record { numeral = (all.some, all.digits); value = all.value; limit = counted.1 },
 )
 
--- ---- the number of two texts of digits, one behind the other
+-- ---- the number of two texts of digits, one decimals the other
 
 spread : (x y p : ℕ) → (x * 10 + y) * p ≡ x * (p * 10) + y * p
 spread x y p =
@@ -213,18 +213,17 @@ sign_is minus size half_points value = inr (refl, value)
 
 spells_twice : (half_points : ℤ) (text : List ℕ) → SpellsKomi half_points text → SpellsTwice half_points text
 spells_twice half_points text komi =
-    let decimals : List ℕ = fraction_decimals komi.fraction in
     let count = length_of_fraction komi.fraction in
     let size : ℕ = 2 * digits_value 10 komi.whole + fraction_value komi.fraction in
     record {
       sign = sign_text komi.sign;
       whole = komi.whole;
       point = point_of komi.fraction;
-      behind = fraction_decimals komi.fraction;
+      decimals = fraction_decimals komi.fraction;
       shape = komi.shape ∙ ap (λ t. sign_text komi.sign ++ (komi.whole ++ t)) (fraction_is komi.fraction);
       pointed = is_pointed komi.fraction;
       few_before = komi.few_before;
-      few_behind = omega (arith, count, komi.few_behind);
+      few_after = omega (arith, count, komi.few_after);
       number = digits_value 10 (komi.whole ++ fraction_decimals komi.fraction);
       counts = counts_from (komi.whole ++ fraction_decimals komi.fraction)
           (omega (arith, komi.some_digit, count, length-append komi.whole (fraction_decimals komi.fraction)))
@@ -305,28 +304,28 @@ five_of (d ∷ ds) all half_of_it =
       ]
     ]
 
--- the fraction behind a whole part
-record HasFraction (w size : ℕ) (point behind : List ℕ) : Type 0 where
+-- the fraction decimals a whole part
+record HasFraction (w size : ℕ) (point decimals : List ℕ) : Type 0 where
   fraction : Fraction
-  text_is : point ++ behind ≡ fraction_text fraction
-  count : length behind ≡ fraction_digits fraction
+  text_is : point ++ decimals ≡ fraction_text fraction
+  count : length decimals ≡ fraction_digits fraction
   value : size ≡ 2 * w + fraction_value fraction
 
-behind_point : (w size : ℕ) (behind : List ℕ) → AllDigits 10 behind
-    → size * 10 ^ length behind ≡ 2 * (w * 10 ^ length behind + digits_value 10 behind)
-    → HasFraction w size (46 ∷ []) behind
-behind_point w size behind all twice =
-    elim (either_half w (digits_value 10 behind) (10 ^ length behind) size (digits_value-lt 10 behind all) twice) [
+after_point : (w size : ℕ) (decimals : List ℕ) → AllDigits 10 decimals
+    → size * 10 ^ length decimals ≡ 2 * (w * 10 ^ length decimals + digits_value 10 decimals)
+    → HasFraction w size (46 ∷ []) decimals
+after_point w size decimals all twice =
+    elim (either_half w (digits_value 10 decimals) (10 ^ length decimals) size (digits_value-lt 10 decimals all) twice) [
       | inl even ↦
-          let are = zeros_of behind all even.1 in
+          let are = zeros_of decimals all even.1 in
           record {
-            fraction = zeros (length behind);
+            fraction = zeros (length decimals);
             text_is = ap (λ t. 46 ∷ t) are;
             count = refl;
             value = omega (arith, even.0);
           }
       | inr odd ↦
-          let is = five_of behind all odd.1 in
+          let is = five_of decimals all odd.1 in
           record {
             fraction = half is.0;
             text_is = ap (λ t. 46 ∷ t) is.1;
@@ -335,20 +334,20 @@ behind_point w size behind all twice =
           }
     ]
 
-has_fraction : (w size : ℕ) (point behind : List ℕ) → (point ≡ 46 ∷ []) ⊎ ((point ≡ []) × (behind ≡ []))
-    → AllDigits 10 behind
-    → size * 10 ^ length behind ≡ 2 * (w * 10 ^ length behind + digits_value 10 behind)
-    → HasFraction w size point behind
-has_fraction w size point behind (inl is) all twice =
-    let P : List ℕ → Type 0 = λ t. HasFraction w size t behind in
-    subst P (sym is) (behind_point w size behind all twice)
+has_fraction : (w size : ℕ) (point decimals : List ℕ) → (point ≡ 46 ∷ []) ⊎ ((point ≡ []) × (decimals ≡ []))
+    → AllDigits 10 decimals
+    → size * 10 ^ length decimals ≡ 2 * (w * 10 ^ length decimals + digits_value 10 decimals)
+    → HasFraction w size point decimals
+has_fraction w size point decimals (inl is) all twice =
+    let P : List ℕ → Type 0 = λ t. HasFraction w size t decimals in
+    subst P (sym is) (after_point w size decimals all twice)
 has_fraction w size point [] (inr none) all twice = record {
   fraction = no_point;
   text_is = append-nil point ∙ none.0;
   count = refl;
   value = omega (arith, twice);
 }
-has_fraction w size point (b ∷ behind) (inr none) all twice = let wrong = none.1 in absurd (cc)
+has_fraction w size point (b ∷ decimals) (inr none) all twice = let wrong = none.1 in absurd (cc)
 
 record HasSign (sign : List ℕ) (size : ℕ) (half_points : ℤ) : Type 0 where
   known : Sign
@@ -367,25 +366,25 @@ has_sign sign size half_points (inr below) = record { known = minus; text_is = b
 
 spells_komi : (half_points : ℤ) (text : List ℕ) → SpellsTwice half_points text → SpellsKomi half_points text
 spells_komi half_points text spells =
-    let all = are_digits spells.number (spells.whole ++ spells.behind) spells.counts in
-    let front = all_front spells.whole spells.behind all.digits in
-    let tail = all_behind spells.whole spells.behind all.digits in
+    let all = are_digits spells.number (spells.whole ++ spells.decimals) spells.counts in
+    let front = all_front spells.whole spells.decimals all.digits in
+    let tail = all_after spells.whole spells.decimals all.digits in
     let number : spells.number
-    ≡ digits_value 10 spells.whole * 10 ^ length spells.behind + digits_value 10 spells.behind =
-    sym all.value ∙ value_both spells.whole spells.behind in
-    let f = has_fraction (digits_value 10 spells.whole) spells.size spells.point spells.behind spells.pointed tail
+    ≡ digits_value 10 spells.whole * 10 ^ length spells.decimals + digits_value 10 spells.decimals =
+    sym all.value ∙ value_both spells.whole spells.decimals in
+    let f = has_fraction (digits_value 10 spells.whole) spells.size spells.point spells.decimals spells.pointed tail
     (spells.twice ∙ ap (λ n. 2 * n) number) in
     let s = has_sign spells.sign spells.size half_points spells.signed in
     record {
       sign = s.known;
       whole = spells.whole;
       fraction = f.fraction;
-      shape = spells.shape ∙ ap (λ t. t ++ (spells.whole ++ (spells.point ++ spells.behind))) s.text_is
+      shape = spells.shape ∙ ap (λ t. t ++ (spells.whole ++ (spells.point ++ spells.decimals))) s.text_is
           ∙ ap (λ t. sign_text s.known ++ (spells.whole ++ t)) f.text_is;
       digits = front;
       few_before = spells.few_before;
-      few_behind = omega (arith, f.count, spells.few_behind);
-      some_digit = omega (arith, f.count, all.some, length-append spells.whole spells.behind);
+      few_after = omega (arith, f.count, spells.few_after);
+      some_digit = omega (arith, f.count, all.some, length-append spells.whole spells.decimals);
       value = s.value ∙ ap (with_sign s.known) f.value;
     }
 

@@ -44,7 +44,7 @@ value_of_digits (b ∷ whole) digits few =
 
 -- ---- a fraction
 
--- the digits behind the point
+-- the digits after the point
 abbrev pub fraction_decimals : Fraction → List ℕ
 fraction_decimals no_point = []
 fraction_decimals (zeros n) = replicate n 48
@@ -114,27 +114,27 @@ fraction_by_digit d digits halves true false true e0 e1 e2 value =
     record { fraction = half (length digits); text_is = cc; value_is = cc; count_is = omega arith }
 fraction_by_digit d digits halves true false false e0 e1 e2 value = absurd (cc)
 
-fraction_behind_point : (digits : List ℕ) (halves : ℕ) → half_of digits ≡ Some halves
+fraction_after_point : (digits : List ℕ) (halves : ℕ) → half_of digits ≡ Some halves
     → IsFraction (46 ∷ digits) digits halves
-fraction_behind_point [] halves value = record { fraction = zeros 0; text_is = refl; value_is = cc; count_is = refl }
-fraction_behind_point (d ∷ digits) halves value = fraction_by_digit d digits halves _ _ _ refl refl refl value
+fraction_after_point [] halves value = record { fraction = zeros 0; text_is = refl; value_is = cc; count_is = refl }
+fraction_after_point (d ∷ digits) halves value = fraction_by_digit d digits halves _ _ _ refl refl refl value
 
 fraction_of_rest : (rest decimals : List ℕ) (halves : ℕ) → decimals_of rest ≡ Some decimals
     → half_of decimals ≡ Some halves → IsFraction rest decimals halves
-fraction_of_rest [] decimals halves behind value =
+fraction_of_rest [] decimals halves is value =
     let none : decimals ≡ [] = cc in
     let zero_value : half_of [] ≡ Some halves = subst (λ (d : List ℕ). half_of d ≡ Some halves) none value in
     record { fraction = no_point; text_is = refl; value_is = cc; count_is = ap length none }
-fraction_of_rest (b ∷ digits) decimals halves behind value =
+fraction_of_rest (b ∷ digits) decimals halves is value =
     elim (cases_Bool (b == 46)) [
       | inl e ↦
           let point : 46 ≡ b = grind (arith, nat_tests) in
-          let given : Some digits ≡ Some decimals = rw e at behind in
+          let given : Some digits ≡ Some decimals = rw e at is in
           let same : digits ≡ decimals = cc in
           subst (λ (d : List ℕ). IsFraction (b ∷ digits) d halves) same
           (subst (λ (c : ℕ). IsFraction (c ∷ digits) digits halves) point
-          (fraction_behind_point digits halves (subst (λ (d : List ℕ). half_of d ≡ Some halves) (sym same) value)))
-      | inr e ↦ let given : None ≡ Some decimals = rw e at behind in absurd (cc)
+          (fraction_after_point digits halves (subst (λ (d : List ℕ). half_of d ≡ Some halves) (sym same) value)))
+      | inr e ↦ let given : None ≡ Some decimals = rw e at is in absurd (cc)
     ]
 
 -- ---- a number without a sign
@@ -145,14 +145,14 @@ record SpellsUnsigned (n : ℕ) (text : List ℕ) : Type 0 where
   pub shape : text ≡ whole ++ fraction_text fraction
   pub digits : AllDigits 10 whole
   pub few_before : length whole ≤ 9
-  pub few_behind : fraction_digits fraction ≤ 9
+  pub few_after : fraction_digits fraction ≤ 9
   pub some_digit : 0 < length whole + fraction_digits fraction
   pub value : n ≡ 2 * digits_value 10 whole + fraction_value fraction
 
 half_points_here : (whole decimals : List ℕ) (points halves : ℕ) → 0 < length whole + length decimals → length whole ≤ 9
     → length decimals ≤ 9
     → points ≡ digits_value 10 whole → half_points_where whole decimals (Some halves) ≡ Some (2 * points + halves)
-half_points_here whole decimals points halves some few_before few_behind same = grind (arith, nat_tests)
+half_points_here whole decimals points halves some few_before few_after same = grind (arith, nat_tests)
 
 unsigned_of_spelled : (n : ℕ) (text : List ℕ) → SpellsUnsigned n text → unsigned_half_points_of text ≡ Some n
 unsigned_of_spelled n text s =
@@ -168,7 +168,7 @@ unsigned_of_spelled n text s =
     ∙ ap (half_points_of_parts s.whole) (decimals_of_fraction f)
     ∙ ap (half_points_where s.whole (fraction_decimals f)) (half_of_fraction f)
     ∙ half_points_here s.whole (fraction_decimals f) (digits_value 10 s.whole) (fraction_value f)
-    (omega (arith, count, s.some_digit)) s.few_before (omega (arith, count, s.few_behind)) refl
+    (omega (arith, count, s.some_digit)) s.few_before (omega (arith, count, s.few_after)) refl
     ∙ ap Some (sym s.value)
 
 -- the number that the code makes of the parts of a text
@@ -177,12 +177,12 @@ pub unsigned_read : (text decimals : List ℕ) (points halves : ℕ) → Some de
     → 0 < length (front_while is_ascii_digit text) + length decimals → length (front_while is_ascii_digit text) ≤ 9 → length decimals ≤ 9
     → points ≡ unwrap_or (int_of (front_while is_ascii_digit text)) 0
     → Some (2 * points + halves) ≡ unsigned_half_points_of text
-unsigned_read text decimals points halves decimals_is halves_is some few_before few_behind points_is =
+unsigned_read text decimals points halves decimals_is halves_is some few_before few_after points_is =
     let whole = front_while is_ascii_digit text in
     sym
     (ap (half_points_of_parts whole) (sym decimals_is)
     ∙ ap (half_points_where whole decimals) (sym halves_is)
-    ∙ half_points_here whole decimals points halves some few_before few_behind
+    ∙ half_points_here whole decimals points halves some few_before few_after
     (points_is ∙ value_of_digits whole (front_digits_are text) few_before))
 
 pub unsigned_read_limit : (text : List ℕ) (points halves : ℕ) → halves ≤ 1 → length (front_while is_ascii_digit text) ≤ 9
@@ -195,14 +195,14 @@ unsigned_read_limit text points halves few_halves few_before points_is =
       digits_value_few whole (front_digits_are text) few_before,
     )
 
-record HasParts (whole : List ℕ) (behind : Option (List ℕ)) (n : ℕ) : Type 0 where
+record HasParts (whole : List ℕ) (rest : Option (List ℕ)) (n : ℕ) : Type 0 where
   pub decimals : List ℕ
   pub halves : ℕ
-  pub behind_is : behind ≡ Some decimals
+  pub rest_is : rest ≡ Some decimals
   pub half_is : half_of decimals ≡ Some halves
   pub some_digit : 0 < length whole + length decimals
   pub few_before : length whole ≤ 9
-  pub few_behind : length decimals ≤ 9
+  pub few_after : length decimals ≤ 9
   pub value : n ≡ 2 * digits_value 10 whole + halves
 
 value_where : (b : Bool) (x y : ℕ) → cond b (Some x) None ≡ Some y → (b ≡ true) × (y ≡ x)
@@ -221,16 +221,16 @@ parts_where whole decimals (Some halves) n half_is e =
     record {
       decimals = decimals;
       halves = halves;
-      behind_is = refl;
+      rest_is = refl;
       half_is = half_is;
       some_digit = grind (arith, nat_tests);
       few_before = grind (arith, nat_tests);
-      few_behind = grind (arith, nat_tests);
+      few_after = grind (arith, nat_tests);
       value = h.1;
     }
 
-parts_of : (whole : List ℕ) (behind : Option (List ℕ)) (n : ℕ) → half_points_of_parts whole behind ≡ Some n
-    → HasParts whole behind n
+parts_of : (whole : List ℕ) (rest : Option (List ℕ)) (n : ℕ) → half_points_of_parts whole rest ≡ Some n
+    → HasParts whole rest n
 parts_of whole None n e = absurd (cc)
 parts_of whole (Some decimals) n e = parts_where whole decimals (half_of decimals) n refl e
 
@@ -238,14 +238,14 @@ spells_unsigned_of : (n : ℕ) (text : List ℕ) → unsigned_half_points_of tex
 spells_unsigned_of n text e =
     let whole = front_while is_ascii_digit text in
     let parts = parts_of whole (decimals_of (skip_while is_ascii_digit text)) n e in
-    let f = fraction_of_rest (skip_while is_ascii_digit text) parts.decimals parts.halves parts.behind_is parts.half_is in
+    let f = fraction_of_rest (skip_while is_ascii_digit text) parts.decimals parts.halves parts.rest_is parts.half_is in
     record {
       whole = whole;
       fraction = f.fraction;
       shape = front_while-skip_while is_ascii_digit text ∙ ap (λ r. whole ++ r) f.text_is;
       digits = front_digits_are text;
       few_before = parts.few_before;
-      few_behind = omega (arith, parts.few_behind, f.count_is);
+      few_after = omega (arith, parts.few_after, f.count_is);
       some_digit = omega (arith, parts.some_digit, f.count_is);
       value = omega (arith, parts.value, f.value_is);
     }
@@ -296,7 +296,7 @@ komi_of_spelled half_points text s =
       shape = refl;
       digits = s.digits;
       few_before = s.few_before;
-      few_behind = s.few_behind;
+      few_after = s.few_after;
       some_digit = s.some_digit;
       value = refl;
     } in
@@ -330,7 +330,7 @@ spells_komi_of half_points text e =
       shape = sign_split text ∙ ap (λ t. sign_text (sign_of text) ++ t) u.shape;
       digits = u.digits;
       few_before = u.few_before;
-      few_behind = u.few_behind;
+      few_after = u.few_after;
       some_digit = u.some_digit;
       value = parts.value ∙ ap (with_sign (sign_of text)) u.value;
     }
@@ -389,7 +389,7 @@ spells_written_points n most =
       shape = ap (λ t. written_int (n / 2) ++ t) (fraction_text-for is_half);
       digits = numeral.0.1;
       few_before = length-decimal-le 9 (n / 2) (omega arith) (omega arith) (omega arith);
-      few_behind = fraction_digits-for is_half;
+      few_after = fraction_digits-for is_half;
       some_digit = omega (arith, numeral.0.0);
       value = omega (arith, numeral.1, halves_value n, fraction_value-for is_half);
     }
@@ -404,7 +404,7 @@ komi_of_unsigned sign n text u =
       shape = ap (λ t. sign_text sign ++ t) u.shape;
       digits = u.digits;
       few_before = u.few_before;
-      few_behind = u.few_behind;
+      few_after = u.few_after;
       some_digit = u.some_digit;
       value = ap (with_sign sign) u.value;
     }

@@ -15,9 +15,9 @@ SpellsChoice (Play vertex) text = SpellsVertex vertex text
 abbrev pub choice_of : List ℕ → Option Choice
 choice_of text = if is_word (codes "resign") text then Some Resign else option_map Play (vertex_of text)
 
--- the function tells what the relation says
-abbrev pub ChoiceOfTells : Type 0
-ChoiceOfTells = (choice : Choice) (text : List ℕ) → SpellsChoice choice text ↔ (choice_of text ≡ Some choice)
+-- the function agrees with the relation
+abbrev pub ChoiceOfAgrees : Type 0
+ChoiceOfAgrees = (choice : Choice) (text : List ℕ) → SpellsChoice choice text ↔ (choice_of text ≡ Some choice)
 
 -- a text spells at most one choice
 abbrev pub SpellsOneChoice : Type 0

@@ -25,9 +25,9 @@ colour_of text =
     if is_word (codes "b") text || is_word (codes "black") text then Some Black
     else (if is_word (codes "w") text || is_word (codes "white") text then Some White else None)
 
--- the function tells what the relation says
-abbrev pub ColourOfTells : Type 0
-ColourOfTells = (colour : Colour) (text : List ℕ) → SpellsColour colour text ↔ (colour_of text ≡ Some colour)
+-- the function agrees with the relation
+abbrev pub ColourOfAgrees : Type 0
+ColourOfAgrees = (colour : Colour) (text : List ℕ) → SpellsColour colour text ↔ (colour_of text ≡ Some colour)
 
 -- what is written of a colour spells it, and so it is read back
 abbrev pub ColoursReadBack : Type 0

@@ -37,7 +37,7 @@ pub record SpellsCrossing (column row : ℕ) (text : List ℕ) : Type 0 where
   pub no_zero : (more : List ℕ) → digits ≡ 48 ∷ more → ⊥
 
 -- A text spells a point exactly where it names its column and counts its row. (The standard's simple entities: vertex;
--- that no zero stands in front is own.)
+-- that no zero is in front is own.)
 abbrev pub PointsAreCounted : Type 0
 PointsAreCounted = (p : ℕ) (text : List ℕ) → SpellsVertex (At p) text ↔ SpellsCrossing (column_of p) (row_of p) text
 
@@ -55,20 +55,20 @@ PointsOnBoardsAreWithin = (size p : ℕ) (text : List ℕ) → SpellsVertex (At 
 
 -- The text is a decimal number, and the number of half points is twice its value: a sign, `+` (43) or `-` (45), or
 -- none; at most nine digits; and then nothing, or a point (46) and at most nine digits. The digits on both sides of the
--- point count a number together, which is ten times too large for each of them behind the point.
+-- point count a number together, which is ten times too large for each digit after the point.
 pub record SpellsTwice (half_points : ℤ) (text : List ℕ) : Type 0 where
   pub sign : List ℕ
   pub whole : List ℕ
   pub point : List ℕ
-  pub behind : List ℕ
-  pub shape : text ≡ sign ++ (whole ++ (point ++ behind))
-  pub pointed : (point ≡ 46 ∷ []) ⊎ ((point ≡ []) × (behind ≡ []))
+  pub decimals : List ℕ
+  pub shape : text ≡ sign ++ (whole ++ (point ++ decimals))
+  pub pointed : (point ≡ 46 ∷ []) ⊎ ((point ≡ []) × (decimals ≡ []))
   pub few_before : length whole ≤ 9
-  pub few_behind : length behind ≤ 9
+  pub few_after : length decimals ≤ 9
   pub number : ℕ
-  pub counts : Counts number (whole ++ behind)
+  pub counts : Counts number (whole ++ decimals)
   pub size : ℕ
-  pub twice : size * 10 ^ length behind ≡ 2 * number
+  pub twice : size * 10 ^ length decimals ≡ 2 * number
   pub signed : (((sign ≡ []) ⊎ (sign ≡ 43 ∷ [])) × (half_points ≡ pos size))
       ⊎ ((sign ≡ 45 ∷ []) × (half_points ≡ neg_ℤ (pos size)))
 

@@ -27,7 +27,7 @@ pub record IsKomi (half_points : ℤ) : Type 0 where
 
 -- ---- the texts of a komi
 
--- what stands before the digits
+-- what is before the digits
 pub data Sign : Type 0 where
   no_sign : Sign
   plus : Sign
@@ -75,7 +75,7 @@ pub record SpellsKomi (half_points : ℤ) (text : List ℕ) : Type 0 where
   pub shape : text ≡ sign_text sign ++ (whole ++ fraction_text fraction)
   pub digits : AllDigits 10 whole
   pub few_before : length whole ≤ 9
-  pub few_behind : fraction_digits fraction ≤ 9
+  pub few_after : fraction_digits fraction ≤ 9
   pub some_digit : 0 < length whole + fraction_digits fraction
   pub value : half_points ≡ with_sign sign (2 * digits_value 10 whole + fraction_value fraction)
 
@@ -130,9 +130,9 @@ komi_of text = with_sign_where (sign_of text) (unsigned_half_points_of (without_
 
 -- ---- laws
 
--- the function tells what the relation says
-abbrev pub KomiOfTells : Type 0
-KomiOfTells = (half_points : ℤ) (text : List ℕ) → SpellsKomi half_points text ↔ (komi_of text ≡ Some half_points)
+-- the function agrees with the relation
+abbrev pub KomiOfAgrees : Type 0
+KomiOfAgrees = (half_points : ℤ) (text : List ℕ) → SpellsKomi half_points text ↔ (komi_of text ≡ Some half_points)
 
 -- what is written of a komi spells it, and so it is read back
 abbrev pub KomisReadBack : Type 0

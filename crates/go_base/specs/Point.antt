@@ -1,6 +1,6 @@
 -- Points of a board. (The standard's entity: vertex.)
 --
--- A point is seen as its place on a mailbox board, as Go programs keep one: the rows stand one behind the other from
+-- A point is seen as its place on a mailbox board, as Go programs keep one: the rows are one after the other from
 -- the bottom up, 26 places to a row. Place 0 of a row is no point, and 25 columns fill the others, so a step of one
 -- from the end of a row falls on no point of the next row.
 use Rattle.std.specs.Prelude.{◌≡◌, ℕ, ◌+◌, ◌*◌, ◌/◌, ◌%◌, ◌≤◌, ◌⊎◌, ◌↔◌}
@@ -34,12 +34,11 @@ pub record IsOn (size p : ℕ) : Type 0 where
 abbrev pub Neighbours : ℕ → ℕ → Type 0
 Neighbours p q = (q ≡ p + 1) ⊎ (p ≡ q + 1) ⊎ (q ≡ p + 26) ⊎ (p ≡ q + 26)
 
--- two points share a row and stand in columns next to each other, or share a column and stand in rows next to each
--- other
+-- two points share a row and are in columns next to each other, or share a column and are in rows next to each other
 pub data AreBeside (p q : ℕ) : Type 0 where
   in_row : row_of p ≡ row_of q → (column_of q ≡ column_of p + 1) ⊎ (column_of p ≡ column_of q + 1) → AreBeside p q
   in_column : column_of p ≡ column_of q → (row_of q ≡ row_of p + 1) ⊎ (row_of p ≡ row_of q + 1) → AreBeside p q
 
--- two points of the largest board are neighbours exactly where they stand beside each other
+-- two points of the largest board are neighbours exactly where they are beside each other
 abbrev pub NeighboursAreBeside : Type 0
 NeighboursAreBeside = (p q : ℕ) → IsOn most_size p → IsOn most_size q → Neighbours p q ↔ AreBeside p q

@@ -67,9 +67,9 @@ abbrev pub IsVertex : Vertex → Type 0
 IsVertex Pass = Unit {0}
 IsVertex (At p) = IsOn most_size p
 
--- the function tells what the relation says
-abbrev pub VertexOfTells : Type 0
-VertexOfTells = (vertex : Vertex) (text : List ℕ) → SpellsVertex vertex text ↔ (vertex_of text ≡ Some vertex)
+-- the function agrees with the relation
+abbrev pub VertexOfAgrees : Type 0
+VertexOfAgrees = (vertex : Vertex) (text : List ℕ) → SpellsVertex vertex text ↔ (vertex_of text ≡ Some vertex)
 
 -- what is written of a vertex spells it, and so it is read back
 abbrev pub VerticesReadBack : Type 0

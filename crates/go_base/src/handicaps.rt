@@ -12,7 +12,7 @@ use arrayvec::ArrayVec;
 /// that number: 2 to 9 stones are allowed on odd sizes from 9 up, 2 to 4 on size 7 and on even sizes from 8 up, and
 /// none on sizes below 7.
 ///
-/// The stones stand on the third line from the edges on sizes below 13, on the fourth from 13 up, and on the lines in
+/// The stones are on the third line from the edges on sizes below 13, on the fourth from 13 up, and on the lines in
 /// the middle: first in the corners, then on the sides by pairs. From 5 on, an odd number has its last stone in the
 /// centre.
 pub fn handicap(size: Size, stones: u32) -> Option<ArrayVec<Point, 9>>
@@ -77,7 +77,7 @@ fn first_points(size: Size, stones: u32) -> ArrayVec<Point, 9>
     points
 }
 
-/// Whether one of the stones stands in the centre.
+/// Whether one of the stones is in the centre.
 fn has_centre(stones: u32) -> bool
     ensures { IsTrue result ↔ ((5 ≤ stones) × (stones % 2 ≡ 1)) }
 {

@@ -122,19 +122,19 @@ fn read_unsigned(text: &[u8]) -> Option<u32>
     let (whole, rest) = split_digits(text);
     let decimals = read_decimals(rest)?;
     let half = read_half(decimals)?;
-    if !may_stand(whole.len(), decimals.len()) {
+    if !are_few(whole.len(), decimals.len()) {
         return None;
     }
     let points = read_int(whole).unwrap_or(0);
     Some(2 * points + half)
 }
 
-/// Whether `before` digits may stand before the point and `behind` digits behind it: at least one in all, and at most
+/// Whether there may be `before` digits before the point and `after` digits after it: at least one in all, and at most
 /// nine on either side.
-fn may_stand(before: usize, behind: usize) -> bool
-    ensures { IsTrue result ↔ ((0 < before + behind) × (before ≤ 9) × (behind ≤ 9)) }
+fn are_few(before: usize, after: usize) -> bool
+    ensures { IsTrue result ↔ ((0 < before + after) × (before ≤ 9) × (after ≤ 9)) }
 {
-    (before > 0 || behind > 0) && before <= MOST_DIGITS && behind <= MOST_DIGITS
+    (before > 0 || after > 0) && before <= MOST_DIGITS && after <= MOST_DIGITS
 }
 
 /// What follows the point.
@@ -148,7 +148,7 @@ fn read_decimals(rest: &[u8]) -> Option<&[u8]>
     }
 }
 
-/// The half points of the digits behind the point: of none, of zeros, or of 5 and zeros.
+/// The half points of the digits after the point: of none, of zeros, or of 5 and zeros.
 fn read_half(decimals: &[u8]) -> Option<u32>
     ensures value { result ≡ half_of decimals.now }
     ensures limit { IfSome result (λ halves. halves ≤ 1) }

@@ -2,11 +2,11 @@
 //!
 //! Each function does nothing, or only compares: that it is proved is the law in its contract.
 ghost use Rattle.std.specs.Prelude.{◌≡◌, ◌↔◌, IsTrue};
-ghost use Rattle.go_base.specs.Int.{IntOfTells, IntsReadBack, SpellsOneInt};
-ghost use Rattle.go_base.specs.Colour.{ColourOfTells, ColoursReadBack, SpellsOneColour};
-ghost use Rattle.go_base.specs.Vertex.{VertexOfTells, VerticesReadBack, SpellsOneVertex};
-ghost use Rattle.go_base.specs.Choice.{ChoiceOfTells, SpellsOneChoice};
-ghost use Rattle.go_base.specs.Komi.{KomiOfTells, KomisReadBack, SpellsOneKomi};
+ghost use Rattle.go_base.specs.Int.{IntOfAgrees, IntsReadBack, SpellsOneInt};
+ghost use Rattle.go_base.specs.Colour.{ColourOfAgrees, ColoursReadBack, SpellsOneColour};
+ghost use Rattle.go_base.specs.Vertex.{VertexOfAgrees, VerticesReadBack, SpellsOneVertex};
+ghost use Rattle.go_base.specs.Choice.{ChoiceOfAgrees, SpellsOneChoice};
+ghost use Rattle.go_base.specs.Komi.{KomiOfAgrees, KomisReadBack, SpellsOneKomi};
 ghost use Rattle.go_base.specs.Point.{NeighboursAreBeside};
 ghost use Rattle.go_base.specs.Decimal.{IntsAreCounted, PointsAreCounted, PointsOnBoardsAreWithin};
 ghost use Rattle.go_base.specs.Decimal.{KomisAreTwiceTheirValue};
@@ -80,34 +80,34 @@ pub fn equality_law(one: Values, another: Values) -> Equal
 
 /// A written int is read back, and a text spells at most one int.
 pub fn int_laws()
-    ensures function { IntOfTells }
+    ensures function { IntOfAgrees }
     ensures read_back { IntsReadBack }
     ensures one { SpellsOneInt }
 {}
 
 /// A written colour is read back, and a text spells at most one colour.
 pub fn colour_laws()
-    ensures function { ColourOfTells }
+    ensures function { ColourOfAgrees }
     ensures read_back { ColoursReadBack }
     ensures one { SpellsOneColour }
 {}
 
 /// A written vertex is read back, and a text spells at most one vertex.
 pub fn vertex_laws()
-    ensures function { VertexOfTells }
+    ensures function { VertexOfAgrees }
     ensures read_back { VerticesReadBack }
     ensures one { SpellsOneVertex }
 {}
 
 /// A text spells at most one choice.
 pub fn choice_laws()
-    ensures function { ChoiceOfTells }
+    ensures function { ChoiceOfAgrees }
     ensures one { SpellsOneChoice }
 {}
 
 /// A written komi is read back, and a text spells at most one komi.
 pub fn komi_laws()
-    ensures function { KomiOfTells }
+    ensures function { KomiOfAgrees }
     ensures read_back { KomisReadBack }
     ensures one { SpellsOneKomi }
 {}
@@ -122,7 +122,7 @@ pub fn decimal_laws()
 {}
 
 /// Two points of the largest board are neighbours on the mailbox board exactly where they share a column or a row and
-/// stand next to each other.
+/// are next to each other in it.
 pub fn neighbours_law()
     ensures { NeighboursAreBeside }
 {}

@@ -14,7 +14,7 @@ const MOST_LINES: u32 = 25;
 /// column 1 and row 1.
 ///
 /// A contract sees it as its place on a mailbox board of 26 to a row: `26 * row + column`. Such a board is one array,
-/// with the rows one behind the other from the bottom up and one place more to a row than the largest board has
+/// with the rows one after the other from the bottom up and one place more to a row than the largest board has
 /// columns. That place and the rows below and above hold no point, so the four neighbours of every point, on any edge,
 /// are the places one less, one more, 26 less and 26 more, and no step leads from the end of one row to the start of
 /// the next.

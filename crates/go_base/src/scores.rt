@@ -29,7 +29,7 @@ pub fn write_score(half_points: i32) -> ArrayVec<u8, 14>
     text
 }
 
-/// What stands before the points.
+/// What is written before the points.
 fn leader(half_points: i32) -> &'static [u8]
     ensures leader { result.now ≡ leader half_points }
     ensures few { length result.now ≤ 2 }

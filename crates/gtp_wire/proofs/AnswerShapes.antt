@@ -16,7 +16,7 @@ use Rattle.gtp_wire.specs.Replies.{prepared, past_blanks, is_status, IsReply, Is
 use Rattle.gtp_wire.specs.AnyText.{IsControl, IsPassedOver, BeginsNone, BeginsWithStatus, EndsWithTwoNewlines}
 use Rattle.gtp_wire.specs.AnyText.{EndsStrangely, AnswersHaveShapes}
 use Rattle.gtp_wire.proofs.ReplyLemmas.{no_status_begun}
-use Rattle.gtp_wire.proofs.ReplyLaws.{one_first, prepared-append, past_blanks_behind}
+use Rattle.gtp_wire.proofs.ReplyLaws.{one_first, prepared-append, past_blanks_more}
 use Rattle.gtp_wire.proofs.ReplyReadingLemmas.{read_nothing, no_status_blank, no_reply_blank, first_byte, past_copy}
 use Rattle.gtp_wire.proofs.ReplyFaults.{first_of_front, passed, faults_have_places}
 use Rattle.gtp_wire.proofs.Controls.{control_byte}
@@ -172,7 +172,7 @@ begins_none b begun other =
       λ (e : b ≡ 63). grind (arith, nat_tests),
     )
 
--- what is left behind the first byte that is not passed over
+-- what is left after the first byte that is not passed over
 pub begun_shape : (raw : List ℕ) → length raw ≤ 8192 → (found : HasBegun raw)
     → past_blanks raw ≡ found.byte ∷ prepared found.end
 begun_shape raw fits found =
@@ -185,7 +185,7 @@ begun_shape raw fits found =
     let one : past_blanks (found.front ++ found.byte ∷ []) ≡ found.byte ∷ [] =
     first_byte found.front found.byte reading.form_is found.begun.kept blank ∙ ap (λ x. x ∷ []) same in
     ap past_blanks (found.shape ∙ sym (append_assoc found.front (found.byte ∷ []) found.end))
-    ∙ past_blanks_behind (found.front ++ found.byte ∷ []) found.end found.byte [] one
+    ∙ past_blanks_more (found.front ++ found.byte ∷ []) found.end found.byte [] one
 
 strange_end : (raw : List ℕ) → IsFirst raw (length raw) (Err NoStatus) → IsNoStatus raw → EndsStrangely raw
 strange_end raw first fault = elim (first_begun raw) [

@@ -1,4 +1,4 @@
--- What a byte does to the lines of a text, wherever it stands.
+-- What a byte does to the lines of a text, wherever it is.
 use Rattle.go_base.proofs.General.{AllByRecursion-append}
 use Rattle.std.proofs.lemmas.Bool.{cases_Bool}
 use Rattle.std.proofs.Common.{◌≡◌, ◌≢◌, ℕ, ◌≤◌, List, [], ◌∷◌, ◌++◌, Some, None, true, false, refl}
@@ -23,12 +23,12 @@ use Rattle.gtp_wire.proofs.StepLemmas.{end_long, front_skips}
 use Rattle.gtp_wire.proofs.ReadingLemmas.{AllKept, tail_of, tail_is_kept, tail_is_open, no_newlines, lines_more}
 use Rattle.gtp_wire.proofs.WrittenLines.{IsWord, AreWords, written_line, are_joined}
 
--- Texts that read as one line alike behind whatever stands on the line read alike behind every text.
+-- Texts that read as one line alike after whatever is on the line read alike after every text.
 lines_alike : (u v : List ℕ) → AllKept u → AllKept v → NoNewline u → NoNewline v
     → ((t l : List ℕ) → line_of (t ++ (u ++ l)) ≡ line_of (t ++ (v ++ l)))
     → (text later : List ℕ) → lines (text ++ (u ++ later)) ≡ lines (text ++ (v ++ later))
 lines_alike u v ku kv nu nv same text later =
-    lines_more text (u ++ later) ∙ ap (λ ls. lines text ++ ls) behind ∙ sym (lines_more text (v ++ later))
+    lines_more text (u ++ later) ∙ ap (λ ls. lines text ++ ls) after ∙ sym (lines_more text (v ++ later))
   where
     front : (w : List ℕ) → AllKept w
         → lines (tail_of text ++ (w ++ later)) ≡ cut_lines ((tail_of text ++ w) ++ filter is_kept later)
@@ -37,8 +37,8 @@ lines_alike u v ku kv nu nv same text later =
         ∙ lines_front (tail_of text ++ w) later
         (AllByRecursion-append _ (tail_of text) w (tail_is_kept text) kw)
 
-    behind : lines (tail_of text ++ (u ++ later)) ≡ lines (tail_of text ++ (v ++ later))
-    behind =
+    after : lines (tail_of text ++ (u ++ later)) ≡ lines (tail_of text ++ (v ++ later))
+    after =
         front u ku
         ∙ cut_lines_same (tail_of text ++ u) (tail_of text ++ v) (filter is_kept later)
         (AllByRecursion-append _ (tail_of text) u (tail_is_open text) nu)
@@ -73,7 +73,7 @@ end_alike u nu same text later =
         lines_front (tail_of text) (10 ∷ later) (tail_is_kept text)
         ∙ cut_lines_newline (tail_of text) 10 (filter is_kept later) (tail_is_open text) refl
 
--- a text has a `#`, and nothing behind it counts; or it has none
+-- a text has a `#`, and nothing after it counts; or it has none
 cleaned_cases : (t : List ℕ)
     → ((l : List ℕ) → cleaned (t ++ l) ≡ cleaned t) ⊎ ((l : List ℕ) → cleaned (t ++ l) ≡ cleaned t ++ cleaned l)
 cleaned_cases [] = inr (λ l. refl)

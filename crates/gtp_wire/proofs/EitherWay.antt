@@ -18,10 +18,10 @@ use Rattle.gtp_wire.specs.Replies.{reply_of}
 use Rattle.gtp_wire.specs.private.ReplyReading.{IsReading}
 use Rattle.gtp_wire.specs.AnyText.{IsControl, BeginsWithStatus, EndsWithTwoNewlines}
 use Rattle.gtp_wire.proofs.NewlineLemmas.{has_two_newlines_front, two_newlines}
-use Rattle.gtp_wire.proofs.ReplyLaws.{prepared-append}
+use Rattle.gtp_wire.proofs.ReplyLaws.{prepared-append, first_at}
 use Rattle.gtp_wire.proofs.ReplyReadingLemmas.{read_removed, read_blank, read_status, read_no_status, read_body}
-use Rattle.gtp_wire.proofs.ReplyReadingLemmas.{read_newline, read_after_newline, read_done, read_nothing, reading_quiet}
-use Rattle.gtp_wire.proofs.ReplyReadingLemmas.{reading_fits, first_overlong, first_more, reply_told}
+use Rattle.gtp_wire.proofs.ReplyReadingLemmas.{read_newline, read_after_newline, read_done, read_nothing}
+use Rattle.gtp_wire.proofs.ReplyReadingLemmas.{first_overlong, first_more}
 use Rattle.gtp_wire.proofs.AnswerShapes.{HasBegun, begun_shape}
 use Rattle.gtp_wire.proofs.Controls.{control_removed}
 
@@ -66,11 +66,11 @@ byte_after Newline raw b room kept reading = elim (cases_Bool (is_newline b)) [
   | inl e ↦
       let same : b ≡ 10 = eqb-true b 10 e in
       let ended = read_done raw room reading in
-      let value : Reply = reply_of ended.whole.status ended.whole.body in
+      let value : Reply = reply_of ended.status ended.body in
       inl (record {
         count = length (raw ++ b ∷ []);
         answer = Ok value;
-        first = rw same (reply_told (raw ++ 10 ∷ []) value ended (record { whole = ended.whole; value_is = refl }));
+        first = rw same (first_at (raw ++ 10 ∷ []) value (record { whole = ended; value_is = refl }));
       })
   | inr other ↦ inr (record { phase = Body; reading = read_after_newline raw b room kept other reading })
 ]
@@ -78,13 +78,13 @@ byte_after Newline raw b room kept reading = elim (cases_Bool (is_newline b)) [
 byte_more : (raw : List ℕ) (b : ℕ) → IsUntold raw → IsEither (raw ++ b ∷ [])
 byte_more raw b untold =
     let phase : Phase = untold.phase in
-    let fits : length raw ≤ 8192 = reading_fits phase raw untold.reading in
+    let fits : length raw ≤ 8192 = untold.reading.fits in
     elim (cases_lt (length raw) 8192) [
       | inr full ↦ inl (record {
         count = 8193;
         answer = Err Overlong;
         first = first_overlong raw b 8193 (omega (arith, fits, full)) (omega (arith, fits, full))
-            (reading_quiet phase raw untold.reading);
+            untold.reading.quiet;
       })
       | inl room ↦ elim (cases_Bool (is_kept b)) [
         | inr removed ↦
@@ -164,9 +164,9 @@ two_at_end p (x ∷ xs) q s other same =
 prepared_status : (b : ℕ) (more : List ℕ) → is_kept b ≡ true → eqb b 9 ≡ false → prepared (b ∷ more) ≡ b ∷ prepared more
 prepared_status b more kept no_tab = rw kept (rw no_tab refl)
 
-two_behind : (raw : List ℕ) (begins : BeginsWithStatus raw) → EndsWithTwoNewlines raw
+two_after : (raw : List ℕ) (begins : BeginsWithStatus raw) → EndsWithTwoNewlines raw
     → has_two_newlines (prepared begins.more) ≡ true
-two_behind raw begins ends =
+two_after raw begins ends =
     let tests = status_byte begins.status begins.known in
     let left : prepared raw ≡ prepared begins.front ++ begins.status ∷ prepared begins.more =
     ap prepared begins.shape ∙ prepared-append begins.front (begins.status ∷ begins.more)
@@ -185,7 +185,7 @@ unfolding begun
 reply_inside raw begins ends untold = at untold.phase untold.reading
   where
     two : has_two_newlines (prepared begins.more) ≡ true
-    two = two_behind raw begins ends
+    two = two_after raw begins ends
 
     shape : length raw ≤ 8192 → past_blanks raw ≡ begins.status ∷ prepared begins.more
     shape fits = begun_shape raw fits (begun raw begins)

@@ -8,7 +8,8 @@ use Rattle.gtp_wire.specs.declared.replies.Reply.{Reply}
 use Rattle.gtp_wire.specs.declared.replies.ReplyFault.{ReplyFault}
 use Rattle.gtp_wire.specs.Replies.{IsFirst, ReadsFirst, rest_after}
 use Rattle.gtp_wire.specs.AnyText.{FaultsStay}
-use Rattle.gtp_wire.proofs.ReplyLaws.{one_first, told_longer}
+use Rattle.gtp_wire.proofs.ReplyLaws.{one_first}
+use Rattle.gtp_wire.proofs.ReplyReadingLemmas.{first_more}
 use Rattle.gtp_wire.proofs.ReplyFaults.{first_of_front}
 
 fault_kept : (answer : Result Reply ReplyFault) (fault : ReplyFault) (text : List ℕ) → answer ≡ Err fault
@@ -32,7 +33,7 @@ fault_stays old piece used fault held later more got new reads next = stays got 
         subst Q count (subst P (sym front) (first_of_front (old ++ piece) (length old + used) (Err fault) reads.first))
 
     again : IsFirst (held ++ later) (length held) (Err fault)
-    again = told_longer held later (length held) (Err fault) shown
+    again = first_more held later (length held) (Err fault) shown
 
     stays : (got : Option (Result Reply ReplyFault)) → ReadsFirst held later more got new
         → (more ≡ 0) × (got ≡ Some (Err fault)) × (new ≡ held)

@@ -16,8 +16,8 @@ use Rattle.gtp_wire.specs.Replies.{Tells, TellsNothing}
 use Rattle.gtp_wire.specs.AnyText.{ReadsReplies}
 use Rattle.gtp_wire.specs.AnyText.{RepliesAreTheOnlyReading}
 use Rattle.gtp_wire.proofs.NewlineLemmas.{has_two_newlines_front, two_newlines}
-use Rattle.gtp_wire.proofs.ReplyLaws.{one_value, reply_is_first, told_longer}
-use Rattle.gtp_wire.proofs.ReplyReadingLemmas.{reading_quiet}
+use Rattle.gtp_wire.proofs.ReplyLaws.{one_value, first_at}
+use Rattle.gtp_wire.proofs.ReplyReadingLemmas.{first_more}
 use Rattle.gtp_wire.proofs.ReplyReadingLemmas.{past_copy}
 use Rattle.gtp_wire.proofs.ReplyBytes.{EndsWithNewline, newline_last, reply_alike, bytes_change_nothing}
 use Rattle.gtp_wire.proofs.ReplyFaults.{faults_have_places}
@@ -25,7 +25,7 @@ use Rattle.gtp_wire.proofs.ReplySaying.{replies_say, prepared_printed, status_pa
 use Rattle.gtp_wire.proofs.AnswerShapes.{answers_have_shapes, status_cases}
 use Rattle.gtp_wire.proofs.Controls.{control_byte}
 use Rattle.gtp_wire.proofs.EitherWay.{IsUntold, either_way, reply_inside}
-use Rattle.gtp_wire.proofs.ReplyParts.{SaysId, SaysText, says_id, says_text, AreLeft, are_left, behind_left, left_front}
+use Rattle.gtp_wire.proofs.ReplyParts.{SaysId, SaysText, says_id, says_text, AreLeft, are_left, left_after_blanks, left_front}
 
 -- what tells nothing is told nothing by any other way to tell
 abbrev Told : (List ℕ → Option (ℕ × Result Reply ReplyFault)) → List ℕ → ℕ → Result Reply ReplyFault → Type 0
@@ -119,8 +119,8 @@ unprepared told reads (b ∷ rest) done value fits ends is = elim (cases_Bool (i
   ]
 ]
   where
-    ends_behind : (x : ℕ) (xs : List ℕ) → rest ≡ x ∷ xs → EndsWithNewline rest
-    ends_behind x xs same =
+    ends_after : (x : ℕ) (xs : List ℕ) → rest ≡ x ∷ xs → EndsWithNewline rest
+    ends_after x xs same =
         let end = ends b rest refl in
         let P : List ℕ → Type 0 = λ t. EndsWithNewline t in
         subst P (sym same)
@@ -134,7 +134,7 @@ unprepared told reads (b ∷ rest) done value fits ends is = elim (cases_Bool (i
     byte c left more =
         let P : List ℕ → Type 0 = λ t. At told t value in
         subst P (append_assoc done (c ∷ []) rest)
-        (more (subst P (sym (append_assoc done (c ∷ []) (prepared rest))) left) ends_behind
+        (more (subst P (sym (append_assoc done (c ∷ []) (prepared rest))) left) ends_after
         (omega (
           arith,
           fits,
@@ -148,15 +148,15 @@ unprepared told reads (b ∷ rest) done value fits ends is = elim (cases_Bool (i
         → length (done ++ rest) ≤ 8192 → At told (done ++ rest) value)
         → At told (done ++ b ∷ rest) value
     control removed end left more =
-        behind rest refl
-        (more left ends_behind (omega (arith, fits, length-append done (b ∷ rest), length-append done rest)))
+        after rest refl
+        (more left ends_after (omega (arith, fits, length-append done (b ∷ rest), length-append done rest)))
       where
-        behind : (l : List ℕ) → rest ≡ l → At told (done ++ rest) value → At told (done ++ b ∷ rest) value
-        behind [] same is =
+        after : (l : List ℕ) → rest ≡ l → At told (done ++ rest) value → At told (done ++ b ∷ rest) value
+        after [] same is =
             let last = same_from_push [] end.front b 10 (ap (λ t. b ∷ t) (sym same) ∙ end.shape) in
             let kept : is_kept b ≡ true = rw last.1 refl in
             absurd (cc)
-        behind (c ∷ later) same is =
+        after (c ∷ later) same is =
             let P : List ℕ → Type 0 = λ t. At told (done ++ b ∷ t) value in
             let Q : List ℕ → Type 0 = λ t. At told (done ++ t) value in
             subst P (sym same)
@@ -207,7 +207,7 @@ is_plain_reply raw value reply = record { ok = status.0; body = body; shape = sh
     shape = reply.whole.shape ∙ ap (λ s. s ∷ (body ++ 10 ∷ 10 ∷ [])) status.1
 
     left : AreLeft (body ++ 10 ∷ 10 ∷ [])
-    left = (subst AreLeft (sym (past_copy raw) ∙ shape) (behind_left (prepared raw) (are_left raw))).1
+    left = (subst AreLeft (sym (past_copy raw) ∙ shape) (left_after_blanks (prepared raw) (are_left raw))).1
 
     count : length body + 3 ≡ length plain
     count = omega (arith, length-append body (10 ∷ 10 ∷ []))
@@ -330,15 +330,10 @@ first_alike told reads text count answer is = elim (either_way text) [
       let Q : Result Reply ReplyFault → Type 0 = λ a. IsFirst text known.count a in
       subst P counts (subst Q answers known.first)
   | inr untold ↦
-      absurd (quiet_alike told reads text (reading_quiet untold.phase text untold.reading) count answer is)
+      absurd (quiet_alike told reads text untold.reading.quiet count answer is)
 ]
 
 -- ---- what is told first is such a way to tell
-
-first_at : (raw : List ℕ) (value : Reply) → IsReply raw value → IsFirst raw (length raw) (Ok value)
-first_at raw value reply =
-    let P : List ℕ → Type 0 = λ t. IsFirst t (length raw) (Ok value) in
-    subst P (append-nil raw) (reply_is_first raw [] value reply)
 
 reply_at : (raw : List ℕ) (value : Reply) → IsFirst raw (length raw) (Ok value) → IsReply raw value
 reply_at raw value first =
@@ -349,14 +344,14 @@ quiet_of : (text : List ℕ) → ((count : ℕ) (answer : Result Reply ReplyFaul
     → TellsNothing text
 quiet_of text none = elim (either_way text) [
   | inl known ↦ absurd (none known.count known.answer known.first)
-  | inr untold ↦ reading_quiet untold.phase text untold.reading
+  | inr untold ↦ untold.reading.quiet
 ]
 
 first_reads : ReadsReplies IsFirst
 first_reads = record {
   good = record {
     inside = λ text count answer first. first.inside;
-    stays = λ text later count answer first. told_longer text later count answer first;
+    stays = λ text later count answer first. first_more text later count answer first;
   };
   place = record {
     begin = λ text count value first. answers_have_shapes.begin (take count text) value first.told;

@@ -10,7 +10,7 @@ use Rattle.gtp_wire.specs.declared.replies.ReplyFault.{ReplyFault}
 use Rattle.gtp_wire.specs.Replies.{IsFirst, TellsNothing, ReadsFirst, rest_after}
 use Rattle.gtp_wire.specs.Laws.{AreRead}
 use Rattle.gtp_wire.specs.Laws.AreRead.{all_read, quiet, told}
-use Rattle.gtp_wire.proofs.ReplyLaws.{told_longer}
+use Rattle.gtp_wire.proofs.ReplyReadingLemmas.{first_more}
 
 -- nothing was read
 reads_nothing : (old : List ℕ) → TellsNothing old → ReadsFirst old [] 0 None old
@@ -19,13 +19,13 @@ reads_nothing old none =
     let same : old ≡ old ++ [] = sym (append-nil old) in
     record { first = tt; nothing = subst P same none; all = refl; within = omega arith; rest = same }
 
--- a piece that tells something, with more behind it
+-- a piece that tells something, with more after it
 reads_longer : (old piece later : List ℕ) (used : ℕ) (answer : Result Reply ReplyFault) (new : List ℕ)
     → ReadsFirst old piece used (Some answer) new → ReadsFirst old (piece ++ later) used (Some answer) new
 reads_longer old piece later used answer new reads = record {
   first =
       let P : List ℕ → Type 0 = λ t. IsFirst t (length old + used) answer in
-      subst P (append_assoc old piece later) (told_longer (old ++ piece) later (length old + used) answer reads.first);
+      subst P (append_assoc old piece later) (first_more (old ++ piece) later (length old + used) answer reads.first);
   nothing = tt;
   all = tt;
   within = omega (arith, reads.within, length-append piece later);
@@ -33,18 +33,18 @@ reads_longer old piece later used answer new reads = record {
       ∙ ap (λ (t : List ℕ). rest_after (Some answer) (old ++ t)) (sym (take-append-le used piece later reads.within));
 }
 
--- what is held behind a piece that told nothing
-held_behind : (old piece : List ℕ) (used : ℕ) (mid : List ℕ) → ReadsFirst old piece used None mid → mid ≡ old ++ piece
-held_behind old piece used mid reads =
+-- what is held after a piece that told nothing
+held_after : (old piece : List ℕ) (used : ℕ) (mid : List ℕ) → ReadsFirst old piece used None mid → mid ≡ old ++ piece
+held_after old piece used mid reads =
     let all : used ≡ length piece = reads.all in
     reads.rest ∙ ap (λ t. old ++ t) (take_all used piece (omega arith))
 
-take_behind : (piece rest : List ℕ) (used more : ℕ) → used ≡ length piece
+take_after : (piece rest : List ℕ) (used more : ℕ) → used ≡ length piece
     → take (used + more) (piece ++ rest) ≡ piece ++ take more rest
-take_behind piece rest used more all = ap (λ (n : ℕ). take (n + more) (piece ++ rest)) all
+take_after piece rest used more all = ap (λ (n : ℕ). take (n + more) (piece ++ rest)) all
     ∙ take-append-add piece rest more
 
--- a piece that tells nothing, and what is read behind it
+-- a piece that tells nothing, and what is read after it
 reads_on : (old piece rest : List ℕ) (used more : ℕ) (got : Option (Result Reply ReplyFault)) (mid new : List ℕ)
     → ReadsFirst old piece used None mid → ReadsFirst mid rest more got new
     → ReadsFirst old (piece ++ rest) (used + more) got new
@@ -53,18 +53,18 @@ reads_on old piece rest used more got mid new first second = record {
   nothing = nothing_on got second.nothing;
   all = all_on got second.all;
   within = omega (arith, used_all, second.within, length-append piece rest);
-  rest = second.rest ∙ ap (rest_after got) (behind (take more rest)) ∙ ap (λ t. rest_after got (old ++ t))
-      (sym (take_behind piece rest used more used_all));
+  rest = second.rest ∙ ap (rest_after got) (after (take more rest)) ∙ ap (λ t. rest_after got (old ++ t))
+      (sym (take_after piece rest used more used_all));
 }
   where
     used_all : used ≡ length piece
     used_all = first.all
 
-    behind : (t : List ℕ) → mid ++ t ≡ old ++ (piece ++ t)
-    behind t = ap (λ m. m ++ t) (held_behind old piece used mid first) ∙ append_assoc old piece t
+    after : (t : List ℕ) → mid ++ t ≡ old ++ (piece ++ t)
+    after t = ap (λ m. m ++ t) (held_after old piece used mid first) ∙ append_assoc old piece t
 
     place : length mid + more ≡ length old + (used + more)
-    place = omega (arith, ap length (held_behind old piece used mid first), length-append old piece, used_all)
+    place = omega (arith, ap length (held_after old piece used mid first), length-append old piece, used_all)
 
     first_on : (got : Option (Result Reply ReplyFault))
         → IfSome got (λ answer. IsFirst (mid ++ rest) (length mid + more) answer)
@@ -73,11 +73,11 @@ reads_on old piece rest used more got mid new first second = record {
     first_on (Some answer) first_told =
         let P : List ℕ → Type 0 = λ t. IsFirst t (length old + (used + more)) answer in
         let Q : ℕ → Type 0 = λ n. IsFirst (mid ++ rest) n answer in
-        subst P (behind rest) (subst Q place first_told)
+        subst P (after rest) (subst Q place first_told)
 
     nothing_on : (got : Option (Result Reply ReplyFault)) → IfNone got (TellsNothing (mid ++ rest))
         → IfNone got (TellsNothing (old ++ (piece ++ rest)))
-    nothing_on None none = let P : List ℕ → Type 0 = λ t. TellsNothing t in subst P (behind rest) none
+    nothing_on None none = let P : List ℕ → Type 0 = λ t. TellsNothing t in subst P (after rest) none
     nothing_on (Some answer) none = tt
 
     all_on : (got : Option (Result Reply ReplyFault)) → IfNone got (more ≡ length rest)
@@ -85,12 +85,12 @@ reads_on old piece rest used more got mid new first second = record {
     all_on None all = omega (arith, used_all, all, length-append piece rest)
     all_on (Some answer) all = tt
 
-pub pieces_tell_alike : {old : List ℕ} {pieces : List (List ℕ)} {used : ℕ} {got : Option (Result Reply ReplyFault)}
+pub pieces_answer_alike : {old : List ℕ} {pieces : List (List ℕ)} {used : ℕ} {got : Option (Result Reply ReplyFault)}
     {new : List ℕ} → TellsNothing old → AreRead old pieces used got new → ReadsFirst old (concat pieces) used got new
-pieces_tell_alike {old} none all_read = reads_nothing old none
-pieces_tell_alike {old} none (quiet {mid = mid} {new = new} {more = more} {got = got} piece pieces used first rest) =
+pieces_answer_alike {old} none all_read = reads_nothing old none
+pieces_answer_alike {old} none (quiet {mid = mid} {new = new} {more = more} {got = got} piece pieces used first rest) =
     let P : List ℕ → Type 0 = λ t. TellsNothing t in
     reads_on old piece (concat pieces) used more got mid new first
-    (pieces_tell_alike (subst P (sym (held_behind old piece used mid first)) first.nothing) rest)
-pieces_tell_alike {old} {new = new} none (told piece pieces used answer first) =
+    (pieces_answer_alike (subst P (sym (held_after old piece used mid first)) first.nothing) rest)
+pieces_answer_alike {old} {new = new} none (told piece pieces used answer first) =
     reads_longer old piece (concat pieces) used answer new first

@@ -16,7 +16,7 @@ use Rattle.gtp_wire.specs.Laws.AreFed.{all_fed, fed}
 use Rattle.gtp_wire.proofs.LineLemmas.{NoNewline, cut_lines, cut_lines_newline, cut_lines_open}
 use Rattle.gtp_wire.proofs.LineLemmas.{lines_cut, lines_front, lines_open}
 
--- what stands behind the last newline, with a text without one before it
+-- what is after the last newline, with a text without one before it
 tail_from : List ℕ → List ℕ → List ℕ
 tail_from held [] = held
 tail_from held (b ∷ t) = cond (is_newline b) (tail_from [] t) (tail_from (held ++ b ∷ []) t)
@@ -71,7 +71,7 @@ all_kept : (t : List ℕ) → AllKept (filter is_kept t)
 all_kept [] = tt
 all_kept (b ∷ t) = elim (cases_Bool (is_kept b)) [ inl e ↦ rw e (e, all_kept t) | inr e ↦ rw e (all_kept t) ]
 
--- the lines of a longer text are those of its front, and those of the rest behind what the front leaves unfinished
+-- the lines of a longer text are those of its front, and those of the rest after what the front leaves unfinished
 pub lines_more : (text later : List ℕ) → lines (text ++ later) ≡ lines text ++ lines (tail_of text ++ later)
 unfolding tail_of
 lines_more text later =
@@ -179,7 +179,7 @@ tail_of_newline : (text : List ℕ) → tail_of (text ++ 10 ∷ []) ≡ []
 unfolding tail_of
 tail_of_newline text = ap (tail_from []) (filter-append is_kept text (10 ∷ [])) ∙ tail_newline [] (filter is_kept text)
 
--- what stands behind a newline is read by itself
+-- what follows a newline is read by itself
 pub lines_anew : (text later : List ℕ) → lines (text ++ 10 ∷ later) ≡ lines (text ++ 10 ∷ []) ++ lines later
 lines_anew text later =
     ap lines (sym (append_assoc text (10 ∷ []) later)) ∙ lines_more (text ++ 10 ∷ []) later

@@ -15,7 +15,7 @@ use Rattle.gtp_wire.specs.Replies.{IsReply, IsNoStatus, Tells}
 use Rattle.gtp_wire.specs.AnyText.{IsControl, BytesChangeNothing}
 use Rattle.gtp_wire.proofs.Controls.{control_removed}
 
--- bytes that leave as much behind the blanks, and end with a newline, are the same reply
+-- bytes that leave as much after the blanks, and end with a newline, are the same reply
 pub reply_alike : (raw other front : List ℕ) (value : Reply) → past_blanks other ≡ past_blanks raw → length other ≤ 8192
     → other ≡ front ++ 10 ∷ [] → IsReply raw value → IsReply other value
 reply_alike raw other front value same fits ends reply = record {

@@ -42,10 +42,10 @@ spaces_at_the_ends = record {
   value_is = refl;
 }
 
--- a text straight behind the id
-text_behind_the_id : IsReply (codes "=12D4" ++ 10 ∷ 10 ∷ []) (reply true (Some 12) (codes "D4"))
+-- a text straight after the id
+text_after_the_id : IsReply (codes "=12D4" ++ 10 ∷ 10 ∷ []) (reply true (Some 12) (codes "D4"))
 unfolding past_blanks
-text_behind_the_id = record {
+text_after_the_id = record {
   whole = record {
     fits = lit≤ tt;
     front = codes "=12D4" ++ 10 ∷ [];

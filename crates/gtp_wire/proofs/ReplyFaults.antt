@@ -64,9 +64,9 @@ strange b none =
     }
 
 -- what was told of a front
-told_behind : (front : List ℕ) (b : ℕ) (later : List ℕ) (count : ℕ) (answer : Result Reply ReplyFault)
+first_in_longer : (front : List ℕ) (b : ℕ) (later : List ℕ) (count : ℕ) (answer : Result Reply ReplyFault)
     → IsFirst (front ++ b ∷ []) count answer → IsFirst (front ++ b ∷ later) count answer
-told_behind front b later count answer first =
+first_in_longer front b later count answer first =
     let P : List ℕ → Type 0 = λ t. IsFirst t count answer in
     subst P (append_assoc front (b ∷ []) later) (first_more (front ++ b ∷ []) later count answer first)
 
@@ -77,10 +77,10 @@ faults_have_places = record {
       let byte = strange b none in
       let count : length (front ++ b ∷ []) ≡ length front + 1 = omega (arith, length-append front (b ∷ [])) in
       let Q : ℕ → Type 0 = λ n. IsFirst (front ++ b ∷ []) n (Err NoStatus) in
-      told_behind front b later (length front + 1) (Err NoStatus)
+      first_in_longer front b later (length front + 1) (Err NoStatus)
       (subst Q count (read_no_status front b room byte.kept byte.blank byte.status reading));
   overlong = λ text b later full quiet.
-      told_behind text b later 8193 (Err Overlong) (first_overlong text b 8193 (omega (arith, full)) full quiet);
+      first_in_longer text b later 8193 (Err Overlong) (first_overlong text b 8193 (omega (arith, full)) full quiet);
   place = λ text count first.
       omega (arith, first.told, first.inside, length-take-le count text first.inside);
 }

@@ -60,10 +60,10 @@ prepared-append a b =
     ap (map space_for_tab) (filter-append is_kept a b)
     ∙ map-append space_for_tab (filter is_kept a) (filter is_kept b)
 
-pub past_blanks_behind : (raw more : List ℕ) (x : ℕ) (xs : List ℕ) → past_blanks raw ≡ x ∷ xs
+pub past_blanks_more : (raw more : List ℕ) (x : ℕ) (xs : List ℕ) → past_blanks raw ≡ x ∷ xs
     → past_blanks (raw ++ more) ≡ x ∷ (xs ++ prepared more)
 unfolding past_blanks
-past_blanks_behind raw more x xs shape =
+past_blanks_more raw more x xs shape =
     ap (skip_while is_blank) (prepared-append raw more) ∙ skip_while-some is_blank (prepared raw) (prepared more) x xs shape
 
 pub no_reply_in_reply : (raw : List ℕ) (b : ℕ) (bs : List ℕ) → IsWhole raw → IsWhole (raw ++ b ∷ bs) → ⊥
@@ -76,7 +76,7 @@ no_reply_in_reply raw b bs short long =
     ap prepared last.2 ∙ ap (λ c. prepared (last.0 ++ c ∷ [])) ends.1 ∙ prepared-append last.0 (10 ∷ []) in
     let both : short.status ∷ ((short.body ++ 10 ∷ 10 ∷ []) ++ prepared (b ∷ bs))
     ≡ long.status ∷ (long.body ++ 10 ∷ 10 ∷ []) =
-    sym (past_blanks_behind raw (b ∷ bs) short.status (short.body ++ 10 ∷ 10 ∷ []) short.shape) ∙ long.shape in
+    sym (past_blanks_more raw (b ∷ bs) short.status (short.body ++ 10 ∷ 10 ∷ []) short.shape) ∙ long.shape in
     let tails : (short.body ++ 10 ∷ 10 ∷ []) ++ prepared (b ∷ bs) ≡ long.body ++ 10 ∷ 10 ∷ [] = cc in
     let same = same_from_push ((short.body ++ 10 ∷ 10 ∷ []) ++ prepared last.0) (long.body ++ 10 ∷ []) 10 10
     (append_assoc (short.body ++ 10 ∷ 10 ∷ []) (prepared last.0) (10 ∷ [])
@@ -94,7 +94,7 @@ no_reply_in_reply raw b bs short long =
 no_status_in_reply : (front later : List ℕ) → IsWhole (front ++ later) → IsNoStatus front → ⊥
 no_status_in_reply front later whole fault =
     let shapes : fault.byte ∷ (fault.more ++ prepared later) ≡ whole.status ∷ (whole.body ++ 10 ∷ 10 ∷ []) =
-    sym (past_blanks_behind front later fault.byte fault.more fault.shape) ∙ whole.shape in
+    sym (past_blanks_more front later fault.byte fault.more fault.shape) ∙ whole.shape in
     let same : fault.byte ≡ whole.status = cc in
     let known : is_status fault.byte ≡ true = ap is_status same ∙ whole.known in
     let other : is_status fault.byte ≡ false = fault.other in
@@ -127,12 +127,17 @@ reply_is_first raw later value reply =
     quiet : (n : ℕ) (other : Result Reply ReplyFault) → n < length raw → Tells (take n raw) other → ⊥
     quiet n other less told =
         let W : List ℕ → Type 0 = λ t. IsWhole t in
-        behind_front (drop n raw) (omega (arith, length-drop n raw))
+        after_front (drop n raw) (omega (arith, length-drop n raw))
         (subst W (sym (take-append-drop n raw)) reply.whole) told
       where
-        behind_front : (l : List ℕ) → 0 < length l → IsWhole (take n raw ++ l) → Tells (take n raw) other → ⊥
-        behind_front [] some whole told = omega arith
-        behind_front (b ∷ more) some whole told = front_is_quiet (take n raw) b more other whole told
+        after_front : (l : List ℕ) → 0 < length l → IsWhole (take n raw ++ l) → Tells (take n raw) other → ⊥
+        after_front [] some whole told = omega arith
+        after_front (b ∷ more) some whole told = front_is_quiet (take n raw) b more other whole told
+
+pub first_at : (raw : List ℕ) (value : Reply) → IsReply raw value → IsFirst raw (length raw) (Ok value)
+first_at raw value reply =
+    let P : List ℕ → Type 0 = λ t. IsFirst t (length raw) (Ok value) in
+    subst P (append-nil raw) (reply_is_first raw [] value reply)
 
 -- a reply that is cut short tells nothing
 pub front_tells_nothing : (raw : List ℕ) (value : Reply) (k : ℕ) → IsReply raw value → k < length raw
@@ -142,15 +147,3 @@ front_tells_nothing raw value k reply less n answer inside told =
     let short : n ≤ k = omega (arith, inside, length-take-le k raw (omega arith)) in
     let T : List ℕ → Type 0 = λ t. Tells t answer in
     first.before n answer (omega arith) (subst T (take-take n k raw short ∙ ap (take n) (sym (append-nil raw))) told)
-
--- what a text tells first a longer one tells first
-pub told_longer : (text later : List ℕ) (count : ℕ) (answer : Result Reply ReplyFault) → IsFirst text count answer
-    → IsFirst (text ++ later) count answer
-told_longer text later count answer first =
-    let inside = first.inside in
-    record {
-      inside = omega (arith, inside, length-append text later);
-      told = subst (λ (t : List ℕ). Tells t answer) (sym (take-append-le count text later inside)) first.told;
-      before = λ n other less told. first.before n other less
-          (subst (λ (t : List ℕ). Tells t other) (take-append-le n text later (omega (arith, inside, less))) told);
-    }

@@ -87,12 +87,12 @@ one_more x (y ∷ ys) end spaces last = record {
   end = end;
   shape = refl;
   spaces = spaces;
-  last = λ more same. behind_first more same;
+  last = λ more same. after_first more same;
 }
   where
-    behind_first : (more : List ℕ) → x ∷ y ∷ ys ≡ more ++ 32 ∷ [] → ⊥
-    behind_first [] same = omega (arith, ap length same)
-    behind_first (m ∷ ms) same = let tails : y ∷ ys ≡ ms ++ 32 ∷ [] = cc in last ms tails
+    after_first : (more : List ℕ) → x ∷ y ∷ ys ≡ more ++ 32 ∷ [] → ⊥
+    after_first [] same = omega (arith, ap length same)
+    after_first (m ∷ ms) same = let tails : y ∷ ys ≡ ms ++ 32 ∷ [] = cc in last ms tails
 
 has_end : (bytes : List ℕ) → HasEnd bytes
 has_end [] = record { text = []; end = []; shape = refl; spaces = tt; last = no_last }
@@ -177,10 +177,10 @@ are_left (b ∷ raw) = elim (cases_Bool (is_kept b)) [
   | inr e ↦ rw e (are_left raw)
 ]
 
-pub behind_left : (xs : List ℕ) → AreLeft xs → AreLeft (skip_while is_blank xs)
-behind_left [] all = tt
-behind_left (x ∷ xs) all = elim (cases_Bool (is_blank x)) [
-  | inl e ↦ rw e (behind_left xs all.1)
+pub left_after_blanks : (xs : List ℕ) → AreLeft xs → AreLeft (skip_while is_blank xs)
+left_after_blanks [] all = tt
+left_after_blanks (x ∷ xs) all = elim (cases_Bool (is_blank x)) [
+  | inl e ↦ rw e (left_after_blanks xs all.1)
   | inr e ↦ rw e all
 ]
 

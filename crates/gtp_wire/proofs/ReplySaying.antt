@@ -37,7 +37,7 @@ prepared_printed (b ∷ l) all =
     stays : (b : ℕ) → (b ≡ 10) ⊎ IsPrinted b → space_for_tab b ≡ b
     stays b is = elim is [ inl e ↦ rw e refl | inr h ↦ let low : 32 ≤ b = h.0 in grind (arith, nat_tests) ]
 
--- a text behind its digits
+-- a text after its digits
 no_digit_test : (b : ℕ) (more : List ℕ) → NoDigitFirst (b ∷ more) → is_ascii_digit b ≡ false
 no_digit_test b more none = elim (cases_Bool (is_ascii_digit b)) [
   | inl e ↦ let bounds = digit_bounds b e in absurd (none b more refl bounds.0 bounds.1)

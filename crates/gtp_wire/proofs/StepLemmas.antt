@@ -117,7 +117,7 @@ front_skips b space other l =
     let front : cleaned (b ∷ l) ≡ 32 ∷ cleaned l = rw other (rw space refl) in
     line_of_cleaned (b ∷ l) ∙ ap (λ t. line_of_words (words t)) front ∙ sym (line_of_cleaned l)
 
--- a space behind words is kept as one
+-- a space after words is kept as one
 pub space_held : (held : List ℕ) (b : ℕ) → HoldsWords held → space_for_tab b ≡ 32 → eqb b 35 ≡ false → (l : List ℕ)
     → line_of (view held Word ++ b ∷ l) ≡ line_of (view held Gap ++ l)
 space_held held b joined space other l =
@@ -227,7 +227,7 @@ step_space held stage b z joined is space =
     (λ l. space_held held b joined space.space space.other l) z)
 
 -- `#` begins a comment
--- a byte that is kept behind a word
+-- a byte that is kept after a word
 pub step_pushed : (held new : List ℕ) (stage : Stage) (b : ℕ) → stage ≡ Word → new ≡ held ++ b ∷ [] → (z : List ℕ)
     → lines (view held stage ++ b ∷ z) ≡ lines (view new stage ++ z)
 step_pushed held new stage b is e z =
@@ -235,7 +235,7 @@ step_pushed held new stage b is e z =
     (ap (λ t. lines (t ++ b ∷ z)) (append-nil held)
     ∙ sym (ap (λ t. lines (t ++ z)) (append-nil (held ++ b ∷ [])) ∙ ap lines (append_assoc held (b ∷ []) z)))
 
--- a byte that is kept behind a space
+-- a byte that is kept after a space
 pub step_pushed_gap : (held mid new : List ℕ) (stage : Stage) (b : ℕ) → stage ≡ Gap → mid ≡ held ++ 32 ∷ []
     → new ≡ mid ++ b ∷ [] → (z : List ℕ) → lines (view held stage ++ b ∷ z) ≡ lines (view new Word ++ z)
 step_pushed_gap held mid new stage b is e f z =

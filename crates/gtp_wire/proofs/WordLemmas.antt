@@ -36,10 +36,10 @@ push_last [] c = (c ∷ []) ∷ []
 push_last (w ∷ []) c = (w ++ c ∷ []) ∷ []
 push_last (w ∷ v ∷ more) c = w ∷ push_last (v ∷ more) c
 
-push_last_behind : (w : List ℕ) (ps : List (List ℕ)) (c : ℕ) (v : List ℕ) (vs : List (List ℕ)) → ps ≡ v ∷ vs
+push_last_after : (w : List ℕ) (ps : List (List ℕ)) (c : ℕ) (v : List ℕ) (vs : List (List ℕ)) → ps ≡ v ∷ vs
     → push_last (w ∷ ps) c ≡ w ∷ push_last ps c
-push_last_behind w [] c v vs e = absurd (cc)
-push_last_behind w (p ∷ ps) c v vs e = refl
+push_last_after w [] c v vs e = absurd (cc)
+push_last_after w (p ∷ ps) c v vs e = refl
 
 push_last-onto_first : (x : ℕ) (ps : List (List ℕ)) (c : ℕ) (v : List ℕ) (vs : List (List ℕ)) → ps ≡ v ∷ vs
     → onto_first x (push_last ps c) ≡ push_last (onto_first x ps) c
@@ -54,7 +54,7 @@ split_push (x ∷ xs) c other =
     let parts = split_parts is_space xs in
     elim (cases_Bool (is_space x)) [
       | inl e ↦ slice_split-cons_yes is_space x (xs ++ c ∷ []) e ∙ ap (λ ps. [] ∷ ps) (split_push xs c other)
-          ∙ sym (push_last_behind [] (slice_split is_space xs) c parts.0 parts.1 parts.2)
+          ∙ sym (push_last_after [] (slice_split is_space xs) c parts.0 parts.1 parts.2)
           ∙ ap (λ ps. push_last ps c) (sym (slice_split-cons_yes is_space x xs e))
       | inr e ↦ slice_split-cons_no is_space x (xs ++ c ∷ []) e ∙ ap (onto_first x) (split_push xs c other)
           ∙ push_last-onto_first x (slice_split is_space xs) c parts.0 parts.1 parts.2
@@ -71,10 +71,10 @@ length-join w [] = omega arith
 length-join w (v ∷ vs) = omega (arith, length-append w (32 ∷ join_with_byte 32 (v ∷ vs)), length-join v vs)
 
 -- words weigh more as their text grows
-weight_behind : (b : Bool) (w : List ℕ) (ws vs : List (List ℕ)) → weight ws ≤ weight vs
+weight_after : (b : Bool) (w : List ℕ) (ws vs : List (List ℕ)) → weight ws ≤ weight vs
     → weight (cond b (w ∷ ws) ws) ≤ weight (cond b (w ∷ vs) vs)
-weight_behind true w ws vs h = omega arith
-weight_behind false w ws vs h = h
+weight_after true w ws vs h = omega arith
+weight_after false w ws vs h = h
 
 some_bytes_push : (w : List ℕ) (c : ℕ) → some_bytes (w ++ c ∷ []) ≡ true
 some_bytes_push w c = lt-ltb _ _ (omega (arith, length-append w (c ∷ [])))
@@ -89,7 +89,7 @@ weight_push_last [] c = omega arith
 weight_push_last (w ∷ []) c =
     rw (some_bytes_push w c) (omega (arith, weight_one (some_bytes w) w, length-append w (c ∷ [])))
 weight_push_last (w ∷ v ∷ more) c =
-    weight_behind (some_bytes w) w (filter some_bytes (v ∷ more)) (filter some_bytes (push_last (v ∷ more) c))
+    weight_after (some_bytes w) w (filter some_bytes (v ∷ more)) (filter some_bytes (push_last (v ∷ more) c))
     (weight_push_last (v ∷ more) c)
 
 weight_push : (xs : List ℕ) (c : ℕ) → weight (words xs) ≤ weight (words (xs ++ c ∷ []))

@@ -84,7 +84,7 @@ has_two_newlines_digits [] s all = refl
 has_two_newlines_digits (d ∷ ds) s all =
     has_two_newlines_cons d (ds ++ s) (digit_no_newline d all.0) ∙ has_two_newlines_digits ds s all.1
 
--- the text behind its space
+-- the text after its space
 spaced_front : (text : List ℕ) → front_while is_ascii_digit (spaced text) ≡ []
 spaced_front [] = refl
 spaced_front (b ∷ bs) = refl
@@ -214,7 +214,7 @@ written_whole ok id text fits_id fits_text =
           ∙ has_two_newlines_spaced text fits_text;
     }
 
--- with or without an id the text is what is behind it
+-- with or without an id the text is what is after it
 text_after : (id : Option ℕ) (text : List ℕ) → list_all is_ascii_digit (written_id id) ≡ true
     → cond (is_some id) (skip_while is_ascii_digit (written_id id ++ spaced text))
     (written_id id ++ spaced text) ≡ spaced text

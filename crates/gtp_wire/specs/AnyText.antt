@@ -1,4 +1,4 @@
--- Laws of any text: what a byte does wherever it stands, and what words, replies and faults are. They stand in the
+-- Laws of any text: what a byte does wherever it is, and what words, replies and faults are. They are said in the
 -- numbers of the bytes, as the standard has them, and in none of the tests and constants of the definitions.
 use Rattle.std.specs.Prelude.{◌≡◌, ◌≢◌, ℕ, ◌+◌, ◌<◌, ◌≤◌, ◌⊎◌, ◌↔◌, Bool, if◌then◌else◌, List, [], ◌∷◌, ◌++◌, length}
 use Rattle.std.specs.Prelude.{take, All, Option, Some, None, IfSome, Result, Ok, Err}
@@ -26,15 +26,15 @@ IsPrinted b = (32 ≤ b) × (b ≢ 127)
 
 -- ---- lines (the standard, preprocessing and command structure)
 
--- A control character is nothing, wherever it stands.
+-- A control character is nothing, wherever it is.
 abbrev pub ControlsAreNothing : (List ℕ → List Line) → Type 0
 ControlsAreNothing read = (text later : List ℕ) (b : ℕ) → IsControl b → read (text ++ b ∷ later) ≡ read (text ++ later)
 
--- HT is a space, wherever it stands.
+-- HT is a space, wherever it is.
 abbrev pub TabsAreSpaces : (List ℕ → List Line) → Type 0
 TabsAreSpaces read = (text later : List ℕ) → read (text ++ 9 ∷ later) ≡ read (text ++ 32 ∷ later)
 
--- `#` (35) and what stands between it and the next newline is nothing, wherever it stands.
+-- `#` (35) and what is between it and the next newline is nothing, wherever it is.
 abbrev pub CommentsAreNothing : (List ℕ → List Line) → Type 0
 CommentsAreNothing read = (text comment later : List ℕ) → All (λ b. b ≢ 10) comment
     → read (text ++ 35 ∷ (comment ++ 10 ∷ later)) ≡ read (text ++ 10 ∷ later)
@@ -53,7 +53,7 @@ pub record IsLineWord (word : List ℕ) : Type 0 where
   pub bytes : All (λ b. IsPrinted b × (b ≢ 32) × (b ≢ 35)) word
 
 -- What words with single spaces between them are, with a newline at the end. Where the first of them spells an int,
--- they are a line of that id and the words behind it, and else a line of all of them. Where they have more than 1,000
+-- they are a line of that id and the words after it, and else a line of all of them. Where they have more than 1,000
 -- bytes with the spaces between them (own), they are a line that is too long.
 pub record WordsAreALine (read : List ℕ → List Line) : Type 0 where
   pub with_id : (n : ℕ) (word : List ℕ) (words : List (List ℕ)) → All IsLineWord (word ∷ words) → SpellsInt n word
@@ -69,7 +69,7 @@ pub record WordsAreALine (read : List ℕ → List Line) : Type 0 where
       → 1000 < length (join_with_byte 32 (word ∷ words))
       → read (join_with_byte 32 (word ∷ words) ++ 10 ∷ []) ≡ line.TooLong ∷ []
 
--- Lines end at newlines: no bytes have no line, bytes without a newline add none, and what stands behind a newline is
+-- Lines end at newlines: no bytes have no line, bytes without a newline add none, and what follows a newline is
 -- read by itself.
 pub record NewlinesEndLines (read : List ℕ → List Line) : Type 0 where
   pub nothing : read [] ≡ []
@@ -111,8 +111,8 @@ IsPassedOver b = IsControl b ⊎ (b ≡ 9) ⊎ (b ≡ 10) ⊎ (b ≡ 32)
 abbrev pub BeginsNone : ℕ → Type 0
 BeginsNone b = IsPrinted b × (b ≢ 32) × (b ≢ 61) × (b ≢ 63)
 
--- `NoStatus` is told at the first byte that begins no reply. `Overlong` is told at byte 8,193 where nothing was told
--- before, and nowhere else. (Own.)
+-- `NoStatus` comes at the first byte that begins no reply. `Overlong` comes at byte 8,193 where nothing came before, and
+-- nowhere else. (Own.)
 pub record FaultsHavePlaces : Type 0 where
   pub no_status : (front : List ℕ) (b : ℕ) (later : List ℕ) → All IsPassedOver front → length front < 8192
       → BeginsNone b → IsFirst (front ++ b ∷ later) (length front + 1) (Err NoStatus)
@@ -120,7 +120,7 @@ pub record FaultsHavePlaces : Type 0 where
       → IsFirst (text ++ b ∷ later) 8193 (Err Overlong)
   pub place : (text : List ℕ) (count : ℕ) → IsFirst text count (Err Overlong) → count ≡ 8193
 
--- A fault stays: whatever is read after it, no byte is used, the same fault is told, and the same is held. (Own.)
+-- A fault stays: whatever is read after it, no byte is used, the same fault is returned, and the same is held. (Own.)
 abbrev pub FaultsStay : Type 0
 FaultsStay = (old piece : List ℕ) (used : ℕ) (fault : ReplyFault) (held : List ℕ)
     (later : List ℕ) (more : ℕ) (got : Option (Result Reply ReplyFault)) (new : List ℕ)
@@ -132,7 +132,7 @@ abbrev pub RepliesLeaveNothing : Type 0
 RepliesLeaveNothing = (old piece : List ℕ) (used : ℕ) (value : Reply) (held : List ℕ)
     → ReadsFirst old piece used (Some (Ok value)) held → held ≡ []
 
--- The bytes end with two newlines, and nothing but control characters stands between them.
+-- The bytes end with two newlines, and nothing but control characters is between them.
 pub record EndsWithTwoNewlines (raw : List ℕ) : Type 0 where
   pub front : List ℕ
   pub between : List ℕ
@@ -156,19 +156,19 @@ pub record BeginsWithStatus (raw : List ℕ) : Type 0 where
   pub over : All IsPassedOver front
   pub known : (status ≡ 61) ⊎ (status ≡ 63)
 
--- Where something is told: a reply that `=` or `?` began at two newlines, and `NoStatus` at the first byte that begins
+-- Where an answer comes: a reply that `=` or `?` began at two newlines, and `NoStatus` at the first byte that begins
 -- none.
 pub record AnswersHaveShapes : Type 0 where
   pub begin : (raw : List ℕ) (value : Reply) → IsReply raw value → BeginsWithStatus raw
   pub reply : (raw : List ℕ) (value : Reply) → IsReply raw value → EndsWithTwoNewlines raw
   pub no_status : (text : List ℕ) (count : ℕ) → IsFirst text count (Err NoStatus) → EndsStrangely (take count text)
 
--- no digit stands in front
+-- no digit is in front
 abbrev pub NoDigitFirst : List ℕ → Type 0
 NoDigitFirst bytes = (b : ℕ) (more : List ℕ) → bytes ≡ b ∷ more → 48 ≤ b → b ≤ 57 → ⊥
 
--- What stands behind the status has this id, and these bytes are left for the text. Digits that spell an int are the
--- id, and what stands behind them is left; digits that spell none belong to the text (own).
+-- What follows the status has this id, and these bytes are left for the text. Digits that spell an int are the id, and
+-- what follows them is left; digits that spell none belong to the text (own).
 pub data HasId : List ℕ → Option ℕ → List ℕ → Type 0 where
   an_int : (n : ℕ) (digits rest : List ℕ) → SpellsInt n digits → NoDigitFirst rest
       → HasId (digits ++ rest) (Some n) rest
@@ -186,7 +186,7 @@ pub record IsAround (text bytes : List ℕ) : Type 0 where
   pub first : (more : List ℕ) → text ≡ 32 ∷ more → ⊥
   pub last : (more : List ℕ) → text ≡ more ++ 32 ∷ [] → ⊥
 
--- What a reply says: behind `=` or `?` its id, and its text without the spaces around it, up to the first two newlines
+-- What a reply says: after `=` or `?` its id, and its text without the spaces around it, up to the first two newlines
 -- in a row.
 abbrev pub RepliesSay : Type 0
 RepliesSay = (ok : Bool) (id : Option ℕ) (body bytes : List ℕ) (value : Reply)
@@ -196,17 +196,17 @@ RepliesSay = (ok : Bool) (id : Option ℕ) (body bytes : List ℕ) (value : Repl
     → HasId body id bytes → IsAround value.text.items bytes → value.ok ≡ ok → value.id ≡ id
     → IsReply ((if ok then 61 else 63) ∷ (body ++ 10 ∷ 10 ∷ [])) value
 
--- ---- what a text tells first: how many of its bytes tell it, and what they tell
+-- ---- what comes first in a text: how many of its bytes give it, and the reply or fault that they give
 
--- What is told is told within the text, and stays told whatever follows.
-pub record TellsForGood (tells : List ℕ → ℕ → Result Reply ReplyFault → Type 0) : Type 0 where
+-- An answer comes within the text, and stays whatever follows.
+pub record AnswersForGood (tells : List ℕ → ℕ → Result Reply ReplyFault → Type 0) : Type 0 where
   pub inside : (text : List ℕ) (count : ℕ) (answer : Result Reply ReplyFault)
       → tells text count answer → count ≤ length text
   pub stays : (text later : List ℕ) (count : ℕ) (answer : Result Reply ReplyFault)
       → tells text count answer → tells (text ++ later) count answer
 
--- A reply and `NoStatus` are told where the law of shapes has them, and faults where the law of faults has them.
-pub record TellsInPlace (tells : List ℕ → ℕ → Result Reply ReplyFault → Type 0) : Type 0 where
+-- A reply and `NoStatus` come where the law of shapes has them, and faults where the law of faults has them.
+pub record AnswersInPlace (tells : List ℕ → ℕ → Result Reply ReplyFault → Type 0) : Type 0 where
   pub begin : (text : List ℕ) (count : ℕ) (value : Reply) → tells text count (Ok value)
       → BeginsWithStatus (take count text)
   pub end : (text : List ℕ) (count : ℕ) (value : Reply) → tells text count (Ok value)
@@ -219,8 +219,8 @@ pub record TellsInPlace (tells : List ℕ → ℕ → Result Reply ReplyFault �
       → ((count : ℕ) (answer : Result Reply ReplyFault) → tells text count answer → ⊥)
       → tells (text ++ b ∷ []) 8193 (Err Overlong)
 
--- What a reply says is told at its end, and the bytes that change nothing change nothing of it.
-pub record TellsReplies (tells : List ℕ → ℕ → Result Reply ReplyFault → Type 0) : Type 0 where
+-- What a reply says is known at its end, and the bytes that change nothing change nothing of it.
+pub record AnswersByReplies (tells : List ℕ → ℕ → Result Reply ReplyFault → Type 0) : Type 0 where
   pub says : (ok : Bool) (id : Option ℕ) (body bytes : List ℕ) (value : Reply)
       → All (λ b. (b ≡ 10) ⊎ IsPrinted b) body
       → ((a c : List ℕ) → body ++ 10 ∷ [] ≡ a ++ 10 ∷ 10 ∷ c → ⊥)
@@ -237,13 +237,13 @@ pub record TellsReplies (tells : List ℕ → ℕ → Result Reply ReplyFault �
   pub blank : (b : ℕ) (raw : List ℕ) (value : Reply) → (b ≡ 32) ⊎ (b ≡ 10) → length raw < 8192
       → tells raw (length raw) (Ok value) → tells (b ∷ raw) (length (b ∷ raw)) (Ok value)
 
--- all of this holds of a way to tell
+-- all of this holds of a relation between texts and what comes first in them
 pub record ReadsReplies (tells : List ℕ → ℕ → Result Reply ReplyFault → Type 0) : Type 0 where
-  pub good : TellsForGood tells
-  pub place : TellsInPlace tells
-  pub replies : TellsReplies tells
+  pub good : AnswersForGood tells
+  pub place : AnswersInPlace tells
+  pub replies : AnswersByReplies tells
 
--- All of this holds of what a text tells first, and every function of texts of which it holds tells just that.
+-- All of this holds of what comes first in a text, and every function of texts of which it holds returns just that.
 pub record RepliesAreTheOnlyReading : Type 0 where
   pub holds : ReadsReplies IsFirst
   pub only : (told : List ℕ → Option (ℕ × Result Reply ReplyFault))
@@ -264,7 +264,7 @@ pub record AreDigitsOf (n : ℕ) (digits : List ℕ) : Type 0 where
   pub value : digits_value 10 digits ≡ n
   pub zero : (more : List ℕ) → digits ≡ 48 ∷ more → more ≡ []
 
--- A line that is written has no byte to spare: one behind each word, and all but the last, a newline, are printed. An
+-- A line that is written has no byte to spare: one after each word, and all but the last, a newline, are printed. An
 -- id is its digits and a space in front of that line.
 pub record CommandsHaveNoByteToSpare : Type 0 where
   pub without_id : (command : Command) → HasInts command → IsInLimits command
@@ -275,7 +275,7 @@ pub record CommandsHaveNoByteToSpare : Type 0 where
       × (written_command (Some n) command ≡ digits ++ 32 ∷ written_command None command)
 
 -- Nor has a reply that is written: the status, the digits of its id, where it has one, and two newlines. A space and
--- the text stand in front of these, where there is a text. Where the bytes of the text are newlines and printed bytes,
+-- the text are in front of these, where there is a text. Where the bytes of the text are newlines and printed bytes,
 -- so are all.
 pub record RepliesHaveNoByteToSpare : Type 0 where
   pub without_id : (ok : Bool) → written_reply ok None [] ≡ (if ok then 61 else 63) ∷ 10 ∷ 10 ∷ []

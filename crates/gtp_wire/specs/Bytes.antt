@@ -31,7 +31,7 @@ question_mark = 63
 abbrev pub tilde : ℕ
 tilde = 126
 
--- what stands before the first `#`, or all of it: `#` begins a comment
+-- what is before the first `#`, or all of it: `#` begins a comment
 abbrev pub before_hash : List ℕ → List ℕ
 before_hash [] = []
 before_hash (b ∷ bs) = if b == hash then [] else b ∷ before_hash bs

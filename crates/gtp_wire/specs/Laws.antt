@@ -26,7 +26,7 @@ LinesGoOn = (text later : List ℕ) → (more : List Line) × (lines (text ++ la
 abbrev pub OnlyNewlinesEndLines : Type 0
 OnlyNewlinesEndLines = (text later : List ℕ) → All (λ b. b ≢ newline) later → lines (text ++ later) ≡ lines text
 
--- What stands behind a newline is read by itself: the lines of the whole are those up to the newline, and then its own.
+-- What follows a newline is read by itself: the lines of the whole are those up to the newline, and then its own.
 abbrev pub NewlinesBeginAnew : Type 0
 NewlinesBeginAnew = (text later : List ℕ)
     → lines (text ++ newline ∷ later) ≡ lines (text ++ newline ∷ []) ++ lines later
@@ -76,8 +76,8 @@ WrittenLinesAreRead = (id : Option ℕ) (name : List ℕ) (arguments : List (Lis
 
 -- ---- commands (the standard, command structure)
 
--- A command that is written is, with anything behind it, one line of its id and its words, and then the lines of what
--- stands behind it.
+-- A command that is written is, with anything after it, one line of its id and its words, and then the lines of what
+-- follows it.
 abbrev pub WrittenCommandsAreLines : Type 0
 WrittenCommandsAreLines = (id : Option ℕ) (command : Command) (later : List ℕ)
     → IfSome id (λ n. n ≤ most_int) → IsWritable command → IsInLimits command
@@ -102,18 +102,18 @@ CommandsAreShort = (id : Option ℕ) (command : Command)
 abbrev pub RepliesHaveOneValue : Type 0
 RepliesHaveOneValue = (raw : List ℕ) (value other : Reply) → IsReply raw value → IsReply raw other → value ≡ other
 
--- a text tells one thing first, and tells it at one byte
-abbrev pub OneThingIsToldFirst : Type 0
-OneThingIsToldFirst = (text : List ℕ) (count other_count : ℕ) (answer other : Result Reply ReplyFault)
+-- in a text one reply or fault comes first, and comes at one byte
+abbrev pub OneAnswerComesFirst : Type 0
+OneAnswerComesFirst = (text : List ℕ) (count other_count : ℕ) (answer other : Result Reply ReplyFault)
     → IsFirst text count answer → IsFirst text other_count other → (count ≡ other_count) × (answer ≡ other)
 
 -- no reply is a proper front of another
 abbrev pub NoReplyBeginsAnother : Type 0
 NoReplyBeginsAnother = (raw : List ℕ) (b : ℕ) (more : List ℕ) → IsWhole raw → IsWhole (raw ++ b ∷ more) → ⊥
 
--- a reply is told first, at its own end, whatever follows it
-abbrev pub RepliesAreToldFirst : Type 0
-RepliesAreToldFirst = (raw later : List ℕ) (value : Reply)
+-- a reply comes first, at its own end, whatever follows it
+abbrev pub RepliesComeFirst : Type 0
+RepliesComeFirst = (raw later : List ℕ) (value : Reply)
     → IsReply raw value → IsFirst (raw ++ later) (length raw) (Ok value)
 
 -- What is written as a reply, of an id and a text that may be written, is one reply of that status, id and text.
@@ -122,19 +122,19 @@ WrittenRepliesAreReplies = (ok : Bool) (id : Option ℕ) (text : List ℕ) (valu
     → IfSome id (λ n. n ≤ most_int) → IsReplyText text → value.ok ≡ ok → value.id ≡ id → value.text.items ≡ text
     → IsReply (written_reply ok id text) value
 
--- a reply that is cut short tells nothing: neither a reply nor a fault
-abbrev pub FrontsTellNothing : Type 0
-FrontsTellNothing = (raw : List ℕ) (value : Reply) (k : ℕ)
+-- no front of a reply that is cut short is a reply or a fault
+abbrev pub FrontsAreNoAnswers : Type 0
+FrontsAreNoAnswers = (raw : List ℕ) (value : Reply) (k : ℕ)
     → IsReply raw value → k < length raw → TellsNothing (take k raw)
 
--- what a text tells first every longer text that it begins tells first, at the same byte
-abbrev pub ToldStaysTold : Type 0
-ToldStaysTold = (text later : List ℕ) (count : ℕ) (answer : Result Reply ReplyFault)
+-- what comes first in a text comes first in every longer text that it begins, at the same byte
+abbrev pub FirstStaysFirst : Type 0
+FirstStaysFirst = (text later : List ℕ) (count : ℕ) (answer : Result Reply ReplyFault)
     → IsFirst text count answer → IsFirst (text ++ later) count answer
 
--- What is written as a reply is told first, at its own end, whatever follows it.
-abbrev pub WrittenRepliesAreToldFirst : Type 0
-WrittenRepliesAreToldFirst = (ok : Bool) (id : Option ℕ) (text later : List ℕ) (value : Reply)
+-- What is written as a reply comes first, at its own end, whatever follows it.
+abbrev pub WrittenRepliesComeFirst : Type 0
+WrittenRepliesComeFirst = (ok : Bool) (id : Option ℕ) (text later : List ℕ) (value : Reply)
     → IfSome id (λ n. n ≤ most_int) → IsReplyText text → value.ok ≡ ok → value.id ≡ id → value.text.items ≡ text
     → IsFirst (written_reply ok id text ++ later) (length (written_reply ok id text)) (Ok value)
 
@@ -144,8 +144,8 @@ RepliesAreShort = (ok : Bool) (id : Option ℕ) (text : List ℕ)
     → IfSome id (λ n. n ≤ most_int) → length text ≤ most_text_bytes
     → length (written_reply ok id text) ≤ most_written_bytes
 
--- Pieces are read one after the other, each behind what the one before it left, up to and with the first of them that
--- tells something. The number counts the bytes of them that are used, in all; behind it stands what is told, if
+-- Pieces are read one after the other, each after what the one before it left, up to and with the first of them that
+-- gives an answer. The number counts the bytes of them that are used, in all; after it comes the answer, if
 -- anything, and what is held then.
 pub data AreRead : List ℕ → List (List ℕ) → ℕ → Option (Result Reply ReplyFault) → List ℕ → Type 0 where
   all_read : {old : List ℕ} → AreRead old [] 0 None old
@@ -157,9 +157,9 @@ pub data AreRead : List ℕ → List (List ℕ) → ℕ → Option (Result Reply
       → ReadsFirst old piece used (Some answer) new
       → AreRead old (piece ∷ pieces) used (Some answer) new
 
--- In whatever pieces a text is read, the same is told first, as many bytes are used, and the same is left as if it
+-- In whatever pieces a text is read, the same comes first, as many bytes are used, and the same is left as if it
 -- were read whole.
-abbrev pub AnyPiecesTellAlike : Type 0
-AnyPiecesTellAlike = (old : List ℕ) (pieces : List (List ℕ)) (used : ℕ) (got : Option (Result Reply ReplyFault))
+abbrev pub AnyPiecesAnswerAlike : Type 0
+AnyPiecesAnswerAlike = (old : List ℕ) (pieces : List (List ℕ)) (used : ℕ) (got : Option (Result Reply ReplyFault))
     (new : List ℕ)
     → TellsNothing old → AreRead old pieces used got new → ReadsFirst old (concat pieces) used got new

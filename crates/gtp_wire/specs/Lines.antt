@@ -38,7 +38,7 @@ line_of bytes = line_of_words (words (map space_for_tab (before_hash bytes)))
 unfoldable pub lines : List ℕ → List Line
 lines text = filter_map line_of (but_last (slice_split is_newline (filter is_kept text)))
 
--- The text ends with the newline that ends a first line: no whole line stands in what was held and the text before it.
+-- The text ends with the newline that ends a first line: no whole line is in what was held and the text before it.
 pub record EndsLine (held text : List ℕ) : Type 0 where
   pub front : List ℕ
   pub newline : text ≡ front ++ newline ∷ []

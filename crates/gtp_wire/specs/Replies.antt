@@ -58,7 +58,7 @@ reply_of status body =
     record { ok = status == equals_sign; id = id; text = record { items = trim text } }
 
 -- The raw bytes are one reply: at most 8,192, the last of them a newline; and prepared, they are spaces and newlines, a
--- status, a body, and two newlines, the first in a row behind the status.
+-- status, a body, and two newlines, the first in a row after the status.
 pub record IsWhole (raw : List ℕ) : Type 0 where
   pub fits : length raw ≤ most_reply_bytes
   pub front : List ℕ
@@ -67,7 +67,7 @@ pub record IsWhole (raw : List ℕ) : Type 0 where
   pub body : List ℕ
   pub shape : past_blanks raw ≡ status ∷ (body ++ newline ∷ newline ∷ [])
   pub known : is_status status ≡ true
-  -- in the body and the first newline behind it no two newlines come in a row
+  -- in the body and the first newline after it no two newlines come in a row
   pub first_end : has_two_newlines (body ++ newline ∷ []) ≡ false
 
 -- the raw bytes are one reply, of this value
@@ -83,32 +83,32 @@ pub record IsNoStatus (raw : List ℕ) : Type 0 where
   pub shape : past_blanks raw ≡ byte ∷ more
   pub other : is_status byte ≡ false
 
--- What the raw bytes tell, where no front of them tells anything: a reply; that they begin none; or, with byte 8,193,
+-- The answer that the raw bytes are, where no front of them is one: a reply; that they begin none; or, with byte 8,193,
 -- whatever it is, that they are too many (own).
 abbrev pub Tells : List ℕ → Result Reply ReplyFault → Type 0
 Tells raw (Ok value) = IsReply raw value
 Tells raw (Err NoStatus) = IsNoStatus raw
 Tells raw (Err Overlong) = length raw ≡ most_reply_bytes + 1
 
--- no front of the text tells anything, nor the whole text
+-- neither the text nor a front of it is a reply or a fault
 abbrev pub TellsNothing : List ℕ → Type 0
 TellsNothing text = (n : ℕ) (answer : Result Reply ReplyFault) → n ≤ length text → Tells (take n text) answer → ⊥
 
--- The first thing that the text tells, and how many bytes of it tell it: a reply, and its length; or a fault, and the
+-- What comes first in the text, and how many bytes of it give it: a reply, and its length; or a fault, and the
 -- bytes up to and with the one that shows it.
 pub record IsFirst (text : List ℕ) (count : ℕ) (answer : Result Reply ReplyFault) : Type 0 where
   pub inside : count ≤ length text
   pub told : Tells (take count text) answer
   pub before : (n : ℕ) (other : Result Reply ReplyFault) → n < count → Tells (take n text) other → ⊥
 
--- What stays of the text when this was told: a reply is taken off, and the rest begins anew; else all of it stays.
+-- What stays of the text after this answer: a reply is taken off, and the rest begins anew; else all of it stays.
 abbrev pub rest_after : Option (Result Reply ReplyFault) → List ℕ → List ℕ
 rest_after None text = text
 rest_after (Some (Ok value)) text = []
 rest_after (Some (Err fault)) text = text
 
--- What reading a piece behind what is held gives. What is told is the first thing that both together tell, at the last
--- byte of what was held and what is used; where nothing is told, they tell nothing yet, and all of the piece is used.
+-- What reading a piece after what is held gives: the answer that comes first in both together, at the last byte of what
+-- was held and what is used. Where there is none, neither reply nor fault has come yet, and all of the piece is used.
 pub record ReadsFirst (old input : List ℕ) (used : ℕ) (got : Option (Result Reply ReplyFault)) (new : List ℕ)
     : Type 0 where
   pub first : IfSome got (λ answer. IsFirst (old ++ input) (length old + used) answer)
@@ -118,7 +118,7 @@ pub record ReadsFirst (old input : List ℕ) (used : ℕ) (got : Option (Result 
   -- a reply is taken off, and all else is kept as it came
   pub rest : new ≡ rest_after got (old ++ take used input)
 
--- what was told, with the reply where it is one
+-- the answer, with the reply where it is one
 abbrev pub with_reply : Reply → Result (Unit {0}) ReplyFault → Result Reply ReplyFault
 with_reply reply (Ok done) = Ok reply
 with_reply reply (Err fault) = Err fault
@@ -142,7 +142,7 @@ written_reply ok id text =
 abbrev pub is_shown : ℕ → Bool
 is_shown b = is_newline b || (nat_le space b && nat_le b tilde)
 
--- whether a space or a newline stands in front
+-- whether a space or a newline is in front
 abbrev pub begins_blank : List ℕ → Bool
 begins_blank [] = false
 begins_blank (b ∷ bs) = is_blank b

@@ -71,7 +71,7 @@ impl CommandLine {
         self.id
     }
 
-    /// The word of this number, counted from 0 behind the id: word 0 is the command's name.
+    /// The word of this number, counted from 0 after the id: word 0 is the command's name.
     ///
     /// A line with an id alone has no word 0.
     pub fn word(&self, number: usize) -> Option<&[u8]>

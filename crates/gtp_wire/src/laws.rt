@@ -4,10 +4,10 @@
 ghost use Rattle.gtp_wire.specs.Laws.{LinesGoOn, OnlyNewlinesEndLines, NewlinesBeginAnew, TextsAreRead};
 ghost use Rattle.gtp_wire.specs.Laws.{FindsAgree, FindsJoin, AnyPiecesReadAlike, WrittenLinesAreRead};
 ghost use Rattle.gtp_wire.specs.Laws.{WrittenCommandsAreLines, CommandFrontsAreOpen, CommandsAreShort};
-ghost use Rattle.gtp_wire.specs.Laws.{RepliesHaveOneValue, OneThingIsToldFirst, NoReplyBeginsAnother};
-ghost use Rattle.gtp_wire.specs.Laws.{RepliesAreToldFirst, WrittenRepliesAreReplies, FrontsTellNothing};
-ghost use Rattle.gtp_wire.specs.Laws.{ToldStaysTold, WrittenRepliesAreToldFirst, RepliesAreShort};
-ghost use Rattle.gtp_wire.specs.Laws.{AnyPiecesTellAlike};
+ghost use Rattle.gtp_wire.specs.Laws.{RepliesHaveOneValue, OneAnswerComesFirst, NoReplyBeginsAnother};
+ghost use Rattle.gtp_wire.specs.Laws.{RepliesComeFirst, WrittenRepliesAreReplies, FrontsAreNoAnswers};
+ghost use Rattle.gtp_wire.specs.Laws.{FirstStaysFirst, WrittenRepliesComeFirst, RepliesAreShort};
+ghost use Rattle.gtp_wire.specs.Laws.{AnyPiecesAnswerAlike};
 ghost use Rattle.gtp_wire.specs.AnyText.{LinesAreTheOnlyReading, BytesChangeNothing, FaultsHavePlaces, FaultsStay};
 ghost use Rattle.gtp_wire.specs.AnyText.{RepliesLeaveNothing, AnswersHaveShapes, RepliesSay, RepliesAreTheOnlyReading};
 ghost use Rattle.gtp_wire.specs.AnyText.{CommandsHaveNoByteToSpare, RepliesHaveNoByteToSpare, LimitsAreThese};
@@ -18,11 +18,13 @@ pub fn lines_go_on()
 {}
 
 /// Only a newline ends a line: bytes without one add no line.
+#[tactic(auto, using(crate::proofs::ReadingLemmas::lines_without_newline))]
 pub fn only_newlines_end_lines()
     ensures { OnlyNewlinesEndLines }
 {}
 
-/// What stands behind a newline is read by itself.
+/// What follows a newline is read by itself.
+#[tactic(auto, using(crate::proofs::ReadingLemmas::lines_anew))]
 pub fn newlines_begin_anew()
     ensures { NewlinesBeginAnew }
 {}
@@ -48,11 +50,13 @@ pub fn any_pieces_read_alike()
 {}
 
 /// Words that are written with single spaces and a newline are one line, of that id and those words.
+#[tactic(auto, using(crate::proofs::WrittenLines::written_words_are_read))]
 pub fn written_lines_are_read()
     ensures { WrittenLinesAreRead }
 {}
 
-/// A command that is written is, with anything behind it, one line of its id and words, and then the lines of the rest.
+/// A command that is written is, with anything after it, one line of its id and words, and then the lines of the rest.
+#[tactic(auto, using(crate::proofs::CommandWords::commands_are_lines))]
 pub fn written_commands_are_lines()
     ensures { WrittenCommandsAreLines }
 {}
@@ -63,6 +67,7 @@ pub fn command_fronts_are_open()
 {}
 
 /// A command that is written has at most 64 bytes.
+#[tactic(auto, using(crate::proofs::CommandWords::command_short))]
 pub fn commands_are_short()
     ensures { CommandsAreShort }
 {}
@@ -72,9 +77,10 @@ pub fn replies_have_one_value()
     ensures { RepliesHaveOneValue }
 {}
 
-/// A text tells one thing first, at one byte.
-pub fn one_thing_is_told_first()
-    ensures { OneThingIsToldFirst }
+/// In a text one reply or fault comes first, at one byte.
+#[tactic(auto, using(crate::proofs::ReplyLaws::one_first))]
+pub fn one_answer_comes_first()
+    ensures { OneAnswerComesFirst }
 {}
 
 /// No reply is a proper front of another.
@@ -82,9 +88,9 @@ pub fn no_reply_begins_another()
     ensures { NoReplyBeginsAnother }
 {}
 
-/// A reply is told first, at its own end, whatever follows it.
-pub fn replies_are_told_first()
-    ensures { RepliesAreToldFirst }
+/// A reply comes first, at its own end, whatever follows it.
+pub fn replies_come_first()
+    ensures { RepliesComeFirst }
 {}
 
 /// What is written as a reply is one reply, of that status, id and text.
@@ -92,19 +98,20 @@ pub fn written_replies_are_replies()
     ensures { WrittenRepliesAreReplies }
 {}
 
-/// A reply that is cut short tells nothing.
-pub fn fronts_tell_nothing()
-    ensures { FrontsTellNothing }
+/// A reply that is cut short is neither a reply nor a fault, and nor is any front of it.
+pub fn fronts_are_no_answers()
+    ensures { FrontsAreNoAnswers }
 {}
 
-/// What a text tells first, every text that it begins tells first, at the same byte.
-pub fn told_stays_told()
-    ensures { ToldStaysTold }
+/// What comes first in a text comes first in every longer text that it begins, at the same byte.
+#[tactic(auto, using(crate::proofs::ReplyReadingLemmas::first_more))]
+pub fn first_stays_first()
+    ensures { FirstStaysFirst }
 {}
 
-/// What is written as a reply is told first, at its own end, whatever follows it.
-pub fn written_replies_are_told_first()
-    ensures { WrittenRepliesAreToldFirst }
+/// What is written as a reply comes first, at its own end, whatever follows it.
+pub fn written_replies_come_first()
+    ensures { WrittenRepliesComeFirst }
 {}
 
 /// A reply that is written has at most 2,048 bytes.
@@ -112,28 +119,32 @@ pub fn replies_are_short()
     ensures { RepliesAreShort }
 {}
 
-/// In whatever pieces a text is read, the same thing is told first.
-pub fn any_pieces_tell_alike()
-    ensures { AnyPiecesTellAlike }
+/// In whatever pieces a text is read, the same reply or fault comes first.
+pub fn any_pieces_answer_alike()
+    ensures { AnyPiecesAnswerAlike }
 {}
 
 /// Control characters and comments are nothing, HT is a space, spaces only separate, newlines end lines, and words are
 /// a line of an id and words or one that is too long. The lines of a text are the only reading that does all of this.
+#[tactic(auto, using(crate::proofs::OnlyReading::only_reading))]
 pub fn lines_are_the_only_reading()
     ensures { LinesAreTheOnlyReading }
 {}
 
 /// A control character, HT for a space, or a blank in front changes nothing of a reply but the count of its bytes.
+#[tactic(auto, using(crate::proofs::ReplyBytes::bytes_change_nothing))]
 pub fn bytes_change_nothing()
     ensures { BytesChangeNothing }
 {}
 
-/// `NoStatus` is told at the first byte that begins no reply, and `Overlong` at byte 8,193.
+/// `NoStatus` comes at the first byte that begins no reply, and `Overlong` at byte 8,193.
+#[tactic(auto, using(crate::proofs::ReplyFaults::faults_have_places))]
 pub fn faults_have_places()
     ensures { FaultsHavePlaces }
 {}
 
-/// A reply that `=` or `?` began is told at two newlines, and `NoStatus` at the first byte that begins none.
+/// A reply that `=` or `?` began ends at two newlines, and `NoStatus` comes at the first byte that begins none.
+#[tactic(auto, using(crate::proofs::AnswerShapes::answers_have_shapes))]
 pub fn answers_have_shapes()
     ensures { AnswersHaveShapes }
 {}
@@ -143,13 +154,14 @@ pub fn replies_say()
     ensures { RepliesSay }
 {}
 
-/// What a text tells first is as the laws of shapes, of faults and of what replies say have it. Every function of texts
-/// that tells as they have it tells just that.
+/// What comes first in a text is as the laws of shapes, of faults and of what replies say have it. Every function of
+/// texts that returns an answer as they have it returns just that.
+#[tactic(auto, using(crate::proofs::OnlyReplies::replies_are_the_only_reading))]
 pub fn replies_are_the_only_reading()
     ensures { RepliesAreTheOnlyReading }
 {}
 
-/// A fault stays: no byte is used after it, and the same is told again.
+/// A fault stays: no byte is used after it, and the same fault is returned again.
 pub fn faults_stay()
     ensures { FaultsStay }
 {}
@@ -159,18 +171,21 @@ pub fn replies_leave_nothing()
     ensures { RepliesLeaveNothing }
 {}
 
-/// A command's line has no byte to spare: its words, one byte behind each, and an id's digits and a space in front.
+/// A command's line has no byte to spare: its words, one byte after each, and an id's digits and a space in front.
+#[tactic(auto, using(crate::proofs::WrittenBytes::commands_to_spare))]
 pub fn commands_have_no_byte_to_spare()
     ensures { CommandsHaveNoByteToSpare }
 {}
 
 /// A reply that is written has no byte to spare: the status, the id's digits, a space and the text, two newlines.
+#[tactic(auto, using(crate::proofs::WrittenBytes::replies_to_spare))]
 pub fn replies_have_no_byte_to_spare()
     ensures { RepliesHaveNoByteToSpare }
 {}
 
 /// What may be the text of a reply: at most 2,000 bytes, each a newline or 32 to 126, in lines without an empty one. A
 /// reply then has at most 2,048 bytes, and a command's line at most 64.
+#[tactic(auto, using(crate::proofs::WrittenBytes::limits_are_these))]
 pub fn limits_are_these()
     ensures { LimitsAreThese }
 {}

@@ -43,14 +43,14 @@ pub struct LineFed {
 
 /// What a line reader did with a piece of its input, where it put the line elsewhere.
 #[derive(Clone, Copy, Debug, PartialEq, Eq, Drop)]
-pub struct LineFedInto {
+pub struct LineRead {
     /// How many bytes of the piece it used.
     pub used: usize,
     /// Whether the last of these bytes ended a line.
     pub found: bool,
 }
 
-/// Where a line stands: in or behind a word (or before all words), behind a space that ended a word, or in a comment.
+/// How far a line is: in or after a word (or before all words), after a space that ended a word, or in a comment.
 #[derive(Clone, Copy, Debug, PartialEq, Eq)]
 enum Stage {
     Word,
@@ -130,13 +130,13 @@ impl LineReader {
 
     /// Takes the next piece up to and with the newline that ends the first line that has a word, or all of it.
     ///
-    /// Lines without a word (blank lines and comments) are passed over. A line that is too long is told at its newline.
+    /// Lines without a word (blank lines and comments) are passed over. A line that is too long is reported at its newline.
     /// A line takes some 1 kB: `feed_into` puts it in place.
     pub fn feed(&mut self, input: &[u8]) -> LineFed
         ensures { ReadsLine self.old input.now result.used result.line self.new }
     {
         let mut line = Line::TooLong;
-        let LineFedInto { used, found } = self.feed_into(input, &mut line);
+        let LineRead { used, found } = self.feed_into(input, &mut line);
         LineFed {
             used,
             line: if found { Some(line) } else { None },
@@ -144,13 +144,13 @@ impl LineReader {
     }
 
     /// Takes the next piece as `feed` does, and puts a line that it ends in place of the one handed in.
-    pub fn feed_into(&mut self, input: &[u8], line: &mut Line) -> LineFedInto
+    pub fn feed_into(&mut self, input: &[u8], line: &mut Line) -> LineRead
         ensures reads { ReadsLine self.old input.now result.used
             (line_if result.found line.new) self.new }
         // Where none is found, the line stays as it was.
         ensures unchanged { result.found ≡ false → line.new ≡ line.old }
     {
-        // For the proof alone (decision 79): looked at, it tells by the invariant what holds of every reader.
+        // A look: what the invariant says holds of every reader.
         let _ = &self.held;
         for (i, byte) in input.iter().enumerate() {
             if *byte != b'\n' {
@@ -158,13 +158,13 @@ impl LineReader {
                 continue;
             }
             if self.end_line(line) {
-                return LineFedInto {
+                return LineRead {
                     used: i + 1,
                     found: true,
                 };
             }
         }
-        LineFedInto {
+        LineRead {
             used: input.len(),
             found: false,
         }
@@ -188,7 +188,7 @@ impl LineReader {
         requires { IsKind byte Kind.Removed }
         ensures { Finds self.now (byte ∷ []) [] self.now }
     {
-        // For the proof alone (decision 79): looked at, it tells by the invariant what holds of every reader.
+        // A look: what the invariant says holds of every reader.
         let _ = &self.held;
     }
 
@@ -213,12 +213,12 @@ impl LineReader {
     fn take_hash(&mut self)
         ensures { Finds self.old (hash ∷ []) [] self.new }
     {
-        // For the proof alone (decision 79): looked at, it tells by the invariant what holds of every reader.
+        // A look: what the invariant says holds of every reader.
         let _ = &self.held;
         self.stage = Stage::Comment;
     }
 
-    /// Any other byte belongs to a word, unless it stands in a comment or the line is too long already.
+    /// Any other byte belongs to a word, unless it is in a comment or the line is too long already.
     fn take_word_byte(&mut self, byte: u8)
         requires { IsKind byte Kind.Other }
         ensures { Finds self.old (byte ∷ []) [] self.new }

@@ -11,7 +11,7 @@ use Rattle.gtp_wire.specs.declared.lines.Kind.TheVariants.{Space, Removed, Hash,
 use Rattle.gtp_wire.specs.Bytes.{is_kept, is_space}
 use Rattle.gtp_wire.specs.Words.{most_line_bytes}
 
--- what stands after the words so far: nothing, a space, or the `#` that begins a comment
+-- what is after the words so far: nothing, a space, or the `#` that begins a comment
 abbrev pub ending : Stage → List ℕ
 ending Word = []
 ending Gap = space ∷ []

@@ -1,14 +1,14 @@
 use Rattle.std.proofs.Common.{◌+◌, ◌<◌, ◌≤◌, length, ap, arith}
 use Rattle.gtp_wire.specs.Replies.{most_reply_bytes}
 use Rattle.gtp_wire.specs.declared.reply_reader.Step.TheVariants.{To, End, Fault}
-use Rattle.gtp_wire.proofs.ReplyReadingLemmas.{without_fault, quiet_at, reading_fits, leads_nowhere, next_reaches}
+use Rattle.gtp_wire.proofs.ReplyReadingLemmas.{without_fault, quiet_at, leads_nowhere, next_reaches}
 use Rattle.gtp_wire.proofs.ReplyReadingLemmas.{next_overlong}
 use Rattle.gtp_wire.proofs.reply_reader.ReplyReader.scan.Goals as goal
 
 pub overflow_sub-room : goal.overflow_sub-room
 overflow_sub-room c =
     let here = without_fault _ _ _ c.self.invariant (quiet_at _ _ c.self.view_is c.requires) in
-    omega (arith, reading_fits _ _ here.1, c.len-room.ensures.value)
+    omega (arith, here.1.fits, c.len-room.ensures.value)
 
 pub loop-i-init : goal.loop-i-init
 loop-i-init c =

@@ -1,5 +1,5 @@
 use Rattle.gtp_wire.proofs.ReplyLaws.{reply_is_first}
-use Rattle.gtp_wire.proofs.laws.replies_are_told_first.Goals as goal
+use Rattle.gtp_wire.proofs.laws.replies_come_first.Goals as goal
 
 pub returns : goal.returns
 returns c raw later value reply = reply_is_first raw later value reply

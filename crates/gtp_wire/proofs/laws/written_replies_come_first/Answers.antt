@@ -1,5 +1,5 @@
 use Rattle.gtp_wire.proofs.WrittenReplies.{written_is_first}
-use Rattle.gtp_wire.proofs.laws.written_replies_are_told_first.Goals as goal
+use Rattle.gtp_wire.proofs.laws.written_replies_come_first.Goals as goal
 
 pub returns : goal.returns
 returns c ok id text later value fits_id fits_text is_ok is_id is_text =

@@ -2,7 +2,7 @@ use Rattle.std.proofs.Common.{◌≡◌, ◌∙◌, ℕ, List, length, subst, ar
 use Rattle.std.proofs.lemmas.Bool.Decides.{nat_tests}
 use Rattle.std.proofs.lemmas.List.{nil_from_length}
 use Rattle.gtp_wire.specs.Replies.{IsReply}
-use Rattle.gtp_wire.proofs.reply_reader.read_behind.Goals as goal
+use Rattle.gtp_wire.proofs.reply_reader.read_after_held.Goals as goal
 
 pub push-requires : goal.push-requires
 push-requires c = (lit< tt, omega (arith, c.requires.fits, length-append c.args.held.now.items c.args.piece.now))

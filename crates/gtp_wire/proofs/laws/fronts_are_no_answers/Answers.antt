@@ -1,5 +1,5 @@
 use Rattle.gtp_wire.proofs.ReplyLaws.{front_tells_nothing}
-use Rattle.gtp_wire.proofs.laws.fronts_tell_nothing.Goals as goal
+use Rattle.gtp_wire.proofs.laws.fronts_are_no_answers.Goals as goal
 
 pub returns : goal.returns
 returns c raw value k reply less = front_tells_nothing raw value k reply less
