@@ -19,6 +19,7 @@ use Rattle.go_board.proofs.boards.FirstBoard.{start-none}
 use Rattle.go_board.proofs.ids.Paths.{IsStone-point}
 use Rattle.go_board.proofs.captures.FreeStones.{empty-no_stone, empty-on}
 use Rattle.std.proofs.lemmas.Bool.{cases_eq}
+use Rattle.go_board.proofs.General.{all-where}
 
 -- a stone was there or is one of the points
 stones-from : (P : ℕ → Type 0) (board : List Cell) (points : List ℕ) (q : ℕ) → AllByRecursion P points
@@ -292,13 +293,8 @@ pub points-on : (size stones : ℕ) → IsSize size → AllowsHandicap size ston
 points-on size stones is_size allowed =
     let bounds = handicap_bounds size stones allowed in
     let s = spaced size stones is_size allowed in
-    all-on (handicap_points size stones)
+    all-where (IsOnLine size stones (low_line size) (middle_line size) (high_line size)) (IsOn size) (λ p on. on.on)
+    (handicap_points size stones)
     (all_points size (IsOnLine size stones (low_line size) (middle_line size) (high_line size)) stones bounds.least
     bounds.most
     (crossings size stones (low_line size) (middle_line size) (high_line size) s))
-  where
-    all-on : (ps : List ℕ) → AllByRecursion
-        (IsOnLine size stones (low_line size) (middle_line size) (high_line size)) ps
-        → AllByRecursion (λ p. IsOn size p) ps
-    all-on [] all = tt
-    all-on (p ∷ ps) all = let first = all.0 in (first.on, all-on ps all.1)

@@ -101,7 +101,7 @@ AreMarked-none marks order none empty = record {
 
 -- ---- taking all places out
 
--- the places before `index` were unmarked, and each one that is still marked stands there or later
+-- the places before `index` were unmarked, and each one that is still marked is there or later
 pub record IsClearing (had : List ℕ) (index : ℕ) (order : List ℕ) (marks : List Bool) : Type 0 where
   pub same : order ≡ had
   pub long : length marks ≡ 702
@@ -115,7 +115,7 @@ IsClearing-start f had a long is = record {
   later = λ p m. let listed : Contains had p = rw is at (a.listed p m) in (listed.0, omega arith, listed.1, listed.2);
 }
 
--- what stands at the next index is a place
+-- what is at the next index is a place
 pub IsClearing-below : (f : Inside) (index place : ℕ) (order : List ℕ) → AreMarked f → order ≡ f.order.items
     → index < length f.order.items → place ≡ get_or order index 0 → place < 702
 IsClearing-below f index place order a same h is =

@@ -11,6 +11,7 @@ from_board-chains-requires c =
 
 pub invariant_of-result : goal.invariant_of-result
 invariant_of-result c =
-    IsKept-start c.args.size c.args.komi c.args.rule c.args.stones c.from_board-chains.result c.new-stack.result c.new.result
+    IsKept-start c.args.size c.args.komi c.args.rule c.args.stones c.from_board-chains.result c.new-stack.result
+    c.new.result
     c.start.ensures.limits c.half_points.ensures.limits c.requires
     (c.from_board-chains.ensures ∙ c.start.ensures.board) c.new-stack.ensures c.new.ensures
