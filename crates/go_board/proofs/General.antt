@@ -25,3 +25,9 @@ all-first P (x ∷ xs) ys all = (all.0, all-first P xs ys all.1)
 pub all-second : {A : Type 0} (P : A → Type 0) (xs ys : List A) → AllByRecursion P (xs ++ ys) → AllByRecursion P ys
 all-second P [] ys all = all
 all-second P (x ∷ xs) ys all = all-second P xs ys all.1
+
+-- ---- what is decided
+
+pub by_dec : {A B : Type 0} → Dec A → (A → B) → (¬ A → B) → B
+by_dec (yes a) so otherwise = so a
+by_dec (no k) so otherwise = otherwise k

@@ -134,9 +134,17 @@ AreFree-lines size stones l m h points s all q stone =
             };
           }
     ]
-  where
-    small : AreSpaced size stones l m h → size ≤ 25
-    small s = s.small
+
+few_spaced : (size stones : ℕ) → 7 ≤ size → size ≤ 25 → stones ≤ 4
+    → AreSpaced size stones (low_line size) (middle_line size) (high_line size)
+few_spaced size stones large most few = record {
+  left = grind (arith, nat_tests);
+  apart = grind (arith, nat_tests);
+  right = grind (arith, nat_tests);
+  middle = λ many. absurd (omega arith);
+  middle_right = λ many. absurd (omega arith);
+  small = most;
+}
 
 spaced : (size stones : ℕ) → IsSize size → AllowsHandicap size stones
     → AreSpaced size stones (low_line size) (middle_line size) (high_line size)
@@ -153,29 +161,9 @@ spaced size stones is_size (inl a) =
       small = most;
     }
 spaced size stones is_size (inr (inl a)) =
-    let seven = a.0 in
-    let few = a.2 in
-    let most = is_size.most in
-    record {
-      left = grind (arith, nat_tests);
-      apart = grind (arith, nat_tests);
-      right = grind (arith, nat_tests);
-      middle = λ many. absurd (omega arith);
-      middle_right = λ many. absurd (omega arith);
-      small = most;
-    }
+    let seven = a.0 in few_spaced size stones (omega (arith, seven)) is_size.most a.2
 spaced size stones is_size (inr (inr a)) =
-    let large = a.1 in
-    let few = a.3 in
-    let most = is_size.most in
-    record {
-      left = grind (arith, nat_tests);
-      apart = grind (arith, nat_tests);
-      right = grind (arith, nat_tests);
-      middle = λ many. absurd (omega arith);
-      middle_right = λ many. absurd (omega arith);
-      small = most;
-    }
+    let large = a.1 in few_spaced size stones (omega (arith, large)) is_size.most a.3
 
 -- what each point of the table is
 record AreCrossings (size stones l m h : ℕ) (P : ℕ → Type 0) : Type 0 where

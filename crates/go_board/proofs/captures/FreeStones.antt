@@ -26,24 +26,21 @@ use Rattle.go_board.proofs.boards.Cells.{empty-point}
 use Rattle.go_board.proofs.captures.MakingPlays.{captured-joined}
 use Rattle.std.proofs.lemmas.Bool.{cases_eq, cases_lt}
 use Rattle.go_board.proofs.boards.Neighbours.{Neighbours-sym, not_itself}
+use Rattle.go_board.proofs.ko_rules.PlaysTakenBack.{by_play}
 
 -- a stone of the colour that plays stays
 pub own-kept : (board : List Cell) (c : Colour) (p q : ℕ) → q ≢ p → at board q ≡ stone c
     → at (play board c p) q ≡ at board q
-own-kept board c p q another held = by_case (after-play board c p q)
-  where
-    by_case : IsAfter board c p q → at (play board c p) q ≡ at board q
-    by_case (taken h e) =
-        absurd (stone-differs c (sym held ∙ sym (get_or-set_other board p q (stone c) Edge another) ∙ h.0))
-    by_case (left k e) = e ∙ get_or-set_other board p q (stone c) Edge another
+own-kept board c p q another held =
+    by_play board c p q
+    (λ h e. absurd (stone-differs c (sym held ∙ sym (get_or-set_other board p q (stone c) Edge another) ∙ h.0)))
+    (λ k e. e ∙ get_or-set_other board p q (stone c) Edge another)
 
 -- and none comes but the new one
 own-was : (board : List Cell) (c : Colour) (p q : ℕ) → q ≢ p → at (play board c p) q ≡ stone c → at board q ≡ stone c
-own-was board c p q another held = by_case (after-play board c p q)
-  where
-    by_case : IsAfter board c p q → at board q ≡ stone c
-    by_case (taken h e) = absurd (stone-filled c (sym held ∙ e))
-    by_case (left k e) = sym (get_or-set_other board p q (stone c) Edge another) ∙ sym e ∙ held
+own-was board c p q another held =
+    by_play board c p q (λ h e. absurd (stone-filled c (sym held ∙ e)))
+    (λ k e. sym (get_or-set_other board p q (stone c) Edge another) ∙ sym e ∙ held)
 
 -- a chain of the colour stays joined
 own-joined : (board : List Cell) (c : Colour) (p q r : ℕ) → at board p ≡ Empty → at board q ≡ stone c → Joined board q r

@@ -33,6 +33,7 @@ use Rattle.go_board.proofs.ids.JoiningChains.{rename_three-b, rename_three-third
 use Rattle.go_board.proofs.liberties.PseudoLiberties.{free-count, captured-other, captured-beside}
 use Rattle.go_board.proofs.captures.RemovingLoop.{places-more}
 use Rattle.go_board.proofs.boards.Neighbours.{IsOn-inside, all_beside}
+use Rattle.go_board.proofs.General.{by_dec}
 
 -- ---- stones without a liberty
 
@@ -154,11 +155,8 @@ dead-from board cells ids c p dead id x y z q a d held to = by_case (of_three id
 
     one : (k r : ℕ) → IsCapturedIdOr cells ids (other c) r id k → id_of ids q ≡ k
         → IsCaptured cells (other c) q
-    one k r l e = by_test (captured? cells (other c) r)
-      where
-        by_test : Dec (IsCaptured cells (other c) r) → IsCaptured cells (other c) q
-        by_test (yes h) = alike r h (e ∙ l.there h)
-        by_test (no h) = own (e ∙ l.absent h)
+    one k r l e =
+        by_dec (captured? cells (other c) r) (λ h. alike r h (e ∙ l.there h)) (λ h. own (e ∙ l.absent h))
 
     by_case : IsOfThree id x y z (id_of ids q) → IsCaptured cells (other c) q
     by_case (first e _) = one x (p - 1) d.left e
@@ -235,19 +233,15 @@ AreChainIds-left board cells ids new c p dead id x y z framed a d made =
     -- what is left wasn't captured
     stays : (q : ℕ) → IsStone (at (without_captured cells (other c)) q)
         → (¬ IsCaptured cells (other c) q) × (at (without_captured cells (other c)) q ≡ at cells q)
-    stays q s = by_test (captured? cells (other c) q)
-      where
-        by_test : Dec (IsCaptured cells (other c) q)
-            → (¬ IsCaptured cells (other c) q) × (at (without_captured cells (other c)) q ≡ at cells q)
-        by_test (yes h) =
-            absurd (stone-filled s.0
-            (sym s.1 ∙ at-without_captured cells (other c) q
-            ∙ ap (λ (b : Bool). cond b Empty (at cells q)) (holds-yes (captured? cells (other c) q) h)))
-        by_test (no k) = (
+    stays q s = by_dec (captured? cells (other c) q)
+        (λ h. absurd (stone-filled s.0
+        (sym s.1 ∙ at-without_captured cells (other c) q
+        ∙ ap (λ (b : Bool). cond b Empty (at cells q)) (holds-yes (captured? cells (other c) q) h))))
+        (λ k. (
           k,
           at-without_captured cells (other c) q
               ∙ ap (λ (b : Bool). cond b Empty (at cells q)) (holds-no (captured? cells (other c) q) k),
-        )
+        ))
 
     less : IsLess cells (without_captured cells (other c))
     less = record {

@@ -22,6 +22,7 @@ use Rattle.go_board.proofs.liberties.MergingIds.{rename-same, rename-other, AreP
 use Rattle.go_board.proofs.liberties.MergingIds.{pseudo_liberties-few}
 use Rattle.std.proofs.lemmas.Bool.{cases_eq}
 use Rattle.go_board.proofs.boards.Neighbours.{IsOn-inside, all_beside, left_of, under_of}
+use Rattle.go_board.proofs.General.{by_dec}
 
 -- ---- the counts
 
@@ -147,11 +148,9 @@ pub record AreOwn (board : List Cell) (ids : List ℕ) (c : Colour) (p id x y z 
 own-from : (board : List Cell) (ids : List ℕ) (c : Colour) (p q id other : ℕ) → Neighbours p q
     → IsIdOr board ids (stone c) q other id
     → (id ≡ other) ⊎ IsOwn board ids c p id
-own-from board ids c p q id other beside own = by_case (cell? (at board q) (stone c))
-  where
-    by_case : Dec (at board q ≡ stone c) → (id ≡ other) ⊎ IsOwn board ids c p id
-    by_case (yes h) = inr (record { place = q; neighbours = beside; holds = h; id_is = sym (own.there h) })
-    by_case (no k) = inl (own.absent k)
+own-from board ids c p q id other beside own = by_dec (cell? (at board q) (stone c))
+    (λ h. inr (record { place = q; neighbours = beside; holds = h; id_is = sym (own.there h) }))
+    (λ k. inl (own.absent k))
 
 -- the code's choice of ids
 pub AreOwn-code : (board : List Cell) (ids : List ℕ) (c : Colour) (s : Cell) (p under above left id x y z : ℕ)

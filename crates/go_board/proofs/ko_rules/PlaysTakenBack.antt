@@ -41,14 +41,20 @@ after-play board c p q = by_case (captured? cells (other c) q)
         ∙ ap (λ (b : Bool). cond b Empty (at (set board p (stone c)) q))
         (holds-no (captured? (set board p (stone c)) (other c) q) k))
 
+-- so what follows from each of the two holds
+pub by_play : {B : Type 0} (board : List Cell) (c : Colour) (p q : ℕ)
+    → (IsCaptured (set board p (stone c)) (other c) q → at (play board c p) q ≡ Empty → B)
+    → (¬ IsCaptured (set board p (stone c)) (other c) q → at (play board c p) q ≡ at (set board p (stone c)) q → B) → B
+by_play {B = B} board c p q gone kept = by_case (after-play board c p q)
+  where
+    by_case : IsAfter board c p q → B
+    by_case (taken h e) = gone h e
+    by_case (left k e) = kept k e
+
 -- nothing is left where a stone was taken
 pub taken-empty : (board : List Cell) (c : Colour) (p q : ℕ) → IsCaptured (set board p (stone c)) (other c) q
     → at (play board c p) q ≡ Empty
-taken-empty board c p q h = by_case (after-play board c p q)
-  where
-    by_case : IsAfter board c p q → at (play board c p) q ≡ Empty
-    by_case (taken k e) = e
-    by_case (left k e) = absurd (k h)
+taken-empty board c p q h = by_play board c p q (λ k e. e) (λ k e. absurd (k h))
 
 pub length-play : (board : List Cell) (c : Colour) (p : ℕ) → length (play board c p) ≡ length board
 unfolding play without_captured
@@ -71,21 +77,16 @@ other-twice colour.White colour.White e = cc
 -- what is empty but for the point of a play stays empty
 pub empty-after : (board : List Cell) (c : Colour) (p q : ℕ) → q ≢ p → at board q ≡ Empty
     → at (play board c p) q ≡ Empty
-empty-after board c p q another empty = by_case (after-play board c p q)
-  where
-    by_case : IsAfter board c p q → at (play board c p) q ≡ Empty
-    by_case (taken h e) = e
-    by_case (left k e) = e ∙ get_or-set_other board p q (stone c) Edge another ∙ empty
+empty-after board c p q another empty =
+    by_play board c p q (λ h e. e) (λ k e. e ∙ get_or-set_other board p q (stone c) Edge another ∙ empty)
 
 -- a stone that was there and is gone was taken
 taken-from_gone : (board : List Cell) (c : Colour) (p q : ℕ) → q ≢ p → at board q ≢ Empty
     → at (play board c p) q ≡ Empty
     → IsCaptured (set board p (stone c)) (other c) q
-taken-from_gone board c p q another held gone = by_case (after-play board c p q)
-  where
-    by_case : IsAfter board c p q → IsCaptured (set board p (stone c)) (other c) q
-    by_case (taken h e) = h
-    by_case (left k e) = absurd (held (sym (get_or-set_other board p q (stone c) Edge another) ∙ sym e ∙ gone))
+taken-from_gone board c p q another held gone =
+    by_play board c p q (λ h e. h)
+    (λ k e. absurd (held (sym (get_or-set_other board p q (stone c) Edge another) ∙ sym e ∙ gone)))
 
 -- a stone that is taken was there, and isn't the new one
 pub taken-other : (board : List Cell) (c : Colour) (p q : ℕ) → at board p ≡ Empty

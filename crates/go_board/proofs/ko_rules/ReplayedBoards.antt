@@ -356,17 +356,6 @@ room-for_board board c p stack long none =
 
 -- ---- laws of the ko rules
 
-pub stricter : (game : GameRecord) (c : Colour) (v : Vertex) → IsLegal (under Positional game) c v
-    → IsLegal (under Simple game) c v
-stricter game c Pass l = l
-stricter game c (At p) l = record {
-  on_board = l.on_board;
-  empty = l.empty;
-  free = l.free;
-  no_ko = λ r.
-      l.no_ko (record { number = length game.moves - 1; within = omega arith; same = r.same });
-}
-
 pub allowed-new : (game : GameRecord) (c : Colour) (v : Vertex) → IsLegal (under Simple game) c v
     → ((j : ℕ) → j ≤ length game.moves → board_of (with_move game c v) ≢ board_of (first_moves j game))
     → IsLegal (under Positional game) c v

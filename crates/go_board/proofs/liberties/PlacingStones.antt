@@ -64,32 +64,6 @@ IsRaised-stone board ids old new p id s is below made = record {
       ∙ ap (λ (n : ℕ). count_at old k + n) (sym (ids_at-stone board ids k p s));
 }
 
--- after four neighbours' ids have one less
-pub lowered-four : (board : List Cell) (ids c0 c1 c2 c3 c4 : List ℕ) (p : ℕ) → IsLowered board ids c0 c1 (p + 1)
-    → IsLowered board ids c1 c2 (p - 1)
-    → IsLowered board ids c2 c3 (p + 26) → IsLowered board ids c3 c4 (p - 26) → AreLowered board ids c0 c4 p
-lowered-four board ids c0 c1 c2 c3 c4 p a b c d = record {
-  length_is = d.length_is ∙ c.length_is ∙ b.length_is ∙ a.length_is;
-  each = λ k below. four _ _ _ _ _ _ _ _ _ (a.each k below) (b.each k below) (c.each k below) (d.each k below);
-}
-  where
-    four : (n0 n1 n2 n3 n4 x y z w : ℕ) → n1 ≡ n0 - x → n2 ≡ n1 - y → n3 ≡ n2 - z → n4 ≡ n3 - w
-        → n4 ≡ n0 - (x + y + z + w)
-    four n0 n1 n2 n3 n4 x y z w e f g h = omega (arith, e, f, g, h)
-
--- after they have one more
-pub raised-four : (board : List Cell) (ids c0 c1 c2 c3 c4 : List ℕ) (p : ℕ) → IsRaised board ids c0 c1 (p + 1)
-    → IsRaised board ids c1 c2 (p - 1)
-    → IsRaised board ids c2 c3 (p + 26) → IsRaised board ids c3 c4 (p - 26) → AreRaised board ids c0 c4 p
-raised-four board ids c0 c1 c2 c3 c4 p a b c d = record {
-  length_is = d.length_is ∙ c.length_is ∙ b.length_is ∙ a.length_is;
-  each = λ k below. four _ _ _ _ _ _ _ _ _ (a.each k below) (b.each k below) (c.each k below) (d.each k below);
-}
-  where
-    four : (n0 n1 n2 n3 n4 x y z w : ℕ) → n1 ≡ n0 + x → n2 ≡ n1 + y → n3 ≡ n2 + z → n4 ≡ n3 + w
-        → n4 ≡ n0 + (x + y + z + w)
-    four n0 n1 n2 n3 n4 x y z w e f g h = omega (arith, e, f, g, h)
-
 -- an id has a pseudo-liberty for each of its stones beside an empty point
 pub ids_beside-few : (board : List Cell) (ids : List ℕ) (k p : ℕ) → IsOn most_size p → at board p ≡ Empty
     → ids_beside board ids k p ≤ pseudo_liberties board ids k

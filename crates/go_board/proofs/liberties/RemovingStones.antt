@@ -106,6 +106,3 @@ ArePseudoLiberties-removed board cells ids c0 c1 c2 p id less on s a is own l le
     up : (n2 n1 n0 beside share after : ℕ) → n2 ≡ n1 + beside → {before : ℕ} → after + share ≡ before + beside
         → n0 ≡ before → n1 ≡ n0 - share → share ≤ before → n2 ≡ after
     up n2 n1 n0 beside share after more now was gone few = omega (arith, more, now, was, gone, few)
-
-pub IsBelow-more : (counts : List ℕ) (m n : ℕ) → m ≤ n → IsBelow m counts → IsBelow n counts
-IsBelow-more counts m n h few k below = let a = few k below in omega (arith, h, a)

@@ -71,12 +71,6 @@ length-start : (size stones : ℕ) → length (start size stones) ≡ 702
 unfolding start
 length-start size stones = length-with_black (empty_board size) (handicap_points size stones) ∙ length-empty_board size
 
-pub framed-start : (size stones : ℕ) → IsSize size → (stones ≡ 0) ⊎ AllowsHandicap size stones
-    → IsFramed (start size stones)
-framed-start size stones is allowed =
-    let most = is.most in
-    IsFramed-has_size size (start size stones) most (length-start size stones) (HasSize-start size stones is allowed)
-
 pub board-start : (game : GameRecord) → game.moves ≡ [] → board_of game ≡ start game.size game.handicap
 unfolding board
 board-start game none = ap (λ (ms : List Move). board game.size game.handicap ms) none

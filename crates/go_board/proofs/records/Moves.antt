@@ -204,11 +204,3 @@ legal-or_refused game c (At p) OffBoard l r = r l.on_board
 legal-or_refused game c (At p) Occupied l r = r.1 l.empty
 legal-or_refused game c (At p) Suicide l r = (r.1).1 l.free
 legal-or_refused game c (At p) Ko l r = l.no_ko ((r.1).1).1
-
--- a test whether a move is allowed, answered by why it is refused
-pub legal-from_test : (game : GameRecord) (c : Colour) (v : Vertex) (r : Result (Unit {0}) PlayFault) (allowed : Bool)
-    → allowed ≡ is_ok r
-    → MatchResult r (λ _. IsLegal game c v) (RefusesVertex game c v) → IsTrue allowed ↔ IsLegal game c v
-legal-from_test game c v (Ok u) allowed is test = ((λ _. test), (λ _. is))
-legal-from_test game c v (Err fault) allowed is test =
-    ((λ e. absurd (false≢true (sym is ∙ e))), (λ l. absurd (legal-or_refused game c v fault l test)))

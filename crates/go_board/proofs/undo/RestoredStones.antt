@@ -22,11 +22,6 @@ pub record IsRestoring (board : List Cell) (this : Cell) (number : ℕ) (old now
   pub counted : count ≡ length places
   pub few : (count ≡ 0) ⊎ (length now + count ≤ 2009)
 
-pub IsRestoring-none : (board : List Cell) (this : Cell) (number : ℕ) (old : List TakenStone)
-    → IsRestoring board this number old old board 0
-IsRestoring-none board this number old =
-    record { places = []; board_is = refl; stack_is = sym (append-nil old); counted = refl; few = inl refl }
-
 pub length-with_stones : (board : List Cell) (this : Cell) (ps : List ℕ)
     → length (with_stones board this ps) ≡ length board
 length-with_stones board this [] = refl
@@ -93,12 +88,6 @@ pub IsRestoring-done : (board : List Cell) (this : Cell) (number count : ℕ) (o
     → IsNotLast now number → IsRestored board this number old now cells count
 IsRestoring-done board this number count old now cells b last =
     record { places = b.places; board_is = b.board_is; stones_are = b.stack_is; counted = b.counted; all = last }
-
-pub shorter-now : (p number : ℕ) (now new : List TakenStone) → now ≡ new ++ record { place = p; number = number } ∷ []
-    → length new < length now
-shorter-now p number now new popped =
-    let shorter = ap length popped ∙ length_push new (record { place = p; number = number }) in
-    omega (arith, shorter)
 
 -- ---- what is restored
 

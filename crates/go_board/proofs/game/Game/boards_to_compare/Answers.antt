@@ -45,9 +45,3 @@ loop-few-preserved c =
           c.index-deref-number.result refl (omega (arith, within, some, enough, long)) c.index-deref-number.is))
           (omega (arith, enough, some)) c.loop-few.invariant.below c.boards_with_move-few.ensures;
     }
-
-pub returns-else-few-number : goal.returns-else-few-number
-returns-else-few-number c = c.loop-few.invariant.below
-
-pub returns-after-loop-few : goal.returns-after-loop-few
-returns-after-loop-few c = c.loop-few.invariant.below

@@ -40,9 +40,6 @@ make-stones-requires-clause-open c =
     (slice_get_read c.deref-made-items.result.now _ c.loop-number.number c.made-item.result
     refl c.loop-number-test.true c.made-item.is))
 
-pub make-stones-requires-clause-points : goal.make-stones-requires-clause-points
-make-stones-requires-clause-points c = c.loop-number.invariant.points
-
 pub loop-number-preserved : goal.loop-number-preserved
 loop-number-preserved c =
     let move =

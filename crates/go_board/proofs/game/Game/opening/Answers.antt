@@ -1,13 +1,7 @@
 use Rattle.std.proofs.Common.{◌∙◌, sym, subst}
 use Rattle.go_board.specs.private.Frame.{IsFramed}
 use Rattle.go_board.proofs.records.GameFields.{IsKept-start}
-use Rattle.go_board.proofs.records.EveryGame.{framed-start}
 use Rattle.go_board.proofs.game.Game.opening.Goals as goal
-
-pub from_board-chains-requires : goal.from_board-chains-requires
-from_board-chains-requires c =
-    subst IsFramed (sym c.start.ensures.board)
-    (framed-start c.args.size c.args.stones c.start.ensures.limits c.requires)
 
 pub invariant_of-result : goal.invariant_of-result
 invariant_of-result c =

@@ -6,12 +6,6 @@ use Rattle.go_board.specs.declared.board.Cell.{Cell}
 use Rattle.go_board.proofs.ids.SplittingChains.{AreChainIds-split}
 use Rattle.go_board.proofs.stones.Stones.split.Goals as goal
 
-pub returns-clause-board : goal.returns-clause-board
-returns-clause-board c =
-    c.set_fragment_id-4.ensures.board_is ∙ c.set_fragment_id-3.ensures.board_is ∙ c.set_fragment_id-2.ensures.board_is
-    ∙ c.set_fragment_id.ensures.board_is
-    ∙ ap (λ (s : BoardWithIds). s.board) c.join.ensures
-
 pub returns-clause-ids : goal.returns-clause-ids
 returns-clause-ids c =
     let now = c.args.self.now in
