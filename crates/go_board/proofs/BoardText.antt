@@ -121,7 +121,7 @@ letters_before-all size column text past =
 
 -- ---- the rows
 
--- the rows above a row, each with a newline behind it
+-- the rows above a row, each with a newline after it
 unfoldable pub rows_above : GameRecord → ℕ → List ℕ
 rows_above game row = flat_map (λ k. shown_row game k ++ 10 ∷ []) (reverse (range_with_len (row + 1) (game.size - row)))
 

@@ -71,13 +71,14 @@ board_of game = board game.size game.handicap game.moves
 
 -- ---- what is legal
 
--- The board would be as it was before the last move of the game, for which a pass is a move too. Before the first move
--- no board would.
+-- Simple ko: the board would be as it was before the last move of the game, for which a pass is a move too. Before the
+-- first move no board would.
 pub record RepeatsLast (game : GameRecord) (next : List Cell) : Type 0 where
   pub moved : 0 < length game.moves
   pub same : next ≡ board_of (without_last game)
 
--- The board would be as it was after some number of the game's first moves: none of them, some, or all.
+-- Positional superko: the board would be as it was after some number of the game's first moves, none of them, some, or
+-- all.
 pub record RepeatsAny (game : GameRecord) (next : List Cell) : Type 0 where
   pub number : ℕ
   pub within : number ≤ length game.moves

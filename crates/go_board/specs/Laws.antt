@@ -68,7 +68,7 @@ abbrev pub BoardsLeftAreJustThese : Type 0
 BoardsLeftAreJustThese = (game : GameRecord) (c : Colour) (v : Vertex) (board : List Cell) → IsLegal game c v
     → (board ≡ board_of (with_move game c v)) ↔ IsLeftBy (board_of game) c v board
 
--- a stone stands on a point of the board's size, and nowhere else
+-- a stone is on a point of the board's size, and nowhere else
 abbrev pub StonesAreOnTheBoard : Type 0
 StonesAreOnTheBoard = (game : GameRecord) (p : ℕ) (c : Colour) → IsGame game → stone_at (board_of game) p ≡ Some c
     → IsOn game.size p
@@ -97,7 +97,7 @@ NoBoardComesBack = (game : GameRecord) (j k p : ℕ) (c : Colour) → IsGame gam
     → slice_get game.moves k ≡ Some (record { colour = c; vertex = At p })
     → board_of (first_moves (k + 1) game) ≢ board_of (first_moves j game)
 
--- Under simple ko no play leaves the board that stood before the move in front of it.
+-- Under simple ko no play leaves the board before the previous move.
 abbrev pub NoBoardComesBackAtOnce : Type 0
 NoBoardComesBackAtOnce = (game : GameRecord) (k p : ℕ) (c : Colour) → IsGame game → game.rule ≡ Simple
     → slice_get game.moves (k + 1) ≡ Some (record { colour = c; vertex = At p })

@@ -26,7 +26,7 @@ RefusesPoint game c p Ko =
     IsOn game.size p × ((at (board_of game) p ≡ Empty)
     × (IsFree (play (board_of game) c p) p × Repeats game (play (board_of game) c p)))
 
--- the same of a vertex: a pass is never refused where the record has room
+-- why a move is refused where the record has room: a pass never is
 abbrev pub RefusesVertex : GameRecord → Colour → Vertex → PlayFault → Type 0
 RefusesVertex game c Pass fault = ⊥
 RefusesVertex game c (At p) fault = RefusesPoint game c p fault

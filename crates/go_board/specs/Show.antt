@@ -11,7 +11,7 @@ use Rattle.go_board.specs.Board.{stone_at}
 use Rattle.go_board.specs.Game.{GameRecord, board_of}
 use Rattle.go_board.specs.Taken.{taken}
 
--- a point by its stone, and the space behind it: `X` is Black's, `O` is White's, and `.` is none
+-- a point by its stone, and the space after it: `X` is Black's, `O` is White's, and `.` is none
 abbrev pub shown_point : Option Colour → List ℕ
 shown_point (Some Black) = codes "X "
 shown_point (Some White) = codes "O "

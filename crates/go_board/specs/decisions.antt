@@ -1,4 +1,4 @@
--- Decision procedures: each tells, of a definition of `specs/`, whether it holds.
+-- Decision procedures: each decides whether a definition of `specs/` holds.
 pub mod Board
 pub mod Chain
 pub mod Counting

@@ -154,7 +154,7 @@ impl Board {
         board
     }
 
-    /// Sets black stones on points of the board.
+    /// Places black stones on points of the board.
     fn place_black(&mut self, points: &[Point])
         requires { All (λ p. at self.old p ≢ Edge) points.now }
         ensures board { self.new ≡ with_black self.old points.now }
@@ -315,7 +315,7 @@ impl Board {
         }
     }
 
-    /// Puts the four neighbours of a point in, those that hold what is sought.
+    /// Inserts those of a point's four neighbours that hold what is sought.
     #[inline]
     fn spread_round(&self, sought: Cell, place: usize, found: &mut Places)
         requires low { ROW < place }
@@ -328,7 +328,7 @@ impl Board {
         self.spread(sought, place - ROW, found);
     }
 
-    /// Puts a place in, if it holds what is sought.
+    /// Inserts a place, if it holds what is sought.
     #[inline]
     fn spread(&self, sought: Cell, place: usize, found: &mut Places)
         requires { place < place_count }

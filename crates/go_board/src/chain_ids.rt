@@ -7,7 +7,7 @@ use crate::board::{Board, PLACES, ROW};
 use crate::places::Places;
 use std::marker::Model;
 
-/// A id for each place of a board. A id is a place too.
+/// An id for each place of a board. An id is a place too.
 #[derive(Clone, Copy)]
 pub struct ChainIds {
     ids: [u16; PLACES],
@@ -50,7 +50,7 @@ impl ChainIds {
         usize::from(self.ids[place])
     }
 
-    /// Gives a place a id.
+    /// Sets the id of a place.
     #[inline]
     pub fn set(&mut self, place: usize, id: usize)
         requires place { place < place_count }
@@ -61,14 +61,14 @@ impl ChainIds {
         self.ids[place] = id as u16;
     }
 
-    /// Gives places a id.
+    /// Sets the id of each of these places.
     pub fn set_all(&mut self, places: &Places, id: usize)
         requires { id < place_count }
         ensures given { AreGiven self.new places.now id }
         ensures others { AreOthersKept self.old self.new places.now }
         ensures long { length self.new ≡ place_count }
     {
-        // For the proof alone (decision 79): looked at, it tells by its invariant how many ids there are.
+        // A look: there are as many ids as places.
         let _ = &self.ids;
         for index in 0..places.len() {
             self.set(places.get(index), id);
@@ -91,7 +91,7 @@ impl ChainIds {
         ids
     }
 
-    /// Whether a place of a row has a id.
+    /// Whether a place of a row has an id.
     #[inline]
     pub fn has_in_row(&self, row: usize, id: usize) -> bool
         requires row { row < 27 }
@@ -123,7 +123,7 @@ impl ChainIds {
     }
 }
 
-/// What a id becomes where one id turns into another.
+/// What an id becomes where one id turns into another.
 #[inline]
 fn rename(to: u16, from: u16, id: u16) -> u16
     ensures { result ≡ rename to from id }

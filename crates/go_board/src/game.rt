@@ -92,7 +92,7 @@ impl Game {
         ensures { result
             ≡ record { size = size; komi = komi; rule = rule; handicap = stones; moves = [] } }
     {
-        // For the proof alone (decision 79): the contract of this call tells that komi is in its limits.
+        // A look: komi is in its limits.
         let _ = komi.half_points();
         let chains = Chains::from_board(Board::start(size, stones));
         let stack = TakenStack::new();
@@ -121,7 +121,7 @@ impl Game {
     pub fn set_komi(&mut self, komi: Komi)
         ensures { self.new ≡ record self.old { komi = komi } }
     {
-        // For the proof alone (decision 79): the contract of this call tells that komi is in its limits.
+        // A look: komi is in its limits.
         let _ = komi.half_points();
         self.komi = komi;
     }
@@ -133,7 +133,7 @@ impl Game {
         *self = Game::opening(self.size, self.komi, self.rule, 0);
     }
 
-    /// Puts `stones` of Black's handicap stones on the board, and returns their points in the order of the table.
+    /// Places `stones` of Black's handicap stones on the board, and returns their points in the order of the table.
     ///
     /// # Errors
     ///
@@ -144,7 +144,7 @@ impl Game {
         ensures placed { OnOk result (self.new ≡ record self.old { handicap = stones }) }
         ensures unchanged { OnErr result (self.new ≡ self.old) }
 
-        // Which cause comes first stands in `RefusesHandicap`.
+        // `RefusesHandicap` says which cause comes first.
         ensures answer { MatchResult result
             (λ _. (¬ IsTouched self.old) × AllowsHandicap self.old.size stones)
             (RefusesHandicap self.old stones) }
@@ -169,8 +169,8 @@ impl Game {
         self.test(colour, vertex).is_ok()
     }
 
-    /// Why a colour may not make a move next: the first cause that `play` would tell of it, a full record aside. `None`
-    /// where the move is legal, as a pass always is.
+    /// Why a colour may not make a move next: the first cause that `play` would return for it, a full record
+    /// aside. `None` where the move is legal, as a pass always is.
     pub fn refusal(&self, colour: Colour, vertex: Vertex) -> Option<PlayFault>
         ensures { MatchOption result
             (IsLegal self.now colour vertex)
@@ -193,7 +193,7 @@ impl Game {
         ensures played { OnOk result (self.new ≡ with_move self.old colour vertex) }
         ensures unchanged { OnErr result (self.new ≡ self.old) }
 
-        // Which cause comes first stands in `Refuses`.
+        // `Refuses` says which cause comes first.
         ensures answer { MatchResult result
             (λ _. IsLegal self.old colour vertex × HasRoom self.old)
             (Refuses self.old colour vertex) }
@@ -221,7 +221,7 @@ impl Game {
             (RefusesVertex self.now colour vertex) }
         ensures game { IsGame self.now }
     {
-        // For the proof alone (decision 79): looked at, it tells by its invariant that this is a game.
+        // A look: this is a game.
         let _ = &self.size;
         match vertex {
             Vertex::Pass => Ok(()),
@@ -262,7 +262,7 @@ impl Game {
         }
     }
 
-    /// Whether it would bring back any board of the record.
+    /// Whether a play on an empty point would bring back any board of the record.
     #[inline(never)]
     fn repeats_any(&self, colour: Colour, point: Point) -> bool
         requires { at (board_of self.now) point ≡ Empty }
@@ -448,8 +448,8 @@ impl Game {
     ///
     /// A point counts for the colour of its stone, and an empty one where the stones beside its region are of one
     /// colour alone, for that colour.
-    // For the proof alone: the definition of the score is opened by name. Proofs that don't name it see one number, and
-    // so none of them grows by the count of the points.
+    // The proof opens the definition of the score by name. Proofs that don't name it see one number, so none of them
+    // grows with the number of points.
     #[tactic(auto, unfolding(crate::specs::Area::score))]
     pub fn score(&self) -> i32
         ensures { result ≡ score self.now }

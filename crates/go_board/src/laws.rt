@@ -21,14 +21,14 @@ pub fn boards_left()
     ensures { BoardsLeftAreJustThese }
 {}
 
-/// Stones stand on the points of the game's size and nowhere else: for any other point `Game::at` returns `None`.
+/// Stones are on the points of the game's size and nowhere else: for any other point `Game::at` returns `None`.
 pub fn stones_on_the_board()
     ensures { StonesAreOnTheBoard }
 {}
 
-/// Positional ko allows no move that simple ko forbids. It allows each that simple ko allows where the board is new.
-/// Under it no play brings back a board of the game. Under simple ko none leaves the board that stood before the move
-/// in front of it, and each other play on an empty point is legal where its stone is free then.
+/// Positional ko, also called positional superko, allows no move that simple ko forbids. It allows each that simple ko
+/// allows where the board is new. Under it no play brings back a board of the game. Under simple ko none leaves the
+/// board before the previous move, and each other play on an empty point is legal where its stone is free then.
 pub fn ko_rules()
     ensures stricter { PositionalIsStricter }
     ensures new { NewBoardsAreAllowed }
@@ -52,7 +52,7 @@ pub fn chains_as_sets()
 {}
 
 /// A move adds to what its colour has taken as many stones as it takes: those of the other colour whose chains have no
-/// liberty once the new stone stands. Before the first move none is taken.
+/// liberty once the new stone is on the board. Before the first move none is taken.
 pub fn taken_stones()
     ensures first { NoneIsTakenFirst }
     ensures more { MovesAddWhatTheyTake }

@@ -1,4 +1,4 @@
-//! A set of places that remembers the order in which they were put in.
+//! A set of places that remembers the order in which they were inserted.
 ghost use Rattle.std.specs.Prelude.{◌≡◌, ℕ, ◌<◌, ◌≤◌, ◌↔◌, ◌⊎◌, [], ◌∷◌, ◌++◌, Contains, IsTrue, length, slice_index};
 ghost use Rattle.go_board.specs.Board.{place_count};
 
@@ -6,7 +6,7 @@ use crate::board::PLACES;
 use arrayvec::ArrayVec;
 use std::marker::Model;
 
-/// Places of a board, each once, in the order in which they were put in.
+/// Places of a board, each once, in the order in which they were inserted.
 #[derive(Drop)]
 pub struct Places {
     marked: [bool; PLACES],
@@ -55,7 +55,7 @@ impl Places {
         self.marked[place]
     }
 
-    /// The place that was put in after `index` others.
+    /// The place that was inserted after `index` others.
     #[inline]
     pub fn get(&self, index: usize) -> usize
         requires { index < length self.now }
@@ -65,7 +65,7 @@ impl Places {
         usize::from(self.order[index])
     }
 
-    /// Puts a place in, unless it is there.
+    /// Inserts a place, unless it is there.
     #[inline]
     pub fn insert(&mut self, place: usize)
         requires { place < place_count }

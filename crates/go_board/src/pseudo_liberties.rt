@@ -1,4 +1,4 @@
-//! The count of each id: its stones' empty neighbours, added up.
+//! The pseudo-liberties of each chain: the empty neighbours of its stones, added up.
 ghost use Rattle.std.specs.Prelude.{◌≡◌, ◌+◌, ◌-◌, ◌<◌, ◌≤◌};
 ghost use Rattle.go_base.specs.Point.{IsOn};
 ghost use Rattle.go_base.specs.Size.{most_size};
@@ -8,7 +8,7 @@ use crate::board::{Board, PLACES, ROW};
 use crate::chain_ids::ChainIds;
 use std::marker::Model;
 
-/// A number for each id.
+/// The pseudo-liberties of the chain with each id.
 #[derive(Clone, Copy)]
 pub struct PseudoLiberties {
     counts: [u16; PLACES],
@@ -32,10 +32,11 @@ impl PseudoLiberties {
     ghost use Rattle.std.specs.Prelude.{replicate, slice_set};
     ghost use Rattle.go_board.specs.private.Frame.{IsFramed};
     ghost use Rattle.go_board.specs.private.ChainId.{count_at, ArePseudoLiberties};
-    ghost use Rattle.go_board.specs.private.Steps.{most_pseudo_liberties, IsBelow, IsLowered, AreLowered, IsRaised, AreRaised};
+    ghost use Rattle.go_board.specs.private.Steps.{most_pseudo_liberties, IsBelow, IsLowered, AreLowered, IsRaised};
+    ghost use Rattle.go_board.specs.private.Steps.{AreRaised};
     ghost use Rattle.go_board.specs.private.Steps.{IsMoved};
 
-    /// Each id counts 0.
+    /// No chain has a pseudo-liberty.
     pub fn zero() -> Self
         ensures { result ≡ replicate place_count 0 }
     {
@@ -44,7 +45,7 @@ impl PseudoLiberties {
         }
     }
 
-    /// The counts of a board with these ids, made anew.
+    /// The pseudo-liberties of a board whose chains have these ids, counted stone by stone.
     pub fn new(board: &Board, ids: &ChainIds) -> Self
         requires { IsFramed board.now }
         ensures { ArePseudoLiberties board.now ids.now result }
@@ -59,7 +60,7 @@ impl PseudoLiberties {
         counts
     }
 
-    /// What a id counts.
+    /// The pseudo-liberties of an id.
     #[inline]
     pub fn at(&self, id: usize) -> u32
         requires { id < place_count }
@@ -68,7 +69,7 @@ impl PseudoLiberties {
         u32::from(self.counts[id])
     }
 
-    /// A id counts `more` more.
+    /// An id gets `more` pseudo-liberties more.
     #[inline]
     pub fn add(&mut self, id: usize, more: u32)
         requires id { id < place_count }
@@ -78,7 +79,7 @@ impl PseudoLiberties {
         self.counts[id] += more as u16;
     }
 
-    /// A id counts `less` less, and not less than 0.
+    /// An id loses `less` pseudo-liberties, or all where it has fewer.
     #[inline]
     pub fn lessen(&mut self, id: usize, less: u32)
         requires id { id < place_count }
@@ -88,7 +89,7 @@ impl PseudoLiberties {
         self.counts[id] = self.counts[id].saturating_sub(less as u16);
     }
 
-    /// What a id counts goes over to another id, unless they are one.
+    /// The pseudo-liberties of an id go over to another id, unless they are one.
     #[inline]
     pub fn merge(&mut self, to: usize, from: usize)
         requires to { to < place_count }
@@ -102,7 +103,7 @@ impl PseudoLiberties {
         }
     }
 
-    /// The id of the stone on a place, if one is there, counts one less.
+    /// The chain of the stone on a place, if one is there, loses one.
     #[inline]
     fn lower(&mut self, board: &Board, ids: &ChainIds, place: usize)
         requires { place < place_count }
@@ -113,7 +114,7 @@ impl PseudoLiberties {
         }
     }
 
-    /// The ids of the stones beside a point count one less for each of them.
+    /// The chain of each stone beside a point loses one, once for each of its stones there.
     #[inline]
     pub fn lower_beside(&mut self, board: &Board, ids: &ChainIds, place: usize)
         requires { IsOn most_size place }
@@ -125,21 +126,21 @@ impl PseudoLiberties {
         self.lower(board, ids, place - ROW);
     }
 
-    /// The id of the stone on a place, if one is there, counts one more. Three such calls may have come before.
+    /// The chain of the stone on a place, if one is there, gets one more. Three such calls may have come before.
     #[inline]
     fn raise(&mut self, board: &Board, ids: &ChainIds, place: usize)
         requires place { place < place_count }
         requires room { IsBelow (most_pseudo_liberties + 3) self.old }
         ensures { IsRaised board.now ids.now self.old self.new place }
     {
-        // For the proof alone (decision 79): looked at, they tell by the invariant how many they are.
+        // A look: there are as many numbers as places.
         let _ = &self.counts;
         if board.at(place).is_stone() {
             self.add(ids.at(place), 1);
         }
     }
 
-    /// The ids of the stones beside a point count one more for each of them.
+    /// The chain of each stone beside a point gets one more, once for each of its stones there.
     #[inline]
     pub fn raise_beside(&mut self, board: &Board, ids: &ChainIds, place: usize)
         requires point { IsOn most_size place }

@@ -1,4 +1,4 @@
-//! A board with a id for each place, and the count of each id.
+//! A board with the id of each place's chain, and the pseudo-liberties of each chain.
 ghost use Rattle.std.specs.Prelude.{◌≡◌, ◌<◌, ◌≤◌, ◌+◌, ◌++◌, ◌↔◌, ℕ, IsTrue, IfSome, IfNone, length, map, slice_set};
 ghost use Rattle.std.specs.Prelude.{Contains};
 ghost use Rattle.go_base.specs.Point.{IsOn};
@@ -13,8 +13,8 @@ use crate::taken_stack::TakenStack;
 use go_base::Colour;
 use std::marker::Model;
 
-/// A board with a id for each of its places, and how much each id counts: the empty neighbours of its stones,
-/// added up. So the counts follow from the board and the ids.
+/// A board with an id for each of its places, and the pseudo-liberties of each id: the empty neighbours of its stones,
+/// added up. These follow from the board and the ids.
 #[derive(Drop)]
 pub struct Stones {
     board: Board,
@@ -40,12 +40,13 @@ impl Stones {
     ghost use Rattle.go_board.specs.Play.{without_captured, captured_count};
     ghost use Rattle.go_board.specs.declared.board.Cell.TheVariants.{Empty};
     ghost use Rattle.go_board.specs.private.Frame.{IsFramed};
-    ghost use Rattle.go_board.specs.private.ChainId.{id_of, ids_at, ids_beside, pseudo_liberties, AreChainIds, AreChains};
+    ghost use Rattle.go_board.specs.private.ChainId.{id_of, ids_at, ids_beside, pseudo_liberties, AreChainIds};
+    ghost use Rattle.go_board.specs.private.ChainId.{AreChains};
     ghost use Rattle.go_board.specs.private.TakenStack.{most_taken, captured_places, taken_at, HaveCapturedId};
     ghost use Rattle.go_board.specs.private.TakenStack.{IsCapturedIdOr, IsCapturedBeside, AreNoneCaptured};
     ghost use Rattle.go_board.specs.private.Steps.{rename_three, IsIdOr, ChangesIds, SetsFragmentId, IsCut};
 
-    /// A board with these ids, and the counts made anew.
+    /// A board with these ids. Their pseudo-liberties are counted stone by stone.
     pub fn new(board: Board, ids: ChainIds) -> Self
         requires framed { IsFramed board }
         requires long { length ids ≡ place_count }
@@ -55,7 +56,7 @@ impl Stones {
         Stones { board, ids, counts }
     }
 
-    /// The same once more.
+    /// A copy.
     pub fn copy(&self) -> Self
         ensures { result ≡ self.now }
     {
@@ -93,7 +94,7 @@ impl Stones {
         self.ids.at(place)
     }
 
-    /// What a id counts.
+    /// The pseudo-liberties of the chain with an id.
     #[inline]
     pub fn pseudo_liberties(&self, id: usize) -> u32
         requires { id < place_count }
@@ -143,7 +144,7 @@ impl Stones {
         }
     }
 
-    /// Puts a stone with a id on an empty point. No stone is taken.
+    /// Places a stone with an id on an empty point. No stone is taken.
     pub fn place_stone(&mut self, colour: Colour, place: usize, id: usize)
         requires point { IsOn most_size place }
         requires empty { at self.old.board place ≡ Empty }
@@ -160,7 +161,7 @@ impl Stones {
         self.counts.add(id, more);
     }
 
-    /// Lifts a stone from its place.
+    /// Removes a stone from its place.
     pub fn remove_stone(&mut self, place: usize)
         requires { IsStone (at self.old.board place) }
         ensures { self.new ≡ record self.old { board = slice_set self.old.board place Empty } }
@@ -171,8 +172,8 @@ impl Stones {
         self.counts.raise_beside(&self.board, &self.ids, place);
     }
 
-    /// Turns three ids into one, in one pass over the board, and adds their counts. No pass is made where they are
-    /// one.
+    /// Turns three ids into one, in one pass over the board, and adds up their pseudo-liberties. No pass is made where
+    /// they are one.
     #[inline]
     pub fn join(&mut self, to: usize, a: usize, b: usize, c: usize)
         requires to { to < place_count }
@@ -189,7 +190,7 @@ impl Stones {
         self.join_three(to, a, b, c);
     }
 
-    /// The same, whether or not they are one already.
+    /// Turns three ids into one in one pass, whether or not they are one already.
     fn join_three(&mut self, to: usize, a: usize, b: usize, c: usize)
         requires to { to < place_count }
         requires a { a < place_count }
@@ -205,7 +206,7 @@ impl Stones {
         self.ids.join(to, a, b, c);
     }
 
-    /// Gives a stone another id.
+    /// Changes the id of a stone.
     fn change_id(&mut self, place: usize, id: usize)
         requires stone { IsStone (at self.old.board place) }
         requires id { id < place_count }
@@ -217,13 +218,13 @@ impl Stones {
         self.ids.set(place, id);
     }
 
-    /// Gives all stones of a chain a id.
+    /// Changes the id of all stones of a chain.
     fn change_ids(&mut self, chain: &Places, id: usize)
         requires stones { (p : ℕ) → Contains chain.now p → IsStone (at self.old.board p) }
         requires id { id < place_count }
         ensures { ChangesIds self.old self.new chain.now id }
     {
-        // For the proof alone (decision 79): looked at, they tell by the invariant how many they are.
+        // A look: there are as many ids as places.
         let _ = &self.ids;
         for index in 0..chain.len() {
             self.change_id(chain.get(index), id);
@@ -241,7 +242,7 @@ impl Stones {
         }
     }
 
-    /// Names the chains into which the chain with a id fell when its stone was lifted from a place.
+    /// Gives an id to each chain into which the chain with an id fell when its stone on a place was removed.
     pub fn split(&mut self, place: usize, id: usize)
         requires point { IsOn most_size place }
         requires id { id < place_count }
@@ -326,7 +327,7 @@ impl Stones {
         ensures count { result ≡ captured_count self.old.board colour }
         ensures few { result ≤ place_count }
     {
-        // For the proof alone (decision 79): looked at, it tells by the invariant how many places it has.
+        // A look: the board has as many places as it should.
         let _ = &self.board;
         let stone = Cell::stone(colour);
         let mut count = 0;

@@ -6,13 +6,13 @@ ghost use Rattle.go_board.specs.private.TakenStack.{most_taken};
 use arrayvec::ArrayVec;
 use std::marker::Model;
 
-/// How many stones there is room for: each was put down by one of 2,000 moves, or is one of 9 of a handicap.
+/// How many stones there is room for: each was placed by one of 2,000 moves, or is one of 9 of a handicap.
 pub const MOST_TAKEN: usize = 2009;
 
 /// A stone that a move took.
 #[derive(Clone, Copy, Debug, PartialEq, Eq)]
 pub struct TakenStone {
-    /// Where it stood.
+    /// The place on which it stood.
     pub place: u16,
     /// How many moves came before the move that took it.
     pub number: u16,

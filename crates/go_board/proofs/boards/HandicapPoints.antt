@@ -19,6 +19,7 @@ use Rattle.go_board.proofs.boards.FirstBoard.{start-none}
 use Rattle.go_board.proofs.ids.Paths.{IsStone-point}
 use Rattle.go_board.proofs.captures.FreeStones.{empty-no_stone, empty-on}
 use Rattle.std.proofs.lemmas.Bool.{cases_eq}
+use Rattle.go_board.proofs.General.{all-where}
 
 -- a stone was there or is one of the points
 stones-from : (P : ℕ → Type 0) (board : List Cell) (points : List ℕ) (q : ℕ) → AllByRecursion P points
@@ -133,9 +134,17 @@ AreFree-lines size stones l m h points s all q stone =
             };
           }
     ]
-  where
-    small : AreSpaced size stones l m h → size ≤ 25
-    small s = s.small
+
+few_spaced : (size stones : ℕ) → 7 ≤ size → size ≤ 25 → stones ≤ 4
+    → AreSpaced size stones (low_line size) (middle_line size) (high_line size)
+few_spaced size stones large most few = record {
+  left = grind (arith, nat_tests);
+  apart = grind (arith, nat_tests);
+  right = grind (arith, nat_tests);
+  middle = λ many. absurd (omega arith);
+  middle_right = λ many. absurd (omega arith);
+  small = most;
+}
 
 spaced : (size stones : ℕ) → IsSize size → AllowsHandicap size stones
     → AreSpaced size stones (low_line size) (middle_line size) (high_line size)
@@ -152,29 +161,9 @@ spaced size stones is_size (inl a) =
       small = most;
     }
 spaced size stones is_size (inr (inl a)) =
-    let seven = a.0 in
-    let few = a.2 in
-    let most = is_size.most in
-    record {
-      left = grind (arith, nat_tests);
-      apart = grind (arith, nat_tests);
-      right = grind (arith, nat_tests);
-      middle = λ many. absurd (omega arith);
-      middle_right = λ many. absurd (omega arith);
-      small = most;
-    }
+    let seven = a.0 in few_spaced size stones (omega (arith, seven)) is_size.most a.2
 spaced size stones is_size (inr (inr a)) =
-    let large = a.1 in
-    let few = a.3 in
-    let most = is_size.most in
-    record {
-      left = grind (arith, nat_tests);
-      apart = grind (arith, nat_tests);
-      right = grind (arith, nat_tests);
-      middle = λ many. absurd (omega arith);
-      middle_right = λ many. absurd (omega arith);
-      small = most;
-    }
+    let large = a.1 in few_spaced size stones (omega (arith, large)) is_size.most a.3
 
 -- what each point of the table is
 record AreCrossings (size stones l m h : ℕ) (P : ℕ → Type 0) : Type 0 where
@@ -292,13 +281,8 @@ pub points-on : (size stones : ℕ) → IsSize size → AllowsHandicap size ston
 points-on size stones is_size allowed =
     let bounds = handicap_bounds size stones allowed in
     let s = spaced size stones is_size allowed in
-    all-on (handicap_points size stones)
+    all-where (IsOnLine size stones (low_line size) (middle_line size) (high_line size)) (IsOn size) (λ p on. on.on)
+    (handicap_points size stones)
     (all_points size (IsOnLine size stones (low_line size) (middle_line size) (high_line size)) stones bounds.least
     bounds.most
     (crossings size stones (low_line size) (middle_line size) (high_line size) s))
-  where
-    all-on : (ps : List ℕ) → AllByRecursion
-        (IsOnLine size stones (low_line size) (middle_line size) (high_line size)) ps
-        → AllByRecursion (λ p. IsOn size p) ps
-    all-on [] all = tt
-    all-on (p ∷ ps) all = let first = all.0 in (first.on, all-on ps all.1)

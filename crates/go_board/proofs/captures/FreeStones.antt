@@ -20,37 +20,34 @@ use Rattle.go_board.specs.declared.board.Cell.TheVariants.{Edge, Empty}
 use Rattle.go_board.proofs.boards.Cells.{stone-point, stone-filled, stone-differs}
 use Rattle.go_board.proofs.captures.CapturedStones.{at-play}
 use Rattle.go_board.proofs.ids.Paths.{Joined-then, Joined-same, Joined-back, Joined-kept, set-same}
-use Rattle.go_board.proofs.ko_rules.PlaysTakenBack.{IsAfter, taken, left, after-play, empty-after}
+use Rattle.go_board.proofs.ko_rules.PlaysTakenBack.{IsAfter, taken, left, after-play, empty-after, taken-empty}
 use Rattle.go_board.proofs.liberties.PseudoLiberties.{captured-other, captured-beside}
 use Rattle.go_board.proofs.boards.Cells.{empty-point}
 use Rattle.go_board.proofs.captures.MakingPlays.{captured-joined}
 use Rattle.std.proofs.lemmas.Bool.{cases_eq, cases_lt}
 use Rattle.go_board.proofs.boards.Neighbours.{Neighbours-sym, not_itself}
+use Rattle.go_board.proofs.ko_rules.PlaysTakenBack.{by_play}
 
 -- a stone of the colour that plays stays
-own-stays : (board : List Cell) (c : Colour) (p q : ℕ) → q ≢ p → at board q ≡ stone c
+pub own-kept : (board : List Cell) (c : Colour) (p q : ℕ) → q ≢ p → at board q ≡ stone c
     → at (play board c p) q ≡ at board q
-own-stays board c p q another held = by_case (after-play board c p q)
-  where
-    by_case : IsAfter board c p q → at (play board c p) q ≡ at board q
-    by_case (taken h e) =
-        absurd (stone-differs c (sym held ∙ sym (get_or-set_other board p q (stone c) Edge another) ∙ h.0))
-    by_case (left k e) = e ∙ get_or-set_other board p q (stone c) Edge another
+own-kept board c p q another held =
+    by_play board c p q
+    (λ h e. absurd (stone-differs c (sym held ∙ sym (get_or-set_other board p q (stone c) Edge another) ∙ h.0)))
+    (λ k e. e ∙ get_or-set_other board p q (stone c) Edge another)
 
 -- and none comes but the new one
 own-was : (board : List Cell) (c : Colour) (p q : ℕ) → q ≢ p → at (play board c p) q ≡ stone c → at board q ≡ stone c
-own-was board c p q another held = by_case (after-play board c p q)
-  where
-    by_case : IsAfter board c p q → at board q ≡ stone c
-    by_case (taken h e) = absurd (stone-filled c (sym held ∙ e))
-    by_case (left k e) = sym (get_or-set_other board p q (stone c) Edge another) ∙ sym e ∙ held
+own-was board c p q another held =
+    by_play board c p q (λ h e. absurd (stone-filled c (sym held ∙ e)))
+    (λ k e. sym (get_or-set_other board p q (stone c) Edge another) ∙ sym e ∙ held)
 
 -- a chain of the colour stays joined
 own-joined : (board : List Cell) (c : Colour) (p q r : ℕ) → at board p ≡ Empty → at board q ≡ stone c → Joined board q r
     → Joined (play board c p) q r
 own-joined board c p q r empty held path =
     Joined-kept board (play board c p) (λ t j. let here : at board t ≡ stone c = Joined-same j ∙ held in
-    own-stays board c p t (λ e. stone-filled c (sym here ∙ ap (λ (k : ℕ). at board k) e ∙ empty)) here) path
+    own-kept board c p t (λ e. stone-filled c (sym here ∙ ap (λ (k : ℕ). at board k) e ∙ empty)) here) path
 
 pub new-stone : (board : List Cell) (c : Colour) (p : ℕ) → at board p ≡ Empty → at (play board c p) p ≡ stone c
 new-stone board c p empty = at-play board c p (empty-point board p empty)
@@ -61,10 +58,10 @@ to-own : (board : List Cell) (c : Colour) (p q r : ℕ) → at board p ≡ Empty
 to-own board c p q r empty beside held path =
     let here = new-stone board c p empty in
     let away : q ≢ p = λ e. stone-filled c (sym held ∙ ap (λ (k : ℕ). at board k) e ∙ empty) in
-    by_way_of q (λ e. stone-point c (sym here ∙ e)) beside (own-stays board c p q away held ∙ held ∙ sym here)
+    by_way_of q (λ e. stone-point c (sym here ∙ e)) beside (own-kept board c p q away held ∙ held ∙ sym here)
     (own-joined board c p q r empty held path)
 
--- what is told of a path from a stone of the colour that played
+-- what is known of a path from a stone of the colour that played
 data IsFrom (board : List Cell) (c : Colour) (p s t : ℕ) : Type 0 where
   at_point : t ≡ p → IsFrom board c p s t
   from_own : (q : ℕ) → Neighbours p q → at board q ≡ stone c → Joined board q t → IsFrom board c p s t
@@ -133,7 +130,8 @@ IsFree-play board c p empty are_free = (
         }))
         by_case away was (elsewhere not_p path) = absurd (not_p refl)
 
-    from_sum : HasBeside board p Empty ⊎ (TakesAny board (other c) p ⊎ ReachesLiberty board c p) → IsFree (play board c p) p
+    from_sum : HasBeside board p Empty ⊎ (TakesAny board (other c) p ⊎ ReachesLiberty board c p)
+        → IsFree (play board c p) p
     from_sum (inl b) =
         let away : b.place ≢ p = not_itself p b.place b.neighbours in
         record {
@@ -150,14 +148,9 @@ IsFree-play board c p empty are_free = (
               record {
                 place = t.place;
                 neighbours = t.neighbours;
-                holds = gone ((captured-other board c p t.place empty).1 t.in_atari) (after-play board c p t.place);
+                holds = taken-empty board c p t.place ((captured-other board c p t.place empty).1 t.in_atari);
               };
         }
-      where
-        gone : {q : ℕ} → IsCaptured (set board p (stone c)) (other c) q → IsAfter board c p q
-            → at (play board c p) q ≡ Empty
-        gone h (taken _ e) = e
-        gone h (left k e) = absurd (k h)
     from_sum (inr (inr r)) =
         record {
           point = r.further.1.point;

@@ -18,7 +18,8 @@ use Rattle.go_board.specs.decisions.Chain.{captured?}
 use Rattle.go_board.specs.Play.{is_captured, left_at, without_captured, captured_count, play, captures}
 use Rattle.go_board.specs.private.ChainId.{id_of, AreChainIds, AreChains, AreFree, pseudo_liberties}
 use Rattle.go_board.specs.private.Steps.{rename_three}
-use Rattle.go_board.specs.private.TakenStack.{captured_places, HaveCapturedId, IsCapturedIdOr, IsCapturedBeside, AreNoneCaptured}
+use Rattle.go_board.specs.private.TakenStack.{captured_places, HaveCapturedId, IsCapturedIdOr, IsCapturedBeside}
+use Rattle.go_board.specs.private.TakenStack.{AreNoneCaptured}
 use Rattle.go_board.specs.declared.board.Cell.{Cell}
 use Rattle.go_board.specs.declared.board.Cell.TheVariants.{Edge, Empty}
 use Rattle.go_board.proofs.boards.Cells.{stone-point, stone-filled}
@@ -26,11 +27,13 @@ use Rattle.go_board.proofs.captures.CapturedStones.{holds-yes, holds-no, count_b
 use Rattle.go_board.proofs.captures.CapturedStones.{IsFramed-without_captured}
 use Rattle.go_board.proofs.ids.Paths.{Joined-then, Joined-same, Joined-back, Joined-set, IsStone-point, AreLocalIds}
 use Rattle.go_board.proofs.ids.Paths.{IsLess, AreLocalIds-of, AreLocalIds-less, AreChainIds-steps}
-use Rattle.go_board.proofs.ids.JoiningChains.{IsOfThree, first, second, third, none, of_three, rename_three-to, rename_three-a}
+use Rattle.go_board.proofs.ids.JoiningChains.{IsOfThree, first, second, third, none, of_three, rename_three-to}
+use Rattle.go_board.proofs.ids.JoiningChains.{rename_three-a}
 use Rattle.go_board.proofs.ids.JoiningChains.{rename_three-b, rename_three-third}
 use Rattle.go_board.proofs.liberties.PseudoLiberties.{free-count, captured-other, captured-beside}
 use Rattle.go_board.proofs.captures.RemovingLoop.{places-more}
-use Rattle.go_board.proofs.boards.Neighbours.{IsOn-inside}
+use Rattle.go_board.proofs.boards.Neighbours.{IsOn-inside, all_beside}
+use Rattle.go_board.proofs.General.{by_dec}
 
 -- ---- stones without a liberty
 
@@ -128,17 +131,17 @@ places-empty board c p empty free no_captured =
 
 -- ---- where chains are taken: their ids become one
 
--- the ids of the chains without a liberty beside the point
-pub record AreCapturedBeside (board cells : List Cell) (ids : List ℕ) (c : Colour) (p dead id x y z : ℕ) : Type 0 where
-  pub beside : IsCapturedBeside cells (other c) p dead
+-- the ids of the chains without a liberty beside the point, as the code has them
+pub record AreCapturedIds (cells : List Cell) (ids : List ℕ) (theirs : Colour) (p dead id x y z : ℕ) : Type 0 where
+  pub beside : IsCapturedBeside cells theirs p dead
   pub is : id ≡ id_of ids dead
-  pub left : IsCapturedIdOr cells ids (other c) (p - 1) id x
-  pub above : IsCapturedIdOr cells ids (other c) (p + 26) id y
-  pub under : IsCapturedIdOr cells ids (other c) (p - 26) id z
+  pub left : IsCapturedIdOr cells ids theirs (p - 1) id x
+  pub above : IsCapturedIdOr cells ids theirs (p + 26) id y
+  pub under : IsCapturedIdOr cells ids theirs (p - 26) id z
 
 -- a stone with one of the ids is captured
 dead-from : (board cells : List Cell) (ids : List ℕ) (c : Colour) (p dead id x y z q : ℕ) → AreChainIds cells ids
-    → AreCapturedBeside board cells ids c p dead id x y z → IsStone (at cells q)
+    → AreCapturedIds cells ids (other c) p dead id x y z → IsStone (at cells q)
     → rename_three id x y z (id_of ids q) ≡ id → IsCaptured cells (other c) q
 dead-from board cells ids c p dead id x y z q a d held to = by_case (of_three id x y z (id_of ids q))
   where
@@ -152,11 +155,8 @@ dead-from board cells ids c p dead id x y z q a d held to = by_case (of_three id
 
     one : (k r : ℕ) → IsCapturedIdOr cells ids (other c) r id k → id_of ids q ≡ k
         → IsCaptured cells (other c) q
-    one k r l e = by_test (captured? cells (other c) r)
-      where
-        by_test : Dec (IsCaptured cells (other c) r) → IsCaptured cells (other c) q
-        by_test (yes h) = alike r h (e ∙ l.there h)
-        by_test (no h) = own (e ∙ l.absent h)
+    one k r l e =
+        by_dec (captured? cells (other c) r) (λ h. alike r h (e ∙ l.there h)) (λ h. own (e ∙ l.absent h))
 
     by_case : IsOfThree id x y z (id_of ids q) → IsCaptured cells (other c) q
     by_case (first e _) = one x (p - 1) d.left e
@@ -167,7 +167,8 @@ dead-from board cells ids c p dead id x y z q a d held to = by_case (of_three id
 -- and a captured stone has one of them
 dead-id : (board : List Cell) (ids : List ℕ) (c : Colour) (p dead id x y z q : ℕ) → 27 ≤ p → at board p ≡ Empty
     → AreFree board → AreChainIds (set board p (stone c)) ids
-    → AreCapturedBeside board (set board p (stone c)) ids c p dead id x y z → IsCaptured (set board p (stone c)) (other c) q
+    → AreCapturedIds (set board p (stone c)) ids (other c) p dead id x y z
+    → IsCaptured (set board p (stone c)) (other c) q
     → rename_three id x y z (id_of ids q) ≡ id
 dead-id board ids c p dead id x y z q low empty free a d h =
     let taken = captured-beside board c p q empty free h in
@@ -179,22 +180,15 @@ dead-id board ids c p dead id x y z q low empty free a d h =
   where
     by_side : (r : ℕ) → Neighbours p r → IsCaptured (set board p (stone c)) (other c) r
         → rename_three id x y z (id_of ids r) ≡ id
-    by_side r (inl e) k = elim d.beside.first [
-      | inl right ↦ ap (rename_three id x y z) (ap (id_of ids) (e ∙ sym right) ∙ sym d.is)
-          ∙ rename_three-to id x y z
-      | inr free ↦ absurd (free (subst (IsCaptured (set board p (stone c)) (other c)) e k))
-    ]
-    by_side r (inr (inl e)) k =
-        let is : r ≡ p - 1 = omega arith in
-        rename_three-a id x y z (id_of ids r)
-        (ap (id_of ids) is ∙ sym (d.left.there (subst (IsCaptured (set board p (stone c)) (other c)) is k)))
-    by_side r (inr (inr (inl e))) k =
-        rename_three-b id x y z (id_of ids r)
-        (ap (id_of ids) e ∙ sym (d.above.there (subst (IsCaptured (set board p (stone c)) (other c)) e k)))
-    by_side r (inr (inr (inr e))) k =
-        let is : r ≡ p - 26 = omega arith in
-        rename_three-third id x y z (id_of ids r)
-        (ap (id_of ids) is ∙ sym (d.under.there (subst (IsCaptured (set board p (stone c)) (other c)) is k)))
+    by_side = all_beside
+        (λ r. IsCaptured (set board p (stone c)) (other c) r → rename_three id x y z (id_of ids r) ≡ id) p
+        (λ k. elim d.beside.first [
+          | inl right ↦ ap (rename_three id x y z) (ap (id_of ids) (sym right) ∙ sym d.is) ∙ rename_three-to id x y z
+          | inr free ↦ absurd (free k)
+        ])
+        (λ k. rename_three-a id x y z (id_of ids (p - 1)) (sym (d.left.there k)))
+        (λ k. rename_three-b id x y z (id_of ids (p + 26)) (sym (d.above.there k)))
+        (λ k. rename_three-third id x y z (id_of ids (p - 26)) (sym (d.under.there k)))
 
 rename_three-at : (cells : List Cell) (ids new : List ℕ) (to x y z q : ℕ) → IsFramed cells → length ids ≡ 702
     → new ≡ map (rename_three to x y z) ids → at cells q ≢ Edge
@@ -207,7 +201,7 @@ rename_three-at cells ids new to x y z q framed long made point =
 
 pub HaveCapturedId-rename_three : (board : List Cell) (ids new : List ℕ) (c : Colour) (p dead id x y z : ℕ) → 27 ≤ p
     → at board p ≡ Empty → AreFree board → IsFramed (set board p (stone c))
-    → AreChainIds (set board p (stone c)) ids → AreCapturedBeside board (set board p (stone c)) ids c p dead id x y z
+    → AreChainIds (set board p (stone c)) ids → AreCapturedIds (set board p (stone c)) ids (other c) p dead id x y z
     → new ≡ map (rename_three id x y z) ids
     → HaveCapturedId (set board p (stone c)) new (other c) id
 HaveCapturedId-rename_three board ids new c p dead id x y z low empty free framed a d made q = (
@@ -227,7 +221,7 @@ HaveCapturedId-rename_three board ids new c p dead id x y z low empty free frame
 
 -- what is left keeps its ids
 pub AreChainIds-left : (board cells : List Cell) (ids new : List ℕ) (c : Colour) (p dead id x y z : ℕ)
-    → IsFramed cells → AreChainIds cells ids → AreCapturedBeside board cells ids c p dead id x y z
+    → IsFramed cells → AreChainIds cells ids → AreCapturedIds cells ids (other c) p dead id x y z
     → new ≡ map (rename_three id x y z) ids → AreChainIds (without_captured cells (other c)) new
 AreChainIds-left board cells ids new c p dead id x y z framed a d made =
     AreChainIds-steps (without_captured cells (other c)) new
@@ -236,22 +230,18 @@ AreChainIds-left board cells ids new c p dead id x y z framed a d made =
       alike = λ q r s next same. as_before q s ∙ old.alike q r s next same ∙ sym (as_before r (s.0, same ∙ s.1));
     })
   where
-    -- what stands wasn't captured
+    -- what is left wasn't captured
     stays : (q : ℕ) → IsStone (at (without_captured cells (other c)) q)
         → (¬ IsCaptured cells (other c) q) × (at (without_captured cells (other c)) q ≡ at cells q)
-    stays q s = by_test (captured? cells (other c) q)
-      where
-        by_test : Dec (IsCaptured cells (other c) q)
-            → (¬ IsCaptured cells (other c) q) × (at (without_captured cells (other c)) q ≡ at cells q)
-        by_test (yes h) =
-            absurd (stone-filled s.0
-            (sym s.1 ∙ at-without_captured cells (other c) q
-            ∙ ap (λ (b : Bool). cond b Empty (at cells q)) (holds-yes (captured? cells (other c) q) h)))
-        by_test (no k) = (
+    stays q s = by_dec (captured? cells (other c) q)
+        (λ h. absurd (stone-filled s.0
+        (sym s.1 ∙ at-without_captured cells (other c) q
+        ∙ ap (λ (b : Bool). cond b Empty (at cells q)) (holds-yes (captured? cells (other c) q) h))))
+        (λ k. (
           k,
           at-without_captured cells (other c) q
               ∙ ap (λ (b : Bool). cond b Empty (at cells q)) (holds-no (captured? cells (other c) q) k),
-        )
+        ))
 
     less : IsLess cells (without_captured cells (other c))
     less = record {
@@ -281,7 +271,7 @@ AreChainIds-left board cells ids new c p dead id x y z framed a d made =
 
 -- ---- as the code goes: the board with the stone, and the other colour
 
--- a fact told of them
+-- a fact of them
 pub told : (board cells : List Cell) (c theirs : Colour) (p : ℕ) → cells ≡ set board p (stone c) → theirs ≡ other c
     → (P : List Cell → Colour → Type 0) → P cells theirs → P (set board p (stone c)) (other c)
 told board cells c theirs p e f P h =
@@ -291,19 +281,6 @@ pub back : (board cells : List Cell) (c theirs : Colour) (p : ℕ) → cells ≡
     → (P : List Cell → Colour → Type 0) → P (set board p (stone c)) (other c) → P cells theirs
 back board cells c theirs p e f P h =
     subst (λ (t : Colour). P cells t) (sym f) (subst (λ (b : List Cell). P b (other c)) (sym e) h)
-
--- the ids of the chains without a liberty beside the point, as the code has them
-pub record AreCapturedIds (cells : List Cell) (ids : List ℕ) (theirs : Colour) (p dead id x y z : ℕ) : Type 0 where
-  pub beside : IsCapturedBeside cells theirs p dead
-  pub is : id ≡ id_of ids dead
-  pub left : IsCapturedIdOr cells ids theirs (p - 1) id x
-  pub above : IsCapturedIdOr cells ids theirs (p + 26) id y
-  pub under : IsCapturedIdOr cells ids theirs (p - 26) id z
-
-are_captured : (board cells : List Cell) (ids : List ℕ) (c : Colour) (p dead id x y z : ℕ)
-    → AreCapturedIds cells ids (other c) p dead id x y z → AreCapturedBeside board cells ids c p dead id x y z
-are_captured board cells ids c p dead id x y z d =
-    record { beside = d.beside; is = d.is; left = d.left; above = d.above; under = d.under }
 
 pub HaveCapturedId-code : (board cells : List Cell) (ids new : List ℕ) (c theirs : Colour)
     (p dead id x y z : ℕ) → IsOn most_size p → at board p ≡ Empty → AreFree board
@@ -315,8 +292,7 @@ HaveCapturedId-code board cells ids new c theirs p dead id x y z on empty free e
     (let known = told board cells c theirs p e f (λ b _. AreChains b ids) chains in
     HaveCapturedId-rename_three board ids new c p dead id x y z (IsOn-inside p on).low empty free known.framed
     known.ids
-    (are_captured board (set board p (stone c)) ids c p dead id x y z
-    (told board cells c theirs p e f (λ b t. AreCapturedIds b ids t p dead id x y z) d)) made)
+    (told board cells c theirs p e f (λ b t. AreCapturedIds b ids t p dead id x y z) d) made)
 
 pub play-code : (board cells : List Cell) (c theirs : Colour) (p : ℕ) → cells ≡ set board p (stone c)
     → theirs ≡ other c → without_captured cells theirs ≡ play board c p
@@ -344,6 +320,5 @@ AreChains-play board cells ids new c theirs p dead id x y z f chains d made =
       framed = IsFramed-without_captured cells (other c) chains.framed;
       ids =
           AreChainIds-left board cells ids new c p dead id x y z chains.framed chains.ids
-          (are_captured board cells ids c p dead id x y z
-          (subst (λ (t : Colour). AreCapturedIds cells ids t p dead id x y z) f d)) made;
+          (subst (λ (t : Colour). AreCapturedIds cells ids t p dead id x y z) f d) made;
     })

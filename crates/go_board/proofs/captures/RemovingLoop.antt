@@ -70,7 +70,8 @@ places-more p n = simp map-id at (filter_of_map_range_with_len_more p (λ (x : �
 map-push : (number : ℕ) (xs : List ℕ) (x : ℕ)
     → taken_at number (xs ++ x ∷ []) ≡ taken_at number xs ++ record { place = x; number = number } ∷ []
 map-push number [] x = refl
-map-push number (y ∷ ys) x = ap (λ (ts : List TakenStone). record { place = y; number = number } ∷ ts) (map-push number ys x)
+map-push number (y ∷ ys) x = ap (λ (ts : List TakenStone). record { place = y; number = number } ∷ ts)
+    (map-push number ys x)
 
 -- what the places below n leave
 pub record IsRemoving (board : List Cell) (ids : List ℕ) (c : Colour) (number : ℕ) (had : List TakenStone) (n : ℕ)
@@ -79,7 +80,8 @@ pub record IsRemoving (board : List Cell) (ids : List ℕ) (c : Colour) (number 
   pub same : ls ≡ ids
   pub stack_is : stack ≡ had ++ taken_at number (filter (is_captured board c) (range_with_len 0 n))
 
-pub stack_is-taken : (board : List Cell) (c : Colour) (number n : ℕ) (had stack new : List TakenStone) → IsCaptured board c n
+pub stack_is-taken : (board : List Cell) (c : Colour) (number n : ℕ) (had stack new : List TakenStone)
+    → IsCaptured board c n
     → stack ≡ had ++ taken_at number (filter (is_captured board c) (range_with_len 0 n))
     → new ≡ stack ++ record { place = n; number = number } ∷ []
     → new ≡ had ++ taken_at number (filter (is_captured board c) (range_with_len 0 (n + 1)))
@@ -93,7 +95,8 @@ stack_is-taken board c number n had stack new captured so_far pushed =
     ∙ ap (λ (ts : List TakenStone). had ++ ts) (sym (map-push number places n))
     ∙ ap (λ (ps : List ℕ). had ++ taken_at number ps) (sym more)
 
-pub stack_is-left : (board : List Cell) (c : Colour) (number n : ℕ) (had stack : List TakenStone) → ¬ IsCaptured board c n
+pub stack_is-left : (board : List Cell) (c : Colour) (number n : ℕ) (had stack : List TakenStone)
+    → ¬ IsCaptured board c n
     → stack ≡ had ++ taken_at number (filter (is_captured board c) (range_with_len 0 n))
     → stack ≡ had ++ taken_at number (filter (is_captured board c) (range_with_len 0 (n + 1)))
 stack_is-left board c number n had stack free so_far =

@@ -101,21 +101,13 @@ AreMarked-none marks order none empty = record {
 
 -- ---- taking all places out
 
--- the places before `index` were unmarked, and each one that is still marked stands there or later
+-- the places before `index` were unmarked, and each one that is still marked is there or later
 pub record IsClearing (had : List ℕ) (index : ℕ) (order : List ℕ) (marks : List Bool) : Type 0 where
   pub same : order ≡ had
   pub long : length marks ≡ 702
   pub later : (p : ℕ) → get_or marks p false ≡ true → (k : ℕ) × (index ≤ k) × (k < length had) × (get_or had k p ≡ p)
 
-pub IsClearing-start : (f : Inside) (had : List ℕ) → AreMarked f → length f.marked ≡ 702 → f.order.items ≡ had
-    → IsClearing had 0 f.order.items f.marked
-IsClearing-start f had a long is = record {
-  same = is;
-  long = long;
-  later = λ p m. let listed : Contains had p = rw is at (a.listed p m) in (listed.0, omega arith, listed.1, listed.2);
-}
-
--- what stands at the next index is a place
+-- what is at the next index is a place
 pub IsClearing-below : (f : Inside) (index place : ℕ) (order : List ℕ) → AreMarked f → order ≡ f.order.items
     → index < length f.order.items → place ≡ get_or order index 0 → place < 702
 IsClearing-below f index place order a same h is =

@@ -1,4 +1,4 @@
--- ChainIds made anew, chain by chain.
+-- Chain ids found chain by chain.
 use Rattle.std.proofs.Common.{◌≡◌, ℕ, zero, suc, ◌+◌, ◌<◌, ◌≤◌, List, length, Contains, replicate, refl, sym, ◌∙◌, ap}
 use Rattle.std.proofs.Common.{subst, arith, inl, inr, get_or-set_other, get_or-set_same}
 use Rattle.std.specs.Prelude.{◌⊎◌, ◌≢◌, slice_index}
@@ -15,7 +15,7 @@ use Rattle.go_board.proofs.captures.CapturedStones.{in_list}
 use Rattle.go_board.proofs.floods.Regions.{index_of}
 use Rattle.go_board.proofs.ids.Paths.{Joined-then, Joined-back, IsStone-point, AreChainIds-steps}
 use Rattle.std.proofs.lemmas.Bool.{cases_eq}
-use Rattle.go_board.proofs.General.{earlier_or_last}
+use Rattle.go_board.proofs.General.{earlier_or_last, by_dec}
 use Rattle.go_board.proofs.boards.Neighbours.{IsOn-inside}
 
 -- the first `n` places were given the id
@@ -24,12 +24,12 @@ pub record IsGiving (old : List ℕ) (places : List ℕ) (id n : ℕ) (new : Lis
   pub given : (k : ℕ) → k < n → id_of new (slice_index places k) ≡ id
   pub others : (p : ℕ) → ¬ Contains places p → id_of new p ≡ id_of old p
 
--- stones may be without a id: a id is of the chain, and a chain has one
+-- stones may be without an id: an id is of the chain, and a chain has one
 pub record IsPart (board : List Cell) (ids : List ℕ) : Type 0 where
   pub own : (p : ℕ) → IsStone (at board p) → id_of ids p ≢ 0 → Joined board p (id_of ids p)
   pub closed : (p q : ℕ) → IsStone (at board p) → Joined board p q → id_of ids p ≡ id_of ids q
 
--- what is id_is so far: the stones below n have a id
+-- what has an id so far: the stones below n
 pub record AreIdsSoFar (board : List Cell) (n : ℕ) (ids : List ℕ) : Type 0 where
   pub length_is : length ids ≡ 702
   pub part : IsPart board ids
@@ -55,40 +55,29 @@ pub IsPart-named : (board : List Cell) (n : ℕ) (old new : List ℕ) → IsFram
     → HasFragmentId board old new n → IsPart board old → IsPart board new
 IsPart-named board n old new framed stone named l = record {
   own =
-      λ p s some. by_test p (λ path. subst (λ (k : ℕ). Joined board p k) (sym (named.given p path)) (Joined-back path))
+      λ p s some. by_dec (joined? board n p)
+      (λ path. subst (λ (k : ℕ). Joined board p k) (sym (named.given p path)) (Joined-back path))
       (λ away. subst (λ (k : ℕ). Joined board p k) (sym (named.others p away))
-      (l.own p s (λ e. some (named.others p away ∙ e)))) (joined? board n p);
-  closed = λ p q s path. by_two p q path (l.closed p q s path) (joined? board n p);
+      (l.own p s (λ e. some (named.others p away ∙ e))));
+  closed =
+      λ p q s path. by_dec (joined? board n p)
+      (λ h. named.given p h ∙ sym (named.given q (Joined-then h path)))
+      (λ k. named.others p k ∙ l.closed p q s path
+      ∙ sym (named.others q (λ h. k (Joined-then h (Joined-back path)))));
 }
-  where
-    by_test : (p : ℕ) → (Joined board n p → Joined board p (id_of new p))
-        → (¬ Joined board n p → Joined board p (id_of new p)) → Dec (Joined board n p)
-        → Joined board p (id_of new p)
-    by_test p a b (yes h) = a h
-    by_test p a b (no k) = b k
 
-    by_two : (p q : ℕ) → Joined board p q → id_of old p ≡ id_of old q → Dec (Joined board n p)
-        → id_of new p ≡ id_of new q
-    by_two p q path same (yes h) = named.given p h ∙ sym (named.given q (Joined-then h path))
-    by_two p q path same (no k) =
-        named.others p k ∙ same ∙ sym (named.others q (λ h. k (Joined-then h (Joined-back path))))
-
--- a stone with a id keeps one, and those of the chain get one
+-- a stone with an id keeps one, and those of the chain get one
 pub named-has : (board : List Cell) (n p : ℕ) (old new : List ℕ) → IsFramed board → IsStone (at board n)
     → HasFragmentId board old new n → (id_of old p ≢ 0) ⊎ Joined board n p
     → id_of new p ≢ 0
-named-has board n p old new framed stone named had = by_test (joined? board n p)
-  where
-    not_zero : n ≢ 0
-    not_zero e =
-        let low = (IsOn-inside n (framed.inside n (IsStone-point (at board n) stone))).low in
-        absurd (omega (arith, low, e))
+named-has board n p old new framed stone named had = by_dec (joined? board n p)
+    (λ path e.
+    let low = (IsOn-inside n (framed.inside n (IsStone-point (at board n) stone))).low in
+    let zero : n ≡ 0 = sym (named.given p path) ∙ e in
+    absurd (omega (arith, low, zero)))
+    (λ away e. elim had [ inl some ↦ some (sym (named.others p away) ∙ e) | inr path ↦ away path ])
 
-    by_test : Dec (Joined board n p) → id_of new p ≢ 0
-    by_test (yes path) e = not_zero (sym (named.given p path) ∙ e)
-    by_test (no away) e = elim had [ inl some ↦ some (sym (named.others p away) ∙ e) | inr path ↦ away path ]
-
--- the places of a chain were given a id
+-- the places of a chain were given an id
 pub HasFragmentId-given : (board : List Cell) (n : ℕ) (chain old new : List ℕ) → IsChainOf board n chain
     → AreGiven new chain n → AreOthersKept old new chain → HasFragmentId board old new n
 HasFragmentId-given board n chain old new is_chain given others = record {
@@ -111,7 +100,7 @@ AreIdsSoFar-chain board n chain old new framed stone is_chain given others long 
       ];
     }
 
--- a place without a stone, or with a id, is passed over
+-- a place without a stone, or with an id, is passed over
 pub AreIdsSoFar-past : (board : List Cell) (n : ℕ) (ids : List ℕ) → (IsStone (at board n) → id_of ids n ≢ 0)
     → AreIdsSoFar board n ids → AreIdsSoFar board (n + 1) ids
 AreIdsSoFar-past board n ids has l = record {
@@ -124,7 +113,7 @@ AreIdsSoFar-past board n ids has l = record {
   ];
 }
 
--- where no stone is without a id, these are the ids
+-- where no stone is without an id, these are the ids
 pub AreChainIds-part : (board : List Cell) (ids : List ℕ) → length ids ≡ 702 → IsPart board ids
     → ((p : ℕ) → IsStone (at board p) → id_of ids p ≢ 0) → AreChainIds board ids
 AreChainIds-part board ids long l id_is = AreChainIds-steps board ids long (record {

@@ -1,4 +1,4 @@
--- Chains become one: their ids and their counts.
+-- Chains become one: their ids and their pseudo-liberties.
 use Rattle.std.proofs.Common.{◌≡◌, ℕ, ◌+◌, ◌-◌, ◌<◌, ◌≤◌, List, [], ◌∷◌, length, refl, sym, ◌∙◌, ap, subst, arith, inl}
 use Rattle.std.proofs.Common.{inr, get_or-set_other, get_or-set_same}
 use Rattle.std.specs.Prelude.{◌⊎◌, ◌≢◌, map}
@@ -18,9 +18,11 @@ use Rattle.go_board.proofs.boards.Cells.{IsFramed-set, empty-point}
 use Rattle.go_board.proofs.captures.CapturedStones.{in_list}
 use Rattle.go_board.proofs.ids.Paths.{IsStone-point, IsStone-filled, IsOwn, IsJoining, AreLocalIds-joining}
 use Rattle.go_board.proofs.ids.Paths.{AreLocalIds-of, AreChainIds-steps}
-use Rattle.go_board.proofs.liberties.MergingIds.{rename-same, rename-other, ArePseudoLiberties-rename, pseudo_liberties-few}
+use Rattle.go_board.proofs.liberties.MergingIds.{rename-same, rename-other, ArePseudoLiberties-rename}
+use Rattle.go_board.proofs.liberties.MergingIds.{pseudo_liberties-few}
 use Rattle.std.proofs.lemmas.Bool.{cases_eq}
-use Rattle.go_board.proofs.boards.Neighbours.{IsOn-inside}
+use Rattle.go_board.proofs.boards.Neighbours.{IsOn-inside, all_beside, left_of, under_of}
+use Rattle.go_board.proofs.General.{by_dec}
 
 -- ---- the counts
 
@@ -47,10 +49,12 @@ map-three : (to a b c : ℕ) (xs : List ℕ)
 map-three to a b c [] = refl
 map-three to a b c (x ∷ xs) = ap (λ (ys : List ℕ). rename_three to a b c x ∷ ys) (map-three to a b c xs)
 
-pub ArePseudoLiberties-first : (board : List Cell) (ids c0 c1 : List ℕ) (to a : ℕ) → to < 702 → a < 702 → length ids ≡ 702
+pub ArePseudoLiberties-first : (board : List Cell) (ids c0 c1 : List ℕ) (to a : ℕ) → to < 702 → a < 702
+    → length ids ≡ 702
     → ArePseudoLiberties board ids c0 → IsMoved c0 c1 to a
     → ArePseudoLiberties board (map (rename to a) ids) c1
-ArePseudoLiberties-first board ids c0 c1 to a t la long counts m = ArePseudoLiberties-moved board ids c0 c1 to a t la long m counts
+ArePseudoLiberties-first board ids c0 c1 to a t la long counts m = ArePseudoLiberties-moved board ids c0 c1 to a t la
+    long m counts
 
 pub ArePseudoLiberties-second : (board : List Cell) (ids c0 c1 c2 : List ℕ) (to a b : ℕ) → to < 702 → a < 702 → b < 702
     → length ids ≡ 702 → ArePseudoLiberties board ids c0 → IsMoved c0 c1 to a
@@ -109,7 +113,7 @@ rename_three-third to a b c l e = elim (cases_eq l a) [
   ]
 ]
 
--- a id becomes another where it is one of the three, and else stays
+-- an id becomes another where it is one of the three, and else stays
 pub data IsOfThree (to a b c l : ℕ) : Type 0 where
   first : l ≡ a → rename_three to a b c l ≡ to → IsOfThree to a b c l
   second : l ≡ b → rename_three to a b c l ≡ to → IsOfThree to a b c l
@@ -144,44 +148,43 @@ pub record AreOwn (board : List Cell) (ids : List ℕ) (c : Colour) (p id x y z 
 own-from : (board : List Cell) (ids : List ℕ) (c : Colour) (p q id other : ℕ) → Neighbours p q
     → IsIdOr board ids (stone c) q other id
     → (id ≡ other) ⊎ IsOwn board ids c p id
-own-from board ids c p q id other beside own = by_case (cell? (at board q) (stone c))
-  where
-    by_case : Dec (at board q ≡ stone c) → (id ≡ other) ⊎ IsOwn board ids c p id
-    by_case (yes h) = inr (record { place = q; neighbours = beside; holds = h; id_is = sym (own.there h) })
-    by_case (no k) = inl (own.absent k)
+own-from board ids c p q id other beside own = by_dec (cell? (at board q) (stone c))
+    (λ h. inr (record { place = q; neighbours = beside; holds = h; id_is = sym (own.there h) }))
+    (λ k. inl (own.absent k))
 
 -- the code's choice of ids
-pub AreOwn-chosen : (board : List Cell) (ids : List ℕ) (c : Colour) (p under above left id x y z : ℕ) → 27 ≤ p
-    → IsIdOr board ids (stone c) (p - 26) p under → IsIdOr board ids (stone c) (p + 26) under above
-    → IsIdOr board ids (stone c) (p - 1) above left
-    → IsIdOr board ids (stone c) (p + 1) left id → IsIdOr board ids (stone c) (p - 1) id x
-    → IsIdOr board ids (stone c) (p + 26) id y
-    → IsIdOr board ids (stone c) (p - 26) id z → AreOwn board ids c p id x y z
-AreOwn-chosen board ids c p under above left id x y z low a b d e f g h = record {
-  from = elim (own-from board ids c p (p + 1) id left (inl refl) e) [
+pub AreOwn-code : (board : List Cell) (ids : List ℕ) (c : Colour) (s : Cell) (p under above left id x y z : ℕ)
+    → s ≡ stone c → IsOn most_size p
+    → IsIdOr board ids s (p - 26) p under → IsIdOr board ids s (p + 26) under above
+    → IsIdOr board ids s (p - 1) above left
+    → IsIdOr board ids s (p + 1) left id → IsIdOr board ids s (p - 1) id x
+    → IsIdOr board ids s (p + 26) id y
+    → IsIdOr board ids s (p - 26) id z → AreOwn board ids c p id x y z
+AreOwn-code board ids c s p under above left id x y z is on a b d e f g h = record {
+  from = elim (own-from board ids c p (p + 1) id left (inl refl) (so e)) [
     | inr o ↦ inr o
-    | inl is_left ↦ elim (own-from board ids c p (p - 1) left above (inr (inl (before_one p low))) d) [
+    | inl is_left ↦ elim (own-from board ids c p (p - 1) left above (left_of p low) (so d)) [
       | inr o ↦ inr (own_as is_left o)
-      | inl is_above ↦ elim (own-from board ids c p (p + 26) above under (inr (inr (inl refl))) b) [
+      | inl is_above ↦ elim (own-from board ids c p (p + 26) above under (inr (inr (inl refl))) (so b)) [
         | inr o ↦ inr (own_as (is_left ∙ is_above) o)
-        | inl is_under ↦ elim (own-from board ids c p (p - 26) under p (inr (inr (inr (before_row p low)))) a) [
+        | inl is_under ↦ elim (own-from board ids c p (p - 26) under p (under_of p low) (so a)) [
           | inr o ↦ inr (own_as (is_left ∙ is_above ∙ is_under) o)
           | inl is_p ↦ inl (is_left ∙ is_above ∙ is_under ∙ is_p)
         ]
       ]
     ]
   ];
-  right = e.there;
-  left = f;
-  above = g;
-  under = h;
+  right = (so e).there;
+  left = so f;
+  above = so g;
+  under = so h;
 }
   where
-    before_one : (p : ℕ) → 27 ≤ p → p ≡ (p - 1) + 1
-    before_one p low = omega arith
+    low : 27 ≤ p
+    low = (IsOn-inside p on).low
 
-    before_row : (p : ℕ) → 27 ≤ p → p ≡ (p - 26) + 26
-    before_row p low = omega arith
+    so : {q o l : ℕ} → IsIdOr board ids s q o l → IsIdOr board ids (stone c) q o l
+    so {q} {o} {l} own = subst (λ (x : Cell). IsIdOr board ids x q o l) is own
 
     own_as : {l : ℕ} → id ≡ l → IsOwn board ids c p l → IsOwn board ids c p id
     own_as {l} e o = subst (λ (k : ℕ). IsOwn board ids c p k) (sym e) o
@@ -193,7 +196,7 @@ pub IsJoining-code : (board : List Cell) (ids new : List ℕ) (c : Colour) (p id
 IsJoining-code board ids new c p id x y z framed long low high empty own made = record {
   here = at_p;
   from = own.from;
-  joins = λ q beside holds. by_side q beside holds;
+  joins = by_side;
   alike = λ q r s t e. at_stone q s ∙ ap f e ∙ sym (at_stone r t);
   others = λ q s. by_three q s (of_three id x y z (id_of ids q));
 }
@@ -229,32 +232,14 @@ IsJoining-code board ids new c p id x y z framed long low high empty own made = 
         → id_of new q ≡ id
     turned q k s e h = at_stone q s ∙ ap (rename_three id x y z) e ∙ h
 
-    rename_three-x : rename_three id x y z x ≡ id
-    rename_three-x = rename_three-a id x y z x refl
-
-    rename_three-y : rename_three id x y z y ≡ id
-    rename_three-y = rename_three-b id x y z y refl
-
-    rename_three-z : rename_three id x y z z ≡ id
-    rename_three-z = rename_three-third id x y z z refl
-
     by_side : (q : ℕ) → Neighbours p q → at board q ≡ stone c → id_of new q ≡ id
-    by_side q (inl e) h =
-        turned q id (c, h) (ap (id_of ids) e ∙ sym (own.right (ap (λ (k : ℕ). at board k) (sym e) ∙ h)))
-        (rename_three-to id x y z)
-    by_side q (inr (inl e)) h =
-        let is : q ≡ p - 1 = omega arith in
-        turned q x (c, h) (ap (id_of ids) is ∙ sym (own.left.there (ap (λ (k : ℕ). at board k) (sym is) ∙ h)))
-        rename_three-x
-    by_side q (inr (inr (inl e))) h =
-        turned q y (c, h) (ap (id_of ids) e ∙ sym (own.above.there (ap (λ (k : ℕ). at board k) (sym e) ∙ h)))
-        rename_three-y
-    by_side q (inr (inr (inr e))) h =
-        let is : q ≡ p - 26 = omega arith in
-        turned q z (c, h) (ap (id_of ids) is ∙ sym (own.under.there (ap (λ (k : ℕ). at board k) (sym is) ∙ h)))
-        rename_three-z
+    by_side = all_beside (λ q. at board q ≡ stone c → id_of new q ≡ id) p
+        (λ h. turned (p + 1) id (c, h) (sym (own.right h)) (rename_three-to id x y z))
+        (λ h. turned (p - 1) x (c, h) (sym (own.left.there h)) (rename_three-a id x y z x refl))
+        (λ h. turned (p + 26) y (c, h) (sym (own.above.there h)) (rename_three-b id x y z y refl))
+        (λ h. turned (p - 26) z (c, h) (sym (own.under.there h)) (rename_three-third id x y z z refl))
 
-    -- a id of the three is that of a neighbour, or the new stone's own
+    -- an id of the three is that of a neighbour, or the new stone's own
     one_of : (q k r : ℕ) → Neighbours p r → IsStone (at board q) → id_of ids q ≡ k
         → rename_three id x y z (id_of ids q) ≡ id → IsIdOr board ids (stone c) r id k
         → (id_of new q ≡ id_of ids q) ⊎ ((id_of new q ≡ id) × IsOwn board ids c p (id_of ids q))
@@ -296,18 +281,3 @@ AreChains-set board ids new c p id x y z on empty chains own made =
           ∙ long)
           (AreLocalIds-joining board ids new c p id empty (AreLocalIds-of board ids chains.ids) joining);
     }
-
--- the code's ids, with the stone as the code has it
-pub AreOwn-code : (board : List Cell) (ids : List ℕ) (c : Colour) (s : Cell) (p under above left id x y z : ℕ)
-    → s ≡ stone c → IsOn most_size p
-    → IsIdOr board ids s (p - 26) p under → IsIdOr board ids s (p + 26) under above
-    → IsIdOr board ids s (p - 1) above left
-    → IsIdOr board ids s (p + 1) left id → IsIdOr board ids s (p - 1) id x
-    → IsIdOr board ids s (p + 26) id y
-    → IsIdOr board ids s (p - 26) id z → AreOwn board ids c p id x y z
-AreOwn-code board ids c s p under above left id x y z is on a b d e f g h =
-    AreOwn-chosen board ids c p under above left id x y z (IsOn-inside p on).low (so a) (so b) (so d) (so e)
-    (so f) (so g) (so h)
-  where
-    so : {q o l : ℕ} → IsIdOr board ids s q o l → IsIdOr board ids (stone c) q o l
-    so {q} {o} {l} own = subst (λ (x : Cell). IsIdOr board ids x q o l) is own

@@ -33,7 +33,7 @@ Joined-back (by_way_of {p} {q} r point next same rest) =
     Joined-then (Joined-back rest)
     (by_way_of p (λ e. point (sym same ∙ e)) (Neighbours-sym next) (sym same) (itself point))
 
--- a path stands where all that is joined to its start is as it was
+-- a path stays where all that is joined to its start is as it was
 pub Joined-kept : (old new : List Cell) {p q : ℕ} → ((r : ℕ) → Joined old p r → at new r ≡ at old r) → Joined old p q
     → Joined new p q
 Joined-kept old new kept (itself {p} point) = itself (λ e. point (sym (kept p (itself point)) ∙ e))
@@ -52,7 +52,7 @@ IsStone-filled x s e = stone-filled s.0 (sym s.1 ∙ e)
 pub IsStone-joined : (board : List Cell) (p q : ℕ) → Joined board p q → IsStone (at board p) → IsStone (at board q)
 IsStone-joined board p q path s = (s.0, Joined-same path ∙ s.1)
 
--- ---- ids, told step by step
+-- ---- ids, step by step
 
 -- each id is that of a stone of the chain, and neighbours of one colour have the same
 pub record AreLocalIds (board : List Cell) (ids : List ℕ) : Type 0 where
@@ -88,7 +88,7 @@ AreLocalIds-of board ids a = record {
       (itself (λ e. IsStone-point (at board p) s (sym same ∙ e))));
 }
 
--- ---- a stone is put on an empty point
+-- ---- a stone is placed on an empty point
 
 -- a neighbour of the point with a stone of this colour and this id
 pub record IsOwn (board : List Cell) (ids : List ℕ) (c : Colour) (p id : ℕ) : Type 0 where
@@ -195,7 +195,7 @@ AreLocalIds-joining board ids new c p id empty l j = record {
 
 -- ---- whole chains are removed
 
--- what stands is as it was, and so is all that is joined to it
+-- what is left is as it was, and so is all that is joined to it
 pub record IsLess (old new : List Cell) : Type 0 where
   pub kept : (p : ℕ) → IsStone (at new p) → at new p ≡ at old p
   pub whole : (p q : ℕ) → IsStone (at new p) → Joined old p q → at new q ≡ at old q

@@ -1,4 +1,4 @@
--- ChainIds that are places.
+-- Chain ids that are places.
 use Rattle.std.proofs.Common.{◌≡◌, ℕ, ◌<◌, List, length, replicate, refl, sym, ◌∙◌, subst, arith, Bool, true, false}
 use Rattle.std.proofs.Common.{cond}
 use Rattle.std.specs.Prelude.{◌==◌, map}

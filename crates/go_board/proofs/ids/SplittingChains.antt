@@ -1,4 +1,4 @@
--- ChainIds when a stone is lifted from its place: its chain may fall apart.
+-- Chain ids when a stone is removed: its chain may fall apart.
 use Rattle.std.proofs.Common.{◌≡◌, ℕ, ◌+◌, ◌-◌, ◌<◌, ◌≤◌, List, length, refl, sym, ◌∙◌, ap, subst, arith, inl, inr}
 use Rattle.std.proofs.Common.{Bool, true, cond, get_or-set_other, get_or-set_same}
 use Rattle.std.specs.Prelude.{◌⊎◌, ◌≢◌, ◌==◌, ◌&&◌, map}
@@ -26,7 +26,7 @@ use Rattle.go_board.proofs.boards.Neighbours.{IsOn-inside, all_beside}
 
 -- ---- paths without a place
 
--- a path by way of p: behind p it goes on from a neighbour of p
+-- a path by way of p: after p it goes on from a neighbour of p
 pub record IsByWayOf (board : List Cell) (p q r : ℕ) : Type 0 where
   pub side : ℕ
   pub neighbours : Neighbours p side
@@ -37,7 +37,7 @@ pub record IsByWayOf (board : List Cell) (p q r : ℕ) : Type 0 where
 still : (board : List Cell) (p q : ℕ) → q ≢ p → at (set board p Empty) q ≡ at board q
 still board p q another = get_or-set_other board p q Empty Edge another
 
--- a path to another place goes by way of p, or stands without it
+-- a path to another place goes by way of p, or doesn't need it
 pub with_or_without : (board : List Cell) (p : ℕ) {q r : ℕ} → r ≢ p → Joined board q r
     → ((q ≢ p) × Joined (set board p Empty) q r) ⊎ IsByWayOf board p q r
 with_or_without board p off (itself {p = q} point) = inl (off, itself (λ e. point (sym (still board p q off) ∙ e)))
@@ -113,7 +113,7 @@ some-side f p = all_beside (λ a. f a ≡ 1 → 0 < f (p + 1) + f (p - 1) + f (p
 gone : (board : List Cell) (p : ℕ) → IsStone (at board p) → at (set board p Empty) p ≡ Empty
 gone board p s = get_or-set_same board p Empty Edge (in_list board p (IsStone-point (at board p) s))
 
--- a stone that is left stands elsewhere, and stood before
+-- a stone that is left is elsewhere, and stood there before
 left-stone : (board : List Cell) (p q : ℕ) → IsStone (at board p) → IsStone (at (set board p Empty) q)
     → (q ≢ p) × IsStone (at board q)
 left-stone board p q s t =
@@ -248,13 +248,14 @@ IsSplitting-start board ids new place id framed c made = record {
         let low = (IsOn-inside (id_of ids q) (framed.inside (id_of ids q) point)).low in
         absurd (omega (arith, low, e))
 
--- the chain of one place was named: ids stay, and a stone there has one
+-- the chain of one place got the place as its id: ids stay, and a stone there has one
 pub record IsFurther (board : List Cell) (old new : List ℕ) (place n : ℕ) : Type 0 where
   pub splitting : IsSplitting board new place
   pub kept : (p : ℕ) → IsStone (at board p) → id_of old p ≢ 0 → id_of new p ≢ 0
   pub here : IsStone (at board n) → id_of new n ≢ 0
 
-pub IsFurther-named : (board : List Cell) (old new : List ℕ) (place n : ℕ) → IsFramed board → IsFragmentSet board old new n
+pub IsFurther-named : (board : List Cell) (old new : List ℕ) (place n : ℕ) → IsFramed board
+    → IsFragmentSet board old new n
     → IsSplitting board old place → IsFurther board old new place n
 IsFurther-named board old new place n framed (inl named) l = record {
   splitting = record {
@@ -273,11 +274,12 @@ IsFurther-named board old new place n framed (inr same) l = record {
   here = λ s. subst (λ (ls : List ℕ). id_of ls n ≢ 0) (sym same.1) (same.0 s);
 }
 
--- once the chains of all four neighbours are named, all stones have ids
+-- once the chains of all four neighbours have ids, all stones have
 pub AreChainIds-split : (board : List Cell) (ids l1 l2 l3 l4 l5 : List ℕ) (place id : ℕ) → IsFramed board
     → IsCut board ids place id
     → l1 ≡ map (rename_three 0 id id id) ids → IsFragmentSet board l1 l2 (place + 1)
-    → IsFragmentSet board l2 l3 (place - 1) → IsFragmentSet board l3 l4 (place + 26) → IsFragmentSet board l4 l5 (place - 26)
+    → IsFragmentSet board l2 l3 (place - 1) → IsFragmentSet board l3 l4 (place + 26)
+    → IsFragmentSet board l4 l5 (place - 26)
     → length l5 ≡ 702 → AreChainIds board l5
 AreChainIds-split board ids l1 l2 l3 l4 l5 place id framed c made n2 n3 n4 n5 long =
     let f1 = IsSplitting-start board ids l1 place id framed c made in

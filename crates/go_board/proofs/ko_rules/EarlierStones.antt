@@ -1,11 +1,11 @@
--- Which boards of a record may have had a stone that stands no more.
+-- Which boards of a record may have had a stone that is no longer there.
 use Rattle.std.proofs.Common.{◌≡◌, ℕ, zero, suc, ◌+◌, ◌<◌, ◌≤◌, List, [], ◌∷◌, ◌++◌, length, refl, sym, ◌∙◌, ap}
 use Rattle.std.proofs.Common.{subst, arith}
 use Rattle.std.proofs.Common.{inl, inr, Bool, true, false, cond, Contains, take, get_or, get_or-set_other}
 use Rattle.std.specs.Prelude.{◌⊎◌, ◌≢◌, Some, slice_get}
 use Rattle.std.specs.List.{range_with_len, filter, AllByRecursion}
 use Rattle.std.proofs.lemmas.List.{length_push}
-use Rattle.std.proofs.lemmas.Option.{slice_get_within}
+use Rattle.std.proofs.lemmas.Option.{slice_get_within, slice_get_read}
 use Rattle.std.proofs.lemmas.List.Elements.{Contains-append_left, Contains-append_right, Contains-append_cases}
 use Rattle.std.proofs.Math.ListN.{set}
 use Rattle.go_base.specs.Colour.{other}
@@ -18,7 +18,8 @@ use Rattle.go_board.specs.Game.{GameRecord, start, board, board_of, first_moves,
 use Rattle.go_board.specs.Game.{IsGame, IsLegal}
 use Rattle.go_board.specs.Play.{is_captured, play}
 use Rattle.go_board.specs.decisions.Chain.{captured?}
-use Rattle.go_board.specs.private.TakenStack.{WasTaken, StoodBelow, RepeatsBelow, IsAlsoBelow, IsVacant, captured_places}
+use Rattle.go_board.specs.private.TakenStack.{WasTaken, StoodBelow, RepeatsBelow, IsAlsoBelow, IsVacant}
+use Rattle.go_board.specs.private.TakenStack.{captured_places}
 use Rattle.go_board.specs.private.TakenStack.{taken_places, stack_from, stack_of, taken_at}
 use Rattle.go_board.specs.declared.board.Cell.{Cell}
 use Rattle.go_board.specs.declared.board.Cell.TheVariants.{Edge, Empty}
@@ -28,17 +29,19 @@ use Rattle.go_board.proofs.captures.CapturedStones.{holds-yes, in_list}
 use Rattle.go_board.proofs.ko_rules.PlaysTakenBack.{IsAfter, taken as gone, left as stays, after-play}
 use Rattle.go_board.proofs.records.Moves.{board-push, by_moves, IsBeforeMove, first_moves-with_move, slice_get-longer}
 use Rattle.go_board.proofs.records.Moves.{slice_get-end}
-use Rattle.go_board.proofs.captures.FreeStones.{new-stone}
+use Rattle.go_board.proofs.captures.FreeStones.{new-stone, own-kept}
 use Rattle.go_board.proofs.records.EveryGame.{legal-open, board-with_move, IsOrderly-game}
 use Rattle.go_board.proofs.records.TakenStack.{stack_of-with_move}
-use Rattle.go_board.proofs.ko_rules.ReplayedBoards.{numbers-from, take-step, slice_get-from}
+use Rattle.go_board.proofs.ko_rules.ReplayedBoards.{numbers-from, take-step}
 use denote.Enum.Bare.{sameb}
 use mathlib.Core.Bool.{not}
 use Rattle.go_base.specs.contracts.colours.Colour.{the_type}
 use Rattle.go_base.specs.declared.colours.Colour.TheVariants as colour
 use Rattle.std.proofs.lemmas.Bool.{cases_eq}
+use Rattle.go_board.proofs.General.{all-first, all-second}
+use Rattle.std.proofs.Math.Seq.{take-length}
 
--- ---- what stood on a place and stands there no more was taken
+-- ---- what stood on a place and is no longer there was taken
 
 taken-picked : (test : ℕ → Bool) (number a n q : ℕ) → a ≤ q → q < a + n → test q ≡ true
     → Contains (taken_at number (filter test (range_with_len a n))) (record { place = q; number = number })
@@ -97,7 +100,7 @@ stays-more b c (At p) n q d empty h = by_case (after-play b c p q)
     )
     by_case (stays k e) = inl (e ∙ get_or-set_other b p q (stone c) Edge another ∙ h)
 
--- what stood on a place after some of the moves stands there after more of them, or was taken
+-- what stood on a place after some of the moves is there after more of them, or was taken
 abbrev StaysOrTaken : GameRecord → Type 0
 StaysOrTaken game = (k n q : ℕ) (d : Colour) → k ≤ n → n ≤ length game.moves
     → at (board_of (first_moves k game)) q ≡ stone d
@@ -120,11 +123,7 @@ taken-longer game c v d q k w = record {
 }
 
 whole : (game : GameRecord) → first_moves (length game.moves) game ≡ game
-whole game = ap (λ (ms : List Move). let g : GameRecord = record game { moves = ms } in g) (take_all game.moves)
-  where
-    take_all : (ms : List Move) → take (length ms) ms ≡ ms
-    take_all [] = refl
-    take_all (m ∷ ms) = ap (λ (xs : List Move). m ∷ xs) (take_all ms)
+whole game = ap (λ (ms : List Move). let g : GameRecord = record game { moves = ms } in g) (take-length game.moves)
 
 stays-with_move : (game : GameRecord) (c : Colour) (v : Vertex) → IsBeforeMove game c v → StaysOrTaken game
     → StaysOrTaken (with_move game c v)
@@ -227,14 +226,7 @@ below-start game c p few g empty stood k within same =
 
 -- a stone of the same colour stays where it is
 own-stays : (b : List Cell) (c : Colour) (p q : ℕ) → at b p ≡ Empty → at b q ≡ stone c → at (play b c p) q ≡ stone c
-own-stays b c p q empty h = by_case (stays-more b c (At p) 0 q c empty h)
-  where
-    by_case : (at (play b c p) q ≡ stone c)
-        ⊎ (Contains (taken_at 0 (captured_places (set b p (stone c)) (other c))) (record { place = q; number = 0 })
-        × (c ≢ c))
-        → at (play b c p) q ≡ stone c
-    by_case (inl there) = there
-    by_case (inr taken) = absurd (taken.1 refl)
+own-stays b c p q empty h = own-kept b c p q (λ same. stone-filled c (sym h ∙ ap (at b) same ∙ empty)) h ∙ h
 
 -- and only those that had the stone of each later move of its colour
 pub below-more : (game : GameRecord) (c : Colour) (p t q few less : ℕ) → IsGame game → at (board_of game) p ≡ Empty
@@ -299,14 +291,6 @@ abbrev pub InOrder : List TakenStone → Type 0
 InOrder [] = Unit {0}
 InOrder (t ∷ ts) = AllByRecursion (λ (u : TakenStone). t.number ≤ u.number) ts × InOrder ts
 
-all-first : (P : TakenStone → Type 0) (ts us : List TakenStone) → AllByRecursion P (ts ++ us) → AllByRecursion P ts
-all-first P [] us all = tt
-all-first P (t ∷ ts) us all = (all.0, all-first P ts us all.1)
-
-all-last : (P : TakenStone → Type 0) (ts : List TakenStone) (u : TakenStone) → AllByRecursion P (ts ++ u ∷ []) → P u
-all-last P [] u all = all.0
-all-last P (t ∷ ts) u all = all-last P ts u all.1
-
 all-at : (P : TakenStone → Type 0) (ts : List TakenStone) (u : TakenStone) (k : ℕ) → AllByRecursion P ts → k < length ts
     → get_or ts k u ≡ u → P u
 all-at P [] u k all less e = absurd (omega (arith, less))
@@ -320,7 +304,8 @@ order-first (t ∷ ts) us o = (all-first (λ (u : TakenStone). t.number ≤ u.nu
 order-last : (ts : List TakenStone) (u : TakenStone) → InOrder (ts ++ u ∷ [])
     → AllByRecursion (λ (t : TakenStone). t.number ≤ u.number) ts
 order-last [] u o = tt
-order-last (t ∷ ts) u o = (all-last (λ (v : TakenStone). t.number ≤ v.number) ts u o.0, order-last ts u o.1)
+order-last (t ∷ ts) u o =
+    ((all-second (λ (v : TakenStone). t.number ≤ v.number) ts (u ∷ []) o.0).0, order-last ts u o.1)
 
 order-from : (b : List Cell) (n : ℕ) (ms : List Move) → InOrder (stack_from b n ms)
 order-from b n [] = tt
@@ -357,8 +342,8 @@ read-start game d q g = let o = IsOrderly-game game g in
 pub read-below : (game : GameRecord) (d : Colour) (q : ℕ) (left earlier : List TakenStone) (last : TakenStone)
     → IsReadDown game d q left → left ≡ earlier ++ last ∷ [] → last.number < length game.moves
 read-below game d q left earlier last r e =
-    all-last (λ (t : TakenStone). t.number < length game.moves) earlier last
-    (subst (AllByRecursion (λ (t : TakenStone). t.number < length game.moves)) e r.below)
+    (all-second (λ (t : TakenStone). t.number < length game.moves) earlier (last ∷ [])
+    (subst (AllByRecursion (λ (t : TakenStone). t.number < length game.moves)) e r.below)).0
 
 -- no stone that is left was taken later than the last
 pub read-found : (game : GameRecord) (d : Colour) (q : ℕ) (left earlier : List TakenStone) (last : TakenStone)
@@ -379,7 +364,8 @@ read-found game d q left earlier last r e k w = by_case (Contains-append_cases e
         let later = x.later in omega (arith, later, most)
     by_case (inr there) =
         let most : x.number ≤ last.number =
-        all-at (λ (t : TakenStone). t.number ≤ last.number) (last ∷ []) (record { place = q; number = x.number }) there.0
+        all-at (λ (t : TakenStone). t.number ≤ last.number) (last ∷ []) (record { place = q; number = x.number })
+        there.0
         (omega arith, tt) there.1 there.2 in
         let later = x.later in omega (arith, later, most)
 
@@ -416,7 +402,8 @@ read-more game d q left earlier last r e other_one = record {
             ((λ place number. other_one w.mover place (ap (slice_get game.moves) number ∙ w.made) w.differs), tt)
             there.1 there.2 refl refl)
 
-pub read-all : (game : GameRecord) (d : Colour) (q : ℕ) (left : List TakenStone) → IsReadDown game d q left → length left ≡ 0
+pub read-all : (game : GameRecord) (d : Colour) (q : ℕ) (left : List TakenStone) → IsReadDown game d q left
+    → length left ≡ 0
     → StoodBelow game d q 0
 read-all game d q left r none k w = let x = r.all k w in let below = (x.there).1 in absurd (omega (arith, below, none))
 
@@ -424,7 +411,7 @@ read-all game d q left r none k w = let x = r.all k w in let below = (x.there).1
 pub same-mover : (ms : List Move) (k : ℕ) (r m : Move) (c : Colour) → k < length ms → r ≡ get_or ms k r
     → false ≡ not (sameb the_type (get_or ms k r).colour c) → slice_get ms k ≡ Some m → m.colour ≢ c → ⊥
 same-mover ms k r m c less is alike e differs =
-    let found : slice_get ms k ≡ Some r = slice_get-from ms k r less is in
+    let found : slice_get ms k ≡ Some r = slice_get_read ms (length ms) k r refl less is in
     let same : m ≡ r = cc in
     differs (ap (λ (x : Move). x.colour) (same ∙ is) ∙ same-colour (get_or ms k r).colour c alike)
   where

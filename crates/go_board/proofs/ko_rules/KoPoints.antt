@@ -15,18 +15,16 @@ use Rattle.go_board.specs.declared.board.Cell.{Cell}
 use Rattle.go_board.specs.declared.board.Cell.TheVariants.{Empty}
 use Rattle.go_board.proofs.boards.Cells.{stone-filled}
 use Rattle.go_board.proofs.records.Moves.{board-push, without_last-with_move}
-use Rattle.go_board.proofs.ko_rules.PlaysTakenBack.{IsBack, IsBack-from, back-from, other-other, other-twice, taken-held}
+use Rattle.go_board.proofs.ko_rules.PlaysTakenBack.{IsBack, IsBack-from, back-from, other-other, other-twice}
+use Rattle.go_board.proofs.ko_rules.PlaysTakenBack.{taken-held}
 use Rattle.go_board.proofs.captures.FreeStones.{new-stone}
 use Rattle.go_board.proofs.ko_rules.LoneStones.{alone-from}
+use Rattle.go_board.proofs.records.EveryGame.{board-with_move}
 
 -- without a move there is no ko
 pub IsKo-start : (game : GameRecord) → game.moves ≡ [] → IsKo game None
 IsKo-start game none c p empty =
     ((λ r. let moved = r.moved in absurd (omega (arith, moved, ap length none))), (λ h. absurd h))
-
-board-with_move : (game : GameRecord) (c : Colour) (v : Vertex)
-    → board_of (with_move game c v) ≡ after_vertex (board_of game) c v
-board-with_move game c v = board-push game.size game.handicap game.moves (record { colour = c; vertex = v })
 
 board-before : (game : GameRecord) (c : Colour) (v : Vertex)
     → board_of (without_last (with_move game c v)) ≡ board_of game

@@ -18,8 +18,7 @@ use Rattle.go_board.proofs.ko_rules.KoPoints.{IsKo-start, IsKo-pass, IsKo-play, 
 use Rattle.go_board.proofs.ko_rules.OneCapture.{TakesOnly-places, captures-one}
 use Rattle.go_board.proofs.records.EveryGame.{IsOrderly-game}
 use Rattle.go_board.proofs.undo.PoppedStones.{popped-all, not_last-numbers}
-use Rattle.go_board.proofs.records.TakenStack.{stack_of-with_move}
-use Rattle.go_board.proofs.undo.UnmadePlays.{counted-all}
+use Rattle.go_board.proofs.records.TakenStack.{stack_of-with_move, places-count}
 
 pub ko_after-pass : (moves earlier : List Move) (last : Move) (stones : List TakenStone) → moves ≡ earlier ++ last ∷ []
     → last.vertex ≡ Pass → IsKoAfter moves stones None
@@ -66,7 +65,7 @@ ko-none before c p b none =
     let places = captured_places (set (board_of before) p (stone c)) (other c) in
     IsKo-many before c p l.empty (λ q only.
     let one =
-    one-place places (counted-all (set (board_of before) p (stone c)) (other c)
+    one-place places (places-count (set (board_of before) p (stone c)) (other c)
     ∙ captures-one (board_of before) c p q only) in
     none one.0 (record {
       before = stack_of before;
@@ -96,4 +95,5 @@ ko_after-none moves earlier last stones p ends is_play none game g is gone =
     ap (λ (v : Vertex). with_move before last.colour v) (sym is_play) ∙ with-last game earlier last (sym is ∙ ends) in
     subst (λ (h : GameRecord). IsKo h None) same
     (ko-none before last.colour p (IsBeforeMove-from before last.colour (At p) (subst IsGame (sym same) g))
-    (subst (λ (ts : List TakenStone). (q : ℕ) → ¬ IsOnlyTaken ts (length earlier) q) (gone ∙ ap stack_of (sym same)) none))
+    (subst (λ (ts : List TakenStone). (q : ℕ) → ¬ IsOnlyTaken ts (length earlier) q) (gone ∙ ap stack_of (sym same))
+    none))

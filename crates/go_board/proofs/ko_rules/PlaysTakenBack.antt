@@ -41,14 +41,20 @@ after-play board c p q = by_case (captured? cells (other c) q)
         ∙ ap (λ (b : Bool). cond b Empty (at (set board p (stone c)) q))
         (holds-no (captured? (set board p (stone c)) (other c) q) k))
 
+-- so what follows from each of the two holds
+pub by_play : {B : Type 0} (board : List Cell) (c : Colour) (p q : ℕ)
+    → (IsCaptured (set board p (stone c)) (other c) q → at (play board c p) q ≡ Empty → B)
+    → (¬ IsCaptured (set board p (stone c)) (other c) q → at (play board c p) q ≡ at (set board p (stone c)) q → B) → B
+by_play {B = B} board c p q gone kept = by_case (after-play board c p q)
+  where
+    by_case : IsAfter board c p q → B
+    by_case (taken h e) = gone h e
+    by_case (left k e) = kept k e
+
 -- nothing is left where a stone was taken
 pub taken-empty : (board : List Cell) (c : Colour) (p q : ℕ) → IsCaptured (set board p (stone c)) (other c) q
     → at (play board c p) q ≡ Empty
-taken-empty board c p q h = by_case (after-play board c p q)
-  where
-    by_case : IsAfter board c p q → at (play board c p) q ≡ Empty
-    by_case (taken k e) = e
-    by_case (left k e) = absurd (k h)
+taken-empty board c p q h = by_play board c p q (λ k e. e) (λ k e. absurd (k h))
 
 pub length-play : (board : List Cell) (c : Colour) (p : ℕ) → length (play board c p) ≡ length board
 unfolding play without_captured
@@ -69,21 +75,18 @@ other-twice colour.White colour.Black e = cc
 other-twice colour.White colour.White e = cc
 
 -- what is empty but for the point of a play stays empty
-pub empty-after : (board : List Cell) (c : Colour) (p q : ℕ) → q ≢ p → at board q ≡ Empty → at (play board c p) q ≡ Empty
-empty-after board c p q another empty = by_case (after-play board c p q)
-  where
-    by_case : IsAfter board c p q → at (play board c p) q ≡ Empty
-    by_case (taken h e) = e
-    by_case (left k e) = e ∙ get_or-set_other board p q (stone c) Edge another ∙ empty
+pub empty-after : (board : List Cell) (c : Colour) (p q : ℕ) → q ≢ p → at board q ≡ Empty
+    → at (play board c p) q ≡ Empty
+empty-after board c p q another empty =
+    by_play board c p q (λ h e. e) (λ k e. e ∙ get_or-set_other board p q (stone c) Edge another ∙ empty)
 
 -- a stone that was there and is gone was taken
-taken-from_gone : (board : List Cell) (c : Colour) (p q : ℕ) → q ≢ p → at board q ≢ Empty → at (play board c p) q ≡ Empty
+taken-from_gone : (board : List Cell) (c : Colour) (p q : ℕ) → q ≢ p → at board q ≢ Empty
+    → at (play board c p) q ≡ Empty
     → IsCaptured (set board p (stone c)) (other c) q
-taken-from_gone board c p q another held gone = by_case (after-play board c p q)
-  where
-    by_case : IsAfter board c p q → IsCaptured (set board p (stone c)) (other c) q
-    by_case (taken h e) = h
-    by_case (left k e) = absurd (held (sym (get_or-set_other board p q (stone c) Edge another) ∙ sym e ∙ gone))
+taken-from_gone board c p q another held gone =
+    by_play board c p q (λ h e. h)
+    (λ k e. absurd (held (sym (get_or-set_other board p q (stone c) Edge another) ∙ sym e ∙ gone)))
 
 -- a stone that is taken was there, and isn't the new one
 pub taken-other : (board : List Cell) (c : Colour) (p q : ℕ) → at board p ≡ Empty
@@ -146,24 +149,16 @@ IsBack-from board next c d p q empty is free back = record {
     -- a further stone that the first play took would be missing
     first_no_more : (r : ℕ) → r ≢ q → IsCaptured (set board p (stone c)) (other c) r → ⊥
     first_no_more r another h =
-        let gone : at next r ≡ Empty = ap (λ (b : List Cell). at b r) is ∙ took (after-play board c p r) in
+        let gone : at next r ≡ Empty = ap (λ (b : List Cell). at b r) is ∙ taken-empty board c p r h in
         stone-filled (other c) (sym (taken-held board c p r empty h) ∙ ap (λ (b : List Cell). at b r) (sym back)
         ∙ empty-after next d q r another gone)
-      where
-        took : IsAfter board c p r → at (play board c p) r ≡ Empty
-        took (taken _ e) = e
-        took (left k e) = absurd (k h)
 
     -- a further stone that the second play took was no new one
     second_no_more : (r : ℕ) → r ≢ p → IsCaptured (set next q (stone d)) (other d) r → ⊥
     second_no_more r another h =
-        let gone : at board r ≡ Empty = ap (λ (b : List Cell). at b r) (sym back) ∙ took (after-play next d q r) in
+        let gone : at board r ≡ Empty = ap (λ (b : List Cell). at b r) (sym back) ∙ taken-empty next d q r h in
         stone-filled (other d) (sym (taken-held next d q r free h) ∙ ap (λ (b : List Cell). at b r) is
         ∙ empty-after board c p r another gone)
-      where
-        took : IsAfter next d q r → at (play next d q) r ≡ Empty
-        took (taken _ e) = e
-        took (left k e) = absurd (k h)
 
 pub back-from : (board next : List Cell) (c d : Colour) (p q : ℕ) → at board p ≡ Empty → next ≡ play board c p
     → at next q ≡ Empty → IsBack board next c d p q → play next d q ≡ board
@@ -182,7 +177,7 @@ back-from board next c d p q empty is free b =
           ap (λ (k : ℕ). at (play next d q) k) e ∙ at-play next d q (empty-point next q free) ∙ ap stone b.colours
           ∙ sym (taken-held board c p q empty first_took) ∙ ap (λ (k : ℕ). at board k) (sym e)
       | inr not_q ↦ elim (cases_eq r p) [
-        | inl e ↦ ap (λ (k : ℕ). at (play next d q) k) e ∙ gone (after-play next d q p) ∙ sym empty
+        | inl e ↦ ap (λ (k : ℕ). at (play next d q) k) e ∙ taken-empty next d q p second_took ∙ sym empty
             ∙ ap (λ (k : ℕ). at board k) (sym e)
         | inr not_p ↦
             second_left not_p (after-play next d q r) ∙ get_or-set_other next q r (stone d) Edge not_q
@@ -191,10 +186,6 @@ back-from board next c d p q empty is free b =
       ]
     ]
       where
-        gone : IsAfter next d q p → at (play next d q) p ≡ Empty
-        gone (taken _ e) = e
-        gone (left k e) = absurd (k second_took)
-
         second_left : r ≢ p → IsAfter next d q r → at (play next d q) r ≡ at (set next q (stone d)) r
         second_left not_p (taken h e) = absurd (not_p ((b.second r).0 h))
         second_left not_p (left k e) = e

@@ -31,7 +31,7 @@ use Rattle.go_board.specs.private.TakenStack.{taken_places, stack_from, stack_of
 use Rattle.go_board.specs.declared.board.Cell.{Cell}
 use Rattle.go_board.specs.declared.board.Cell.TheVariants.{Edge, Empty, Black, White}
 use Rattle.go_board.specs.declared.taken_stack.TakenStone.{TakenStone}
-use Rattle.go_board.proofs.captures.CapturedStones.{at-without_captured, SameEdge-play}
+use Rattle.go_board.proofs.captures.CapturedStones.{at-without_captured, SameEdge-play, SameEdge-set}
 use Rattle.go_board.proofs.ko_rules.PlaysTakenBack.{taken-empty}
 use Rattle.go_board.proofs.records.Moves.{board-push, by_moves}
 use Rattle.go_board.proofs.boards.Cells.{empty-point}
@@ -40,6 +40,7 @@ use Rattle.go_board.proofs.undo.RestoredStones.{length-with_stones, filled-in, f
 use Rattle.go_board.proofs.records.TakenStack.{stack_of-with_move}
 use Rattle.go_board.proofs.undo.UnmadePlays.{all-captured}
 use Rattle.std.proofs.lemmas.Bool.{cases_eq}
+use Rattle.go_board.proofs.General.{all-where, all-append}
 
 -- ---- equal boards
 
@@ -75,30 +76,24 @@ pub cleared-same : (b : List Cell) (n : ℕ) (t : TakenStone) (ts : List TakenSt
     → cleared b n (t ∷ ts) ≡ cleared (set b t.place Empty) n ts
 cleared-same b n t ts e = ap (λ (x : Bool). cond x (cleared (set b t.place Empty) n ts) b) e
 
-pub later-other : (n : ℕ) (t : TakenStone) (ts : List TakenStone) → (t.number == n) ≡ false → later_than n (t ∷ ts) ≡ t ∷ ts
+pub later-other : (n : ℕ) (t : TakenStone) (ts : List TakenStone) → (t.number == n) ≡ false
+    → later_than n (t ∷ ts) ≡ t ∷ ts
 later-other n t ts e = ap (λ (x : Bool). cond x (later_than n ts) (t ∷ ts)) e
 
 pub later-same : (n : ℕ) (t : TakenStone) (ts : List TakenStone) → (t.number == n) ≡ true
     → later_than n (t ∷ ts) ≡ later_than n ts
 later-same n t ts e = ap (λ (x : Bool). cond x (later_than n ts) (t ∷ ts)) e
 
--- a place that is no edge stays one where a point is cleared
-point-kept : (b : List Cell) (p q : ℕ) (x : Cell) → x ≢ Edge → at b p ≢ Edge → at b q ≢ Edge → at (set b p x) q ≢ Edge
-point-kept b p q x filled here there = elim (cases_eq q p) [
-  | inl same ↦ λ e. filled (sym (get_or-set_same b p x Edge (inside b p here)) ∙ ap (at (set b p x)) (sym same) ∙ e)
-  | inr another ↦ λ e. there (sym (get_or-set_other b p q x Edge another) ∙ e)
-]
-  where
-    inside : (b : List Cell) (p : ℕ) → at b p ≢ Edge → p < length b
-    inside [] p k = absurd (k refl)
-    inside (c ∷ cs) zero k = omega arith
-    inside (c ∷ cs) (suc p) k = let below = inside cs p k in omega (arith, below)
+-- where each place that isn't edge still isn't, the stones stood on points still
+points-where : (a b : List Cell) (ts : List TakenStone) → ((q : ℕ) → at a q ≢ Edge → at b q ≢ Edge) → ArePoints a ts
+    → ArePoints b ts
+points-where a b ts kept =
+    all-where (λ (t : TakenStone). at a t.place ≢ Edge) (λ (t : TakenStone). at b t.place ≢ Edge) (λ t. kept t.place) ts
 
 pub points-kept : (b : List Cell) (p : ℕ) (x : Cell) (ts : List TakenStone) → x ≢ Edge → at b p ≢ Edge → ArePoints b ts
     → ArePoints (set b p x) ts
-points-kept b p x [] filled here all = tt
-points-kept b p x (t ∷ ts) filled here all =
-    (point-kept b p t.place x filled here all.0, points-kept b p x ts filled here all.1)
+points-kept b p x ts filled here =
+    points-where b (set b p x) ts (λ q there e. there ((SameEdge-set b p x here filled).back q e))
 
 -- ---- a move made again
 
@@ -118,14 +113,16 @@ cleared-none : (b : List Cell) (n : ℕ) (ts : List TakenStone) → AllByRecursi
 cleared-none b n [] all = refl
 cleared-none b n (t ∷ ts) all = cleared-other b n t ts (number-later t.number n all.0)
 
-cleared-all : (b : List Cell) (n : ℕ) (ps : List ℕ) (ts : List TakenStone) → AllByRecursion (λ (t : TakenStone). n < t.number) ts
+cleared-all : (b : List Cell) (n : ℕ) (ps : List ℕ) (ts : List TakenStone)
+    → AllByRecursion (λ (t : TakenStone). n < t.number) ts
     → cleared b n (taken_at n ps ++ ts) ≡ all_cleared b ps
 cleared-all b n [] ts all = cleared-none b n ts all
 cleared-all b n (p ∷ ps) ts all =
     cleared-same b n (record { place = p; number = n }) (taken_at n ps ++ ts) (number-same n)
     ∙ cleared-all (set b p Empty) n ps ts all
 
-later-none : (n : ℕ) (ts : List TakenStone) → AllByRecursion (λ (t : TakenStone). n < t.number) ts → later_than n ts ≡ ts
+later-none : (n : ℕ) (ts : List TakenStone) → AllByRecursion (λ (t : TakenStone). n < t.number) ts
+    → later_than n ts ≡ ts
 later-none n [] all = refl
 later-none n (t ∷ ts) all = later-other n t ts (number-later t.number n all.0)
 
@@ -204,16 +201,6 @@ numbers-from b n (m ∷ ms) k h =
     front [] rest = rest
     front (p ∷ ps) rest = (h, front ps rest)
 
-numbers-later : (n : ℕ) (ts : List TakenStone) → AllByRecursion (λ (t : TakenStone). n + 1 ≤ t.number) ts
-    → AllByRecursion (λ (t : TakenStone). n < t.number) ts
-numbers-later n [] all = tt
-numbers-later n (t ∷ ts) all = let first = all.0 in (omega (arith, first), numbers-later n ts all.1)
-
-pub slice_get-from : (ms : List Move) (k : ℕ) (m : Move) → k < length ms → m ≡ get_or ms k m → slice_get ms k ≡ Some m
-slice_get-from [] k m less e = absurd (omega (arith, less))
-slice_get-from (x ∷ xs) zero m less e = ap Some (sym e)
-slice_get-from (x ∷ xs) (suc k) m less e = slice_get-from xs k m (omega (arith, less)) e
-
 drop-suc : (ms : List Move) (k : ℕ) (m : Move) → slice_get ms k ≡ Some m → drop k ms ≡ m ∷ drop (suc k) ms
 drop-suc [] k m e = cc
 drop-suc (x ∷ xs) zero m e = cc
@@ -249,7 +236,8 @@ taken-next game wanted now k stones m r e = record {
   later = stack_from (after now m) (k + 1) (drop (k + 1) game.moves);
   are = r.stones_are ∙ ap (stack_from now k) (drop-step game.moves k m e);
   others =
-      numbers-later k (stack_from (after now m) (k + 1) (drop (k + 1) game.moves))
+      all-where (λ (t : TakenStone). k + 1 ≤ t.number) (λ (t : TakenStone). k < t.number) (λ t h. omega arith)
+      (stack_from (after now m) (k + 1) (drop (k + 1) game.moves))
       (numbers-from (after now m) (k + 1) (drop (k + 1) game.moves) (k + 1) (omega arith));
 }
 
@@ -259,7 +247,8 @@ open-next game wanted now k stones m g r e =
     subst (λ (b : List Cell). IsVacant b m.vertex) (sym r.board_is)
     (legal-open (first_moves k game) m.colour m.vertex (g.legal k m e))
 
-pub IsReplayed-more : (game : GameRecord) (wanted now new : List Cell) (k : ℕ) (stones left : List TakenStone) (m : Move)
+pub IsReplayed-more : (game : GameRecord) (wanted now new : List Cell) (k : ℕ) (stones left : List TakenStone)
+    (m : Move)
     → IsReplayed game wanted k now stones → slice_get game.moves k ≡ Some m → wanted ≢ now
     → new ≡ after_vertex now m.colour m.vertex → left ≡ later_than k stones → ArePoints new left
     → IsReplayed game wanted (k + 1) new left
@@ -285,41 +274,27 @@ IsReplayed-more game wanted now new k stones left m r e other_board new_is left_
 
 -- ---- the stones that were taken
 
-points-append : (b : List Cell) (ts us : List TakenStone) → ArePoints b ts → ArePoints b us → ArePoints b (ts ++ us)
-points-append b [] us all more = more
-points-append b (t ∷ ts) us all more = (all.0, points-append b ts us all.1 more)
-
-points-where : (a b : List Cell) (ts : List TakenStone) → ((q : ℕ) → at a q ≢ Edge → at b q ≢ Edge) → ArePoints a ts
-    → ArePoints b ts
-points-where a b [] kept all = tt
-points-where a b (t ∷ ts) kept all = (kept t.place all.0, points-where a b ts kept all.1)
-
 points-taken : (b : List Cell) (n : ℕ) (ps : List ℕ) → AllByRecursion (λ (q : ℕ). at b q ≢ Edge) ps
     → ArePoints b (taken_at n ps)
 points-taken b n [] all = tt
 points-taken b n (p ∷ ps) all = (all.0, points-taken b n ps all.1)
 
-points-captured : (b : List Cell) (c : Colour) (p : ℕ) (ps : List ℕ)
-    → AllByRecursion (λ (q : ℕ). IsCaptured (set b p (stone c)) (other c) q) ps
-    → AllByRecursion (λ (q : ℕ). at (play b c p) q ≢ Edge) ps
-points-captured b c p [] all = tt
-points-captured b c p (q ∷ ps) all =
-    (empty-point (play b c p) q (taken-empty b c p q all.0), points-captured b c p ps all.1)
-
 points-more : (game : GameRecord) (c : Colour) (v : Vertex) → IsVacant (board_of game) v
     → ArePoints (board_of game) (stack_of game)
     → ArePoints (after_vertex (board_of game) c v)
     (stack_of game ++ taken_at (length game.moves) (taken_places (board_of game) c v))
-points-more game c Pass empty all = points-append (board_of game) (stack_of game) [] all tt
+points-more game c Pass empty all = all-append (λ (t : TakenStone). at (board_of game) t.place ≢ Edge) (stack_of game)
+    [] all tt
 points-more game c (At p) empty all =
     let b = board_of game in
     let cells = set b p (stone c) in
-    points-append (play b c p) (stack_of game)
+    all-append (λ (t : TakenStone). at (play b c p) t.place ≢ Edge) (stack_of game)
     (taken_at (length game.moves) (captured_places cells (other c)))
     (points-where b (play b c p) (stack_of game)
     (λ q k e. k ((SameEdge-play b c p (empty-point b p empty)).back q e)) all)
     (points-taken (play b c p) (length game.moves) (captured_places cells (other c))
-    (points-captured b c p (captured_places cells (other c))
+    (all-where (IsCaptured cells (other c)) (λ (q : ℕ). at (play b c p) q ≢ Edge)
+    (λ q h. empty-point (play b c p) q (taken-empty b c p q h)) (captured_places cells (other c))
     (all-captured cells (other c) (range_with_len 0 (length cells)))))
 
 -- they stood on points of the board
@@ -368,7 +343,8 @@ repeats-last game wanted now k stones b r all test = (
 
 -- ---- the board after a play
 
-pub room-for_board : (board : List Cell) (c : Colour) (p : ℕ) (stack : List TakenStone) → length board ≡ 702 → stack ≡ []
+pub room-for_board : (board : List Cell) (c : Colour) (p : ℕ) (stack : List TakenStone) → length board ≡ 702
+    → stack ≡ []
     → length stack + captures board c p ≤ 2009
 unfolding captures captured_count
 room-for_board board c p stack long none =
@@ -379,17 +355,6 @@ room-for_board board c p stack long none =
     omega (arith, few, range, same, long, ap length none)
 
 -- ---- laws of the ko rules
-
-pub stricter : (game : GameRecord) (c : Colour) (v : Vertex) → IsLegal (under Positional game) c v
-    → IsLegal (under Simple game) c v
-stricter game c Pass l = l
-stricter game c (At p) l = record {
-  on_board = l.on_board;
-  empty = l.empty;
-  free = l.free;
-  no_ko = λ r.
-      l.no_ko (record { number = length game.moves - 1; within = omega arith; same = r.same });
-}
 
 pub allowed-new : (game : GameRecord) (c : Colour) (v : Vertex) → IsLegal (under Simple game) c v
     → ((j : ℕ) → j ≤ length game.moves → board_of (with_move game c v) ≢ board_of (first_moves j game))

@@ -1,11 +1,12 @@
--- The counts when a stone gets another id.
+-- The pseudo-liberties when a stone gets another id.
 use Rattle.std.proofs.Common.{◌≡◌, ℕ, ◌+◌, ◌-◌, ◌<◌, ◌≤◌, List, length, sym, ◌∙◌, ap, arith, inl, inr, Bool, true}
 use Rattle.std.proofs.Common.{false, cond, get_or-set_other, get_or-set_same}
 use Rattle.std.specs.Prelude.{◌≢◌, ◌==◌, ◌&&◌}
 use Rattle.std.proofs.lemmas.Bool.Decides.{nat_tests}
 use Rattle.std.proofs.Math.ListN.{set, length-set}
 use Rattle.go_board.specs.Board.{at, IsStone}
-use Rattle.go_board.specs.private.ChainId.{id_of, is_stone, empty_beside, share, pseudo_liberties, ArePseudoLiberties, count_at}
+use Rattle.go_board.specs.private.ChainId.{id_of, is_stone, empty_beside, share, pseudo_liberties, ArePseudoLiberties}
+use Rattle.go_board.specs.private.ChainId.{count_at}
 use Rattle.go_board.specs.declared.board.Cell.{Cell}
 use Rattle.go_board.proofs.Sums.{total-changed, total-at_least}
 use Rattle.go_board.proofs.liberties.FillingPoints.{pseudo_liberties-total}
@@ -13,7 +14,7 @@ use Rattle.go_board.proofs.liberties.PseudoLiberties.{stone-test}
 use Rattle.std.proofs.lemmas.Bool.{eq-eqb, ne_eqb, cases_eq}
 use Rattle.go_board.proofs.liberties.Shares.{loses-share, gains-share, share-few}
 
--- what a id counts changes by the stone's share
+-- an id's pseudo-liberties change by the stone's share
 pseudo_liberties-id_changed : (board : List Cell) (ids : List ℕ) (k p id : ℕ) → p < 702
     → pseudo_liberties board ids k + share board (set ids p id) k p
     ≡ pseudo_liberties board (set ids p id) k + share board ids k p
@@ -36,7 +37,8 @@ ArePseudoLiberties-id_changed board ids c0 c1 c2 p from to own below s long a fr
   length_is = long2;
   each = λ k k_below.
       let gone = loses-share board ids c0 c1 p from own k s from_is own_is (omega (arith, f, a.length_is)) taken in
-      let come = gains-share board (set ids p to) c1 c2 p to own k s (sym new_id) own_is (omega (arith, t, long1)) added in
+      let come = gains-share board (set ids p to) c1 c2 p to own k s (sym new_id) own_is (omega (arith, t, long1))
+      added in
       let was = a.each k k_below in
       let few = share-few board ids k p below in
       let changed = pseudo_liberties-id_changed board ids k p to below in

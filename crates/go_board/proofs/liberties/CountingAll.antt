@@ -1,4 +1,4 @@
--- Counts made anew, place by place.
+-- Pseudo-liberties counted place by place.
 use Rattle.std.proofs.Common.{◌≡◌, ℕ, ◌+◌, ◌<◌, ◌≤◌, List, length, replicate, sym, ◌∙◌, ap, subst, arith, inl, inr}
 use Rattle.std.proofs.Common.{add-one, Bool, true, false, cond, get_or-set_other, get_or-set_same}
 use Rattle.std.specs.Prelude.{◌≢◌, ◌==◌, ◌&&◌}

@@ -1,4 +1,4 @@
--- What a stone that is put on an empty point, or removed, does to the counts of ids.
+-- What a stone that is placed on an empty point, or removed, does to pseudo-liberties.
 use Rattle.std.proofs.Common.{◌≡◌, ℕ, ◌+◌, ◌-◌, ◌<◌, ◌≤◌, List, refl, sym, ◌∙◌, ap, arith, inl, inr, Bool, true, false}
 use Rattle.std.proofs.Common.{cond, get_or-set_other, get_or-set_same}
 use Rattle.std.specs.Prelude.{◌≢◌, ◌==◌, if◌then◌else◌, ◌&&◌}
@@ -149,7 +149,7 @@ pub pseudo_liberties-total : (board : List Cell) (ids : List ℕ) (id : ℕ)
 unfolding pseudo_liberties total
 pseudo_liberties-total board ids id = refl
 
--- An empty point is filled, and has the id of ids' there: each id's count goes down by the neighbours with
+-- An empty point is filled, and has the id of ids' there: each id's pseudo-liberties go down by the neighbours with
 -- that id, and the point's own id gets its share.
 pub pseudo_liberties-filled : (board : List Cell) (ids ids' : List ℕ) (id p : ℕ) (x : Cell) → IsInside p
     → at board p ≡ Empty → is_empty x ≡ false

@@ -1,4 +1,4 @@
--- Counts where ids become one.
+-- Pseudo-liberties where ids become one.
 use Rattle.std.proofs.Common.{◌≡◌, ℕ, ◌+◌, ◌-◌, ◌<◌, ◌≤◌, List, length, refl, sym, ◌∙◌, ap, subst, arith, inl, inr}
 use Rattle.std.proofs.Common.{Bool, true, false, cond, get_or-set_other, get_or-set_same}
 use Rattle.std.specs.Prelude.{◌≢◌, ◌==◌, ◌&&◌, map}
@@ -74,7 +74,8 @@ pseudo_liberties-to board ids new to from apart are =
     let sums = total-add (share board ids to) (share board ids from) (share board new to) 702 (λ p below.
     ap (λ (l : ℕ). part (is_stone (at board p)) (empty_beside board p) l to) (are p below)
     ∙ part-to (is_stone (at board p)) (empty_beside board p) (id_of ids p) to from apart) in
-    omega (arith, sums, pseudo_liberties-total board new to, pseudo_liberties-total board ids to, pseudo_liberties-total board ids from)
+    omega (arith, sums, pseudo_liberties-total board new to, pseudo_liberties-total board ids to,
+    pseudo_liberties-total board ids from)
 
 pseudo_liberties-from : (board : List Cell) (ids new : List ℕ) (to from : ℕ) → to ≢ from → AreRenamed ids new to from
     → pseudo_liberties board new from ≡ 0
@@ -97,7 +98,7 @@ map-rename : (ids : List ℕ) (to from : ℕ) → length ids ≡ 702
     → AreRenamed ids (map (rename to from) ids) to from
 map-rename ids to from long p below = get_or-map (rename to from) ids p 0 0 (omega (arith, long, below))
 
--- one id becomes another, and its count goes over
+-- one id becomes another, and its pseudo-liberties go over
 pub ArePseudoLiberties-rename : (board : List Cell) (ids counts new : List ℕ) (to from : ℕ) → to < 702 → from < 702
     → to ≢ from → length ids ≡ 702
     → new ≡ set (set counts to (count_at counts to + count_at counts from)) from 0 → ArePseudoLiberties board ids counts

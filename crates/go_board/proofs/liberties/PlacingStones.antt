@@ -1,4 +1,4 @@
--- The counts when a stone comes or goes, as the code makes them.
+-- The pseudo-liberties when a stone is placed, as the code changes them.
 use Rattle.std.proofs.Common.{◌≡◌, ℕ, ◌+◌, ◌-◌, ◌<◌, ◌≤◌, List, length, refl, sym, ◌∙◌, ap, subst, arith, inl, inr}
 use Rattle.std.proofs.Common.{Bool, true, false, cond, get_or-set_other, get_or-set_same}
 use Rattle.std.specs.Prelude.{◌≢◌, ◌==◌, ◌&&◌, ◌↔◌, IsTrue, nat_lt}
@@ -48,7 +48,7 @@ has_other_liberty-test board ids p q id beside counted chains empty s is b e =
     let told = other-count board ids p q chains.framed chains.ids empty s in
     (λ h. told.0 (test.0 h), λ h. test.1 (told.1 h))
 
--- whether the stone on a place has a id
+-- whether the stone on a place has an id
 ids_at-stone : (board : List Cell) (ids : List ℕ) (k p : ℕ) → is_stone (at board p) ≡ true
     → ids_at board ids k p ≡ cond (id_of ids p == k) 1 0
 ids_at-stone board ids k p s = ap (λ (b : Bool). cond (b && (id_of ids p == k)) 1 0) s
@@ -64,33 +64,7 @@ IsRaised-stone board ids old new p id s is below made = record {
       ∙ ap (λ (n : ℕ). count_at old k + n) (sym (ids_at-stone board ids k p s));
 }
 
--- after four neighbours' ids count one less
-pub lowered-four : (board : List Cell) (ids c0 c1 c2 c3 c4 : List ℕ) (p : ℕ) → IsLowered board ids c0 c1 (p + 1)
-    → IsLowered board ids c1 c2 (p - 1)
-    → IsLowered board ids c2 c3 (p + 26) → IsLowered board ids c3 c4 (p - 26) → AreLowered board ids c0 c4 p
-lowered-four board ids c0 c1 c2 c3 c4 p a b c d = record {
-  length_is = d.length_is ∙ c.length_is ∙ b.length_is ∙ a.length_is;
-  each = λ k below. four _ _ _ _ _ _ _ _ _ (a.each k below) (b.each k below) (c.each k below) (d.each k below);
-}
-  where
-    four : (n0 n1 n2 n3 n4 x y z w : ℕ) → n1 ≡ n0 - x → n2 ≡ n1 - y → n3 ≡ n2 - z → n4 ≡ n3 - w
-        → n4 ≡ n0 - (x + y + z + w)
-    four n0 n1 n2 n3 n4 x y z w e f g h = omega (arith, e, f, g, h)
-
--- after they count one more
-pub raised-four : (board : List Cell) (ids c0 c1 c2 c3 c4 : List ℕ) (p : ℕ) → IsRaised board ids c0 c1 (p + 1)
-    → IsRaised board ids c1 c2 (p - 1)
-    → IsRaised board ids c2 c3 (p + 26) → IsRaised board ids c3 c4 (p - 26) → AreRaised board ids c0 c4 p
-raised-four board ids c0 c1 c2 c3 c4 p a b c d = record {
-  length_is = d.length_is ∙ c.length_is ∙ b.length_is ∙ a.length_is;
-  each = λ k below. four _ _ _ _ _ _ _ _ _ (a.each k below) (b.each k below) (c.each k below) (d.each k below);
-}
-  where
-    four : (n0 n1 n2 n3 n4 x y z w : ℕ) → n1 ≡ n0 + x → n2 ≡ n1 + y → n3 ≡ n2 + z → n4 ≡ n3 + w
-        → n4 ≡ n0 + (x + y + z + w)
-    four n0 n1 n2 n3 n4 x y z w e f g h = omega (arith, e, f, g, h)
-
--- a id counts its stones beside an empty point
+-- an id has a pseudo-liberty for each of its stones beside an empty point
 pub ids_beside-few : (board : List Cell) (ids : List ℕ) (k p : ℕ) → IsOn most_size p → at board p ≡ Empty
     → ids_beside board ids k p ≤ pseudo_liberties board ids k
 ids_beside-few board ids k p on empty =
@@ -100,8 +74,9 @@ ids_beside-few board ids k p on empty =
     (set-same board p Edge empty) in
     omega (arith, filled, none)
 
--- A stone with a id is put on an empty point.
-pub ArePseudoLiberties-placed : (board : List Cell) (ids c0 c4 new : List ℕ) (c : Colour) (p id more : ℕ) → IsOn most_size p
+-- A stone with an id is placed on an empty point.
+pub ArePseudoLiberties-placed : (board : List Cell) (ids c0 c4 new : List ℕ) (c : Colour) (p id more : ℕ)
+    → IsOn most_size p
     → at board p ≡ Empty → id < 702 → length ids ≡ 702
     → ArePseudoLiberties board ids c0
     → AreLowered board ids c0 c4 p → more ≡ empty_beside (set board p (stone c)) p

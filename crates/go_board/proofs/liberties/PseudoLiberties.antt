@@ -1,4 +1,4 @@
--- Counts and liberties.
+-- Pseudo-liberties and liberties.
 use Rattle.std.proofs.Common.{◌≡◌, ℕ, ◌+◌, ◌-◌, ◌<◌, ◌≤◌, List, refl, sym, ◌∙◌, ap, subst, arith, inl, inr, Bool, true}
 use Rattle.std.proofs.Common.{false, cond, get_or-set_other}
 use Rattle.std.specs.Prelude.{◌⊎◌, ◌≢◌, ◌==◌, ◌&&◌, ◌↔◌}
@@ -119,7 +119,7 @@ share-from board ids id p framed h =
     by_case true h = (refl, h)
     by_case false h = absurd (omega arith)
 
--- a count isn't 0 just where a stone with the id has an empty neighbour
+-- an id has a pseudo-liberty just where a stone with the id has an empty neighbour
 pub count-open : (board : List Cell) (ids : List ℕ) (id : ℕ) → IsFramed board
     → (0 < pseudo_liberties board ids id) ↔ IsOpen board ids id
 count-open board ids id framed = (
@@ -137,7 +137,7 @@ count-open board ids id framed = (
     positive : 0 < pseudo_liberties board ids id → 0 < total (share board ids id) 702
     positive h = let same = pseudo_liberties-total board ids id in omega (arith, same, h)
 
--- a chain has a liberty just where its id's count isn't 0
+-- a chain has a liberty just where its id has a pseudo-liberty
 pub free-count : (board : List Cell) (ids : List ℕ) (p : ℕ) → IsFramed board → AreChainIds board ids
     → IsStone (at board p)
     → IsFree board p ↔ (0 < pseudo_liberties board ids (id_of ids p))
@@ -154,14 +154,15 @@ free-count board ids p framed a s = (
 
 -- ---- a liberty besides a point
 
--- the count is more than the neighbours of p with that id just where the chain has a liberty besides p
+-- the pseudo-liberties are more than the neighbours of p with that id just where the chain has a liberty besides p
 pub other-count : (board : List Cell) (ids : List ℕ) (p q : ℕ) → IsFramed board → AreChainIds board ids
     → at board p ≡ Empty → IsStone (at board q)
     → (ids_beside board ids (id_of ids q) p < pseudo_liberties board ids (id_of ids q)) ↔ HasOtherLiberty board q p
 other-count board ids p q framed a empty s = (
   (λ h. from_open ((count-open without ids k (IsFramed-set board p Edge (empty-point board p empty) framed)).0
       (let e = counted in omega (arith, e, h)))),
-  (λ o. let more = (count-open without ids k (IsFramed-set board p Edge (empty-point board p empty) framed)).1 (to_open o) in
+  (λ o. let more = (count-open without ids k (IsFramed-set board p Edge (empty-point board p empty) framed)).1
+      (to_open o) in
       let e = counted in
       omega (arith, e, more)),
 )

@@ -1,4 +1,4 @@
--- The counts when a stone is lifted.
+-- The pseudo-liberties when a stone is removed.
 use Rattle.std.proofs.Common.{◌≡◌, ℕ, ◌+◌, ◌-◌, ◌<◌, ◌≤◌, List, length, refl, sym, ◌∙◌, ap, subst, arith, inl, inr}
 use Rattle.std.proofs.Common.{Bool, true, false, cond, get_or-set_other, get_or-set_same}
 use Rattle.std.specs.Prelude.{◌≢◌, ◌==◌, ◌&&◌}
@@ -23,7 +23,7 @@ use Rattle.std.proofs.lemmas.Bool.{eq-eqb, ne_eqb, cases_eq}
 use Rattle.go_board.proofs.boards.Neighbours.{IsOn-inside}
 use Rattle.go_board.proofs.liberties.Shares.{loses-share, count_at-changed, share-few}
 
--- a stone put back gives the board of before
+-- a stone that is placed again gives the board of before
 restore : (board : List Cell) (p : ℕ) → p < length board → set (set board p Empty) p (at board p) ≡ board
 restore board p below =
     ext_get_or Edge (set (set board p Empty) p (at board p)) board
@@ -80,7 +80,7 @@ IsBelow-lessened board ids counts new id less a made l k below =
     let is = a.each k below in
     omega (arith, now, is, pseudo_liberties-few board ids k)
 
--- A stone is lifted: its id's count goes down by its share, and the neighbours' ids each count one more.
+-- A stone is removed: its id loses its share, and the neighbours' ids each get one more.
 pub ArePseudoLiberties-removed : (board cells : List Cell) (ids c0 c1 c2 : List ℕ) (p id less : ℕ) → IsOn most_size p
     → IsStone (at board p) → ArePseudoLiberties board ids c0 → cells ≡ set board p Empty → id ≡ id_of ids p
     → id < 702 → less ≡ empty_beside board p → c1 ≡ set c0 id (count_at c0 id - less)
@@ -106,6 +106,3 @@ ArePseudoLiberties-removed board cells ids c0 c1 c2 p id less on s a is own l le
     up : (n2 n1 n0 beside share after : ℕ) → n2 ≡ n1 + beside → {before : ℕ} → after + share ≡ before + beside
         → n0 ≡ before → n1 ≡ n0 - share → share ≤ before → n2 ≡ after
     up n2 n1 n0 beside share after more now was gone few = omega (arith, more, now, was, gone, few)
-
-pub IsBelow-more : (counts : List ℕ) (m n : ℕ) → m ≤ n → IsBelow m counts → IsBelow n counts
-IsBelow-more counts m n h few k below = let a = few k below in omega (arith, h, a)

@@ -1,4 +1,4 @@
--- What the fields of `Stones` keep when a stone is laid, lifted or named anew, and when ids become one.
+-- What the fields of `Stones` keep when a stone is placed or removed, when its id changes, and when ids become one.
 use Rattle.std.proofs.Common.{◌≡◌, ℕ, ◌+◌, ◌-◌, ◌<◌, ◌≤◌, List, sym, ◌∙◌, ap, subst, arith}
 use Rattle.std.specs.Prelude.{map}
 use Rattle.std.proofs.lemmas.List.{length-map}
@@ -16,13 +16,14 @@ use Rattle.go_board.specs.declared.board.Cell.TheVariants.{Edge, Empty}
 use Rattle.go_board.specs.declared.stones.Stones.TheInside.{Inside}
 use Rattle.go_board.proofs.boards.Cells.{IsFramed-set, empty-point}
 use Rattle.go_board.proofs.ids.Paths.{IsStone-point}
-use Rattle.go_board.proofs.ids.JoiningChains.{ArePseudoLiberties-first, ArePseudoLiberties-second, ArePseudoLiberties-rename_three, room-for_two}
+use Rattle.go_board.proofs.ids.JoiningChains.{ArePseudoLiberties-first, ArePseudoLiberties-second}
+use Rattle.go_board.proofs.ids.JoiningChains.{ArePseudoLiberties-rename_three, room-for_two}
 use Rattle.go_board.proofs.liberties.PlacingStones.{stone_in, stone_on, ArePseudoLiberties-placed}
 use Rattle.go_board.proofs.liberties.RemovingStones.{IsBelow-lessened, ArePseudoLiberties-removed}
 use Rattle.go_board.proofs.liberties.MergingIds.{pseudo_liberties-few}
 use Rattle.go_board.proofs.liberties.ChangingIds.{ArePseudoLiberties-id_changed}
 
--- ---- a stone is laid
+-- ---- a stone is placed
 
 pub room-for_placed : (f : Inside) (c1 : List ℕ) (p id more : ℕ) → AreCounted f → id < 702 → more ≤ 4
     → AreLowered f.board f.ids f.counts c1 p → count_at c1 id + more ≤ 65535
@@ -43,11 +44,12 @@ AreCounted-placed f cells ls c1 c2 c p id more kept on empty l lowered board ids
       framed = IsFramed-set f.board p (stone c) (empty-point f.board p empty) kept.framed;
       length_is = length-set f.ids p id ∙ kept.length_is;
       counts =
-          ArePseudoLiberties-placed f.board f.ids f.counts c1 c2 c p id more on empty l kept.length_is kept.counts lowered
+          ArePseudoLiberties-placed f.board f.ids f.counts c1 c2 c p id more on empty l kept.length_is kept.counts
+          lowered
           (more_is ∙ ap (λ (b : List Cell). empty_beside b p) board) added;
     }))
 
--- ---- a stone is lifted
+-- ---- a stone is removed
 
 pub room-for_removed : (f : Inside) (c1 : List ℕ) (id less : ℕ) → AreCounted f → id < 702
     → c1 ≡ set f.counts id (count_at f.counts id - less) → IsBelow 2808 c1
@@ -93,7 +95,8 @@ AreCounted-joined f ls c1 c2 c3 to a b c kept t la lb lc m n o ids =
       framed = kept.framed;
       length_is = length-map f.ids (rename_three to a b c) ∙ kept.length_is;
       counts =
-          ArePseudoLiberties-rename_three f.board f.ids f.counts c1 c2 c3 to a b c t la lb lc kept.length_is kept.counts m n
+          ArePseudoLiberties-rename_three f.board f.ids f.counts c1 c2 c3 to a b c t la lb lc kept.length_is
+          kept.counts m n
           o;
     })
 

@@ -39,6 +39,7 @@ use Rattle.go_board.proofs.records.EveryGame.{length-with_black, board-start, bo
 use Rattle.go_board.proofs.records.TakenCounts.{taken-push}
 use Rattle.std.proofs.lemmas.Bool.{cases_eq}
 use Rattle.go_board.proofs.captures.CapturedStones.{holds-true}
+use Rattle.go_board.proofs.General.{by_dec}
 
 -- ---- what a play leaves
 
@@ -63,12 +64,9 @@ same-left : (old : List Cell) (c : Colour) (p : ℕ) (new more : List Cell) → 
     → IsLeftByPlay old c p more → new ≡ more
 same-left old c p new more a b = ext_get_or Edge new more (a.long ∙ sym b.long) (λ q _. elim (cases_eq q p) [
   | inl same ↦ subst (λ (r : ℕ). at new r ≡ at more r) (sym same) (a.played ∙ sym b.played)
-  | inr away ↦ by_case q away (captured? (set old p (stone c)) (other c) q)
+  | inr away ↦ by_dec (captured? (set old p (stone c)) (other c) q) (λ h. a.taken q h ∙ sym (b.taken q h))
+      (λ k. a.others q away k ∙ sym (b.others q away k))
 ])
-  where
-    by_case : (q : ℕ) → q ≢ p → Dec (TakesStone old c p q) → at new q ≡ at more q
-    by_case q away (yes h) = a.taken q h ∙ sym (b.taken q h)
-    by_case q away (no k) = a.others q away k ∙ sym (b.others q away k)
 
 pub left-there : (game : GameRecord) (c : Colour) (v : Vertex) (board : List Cell) → IsLegal game c v
     → board ≡ board_of (with_move game c v) → IsLeftBy (board_of game) c v board
@@ -266,18 +264,6 @@ counts-belongs board c p (inr h) = inr (h.0, (h.1).0, (λ d touch. only_one boar
 pub belongs-counts : (board : List Cell) (c : Colour) (p : ℕ) → BelongsTo board c p → CountsFor board c p
 belongs-counts board c p (inl here) = inl here
 belongs-counts board c p (inr h) = inr (h.0, (h.1, (λ touch. other-differs c (h.2 (other c) touch))))
-
-same-stone : (c d : Colour) → stone c ≡ stone d → c ≡ d
-same-stone colour.Black colour.Black e = refl
-same-stone colour.White colour.White e = refl
-same-stone colour.Black colour.White e = cc
-same-stone colour.White colour.Black e = cc
-
-pub belongs-one : (board : List Cell) (c d : Colour) (p : ℕ) → BelongsTo board c p → BelongsTo board d p → c ≡ d
-belongs-one board c d p (inl a) (inl b) = same-stone c d (sym a ∙ b)
-belongs-one board c d p (inl a) (inr b) = absurd (stone-filled c (sym a ∙ b.0))
-belongs-one board c d p (inr a) (inl b) = absurd (stone-filled d (sym b ∙ a.0))
-belongs-one board c d p (inr a) (inr b) = b.2 c a.1
 
 -- what belongs to a colour is on the list
 belongs-inside : (board : List Cell) (c : Colour) (p : ℕ) → BelongsTo board c p → p < length board

@@ -1,5 +1,6 @@
 -- A game is finished just where the last two moves of its record, by their numbers, are passes.
-use Rattle.std.proofs.Common.{◌≡◌, ℕ, zero, suc, ◌+◌, ◌-◌, ◌≤◌, List, [], ◌∷◌, ◌++◌, length, refl, sym, ◌∙◌, ap, arith, Bool, true, false, true≢false}
+use Rattle.std.proofs.Common.{◌≡◌, ℕ, zero, suc, ◌+◌, ◌-◌, ◌≤◌, List, [], ◌∷◌, ◌++◌, length, refl, sym, ◌∙◌, ap}
+use Rattle.std.proofs.Common.{arith, Bool, true, false, true≢false}
 use Rattle.std.specs.Prelude.{Some, slice_get, ◌↔◌, IsTrue}
 use Rattle.go_base.specs.Decide.{holds}
 use Rattle.std.proofs.lemmas.List.{length-append}

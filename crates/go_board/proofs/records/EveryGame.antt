@@ -32,6 +32,7 @@ use Rattle.go_board.proofs.records.TakenStack.{stack_of-with_move, few-after_pla
 use Rattle.go_board.proofs.boards.FirstStones.{stones-start}
 use Rattle.go_board.proofs.boards.FirstBoard.{start-none}
 use Rattle.go_board.proofs.undo.BoardsBefore.{stone_count}
+use Rattle.go_board.proofs.General.{all-where, all-append}
 
 -- The board has the game's size, each stone is free, there are at most as many stones as were put down, and each was
 -- taken by a move of the record.
@@ -70,12 +71,6 @@ length-start : (size stones : ℕ) → length (start size stones) ≡ 702
 unfolding start
 length-start size stones = length-with_black (empty_board size) (handicap_points size stones) ∙ length-empty_board size
 
-pub framed-start : (size stones : ℕ) → IsSize size → (stones ≡ 0) ⊎ AllowsHandicap size stones
-    → IsFramed (start size stones)
-framed-start size stones is allowed =
-    let most = is.most in
-    IsFramed-has_size size (start size stones) most (length-start size stones) (HasSize-start size stones is allowed)
-
 pub board-start : (game : GameRecord) → game.moves ≡ [] → board_of game ≡ start game.size game.handicap
 unfolding board
 board-start game none = ap (λ (ms : List Move). board game.size game.handicap ms) none
@@ -109,20 +104,9 @@ pub legal-open : (game : GameRecord) (c : Colour) (v : Vertex) → IsLegal game 
 legal-open game c Pass l = tt
 legal-open game c (At p) l = l.empty
 
-all-more : (n m : ℕ) (ts : List TakenStone) → n ≤ m → AllByRecursion (λ (t : TakenStone). t.number < n) ts
-    → AllByRecursion (λ (t : TakenStone). t.number < m) ts
-all-more n m [] h all = tt
-all-more n m (t ∷ ts) h all = let less = all.0 in (omega (arith, h, less), all-more n m ts h all.1)
-
 all-taken : (n : ℕ) (ps : List ℕ) → AllByRecursion (λ (t : TakenStone). t.number < n + 1) (taken_at n ps)
 all-taken n [] = tt
 all-taken n (p ∷ ps) = (omega arith, all-taken n ps)
-
-all-both : (n : ℕ) (ts us : List TakenStone) → AllByRecursion (λ (t : TakenStone). t.number < n) ts
-    → AllByRecursion (λ (t : TakenStone). t.number < n) us
-    → AllByRecursion (λ (t : TakenStone). t.number < n) (ts ++ us)
-all-both n [] us a b = b
-all-both n (t ∷ ts) us a b = (a.0, all-both n ts us a.1 b)
 
 numbers-more : (game : GameRecord) (c : Colour) (v : Vertex)
     → AllByRecursion (λ (t : TakenStone). t.number < length game.moves) (stack_of game)
@@ -132,8 +116,9 @@ numbers-more game c v all =
     let long : length (with_move game c v).moves ≡ n + 1 = length_push game.moves (record { colour = c; vertex = v }) in
     subst (λ (m : ℕ). AllByRecursion (λ (t : TakenStone). t.number < m) (stack_of (with_move game c v))) (sym long)
     (subst (AllByRecursion (λ (t : TakenStone). t.number < n + 1)) (sym (stack_of-with_move game c v))
-    (all-both (n + 1) (stack_of game) (taken_at n (taken_places (board_of game) c v))
-    (all-more n (n + 1) (stack_of game) (omega arith) all)
+    (all-append (λ (t : TakenStone). t.number < n + 1) (stack_of game) (taken_at n (taken_places (board_of game) c v))
+    (all-where (λ (t : TakenStone). t.number < n) (λ (t : TakenStone). t.number < n + 1) (λ t h. omega arith)
+    (stack_of game) all)
     (all-taken n (taken_places (board_of game) c v))))
 
 IsOrderly-more : (game : GameRecord) (c : Colour) (v : Vertex) → IsBeforeMove game c v → IsOrderly game

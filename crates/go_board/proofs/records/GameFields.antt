@@ -34,7 +34,8 @@ use Rattle.go_board.proofs.ko_rules.KoPoints.{IsKo-start}
 use Rattle.go_board.proofs.records.EveryGame.{IsOrderly-game, framed-game, board-start, stack-start, board-with_move}
 use Rattle.go_board.proofs.records.EveryGame.{legal-open, stack-few}
 use Rattle.go_board.proofs.records.TakenStack.{stack_of-with_move, length-taken}
-use Rattle.go_board.proofs.records.TakenCounts.{taken-with_move, taken-without_move, taken-enough, taken-few, captures-places}
+use Rattle.go_board.proofs.records.TakenCounts.{taken-with_move, taken-without_move, taken-enough, taken-few}
+use Rattle.go_board.proofs.records.TakenCounts.{captures-places}
 
 -- size and freedom of the board follow from the game
 kept-from : (f : Inside) → IsGame (record_of f) → f.chains ≡ board_of (record_of f)
@@ -90,19 +91,7 @@ IsKept-start size komi rule handicap chains stack moves is_size is_komi allowed 
       few = let long = ap length none in omega (arith, long);
       legal = λ k move e. slice_get-nil _ k move (ap (λ (ms : List Move). slice_get ms k) (sym none) ∙ e);
     } in
-    kept-from (record {
-      size = size;
-      komi = komi;
-      rule = rule;
-      handicap = handicap;
-      moves = moves;
-      chains = chains;
-      ko = None;
-      stack = stack;
-      taken_by_black = 0;
-      taken_by_white = 0;
-    })
-    g (board_is ∙ sym (board-start game none)) (IsKo-start game none) (gone ∙ sym (stack-start game none))
+    kept-from _ g (board_is ∙ sym (board-start game none)) (IsKo-start game none) (gone ∙ sym (stack-start game none))
     (none-taken game colour.Black none) (none-taken game colour.White none)
 
 -- ---- another komi
@@ -187,15 +176,7 @@ IsKept-play f c v chains ko stack now black white moves kept room legal items bo
     ∙ sym (stack_of-with_move game c v) ∙ ap stack_of same in
     let took : now ≡ captures_of_vertex (board_of game) c v =
     now_is ∙ ap (λ (b : List Cell). captures_of_vertex b c v) kept.board_is in
-    kept-from (record f {
-      moves = moves;
-      chains = chains;
-      ko = ko;
-      stack = stack;
-      taken_by_black = black;
-      taken_by_white = white;
-    })
-    g board (ko_is next g refl stones) stones
+    kept-from _ g board (ko_is next g refl stones) stones
     (taken-with_move game c v colour.Black f.taken_by_black now black kept.black_is took black_is
     ∙ ap (λ (h : GameRecord). taken h colour.Black) same)
     (taken-with_move game c v colour.White f.taken_by_white now white kept.white_is took white_is
@@ -236,7 +217,8 @@ were-before : (f : Inside) (ms : List Move) (c : Colour) (v : Vertex) (chains : 
 unfolding after-last
 were-before f ms c v chains stack now kept ends back = back (after-last f ms c v kept ends)
 
-pub enough-taken : (f : Inside) (ms : List Move) (c : Colour) (v : Vertex) (chains : List Cell) (stack : List TakenStone)
+pub enough-taken : (f : Inside) (ms : List Move) (c : Colour) (v : Vertex) (chains : List Cell)
+    (stack : List TakenStone)
     (now t : ℕ) (d : Colour) → IsKept f
     → f.moves.items ≡ ms ++ record { colour = c; vertex = v } ∷ []
     → IsUnmade f.chains f.stack (record { colour = c; vertex = v }) (length ms) chains stack now
@@ -272,15 +254,7 @@ IsKept-undo f c v chains ko stack now black white moves kept ends back black_is 
     with-last (record_of f) moves.items (record { colour = c; vertex = v }) ends in
     let b = IsBeforeMove-from shorter c v (subst IsGame (sym same) kept.game) in
     let were = were-before f moves.items c v chains stack now kept ends back in
-    kept-from (record f {
-      moves = moves;
-      chains = chains;
-      ko = ko;
-      stack = stack;
-      taken_by_black = black;
-      taken_by_white = white;
-    })
-    b.game_is were.0 (ko_is shorter b.game_is refl were.1) were.1
+    kept-from _ b.game_is were.0 (ko_is shorter b.game_is refl were.1) were.1
     (taken-without_move shorter c v colour.Black f.taken_by_black now black
     (kept.black_is ∙ ap (λ (h : GameRecord). taken h colour.Black) (sym same)) were.2 black_is)
     (taken-without_move shorter c v colour.White f.taken_by_white now white

@@ -4,7 +4,7 @@ use Rattle.std.proofs.Common.{subst, arith, inl, inr, Bool}
 use Rattle.std.specs.Prelude.{ℤ, ◌⊎◌, Result, Ok, Err, Some, slice_get, MatchResult, IsTrue, is_ok, ◌↔◌}
 use Rattle.std.specs.List.{fold}
 use Rattle.std.proofs.lemmas.Bool.{false≢true}
-use Rattle.std.proofs.lemmas.List.{take-append-le, take_at, length_push}
+use Rattle.std.proofs.lemmas.List.{take-append-le, take_at, length_push, nil_from_length}
 use Rattle.go_base.specs.Komi.{IsKomi}
 use Rattle.go_base.specs.declared.colours.Colour.{Colour}
 use Rattle.go_base.specs.declared.vertices.Vertex.{Vertex}
@@ -19,17 +19,15 @@ use Rattle.go_board.specs.declared.rules.KoRule.TheVariants.{Simple, Positional}
 use Rattle.go_board.specs.Refusals.{RefusesVertex}
 use Rattle.go_board.specs.declared.faults.PlayFault.{PlayFault}
 use Rattle.go_board.specs.declared.faults.PlayFault.TheVariants.{Full, OffBoard, Occupied, Suicide, Ko}
+use Rattle.std.proofs.lemmas.Option.{slice_get_within}
+use Rattle.std.proofs.lemmas.List.Sums.{fold-append}
 
 -- ---- a game with one move more
-
-fold-push : {A B : Type 0} (f : B → A → B) (b : B) (xs : List A) (x : A) → fold f b (xs ++ x ∷ []) ≡ f (fold f b xs) x
-fold-push f b [] x = refl
-fold-push f b (y ∷ ys) x = fold-push f (f b y) ys x
 
 pub board-push : (size handicap : ℕ) (moves : List Move) (m : Move)
     → board size handicap (moves ++ m ∷ []) ≡ after (board size handicap moves) m
 unfolding board
-board-push size handicap moves m = fold-push after (start size handicap) moves m
+board-push size handicap moves m = fold-append after (start size handicap) moves (m ∷ [])
 
 -- the games of a game's first moves are those of the longer one
 pub first_moves-with_move : (game : GameRecord) (c : Colour) (v : Vertex) (k : ℕ) → k ≤ length game.moves
@@ -111,11 +109,6 @@ IsGame-komi game komi is g = record {
 
 -- ---- a game without its last move
 
-slice_get-below : (ms : List Move) (k : ℕ) (m : Move) → slice_get ms k ≡ Some m → k < length ms
-slice_get-below [] k m e = cc
-slice_get-below (x ∷ xs) zero m e = omega arith
-slice_get-below (x ∷ xs) (suc k) m e = let h = slice_get-below xs k m e in omega arith
-
 pub slice_get-longer : (ms : List Move) (m x : Move) (k : ℕ) → slice_get ms k ≡ Some x
     → slice_get (ms ++ m ∷ []) k ≡ Some x
 slice_get-longer [] m x k e = cc
@@ -145,7 +138,7 @@ IsBeforeMove-from game c v g =
         handicap = g.handicap;
         few = omega (arith, long, few);
         legal = λ k x e.
-            let below = slice_get-below game.moves k x e in
+            let below = slice_get_within game.moves k x e in
             subst (λ (before : GameRecord). IsLegal before x.colour x.vertex)
             (first_moves-with_move game c v k (omega (arith, below)))
             (g.legal k x (slice_get-longer game.moves m x k e));
@@ -172,10 +165,6 @@ ends-with m (k ∷ ms) =
     let rest = ends-with k ms in
     record { before = m ∷ rest.before; last = rest.last; is = ap (λ (xs : List Move). m ∷ xs) rest.is }
 
-no-moves : (ms : List Move) → length ms ≡ 0 → ms ≡ []
-no-moves [] e = refl
-no-moves (m ∷ ms) e = absurd (omega (arith, e))
-
 -- from the game before the last move to the whole game
 last-step : (P : GameRecord → Type 0)
     → ((game : GameRecord) (c : Colour) (v : Vertex) → IsBeforeMove game c v → P game → P (with_move game c v))
@@ -194,7 +183,7 @@ last-step P more n game (m ∷ ms) e long g earlier =
 by_length : (P : GameRecord → Type 0) → ((game : GameRecord) → IsGame game → game.moves ≡ [] → P game)
     → ((game : GameRecord) (c : Colour) (v : Vertex) → IsBeforeMove game c v → P game → P (with_move game c v))
     → (n : ℕ) (game : GameRecord) → length game.moves ≡ n → IsGame game → P game
-by_length P none more zero game long g = none game g (no-moves game.moves long)
+by_length P none more zero game long g = none game g (nil_from_length game.moves long)
 by_length P none more (suc n) game long g =
     last-step P more n game game.moves refl long g (λ before l b. by_length P none more n before l b)
 
@@ -215,11 +204,3 @@ legal-or_refused game c (At p) OffBoard l r = r l.on_board
 legal-or_refused game c (At p) Occupied l r = r.1 l.empty
 legal-or_refused game c (At p) Suicide l r = (r.1).1 l.free
 legal-or_refused game c (At p) Ko l r = l.no_ko ((r.1).1).1
-
--- a test whether a move is allowed, answered by why it is refused
-pub legal-from_test : (game : GameRecord) (c : Colour) (v : Vertex) (r : Result (Unit {0}) PlayFault) (allowed : Bool)
-    → allowed ≡ is_ok r
-    → MatchResult r (λ _. IsLegal game c v) (RefusesVertex game c v) → IsTrue allowed ↔ IsLegal game c v
-legal-from_test game c v (Ok u) allowed is test = ((λ _. test), (λ _. is))
-legal-from_test game c v (Err fault) allowed is test =
-    ((λ e. absurd (false≢true (sym is ∙ e))), (λ l. absurd (legal-or_refused game c v fault l test)))

@@ -1,5 +1,5 @@
 -- What one more move takes.
-use Rattle.std.proofs.Common.{◌≡◌, ℕ, ◌+◌, ◌-◌, ◌≤◌, List, [], ◌∷◌, ◌++◌, length, refl, sym, ◌∙◌, ap, arith}
+use Rattle.std.proofs.Common.{◌≡◌, ℕ, ◌+◌, ◌-◌, ◌≤◌, List, [], ◌∷◌, ◌++◌, length, refl, sym, ◌∙◌, ap, arith, cond}
 use Rattle.std.proofs.Common.{length-append}
 use Rattle.std.specs.Prelude.{if◌then◌else◌}
 use Rattle.std.specs.List.{fold, range_with_len}
@@ -38,42 +38,38 @@ pub taken-push : (game : GameRecord) (c : Colour) (v : Vertex) (d : Colour)
 unfolding taken taken_by board
 taken-push game c v d = taken_from-push (start game.size game.handicap) d game.moves (record { colour = c; vertex = v })
 
+-- one colour's move adds what it takes to that colour
+taken-pushed : (game : GameRecord) (c : Colour) (v : Vertex) (d : Colour)
+    → taken (with_move game c v) d
+    ≡ taken game d + (if same_colour c d then captures_of_vertex (board_of game) c v else 0)
+taken-pushed game Black v Black = taken-push game Black v Black
+taken-pushed game White v White = taken-push game White v White
+taken-pushed game Black v White = taken-push game Black v White
+taken-pushed game White v Black = taken-push game White v Black
+
 -- what a colour has taken after a move that took `now` stones
 pub taken-with_move : (game : GameRecord) (c : Colour) (v : Vertex) (d : Colour) (had now t : ℕ) → had ≡ taken game d
     → now ≡ captures_of_vertex (board_of game) c v
     → t ≡ had + (if same_colour c d then now else 0) → t ≡ taken (with_move game c v) d
-taken-with_move game Black v Black had now t h k e =
-    e ∙ ap (λ n. n + now) h ∙ ap (λ n. taken game Black + n) k ∙ sym (taken-push game Black v Black)
-taken-with_move game White v White had now t h k e =
-    e ∙ ap (λ n. n + now) h ∙ ap (λ n. taken game White + n) k ∙ sym (taken-push game White v White)
-taken-with_move game Black v White had now t h k e = e ∙ ap (λ n. n + 0) h ∙ sym (taken-push game Black v White)
-taken-with_move game White v Black had now t h k e = e ∙ ap (λ n. n + 0) h ∙ sym (taken-push game White v Black)
+taken-with_move game c v d had now t h k e =
+    let part = ap (λ (n : ℕ). cond (same_colour c d) n 0) k in
+    omega (arith, h, e, part, taken-pushed game c v d)
 
 -- what a colour had taken before a move that took `now` stones
 pub taken-without_move : (game : GameRecord) (c : Colour) (v : Vertex) (d : Colour) (had now t : ℕ)
     → had ≡ taken (with_move game c v) d → now ≡ captures_of_vertex (board_of game) c v
     → t ≡ had - (if same_colour c d then now else 0) → t ≡ taken game d
-taken-without_move game Black v Black had now t h k e =
-    let sum = taken-push game Black v Black in
-    omega (arith, h, k, e, sum)
-taken-without_move game White v White had now t h k e =
-    let sum = taken-push game White v White in
-    omega (arith, h, k, e, sum)
-taken-without_move game Black v White had now t h k e =
-    let sum = taken-push game Black v White in
-    omega (arith, h, k, e, sum)
-taken-without_move game White v Black had now t h k e =
-    let sum = taken-push game White v Black in
-    omega (arith, h, k, e, sum)
+taken-without_move game c v d had now t h k e =
+    let part = ap (λ (n : ℕ). cond (same_colour c d) n 0) k in
+    omega (arith, h, e, part, taken-pushed game c v d)
 
 -- which is at least as many
 pub taken-enough : (game : GameRecord) (c : Colour) (v : Vertex) (d : Colour) (had now : ℕ)
     → had ≡ taken (with_move game c v) d → now ≡ captures_of_vertex (board_of game) c v
     → (if same_colour c d then now else 0) ≤ had
-taken-enough game Black v Black had now h k = let sum = taken-push game Black v Black in omega (arith, h, k, sum)
-taken-enough game White v White had now h k = let sum = taken-push game White v White in omega (arith, h, k, sum)
-taken-enough game Black v White had now h k = omega arith
-taken-enough game White v Black had now h k = omega arith
+taken-enough game c v d had now h k =
+    let part = ap (λ (n : ℕ). cond (same_colour c d) n 0) k in
+    omega (arith, h, part, taken-pushed game c v d)
 
 -- a move takes as many stones as there are places of stones that it takes
 pub captures-places : (b : List Cell) (c : Colour) (v : Vertex) → captures_of_vertex b c v ≡ length (taken_places b c v)

@@ -42,9 +42,10 @@ stack_of-with_move game c v =
     ++ taken_at k (taken_places (fold after (start game.size game.handicap) game.moves) c v)) (omega arith)
 
 pub length-taken : (number : ℕ) (places : List ℕ) → length (taken_at number places) ≡ length places
-length-taken number places = length-map places (λ (p : ℕ). let t : TakenStone = record { place = p; number = number } in t)
+length-taken number places = length-map places
+    (λ (p : ℕ). let t : TakenStone = record { place = p; number = number } in t)
 
-places-count : (board : List Cell) (c : Colour) → length (captured_places board c) ≡ captured_count board c
+pub places-count : (board : List Cell) (c : Colour) → length (captured_places board c) ≡ captured_count board c
 unfolding captured_count
 places-count board c = length-filter (is_captured board c) (range_with_len 0 (length board))
 

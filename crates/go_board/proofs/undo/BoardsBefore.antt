@@ -1,4 +1,4 @@
--- What a play took, put back; and how many stones there are.
+-- The board before a play, restored from what it took; and how many stones there are.
 use Rattle.std.proofs.Common.{◌≡◌, ℕ, ◌+◌, ◌<◌, List, length, refl, sym, ◌∙◌, ap, arith, inl, inr, Bool, cond}
 use Rattle.std.proofs.Common.{get_or-set_other}
 use Rattle.std.specs.Prelude.{◌≢◌, count_by}
@@ -23,7 +23,7 @@ use Rattle.go_board.proofs.liberties.FillingPoints.{one_at, one_at-same, one_at-
 use Rattle.go_board.proofs.Sums.{total, total-add, total-only}
 use Rattle.std.proofs.lemmas.Bool.{cases_eq}
 
--- The new stone is gone, each stone that it took stands again, and all else is as the play left it: that is the board
+-- The new stone is gone, each stone that it took is there again, and all else is as the play left it: that is the board
 -- before the play.
 pub undo-board : (board back : List Cell) (c : Colour) (p : ℕ) → at board p ≡ Empty → length back ≡ length board
     → at back p ≡ Empty

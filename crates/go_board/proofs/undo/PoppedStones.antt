@@ -6,6 +6,7 @@ use Rattle.std.proofs.lemmas.List.{take_at, length_push}
 use Rattle.std.specs.List.{AllByRecursion, filter, range_with_len}
 use Rattle.go_board.specs.private.TakenStack.{taken_at, IsNotLast, IsOnlyTaken}
 use Rattle.go_board.specs.declared.taken_stack.TakenStone.{TakenStone}
+use Rattle.go_board.proofs.General.{all-second}
 
 tail-same : (s t : TakenStone) (ss ts : List TakenStone) → s ∷ ss ≡ t ∷ ts → (s ≡ t) × (ss ≡ ts)
 tail-same s t ss ts e = (cc, cc)
@@ -22,7 +23,8 @@ places-same number (x ∷ xs) (y ∷ ys) e =
     ap (λ (z : ℕ). z ∷ xs) same ∙ ap (λ (zs : List ℕ). y ∷ zs) (places-same number xs ys parts.1)
 
 -- what begins as stones of one move does ends with one of it
-all_of_move : (number : ℕ) (xs : List ℕ) (t : TakenStone) (new more : List TakenStone) → taken_at number xs ≡ (t ∷ new) ++ more
+all_of_move : (number : ℕ) (xs : List ℕ) (t : TakenStone) (new more : List TakenStone)
+    → taken_at number xs ≡ (t ∷ new) ++ more
     → IsNotLast (t ∷ new) number → ⊥
 unfolding IsNotLast
 all_of_move number [] t new more e last = cc
@@ -78,7 +80,8 @@ IsNotLast-none stones number none before last e =
     let long : length stones ≡ length before + 1 = ap length e ∙ length_push before last in
     absurd (omega (arith, long, none))
 
-pub IsNotLast-other : (stones rest : List TakenStone) (t : TakenStone) (number by : ℕ) → stones ≡ rest ++ t ∷ [] → by ≡ t.number
+pub IsNotLast-other : (stones rest : List TakenStone) (t : TakenStone) (number by : ℕ) → stones ≡ rest ++ t ∷ []
+    → by ≡ t.number
     → by ≢ number → IsNotLast stones number
 unfolding IsNotLast
 IsNotLast-other stones rest t number by ends is another before last e same =
@@ -108,34 +111,51 @@ not_only-two stones rest earlier t s number by ends second is same place o =
 
 -- ---- which stones are those of the last move
 
--- a stone at the end with the last move's number is one that it took
-pub popped-one : (number : ℕ) (had new : List TakenStone) (places later : List ℕ) (p : ℕ)
+-- a stone at the end with the last move's number is one that it took, and those after it were popped before it
+record IsPopped (places later : List ℕ) (p : ℕ) : Type 0 where
+  front : List ℕ
+  is : places ≡ front ++ p ∷ later
+
+popped : (number : ℕ) (had new : List TakenStone) (places later : List ℕ) (p : ℕ)
     → AllByRecursion (λ (t : TakenStone). t.number < number) had
     → had ++ taken_at number places ≡ new ++ record { place = p; number = number } ∷ taken_at number later
-    → (P : ℕ → Type 0) → AllByRecursion P places → P p
-popped-one number [] [] [] later p few e P all = cc
-popped-one number [] [] (x ∷ places) later p few e P all =
+    → IsPopped places later p
+popped number [] [] [] later p few e = cc
+popped number [] [] (x ∷ places) later p few e =
     let parts =
     tail-same (record { place = x; number = number }) (record { place = p; number = number })
     (taken_at number places) (taken_at number later) e in
-    subst P (ap (λ (t : TakenStone). t.place) parts.0) all.0
-popped-one number [] (t ∷ new) [] later p few e P all = cc
-popped-one number [] (t ∷ new) (x ∷ places) later p few e P all =
+    let same : x ≡ p = ap (λ (t : TakenStone). t.place) parts.0 in
+    record {
+      front = [];
+      is = ap (λ (y : ℕ). y ∷ places) same ∙ ap (λ (ps : List ℕ). p ∷ ps) (places-same number places later parts.1);
+    }
+popped number [] (t ∷ new) [] later p few e = cc
+popped number [] (t ∷ new) (x ∷ places) later p few e =
     let parts =
     tail-same (record { place = x; number = number }) t (taken_at number places)
     (new ++ record { place = p; number = number } ∷ taken_at number later) e in
-    popped-one number [] new places later p tt parts.1 P all.1
-popped-one number (h ∷ had) [] places later p few e P all =
+    let rest = popped number [] new places later p tt parts.1 in
+    record { front = x ∷ rest.front; is = ap (λ (ps : List ℕ). x ∷ ps) rest.is }
+popped number (h ∷ had) [] places later p few e =
     let parts =
     tail-same h (record { place = p; number = number }) (had ++ taken_at number places) (taken_at number later) e in
     let less = few.0 in
     let same : h.number ≡ number = ap (λ (t : TakenStone). t.number) parts.0 in
     absurd (omega (arith, less, same))
-popped-one number (h ∷ had) (t ∷ new) places later p few e P all =
+popped number (h ∷ had) (t ∷ new) places later p few e =
     let parts =
     tail-same h t (had ++ taken_at number places)
     (new ++ record { place = p; number = number } ∷ taken_at number later) e in
-    popped-one number had new places later p few.1 parts.1 P all
+    popped number had new places later p few.1 parts.1
+
+pub popped-one : (number : ℕ) (had new : List TakenStone) (places later : List ℕ) (p : ℕ)
+    → AllByRecursion (λ (t : TakenStone). t.number < number) had
+    → had ++ taken_at number places ≡ new ++ record { place = p; number = number } ∷ taken_at number later
+    → (P : ℕ → Type 0) → AllByRecursion P places → P p
+popped-one number had new places later p few e P all =
+    let found = popped number had new places later p few e in
+    (all-second P found.front (p ∷ later) (subst (AllByRecursion P) found.is all)).0
 
 -- each place is less than those after it
 unfoldable pub AreRising : List ℕ → Type 0
@@ -143,35 +163,19 @@ AreRising [] = Unit {0}
 AreRising (p ∷ ps) = AllByRecursion (λ (q : ℕ). p < q) ps × AreRising ps
 
 -- and less than those that were popped before it
+rising-after : (front : List ℕ) (p : ℕ) (later : List ℕ) → AreRising (front ++ p ∷ later)
+    → AllByRecursion (λ (q : ℕ). p < q) later
+unfolding AreRising
+rising-after [] p later all = all.0
+rising-after (x ∷ front) p later all = rising-after front p later all.1
+
 pub popped-rising : (number : ℕ) (had new : List TakenStone) (places later : List ℕ) (p : ℕ)
     → AllByRecursion (λ (t : TakenStone). t.number < number) had
     → had ++ taken_at number places ≡ new ++ record { place = p; number = number } ∷ taken_at number later
     → AreRising places → AllByRecursion (λ (q : ℕ). p < q) later
-unfolding AreRising
-popped-rising number [] [] [] later p few e all = cc
-popped-rising number [] [] (x ∷ places) later p few e all =
-    let parts =
-    tail-same (record { place = x; number = number }) (record { place = p; number = number })
-    (taken_at number places) (taken_at number later) e in
-    subst (λ (y : ℕ). AllByRecursion (λ (q : ℕ). y < q) later) (ap (λ (t : TakenStone). t.place) parts.0)
-    (subst (λ (ps : List ℕ). AllByRecursion (λ (q : ℕ). x < q) ps) (places-same number places later parts.1) all.0)
-popped-rising number [] (t ∷ new) [] later p few e all = cc
-popped-rising number [] (t ∷ new) (x ∷ places) later p few e all =
-    let parts =
-    tail-same (record { place = x; number = number }) t (taken_at number places)
-    (new ++ record { place = p; number = number } ∷ taken_at number later) e in
-    popped-rising number [] new places later p tt parts.1 all.1
-popped-rising number (h ∷ had) [] places later p few e all =
-    let parts =
-    tail-same h (record { place = p; number = number }) (had ++ taken_at number places) (taken_at number later) e in
-    let less = few.0 in
-    let same : h.number ≡ number = ap (λ (t : TakenStone). t.number) parts.0 in
-    absurd (omega (arith, less, same))
-popped-rising number (h ∷ had) (t ∷ new) places later p few e all =
-    let parts =
-    tail-same h t (had ++ taken_at number places)
-    (new ++ record { place = p; number = number } ∷ taken_at number later) e in
-    popped-rising number had new places later p few.1 parts.1 all
+popped-rising number had new places later p few e all =
+    let found = popped number had new places later p few e in
+    rising-after found.front p later (subst AreRising found.is all)
 
 -- places that were picked in order are not less than the first
 picked-over : (test : ℕ → Bool) (k a n : ℕ) → k < a
@@ -202,14 +206,11 @@ rising-picked test a (suc n) =
     by_test false over rest = rest
 
 -- where each number is less, the last one is
-pub not_last-numbers : (number : ℕ) (stones : List TakenStone) → AllByRecursion (λ (t : TakenStone). t.number < number) stones
+pub not_last-numbers : (number : ℕ) (stones : List TakenStone)
+    → AllByRecursion (λ (t : TakenStone). t.number < number) stones
     → IsNotLast stones number
 unfolding IsNotLast
 not_last-numbers number stones few before last e same =
-    let less = last-number before (subst (AllByRecursion (λ (t : TakenStone). t.number < number)) e few) in
+    let less = (all-second (λ (t : TakenStone). t.number < number) before (last ∷ [])
+    (subst (AllByRecursion (λ (t : TakenStone). t.number < number)) e few)).0 in
     absurd (omega (arith, less, same))
-  where
-    last-number : (ts : List TakenStone) → AllByRecursion (λ (t : TakenStone). t.number < number) (ts ++ last ∷ [])
-        → last.number < number
-    last-number [] all = all.0
-    last-number (t ∷ ts) all = last-number ts all.1

@@ -3,7 +3,7 @@ use Rattle.std.proofs.Common.{◌≡◌, ℕ, zero, suc, ◌+◌, ◌<◌, ◌�
 use Rattle.std.proofs.Common.{inl, inr, Bool, true, false, cond, get_or-set_same, get_or-set_other, append_assoc}
 use Rattle.std.specs.Prelude.{◌⊎◌, ◌≢◌}
 use Rattle.std.specs.List.{range_with_len, filter, AllByRecursion}
-use Rattle.std.proofs.lemmas.List.{length_push}
+use Rattle.std.proofs.lemmas.List.{length_push, append-nil}
 use Rattle.std.proofs.Math.ListN.{set, length-set}
 use Rattle.go_board.specs.Board.{at}
 use Rattle.go_board.specs.private.TakenStack.{taken_at, with_stones, IsNotLast, AreLastPoints, IsRestored}
@@ -21,15 +21,6 @@ pub record IsRestoring (board : List Cell) (this : Cell) (number : ℕ) (old now
   pub stack_is : old ≡ now ++ taken_at number places
   pub counted : count ≡ length places
   pub few : (count ≡ 0) ⊎ (length now + count ≤ 2009)
-
-pub IsRestoring-none : (board : List Cell) (this : Cell) (number : ℕ) (old : List TakenStone)
-    → IsRestoring board this number old old board 0
-IsRestoring-none board this number old =
-    record { places = []; board_is = refl; stack_is = sym (append-none old); counted = refl; few = inl refl }
-  where
-    append-none : (ts : List TakenStone) → ts ++ [] ≡ ts
-    append-none [] = refl
-    append-none (t ∷ ts) = ap (λ (us : List TakenStone). t ∷ us) (append-none ts)
 
 pub length-with_stones : (board : List Cell) (this : Cell) (ps : List ℕ)
     → length (with_stones board this ps) ≡ length board
@@ -56,7 +47,8 @@ stack_is-popped number p old now new places stack_is popped =
     ∙ append_assoc new (record { place = p; number = number } ∷ []) (taken_at number places)
 
 -- the stone that is popped off the stack stood on a point that is empty
-pub popped-empty : (board : List Cell) (this : Cell) (number p count : ℕ) (old now new : List TakenStone) (cells : List Cell)
+pub popped-empty : (board : List Cell) (this : Cell) (number p count : ℕ) (old now new : List TakenStone)
+    (cells : List Cell)
     → AreLastPoints board old number
     → IsRestoring board this number old now cells count → now ≡ new ++ record { place = p; number = number } ∷ []
     → at cells p ≡ Empty
@@ -90,19 +82,14 @@ pub count-few : (board : List Cell) (this : Cell) (number count : ℕ) (old now 
 count-few board this number count old now cells b =
     elim b.few [ inl none ↦ omega (arith, none) | inr few ↦ omega (arith, few) ]
 
-pub IsRestoring-done : (board : List Cell) (this : Cell) (number count : ℕ) (old now : List TakenStone) (cells : List Cell)
+pub IsRestoring-done : (board : List Cell) (this : Cell) (number count : ℕ) (old now : List TakenStone)
+    (cells : List Cell)
     → IsRestoring board this number old now cells count
     → IsNotLast now number → IsRestored board this number old now cells count
 IsRestoring-done board this number count old now cells b last =
     record { places = b.places; board_is = b.board_is; stones_are = b.stack_is; counted = b.counted; all = last }
 
-pub shorter-now : (p number : ℕ) (now new : List TakenStone) → now ≡ new ++ record { place = p; number = number } ∷ []
-    → length new < length now
-shorter-now p number now new popped =
-    let shorter = ap length popped ∙ length_push new (record { place = p; number = number }) in
-    omega (arith, shorter)
-
--- ---- what is put back
+-- ---- what is restored
 
 pub filled-in : (board : List Cell) (this : Cell) (test : ℕ → Bool) (a n q : ℕ) → a ≤ q → q < a + n → q < length board
     → test q ≡ true

@@ -26,6 +26,7 @@ use Rattle.go_board.proofs.boards.Cells.{empty-point}
 use Rattle.go_board.proofs.undo.PoppedStones.{popped-all, popped-one, popped-rising, rising-picked}
 use Rattle.go_board.proofs.undo.RestoredStones.{length-with_stones, filled-in, filled-out}
 use Rattle.go_board.proofs.undo.BoardsBefore.{undo-board}
+use Rattle.go_board.proofs.records.TakenStack.{places-count}
 
 -- each place of the list is one whose stone is captured
 pub all-captured : (board : List Cell) (c : Colour) (ps : List ℕ)
@@ -40,7 +41,7 @@ all-captured board c (p ∷ ps) = by_test (captured? board c p) (all-captured bo
     by_test (yes h) rest = (h, rest)
     by_test (no k) rest = rest
 
--- the new stone stands
+-- the new stone is on its point
 pub new-stone : (board : List Cell) (stones : List TakenStone) (c : Colour) (p number : ℕ)
     → IsAfterMove board stones (record { colour = c; vertex = At p }) number → at board p ≡ stone c
 new-stone board stones c p number h =
@@ -64,7 +65,7 @@ last-points board cells stones c p number h is earlier q later e =
           (rising-picked (is_captured (set h.before p (stone c)) (other c)) 0 (length (set h.before p (stone c)))),
     )
 
--- what was put back is what the play took
+-- what was restored is what the play took
 record IsBackAgain (board new : List Cell) (stones left : List TakenStone) (c : Colour) (p number count : ℕ)
     (h : IsAfterMove board stones (record { colour = c; vertex = At p }) number) : Type 0 where
   board_is : new ≡ with_stones (set board p Empty) (stone (other c))
@@ -133,10 +134,6 @@ restored board new stones left c p number count h b = undo-board h.before new c 
     rest q another free =
         kept q free ∙ get_or-set_other board p q Empty Edge another ∙ ap (λ (b : List Cell). at b q) h.board_is
 
-pub counted-all : (board : List Cell) (c : Colour) → length (captured_places board c) ≡ captured_count board c
-unfolding captured_count
-counted-all board c = length-filter (is_captured board c) (range_with_len 0 (length board))
-
 pub IsUnmade-play : (board cells new : List Cell) (stones left : List TakenStone) (c : Colour) (p number count : ℕ)
     (this : Cell)
     → cells ≡ set board p Empty → this ≡ stone (other c) → IsRestored cells this number stones left new count
@@ -150,5 +147,5 @@ IsUnmade-play board cells new stones left c p number count this is this_is b h =
       restored board new stones left c p number count h back,
       back.left_is,
       back.counted
-          ∙ counted-all (set h.before p (stone c)) (other c),
+          ∙ places-count (set h.before p (stone c)) (other c),
     )

@@ -1,4 +1,8 @@
--- ChainIds of chains, and counts of their liberties. (Own: how the board keeps its chains.)
+-- The ids of chains, and their pseudo-liberties. (Own: how the board keeps its chains.)
+--
+-- A chain's id is the place of one of its stones, its head. Its pseudo-liberties are the empty neighbours of each of
+-- its stones, added up: an empty point beside two of its stones counts twice. So they are 0 just where the chain has no
+-- liberty.
 use Rattle.std.specs.Prelude.{◌≡◌, ◌≢◌, ℕ, All, ◌+◌, ◌-◌, ◌<◌, ◌↔◌, ◌==◌, ◌&&◌, if◌then◌else◌, Bool, true, false}
 use Rattle.std.specs.Prelude.{Contains, List, length, slice_index_or}
 use Rattle.std.specs.List.{sum_by, range_with_len}
@@ -51,7 +55,7 @@ empty_beside board p =
 abbrev pub has_id : List Cell → List ℕ → ℕ → ℕ → Bool
 has_id board ids id p = is_stone (at board p) && (id_of ids p == id)
 
--- what a place adds to a id's count
+-- what a place adds to an id's pseudo-liberties
 abbrev pub share : List Cell → List ℕ → ℕ → ℕ → ℕ
 share board ids id p = if has_id board ids id p then empty_beside board p else 0
 
@@ -65,11 +69,11 @@ ids_beside board ids id p =
     ids_at board ids id (p + 1) + ids_at board ids id (p - 1) + ids_at board ids id (p + 26)
     + ids_at board ids id (p - 26)
 
--- a id's count: its stones' empty neighbours, added up
+-- an id's pseudo-liberties: its stones' empty neighbours, added up
 unfoldable pub pseudo_liberties : List Cell → List ℕ → ℕ → ℕ
 pseudo_liberties board ids id = sum_by (share board ids id) (range_with_len 0 place_count)
 
--- the counts are those of all ids
+-- the numbers are the pseudo-liberties of all ids
 pub record ArePseudoLiberties (board : List Cell) (ids counts : List ℕ) : Type 0 where
   pub length_is : length counts ≡ place_count
   pub each : (id : ℕ) → id < place_count → slice_index_or counts id 0 ≡ pseudo_liberties board ids id
@@ -87,12 +91,12 @@ pub record HasOtherLiberty (board : List Cell) (p q : ℕ) : Type 0 where
   pub empty : at board place ≡ Empty
   pub another : place ≢ q
 
--- a id for each place, and each id is a place
+-- an id for each place, and each id is a place
 pub record AreOnBoard (ids : List ℕ) : Type 0 where
   pub length_is : length ids ≡ place_count
   pub below : All (λ id. id < place_count) ids
 
--- what a id counts
+-- the number of an id
 abbrev pub count_at : List ℕ → ℕ → ℕ
 count_at counts id = slice_index_or counts id 0
 

@@ -13,7 +13,7 @@ abbrev pub record_of : Inside → GameRecord
 record_of f = record { size = f.size; komi = f.komi; rule = f.rule; handicap = f.handicap; moves = f.moves.items }
 
 -- The board, with its chains, is that of the record, and so are the ko point and the taken stones. That the ids and
--- the counts are those of the board's chains stands in the types `Chains` and `Stones`.
+-- the pseudo-liberties are those of the board's chains is a fact of the types `Chains` and `Stones`.
 pub record IsKept (f : Inside) : Type 0 where
   pub game : IsGame (record_of f)
   pub board_is : f.chains ≡ board_of (record_of f)

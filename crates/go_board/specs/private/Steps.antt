@@ -1,4 +1,4 @@
--- Steps of the upkeep of ids and counts.
+-- Steps of the upkeep of ids and pseudo-liberties.
 use Rattle.std.specs.Prelude.{◌⊎◌, ◌≡◌, ◌≢◌, ℕ, ◌+◌, ◌*◌, ◌-◌, ◌<◌, ◌≤◌, ◌==◌, if◌then◌else◌, Contains, List, length}
 use Rattle.std.specs.Prelude.{slice_set}
 use Rattle.go_base.specs.Point.{Neighbours}
@@ -8,7 +8,7 @@ use Rattle.go_board.specs.Chain.{Joined}
 use Rattle.go_board.specs.private.Frame.{IsFramed}
 use Rattle.go_board.specs.private.ChainId.{BoardWithIds, id_of, ids_at, ids_beside, count_at}
 
--- what a id becomes where one id turns into another
+-- what an id becomes where one id turns into another
 abbrev pub rename : ℕ → ℕ → ℕ → ℕ
 rename to from id = if id == from then to else id
 
@@ -16,33 +16,33 @@ rename to from id = if id == from then to else id
 abbrev pub rename_three : ℕ → ℕ → ℕ → ℕ → ℕ → ℕ
 rename_three to a b c id = rename to c (rename to b (rename to a id))
 
--- a place's stone no more counts for its id: its id counts one less
+-- the id of a place's stone, if one is there, has one pseudo-liberty less
 pub record IsLowered (board : List Cell) (ids old new : List ℕ) (p : ℕ) : Type 0 where
   pub length_is : length new ≡ length old
   pub each : (id : ℕ) → id < place_count → count_at new id ≡ count_at old id - ids_at board ids id p
 
--- it counts again: its id counts one more
+-- it has one more
 pub record IsRaised (board : List Cell) (ids old new : List ℕ) (p : ℕ) : Type 0 where
   pub length_is : length new ≡ length old
   pub each : (id : ℕ) → id < place_count → count_at new id ≡ count_at old id + ids_at board ids id p
 
--- the stones beside a point no more count for their ids
+-- the ids of the stones beside a point have one less for each of these stones
 pub record AreLowered (board : List Cell) (ids old new : List ℕ) (p : ℕ) : Type 0 where
   pub length_is : length new ≡ length old
   pub each : (id : ℕ) → id < place_count
       → count_at new id ≡ count_at old id - ids_beside board ids id p
 
--- they count again
+-- they have one more for each
 pub record AreRaised (board : List Cell) (ids old new : List ℕ) (p : ℕ) : Type 0 where
   pub length_is : length new ≡ length old
   pub each : (id : ℕ) → id < place_count
       → count_at new id ≡ count_at old id + ids_beside board ids id p
 
--- the most that a id counts: four neighbours for each place
+-- the most pseudo-liberties of an id: four neighbours for each place
 abbrev pub most_pseudo_liberties : ℕ
 most_pseudo_liberties = 2808
 
--- no count is over this
+-- no number is over this
 abbrev pub IsBelow : ℕ → List ℕ → Type 0
 IsBelow most counts = (id : ℕ) → id < place_count → count_at counts id ≤ most
 
@@ -51,7 +51,7 @@ pub record IsIdOr (board : List Cell) (ls : List ℕ) (stone : Cell) (p other id
   pub there : at board p ≡ stone → id ≡ id_of ls p
   pub absent : at board p ≢ stone → id ≡ other
 
--- what one id counts went over to another, unless they are one
+-- the pseudo-liberties of one id went over to another, unless they are one
 pub record IsMoved (old new : List ℕ) (to from : ℕ) : Type 0 where
   pub one : to ≡ from → new ≡ old
   pub two : to ≢ from → new ≡ slice_set (slice_set old to (count_at old to + count_at old from)) from 0
@@ -82,7 +82,7 @@ IsFragmentSet board old new place =
     (IsStone (at board place) × HasFragmentId board old new place)
     ⊎ ((IsStone (at board place) → id_of old place ≢ 0) × (new ≡ old))
 
--- the board is kept and has as many ids, and the chain of a place was named
+-- the board is kept and has as many ids, and the chain of a place has the place as its id
 pub record SetsFragmentId (old new : BoardWithIds) (place : ℕ) : Type 0 where
   pub board_is : new.board ≡ old.board
   pub length_is : length new.ids ≡ length old.ids
@@ -100,7 +100,7 @@ pub record ChangesIds (old new : BoardWithIds) (places : List ℕ) (id : ℕ) : 
 abbrev pub StaysWhole : ℕ → ℕ → ℕ → Type 0
 StaysWhole beside id place = (beside ≡ 0) ⊎ ((beside ≡ 1) × (id ≢ place))
 
--- A stone was lifted from a place. The stones that have its id are those that a path joins to one of its neighbours;
+-- A stone was removed from a place. The stones that have its id are those that a path joins to one of its neighbours;
 -- the other ids are those of their chains.
 pub record IsCut (board : List Cell) (ids : List ℕ) (place id : ℕ) : Type 0 where
   pub framed : IsFramed board

@@ -5,11 +5,11 @@ use Rattle.go_board.specs.declared.stones.Stones.TheInside.{Inside}
 use Rattle.go_board.specs.private.Frame.{IsFramed}
 use Rattle.go_board.specs.private.ChainId.{BoardWithIds, ArePseudoLiberties}
 
--- The counts are left out, since they are those of the board and the ids.
+-- The pseudo-liberties are left out, since they follow from the board and the ids.
 abbrev pub board_with_ids : Inside → BoardWithIds
 board_with_ids f = record { board = f.board; ids = f.ids }
 
--- The board has edge all round, each place has a id, and each id counts the empty neighbours of its stones.
+-- The board has edge all round, each place has an id, and each id has its pseudo-liberties.
 pub record AreCounted (f : Inside) : Type 0 where
   pub framed : IsFramed f.board
   pub length_is : length f.ids ≡ place_count

@@ -72,7 +72,8 @@ IsVacant board (At p) = at board p ≡ Empty
 
 -- the last stone isn't one that the move with this number took
 unfoldable pub IsNotLast : List TakenStone → ℕ → Type 0
-IsNotLast stones number = (before : List TakenStone) (last : TakenStone) → stones ≡ before ++ last ∷ [] → last.number ≢ number
+IsNotLast stones number = (before : List TakenStone) (last : TakenStone) → stones ≡ before ++ last ∷ []
+    → last.number ≢ number
 
 -- The last stone stands on this place and was taken by the move with this number, and the one under it wasn't. As later
 -- moves lie above earlier ones, it is the only one that this move took.
@@ -110,7 +111,7 @@ AreLastPoints board stones number =
     → stones ≡ before ++ record { place = p; number = number } ∷ taken_at number later
     → (at board p ≡ Empty) × AllByRecursion (λ r. p < r) later
 
--- those stones were put back, as stones like this, and none is left
+-- those stones were restored, as stones like this, and none is left
 pub record IsRestored (board : List Cell) (this : Cell) (number : ℕ) (stones left : List TakenStone) (new : List Cell)
     (count : ℕ) : Type 0 where
   pub places : List ℕ
@@ -157,14 +158,15 @@ cleared board number [] = board
 cleared board number (taken ∷ stones) =
     if taken.number == number then cleared (slice_set board taken.place Empty) number stones else board
 
--- the stones behind those
+-- the stones after those
 abbrev pub later_than : ℕ → List TakenStone → List TakenStone
 later_than number [] = []
 later_than number (taken ∷ stones) = if taken.number == number then later_than number stones else taken ∷ stones
 
 -- On this board the move, before which `number` others were made, took the stones at the front, and later moves the
 -- others.
-pub record AreTakenBy (board : List Cell) (c : Colour) (v : Vertex) (number : ℕ) (stones : List TakenStone) : Type 0 where
+pub record AreTakenBy (board : List Cell) (c : Colour) (v : Vertex) (number : ℕ) (stones : List TakenStone) : Type 0
+    where
   pub later : List TakenStone
   pub are : stones ≡ taken_at number (taken_places board c v) ++ later
   pub others : AllByRecursion (λ t. number < t.number) later

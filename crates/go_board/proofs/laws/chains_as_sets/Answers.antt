@@ -1,4 +1,5 @@
-use Rattle.go_board.proofs.of_laws.ChainsAsSets.{joined-in, in-joined, away-from, untouched, captured-shut, shut-captured}
+use Rattle.go_board.proofs.of_laws.ChainsAsSets.{joined-in, in-joined, away-from, untouched, captured-shut}
+use Rattle.go_board.proofs.of_laws.ChainsAsSets.{shut-captured}
 use Rattle.go_board.proofs.laws.chains_as_sets.Goals as goal
 
 pub returns-clause-smallest : goal.returns-clause-smallest

@@ -1,9 +1,6 @@
-use Rattle.go_board.proofs.ko_rules.ReplayedBoards.{stricter, allowed-new, never-back}
+use Rattle.go_board.proofs.ko_rules.ReplayedBoards.{allowed-new, never-back}
 use Rattle.go_board.proofs.of_laws.KoRules.{not-at-once, others-legal}
 use Rattle.go_board.proofs.laws.ko_rules.Goals as goal
-
-pub returns-clause-stricter : goal.returns-clause-stricter
-returns-clause-stricter c = stricter
 
 pub returns-clause-new : goal.returns-clause-new
 returns-clause-new c = allowed-new

@@ -13,12 +13,3 @@ returns-clause-board c =
 
 few : (c : After-loop-place) → c.args.size ≤ 25
 few c = c.get-lines.ensures.limits.most
-
-pub returns-clause-size : goal.returns-clause-size
-returns-clause-size c =
-    subst (HasSize c.args.size) (sym (returns-clause-board c)) (HasSize-empty_board c.args.size (few c))
-
-pub invariant_of-result : goal.invariant_of-result
-invariant_of-result c =
-    IsFramed-has_size c.args.size c.loop-place.cell-items (few c) c.loop-place.invariant.length_is
-    (returns-clause-size c)

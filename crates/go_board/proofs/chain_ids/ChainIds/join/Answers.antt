@@ -60,6 +60,3 @@ invariant_of-self c =
     AreOnBoard-rename_three c.args.self.now c.loop-id.id-items c.args.to c.args.a c.args.b c.args.c c.requires.to
     (all_changed c)
     (subst AreOnBoard c.self.view_is c.self.invariant)
-
-pub returns : goal.returns
-returns c = all_changed c

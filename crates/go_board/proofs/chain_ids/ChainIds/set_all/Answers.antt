@@ -2,11 +2,6 @@ use Rattle.std.proofs.Common.{◌≡◌, List, ℕ, length, subst, arith}
 use Rattle.go_board.proofs.ids.FindingIds.{IsGiving-none, given-all}
 use Rattle.go_board.proofs.chain_ids.ChainIds.set_all.Goals as goal
 
-pub loop-index-init : goal.loop-index-init
-loop-index-init c =
-    IsGiving-none c.args.self.now c.args.places.now c.args.id
-    (subst (λ (ls : List ℕ). length ls ≡ 702) c.self.view_is c.self.invariant.length_is)
-
 pub returns-clause-given : goal.returns-clause-given
 returns-clause-given c =
     let past = c.loop-index-test.false in

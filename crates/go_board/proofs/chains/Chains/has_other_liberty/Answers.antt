@@ -6,11 +6,6 @@ use Rattle.go_board.specs.declared.board.Cell.{Cell}
 use Rattle.go_board.proofs.liberties.PlacingStones.{stone_in, has_other_liberty-test}
 use Rattle.go_board.proofs.chains.Chains.has_other_liberty.Goals as goal
 
-pub id-id-requires : goal.id-id-requires
-id-id-requires c =
-    stone_in c.self.inside.stones.board c.args.place c.self.invariant.framed
-    (subst (λ (b : List Cell). IsStone (at b c.args.place)) (sym c.self.view_is) c.requires.stone)
-
 pub returns : goal.returns
 returns c =
     let s = c.self.inside.stones in

@@ -3,7 +3,8 @@ use Rattle.std.proofs.lemmas.List.{append-nil}
 use Rattle.go_board.specs.Play.{without_captured, captured_count}
 use Rattle.go_board.specs.private.ChainId.{BoardWithIds, AreChains}
 use Rattle.go_board.specs.private.TakenStack.{captured_places, taken_at, AreNoneCaptured, HaveCapturedId}
-use Rattle.go_board.proofs.captures.MakingPlays.{play-none, captures-none, places-empty, told, HaveCapturedId-code, play-code, captures-code}
+use Rattle.go_board.proofs.captures.MakingPlays.{play-none, captures-none, places-empty, told, HaveCapturedId-code}
+use Rattle.go_board.proofs.captures.MakingPlays.{play-code, captures-code}
 use Rattle.go_board.proofs.captures.MakingPlays.{places-code, AreChains-play}
 use Rattle.go_board.proofs.chains.Chains.make_play.Goals as goal
 
@@ -90,6 +91,7 @@ returns-clause-stack c =
 
 pub returns-clause-taken : goal.returns-clause-taken
 returns-clause-taken c =
-    c.remove_captured.ensures.count ∙ ap (λ (t : BoardWithIds). captured_count t.board c.other-theirs.result) c.join.ensures
+    c.remove_captured.ensures.count
+    ∙ ap (λ (t : BoardWithIds). captured_count t.board c.other-theirs.result) c.join.ensures
     ∙ captures-code c.args.self.now c.self.inside.stones.board c.args.colour c.other-theirs.result c.args.place
     (c.self.view_is ∙ c.place_stone.ensures) c.other-theirs.ensures

@@ -11,19 +11,6 @@ use Rattle.go_board.proofs.liberties.PlacingStones.{stone_in, stone_on}
 use Rattle.go_board.proofs.ids.SplittingChains.{AreChainIds-whole, IsCut-removed}
 use Rattle.go_board.proofs.chains.Chains.remove_stone.Goals as goal
 
-pub id-id-requires : goal.id-id-requires
-id-id-requires c =
-    stone_in c.self.inside.stones.board c.args.place c.self.invariant.framed
-    (subst (λ (b : List Cell). IsStone (at b c.args.place)) (sym c.self.view_is) c.requires)
-
-pub ids_beside-beside-requires : goal.ids_beside-beside-requires
-ids_beside-beside-requires c =
-    stone_on c.self.inside.stones.board c.args.place c.self.invariant.framed
-    (subst (λ (b : List Cell). IsStone (at b c.args.place)) (sym c.self.view_is) c.requires)
-
-pub remove_stone-requires : goal.remove_stone-requires
-remove_stone-requires c = subst (λ (b : List Cell). IsStone (at b c.args.place)) (sym c.self.view_is) c.requires
-
 pub invariant_of-self : goal.invariant_of-self
 invariant_of-self c =
     let s = c.self.inside.stones in

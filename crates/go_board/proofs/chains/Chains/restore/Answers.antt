@@ -5,12 +5,9 @@ use Rattle.go_board.specs.declared.board.Cell.{Cell}
 use Rattle.go_board.specs.declared.board.Cell.TheVariants.{Empty}
 use Rattle.go_board.specs.declared.taken_stack.TakenStone.{TakenStone}
 use Rattle.go_board.proofs.boards.Cells.{empty-point}
-use Rattle.go_board.proofs.undo.RestoredStones.{IsRestoring-none, popped-empty, IsRestoring-more, count-few}
-use Rattle.go_board.proofs.undo.RestoredStones.{IsRestoring-done, shorter-now}
+use Rattle.go_board.proofs.undo.RestoredStones.{popped-empty, IsRestoring-more, count-few}
+use Rattle.go_board.proofs.undo.RestoredStones.{IsRestoring-done}
 use Rattle.go_board.proofs.chains.Chains.restore.Goals as goal
-
-pub loop-place-init : goal.loop-place-init
-loop-place-init c = IsRestoring-none c.args.self.now (stone c.args.colour) c.args.number c.args.stack.now
 
 pub place_stone-requires-clause-empty : goal.place_stone-requires-clause-empty
 place_stone-requires-clause-empty c =
@@ -37,10 +34,6 @@ overflow_add-count c =
     (stone c.args.colour) c.args.number c.loop-place.count c.args.stack.now c.loop-place.stack
     c.loop-place.self c.loop-place.invariant in
     omega (arith, few)
-
-pub loop-place-smaller : goal.loop-place-smaller
-loop-place-smaller c =
-    shorter-now c.in-Some.place c.args.number c.loop-place.stack c.pop_taken_by.new.self c.in-Some.ensures.some
 
 pub loop-place-preserved : goal.loop-place-preserved
 loop-place-preserved c =

@@ -7,7 +7,8 @@ pub returns : goal.returns
 returns c =
     let low = (IsOn-inside c.args.point c.requires.point).low in (
       (λ h. spared-all c.args.self.now c.args.colour c.args.point c.args.stone low
-          (c.takes_no_other_at.ensures.0 c.if-not-takes_no_other_at.false) (c.takes_no_other_at-2.ensures.0 c.if-not-takes_no_other_at-2.false)
+          (c.takes_no_other_at.ensures.0 c.if-not-takes_no_other_at.false)
+          (c.takes_no_other_at-2.ensures.0 c.if-not-takes_no_other_at-2.false)
           (c.takes_no_other_at-3.ensures.0 c.if-not-takes_no_other_at-3.false) (c.takes_no_other_at-4.ensures.0 h)),
       (λ all. c.takes_no_other_at-4.ensures.1 (all (c.args.point - 26) (under_of c.args.point low))),
     )

@@ -1,11 +1,11 @@
-use Rattle.std.proofs.Common.{◌≡◌, ◌-◌, List, ℕ, length, subst, ◌∙◌, ap, arith}
+use Rattle.std.proofs.Common.{◌≡◌, ◌-◌, List, ℕ, length, subst, ◌∙◌, ap, arith, refl}
 use Rattle.std.specs.Prelude.{Some, slice_get}
 use Rattle.go_base.specs.declared.moves.Move.{Move}
 use Rattle.go_board.specs.Game.{GameRecord, IsGame}
 use Rattle.go_board.specs.private.TakenStack.{StoodBelow}
 use Rattle.go_board.proofs.ko_rules.EarlierStones.{below-start, below-also}
-use Rattle.go_board.proofs.ko_rules.ReplayedBoards.{slice_get-from}
 use Rattle.go_board.proofs.game.Game.boards_to_compare.Goals as goal
+use Rattle.std.proofs.lemmas.Option.{slice_get_read}
 
 pub loop-few-init : goal.loop-few-init
 loop-few-init c = record {
@@ -14,7 +14,8 @@ loop-few-init c = record {
   below =
       below-start c.args.self.now c.args.colour c.args.point c.boards_with_stone-few.result
       (subst IsGame c.self.view_is c.self.invariant.game) c.requires
-      (subst (λ (q : ℕ). StoodBelow c.args.self.now c.args.colour q c.boards_with_stone-few.result) c.place_of.ensures.value
+      (subst (λ (q : ℕ). StoodBelow c.args.self.now c.args.colour q c.boards_with_stone-few.result)
+      c.place_of.ensures.value
       c.boards_with_stone-few.ensures);
 }
 
@@ -40,13 +41,7 @@ loop-few-preserved c =
           c.boards_with_move-few.result c.index-deref-number.result.colour c.index-deref-number.result.vertex
           (subst IsGame c.self.view_is c.self.invariant.game) c.requires
           (subst (λ (ms : List Move). slice_get ms (c.loop-few.number - 1) ≡ Some c.index-deref-number.result) same
-          (slice_get-from c.deref.result.now (c.loop-few.number - 1) c.index-deref-number.result
-          (omega (arith, within, some, enough, long)) c.index-deref-number.is))
+          (slice_get_read c.deref.result.now (length c.deref.result.now) (c.loop-few.number - 1)
+          c.index-deref-number.result refl (omega (arith, within, some, enough, long)) c.index-deref-number.is))
           (omega (arith, enough, some)) c.loop-few.invariant.below c.boards_with_move-few.ensures;
     }
-
-pub returns-else-few-number : goal.returns-else-few-number
-returns-else-few-number c = c.loop-few.invariant.below
-
-pub returns-after-loop-few : goal.returns-after-loop-few
-returns-after-loop-few c = c.loop-few.invariant.below

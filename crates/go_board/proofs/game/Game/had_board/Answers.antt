@@ -6,9 +6,11 @@ use Rattle.go_board.specs.Game.{GameRecord, IsGame, start}
 use Rattle.go_board.specs.private.Frame.{HasSize}
 use Rattle.go_board.specs.private.TakenStack.{stack_of}
 use Rattle.go_board.specs.declared.taken_stack.TakenStone.{TakenStone}
-use Rattle.go_board.proofs.ko_rules.ReplayedBoards.{IsReplayed, IsReplayed-start, IsReplayed-more, taken-next, open-next}
-use Rattle.go_board.proofs.ko_rules.ReplayedBoards.{repeats-found, repeats-last, slice_get-from}
+use Rattle.go_board.proofs.ko_rules.ReplayedBoards.{IsReplayed, IsReplayed-start, IsReplayed-more, taken-next}
+use Rattle.go_board.proofs.ko_rules.ReplayedBoards.{open-next}
+use Rattle.go_board.proofs.ko_rules.ReplayedBoards.{repeats-found, repeats-last}
 use Rattle.go_board.proofs.game.Game.had_board.Goals as goal
+use Rattle.std.proofs.lemmas.Option.{slice_get_read}
 
 pub loop-number-init : goal.loop-number-init
 loop-number-init c =
@@ -24,7 +26,8 @@ returns-then-equals c =
     let long = ap length (c.deref-made-items.ensures.0 ∙ ap (λ (g : GameRecord). g.moves) c.self.view_is) in
     let below = c.loop-number-test.true in (
       (λ _. repeats-found c.args.self.now c.args.wanted.now c.loop-number.board c.loop-number.number
-          c.loop-number.stones.now c.loop-number.invariant (omega (arith, below, long)) (c.equals.ensures.0 c.if-equals.true)),
+          c.loop-number.stones.now c.loop-number.invariant (omega (arith, below, long))
+          (c.equals.ensures.0 c.if-equals.true)),
       (λ _. refl),
     )
 
@@ -34,19 +37,16 @@ make-stones-requires-clause-open c =
     c.made-item.result (subst IsGame c.self.view_is c.self.invariant.game) c.loop-number.invariant
     (subst (λ (ms : List Move). slice_get ms c.loop-number.number ≡ Some c.made-item.result)
     (c.deref-made-items.ensures.0 ∙ ap (λ (g : GameRecord). g.moves) c.self.view_is)
-    (slice_get-from c.deref-made-items.result.now c.loop-number.number c.made-item.result c.loop-number-test.true
-    c.made-item.is))
-
-pub make-stones-requires-clause-points : goal.make-stones-requires-clause-points
-make-stones-requires-clause-points c = c.loop-number.invariant.points
+    (slice_get_read c.deref-made-items.result.now _ c.loop-number.number c.made-item.result
+    refl c.loop-number-test.true c.made-item.is))
 
 pub loop-number-preserved : goal.loop-number-preserved
 loop-number-preserved c =
     let move =
     subst (λ (ms : List Move). slice_get ms c.loop-number.number ≡ Some c.made-item.result)
     (c.deref-made-items.ensures.0 ∙ ap (λ (g : GameRecord). g.moves) c.self.view_is)
-    (slice_get-from c.deref-made-items.result.now c.loop-number.number c.made-item.result c.loop-number-test.true
-    c.made-item.is) in
+    (slice_get_read c.deref-made-items.result.now _ c.loop-number.number c.made-item.result
+    refl c.loop-number-test.true c.made-item.is) in
     IsReplayed-more c.args.self.now c.args.wanted.now c.loop-number.board c.make-stones.new.self
     c.loop-number.number c.loop-number.stones.now c.make-stones.result.now c.made-item.result
     c.loop-number.invariant move (λ e. false≢true (sym c.if-equals.false ∙ c.equals.ensures.1 (sym e)))

@@ -1,16 +1,11 @@
 use Rattle.std.proofs.Common.{◌∙◌, sym, subst}
 use Rattle.go_board.specs.private.Frame.{IsFramed}
 use Rattle.go_board.proofs.records.GameFields.{IsKept-start}
-use Rattle.go_board.proofs.records.EveryGame.{framed-start}
 use Rattle.go_board.proofs.game.Game.opening.Goals as goal
-
-pub from_board-chains-requires : goal.from_board-chains-requires
-from_board-chains-requires c =
-    subst IsFramed (sym c.start.ensures.board)
-    (framed-start c.args.size c.args.stones c.start.ensures.limits c.requires)
 
 pub invariant_of-result : goal.invariant_of-result
 invariant_of-result c =
-    IsKept-start c.args.size c.args.komi c.args.rule c.args.stones c.from_board-chains.result c.new-stack.result c.new.result
+    IsKept-start c.args.size c.args.komi c.args.rule c.args.stones c.from_board-chains.result c.new-stack.result
+    c.new.result
     c.start.ensures.limits c.half_points.ensures.limits c.requires
     (c.from_board-chains.ensures ∙ c.start.ensures.board) c.new-stack.ensures c.new.ensures

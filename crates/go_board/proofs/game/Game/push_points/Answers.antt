@@ -17,11 +17,6 @@ loop-column-preserved c = record {
   len = omega arith;
 }
 
-pub returns-clause-points : goal.returns-clause-points
-returns-clause-points c =
-    c.loop-column.invariant.written
-    ∙ points_before-all c.args.self.now c.args.row c.loop-column.column c.args.text.now.items (omega arith)
-
 pub returns-2-clause-points : goal.returns-2-clause-points
 returns-2-clause-points c =
     c.push-in-loop-column.ensures.items

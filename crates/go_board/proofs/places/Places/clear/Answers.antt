@@ -1,9 +1,6 @@
 use Rattle.std.proofs.Common.{ℕ, List, length, get_or, ap, sym, ◌∙◌, arith}
-use Rattle.go_board.proofs.floods.PlaceSets.{IsClearing-start, IsClearing-below, IsClearing-more, AreMarked-cleared}
+use Rattle.go_board.proofs.floods.PlaceSets.{IsClearing-below, IsClearing-more, AreMarked-cleared}
 use Rattle.go_board.proofs.places.Places.clear.Goals as goal
-
-pub loop-index-init : goal.loop-index-init
-loop-index-init c = IsClearing-start c.self.inside c.args.self.now c.self.invariant c.self.told c.self.view_is
 
 pub bounds-deref-index : goal.bounds-deref-index
 bounds-deref-index c =

@@ -3,11 +3,6 @@ use Rattle.go_board.specs.private.ChainId.{is_stone}
 use Rattle.go_board.proofs.liberties.PlacingStones.{IsRaised-stone}
 use Rattle.go_board.proofs.pseudo_liberties.PseudoLiberties.raise.Goals as goal
 
-pub add-requires-clause-room : goal.add-requires-clause-room
-add-requires-clause-room c =
-    let few = c.requires.room c.at-then-is_stone.result c.at-then-is_stone.ensures.below in
-    omega (arith, few)
-
 pub returns-then-is_stone : goal.returns-then-is_stone
 returns-then-is_stone c =
     let below = c.at-then-is_stone.ensures.below in

@@ -5,25 +5,10 @@ use Rattle.go_board.proofs.liberties.PlacingStones.{stone_in, stone_on}
 use Rattle.go_board.proofs.liberties.StonesFields.{room-for_id_changed, AreCounted-id_changed}
 use Rattle.go_board.proofs.stones.Stones.change_id.Goals as goal
 
-pub empty_beside-share-requires : goal.empty_beside-share-requires
-empty_beside-share-requires c =
-    stone_on c.self.inside.board c.args.place c.self.invariant.framed
-    (subst (λ (s : BoardWithIds). IsStone (at s.board c.args.place)) (sym c.self.view_is) c.requires.stone)
-
-pub at-requires : goal.at-requires
-at-requires c =
-    stone_in c.self.inside.board c.args.place c.self.invariant.framed
-    (subst (λ (s : BoardWithIds). IsStone (at s.board c.args.place)) (sym c.self.view_is) c.requires.stone)
-
 pub add-requires-clause-room : goal.add-requires-clause-room
 add-requires-clause-room c =
     room-for_id_changed c.self.inside c.lessen.new.self c.at.result c.args.id c.empty_beside-share.result
     c.self.invariant c.at.ensures.below c.requires.id c.empty_beside-share.ensures.few c.lessen.ensures
-
-pub set-requires-clause-place : goal.set-requires-clause-place
-set-requires-clause-place c =
-    stone_in c.self.inside.board c.args.place c.self.invariant.framed
-    (subst (λ (s : BoardWithIds). IsStone (at s.board c.args.place)) (sym c.self.view_is) c.requires.stone)
 
 pub invariant_of-self : goal.invariant_of-self
 invariant_of-self c =

@@ -9,7 +9,8 @@ use Rattle.go_board.specs.private.ChainId.{BoardWithIds, id_of}
 use Rattle.go_board.specs.declared.board.Cell.{Cell}
 use Rattle.go_board.specs.declared.taken_stack.TakenStone.{TakenStone}
 use Rattle.go_board.proofs.captures.CapturedStones.{IsClearing-done, IsClearing-count}
-use Rattle.go_board.proofs.captures.RemovingLoop.{IsRemoving, IsRemoving-taken, IsRemoving-left, IsRemoving-past, room-for_one}
+use Rattle.go_board.proofs.captures.RemovingLoop.{IsRemoving, IsRemoving-taken, IsRemoving-left, IsRemoving-past}
+use Rattle.go_board.proofs.captures.RemovingLoop.{room-for_one}
 use Rattle.go_board.proofs.captures.RemovingLoop.{captured-id, free-id}
 use Rattle.go_board.proofs.stones.Stones.remove_captured.Goals as goal
 use Rattle.go_board.proofs.stones.Stones.remove_captured.Goals.{then-id+then-eq, else-id}
@@ -59,7 +60,8 @@ loop-place-preserved c =
           (IsRemoving-taken now.board now.ids c.args.colour c.args.number c.args.stack.now n
           c.loop-place.self.board w.remove_stone.new.self.board c.loop-place.self.ids w.remove_stone.new.self.ids
           c.loop-place.stack w.push.new.self c.loop-place.count below captured
-          (ap (λ (s : BoardWithIds). s.board) w.remove_stone.ensures) (ap (λ (s : BoardWithIds). s.ids) w.remove_stone.ensures)
+          (ap (λ (s : BoardWithIds). s.board) w.remove_stone.ensures)
+          (ap (λ (s : BoardWithIds). s.ids) w.remove_stone.ensures)
           w.push.ensures inv)))
       | else-id w ↦
           let away : c.id.result ≡ c.args.id → at c.loop-place.self.board n ≡ c.stone-stone.result → ⊥ =

@@ -5,16 +5,6 @@ use Rattle.go_board.proofs.liberties.PlacingStones.{stone_in, stone_on}
 use Rattle.go_board.proofs.liberties.StonesFields.{room-for_removed, AreCounted-removed}
 use Rattle.go_board.proofs.stones.Stones.remove_stone.Goals as goal
 
-pub empty_beside-less-requires : goal.empty_beside-less-requires
-empty_beside-less-requires c =
-    stone_on c.self.inside.board c.args.place c.self.invariant.framed
-    (subst (λ (s : BoardWithIds). IsStone (at s.board c.args.place)) (sym c.self.view_is) c.requires)
-
-pub at-requires : goal.at-requires
-at-requires c =
-    stone_in c.self.inside.board c.args.place c.self.invariant.framed
-    (subst (λ (s : BoardWithIds). IsStone (at s.board c.args.place)) (sym c.self.view_is) c.requires)
-
 pub raise_beside-requires-clause-room : goal.raise_beside-requires-clause-room
 raise_beside-requires-clause-room c =
     room-for_removed c.self.inside c.lessen.new.self c.at.result c.empty_beside-less.result c.self.invariant
