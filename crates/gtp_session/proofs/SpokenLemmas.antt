@@ -30,7 +30,7 @@ use Rattle.gtp_session.specs.Spoken.{HasIntId, IsLawfulAt, IsSpoken, reply_of_an
 use Rattle.gtp_session.proofs.CauseLemmas.{fact, stones_fact, size_settles, stones_settle}
 use Rattle.gtp_session.proofs.Policies.{AllowsLawful}
 use Rattle.gtp_session.proofs.RowLemmas.{asked_where}
-use Rattle.gtp_session.proofs.TextLemmas.{vertex_fits, handicap_fits, shown_fits, score_fits}
+use Rattle.gtp_session.proofs.TextLemmas.{vertex_fits, handicap_fits, shown_fits, number_fits, score_fits}
 
 -- ---- the texts of the answers
 
@@ -101,11 +101,12 @@ choice_good game c choice.Resign is lawful =
 choice_good game c (choice.Play v) is lawful =
     record { text = choice_fits game c (choice.Play v) is.most lawful; size = is }
 
--- A command that only answers a text that is the same in each game needs no clause.
+-- A command whose text is empty, or the same in each game, needs no clause where it keeps the size.
 effect_good : (c : CommandName) (game : GameRecord) (a : Arguments c) (ch : Choice) → IsSize game.size
     → (row_of c).refusal game a ≡ None
     → IfSome (asked_by_effect (row_of c).effect (λ b. None) (Some a)) (λ d. IsLawful game d ch)
     → IsGood (answer_of_effect (row_of c).effect game a ch)
+effect_good command.ProtocolVersion game a ch is unrefused lawful = record { text = number_fits 2; size = is }
 effect_good command.KnownCommand game word ch is unrefused lawful =
     record { text = truth_fits (is_some (command_named word)); size = is }
 effect_good command.Boardsize game size ch is unrefused lawful =

@@ -3,7 +3,7 @@ use Rattle.std.specs.Prelude.{ℕ, ℤ, Bool, true, false, ◌&&◌, nat_le, Lis
 use Rattle.std.specs.List.{join_with_byte}
 use Rattle.std.specs.Str.{bytes_eq}
 use Rattle.go_base.specs.Bytes.{newline, space}
-use Rattle.go_base.specs.Int.{int_of}
+use Rattle.go_base.specs.Int.{int_of, written_int}
 use Rattle.go_base.specs.Size.{most_size}
 use Rattle.go_base.specs.Colour.{colour_of}
 use Rattle.go_base.specs.Vertex.{vertex_of, written_vertex}
@@ -202,7 +202,7 @@ written_vertices points = join_with_byte space (map (λ p. written_vertex (At p)
 -- A new size, and `clear_board`, empty the board, the handicap, the record and the captures. Komi stays, and no command
 -- changes the ko rule.
 abbrev pub row_of : (named : CommandName) → Row (Arguments named)
-row_of command.ProtocolVersion = query (λ game. codes "2")
+row_of command.ProtocolVersion = query (λ game. written_int 2)
 row_of command.Name = query (λ game. codes "stepgo")
 row_of command.Version = query (λ game. codes "1.0")
 row_of command.KnownCommand = record {

@@ -2,6 +2,7 @@
 use Rattle.std.specs.Prelude.{◌≡◌, ℕ, List, [], Option, Result, Ok, Err, MatchOption, codes}
 use Rattle.std.specs.Result.{is_ok}
 use Rattle.std.specs.Borrow.{Bor}
+use Rattle.go_base.specs.Int.{written_int}
 use Rattle.go_base.specs.Decide.{allows?}
 use Rattle.go_base.specs.Handicap.{handicap_points}
 use Rattle.go_base.specs.Vertex.{written_vertex}
@@ -30,6 +31,7 @@ handicap_text game = elim (allows? game.size game.handicap) [
 abbrev pub text_of : GameRecord → Text → List ℕ
 text_of game text.Empty = []
 text_of game (text.Fixed bytes) = bytes.now
+text_of game (text.Number number) = written_int number
 text_of game text.Names = all_names
 text_of game (text.Vertex vertex) = written_vertex vertex
 text_of game text.Handicap = handicap_text game
