@@ -1,38 +1,36 @@
 -- Which lines ask the policy for a move, and what their replies count for.
-use Rattle.std.proofs.Common.{◌≡◌, ℕ, List, length, Bool, true, false, cond, Option, Some, None, refl, sym, subst, ap, ◌∙◌}
-use Rattle.std.specs.Prelude.{◌↔◌, nat_le, is_some, MatchOption}
+use Rattle.std.proofs.Common.{◌≡◌, ℕ, List, true, Option, Some, None, refl, sym, subst, ap, ◌∙◌}
+use Rattle.std.specs.Prelude.{◌↔◌, is_some, MatchOption}
 use Rattle.go_base.specs.Colour.{colour_of, SpellsColour}
 use Rattle.go_base.specs.declared.choices.Choice.{Choice}
 use Rattle.go_base.specs.declared.choices.Choice.TheVariants as choice
 use Rattle.go_base.specs.declared.colours.Colour.{Colour}
-use Rattle.go_board.specs.Game.{GameRecord, most_moves}
+use Rattle.go_board.specs.Game.{GameRecord}
 use Rattle.gtp_wire.specs.Replies.{written_reply}
 use Rattle.gtp_wire.specs.declared.lines.Line.{Line}
 use Rattle.gtp_wire.specs.declared.lines.Line.TheVariants as line
 use Rattle.gtp_session.specs.Policy.{May}
 use Rattle.gtp_session.specs.declared.commands.CommandName.{CommandName}
 use Rattle.gtp_session.specs.declared.commands.CommandName.TheVariants.{Genmove}
-use Rattle.gtp_session.specs.Commands.{Answer, answer_choice, argument, asked, asked_by_command, asked_by_genmove, asked_by_named, id_of, named_command}
+use Rattle.gtp_session.specs.Commands.{Answer, answer_choice, argument, asked, asked_by, asked_by_command, asked_by_named, asked_unless, full_refusal, id_of, named_command, row_of}
 use Rattle.gtp_session.specs.Engine.{State, WrittenReply, Step}
-use Rattle.gtp_session.specs.TableLaws.{IsArgument, TakesMove, AsksForMove, IsMade, GenmovesAloneCount}
+use Rattle.gtp_session.specs.TableLaws.{a_colour, IsArgument, TakesMove, AsksForMove, IsMade, GenmovesAloneCount}
 use Rattle.gtp_session.proofs.AnswerLemmas.{answer-asked}
 use Rattle.gtp_session.proofs.EngineLemmas.{succeeds_where_asked}
-use Rattle.gtp_session.proofs.LineLemmas.{argument_colour, colour_argument, has_room, names_of, no_room, of_names}
+use Rattle.gtp_session.proofs.CauseLemmas.{fact, unrefused, full_settles}
+use Rattle.gtp_session.proofs.LineLemmas.{argument_of, of_argument, names_of, of_names}
 use Rattle.gtp_session.proofs.NameLemmas.{asks_genmove}
 
-by_full : (full : Bool) (c colour : Colour) → cond full None (Some c) ≡ Some colour → (full ≡ false) × (c ≡ colour)
-by_full true c colour e = absurd (cc e)
-by_full false c colour e = let same : c ≡ colour = cc e in (refl, same)
-
 asked_colour : (game : GameRecord) (words : List (List ℕ)) (o : Option Colour) (colour : Colour)
-    → argument colour_of words 1 ≡ o → asked_by_genmove game o ≡ Some colour
+    → argument colour_of words 1 ≡ o → asked_by (row_of Genmove) game o ≡ Some colour
     → IsArgument SpellsColour words 1 colour × TakesMove game
 asked_colour game words None colour is e = absurd (cc e)
-asked_colour game words (Some c) colour is e =
-    let both = by_full (nat_le most_moves (length game.moves)) c colour e in (
-      colour_argument words 1 colour (is ∙ ap (λ (x : Colour). Some x) both.1),
-      has_room (length game.moves) both.0,
-    )
+asked_colour game words (Some c) colour is e = by_cause (full_refusal game) refl e
+  where
+    by_cause : (cause : Option (List ℕ)) → full_refusal game ≡ cause → asked_unless cause c ≡ Some colour
+        → IsArgument SpellsColour words 1 colour × TakesMove game
+    by_cause (Some cause) why f = absurd (cc f)
+    by_cause None none f = (argument_of a_colour words 1 colour (is ∙ f), fact (full_settles game) none)
 
 -- a line for which the policy is asked
 asks_for : (game : GameRecord) (l : Line) (colour : Colour) → asked game l ≡ Some colour → AsksForMove game l colour
@@ -53,8 +51,8 @@ asked_for : (game : GameRecord) (l : Line) (colour : Colour) → AsksForMove gam
 asked_for game line.TooLong colour h = absurd h
 asked_for game (line.Command cl) colour h =
     ap (λ (o : Option CommandName). asked_by_named game o cl.words) (of_names cl.words Genmove h.0)
-    ∙ ap (asked_by_genmove game) (argument_colour cl.words 1 colour h.1)
-    ∙ ap (λ (b : Bool). cond b None (Some colour)) (no_room (length game.moves) h.2)
+    ∙ ap (asked_by (row_of Genmove) game) (of_argument a_colour cl.words 1 colour h.1)
+    ∙ ap (λ (cause : Option (List ℕ)). asked_unless cause colour) (unrefused (full_settles game) h.2)
 
 is_made : (game after : GameRecord) (reply : WrittenReply) (l : Line) (colour : Colour) (ch : Choice)
     → after ≡ (answer_choice game colour ch).game

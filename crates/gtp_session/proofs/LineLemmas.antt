@@ -1,29 +1,25 @@
--- Lines of words: the command that they name, their arguments, and the parts of what is answered.
-use Rattle.std.proofs.Common.{◌≡◌, [], ℕ, ◌<◌, ◌≤◌, List, ◌∷◌, Bool, true, false, cond, Option, Some, None, refl, sym, ap, ◌∙◌, arith}
-use Rattle.std.proofs.lemmas.Bool.Decides.{nat_tests}
+-- Lines of words: the command that they name, and their arguments.
+use Rattle.std.proofs.Common.{◌≡◌, [], ℕ, List, ◌∷◌, Bool, true, false, cond, Option, Some, None, refl, sym, ap, ◌∙◌}
 use Rattle.std.proofs.lemmas.Slice.Eq.{bytes_eq-Decides}
-use Rattle.std.specs.Prelude.{ℤ, ◌&&◌, nat_le, find, slice_get, option_and_then, codes}
+use Rattle.std.specs.Prelude.{find, slice_get, option_and_then}
 use Rattle.std.specs.Str.{bytes_eq}
-use Rattle.go_base.specs.Int.{SpellsInt, int_of}
-use Rattle.go_base.specs.Size.{most_size}
-use Rattle.go_base.specs.Komi.{SpellsKomi, komi_of}
-use Rattle.go_base.specs.Colour.{SpellsColour, colour_of}
-use Rattle.go_base.specs.Vertex.{SpellsVertex, vertex_of}
-use Rattle.go_base.specs.Handicap.{AllowsHandicap, handicap_points}
+use Rattle.go_base.specs.Int.{int_of}
+use Rattle.go_base.specs.Komi.{komi_of}
+use Rattle.go_base.specs.Colour.{colour_of}
+use Rattle.go_base.specs.Vertex.{vertex_of}
 use Rattle.go_base.specs.declared.choices.Choice.{Choice}
-use Rattle.go_base.specs.declared.choices.Choice.TheVariants as choice
 use Rattle.go_base.specs.declared.colours.Colour.{Colour}
+use Rattle.go_base.specs.declared.moves.Move.{Move}
 use Rattle.go_base.specs.declared.vertices.Vertex.{Vertex}
 use Rattle.go_base.proofs.IntLemmas.{int_of_spelled, spells_int_of}
 use Rattle.go_base.proofs.KomiLemmas.{komi_of_spelled, spells_komi_of}
 use Rattle.go_base.proofs.ColourLemmas.{colour_of_spelled, spells_colour_of}
 use Rattle.go_base.proofs.VertexLemmas.{vertex_of_spelled, spells_vertex_of}
-use Rattle.go_board.specs.Game.{GameRecord, IsLegal, most_moves, with_move}
-use Rattle.go_board.specs.Refusals.{IsTouched}
+use Rattle.go_board.specs.Game.{GameRecord}
 use Rattle.gtp_session.specs.declared.commands.CommandName.{CommandName}
-use Rattle.gtp_session.specs.declared.commands.CommandName.TheVariants.{ProtocolVersion, Name, Version, KnownCommand, ListCommands, Quit, Boardsize, ClearBoard, Komi, Play, Genmove, FixedHandicap, Undo, FinalScore, Showboard}
-use Rattle.gtp_session.specs.Commands.{Answer, spelled, all_commands, command_named, named_command, argument, answer_to, answer_to_named, answer_choice, succeeds, fails, written_vertices}
-use Rattle.gtp_session.specs.TableLaws.{answer_with, standard_name, Names, IsArgument}
+use Rattle.gtp_session.specs.declared.commands.CommandName.TheVariants as command
+use Rattle.gtp_session.specs.Commands.{spelled, all_commands, command_named, named_command, argument, Arguments, move_of, row_of, answer_to, answer_to_named}
+use Rattle.gtp_session.specs.TableLaws.{answer_with, standard_name, Names, IsArgument, ArgumentKind, an_int, a_komi, a_colour, a_vertex, a_word, ValueOf, SpellsValue, CanBeRead}
 use Rattle.gtp_session.proofs.NameLemmas.{named_by_name}
 
 pub found : (cs : List CommandName) (word : List ℕ) (c : CommandName)
@@ -44,21 +40,8 @@ word_names (Some word) c e = ap (λ (w : List ℕ). Some w) (sym (found all_comm
 
 -- its name is the one of the standard
 pub is_standard : (c : CommandName) → spelled c ≡ standard_name c
-is_standard ProtocolVersion = refl
-is_standard Name = refl
-is_standard Version = refl
-is_standard KnownCommand = refl
-is_standard ListCommands = refl
-is_standard Quit = refl
-is_standard Boardsize = refl
-is_standard ClearBoard = refl
-is_standard Komi = refl
-is_standard Play = refl
-is_standard Genmove = refl
-is_standard FixedHandicap = refl
-is_standard Undo = refl
-is_standard FinalScore = refl
-is_standard Showboard = refl
+is_standard command.Name = refl
+is_standard c = refl
 
 -- the command that the words name
 pub names_of : (words : List (List ℕ)) (c : CommandName) → named_command words ≡ Some c → Names words c
@@ -70,53 +53,73 @@ of_names words c n =
 
 -- ---- arguments
 
-pub argument_of : {V : Type 0} (Spells : V → List ℕ → Type 0) (value_of : List ℕ → Option V)
-    → ((value : V) (text : List ℕ) → value_of text ≡ Some value → Spells value text)
-    → (words : List (List ℕ)) (number : ℕ) (value : V) → argument value_of words number ≡ Some value
-    → IsArgument Spells words number value
-argument_of {V} Spells value_of tells words number value e = by_word (slice_get words number) refl e
+-- how an argument of a kind is read
+abbrev pub value_of : (kind : ArgumentKind) → List ℕ → Option (ValueOf kind)
+value_of an_int = int_of
+value_of a_komi = komi_of
+value_of a_colour = colour_of
+value_of a_vertex = vertex_of
+value_of a_word = Some
+
+spells_value : (kind : ArgumentKind) (value : ValueOf kind) (text : List ℕ) → value_of kind text ≡ Some value
+    → SpellsValue kind value text
+spells_value an_int value text e = spells_int_of value text e
+spells_value a_komi value text e = spells_komi_of value text e
+spells_value a_colour value text e = spells_colour_of value text e
+spells_value a_vertex value text e = spells_vertex_of value text e
+spells_value a_word value text e = cc
+
+value_spelled : (kind : ArgumentKind) (value : ValueOf kind) (text : List ℕ) → SpellsValue kind value text
+    → value_of kind text ≡ Some value
+value_spelled an_int value text e = int_of_spelled value text e
+value_spelled a_komi value text e = komi_of_spelled value text e
+value_spelled a_colour value text e = colour_of_spelled value text e
+value_spelled a_vertex value text e = vertex_of_spelled value text e
+value_spelled a_word value text e = cc
+
+-- what is read spells the value
+pub argument_of : (kind : ArgumentKind) (words : List (List ℕ)) (number : ℕ) (value : ValueOf kind)
+    → argument (value_of kind) words number ≡ Some value → IsArgument (SpellsValue kind) words number value
+argument_of kind words number value e = by_word (slice_get words number) refl e
   where
-    by_word : (o : Option (List ℕ)) → slice_get words number ≡ o → option_and_then value_of o ≡ Some value
-        → IsArgument Spells words number value
+    by_word : (o : Option (List ℕ)) → slice_get words number ≡ o → option_and_then (value_of kind) o ≡ Some value
+        → IsArgument (SpellsValue kind) words number value
     by_word None is e = absurd (cc e)
-    by_word (Some word) is e = (word, is, tells value word e)
+    by_word (Some word) is e = (word, is, spells_value kind value word e)
 
-pub of_argument : {V : Type 0} (Spells : V → List ℕ → Type 0) (value_of : List ℕ → Option V)
-    → ((value : V) (text : List ℕ) → Spells value text → value_of text ≡ Some value)
-    → (words : List (List ℕ)) (number : ℕ) (value : V) → IsArgument Spells words number value
-    → argument value_of words number ≡ Some value
-of_argument Spells value_of tells words number value h =
-    ap (option_and_then value_of) h.1 ∙ tells value h.0 h.2
+-- and the other way round
+pub of_argument : (kind : ArgumentKind) (words : List (List ℕ)) (number : ℕ) (value : ValueOf kind)
+    → IsArgument (SpellsValue kind) words number value → argument (value_of kind) words number ≡ Some value
+of_argument kind words number value h =
+    ap (option_and_then (value_of kind)) h.1 ∙ value_spelled kind value h.0 h.2
 
-pub int_argument : (words : List (List ℕ)) (k n : ℕ) → argument int_of words k ≡ Some n → IsArgument SpellsInt words k n
-int_argument = argument_of SpellsInt int_of spells_int_of
+pub move_reads : (o : Option Colour) (p : Option Vertex) (c : Colour) (v : Vertex) → o ≡ Some c → p ≡ Some v
+    → move_of o p ≡ Some (record { colour = c; vertex = v })
+move_reads o p c v e f =
+    ap (λ (x : Option Colour). move_of x p) e ∙ ap (λ (x : Option Vertex). move_of (Some c) x) f
 
-pub argument_int : (words : List (List ℕ)) (k n : ℕ) → IsArgument SpellsInt words k n → argument int_of words k ≡ Some n
-argument_int = of_argument SpellsInt int_of int_of_spelled
+pub reads_move : (o : Option Colour) (p : Option Vertex) (move : Move) → move_of o p ≡ Some move
+    → (o ≡ Some move.colour) × (p ≡ Some move.vertex)
+reads_move None p move e = absurd (cc e)
+reads_move (Some c) None move e = absurd (cc e)
+reads_move (Some c) (Some v) move e =
+    let same : record { colour = c; vertex = v } ≡ move = cc in
+    (ap (λ (m : Move). Some m.colour) same, ap (λ (m : Move). Some m.vertex) same)
 
-pub komi_argument : (words : List (List ℕ)) (k : ℕ) (n : ℤ) → argument komi_of words k ≡ Some n
-    → IsArgument SpellsKomi words k n
-komi_argument = argument_of SpellsKomi komi_of spells_komi_of
-
-pub argument_komi : (words : List (List ℕ)) (k : ℕ) (n : ℤ) → IsArgument SpellsKomi words k n
-    → argument komi_of words k ≡ Some n
-argument_komi = of_argument SpellsKomi komi_of komi_of_spelled
-
-pub colour_argument : (words : List (List ℕ)) (k : ℕ) (c : Colour) → argument colour_of words k ≡ Some c
-    → IsArgument SpellsColour words k c
-colour_argument = argument_of SpellsColour colour_of spells_colour_of
-
-pub argument_colour : (words : List (List ℕ)) (k : ℕ) (c : Colour) → IsArgument SpellsColour words k c
-    → argument colour_of words k ≡ Some c
-argument_colour = of_argument SpellsColour colour_of colour_of_spelled
-
-pub vertex_argument : (words : List (List ℕ)) (k : ℕ) (v : Vertex) → argument vertex_of words k ≡ Some v
-    → IsArgument SpellsVertex words k v
-vertex_argument = argument_of SpellsVertex vertex_of spells_vertex_of
-
-pub argument_vertex : (words : List (List ℕ)) (k : ℕ) (v : Vertex) → IsArgument SpellsVertex words k v
-    → argument vertex_of words k ≡ Some v
-argument_vertex = of_argument SpellsVertex vertex_of vertex_of_spelled
+-- the arguments of a command that are read can be read
+pub can_be_read : (c : CommandName) (words : List (List ℕ)) (a : Arguments c) → (row_of c).read words ≡ Some a
+    → CanBeRead c words
+can_be_read command.KnownCommand words word is = ((word, argument_of a_word words 1 word is), tt)
+can_be_read command.Boardsize words size is = ((size, argument_of an_int words 1 size is), tt)
+can_be_read command.Komi words komi is = ((komi, argument_of a_komi words 1 komi is), tt)
+can_be_read command.Play words move is =
+    let both = reads_move (argument colour_of words 1) (argument vertex_of words 2) move is in (
+      (move.colour, argument_of a_colour words 1 move.colour both.0),
+      ((move.vertex, argument_of a_vertex words 2 move.vertex both.1), tt),
+    )
+can_be_read command.Genmove words colour is = ((colour, argument_of a_colour words 1 colour is), tt)
+can_be_read command.FixedHandicap words stones is = ((stones, argument_of an_int words 1 stones is), tt)
+can_be_read c words a is = tt
 
 -- ---- answers
 
@@ -126,92 +129,6 @@ pub named_answer : (game : GameRecord) (id : Option ℕ) (words : List (List ℕ
     → answer_with game id words ch ≡ answer_to game c words ch
 named_answer game id words ch c names = ap (λ (o : Option CommandName). answer_to_named game o words ch)
     (of_names words c names)
-
-pub is_size : (size : ℕ) → (nat_le 1 size && nat_le size most_size) ≡ true → (1 ≤ size) × (size ≤ 25)
-is_size size e = (grind (arith, nat_tests), grind (arith, nat_tests))
-
-pub size_passes : (size : ℕ) → (1 ≤ size) × (size ≤ 25) → (nat_le 1 size && nat_le size most_size) ≡ true
-size_passes size is =
-    let least : 1 ≤ size = is.0 in
-    let most : size ≤ most_size = is.1 in
-    grind (arith, nat_tests)
-
-pub full_test : (n : ℕ) → ¬ (n < most_moves) → nat_le most_moves n ≡ true
-full_test n h = by_test (nat_le most_moves n) refl
-  where
-    by_test : (t : Bool) → nat_le most_moves n ≡ t → t ≡ true
-    by_test true e = refl
-    by_test false e = let room : n < most_moves = grind (arith, nat_tests) in absurd (h room)
-
-pub has_room : (n : ℕ) → nat_le most_moves n ≡ false → n < most_moves
-has_room n e = grind (arith, nat_tests)
-
-pub no_room : (n : ℕ) → n < most_moves → nat_le most_moves n ≡ false
-no_room n h = grind (arith, nat_tests)
-
-pub if_ok : (b : Bool) (s t : Answer) → t.ok ≡ false → (cond b s t).ok ≡ true → b ≡ true
-if_ok true s t bad e = refl
-if_ok false s t bad e = cc
-
-pub else_ok : (b : Bool) (s t : Answer) → s.ok ≡ false → (cond b s t).ok ≡ true → (b ≡ false) × (t.ok ≡ true)
-else_ok true s t bad e = cc
-else_ok false s t bad e = (refl, e)
-
-pub then_is : (b : Bool) (s t : Answer) → b ≡ true → cond b s t ≡ s
-then_is true s t e = refl
-then_is false s t e = cc
-
-pub else_is : (b : Bool) (s t : Answer) → b ≡ false → cond b s t ≡ t
-else_is true s t e = cc
-else_is false s t e = refl
-
-abbrev pub legal_answer : (game : GameRecord) (c : Colour) (v : Vertex) → Dec (IsLegal game c v) → Answer
-legal_answer game c v d = elim d [ yes _ ↦ succeeds (with_move game c v) [] | no _ ↦ fails game (codes "illegal move") ]
-
-abbrev pub stones_answer : (game : GameRecord) (stones : ℕ) → Dec (IsTouched game)
-    → Dec (AllowsHandicap game.size stones) → Answer
-stones_answer game stones d e =
-    elim d [
-      | yes _ ↦ fails game (codes "board not empty")
-      | no _ ↦ elim e [
-        | yes _ ↦ succeeds (record game { handicap = stones }) (written_vertices (handicap_points game.size stones))
-        | no _ ↦ fails game (codes "invalid number of stones")
-      ]
-    ]
-
-pub legal_ok : (game : GameRecord) (c : Colour) (v : Vertex) (d : Dec (IsLegal game c v))
-    → (legal_answer game c v d).ok ≡ true → IsLegal game c v
-legal_ok game c v (yes l) e = l
-legal_ok game c v (no _) e = cc
-
-pub legal_yes : (game : GameRecord) (c : Colour) (v : Vertex) (d : Dec (IsLegal game c v)) → IsLegal game c v
-    → legal_answer game c v d ≡ succeeds (with_move game c v) []
-legal_yes game c v (yes _) l = refl
-legal_yes game c v (no k) l = absurd (k l)
-
-pub stones_ok : (game : GameRecord) (stones : ℕ) (d : Dec (IsTouched game)) (e : Dec (AllowsHandicap game.size stones))
-    → (stones_answer game stones d e).ok ≡ true → (¬ IsTouched game) × AllowsHandicap game.size stones
-stones_ok game stones (yes _) e h = cc
-stones_ok game stones (no n) (yes a) h = (n, a)
-stones_ok game stones (no _) (no _) h = cc
-
-pub stones_yes : (game : GameRecord) (stones : ℕ) (d : Dec (IsTouched game)) (e : Dec (AllowsHandicap game.size stones))
-    → ¬ IsTouched game → AllowsHandicap game.size stones
-    → (stones_answer game stones d e).ok ≡ true
-stones_yes game stones (yes t) e n a = absurd (n t)
-stones_yes game stones (no _) (yes _) n a = refl
-stones_yes game stones (no _) (no k) n a = absurd (k a)
-
-pub stones_touched : (game : GameRecord) (stones : ℕ) (d : Dec (IsTouched game))
-    (e : Dec (AllowsHandicap game.size stones))
-    → IsTouched game
-    → stones_answer game stones d e ≡ fails game (codes "board not empty")
-stones_touched game stones (yes _) e t = refl
-stones_touched game stones (no n) e t = absurd (n t)
-
-pub choice_ok : (game : GameRecord) (c : Colour) (ch : Choice) → (answer_choice game c ch).ok ≡ true
-choice_ok game c choice.Resign = refl
-choice_ok game c (choice.Play v) = refl
 
 -- a test that isn't true is false
 pub not_true : (b : Bool) → ¬ (b ≡ true) → b ≡ false

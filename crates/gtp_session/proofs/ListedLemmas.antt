@@ -1,5 +1,5 @@
 -- The list of the commands, and the words that it lacks.
-use Rattle.std.proofs.Common.{[], lit<, ◌≡◌, ℕ, zero, suc, ◌<◌, List, ◌∷◌, length, Bool, true, false, cond, Option, Some, None, refl, ap, arith}
+use Rattle.std.proofs.Common.{[], ◌≡◌, ◌∙◌, ℕ, zero, suc, ◌<◌, List, ◌∷◌, length, Bool, true, false, cond, Option, Some, None, refl, sym, ap, arith}
 use Rattle.std.proofs.lemmas.Slice.Eq.{bytes_eq-Decides}
 use Rattle.std.proofs.lemmas.Map.Made.{AllPairs-from_IsDistinct}
 use Rattle.std.specs.Prelude.{◌≢◌, ◌↔◌, map, find, slice_get, slice_index_or, is_some, AllPairs, option_and_then, Contains, codes}
@@ -8,9 +8,10 @@ use Rattle.std.specs.List.{AllByRecursion, IsDistinct}
 use Rattle.go_base.specs.declared.choices.Choice.{Choice}
 use Rattle.go_board.specs.Game.{GameRecord}
 use Rattle.gtp_session.specs.declared.commands.CommandName.{CommandName}
-use Rattle.gtp_session.specs.declared.commands.CommandName.TheVariants.{ProtocolVersion, Name, Version, KnownCommand, ListCommands, Quit, Boardsize, ClearBoard, Komi, Play, Genmove, FixedHandicap, Undo, FinalScore, Showboard}
-use Rattle.gtp_session.specs.Commands.{spelled, all_commands, command_named, answer_to_named, answer_known, succeeds, fails}
+use Rattle.gtp_session.specs.Commands.{spelled, all_commands, command_named, answer_to_named, succeeds, fails}
 use Rattle.gtp_session.specs.TableLaws.{answer_with, standard_name}
+use Rattle.gtp_session.proofs.LineLemmas.{is_standard, not_true}
+use Rattle.gtp_session.proofs.NameLemmas.{named_by_name}
 
 word_found : (cs : List CommandName) (word : List ℕ) (o : Option CommandName)
     → find (λ (d : CommandName). bytes_eq (spelled d) word) cs ≡ o → is_some o ≡ true → Contains (map spelled cs) word
@@ -49,18 +50,16 @@ known_words word = (
   λ h. found_word all_commands word h.0 h.1 h.2,
 )
 
-pub known_true : (game : GameRecord) (word : List ℕ) → Contains (map spelled all_commands) word
-    → answer_known game (Some word) ≡ succeeds game (codes "true")
-known_true game word h = rw ((known_words word).1 h) refl
+pub known_true : (game : GameRecord) (id : Option ℕ) (word : List ℕ) (more : List (List ℕ)) (ch : Choice)
+    → Contains (map spelled all_commands) word
+    → answer_with game id (codes "known_command" ∷ word ∷ more) ch ≡ succeeds game (codes "true")
+known_true game id word more ch h = rw ((known_words word).1 h) refl
 
-pub known_false : (game : GameRecord) (word : List ℕ) → ¬ Contains (map spelled all_commands) word
-    → answer_known game (Some word) ≡ succeeds game (codes "false")
-known_false game word un = by_test (is_some (command_named word)) refl
-  where
-    by_test : (t : Bool) → is_some (command_named word) ≡ t
-        → succeeds game (cond t (codes "true") (codes "false")) ≡ succeeds game (codes "false")
-    by_test true t = absurd (un ((known_words word).0 t))
-    by_test false t = refl
+pub known_false : (game : GameRecord) (id : Option ℕ) (word : List ℕ) (more : List (List ℕ)) (ch : Choice)
+    → ¬ Contains (map spelled all_commands) word
+    → answer_with game id (codes "known_command" ∷ word ∷ more) ch ≡ succeeds game (codes "false")
+known_false game id word more ch un =
+    rw (not_true (is_some (command_named word)) (λ e. un ((known_words word).0 e))) refl
 
 -- the row is none of these
 is_apart : List ℕ → List (List ℕ) → Bool
@@ -99,21 +98,8 @@ rows_differ = AllPairs-from_IsDistinct bytes_eq-Decides (map spelled all_command
     (distinct (map spelled all_commands) refl)
 
 pub each_row : (c : CommandName) → Contains (map spelled all_commands) (standard_name c)
-each_row ProtocolVersion = (0, lit< tt, refl)
-each_row Name = (1, lit< tt, refl)
-each_row Version = (2, lit< tt, refl)
-each_row KnownCommand = (3, lit< tt, refl)
-each_row ListCommands = (4, lit< tt, refl)
-each_row Quit = (5, lit< tt, refl)
-each_row Boardsize = (6, lit< tt, refl)
-each_row ClearBoard = (7, lit< tt, refl)
-each_row Komi = (8, lit< tt, refl)
-each_row Play = (9, lit< tt, refl)
-each_row Genmove = (10, lit< tt, refl)
-each_row FixedHandicap = (11, lit< tt, refl)
-each_row Undo = (12, lit< tt, refl)
-each_row FinalScore = (13, lit< tt, refl)
-each_row Showboard = (14, lit< tt, refl)
+each_row c = (known_words (standard_name c)).0
+    (ap (λ (w : List ℕ). is_some (command_named w)) (sym (is_standard c)) ∙ ap is_some (named_by_name c))
 
 pub unknown_lines : (game : GameRecord) (id : Option ℕ) (words : List (List ℕ)) (ch : Choice)
     → ((word : List ℕ) → Contains (map spelled all_commands) word → slice_get words 0 ≢ Some word)

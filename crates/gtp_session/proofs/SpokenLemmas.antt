@@ -1,19 +1,16 @@
 -- What is answered may be the text of a reply, and so it is one reply.
-use Rattle.std.proofs.Common.{◌≡◌, ℕ, ◌≤◌, List, [], ◌∷◌, ◌++◌, length, map, Bool, true, false, cond, Option, Some, None, refl, sym, subst, arith, lit≤}
-use Rattle.std.specs.Prelude.{codes, ℤ, IfSome, is_some, ◌&&◌, nat_le, nat_lt, slice_get, filter, MatchOption}
+use Rattle.std.proofs.Common.{◌≡◌, ℕ, ◌≤◌, List, [], ◌∷◌, ◌++◌, length, map, Bool, true, false, cond, Option, Some, None, refl, sym, subst, lit≤}
+use Rattle.std.specs.Prelude.{codes, IfSome, is_some, ◌&&◌, nat_le, nat_lt, filter, MatchOption}
 use Rattle.std.specs.List.{filter_map, join_with_byte, AllByRecursion, slice_split, cons_option}
-use Rattle.std.proofs.lemmas.Bool.Decides.{nat_tests}
 use Rattle.go_base.specs.Int.{most_int, int_of}
 use Rattle.go_base.specs.Size.{IsSize, most_size}
-use Rattle.go_base.specs.Colour.{colour_of}
-use Rattle.go_base.specs.Komi.{komi_of}
-use Rattle.go_base.specs.Handicap.{AllowsHandicap, handicap_points}
-use Rattle.go_base.specs.Vertex.{vertex_of}
+use Rattle.go_base.specs.declared.choices.Choice.{Choice}
+use Rattle.go_base.specs.declared.choices.Choice.TheVariants as choice
 use Rattle.go_base.specs.declared.colours.Colour.{Colour}
-use Rattle.go_base.specs.declared.vertices.Vertex.{Vertex}
 use Rattle.go_base.proofs.IntLemmas.{spells_int_of}
-use Rattle.go_board.specs.Game.{GameRecord, IsLegal, most_moves, with_move, without_last}
-use Rattle.go_board.specs.Refusals.{IsTouched}
+use Rattle.go_base.specs.Decide.{allows?}
+use Rattle.go_board.specs.decisions.Game.{legal?, touched?}
+use Rattle.go_board.specs.Game.{GameRecord, most_moves}
 use Rattle.go_board.specs.Area.{score}
 use Rattle.gtp_wire.specs.declared.lines.Line.{Line}
 use Rattle.gtp_wire.specs.declared.lines.Line.TheVariants as line
@@ -22,20 +19,18 @@ use Rattle.gtp_wire.specs.Words.{most_line_bytes, words}
 use Rattle.gtp_wire.specs.Lines.{lines, line_of, line_of_words, but_last}
 use Rattle.gtp_wire.specs.Replies.{IsReply, IsReplyText, most_text_bytes, written_reply}
 use Rattle.gtp_wire.proofs.WrittenLemmas.{written_is_read}
-use Rattle.go_base.specs.Decide.{allows?}
-use Rattle.go_board.specs.decisions.Game.{legal?, touched?}
 use Rattle.gtp_session.specs.Policy.{May, IsLawful}
-use Rattle.go_base.specs.declared.choices.Choice.{Choice}
-use Rattle.go_base.specs.declared.choices.Choice.TheVariants as choice
 use Rattle.gtp_session.specs.declared.commands.CommandName.{CommandName}
-use Rattle.gtp_session.specs.declared.commands.CommandName.TheVariants.{ProtocolVersion, Name, Version, KnownCommand, ListCommands, Quit, Boardsize, ClearBoard, Komi, Play, Genmove, FixedHandicap, Undo, FinalScore, Showboard}
-use Rattle.gtp_session.specs.Commands.{Answer, answer, answer_to_named, answer_known, answer_boardsize, answer_komi, answer_play, answer_handicap, answer_undo, answer_genmove, answer_choice, argument, asked, asked_by_genmove, asked_by_named, named_command, command_named, succeeds, fails, syntax_error, written_vertices, id_of}
+use Rattle.gtp_session.specs.declared.commands.CommandName.TheVariants as command
+use Rattle.gtp_session.specs.Commands.{Answer, Arguments, answer, answer_by, answer_choice, answer_of_effect, answer_to_named, answer_unless, asked, asked_by, asked_by_effect, asked_by_named, command_named, id_of, named_command, row_of, syntax_error}
 use Rattle.gtp_session.specs.private.Outcome.{Executes}
 use Rattle.gtp_session.specs.Engine.{Engine, State, WrittenReply, Step, Answers, Replies}
 use Rattle.gtp_session.specs.Engine.Answers.{none, over, more}
-use Rattle.gtp_session.proofs.Policies.{AllowsLawful}
 use Rattle.gtp_session.specs.Spoken.{HasIntId, IsLawfulAt, IsSpoken, reply_of_answer}
-use Rattle.gtp_session.proofs.TextLemmas.{vertex_fits, handicap_fits, shown_fits, score_fits}
+use Rattle.gtp_session.proofs.CauseLemmas.{fact, stones_fact, size_settles, stones_settle}
+use Rattle.gtp_session.proofs.Policies.{AllowsLawful}
+use Rattle.gtp_session.proofs.RowLemmas.{asked_where}
+use Rattle.gtp_session.proofs.TextLemmas.{vertex_fits, handicap_fits, shown_fits, number_fits, score_fits}
 
 -- ---- the texts of the answers
 
@@ -48,88 +43,49 @@ pub record IsGood (given : Answer) : Type 0 where
 pub empty_fits : IsReplyText []
 empty_fits = record { fits = lit≤ tt; shown = refl; single = refl; front = refl; end = refl }
 
-syntax_good : (game : GameRecord) → IsSize game.size → IsGood (syntax_error game)
-syntax_good game is = record {
-  text = record { fits = lit≤ tt; shown = refl; single = refl; front = refl; end = refl };
-  size = is;
-}
+-- ---- what is against a command
 
-empty_good : (game : GameRecord) → IsSize game.size → IsGood (succeeds game [])
-empty_good game is = record { text = empty_fits; size = is }
+Fits : Option (List ℕ) → Type 0
+Fits cause = IfSome cause IsReplyText
 
-full_good : (game : GameRecord) → IsSize game.size → IsGood (fails game (codes "record full"))
-full_good game is = record {
-  text = record { fits = lit≤ tt; shown = refl; single = refl; front = refl; end = refl };
-  size = is;
-}
+if_fits : (t : Bool) (x y : Option (List ℕ)) → Fits x → Fits y → Fits (cond t x y)
+if_fits true x y fx fy = fx
+if_fits false x y fx fy = fy
 
-either_good : (b : Bool) (s t : Answer) → (b ≡ true → IsGood s) → (b ≡ false → IsGood t) → IsGood (cond b s t)
-either_good true s t gs gt = gs refl
-either_good false s t gs gt = gt refl
+dec_fits : {Fact : Type 0} (d : Dec Fact) (x y : Option (List ℕ)) → Fits x → Fits y
+    → Fits (elim d [ yes _ ↦ x | no _ ↦ y ])
+dec_fits (yes _) x y fx fy = fx
+dec_fits (no _) x y fx fy = fy
+
+full_fits : IsReplyText (codes "record full")
+full_fits = record { fits = lit≤ tt; shown = refl; single = refl; front = refl; end = refl }
+
+cause_fits : (c : CommandName) (game : GameRecord) (a : Arguments c) → Fits ((row_of c).refusal game a)
+unfolding Fits
+cause_fits command.Boardsize game size =
+    if_fits (nat_le 1 size && nat_le size most_size) None (Some (codes "unacceptable size")) tt
+    (record { fits = lit≤ tt; shown = refl; single = refl; front = refl; end = refl })
+cause_fits command.Play game move =
+    if_fits (nat_le most_moves (length game.moves)) (Some (codes "record full")) _ full_fits
+    (dec_fits (legal? game move.colour move.vertex) None (Some (codes "illegal move")) tt
+    (record { fits = lit≤ tt; shown = refl; single = refl; front = refl; end = refl }))
+cause_fits command.Genmove game colour =
+    if_fits (nat_le most_moves (length game.moves)) (Some (codes "record full")) None full_fits tt
+cause_fits command.FixedHandicap game stones =
+    dec_fits (touched? game) (Some (codes "board not empty")) _
+    (record { fits = lit≤ tt; shown = refl; single = refl; front = refl; end = refl })
+    (dec_fits (allows? game.size stones) None (Some (codes "invalid number of stones")) tt
+    (record { fits = lit≤ tt; shown = refl; single = refl; front = refl; end = refl }))
+cause_fits command.Undo game a =
+    if_fits (nat_le 1 (length game.moves)) None (Some (codes "cannot undo")) tt
+    (record { fits = lit≤ tt; shown = refl; single = refl; front = refl; end = refl })
+cause_fits c game a = tt
+
+-- ---- what a command does that is not refused
 
 truth_fits : (b : Bool) → IsReplyText (cond b (codes "true") (codes "false"))
 truth_fits true = record { fits = lit≤ tt; shown = refl; single = refl; front = refl; end = refl }
 truth_fits false = record { fits = lit≤ tt; shown = refl; single = refl; front = refl; end = refl }
-
-known_good : (game : GameRecord) (name : Option (List ℕ)) → IsSize game.size → IsGood (answer_known game name)
-known_good game None is = syntax_good game is
-known_good game (Some name) is = record { text = truth_fits (is_some (command_named name)); size = is }
-
-size_of_test : (size : ℕ) → (nat_le 1 size && nat_le size most_size) ≡ true → IsSize size
-size_of_test size e = record { least = grind (arith, nat_tests); most = grind (arith, nat_tests) }
-
-boardsize_good : (game : GameRecord) (size : Option ℕ) → IsSize game.size → IsGood (answer_boardsize game size)
-boardsize_good game None is = syntax_good game is
-boardsize_good game (Some size) is =
-    either_good (nat_le 1 size && nat_le size most_size)
-    (succeeds (record game { size = size; handicap = 0; moves = [] }) [])
-    (fails game (codes "unacceptable size"))
-    (λ e. empty_good (record game { size = size; handicap = 0; moves = [] }) (size_of_test size e))
-    (λ e. record { text = record { fits = lit≤ tt; shown = refl; single = refl; front = refl; end = refl }; size = is })
-
-komi_good : (game : GameRecord) (komi : Option ℤ) → IsSize game.size → IsGood (answer_komi game komi)
-komi_good game None is = syntax_good game is
-komi_good game (Some komi) is = empty_good (record game { komi = komi }) is
-
-legal_good : (game : GameRecord) (c : Colour) (v : Vertex) (d : Dec (IsLegal game c v)) → IsSize game.size
-    → IsGood (elim d [ yes _ ↦ succeeds (with_move game c v) [] | no _ ↦ fails game (codes "illegal move") ])
-legal_good game c v (yes _) is = empty_good (with_move game c v) is
-legal_good game c v (no _) is =
-    record { text = record { fits = lit≤ tt; shown = refl; single = refl; front = refl; end = refl }; size = is }
-
-play_good : (game : GameRecord) (c : Option Colour) (v : Option Vertex) → IsSize game.size
-    → IsGood (answer_play game c v)
-play_good game None v is = syntax_good game is
-play_good game (Some c) None is = syntax_good game is
-play_good game (Some c) (Some v) is =
-    either_good (nat_le most_moves (length game.moves)) (fails game (codes "record full"))
-    (elim (legal? game c v) [ yes _ ↦ succeeds (with_move game c v) [] | no _ ↦ fails game (codes "illegal move") ])
-    (λ e. full_good game is) (λ e. legal_good game c v (legal? game c v) is)
-
-stones_good : (game : GameRecord) (stones : ℕ) (d : Dec (IsTouched game)) (e : Dec (AllowsHandicap game.size stones))
-    → IsSize game.size
-    → IsGood (elim d [
-      | yes _ ↦ fails game (codes "board not empty")
-      | no _ ↦ elim e [
-        | yes _ ↦ succeeds (record game { handicap = stones }) (written_vertices (handicap_points game.size stones))
-        | no _ ↦ fails game (codes "invalid number of stones")
-      ]
-    ])
-stones_good game stones (yes _) e is =
-    record { text = record { fits = lit≤ tt; shown = refl; single = refl; front = refl; end = refl }; size = is }
-stones_good game stones (no _) (yes allowed) is = record { text = handicap_fits game.size stones is allowed; size = is }
-stones_good game stones (no _) (no _) is =
-    record { text = record { fits = lit≤ tt; shown = refl; single = refl; front = refl; end = refl }; size = is }
-
-handicap_good : (game : GameRecord) (stones : Option ℕ) → IsSize game.size → IsGood (answer_handicap game stones)
-handicap_good game None is = syntax_good game is
-handicap_good game (Some stones) is = stones_good game stones (touched? game) (allows? game.size stones) is
-
-undo_good : (game : GameRecord) → IsSize game.size → IsGood (answer_undo game)
-undo_good game is =
-    either_good (nat_le 1 (length game.moves)) (succeeds (without_last game) []) (fails game (codes "cannot undo"))
-    (λ e. empty_good (without_last game) is)
-    (λ e. record { text = record { fits = lit≤ tt; shown = refl; single = refl; front = refl; end = refl }; size = is })
 
 -- what a lawful choice is answered by
 pub choice_fits : (game : GameRecord) (c : Colour) (ch : Choice) → game.size ≤ most_size → IsLawful game c ch
@@ -145,16 +101,55 @@ choice_good game c choice.Resign is lawful =
 choice_good game c (choice.Play v) is lawful =
     record { text = choice_fits game c (choice.Play v) is.most lawful; size = is }
 
-room_good : (game : GameRecord) (c : Colour) (ch : Choice) (full : Bool) → IsSize game.size
-    → IfSome (cond full None (Some c)) (λ d. IsLawful game d ch) → IsGood (cond full (fails game (codes "record full"))
-    (answer_choice game c ch))
-room_good game c ch true is lawful = full_good game is
-room_good game c ch false is lawful = choice_good game c ch is lawful
+-- A command whose text is empty, or the same in each game, needs no clause where it keeps the size.
+effect_good : (c : CommandName) (game : GameRecord) (a : Arguments c) (ch : Choice) → IsSize game.size
+    → (row_of c).refusal game a ≡ None
+    → IfSome (asked_by_effect (row_of c).effect (λ b. None) (Some a)) (λ d. IsLawful game d ch)
+    → IsGood (answer_of_effect (row_of c).effect game a ch)
+effect_good command.ProtocolVersion game a ch is unrefused lawful = record { text = number_fits 2; size = is }
+effect_good command.KnownCommand game word ch is unrefused lawful =
+    record { text = truth_fits (is_some (command_named word)); size = is }
+effect_good command.Boardsize game size ch is unrefused lawful =
+    let both = fact (size_settles size) unrefused in
+    record { text = empty_fits; size = record { least = both.0; most = both.1 } }
+effect_good command.Genmove game colour ch is unrefused lawful = choice_good game colour ch is lawful
+effect_good command.FixedHandicap game stones ch is unrefused lawful =
+    let both = stones_fact (stones_settle game stones) unrefused in
+    record { text = handicap_fits game.size stones is both.1; size = is }
+effect_good command.FinalScore game a ch is unrefused lawful = record { text = score_fits (score game); size = is }
+effect_good command.Showboard game a ch is unrefused lawful = record { text = shown_fits game is; size = is }
+effect_good c game a ch is unrefused lawful =
+    record { text = record { fits = lit≤ tt; shown = refl; single = refl; front = refl; end = refl }; size = is }
 
-genmove_good : (game : GameRecord) (c : Option Colour) (ch : Choice) → IsSize game.size
-    → IfSome (asked_by_genmove game c) (λ d. IsLawful game d ch) → IsGood (answer_genmove game c ch)
-genmove_good game None ch is lawful = syntax_good game is
-genmove_good game (Some c) ch is lawful = room_good game c ch (nat_le most_moves (length game.moves)) is lawful
+-- ---- each command's answer
+
+syntax_good : (game : GameRecord) → IsSize game.size → IsGood (syntax_error game)
+syntax_good game is = record {
+  text = record { fits = lit≤ tt; shown = refl; single = refl; front = refl; end = refl };
+  size = is;
+}
+
+unless_good : (c : CommandName) (game : GameRecord) (a : Arguments c) (ch : Choice) (cause : Option (List ℕ))
+    → (row_of c).refusal game a ≡ cause → Fits cause → IsSize game.size
+    → IfSome (asked_by_effect (row_of c).effect (λ b. cause) (Some a)) (λ d. IsLawful game d ch)
+    → IsGood (answer_unless cause (row_of c).effect game a ch)
+unfolding Fits
+unless_good c game a ch None unrefused fits is lawful = effect_good c game a ch is unrefused lawful
+unless_good c game a ch (Some cause) why fits is lawful = record { text = fits; size = is }
+
+row_good : (c : CommandName) (game : GameRecord) (o : Option (Arguments c)) (ch : Choice) → IsSize game.size
+    → IfSome (asked_by (row_of c) game o) (λ d. IsLawful game d ch) → IsGood (answer_by (row_of c) game o ch)
+row_good c game None ch is lawful = syntax_good game is
+row_good c game (Some a) ch is lawful =
+    unless_good c game a ch ((row_of c).refusal game a) refl (cause_fits c game a) is
+    (subst (λ (o : Option Colour). IfSome o (λ d. IsLawful game d ch))
+    (asked_where (row_of c).effect ((row_of c).refusal game) a) lawful)
+
+named_good : (game : GameRecord) (named : Option CommandName) (words : List (List ℕ)) (ch : Choice) → IsSize game.size
+    → IfSome (asked_by_named game named words) (λ c. IsLawful game c ch) → IsGood (answer_to_named game named words ch)
+named_good game None words ch is lawful =
+    record { text = record { fits = lit≤ tt; shown = refl; single = refl; front = refl; end = refl }; size = is }
+named_good game (Some c) words ch is lawful = row_good c game ((row_of c).read words) ch is lawful
 
 -- what was executed is answered as some lawful choice is
 lawful_choice : {P : Type 0} (may : May P) → AllowsLawful may
@@ -164,32 +159,6 @@ lawful_choice : {P : Type 0} (may : May P) → AllowsLawful may
 lawful_choice may allows old new game None given told executes = (choice.Resign, (tt, executes.1 choice.Resign))
 lawful_choice may allows old new game (Some c) given told executes =
     (executes.0, (allows old game c executes.0 new (executes.1).0, (executes.1).1))
-
--- each command's answer
-named_good : (game : GameRecord) (named : Option CommandName) (words : List (List ℕ)) (ch : Choice) → IsSize game.size
-    → IfSome (asked_by_named game named words) (λ c. IsLawful game c ch) → IsGood (answer_to_named game named words ch)
-named_good game None words ch is lawful =
-    record { text = record { fits = lit≤ tt; shown = refl; single = refl; front = refl; end = refl }; size = is }
-named_good game (Some ProtocolVersion) words ch is lawful =
-    record { text = record { fits = lit≤ tt; shown = refl; single = refl; front = refl; end = refl }; size = is }
-named_good game (Some Name) words ch is lawful =
-    record { text = record { fits = lit≤ tt; shown = refl; single = refl; front = refl; end = refl }; size = is }
-named_good game (Some Version) words ch is lawful =
-    record { text = record { fits = lit≤ tt; shown = refl; single = refl; front = refl; end = refl }; size = is }
-named_good game (Some KnownCommand) words ch is lawful = known_good game (slice_get words 1) is
-named_good game (Some ListCommands) words ch is lawful =
-    record { text = record { fits = lit≤ tt; shown = refl; single = refl; front = refl; end = refl }; size = is }
-named_good game (Some Quit) words ch is lawful = empty_good game is
-named_good game (Some Boardsize) words ch is lawful = boardsize_good game (argument int_of words 1) is
-named_good game (Some ClearBoard) words ch is lawful = empty_good (record game { handicap = 0; moves = [] }) is
-named_good game (Some Komi) words ch is lawful = komi_good game (argument komi_of words 1) is
-named_good game (Some Play) words ch is lawful = play_good game (argument colour_of words 1)
-    (argument vertex_of words 2) is
-named_good game (Some Genmove) words ch is lawful = genmove_good game (argument colour_of words 1) ch is lawful
-named_good game (Some FixedHandicap) words ch is lawful = handicap_good game (argument int_of words 1) is
-named_good game (Some Undo) words ch is lawful = undo_good game is
-named_good game (Some FinalScore) words ch is lawful = record { text = score_fits (score game); size = is }
-named_good game (Some Showboard) words ch is lawful = record { text = shown_fits game is; size = is }
 
 -- each line's answer
 pub answer_good : (game : GameRecord) (l : Line) (ch : Choice) → IsSize game.size → IsLawfulAt game l ch

@@ -454,7 +454,11 @@ handicap_fits size stones is_size allowed =
     points_fit size (handicap_points size stones) is_size.most (handicap_sound size stones is_size allowed).on_board
     (few_handicap_points size stones)
 
--- ---- scores
+-- ---- numbers and scores
+
+-- a number may be the text of a reply
+pub number_fits : (n : ℕ) → IsReplyText (written_int n)
+number_fits n = IsReplyText-neat (written_int n) (omega (arith, written_int-few n)) (neat-written_int n)
 
 neat-halved : (half : Bool) (t : List ℕ) → IsNeat t → IsNeat (t ++ cond half (codes ".5") [])
 neat-halved true t n =

@@ -19,7 +19,7 @@ use Rattle.go_board.specs.Show.{board_text}
 use Rattle.gtp_wire.specs.declared.lines.Line.{Line}
 use Rattle.gtp_wire.specs.declared.lines.Line.TheVariants as line
 use Rattle.gtp_session.specs.declared.commands.CommandName.{CommandName}
-use Rattle.gtp_session.specs.declared.commands.CommandName.TheVariants.{ProtocolVersion, Name, Version, KnownCommand, ListCommands, Quit, Boardsize, ClearBoard, Komi, Play, Genmove, FixedHandicap, Undo, FinalScore, Showboard}
+use Rattle.gtp_session.specs.declared.commands.CommandName.TheVariants as command
 use Rattle.gtp_wire.specs.Lines.{lines}
 use Rattle.gtp_wire.specs.Replies.{written_reply}
 use Rattle.gtp_session.specs.Policy.{May}
@@ -38,54 +38,77 @@ answer_with game id words choice = answer game (line_with id words) choice
 
 -- the name of each command, as the standard has it
 abbrev pub standard_name : CommandName → List ℕ
-standard_name ProtocolVersion = codes "protocol_version"
-standard_name Name = codes "name"
-standard_name Version = codes "version"
-standard_name KnownCommand = codes "known_command"
-standard_name ListCommands = codes "list_commands"
-standard_name Quit = codes "quit"
-standard_name Boardsize = codes "boardsize"
-standard_name ClearBoard = codes "clear_board"
-standard_name Komi = codes "komi"
-standard_name Play = codes "play"
-standard_name Genmove = codes "genmove"
-standard_name FixedHandicap = codes "fixed_handicap"
-standard_name Undo = codes "undo"
-standard_name FinalScore = codes "final_score"
-standard_name Showboard = codes "showboard"
+standard_name command.ProtocolVersion = codes "protocol_version"
+standard_name command.Name = codes "name"
+standard_name command.Version = codes "version"
+standard_name command.KnownCommand = codes "known_command"
+standard_name command.ListCommands = codes "list_commands"
+standard_name command.Quit = codes "quit"
+standard_name command.Boardsize = codes "boardsize"
+standard_name command.ClearBoard = codes "clear_board"
+standard_name command.Komi = codes "komi"
+standard_name command.Play = codes "play"
+standard_name command.Genmove = codes "genmove"
+standard_name command.FixedHandicap = codes "fixed_handicap"
+standard_name command.Undo = codes "undo"
+standard_name command.FinalScore = codes "final_score"
+standard_name command.Showboard = codes "showboard"
 
 -- the first word is the name of this command
 abbrev pub Names : List (List ℕ) → CommandName → Type 0
-Names words command = slice_get words 0 ≡ Some (standard_name command)
+Names words named = slice_get words 0 ≡ Some (standard_name named)
 
 -- the same of a line; one that is too long names none
 abbrev pub LineNames : Line → CommandName → Type 0
-LineNames line.TooLong command = ⊥
-LineNames (line.Command command_line) command = Names command_line.words command
+LineNames line.TooLong _ = ⊥
+LineNames (line.Command command_line) named = Names command_line.words named
 
 -- the word of this number is there, and it spells the value
 abbrev pub IsArgument : {V : Type 0} → (V → List ℕ → Type 0) → List (List ℕ) → ℕ → V → Type 0
 IsArgument Spells words number value = (word : List ℕ) × (slice_get words number ≡ Some word) × Spells value word
 
+-- what an argument of a command may be, in the standard's terms; a word is any word
+pub data ArgumentKind : Type 0 where
+  an_int : ArgumentKind
+  a_komi : ArgumentKind
+  a_colour : ArgumentKind
+  a_vertex : ArgumentKind
+  a_word : ArgumentKind
+
+abbrev pub ValueOf : ArgumentKind → Type 0
+ValueOf an_int = ℕ
+ValueOf a_komi = ℤ
+ValueOf a_colour = Colour
+ValueOf a_vertex = Vertex
+ValueOf a_word = List ℕ
+
+-- the text spells the value
+abbrev pub SpellsValue : (kind : ArgumentKind) → ValueOf kind → List ℕ → Type 0
+SpellsValue an_int = SpellsInt
+SpellsValue a_komi = SpellsKomi
+SpellsValue a_colour = SpellsColour
+SpellsValue a_vertex = SpellsVertex
+SpellsValue a_word = λ value text. text ≡ value
+
+-- the arguments that each command needs, in their order; most need none
+abbrev pub needed : CommandName → List ArgumentKind
+needed command.KnownCommand = a_word ∷ []
+needed command.Boardsize = an_int ∷ []
+needed command.Komi = a_komi ∷ []
+needed command.Play = a_colour ∷ a_vertex ∷ []
+needed command.Genmove = a_colour ∷ []
+needed command.FixedHandicap = an_int ∷ []
+needed _ = []
+
+-- the words from this number on spell values of these kinds
+abbrev pub SpellAll : List ArgumentKind → List (List ℕ) → ℕ → Type 0
+SpellAll [] words number = Unit {0}
+SpellAll (kind ∷ kinds) words number =
+    ((value : ValueOf kind) × IsArgument (SpellsValue kind) words number value) × SpellAll kinds words (number + 1)
+
 -- the arguments that the command needs are there and can be read; further words don't count
 abbrev pub CanBeRead : CommandName → List (List ℕ) → Type 0
-CanBeRead KnownCommand words = (word : List ℕ) × (slice_get words 1 ≡ Some word)
-CanBeRead Boardsize words = (size : ℕ) × IsArgument SpellsInt words 1 size
-CanBeRead Komi words = (komi : ℤ) × IsArgument SpellsKomi words 1 komi
-CanBeRead Play words =
-    (colour : Colour) × IsArgument SpellsColour words 1 colour
-    × ((vertex : Vertex) × IsArgument SpellsVertex words 2 vertex)
-CanBeRead Genmove words = (colour : Colour) × IsArgument SpellsColour words 1 colour
-CanBeRead FixedHandicap words = (stones : ℕ) × IsArgument SpellsInt words 1 stones
-CanBeRead ProtocolVersion words = Unit {0}
-CanBeRead Name words = Unit {0}
-CanBeRead Version words = Unit {0}
-CanBeRead ListCommands words = Unit {0}
-CanBeRead Quit words = Unit {0}
-CanBeRead ClearBoard words = Unit {0}
-CanBeRead Undo words = Unit {0}
-CanBeRead FinalScore words = Unit {0}
-CanBeRead Showboard words = Unit {0}
+CanBeRead named words = SpellAll (needed named) words 1
 
 -- the record has room for a move: fewer than 2,000 are in it
 abbrev pub TakesMove : GameRecord → Type 0
@@ -93,27 +116,18 @@ TakesMove game = length game.moves < 2000
 
 -- The command can be done at this game: its arguments are read, and the game allows it. That is a size from 1 to 25; a
 -- legal move where the record has room; room for a `genmove`; a number of handicap stones that the size allows, on a
--- board without a stone and a record without a move; a move to take back.
+-- board without a stone and a record without a move; a move to take back. All others need no more than their arguments.
 abbrev pub CanBeDone : GameRecord → CommandName → List (List ℕ) → Type 0
-CanBeDone game KnownCommand words = CanBeRead KnownCommand words
-CanBeDone game Boardsize words =
+CanBeDone game command.Boardsize words =
     (size : ℕ) × IsArgument SpellsInt words 1 size × ((1 ≤ size) × (size ≤ 25))
-CanBeDone game Komi words = CanBeRead Komi words
-CanBeDone game Play words =
+CanBeDone game command.Play words =
     (colour : Colour) × IsArgument SpellsColour words 1 colour
     × ((vertex : Vertex) × IsArgument SpellsVertex words 2 vertex × (TakesMove game × IsLegal game colour vertex))
-CanBeDone game Genmove words = CanBeRead Genmove words × TakesMove game
-CanBeDone game FixedHandicap words =
+CanBeDone game command.Genmove words = CanBeRead command.Genmove words × TakesMove game
+CanBeDone game command.FixedHandicap words =
     (stones : ℕ) × IsArgument SpellsInt words 1 stones × ((¬ IsTouched game) × AllowsHandicap game.size stones)
-CanBeDone game Undo words = 0 < length game.moves
-CanBeDone game ProtocolVersion words = Unit {0}
-CanBeDone game Name words = Unit {0}
-CanBeDone game Version words = Unit {0}
-CanBeDone game ListCommands words = Unit {0}
-CanBeDone game Quit words = Unit {0}
-CanBeDone game ClearBoard words = Unit {0}
-CanBeDone game FinalScore words = Unit {0}
-CanBeDone game Showboard words = Unit {0}
+CanBeDone game command.Undo words = 0 < length game.moves
+CanBeDone game named words = CanBeRead named words
 
 -- ---- answers
 
@@ -144,7 +158,7 @@ pub record NamesLeader (given : Answer) (game : GameRecord) (colour : List ℕ) 
 abbrev pub LinesSucceedWhereTheyCan : Type 0
 LinesSucceedWhereTheyCan = (game : GameRecord) (id : Option ℕ) (words : List (List ℕ)) (choice : Choice)
     → ((answer_with game id words choice).ok ≡ true)
-    ↔ ((command : CommandName) × Names words command × CanBeDone game command words)
+    ↔ ((named : CommandName) × Names words named × CanBeDone game named words)
 
 -- Each failure tells its cause, and where two stand together the first one: a line that is too long or arguments that
 -- can't be read before all, a full record before a move that isn't legal, and a board that isn't empty before a number
@@ -152,40 +166,40 @@ LinesSucceedWhereTheyCan = (game : GameRecord) (id : Option ℕ) (words : List (
 pub record FirstCausesAreTold : Type 0 where
   pub too_long : (game : GameRecord) (choice : Choice)
       → answer game line.TooLong choice ≡ failure game (codes "syntax error")
-  pub unread : (game : GameRecord) (id : Option ℕ) (words : List (List ℕ)) (choice : Choice) (command : CommandName)
-      → Names words command → ¬ CanBeRead command words
+  pub unread : (game : GameRecord) (id : Option ℕ) (words : List (List ℕ)) (choice : Choice) (named : CommandName)
+      → Names words named → ¬ CanBeRead named words
       → answer_with game id words choice ≡ failure game (codes "syntax error")
   pub size : (game : GameRecord) (id : Option ℕ) (words : List (List ℕ)) (choice : Choice)
-      → Names words Boardsize → CanBeRead Boardsize words → ¬ CanBeDone game Boardsize words
+      → Names words command.Boardsize → CanBeRead command.Boardsize words → ¬ CanBeDone game command.Boardsize words
       → answer_with game id words choice ≡ failure game (codes "unacceptable size")
-  pub full : (game : GameRecord) (id : Option ℕ) (words : List (List ℕ)) (choice : Choice) (command : CommandName)
-      → Names words command → CanBeRead command words → (command ≡ Play) ⊎ (command ≡ Genmove) → ¬ TakesMove game
+  pub full : (game : GameRecord) (id : Option ℕ) (words : List (List ℕ)) (choice : Choice) (named : CommandName)
+      → Names words named → CanBeRead named words → (named ≡ command.Play) ⊎ (named ≡ command.Genmove) → ¬ TakesMove game
       → answer_with game id words choice ≡ failure game (codes "record full")
   pub illegal : (game : GameRecord) (id : Option ℕ) (words : List (List ℕ)) (choice : Choice)
-      → Names words Play → CanBeRead Play words → TakesMove game → ¬ CanBeDone game Play words
+      → Names words command.Play → CanBeRead command.Play words → TakesMove game → ¬ CanBeDone game command.Play words
       → answer_with game id words choice ≡ failure game (codes "illegal move")
   pub touched : (game : GameRecord) (id : Option ℕ) (words : List (List ℕ)) (choice : Choice)
-      → Names words FixedHandicap → CanBeRead FixedHandicap words → IsTouched game
+      → Names words command.FixedHandicap → CanBeRead command.FixedHandicap words → IsTouched game
       → answer_with game id words choice ≡ failure game (codes "board not empty")
   pub stones : (game : GameRecord) (id : Option ℕ) (words : List (List ℕ)) (choice : Choice)
-      → Names words FixedHandicap → CanBeRead FixedHandicap words → ¬ IsTouched game
-      → ¬ CanBeDone game FixedHandicap words
+      → Names words command.FixedHandicap → CanBeRead command.FixedHandicap words → ¬ IsTouched game
+      → ¬ CanBeDone game command.FixedHandicap words
       → answer_with game id words choice ≡ failure game (codes "invalid number of stones")
   pub nothing : (game : GameRecord) (id : Option ℕ) (words : List (List ℕ)) (choice : Choice)
-      → Names words Undo → ¬ CanBeDone game Undo words
+      → Names words command.Undo → ¬ CanBeDone game command.Undo words
       → answer_with game id words choice ≡ failure game (codes "cannot undo")
 
 -- Whatever the line, the game after it has the ko rule of the game before it, and the other parts too, but for those
 -- that the command of the line is there to change.
 pub record LinesChangeTheirPart (game : GameRecord) (line : Line) (after : GameRecord) : Type 0 where
   pub rule : after.rule ≡ game.rule
-  pub size : (after.size ≡ game.size) ⊎ LineNames line Boardsize
-  pub komi : (after.komi ≡ game.komi) ⊎ LineNames line Komi
+  pub size : (after.size ≡ game.size) ⊎ LineNames line command.Boardsize
+  pub komi : (after.komi ≡ game.komi) ⊎ LineNames line command.Komi
   pub handicap : (after.handicap ≡ game.handicap)
-      ⊎ (LineNames line Boardsize ⊎ (LineNames line ClearBoard ⊎ LineNames line FixedHandicap))
+      ⊎ (LineNames line command.Boardsize ⊎ (LineNames line command.ClearBoard ⊎ LineNames line command.FixedHandicap))
   pub moves : (after.moves ≡ game.moves)
-      ⊎ (LineNames line Boardsize ⊎ (LineNames line ClearBoard ⊎ (LineNames line Play
-      ⊎ (LineNames line Genmove ⊎ LineNames line Undo))))
+      ⊎ (LineNames line command.Boardsize ⊎ (LineNames line command.ClearBoard ⊎ (LineNames line command.Play
+      ⊎ (LineNames line command.Genmove ⊎ LineNames line command.Undo))))
 
 abbrev pub OnlyTheirPartChanges : Type 0
 OnlyTheirPartChanges = (game : GameRecord) (line : Line) (choice : Choice)
@@ -193,14 +207,14 @@ OnlyTheirPartChanges = (game : GameRecord) (line : Line) (choice : Choice)
 
 -- the session ends with a line exactly where its first word is `quit`
 abbrev pub QuitLinesEnd : Type 0
-QuitLinesEnd = (line : Line) → IsTrue (ends line) ↔ LineNames line Quit
+QuitLinesEnd = (line : Line) → IsTrue (ends line) ↔ LineNames line command.Quit
 
 -- `list_commands` lists rows, one for each command, each once; `known_command` answers `true` to a word that is one of
 -- them and `false` to every other; and a line whose first word is none of them is an unknown command. (10 is LF.)
 pub record ListedCommandsAreKnown : Type 0 where
   pub rows : List (List ℕ)
   pub as_many : length rows ≡ 15
-  pub each : (command : CommandName) → Contains rows (standard_name command)
+  pub each : (named : CommandName) → Contains rows (standard_name named)
   pub once : AllPairs (λ a b. a ≢ b) rows
   pub listed : (game : GameRecord) (id : Option ℕ) (more : List (List ℕ)) (choice : Choice)
       → answer_with game id (codes "list_commands" ∷ more) choice ≡ success game (join_with_byte 10 rows)
@@ -250,7 +264,7 @@ HaveOneReplyEach [] (reply ∷ replies) = ⊥
 HaveOneReplyEach (line ∷ later) [] = ⊥
 HaveOneReplyEach (line ∷ later) (reply ∷ replies) =
     RepeatsId line reply
-    × ((LineNames line Quit → replies ≡ []) × ((¬ LineNames line Quit) → HaveOneReplyEach later replies))
+    × ((LineNames line command.Quit → replies ≡ []) × ((¬ LineNames line command.Quit) → HaveOneReplyEach later replies))
 
 -- an engine whose session goes on answers each line once
 abbrev pub EachLineIsAnsweredOnce : {P : Type 0} → May P → Type 0
@@ -263,7 +277,7 @@ EachLineIsAnsweredOnce {P} may = (old new : Engine P) (text : List ℕ) (replies
 abbrev pub AsksForMove : GameRecord → Line → Colour → Type 0
 AsksForMove game line.TooLong colour = ⊥
 AsksForMove game (line.Command command_line) colour =
-    Names command_line.words Genmove × IsArgument SpellsColour command_line.words 1 colour × TakesMove game
+    Names command_line.words command.Genmove × IsArgument SpellsColour command_line.words 1 colour × TakesMove game
 
 -- The choice is made for the colour and answered: a resignation leaves the game, and its text is `resign`; a vertex is
 -- played, and its text is the vertex.
@@ -293,30 +307,21 @@ abbrev pub SpellAlike : {V : Type 0} → (V → List ℕ → Type 0) → ℕ →
 SpellAlike {V} Spells number words others =
     (value : V) × IsArgument Spells words number value × IsArgument Spells others number value
 
+-- the words from this number on spell the same values of these kinds
+abbrev pub SpellAllAlike : List ArgumentKind → List (List ℕ) → List (List ℕ) → ℕ → Type 0
+SpellAllAlike [] words others number = Unit {0}
+SpellAllAlike (kind ∷ kinds) words others number =
+    SpellAlike (SpellsValue kind) number words others × SpellAllAlike kinds words others (number + 1)
+
 -- The arguments that the command needs are there in both lines, and spell the same values; a word that is looked for
 -- among the names of the commands is the same word.
 abbrev pub AskAlike : CommandName → List (List ℕ) → List (List ℕ) → Type 0
-AskAlike KnownCommand words others =
-    (word : List ℕ) × (slice_get words 1 ≡ Some word) × (slice_get others 1 ≡ Some word)
-AskAlike Boardsize words others = SpellAlike SpellsInt 1 words others
-AskAlike Komi words others = SpellAlike SpellsKomi 1 words others
-AskAlike Play words others = SpellAlike SpellsColour 1 words others × SpellAlike SpellsVertex 2 words others
-AskAlike Genmove words others = SpellAlike SpellsColour 1 words others
-AskAlike FixedHandicap words others = SpellAlike SpellsInt 1 words others
-AskAlike ProtocolVersion words others = Unit {0}
-AskAlike Name words others = Unit {0}
-AskAlike Version words others = Unit {0}
-AskAlike ListCommands words others = Unit {0}
-AskAlike Quit words others = Unit {0}
-AskAlike ClearBoard words others = Unit {0}
-AskAlike Undo words others = Unit {0}
-AskAlike FinalScore words others = Unit {0}
-AskAlike Showboard words others = Unit {0}
+AskAlike named words others = SpellAllAlike (needed named) words others 1
 
 -- Two lines of one command whose arguments spell the same values are answered alike, with the same game after them, and
 -- ask the policy alike. So the spelling that is written counts for no more than any other.
 abbrev pub SpellingsDoNotCount : Type 0
 SpellingsDoNotCount = (game : GameRecord) (a b : Option ℕ) (words others : List (List ℕ)) (choice : Choice)
-    (command : CommandName) → Names words command → Names others command → AskAlike command words others
+    (named : CommandName) → Names words named → Names others named → AskAlike named words others
     → (answer_with game a words choice ≡ answer_with game b others choice)
     × (asked game (line_with a words) ≡ asked game (line_with b others))

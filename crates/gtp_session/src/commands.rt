@@ -40,11 +40,8 @@ pub enum CommandName {
     Showboard,
 }
 
-/// How many commands there are.
-const COMMAND_COUNT: usize = 15;
-
 /// The commands, in the order in which `list_commands` names them.
-static COMMANDS: [CommandName; COMMAND_COUNT] = [
+static COMMANDS: &[CommandName] = &[
     CommandName::ProtocolVersion,
     CommandName::Name,
     CommandName::Version,
@@ -65,15 +62,15 @@ static COMMANDS: [CommandName; COMMAND_COUNT] = [
 /// The most bytes of a command's name, which `protocol_version` has.
 const MOST_NAME_BYTES: usize = 16;
 
-/// The room for the names of all commands, each with a newline.
-const NAMES_ROOM: usize = COMMAND_COUNT * (MOST_NAME_BYTES + 1);
+/// The room for the names of all commands, each with a newline: 20 of them have room.
+const NAMES_ROOM: usize = 20 * (MOST_NAME_BYTES + 1);
 
 /// The names of the commands, a line each.
 pub(crate) fn all_names() -> ArrayVec<u8, NAMES_ROOM>
     ensures { result.items ≡ all_names }
 {
     let mut text = ArrayVec::new();
-    let [first, more @ ..] = COMMANDS.as_slice() else {
+    let [first, more @ ..] = COMMANDS else {
         unreachable!()
     };
     // The text has room for all names.

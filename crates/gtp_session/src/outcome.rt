@@ -10,7 +10,7 @@ ghost use Rattle.gtp_session.specs.private.Outcome.{text_of, handicap_text, answ
 
 use crate::commands::all_names;
 use arrayvec::ArrayVec;
-use go_base::{Point, Vertex, handicap, write_score};
+use go_base::{Point, Vertex, handicap, write_int, write_score};
 use go_board::Game;
 use gtp_wire::{ReplyText, write_reply_into};
 
@@ -24,6 +24,8 @@ pub(crate) enum Text {
     Empty,
     /// These bytes.
     Fixed(&'static [u8]),
+    /// A number, in decimal digits.
+    Number(u32),
     /// The names of the commands, a line each.
     Names,
     /// A vertex.
@@ -59,6 +61,7 @@ fn write_success(text: &Text, game: &Game, id: Option<u32>, reply: &mut ReplyTex
     match text {
         Text::Empty => write_reply_into(reply, true, id, b""),
         Text::Fixed(bytes) => write_reply_into(reply, true, id, bytes),
+        Text::Number(number) => write_reply_into(reply, true, id, &write_int(*number)),
         Text::Names => write_names(id, reply),
         Text::Vertex(vertex) => write_reply_into(reply, true, id, &vertex.write()),
         Text::Handicap => write_handicap(game, id, reply),

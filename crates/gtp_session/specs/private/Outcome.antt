@@ -2,6 +2,7 @@
 use Rattle.std.specs.Prelude.{◌≡◌, ℕ, List, [], Option, Result, Ok, Err, MatchOption, codes}
 use Rattle.std.specs.Result.{is_ok}
 use Rattle.std.specs.Borrow.{Bor}
+use Rattle.go_base.specs.Int.{written_int}
 use Rattle.go_base.specs.Decide.{allows?}
 use Rattle.go_base.specs.Handicap.{handicap_points}
 use Rattle.go_base.specs.Vertex.{written_vertex}
@@ -14,7 +15,8 @@ use Rattle.gtp_wire.specs.Replies.{written_reply}
 use Rattle.go_base.specs.declared.colours.Colour.{Colour}
 use Rattle.go_base.specs.declared.choices.Choice.{Choice}
 use Rattle.gtp_session.specs.Policy.{May}
-use Rattle.gtp_session.specs.Commands.{Answer, all_names, written_vertices}
+use Rattle.gtp_session.specs.declared.commands.CommandName.{CommandName}
+use Rattle.gtp_session.specs.Commands.{Answer, all_names, answer_to, written_vertices}
 use Rattle.gtp_session.specs.declared.outcome.Text.{Text}
 use Rattle.gtp_session.specs.declared.outcome.Text.TheVariants as text
 
@@ -29,6 +31,7 @@ handicap_text game = elim (allows? game.size game.handicap) [
 abbrev pub text_of : GameRecord → Text → List ℕ
 text_of game text.Empty = []
 text_of game (text.Fixed bytes) = bytes.now
+text_of game (text.Number number) = written_int number
 text_of game text.Names = all_names
 text_of game (text.Vertex vertex) = written_vertex vertex
 text_of game text.Handicap = handicap_text game
@@ -43,6 +46,10 @@ text_of_outcome game (Err bytes) = bytes.now
 -- the answer that an outcome is, where its command leaves this game
 abbrev pub answer_of : GameRecord → Result Text (Bor (List ℕ)) → Answer
 answer_of game outcome = record { game = game; ok = is_ok outcome; text = text_of_outcome game outcome }
+
+-- The command's row answers so to these words, whatever a policy would choose.
+abbrev pub IsAnswerTo : GameRecord → CommandName → List (List ℕ) → Answer → Type 0
+IsAnswerTo game named words given = (choice : Choice) → given ≡ answer_to game named words choice
 
 -- The answer was given: this is the game after it, and these are the bytes of the reply.
 pub record Leaves (given : Answer) (id : Option ℕ) (game : GameRecord) (reply : List ℕ) : Type 0 where

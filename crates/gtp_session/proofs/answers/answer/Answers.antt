@@ -1,7 +1,8 @@
-use Rattle.std.proofs.Common.{rules, ◌≡◌, ◌∙◌, ℕ, Option, Some, refl, ap}
+use Rattle.std.proofs.Common.{rules, ◌≡◌, ◌∙◌, ℕ, Option, Some, None, refl, ap}
 use Rattle.gtp_wire.specs.Replies.{written_reply}
 use Rattle.gtp_session.specs.declared.commands.CommandName.TheVariants.{Genmove}
-use Rattle.gtp_session.specs.Commands.{syntax_error}
+use Rattle.gtp_session.specs.Commands.{asked_by_named, syntax_error}
+use Rattle.gtp_session.proofs.NameLemmas.{unasked}
 use Rattle.gtp_session.specs.private.Outcome.{answer_of}
 use Rattle.gtp_session.proofs.EngineLemmas.{executed_genmove}
 use Rattle.gtp_session.proofs.SpokenLemmas.{executed_fits}
@@ -60,3 +61,11 @@ returns-else-eq-clause-executes g c =
         c.execute-outcome.ensures,
       ),
     )
+
+pub returns-else-eq-clause-genmove : goal.returns-else-eq-clause-genmove
+returns-else-eq-clause-genmove g c =
+    let other : c.named_command-command.result ≡ Some Genmove → ⊥ =
+    λ e. cc (c.if-eq.false, rw e at c.eq-in-Command.ensures) in
+    let none : asked_by_named c.args.game.now c.named_command-command.result c.in-Command.line.words ≡ None =
+    unasked c.args.game.now c.named_command-command.result c.in-Command.line.words other in
+    rw (c.in-Command.is, ← c.named_command-command.ensures, none) c.if-eq.false

@@ -11,7 +11,7 @@ returns c = record {
   each = each_row;
   once = rows_differ;
   listed = λ game id more choice. refl;
-  known = λ game id word more choice listed. known_true game word listed;
-  others = λ game id word more choice un. known_false game word un;
+  known = known_true;
+  others = known_false;
   unknown = unknown_lines;
 }
