@@ -34,13 +34,13 @@ use Rattle.twogtp.specs.declared.output.Output.{Ghosts as OutputGhosts}
 use Rattle.twogtp.specs.declared.processes.Processes.{Processes}
 use Rattle.twogtp.specs.declared.starter.Process.{Ghosts}
 use Rattle.twogtp.specs.declared.task.Commands.{Commands}
-use Rattle.twogtp.specs.declared.why.Lost.{Lost}
+use Rattle.twogtp.specs.declared.why.TurnLoss.{TurnLoss}
 use Rattle.twogtp.specs.declared.why.TurnReport.{TurnReport}
-use Rattle.twogtp.specs.Losses.{LinesAreFew, TurnLosesSide, is_lost, is_not_started, lines_told}
+use Rattle.twogtp.specs.Losses.{LinesAreFew, TurnLosesSide, is_lost, is_not_started, lines_written}
 use Rattle.twogtp.specs.Processes.{process_of}
 use Rattle.twogtp.specs.Speaking.{AreSent, HearsFromSide, IsHeard, SendsToSide, TakesCommands}
 use Rattle.twogtp.specs.Starts.{Attempts}
-use Rattle.twogtp.specs.Turns.{Begins, Plays, Seen, Turn, not_yet, turn_lines, turns}
+use Rattle.twogtp.specs.Turns.{Begins, GameState, Plays, Turn, not_yet, state, turn_lines, turns}
 use Rattle.twogtp.proofs.LossLemmas.{OtherStaysUp, begin_leaves, down_is, failed_down, losses_have_lines}
 use Rattle.twogtp.proofs.LossLemmas.{lost_retakes, send_leaves, send_retakes, started_leaves, turn_told, up_in}
 use Rattle.twogtp.proofs.LossLemmas.{wait_leaves}
@@ -161,14 +161,14 @@ heard_carries c new s bytes fault sound heard =
     }
 
 module _ {P : Type 0} (known : Ghosts P) where
-  send_carries : (c new : Controller) (s : Colour) (before after : Option P) (why : Option Lost) → IsSound c
+  send_carries : (c new : Controller) (s : Colour) (before after : Option P) (why : Option TurnLoss) → IsSound c
       → next c ≡ Send s → SendsToSide known c s before after new why → Carries c new
   send_carries c new s None None why sound e done =
       let first = sent_carries c s sound e in
       rw done.0 (carried c (sent c s) (lost (sent c s) s) first (lost_carries (sent c s) s first.sound))
   send_carries c new s (Some old) (Some now) why sound e done = by_way new why done
     where
-      by_way : (new : Controller) (why : Option Lost) → AreSent known c s old now new why → Carries c new
+      by_way : (new : Controller) (why : Option TurnLoss) → AreSent known c s old now new why → Carries c new
       by_way new _ (AreSent.taken all taken unbroken flushed given) =
           takes_carry c s new all.number _ sound all.takes
       by_way _ _ (AreSent.failed {new = mid} all part cut given) =
@@ -229,7 +229,7 @@ live c = live_where c.verdict c
 starts_of : Controller → ℕ
 starts_of c = c.sides.black.starts + c.sides.white.starts
 
-one_if : Option Lost → ℕ
+one_if : Option TurnLoss → ℕ
 one_if None = 0
 one_if (Some lost) = 1
 
@@ -276,7 +276,7 @@ unfolding up_one
 one_few c s = bit_few (is_some (up_in c s))
 
 -- a turn of a side that is up, which starts none
-loss_counts : (c new : Controller) (s : Colour) (why : Option Lost) → c.verdict ≡ None
+loss_counts : (c new : Controller) (s : Colour) (why : Option TurnLoss) → c.verdict ≡ None
     → is_some (up_in c s) ≡ true → OtherStaysUp c new s → IsSome why ↔ TurnLosesSide c new
     → ((t : Colour) → next c ≢ Start t) → one_if why + live new ≤ live c
 unfolding one_if up_in
@@ -312,20 +312,21 @@ started_more c White = omega (arith, started_starts c White Black, started_start
 -- ---- one turn
 
 -- what a turn leaves, and what it takes of the losses that there may be
-record Turned (m : ℕ) (c new : Controller) (why : Option Lost) : Type 0 where
+record Turned (m : ℕ) (c new : Controller) (why : Option TurnLoss) : Type 0 where
   sound : IsSound new
   setup : new.setup ≡ c.setup
   beyond_stays : beyond m new ≡ beyond m c
   losses : one_if why + live new + starts_of c ≤ live c + starts_of new
 
 module _ {P : Type 0} (known : Ghosts P) where
-  begin_turned : (m : ℕ) (commands : Commands) (c new : Controller) (s : Colour) (before after : Processes P)
-      (had has : Attempts P) (why : Option Lost) → IsSound c → next c ≡ Start s → IsDue c (Start s)
-      → Begins known commands c s before after had has new why → Turned m c new why
+  begin_turned : (m : ℕ) (commands : Commands) (s : Colour) (before after : GameState P) (why : Option TurnLoss)
+      → IsSound before.game → next before.game ≡ Start s → IsDue before.game (Start s)
+      → Begins known commands s before after why → Turned m before.game after.game why
   unfolding one_if up_in
-  begin_turned m commands c _ s before after had has _ sound e due (Begins.starts process tried is ended) =
+  begin_turned m commands s before after _ sound e due (Begins.starts process tried is ended game) =
+      let c = before.game in
       let same = same_one c (started c s) (other s) (started_leaves c s) in
-      record {
+      rw game (record {
         sound = started_sound c s sound e;
         setup = refl;
         beyond_stays = refl;
@@ -340,14 +341,14 @@ module _ {P : Type 0} (known : Ghosts P) where
           same,
           started_more c s,
         );
-      }
-  begin_turned m commands c _ s before after had has _ sound e due (Begins.fails_to_start reason tried is) =
+      })
+  begin_turned m commands s before after _ sound e due (Begins.fails_to_start reason tried is game) =
+      let c = before.game in
       let first = started_sound c s sound e in
       let carries = lost_carries (started c s) s first in
-      let stays = begin_leaves known commands c (lost (started c s) s) s before after had has _
-      (Begins.fails_to_start reason tried is) in
-      let same = same_one c (lost (started c s) s) (other s) stays in
-      record {
+      let stays = begin_leaves known commands s before after _ (Begins.fails_to_start reason tried is game) in
+      let same = same_one c (lost (started c s) s) (other s) (rw game at stays) in
+      rw game (record {
         sound = carries.sound;
         setup = carries.setup;
         beyond_stays = same_beyond m c (lost (started c s) s) (lost_retakes (started c s) s);
@@ -363,50 +364,51 @@ module _ {P : Type 0} (known : Ghosts P) where
           started_more c s,
           same_starts_of (started c s) (lost (started c s) s) carries,
         );
-      }
+      })
 
   -- a side that is sent or heard is up
   up_there : (o : Option Incarnation) (Q : Incarnation → Type 0) → MatchOption o ⊥ Q → is_some o ≡ true
   up_there None Q x = absurd x
   up_there (Some engine) Q x = refl
 
-  turned : (m : ℕ) (commands : Commands) (c new : Controller) (a : Action) (before after : Processes P)
-      (had has : Attempts P) (report : TurnReport) → IsSound c → c.setup.max_moves ≡ m → next c ≡ a → IsDue c a
-      → IsSome report.lost ↔ TurnLosesSide c new
-      → Turn known commands true c a before had new after has report → Turned m c new report.lost
+  turned : (m : ℕ) (commands : Commands) (before after : GameState P) (a : Action) (whose : Colour)
+      (report : TurnReport) → IsSound before.game → before.game.setup.max_moves ≡ m → next before.game ≡ a
+      → IsDue before.game a → IsSome report.loss ↔ TurnLosesSide before.game after.game
+      → Turn known commands true a before after whose report → Turned m before.game after.game report.loss
   unfolding up_in one_if
-  turned m commands c new (Start s) before after had has report sound is e due told turn =
-      begin_turned m commands c new s before after had has report.lost sound e due turn.0
-  turned m commands c new (Send s) before after had has report sound is e due told turn =
-      let carries = send_carries known c new s (process_of before s) (process_of after s) report.lost sound e turn.0 in
-      let stays = send_leaves known c new s (process_of before s) (process_of after s) report.lost turn.0 in
-      let counts = loss_counts c new s report.lost due.0 (up_there (side_of c.sides s).up _ due.1) stays told
+  turned m commands before after (Start s) whose report sound is e due told turn =
+      begin_turned m commands s before after report.loss sound e due turn.1
+  turned m commands before after (Send s) whose report sound is e due told turn =
+      let c = before.game in
+      let new = after.game in
+      let process = process_of before.processes s in
+      let then = process_of after.processes s in
+      let carries = send_carries known c new s process then report.loss sound e turn.1 in
+      let stays = send_leaves known c new s process then report.loss turn.1 in
+      let counts = loss_counts c new s report.loss due.0 (up_there (side_of c.sides s).up _ due.1) stays told
       (λ t starts. cc) in
       record {
         sound = carries.sound;
         setup = carries.setup;
-        beyond_stays = same_beyond m c new
-            (send_retakes known c new s (process_of before s) (process_of after s) report.lost turn.0);
+        beyond_stays = same_beyond m c new (send_retakes known c new s process then report.loss turn.1);
         losses = omega (arith, counts, same_starts_of c new carries);
       }
-  turned m commands c new (Wait s) before after had has report sound is e due told turn =
-      let carries = wait_carries known c new s (process_of before s) (process_of after s) report sound turn.0 in
-      let stays = wait_leaves known c new s (process_of before s) (process_of after s) report turn.0 in
-      let counts = loss_counts c new s report.lost due.0 (up_there (side_of c.sides s).up _ due.1) stays told
+  turned m commands before after (Wait s) whose report sound is e due told turn =
+      let c = before.game in
+      let new = after.game in
+      let process = process_of before.processes s in
+      let then = process_of after.processes s in
+      let carries = wait_carries known c new s process then report sound turn.1 in
+      let stays = wait_leaves known c new s process then report turn.1 in
+      let counts = loss_counts c new s report.loss due.0 (up_there (side_of c.sides s).up _ due.1) stays told
       (λ t starts. cc) in
       record {
         sound = carries.sound;
         setup = carries.setup;
-        beyond_stays = wait_beyond known m c new s (process_of before s) (process_of after s) report sound is turn.0;
+        beyond_stays = wait_beyond known m c new s process then report sound is turn.1;
         losses = omega (arith, counts, same_starts_of c new carries);
       }
-  turned m commands c new (Done verdict) before after had has report sound is e due told turn =
-      let none : report.lost ≡ None = ap (λ (r : TurnReport). r.lost) turn.3 in
-      subst (λ (w : Option Lost). Turned m c new w) (sym none)
-      (rw turn.0 (record { sound = sound; setup = refl; beyond_stays = refl; losses = none_lost }))
-    where
-      none_lost : one_if None + live c + starts_of c ≤ live c + starts_of c
-      none_lost = omega arith
+  turned m commands before after (Done verdict) whose report sound is e due told turn = absurd turn
 
 -- ---- all turns of a game
 
@@ -419,7 +421,7 @@ record Counted (setup : SetupRecord) (c : Controller) (number : ℕ) : Type 0 wh
   lines : number ≡ total_of c.retakes + losses
   few : losses + live c ≤ starts_of c
 
-few_losses : (lines : List (List ℕ)) (why : Option Lost) (X : Type 0) → length lines ≤ 1 → (lines ≢ []) ↔ X
+few_losses : (lines : List (List ℕ)) (why : Option TurnLoss) (X : Type 0) → length lines ≤ 1 → (lines ≢ []) ↔ X
     → IsSome why ↔ X → length lines ≤ one_if why
 unfolding one_if
 few_losses [] why X one exact told = omega arith
@@ -428,13 +430,13 @@ few_losses (line ∷ lines) None X one exact told =
 few_losses (line ∷ lines) (Some why) X one exact told = omega (arith, one)
 
 module _ {P E : Type 0} (known : Ghosts P) (errs : OutputGhosts E) (commands : Commands) (game : ℕ)
-    (setup : SetupRecord) (fits : IsSetup setup) (opening : Processes P) (had : Seen P E) where
-  counted : (number : ℕ) (last : Controller) (closing : Processes P) (has : Seen P E)
-      → (plays : Plays known errs commands (Some game) (new setup) opening had number last closing has)
-      → Counted setup last
-      (lines_told known errs commands (Some game) (new setup) opening had number last closing has plays)
+    (setup : SetupRecord) (fits : IsSetup setup) (processes : Processes P) (asked : Attempts P) (had : E) where
+  counted : (number : ℕ) (last : GameState P) (has : E)
+      → (plays : Plays known errs commands true game (state (new setup) processes asked) had number last has)
+      → Counted setup last.game
+      (lines_written known errs commands true game (state (new setup) processes asked) had number last has plays)
   unfolding live live_where ones up_one bit up_in
-  counted _ _ _ _ not_yet = record {
+  counted _ _ _ not_yet = record {
     sound = new_sound setup fits (opening_is_game setup fits);
     same = refl;
     within = zeros_drop 2000 setup.max_moves;
@@ -445,20 +447,18 @@ module _ {P E : Type 0} (known : Ghosts P) (errs : OutputGhosts E) (commands : C
     where
       none_live : 0 + live (new setup) ≤ starts_of (new setup)
       none_live = omega arith
-  counted _ last closing has
-      (turns {number = n} {mid = mid} {before = before} {between = between} report endings plays turn out) =
-      let so_far = counted n mid before between plays in
-      let told = turn_told known commands mid last (next mid) before turn.after between.asked has.asked report refl
-      turn.turn in
-      let after = turned known setup.max_moves commands mid last (next mid) before turn.after between.asked has.asked
-      report so_far.sound (ap (λ (p : SetupRecord). p.max_moves) so_far.same) refl
-      (next_is_due mid so_far.sound) told turn.turn in
-      let lines = losses_have_lines known commands game mid last before closing between.asked has.asked report endings
-      turn in
+  counted _ last has (turns {count = n} {before = before} {between = between} turn plays is out) =
+      let so_far = counted n before between plays in
+      let mid : GameState P = record last { processes = is.left } in
+      let told = turn_told known commands before mid (next before.game) turn.side turn.report refl is.done in
+      let after = turned known setup.max_moves commands before mid (next before.game) turn.side turn.report
+      so_far.sound (ap (λ (p : SetupRecord). p.max_moves) so_far.same) refl
+      (next_is_due before.game so_far.sound) told is.done in
+      let lines = losses_have_lines known commands game before last turn is in
       let more = lines.counted so_far.sound in
-      let few = few_losses lines.losses report.lost (TurnLosesSide mid last) lines.one_loss lines.exact told in
-      let both : length (turn_lines (Some game) (next mid) report endings)
-      ≡ length lines.retakes + length lines.losses =
+      let few = few_losses lines.losses turn.report.loss (TurnLosesSide before.game last.game) lines.one_loss
+      lines.exact told in
+      let both : length (turn_lines true game turn) ≡ length lines.retakes + length lines.losses =
       ap (λ (xs : List (List ℕ)). length xs) lines.joined ∙ length-append lines.retakes lines.losses in
       record {
         sound = after.sound;
@@ -471,16 +471,16 @@ module _ {P E : Type 0} (known : Ghosts P) (errs : OutputGhosts E) (commands : C
 
 pub lines_are_few : {P E : Type 0} (known : Ghosts P) (errs : OutputGhosts E) → LinesAreFew known errs
 unfolding starts_of
-lines_are_few known errs commands game number setup opening closing had has last fits plays =
-    let all = counted known errs commands game setup fits opening had number last closing has plays in
+lines_are_few known errs commands game number setup processes asked last had has fits plays =
+    let all = counted known errs commands game setup fits processes asked had number last has plays in
     let within = all.within in
-    let moves : last.setup.max_moves ≡ setup.max_moves = ap (λ (p : SetupRecord). p.max_moves) all.same in
-    let restarts : last.setup.max_restarts ≡ setup.max_restarts = ap (λ (p : SetupRecord). p.max_restarts) all.same in
-    let some : total_of (take setup.max_moves last.retakes) ≤ 3 * setup.max_moves =
-    subst (λ (n : ℕ). total_of (take n last.retakes) ≤ 3 * n) moves (all_few last all.sound) in
-    let split = total_split last.retakes setup.max_moves in
-    let black = (my_side last Black all.sound).starts in
-    let white = (my_side last White all.sound).starts in
+    let moves : last.game.setup.max_moves ≡ setup.max_moves = ap (λ (p : SetupRecord). p.max_moves) all.same in
+    let restarts : last.game.setup.max_restarts ≡ setup.max_restarts = ap (λ (p : SetupRecord). p.max_restarts) all.same in
+    let some : total_of (take setup.max_moves last.game.retakes) ≤ 3 * setup.max_moves =
+    subst (λ (n : ℕ). total_of (take n last.game.retakes) ≤ 3 * n) moves (all_few last.game all.sound) in
+    let split = total_split last.game.retakes setup.max_moves in
+    let black = (my_side last.game Black all.sound).starts in
+    let white = (my_side last.game White all.sound).starts in
     let lines = all.lines in
     let few = all.few in
     record {

@@ -5,5 +5,5 @@ mod OptionLemmas
 mod PipeLemmas
 mod PlanLemmas
 mod SendingLemmas
-mod TellingLemmas
+mod WritingLemmas
 mod WhyLemmas

@@ -24,22 +24,20 @@ use Rattle.gtp_match.specs.Sound.{IsSound}
 use Rattle.gtp_match.proofs.CauseLemmas.{others_leave_the_retakes}
 use Rattle.gtp_match.proofs.ReportedLemmas.{all_reported}
 use Rattle.gtp_match.proofs.ToldLemmas.{all_told}
-use Rattle.twogtp.specs.declared.processes.Processes.{Processes}
 use Rattle.twogtp.specs.declared.starter.Ending.{Ending}
 use Rattle.twogtp.specs.declared.starter.Process.{Ghosts}
 use Rattle.twogtp.specs.declared.task.Commands.{Commands}
-use Rattle.twogtp.specs.declared.why.Lost.{Lost}
-use Rattle.twogtp.specs.declared.why.Lost.TheVariants.{CutOff, Wrote}
+use Rattle.twogtp.specs.declared.why.TurnLoss.{TurnLoss}
+use Rattle.twogtp.specs.declared.why.TurnLoss.TheVariants.{CutOff, Wrote}
 use Rattle.twogtp.specs.declared.why.PipeCause.{PipeCause}
 use Rattle.twogtp.specs.declared.why.PipeCause.TheVariants.{Writing, Reading, Ended}
 use Rattle.twogtp.specs.declared.why.TurnReport.{TurnReport}
-use Rattle.twogtp.specs.Losses.{IsLossLine, IsRetakeLine, LossesHaveLines, TurnIsTold, TurnLosesSide, is_not_started}
-use Rattle.twogtp.specs.Losses.{is_lost}
-use Rattle.twogtp.specs.Processes.{WithProcess, ending_for, process_of}
+use Rattle.twogtp.specs.Losses.{IsLossLine, IsRetakeLine, LossesHaveLines, TurnLosesSide, is_lost, is_not_started}
+use Rattle.twogtp.specs.Losses.{turn_side}
+use Rattle.twogtp.specs.Processes.{WithProcess, process_of}
 use Rattle.twogtp.specs.Speaking.{AreSent, HearsFromSide, IsHeard, SendsToSide, TakesCommands, cut_off}
-use Rattle.twogtp.specs.Starts.{Attempts}
-use Rattle.twogtp.specs.Turns.{Begins, Turn, lines_where, turn_side}
-use Rattle.twogtp.specs.Why.{lost_lines, only_lost, retake_lines}
+use Rattle.twogtp.specs.Turns.{Begins, GameState, Turn}
+use Rattle.twogtp.specs.Why.{loss_lines, retake_lines}
 
 -- ---- what a turn keeps
 
@@ -92,9 +90,9 @@ loses_none c m keeps (goes_down s down) =
 loses_none c m keeps (forfeits was is) = let same = keeps.verdict in absurd (cc)
 loses_none c m keeps (is_unfit was is) = let same = keeps.verdict in absurd (cc)
 
-neither : (why : Option Lost) (X : Type 0) → why ≡ None → (X → ⊥) → IsSome why ↔ X
+neither : (why : Option TurnLoss) (X : Type 0) → why ≡ None → (X → ⊥) → IsSome why ↔ X
 neither why X none never = (
-  (λ some. absurd (let no : is_some why ≡ false = ap (λ (w : Option Lost). is_some w) none in cc)),
+  (λ some. absurd (let no : is_some why ≡ false = ap (λ (w : Option TurnLoss). is_some w) none in cc)),
   (λ x. absurd (never x)),
 )
 
@@ -133,7 +131,7 @@ goes_on c a e on = by_verdict c.verdict refl e
     by_verdict (Some v) is e = absurd (on v (sym e))
 
 -- where nothing is to be started, a turn loses a side as the match does
-not_start : (c new : Controller) (why : Option Lost) → ((s : Colour) → next c ≢ Start s)
+not_start : (c new : Controller) (why : Option TurnLoss) → ((s : Colour) → next c ≢ Start s)
     → IsSome why ↔ LosesSide c new → IsSome why ↔ TurnLosesSide c new
 not_start c new why never told = ((λ some. is_lost (told.0 some)), back)
   where
@@ -178,17 +176,16 @@ starts_loses_none c side next_is (is_lost (forfeits was is)) = absurd (cc)
 starts_loses_none c side next_is (is_lost (is_unfit was is)) = absurd (cc)
 
 module _ {P : Type 0} (known : Ghosts P) where
-  begin_told : (commands : Commands) (c new : Controller) (side : Colour) (before after : Processes P)
-      (had has : Attempts P)
-      (why : Option Lost) → next c ≡ Start side → Begins known commands c side before after had has new why
-      → IsSome why ↔ TurnLosesSide c new
+  begin_told : (commands : Commands) (side : Colour) (before after : GameState P) (why : Option TurnLoss)
+      → next before.game ≡ Start side → Begins known commands side before after why
+      → IsSome why ↔ TurnLosesSide before.game after.game
   unfolding up_in
-  begin_told commands c _ side before after had has _ e (Begins.starts process tried is ended) =
-      neither None _ refl (starts_loses_none c side e)
-  begin_told commands c _ side before after had has _ e (Begins.fails_to_start reason tried is) =
-      ((λ some. is_not_started {side = side} e (failed_down c side)), (λ loses. refl))
+  begin_told commands side before after _ e (Begins.starts process tried is ended game) =
+      rw game (neither None _ refl (starts_loses_none before.game side e))
+  begin_told commands side before after _ e (Begins.fails_to_start reason tried is game) =
+      rw game ((λ some. is_not_started {side = side} e (failed_down before.game side)), (λ loses. refl))
 
-  sends_told : (c new : Controller) (side : Colour) (old now : P) (why : Option Lost) → c.verdict ≡ None
+  sends_told : (c new : Controller) (side : Colour) (old now : P) (why : Option TurnLoss) → c.verdict ≡ None
       → AreSent known c side old now new why → IsSome why ↔ LosesSide c new
   sends_told c new side old now _ live (AreSent.taken all taken unbroken flushed given) =
       neither None _ refl (loses_none c new (takes_keep c side new all.number _ all.takes))
@@ -196,11 +193,11 @@ module _ {P : Type 0} (known : Ghosts P) where
       cut_is_loss c new side Writing (takes_keep c side new all.number _ all.takes) live
 
   hears_told : (c new : Controller) (side : Colour) (old now : P) (report : TurnReport) → c.verdict ≡ None
-      → IsHeard known true c side old now new report → IsSome report.lost ↔ LosesSide c new
+      → IsHeard known true c side old now new report → IsSome report.loss ↔ LosesSide c new
   hears_told c new side old now report live (IsHeard.heard bytes fault some given heard reported unbroken taken) =
       let lost_by = reported.1 in
       let told = (all_told c new side bytes lost_by.1.0 lost_by.0 lost_by.1.1).exact in
-      subst (λ (w : Option Lost). IsSome w ↔ LosesSide c new) (sym lost_by.2) (wrote lost_by.0 told)
+      subst (λ (w : Option TurnLoss). IsSome w ↔ LosesSide c new) (sym lost_by.2) (wrote lost_by.0 told)
     where
       wrote : (loss : Option Loss) → IsSome loss ↔ LosesSide c new → IsSome (option_map Wrote loss) ↔ LosesSide c new
       wrote None told = told
@@ -209,7 +206,7 @@ module _ {P : Type 0} (known : Ghosts P) where
   hears_told c _ side old now _ live (IsHeard.broke cut given taken) =
       cut_is_loss c c side Reading (keeps_itself c) live
 
-  send_told : (c new : Controller) (side : Colour) (before after : Option P) (why : Option Lost) → c.verdict ≡ None
+  send_told : (c new : Controller) (side : Colour) (before after : Option P) (why : Option TurnLoss) → c.verdict ≡ None
       → WithProcess before after (λ (old now : P). AreSent known c side old now new why)
       ((new ≡ lost (sent c side) side) × (why ≡ cut_off Writing (sent c side) side))
       → IsSome why ↔ LosesSide c new
@@ -221,32 +218,28 @@ module _ {P : Type 0} (known : Ghosts P) where
 
   wait_told : (c new : Controller) (side : Colour) (before after : Option P) (report : TurnReport) → c.verdict ≡ None
       → HearsFromSide known true c side before after new report
-      → IsSome report.lost ↔ LosesSide c new
+      → IsSome report.loss ↔ LosesSide c new
   wait_told c new side None None report live done =
       rw (done.0, done.1) (cut_is_loss c c side Reading (keeps_itself c) live)
   wait_told c new side (Some old) (Some now) report live done = hears_told c new side old now report live done
   wait_told c new side None (Some now) report live done = absurd done
   wait_told c new side (Some old) None report live done = absurd done
 
-  -- why a side was lost is known exactly where one was
-  pub turn_told : (commands : Commands) (c new : Controller) (a : Action) (before after : Processes P)
-      (had has : Attempts P)
-      (report : TurnReport) → next c ≡ a → Turn known commands true c a before had new after has report
-      → IsSome report.lost ↔ TurnLosesSide c new
-  turn_told commands c new (Start side) before after had has report e turn =
-      begin_told commands c new side before after had has report.lost e turn.0
-  turn_told commands c new (Send side) before after had has report e turn =
-      not_start c new report.lost (λ s starts. cc)
-      (send_told c new side (process_of before side) (process_of after side) report.lost
-      (goes_on c (Send side) e (λ v is. cc)) turn.0)
-  turn_told commands c new (Wait side) before after had has report e turn =
-      not_start c new report.lost (λ s starts. cc)
-      (wait_told c new side (process_of before side) (process_of after side) report
-      (goes_on c (Wait side) e (λ v is. cc)) turn.0)
-  turn_told commands c new (Done verdict) before after had has report e turn =
-      not_start c new report.lost (λ s starts. cc)
-      (rw turn.0
-      (neither report.lost _ (ap (λ (r : TurnReport). r.lost) turn.3) (loses_none c c (keeps_itself c))))
+  -- why a side failed is known exactly where one did
+  pub turn_told : (commands : Commands) (before after : GameState P) (a : Action) (whose : Colour) (report : TurnReport)
+      → next before.game ≡ a → Turn known commands true a before after whose report
+      → IsSome report.loss ↔ TurnLosesSide before.game after.game
+  turn_told commands before after (Start side) whose report e turn =
+      begin_told commands side before after report.loss e turn.1
+  turn_told commands before after (Send side) whose report e turn =
+      not_start before.game after.game report.loss (λ s starts. cc)
+      (send_told before.game after.game side (process_of before.processes side) (process_of after.processes side)
+      report.loss (goes_on before.game (Send side) e (λ v is. cc)) turn.1)
+  turn_told commands before after (Wait side) whose report e turn =
+      not_start before.game after.game report.loss (λ s starts. cc)
+      (wait_told before.game after.game side (process_of before.processes side) (process_of after.processes side) report
+      (goes_on before.game (Wait side) e (λ v is. cc)) turn.1)
+  turn_told commands before after (Done verdict) whose report e turn = absurd turn
 
 -- ---- which side goes down
 
@@ -282,15 +275,16 @@ unfolding up_in
 cut_leaves c m side keeps = lost_leaves m side (up_in m side) ∙ keeps.up (other side)
 
 module _ {P : Type 0} (known : Ghosts P) where
-  pub begin_leaves : (commands : Commands) (c new : Controller) (side : Colour) (before after : Processes P)
-      (had has : Attempts P) (why : Option Lost) → Begins known commands c side before after had has new why
-      → OtherStaysUp c new side
+  pub begin_leaves : (commands : Commands) (side : Colour) (before after : GameState P) (why : Option TurnLoss)
+      → Begins known commands side before after why → OtherStaysUp before.game after.game side
   unfolding up_in
-  begin_leaves commands c _ side before after had has _ (Begins.starts process tried is ended) = started_leaves c side
-  begin_leaves commands c _ side before after had has _ (Begins.fails_to_start reason tried is) =
-      lost_leaves (started c side) side (up_in (started c side) side) ∙ started_leaves c side
+  begin_leaves commands side before after _ (Begins.starts process tried is ended game) =
+      rw game (started_leaves before.game side)
+  begin_leaves commands side before after _ (Begins.fails_to_start reason tried is game) =
+      let c = before.game in
+      rw game (lost_leaves (started c side) side (up_in (started c side) side) ∙ started_leaves c side)
 
-  sent_leaves : (c new : Controller) (side : Colour) (old now : P) (why : Option Lost)
+  sent_leaves : (c new : Controller) (side : Colour) (old now : P) (why : Option TurnLoss)
       → AreSent known c side old now new why → OtherStaysUp c new side
   sent_leaves c new side old now _ (AreSent.taken all taken unbroken flushed given) =
       (takes_keep c side new all.number _ all.takes).up (other side)
@@ -307,7 +301,7 @@ module _ {P : Type 0} (known : Ghosts P) where
   heard_leaves c _ side old now _ (IsHeard.ended over given taken) = cut_leaves c c side (keeps_itself c)
   heard_leaves c _ side old now _ (IsHeard.broke cut given taken) = cut_leaves c c side (keeps_itself c)
 
-  pub send_leaves : (c new : Controller) (side : Colour) (before after : Option P) (why : Option Lost)
+  pub send_leaves : (c new : Controller) (side : Colour) (before after : Option P) (why : Option TurnLoss)
       → SendsToSide known c side before after new why → OtherStaysUp c new side
   send_leaves c new side None None why done = rw done.0 (cut_leaves c (sent c side) side (sent_keeps c side))
   send_leaves c new side (Some old) (Some now) why done = sent_leaves c new side old now why done
@@ -321,24 +315,29 @@ module _ {P : Type 0} (known : Ghosts P) where
   wait_leaves c new side None (Some now) report done = absurd done
   wait_leaves c new side (Some old) None report done = absurd done
 
-  -- a side that goes down is the one whose turn it was
-  turn_names : (commands : Commands) (c new : Controller) (a : Action) (before after : Processes P)
-      (had has : Attempts P)
-      (report : TurnReport) (s : Colour) → Turn known commands true c a before had new after has report
-      → GoesDown c new s → turn_side a ≡ Some s
-  turn_names commands c new (Start side) before after had has report s turn down =
-      ap (λ (t : Colour). Some t)
-      (sym (down_is c new side s (begin_leaves commands c new side before after had has report.lost turn.0) down))
-  turn_names commands c new (Send side) before after had has report s turn down =
-      ap (λ (t : Colour). Some t)
-      (sym (down_is c new side s
-      (send_leaves c new side (process_of before side) (process_of after side) report.lost turn.0) down))
-  turn_names commands c new (Wait side) before after had has report s turn down =
-      ap (λ (t : Colour). Some t)
-      (sym (down_is c new side s
-      (wait_leaves c new side (process_of before side) (process_of after side) report turn.0) down))
-  turn_names commands c new (Done verdict) before after had has report s turn down =
-      absurd (loses_none c new (rw turn.0 (keeps_itself c)) (goes_down s down))
+  -- whose turn it was
+  pub whose_turn : (commands : Commands) (before after : GameState P) (a : Action) (whose : Colour)
+      (report : TurnReport) → Turn known commands true a before after whose report → turn_side a ≡ Some whose
+  whose_turn commands before after (Start side) whose report turn = ap (λ (t : Colour). Some t) (sym turn.0)
+  whose_turn commands before after (Send side) whose report turn = ap (λ (t : Colour). Some t) (sym turn.0)
+  whose_turn commands before after (Wait side) whose report turn = ap (λ (t : Colour). Some t) (sym turn.0)
+  whose_turn commands before after (Done verdict) whose report turn = absurd turn
+
+  -- the other side stays up or down
+  pub turn_leaves : (commands : Commands) (before after : GameState P) (a : Action) (whose : Colour)
+      (report : TurnReport) → Turn known commands true a before after whose report
+      → OtherStaysUp before.game after.game whose
+  turn_leaves commands before after (Start side) whose report turn =
+      rw turn.0 (begin_leaves commands side before after report.loss turn.1)
+  turn_leaves commands before after (Send side) whose report turn =
+      rw turn.0
+      (send_leaves before.game after.game side (process_of before.processes side) (process_of after.processes side)
+      report.loss turn.1)
+  turn_leaves commands before after (Wait side) whose report turn =
+      rw turn.0
+      (wait_leaves before.game after.game side (process_of before.processes side) (process_of after.processes side)
+      report turn.1)
+  turn_leaves commands before after (Done verdict) whose report turn = absurd turn
 
 -- ---- retakes
 
@@ -375,19 +374,18 @@ reported_of c new side retake are = record {
 }
 
 module _ {P : Type 0} (known : Ghosts P) where
-  pub begin_retakes : (commands : Commands) (c new : Controller) (side : Colour) (before after : Processes P)
-      (had has : Attempts P) (why : Option Lost) → Begins known commands c side before after had has new why
-      → new.retakes ≡ c.retakes
-  begin_retakes commands c _ side before after had has _ (Begins.starts process tried is ended) = refl
-  begin_retakes commands c _ side before after had has _ (Begins.fails_to_start reason tried is) =
-      lost_retakes (started c side) side
+  pub begin_retakes : (commands : Commands) (side : Colour) (before after : GameState P) (why : Option TurnLoss)
+      → Begins known commands side before after why → after.game.retakes ≡ before.game.retakes
+  begin_retakes commands side before after _ (Begins.starts process tried is ended game) = rw game refl
+  begin_retakes commands side before after _ (Begins.fails_to_start reason tried is game) =
+      rw game (lost_retakes (started before.game side) side)
 
-  pub send_retakes : (c new : Controller) (side : Colour) (before after : Option P) (why : Option Lost)
+  pub send_retakes : (c new : Controller) (side : Colour) (before after : Option P) (why : Option TurnLoss)
       → SendsToSide known c side before after new why → new.retakes ≡ c.retakes
   send_retakes c new side None None why done = rw done.0 (lost_retakes (sent c side) side ∙ sent_retakes c side)
   send_retakes c new side (Some old) (Some now) why done = by_way new why done
     where
-      by_way : (new : Controller) (why : Option Lost) → AreSent known c side old now new why → new.retakes ≡ c.retakes
+      by_way : (new : Controller) (why : Option TurnLoss) → AreSent known c side old now new why → new.retakes ≡ c.retakes
       by_way new _ (AreSent.taken all taken unbroken flushed given) =
           takes_retakes c side new all.number _ all.takes
       by_way _ _ (AreSent.failed {new = mid} all part cut given) =
@@ -415,40 +413,40 @@ module _ {P : Type 0} (known : Ghosts P) where
   wait_retakes c new side (Some old) None report sound done = absurd done
 
   -- a retake is reported exactly where one more is counted
-  turn_retakes : (commands : Commands) (c new : Controller) (a : Action) (before after : Processes P)
-      (had has : Attempts P) (report : TurnReport) → IsSound c
-      → Turn known commands true c a before had new after has report → CountsReported c new a report.retake
-  turn_retakes commands c new (Start side) before after had has report sound turn =
-      none_counted c new (Start side) report.retake
-      (begin_retakes commands c new side before after had has report.lost turn.0) turn.1
-  turn_retakes commands c new (Send side) before after had has report sound turn =
-      none_counted c new (Send side) report.retake
-      (send_retakes c new side (process_of before side) (process_of after side) report.lost turn.0) turn.1
-  turn_retakes commands c new (Wait side) before after had has report sound turn =
-      wait_retakes c new side (process_of before side) (process_of after side) report sound turn.0
-  turn_retakes commands c new (Done verdict) before after had has report sound turn =
-      none_counted c new (Done verdict) report.retake (ap (λ (x : Controller). x.retakes) turn.0)
-      (ap (λ (r : TurnReport). r.retake) turn.3)
+  turn_retakes : (commands : Commands) (before after : GameState P) (a : Action) (whose : Colour) (report : TurnReport)
+      → IsSound before.game → Turn known commands true a before after whose report
+      → CountsReported before.game after.game a report.retake
+  turn_retakes commands before after (Start side) whose report sound turn =
+      none_counted before.game after.game (Start side) report.retake
+      (begin_retakes commands side before after report.loss turn.1) turn.2
+  turn_retakes commands before after (Send side) whose report sound turn =
+      none_counted before.game after.game (Send side) report.retake
+      (send_retakes before.game after.game side (process_of before.processes side) (process_of after.processes side)
+      report.loss turn.1) turn.2
+  turn_retakes commands before after (Wait side) whose report sound turn =
+      wait_retakes before.game after.game side (process_of before.processes side) (process_of after.processes side)
+      report sound turn.1
+  turn_retakes commands before after (Done verdict) whose report sound turn = absurd turn
 
 -- ---- lines
 
 -- the lines of a turn of this side
 module _ (number : ℕ) (c new : Controller) (side : Colour) (is : turn_side (next c) ≡ Some side) where
-  one_of_loss : (lost : Option Lost) (ending : Ending) → length (lost_lines number side lost ending) ≤ 1
+  one_of_loss : (loss : Option TurnLoss) (ending : Ending) → length (loss_lines number side loss ending) ≤ 1
   one_of_loss None ending = omega arith
-  one_of_loss (Some lost) ending = omega arith
+  one_of_loss (Some loss) ending = omega arith
 
-  exact_loss : (lost : Option Lost) (ending : Ending) (X : Type 0) → IsSome lost ↔ X
-      → (lost_lines number side lost ending ≢ []) ↔ X
+  exact_loss : (loss : Option TurnLoss) (ending : Ending) (X : Type 0) → IsSome loss ↔ X
+      → (loss_lines number side loss ending ≢ []) ↔ X
   exact_loss None ending X told =
       ((λ some. absurd (some refl)), (λ x. absurd (let none : false ≡ true = told.1 x in cc)))
-  exact_loss (Some lost) ending X told = ((λ some. told.0 refl), (λ x e. cc))
+  exact_loss (Some loss) ending X told = ((λ some. told.0 refl), (λ x e. cc))
 
-  each_of_loss : (lost : Option Lost) (ending : Ending) → All (IsLossLine number c) (lost_lines number side lost ending)
+  each_of_loss : (loss : Option TurnLoss) (ending : Ending) → All (IsLossLine number c) (loss_lines number side loss ending)
   each_of_loss None ending k d inside = absurd (omega (arith, inside))
-  each_of_loss (Some lost) ending zero d inside =
-      record { side = side; lost = lost; ending = ending; is = refl; of_turn = is }
-  each_of_loss (Some lost) ending (suc k) d inside = absurd (omega (arith, inside))
+  each_of_loss (Some loss) ending zero d inside =
+      record { side = side; loss = loss; ending = ending; is = refl; of_turn = is }
+  each_of_loss (Some loss) ending (suc k) d inside = absurd (omega (arith, inside))
 
   one_of_retake : (retake : Option Retake) → length (retake_lines number side retake) ≤ 1
   one_of_retake None = omega arith
@@ -474,62 +472,34 @@ module _ (number : ℕ) (c new : Controller) (side : Colour) (is : turn_side (ne
   each_of_retake (Some retake) counts (suc k) d inside = absurd (omega (arith, inside))
 
 pub losses_have_lines : {P : Type 0} (known : Ghosts P) → LossesHaveLines known
-losses_have_lines known commands number c new before closing had has report endings turn =
-    by_side (turn_side (next c)) refl
-  where
-    told : IsSome report.lost ↔ TurnLosesSide c new
-    told = turn_told known commands c new (next c) before turn.after had has report refl turn.turn
-
-    counts : IsSound c → CountsReported c new (next c) report.retake
-    counts sound = turn_retakes known commands c new (next c) before turn.after had has report sound turn.turn
-
-    names : (s : Colour) → GoesDown c new s → turn_side (next c) ≡ Some s
-    names s = turn_names known commands c new (next c) before turn.after had has report s turn.turn
-
-    -- once the match is over, nothing is reported
-    over : (a : Action) → turn_side a ≡ None → Turn known commands true c a before had new turn.after has report
-        → report ≡ only_lost None
-    over (Start side) none is = absurd (cc)
-    over (Send side) none is = absurd (cc)
-    over (Wait side) none is = absurd (cc)
-    over (Done verdict) none is = is.3
-
-    by_side : (side : Option Colour) → turn_side (next c) ≡ side
-        → TurnIsTold number c new (lines_where (Some number) side report endings)
-    by_side None none =
-        let nothing = over (next c) none turn.turn in
-        let no_loss : report.lost ≡ None = ap (λ (r : TurnReport). r.lost) nothing in
-        let no_retake : report.retake ≡ None = ap (λ (r : TurnReport). r.retake) nothing in
-        record {
-          retakes = [];
-          losses = [];
-          joined = refl;
-          one_retake = omega arith;
-          one_loss = omega arith;
-          counted = λ sound.
-              let more = (counts sound).counted in
-              omega (arith, more, ap (λ (o : Option Retake). length (option_to_list o)) no_retake);
-          each_retake = λ sound k d inside. absurd (omega (arith, inside));
-          exact = (
-            (λ some. absurd (some refl)),
-            (λ loses. absurd
-                (let no : is_some report.lost ≡ false = ap (λ (w : Option Lost). is_some w) no_loss in
-                let yes = told.1 loses in cc)),
-          );
-          each_loss = λ k d inside. absurd (omega (arith, inside));
-          named = names;
-        }
-    by_side (Some side) is = record {
-      retakes = retake_lines number side report.retake;
-      losses = lost_lines number side report.lost (ending_for endings side);
+losses_have_lines {P} known commands number before after turn is =
+    record {
+      retakes = retake_lines number turn.side turn.report.retake;
+      losses = loss_lines number turn.side turn.report.loss turn.ending;
       joined = refl;
-      one_retake = one_of_retake number c new side is report.retake;
-      one_loss = one_of_loss number c new side is report.lost (ending_for endings side);
+      one_retake = one_of_retake number before.game after.game turn.side whose turn.report.retake;
+      one_loss = one_of_loss number before.game after.game turn.side whose turn.report.loss turn.ending;
       counted = λ sound.
           let more = (counts sound).counted in
-          omega (arith, more, as_many number c new side is report.retake);
-      each_retake = λ sound. each_of_retake number c new side is report.retake (counts sound);
-      exact = exact_loss number c new side is report.lost (ending_for endings side) (TurnLosesSide c new) told;
-      each_loss = each_of_loss number c new side is report.lost (ending_for endings side);
-      named = names;
+          omega (arith, more, as_many number before.game after.game turn.side whose turn.report.retake);
+      each_retake = λ sound.
+          each_of_retake number before.game after.game turn.side whose turn.report.retake (counts sound);
+      exact = exact_loss number before.game after.game turn.side whose turn.report.loss turn.ending _ told;
+      each_loss = each_of_loss number before.game after.game turn.side whose turn.report.loss turn.ending;
+      named = λ s down. whose ∙ ap (λ (t : Colour). Some t) (sym (down_is before.game after.game turn.side s leaves down));
     }
+  where
+    mid : GameState P
+    mid = record after { processes = is.left }
+
+    whose : turn_side (next before.game) ≡ Some turn.side
+    whose = whose_turn known commands before mid (next before.game) turn.side turn.report is.done
+
+    leaves : OtherStaysUp before.game after.game turn.side
+    leaves = turn_leaves known commands before mid (next before.game) turn.side turn.report is.done
+
+    told : IsSome turn.report.loss ↔ TurnLosesSide before.game after.game
+    told = turn_told known commands before mid (next before.game) turn.side turn.report refl is.done
+
+    counts : IsSound before.game → CountsReported before.game after.game (next before.game) turn.report.retake
+    counts sound = turn_retakes known commands before mid (next before.game) turn.side turn.report sound is.done

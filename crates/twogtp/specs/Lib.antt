@@ -1,4 +1,5 @@
 pub mod Closing
+pub mod Games
 pub mod Losses
 pub mod Options
 pub mod Pipes
@@ -7,7 +8,6 @@ pub mod Speaking
 pub mod Starts
 pub mod Status
 pub mod Tasks
-pub mod Telling
 pub mod Turns
 pub mod Why
 pub mod Writing

@@ -1,9 +1,10 @@
--- What is told of a turn: a line for each `play` that is retaken in it, and one where it loses a side. (Own.)
-use Rattle.std.specs.Prelude.{◌≡◌, ◌≢◌, ◌↔◌, ◌≤◌, ◌+◌, ◌*◌, ℕ, true, List, [], ◌++◌, length, All, Option, None, Some}
+-- What is written of a turn: a line for each `play` that is retaken in it, and one where a side fails. (Own.)
+use Rattle.std.specs.Prelude.{◌≡◌, ◌≢◌, ◌↔◌, ◌≤◌, ◌+◌, ◌*◌, ℕ, Bool, true, List, [], ◌++◌, length, All, Option, None, Some}
 use Rattle.go_base.specs.declared.colours.Colour.{Colour}
 use Rattle.gtp_match.specs.declared.controller.Controller.{Controller}
 use Rattle.gtp_match.specs.declared.reports.Retake.{Retake}
-use Rattle.gtp_match.specs.declared.verdicts.Action.TheVariants.{Start}
+use Rattle.gtp_match.specs.declared.verdicts.Action.{Action}
+use Rattle.gtp_match.specs.declared.verdicts.Action.TheVariants.{Start, Send, Wait, Done}
 use Rattle.gtp_match.specs.Controller.{new}
 use Rattle.gtp_match.specs.Losing.{GoesDown, LosesSide}
 use Rattle.gtp_match.specs.Next.{next}
@@ -13,16 +14,22 @@ use Rattle.gtp_match.specs.Setup.{IsSetup, SetupRecord}
 use Rattle.gtp_match.specs.Sides.{side_of}
 use Rattle.gtp_match.specs.Sound.{IsSound}
 use Rattle.twogtp.specs.declared.output.Output.{Ghosts as OutputGhosts}
-use Rattle.twogtp.specs.declared.processes.Endings.{Endings}
 use Rattle.twogtp.specs.declared.processes.Processes.{Processes}
 use Rattle.twogtp.specs.declared.starter.Ending.{Ending}
 use Rattle.twogtp.specs.declared.starter.Process.{Ghosts}
 use Rattle.twogtp.specs.declared.task.Commands.{Commands}
-use Rattle.twogtp.specs.declared.why.Lost.{Lost}
-use Rattle.twogtp.specs.declared.why.TurnReport.{TurnReport}
+use Rattle.twogtp.specs.declared.why.SideTurn.{SideTurn}
+use Rattle.twogtp.specs.declared.why.TurnLoss.{TurnLoss}
 use Rattle.twogtp.specs.Starts.{Attempts}
-use Rattle.twogtp.specs.Turns.{IsTurn, Plays, Seen, not_yet, turns, turn_lines, turn_side}
-use Rattle.twogtp.specs.Why.{lost_line, retake_line}
+use Rattle.twogtp.specs.Turns.{GameState, IsTurn, Plays, not_yet, state, turns, turn_lines}
+use Rattle.twogtp.specs.Why.{loss_line, retake_line}
+
+-- the side whose turn it is
+abbrev pub turn_side : Action → Option Colour
+turn_side (Start side) = Some side
+turn_side (Send side) = Some side
+turn_side (Wait side) = Some side
+turn_side (Done verdict) = None
 
 -- A turn loses a side. A side that was to be started is down after it; or a side that was up is down; or by a new
 -- verdict a side forfeits or is unfit.
@@ -42,13 +49,13 @@ pub record IsRetakeLine (number : ℕ) (c new : Controller) (line : List ℕ) : 
 -- the line of a loss, which names the side whose turn it was
 pub record IsLossLine (number : ℕ) (c : Controller) (line : List ℕ) : Type 0 where
   pub side : Colour
-  pub lost : Lost
+  pub loss : TurnLoss
   pub ending : Ending
-  pub is : line ≡ lost_line number side lost ending
+  pub is : line ≡ loss_line number side loss ending
   pub of_turn : turn_side (next c) ≡ Some side
 
--- what is told of a turn
-pub record TurnIsTold (number : ℕ) (c new : Controller) (lines : List (List ℕ)) : Type 0 where
+-- what is written of a turn
+pub record TurnIsReported (number : ℕ) (c new : Controller) (lines : List (List ℕ)) : Type 0 where
   -- the lines of a retake, and after them those of a loss: one at most of each
   pub retakes : List (List ℕ)
   pub losses : List (List ℕ)
@@ -67,23 +74,20 @@ pub record TurnIsTold (number : ℕ) (c new : Controller) (lines : List (List �
 -- So it is of each turn, where turns are reported.
 abbrev pub LossesHaveLines : {P : Type 0} → Ghosts P → Type 0
 LossesHaveLines {P} known =
-    (commands : Commands) (number : ℕ) (c new : Controller) (before closing : Processes P) (had has : Attempts P)
-    (report : TurnReport) (endings : Endings)
-    → IsTurn known commands true c before had new closing has report endings
-    → TurnIsTold number c new (turn_lines (Some number) (next c) report endings)
+    (commands : Commands) (number : ℕ) (before after : GameState P) (turn : SideTurn)
+    → IsTurn known commands true before after turn
+    → TurnIsReported number before.game after.game (turn_lines true number turn)
 
 -- ---- a whole game
 
--- how many lines were told of these turns
-abbrev pub lines_told : {P E : Type 0} (known : Ghosts P) (errs : OutputGhosts E) (commands : Commands)
-    (telling : Option ℕ) (first : Controller) (opening : Processes P) (had : Seen P E) (number : ℕ) (last : Controller)
-    (closing : Processes P) (has : Seen P E)
-    → Plays known errs commands telling first opening had number last closing has → ℕ
-lines_told known errs commands telling first opening had _ _ _ _ not_yet = 0
-lines_told known errs commands telling first opening had _ _ _ _
-    (turns {number = number} {mid = mid} {before = before} {between = between} report endings plays turn out) =
-    lines_told known errs commands telling first opening had number mid before between plays
-    + length (turn_lines telling (next mid) report endings)
+module _ {P E : Type 0} (known : Ghosts P) (errs : OutputGhosts E) where
+  -- how many lines were written of these turns
+  abbrev pub lines_written : (commands : Commands) (why : Bool) (number : ℕ) (first : GameState P) (had : E) (count : ℕ)
+      (last : GameState P) (has : E) → Plays known errs commands why number first had count last has → ℕ
+  lines_written commands why number first had _ _ _ not_yet = 0
+  lines_written commands why number first had _ _ _
+      (turns {count = count} {before = before} {between = between} turn plays is out) =
+      lines_written commands why number first had count before between plays + length (turn_lines why number turn)
 
 -- as many lines as this are few, after turns that led to this match
 pub record AreFew (setup : SetupRecord) (last : Controller) (lines : ℕ) : Type 0 where
@@ -93,11 +97,11 @@ pub record AreFew (setup : SetupRecord) (last : Controller) (lines : ℕ) : Type
   -- so the options alone limit them
   pub by_setup : lines ≤ 2 * (setup.max_restarts + 1) + most_retakes * setup.max_moves
 
--- The turns of a game have few lines, from its opening on, where they are reported.
+-- The turns of a game have few lines, from its new match on, where they are reported.
 abbrev pub LinesAreFew : {P E : Type 0} → Ghosts P → OutputGhosts E → Type 0
 LinesAreFew {P} {E} known errs =
-    (commands : Commands) (game number : ℕ) (setup : SetupRecord) (opening closing : Processes P) (had has : Seen P E)
-    (last : Controller) → IsSetup setup
-    → (plays : Plays known errs commands (Some game) (new setup) opening had number last closing has)
-    → AreFew setup last
-    (lines_told known errs commands (Some game) (new setup) opening had number last closing has plays)
+    (commands : Commands) (number count : ℕ) (setup : SetupRecord) (processes : Processes P) (asked : Attempts P)
+    (last : GameState P) (had has : E) → IsSetup setup
+    → (plays : Plays known errs commands true number (state (new setup) processes asked) had count last has)
+    → AreFew setup last.game
+    (lines_written known errs commands true number (state (new setup) processes asked) had count last has plays)

@@ -103,8 +103,8 @@ pub record AsksFor (words : List Text) (options : Options) : Type 0 where
   pub asked : Ask (matches_of command_line words) options
 
 -- whatever options the words ask for, `--why` is not among them
-abbrev pub AsksForNoWhy : List Text → Type 0
-AsksForNoWhy words = (options : Options) → AsksFor words options → options.why ≡ false
+abbrev pub IsWithoutWhy : List Text → Type 0
+IsWithoutWhy words = (options : Options) → AsksFor words options → options.why ≡ false
 
 -- the words have a mistake of this kind, or ask for the help or the version
 abbrev pub HasFault : List Text → ErrorKind → Type 0

@@ -6,7 +6,6 @@ use Rattle.gtp_match.specs.declared.controller.Controller.{Controller}
 use Rattle.gtp_match.specs.declared.sides.Status.{Status}
 use Rattle.gtp_match.specs.declared.sides.Status.TheVariants.{Down, Up}
 use Rattle.gtp_match.specs.Sides.{side_of, status_of}
-use Rattle.twogtp.specs.declared.processes.Endings.{Endings}
 use Rattle.twogtp.specs.declared.processes.Processes.{Processes}
 use Rattle.twogtp.specs.declared.starter.Process.{Ghosts}
 use Rattle.twogtp.specs.declared.starter.Ending.{Ending}
@@ -44,17 +43,6 @@ EndsWhere known (Up confirmed unanswered asked) process ending = ending ≡ Unkn
 -- how the process of a side ended in a match, if it did
 abbrev pub Ends : {P : Type 0} → Ghosts P → Controller → Colour → Option P → Ending → Type 0
 Ends known c side process ending = EndsWhere known (status_of (side_of c.sides side).up) process ending
-
--- the ending of a side's process
-abbrev pub ending_for : Endings → Colour → Ending
-ending_for endings Black = endings.black
-ending_for endings White = endings.white
-
--- how the processes of both sides ended
-pub record AreEndings {P : Type 0} (known : Ghosts P) (c : Controller) (processes : Processes P) (endings : Endings)
-    : Type 0 where
-  pub black : Ends known c Black processes.black endings.black
-  pub white : Ends known c White processes.white endings.white
 
 -- a process, if there is one, ended in some way
 abbrev pub IsEnded : {P : Type 0} → Ghosts P → Option P → Type 0

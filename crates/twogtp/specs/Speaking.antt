@@ -1,4 +1,4 @@
--- What is said with the process of a side in a turn.
+-- What the process of a side is sent, and what is read of it, in a turn.
 use Rattle.std.specs.Prelude.{◌≡◌, ◌≢◌, ◌<◌, ◌+◌, ℕ, Bool, true, false, List, [], ◌++◌, length, Option, Some, None}
 use Rattle.std.specs.Prelude.{option_map}
 use Rattle.std.specs.Option.{option_to_list}
@@ -16,14 +16,14 @@ use Rattle.gtp_match.specs.Retaking.{HearsAllRetakes}
 use Rattle.gtp_match.specs.declared.losses.Loss.{Loss}
 use Rattle.gtp_match.specs.Sides.{side_of}
 use Rattle.twogtp.specs.declared.starter.Process.{Ghosts}
-use Rattle.twogtp.specs.declared.why.Lost.{Lost}
-use Rattle.twogtp.specs.declared.why.Lost.TheVariants.{CutOff, Wrote}
+use Rattle.twogtp.specs.declared.why.TurnLoss.{TurnLoss}
+use Rattle.twogtp.specs.declared.why.TurnLoss.TheVariants.{CutOff, Wrote}
 use Rattle.twogtp.specs.declared.why.PipeCause.{PipeCause}
 use Rattle.twogtp.specs.declared.why.PipeCause.TheVariants.{Writing, Reading, Ended}
 use Rattle.twogtp.specs.declared.why.TurnReport.{TurnReport}
 use Rattle.twogtp.specs.Pipes.{IsCutOff, IsUnbroken, OutputEnded, TakesPart}
 use Rattle.twogtp.specs.Processes.{WithProcess}
-use Rattle.twogtp.specs.Why.{only_lost}
+use Rattle.twogtp.specs.Why.{only_loss}
 
 -- The bytes of the command that a side is sent next; none where it is down.
 abbrev pub command_for : Controller → Colour → Option Incarnation → List ℕ
@@ -48,14 +48,14 @@ pub record TakesAllCommands (c : Controller) (side : Colour) (text : List ℕ) (
   pub all : next new ≢ Send side
 
 -- A side is cut off so, and owes what it owes in this match.
-abbrev pub cut_off : PipeCause → Controller → Colour → Option Lost
+abbrev pub cut_off : PipeCause → Controller → Colour → Option TurnLoss
 cut_off cause c side = option_map (CutOff cause) (owed c side)
 
 -- A side was to be sent its commands: all that come next for it, in one text. Its process took the whole text, no call
 -- broke, and nothing waits to go out: they count as sent. Or it took the beginning of it and was cut off: the side is
 -- lost, and the commands are among what it owed. It gave nothing.
 pub data AreSent {P : Type 0} (known : Ghosts P) (c : Controller) (side : Colour) (before after : P)
-    : Controller → Option Lost → Type 0 where
+    : Controller → Option TurnLoss → Type 0 where
   taken : {text : List ℕ} {new : Controller} → TakesAllCommands c side text new
       → Appends (known.taken before) (known.taken after) text
       → IsUnbroken known.fails known.succeeds before after → known.flushed after
@@ -67,39 +67,39 @@ pub data AreSent {P : Type 0} (known : Ghosts P) (c : Controller) (side : Colour
       → Keeps (known.given before) (known.given after)
       → AreSent known c side before after (lost new side) (cut_off Writing new side)
 
--- Why a side was lost by bytes, all of which were heard: the first loss by them, if any.
-abbrev pub LostBy : Colour → Controller → List ℕ → Controller → Option Lost → Type 0
-LostBy side c bytes new why =
-    (loss : Option Loss) × HearsAllTelling side c bytes loss new × (why ≡ option_map Wrote loss)
+-- Why a side failed by bytes, all of which were heard: the first loss by them, if any.
+abbrev pub LostBy : Colour → Controller → List ℕ → Controller → Option TurnLoss → Type 0
+LostBy side c bytes new reported =
+    (loss : Option Loss) × HearsAllTelling side c bytes loss new × (reported ≡ option_map Wrote loss)
 
--- What is reported of bytes, all of which were heard: the `play` that is retaken by them, if any, and why the side was
--- lost by them, if it was. It is looked for where it is to be told.
+-- What is reported of bytes, all of which were heard: the `play` that is retaken by them, if any, and why the side
+-- failed by them, if it did. It is looked for where it is to be written.
 abbrev pub ReportedBy : Bool → Colour → Controller → List ℕ → Controller → TurnReport → Type 0
-ReportedBy false side c bytes new report = report ≡ only_lost None
+ReportedBy false side c bytes new report = report ≡ only_loss None
 ReportedBy true side c bytes new report =
-    HearsAllRetakes side c bytes (option_to_list report.retake) new × LostBy side c bytes new report.lost
+    HearsAllRetakes side c bytes (option_to_list report.retake) new × LostBy side c bytes new report.loss
 
 -- A side was waited for. What its process gave, a byte at least, was heard, all of it, and no call broke. Or its output
 -- ended, or the process was cut off, and it gave nothing: the side is lost. It was sent nothing.
-pub data IsHeard {P : Type 0} (known : Ghosts P) (telling : Bool) (c : Controller) (side : Colour) (before after : P)
+pub data IsHeard {P : Type 0} (known : Ghosts P) (why : Bool) (c : Controller) (side : Colour) (before after : P)
     : Controller → TurnReport → Type 0 where
   heard : {new : Controller} {report : TurnReport} (bytes : List ℕ) (fault : Option SideFault)
       → 0 < length bytes → Appends (known.given before) (known.given after) bytes
-      → HearsAllExactly side c bytes fault new → ReportedBy telling side c bytes new report
+      → HearsAllExactly side c bytes fault new → ReportedBy why side c bytes new report
       → IsUnbroken known.fails known.succeeds before after
       → Keeps (known.taken before) (known.taken after)
-      → IsHeard known telling c side before after new report
+      → IsHeard known why c side before after new report
   ended : OutputEnded known.fails known.succeeds known.runs_out before after
       → Keeps (known.given before) (known.given after)
       → Keeps (known.taken before) (known.taken after)
-      → IsHeard known telling c side before after (lost c side) (only_lost (cut_off Ended c side))
+      → IsHeard known why c side before after (lost c side) (only_loss (cut_off Ended c side))
   broke : IsCutOff known.fails known.succeeds before after
       → Keeps (known.given before) (known.given after)
       → Keeps (known.taken before) (known.taken after)
-      → IsHeard known telling c side before after (lost c side) (only_lost (cut_off Reading c side))
+      → IsHeard known why c side before after (lost c side) (only_loss (cut_off Reading c side))
 
 -- a side was to be sent its commands, and one that has no process is lost
-abbrev pub SendsToSide : {P : Type 0} → Ghosts P → Controller → Colour → Option P → Option P → Controller → Option Lost
+abbrev pub SendsToSide : {P : Type 0} → Ghosts P → Controller → Colour → Option P → Option P → Controller → Option TurnLoss
     → Type 0
 SendsToSide {P} known c side before after new why =
     WithProcess before after (λ (old now : P). AreSent known c side old now new why)
@@ -108,6 +108,6 @@ SendsToSide {P} known c side before after new why =
 -- a side was waited for, and one that has no process is lost
 abbrev pub HearsFromSide : {P : Type 0} → Ghosts P → Bool → Controller → Colour → Option P → Option P → Controller
     → TurnReport → Type 0
-HearsFromSide {P} known telling c side before after new report =
-    WithProcess before after (λ (old now : P). IsHeard known telling c side old now new report)
-    ((new ≡ lost c side) × (report ≡ only_lost (cut_off Reading c side)))
+HearsFromSide {P} known why c side before after new report =
+    WithProcess before after (λ (old now : P). IsHeard known why c side old now new report)
+    ((new ≡ lost c side) × (report ≡ only_loss (cut_off Reading c side)))

@@ -5,11 +5,13 @@ use Rattle.clap.specs.Words.{Text}
 use Rattle.go_base.specs.Komi.{komi_of}
 use Rattle.gtp_wire.specs.Words.{words}
 use Rattle.gtp_match.specs.Setup.{setup_of, IsSetup}
-use Rattle.twogtp.specs.declared.failure.Failure.{Failure}
-use Rattle.twogtp.specs.declared.failure.Failure.TheVariants.{BadArgument, NoBlackCommand, NoWhiteCommand, BadKomi}
-use Rattle.twogtp.specs.declared.failure.Failure.TheVariants.{BadHandicap, Write, OutOfMemory, TooManyTurns}
-use Rattle.twogtp.specs.declared.failure.Failure.TheVariants.{NoNullDevice}
+use Rattle.twogtp.specs.declared.failure.Mistake.{Mistake}
+use Rattle.twogtp.specs.declared.failure.Mistake.TheVariants.{BadArgument, NoBlackCommand, NoWhiteCommand, BadKomi}
+use Rattle.twogtp.specs.declared.failure.Mistake.TheVariants.{BadHandicap}
+use Rattle.twogtp.specs.declared.failure.PlanError.{PlanError}
+use Rattle.twogtp.specs.declared.failure.PlanError.TheVariants.{BadWords, OutOfMemory}
 use Rattle.twogtp.specs.declared.options.Options.{Options}
+use Rattle.twogtp.specs.declared.plan.Plan.{Plan}
 use Rattle.twogtp.specs.declared.task.Commands.{Commands}
 use Rattle.twogtp.specs.declared.task.Task.{Task}
 
@@ -41,9 +43,9 @@ pub record IsTaskOf (options : Options) (task : Task) : Type 0 where
   pub why_flag : task.why ≡ options.why
 
 -- what the options come to
-pub record IsPlanOf (options : Options) (commands : Commands) (task : Task) : Type 0 where
-  pub engines : AreCommandsOf options commands
-  pub games : IsTaskOf options task
+pub record IsPlanOf (options : Options) (plan : Plan) : Type 0 where
+  pub engines : AreCommandsOf options plan.commands
+  pub games : IsTaskOf options plan.task
 
 -- ---- mistakes in the options
 
@@ -54,26 +56,16 @@ pub record IsNoSetup (options : Options) : Type 0 where
   pub spells : komi_of options.komi.now ≡ Some komi
   pub no_setup : ¬ IsSetup (setup_of options.size komi options.handicap options.max_moves options.restarts)
 
--- the mistake in the options of a task, komi's first
-abbrev pub IsTaskMistake : Options → Failure → Type 0
-IsTaskMistake options BadKomi = komi_of options.komi.now ≡ None
-IsTaskMistake options BadHandicap = IsNoSetup options
-IsTaskMistake options BadArgument = ⊥
-IsTaskMistake options NoBlackCommand = ⊥
-IsTaskMistake options NoWhiteCommand = ⊥
-IsTaskMistake options Write = ⊥
-IsTaskMistake options OutOfMemory = ⊥
-IsTaskMistake options TooManyTurns = ⊥
-IsTaskMistake options NoNullDevice = ⊥
-
--- the first mistake in the options: Black's command, White's, komi, the handicap
-abbrev pub IsMistake : Options → Failure → Type 0
+-- The first mistake in the options, in this order: Black's command, White's, komi, the handicap. That an argument isn't
+-- UTF-8 is none of theirs.
+abbrev pub IsMistake : Options → Mistake → Type 0
 IsMistake options NoBlackCommand = words options.black.now ≡ []
 IsMistake options NoWhiteCommand = (words options.black.now ≢ []) × (words options.white.now ≡ [])
-IsMistake options BadKomi = HaveWords options × IsTaskMistake options BadKomi
-IsMistake options BadHandicap = HaveWords options × IsTaskMistake options BadHandicap
+IsMistake options BadKomi = HaveWords options × (komi_of options.komi.now ≡ None)
+IsMistake options BadHandicap = HaveWords options × IsNoSetup options
 IsMistake options BadArgument = ⊥
-IsMistake options Write = ⊥
-IsMistake options OutOfMemory = ⊥
-IsMistake options TooManyTurns = ⊥
-IsMistake options NoNullDevice = ⊥
+
+-- why the options come to no plan: their first mistake, or memory was refused
+abbrev pub HasNoPlan : Options → PlanError → Type 0
+HasNoPlan options (BadWords mistake) = IsMistake options mistake
+HasNoPlan options OutOfMemory = Unit {0}

@@ -1,6 +1,6 @@
--- What is reported of a turn: that a refused `play` is retaken, and why a side is lost. (Own.)
+-- What is reported of a turn: that a refused `play` is retaken, and why a side failed. (Own.)
 use Rattle.std.specs.Prelude.{ℕ, ◌+◌, ◌/◌, ◌%◌, ◌==◌, ◌&&◌, nat_le, if◌then◌else◌, List, [], ◌∷◌, ◌++◌, codes}
-use Rattle.std.specs.Prelude.{Option, None, Some, IfSome, IsSome, ◌⊎◌, map, take}
+use Rattle.std.specs.Prelude.{Option, None, Some, IfSome, map, take}
 use Rattle.std.specs.Fmt.{decimal}
 use Rattle.std.specs.List.{concat, join_with_byte}
 use Rattle.go_base.specs.Bytes.{newline, space}
@@ -22,8 +22,8 @@ use Rattle.twogtp.specs.declared.starter.Ending.{Ending}
 use Rattle.twogtp.specs.declared.starter.Ending.TheVariants.{Unknown, Status, Signal}
 use Rattle.twogtp.specs.declared.starter.StartReason.{StartReason}
 use Rattle.twogtp.specs.declared.starter.StartReason.TheVariants as reason
-use Rattle.twogtp.specs.declared.why.Lost.{Lost}
-use Rattle.twogtp.specs.declared.why.Lost.TheVariants.{NotStarted, CutOff, Wrote}
+use Rattle.twogtp.specs.declared.why.TurnLoss.{TurnLoss}
+use Rattle.twogtp.specs.declared.why.TurnLoss.TheVariants.{NotStarted, CutOff, Wrote}
 use Rattle.twogtp.specs.declared.why.PipeCause.{PipeCause}
 use Rattle.twogtp.specs.declared.why.PipeCause.TheVariants.{Writing, Reading, Ended}
 use Rattle.twogtp.specs.declared.why.TurnReport.{TurnReport}
@@ -83,7 +83,7 @@ wrong_text (Illegal fault) = rule_text fault
 abbrev pub hex_digit : ℕ → ℕ
 hex_digit n = if nat_le 10 n then n + 55 else n + 48
 
--- A byte as it is shown: from the space to `~` as it is, a quote and a backslash behind a backslash; a newline, a
+-- A byte as it is shown: from the space to `~` as it is, a quote and a backslash after a backslash; a newline, a
 -- carriage return and a tab by their letters; any other by its number.
 abbrev pub shown_byte : ℕ → List ℕ
 shown_byte b =
@@ -123,7 +123,7 @@ unstarted_text start =
 abbrev pub sent_text : SentCommand → List ℕ
 sent_text entry = decimal entry.id ++ space ∷ join_with_byte space (words_of entry.command)
 
--- what stands before the oldest unanswered command, of this number of them
+-- what is before the oldest unanswered command, of this number of them
 abbrev pub before_oldest : ℕ → List ℕ
 before_oldest number = if number == 1 then codes ", \"" else codes ", the first \""
 
@@ -141,7 +141,7 @@ owed_text owed =
 abbrev pub wrote_text : List ℕ → List ℕ
 wrote_text bytes = codes "; it wrote " ++ quoted bytes
 
--- What is told of that where a pipe cut a side off. After a call that failed nothing more is read, so no byte means
+-- What is written of that where a pipe cut a side off. After a call that failed nothing more is read, so no byte means
 -- only that none was read. Where its output ended it wrote none.
 abbrev pub read_text : PipeCause → List ℕ → List ℕ
 read_text Ended bytes = wrote_text bytes
@@ -150,24 +150,20 @@ read_text cause (byte ∷ bytes) = wrote_text (byte ∷ bytes)
 
 -- ---- what is reported of a turn
 
--- a side is lost for this, if at all, and nothing is retaken
-abbrev pub only_lost : Option Lost → TurnReport
-only_lost lost = record { retake = None; lost = lost }
+-- the side failed for this, if at all, and nothing is retaken
+abbrev pub only_loss : Option TurnLoss → TurnReport
+only_loss loss = record { retake = None; loss = loss }
 
--- something is reported
-abbrev pub IsReported : TurnReport → Type 0
-IsReported report = IsSome report.retake ⊎ IsSome report.lost
-
--- what a lost side owed can be shown
-abbrev pub CanBeTold : Lost → Type 0
-CanBeTold (NotStarted start) = Unit {0}
-CanBeTold (CutOff cause owed) = CanBeShown owed
-CanBeTold (Wrote loss) = CanBeShown loss.owed
+-- what a side owed when it failed can be shown
+abbrev pub LossCanBeShown : TurnLoss → Type 0
+LossCanBeShown (NotStarted start) = Unit {0}
+LossCanBeShown (CutOff cause owed) = CanBeShown owed
+LossCanBeShown (Wrote loss) = CanBeShown loss.owed
 
 -- so can what is reported of a turn
-abbrev pub CanBeReported : TurnReport → Type 0
-CanBeReported report =
-    IfSome report.retake (λ retake. CanBeShown retake.owed) × IfSome report.lost CanBeTold
+abbrev pub ReportCanBeShown : TurnReport → Type 0
+ReportCanBeShown report =
+    IfSome report.retake (λ retake. CanBeShown retake.owed) × IfSome report.loss LossCanBeShown
 
 -- ---- lines
 
@@ -178,12 +174,12 @@ retake_text retake =
     ++ (codes "the play was refused (retake " ++ (decimal retake.count ++ (codes " of 3)"
     ++ wrote_text retake.owed.bytes.items)))
 
--- why a side was lost, whose process ended so
-abbrev pub lost_text : Lost → Ending → List ℕ
-lost_text (NotStarted start) ending = unstarted_text start
-lost_text (CutOff cause owed) ending =
+-- why a side failed, whose process ended so
+abbrev pub loss_text : TurnLoss → Ending → List ℕ
+loss_text (NotStarted start) ending = unstarted_text start
+loss_text (CutOff cause owed) ending =
     owed_text owed ++ (pipe_text cause ++ (ending_text ending ++ read_text cause owed.bytes.items))
-lost_text (Wrote loss) ending =
+loss_text (Wrote loss) ending =
     owed_text loss.owed ++ (wrong_text loss.cause ++ wrote_text loss.owed.bytes.items)
 
 -- the beginning of a line of a game's side: `twogtp: game N: SIDE: `
@@ -195,15 +191,15 @@ line_head number side =
 abbrev pub retake_line : ℕ → Colour → Retake → List ℕ
 retake_line number side retake = line_head number side ++ (retake_text retake ++ newline ∷ [])
 
--- the line of the side whose turn lost a side
-abbrev pub lost_line : ℕ → Colour → Lost → Ending → List ℕ
-lost_line number side lost ending = line_head number side ++ (lost_text lost ending ++ newline ∷ [])
+-- the line of the side that failed in its turn
+abbrev pub loss_line : ℕ → Colour → TurnLoss → Ending → List ℕ
+loss_line number side loss ending = line_head number side ++ (loss_text loss ending ++ newline ∷ [])
 
 -- both lines, where there are any
 abbrev pub retake_lines : ℕ → Colour → Option Retake → List (List ℕ)
 retake_lines number side None = []
 retake_lines number side (Some retake) = retake_line number side retake ∷ []
 
-abbrev pub lost_lines : ℕ → Colour → Option Lost → Ending → List (List ℕ)
-lost_lines number side None ending = []
-lost_lines number side (Some lost) ending = lost_line number side lost ending ∷ []
+abbrev pub loss_lines : ℕ → Colour → Option TurnLoss → Ending → List (List ℕ)
+loss_lines number side None ending = []
+loss_lines number side (Some loss) ending = loss_line number side loss ending ∷ []

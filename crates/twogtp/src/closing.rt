@@ -1,81 +1,85 @@
-//! How a match that is over is told, and how its processes are closed after that.
-ghost use Rattle.std.specs.Prelude.{◌≡◌, IfOk, IfErr, OnOk, OnErr};
+//! How the text of a match that is over is written, and how its processes are closed after that.
+ghost use Rattle.std.specs.Prelude.{◌≡◌, IfOk, OnOk, OnErr};
 ghost use Rattle.gtp_match.specs.Sides.{side_of, status_of};
 ghost use Rattle.twogtp.specs.Closing.{AreClosed, IsAwaited, IsToldToQuit, QuitsIfAny, has_answered_all};
-ghost use Rattle.twogtp.specs.Writing.{BreaksAt, GoesOut};
+ghost use Rattle.twogtp.specs.Games.{game_lines};
 ghost use Rattle.twogtp.specs.Processes.{AreEnded};
-ghost use Rattle.twogtp.specs.Telling.{game_lines};
+ghost use Rattle.twogtp.specs.Writing.{BreaksAt, GoesOut};
 ghost use Rattle.twogtp.specs.private.Leaving.{IsLeft};
 
-use crate::failure::Failure;
-use crate::output::Output;
+use crate::game::GameInPlay;
+use crate::game_text::game_text;
+use crate::output::{NotWritten, Output};
 use crate::pipes::{CutOff, READ_ROOM, read_once, write_whole};
 use crate::processes::{Processes, end};
-use crate::starter::Process;
+use crate::starter::{Process, Starter};
 use crate::task::Task;
-use crate::telling::game_text;
 use crate::writing::write_text;
 use go_base::Side;
 use gtp_match::{Match, Status, Verdict};
 use gtp_wire::{Command, Reply, ReplyReader, write_command};
 
-/// How often a reply to `quit` is read for at most. Each read gives a byte, and of 8,193 bytes a reply reader tells
-/// something: a reply has at most 8,192.
+/// How often a reply to `quit` is read for at most. Each read gives a byte, and by 8,193 bytes a reply reader has returned
+/// a reply or a fault: a reply has at most 8,192.
 const MOST_QUIT_READS: u32 = 8193;
 
-/// The verdict of a match that is told, and the processes of its sides. Only `tell_game` makes one, once the text is
-/// written and flushed. Only `close` says `quit`, and it takes one. So no process is told to `quit` before that.
-pub struct Told<P> {
+/// A game that is over, and its verdict. Only `write` makes one, once the game's text is written and flushed. Only `close`
+/// sends `quit`, and it takes one. So no process is told to `quit` before that.
+pub struct WrittenGame<S: Starter> {
+    played: GameInPlay<S>,
     verdict: Verdict,
-    processes: Processes<P>,
 }
 
-/// Tells a match that is over and has this verdict. To its processes nothing is said. Where the text can't be written,
-/// they are ended at once.
-///
-/// # Errors
-///
-/// `Write`.
-pub fn tell_game<P: Process, O: Output>(
-    task: &Task,
-    number: u32,
-    game: &Match,
-    verdict: Verdict,
-    processes: Processes<P>,
-    output: &mut O,
-) -> Result<Told<P>, Failure>
-    ensures whole { OnOk result
-        (GoesOut O.Output (game_lines task.now number game.now) output.old output.new) }
-    ensures processes { IfOk result (λ told. told.processes ≡ processes) }
-    ensures verdict { IfOk result (λ told. told.verdict ≡ verdict) }
-    ensures broke { OnErr result
-        (BreaksAt O.Output (game_lines task.now number game.now) output.old output.new) }
-    ensures ended { OnErr result (AreEnded P.Process processes) }
-    ensures failure { IfErr result (λ failure. failure ≡ Failure.Write) }
-{
-    let text = game_text(task, number, game);
-    match write_text(output, text.as_slice()) {
-        Ok(()) => Ok(Told { verdict, processes }),
-        Err(_) => {
-            processes.end();
-            Err(Failure::Write)
+impl<S: Starter> GameInPlay<S> {
+    /// Writes the text of a match that is over and has this verdict. To its processes nothing is sent. Where the text
+    /// can't be written, they are ended at once.
+    pub fn write<O: Output>(
+        self,
+        task: &Task,
+        number: u32,
+        verdict: Verdict,
+        output: &mut O,
+    ) -> Result<WrittenGame<S>, NotWritten>
+        ensures whole { OnOk result
+            (GoesOut O.Output (game_lines task.now number self.game) output.old output.new) }
+        ensures played { IfOk result (λ written. written.played ≡ self) }
+        ensures verdict { IfOk result (λ written. written.verdict ≡ verdict) }
+        ensures broke { OnErr result
+            (BreaksAt O.Output (game_lines task.now number self.game) output.old output.new) }
+        ensures ended { OnErr result (AreEnded S.Process.Process self.processes) }
+    {
+        let text = game_text(task, number, &self.game);
+        match write_text(output, text.as_slice()) {
+            Ok(()) => Ok(WrittenGame {
+                played: self,
+                verdict,
+            }),
+            Err(NotWritten) => {
+                self.end();
+                Err(NotWritten)
+            }
         }
     }
 }
 
-impl<P: Process> Told<P> {
+impl<S: Starter> WrittenGame<S> {
     /// Ends all processes, and returns the verdict: at once those of the sides that are down or still owe an answer;
     /// then the others, each after it was told to `quit` and has answered.
-    pub fn close(self, game: &Match, buffer: &mut [u8; READ_ROOM]) -> Verdict
+    pub fn close(self) -> Verdict
         ensures verdict { result ≡ self.verdict }
-        ensures closed { AreClosed P.Process game.now self.processes }
+        ensures closed { AreClosed S.Process.Process self.played.game self.played.processes }
     {
-        let Told { verdict, processes } = self;
+        let WrittenGame { played, verdict } = self;
+        let GameInPlay {
+            game,
+            processes,
+            mut buffer,
+        } = played;
         let Processes { black, white } = processes;
-        let black = end_unless_answered(game, Side::Black, black);
-        let white = end_unless_answered(game, Side::White, white);
-        quit_and_end(black, buffer);
-        quit_and_end(white, buffer);
+        let black = end_unless_answered(&game, Side::Black, black);
+        let white = end_unless_answered(&game, Side::White, white);
+        quit_and_end(black, &mut buffer);
+        quit_and_end(white, &mut buffer);
         verdict
     }
 }
@@ -113,7 +117,7 @@ fn quit_and_end<P: Process>(process: Option<P>, buffer: &mut [u8; READ_ROOM])
     }
 }
 
-/// Says `quit`, and waits for the reply.
+/// Sends `quit`, and waits for the reply.
 fn quit<P: Process>(process: &mut P, buffer: &mut [u8; READ_ROOM])
     ensures { IsToldToQuit P.Process process.old process.new }
 {

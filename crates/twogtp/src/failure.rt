@@ -1,15 +1,19 @@
-//! The failures that the program tells in a line of its own.
+//! Mistakes in the words and failures of the program, which it reports in a line of its own.
 ghost use Rattle.std.specs.Prelude.{◌≡◌, ◌≢◌};
-ghost use Rattle.twogtp.specs.Status.{TellsFailure, exit_status, failure_line};
+ghost use Rattle.twogtp.specs.declared.failure.Failure.TheVariants as the_failure;
+ghost use Rattle.twogtp.specs.declared.failure.PlanError.TheVariants as plan_error;
+ghost use Rattle.twogtp.specs.Status.{ReportsFailure, ReportsMistake, ReportsPlanError, failure_line};
+ghost use Rattle.twogtp.specs.Status.{mistake_line, own_failure, usage_failure};
 
-use crate::output::Output;
+use crate::output::{NotWritten, Output};
 use crate::writing::write_or_break;
+use std::alloc::AllocError;
 use std::io::ErrorKind;
 
-/// Why the program ends before its games do, where `clap` has no text for it.
+/// A mistake in the words of the command line, where `clap` has no text for it.
 #[derive(Clone, Copy, Debug, PartialEq, Eq, Drop)]
-pub enum Failure {
-    /// An argument is no text.
+pub enum Mistake {
+    /// An argument isn't UTF-8.
     BadArgument,
     /// `--black` has no word.
     NoBlackCommand,
@@ -19,7 +23,36 @@ pub enum Failure {
     BadKomi,
     /// The size doesn't allow this handicap.
     BadHandicap,
-    /// What is told of a game or of a lost side, the help or the version could not be written.
+}
+
+impl Mistake {
+    /// Reports the mistake in one line, and returns the status 2. A writer that fails doesn't change the status.
+    pub fn report<E: Output>(self, errors: &mut E) -> u8
+        ensures status { result ≡ usage_failure }
+        ensures written { ReportsMistake E.Output self errors.old errors.new }
+    {
+        write_or_break(errors, self.line());
+        2
+    }
+
+    /// Its line on standard error.
+    fn line(self) -> &'static [u8]
+        ensures { result.now ≡ mistake_line self }
+    {
+        match self {
+            Mistake::BadArgument => b"twogtp: bad argument\n",
+            Mistake::NoBlackCommand => b"twogtp: no command for black\n",
+            Mistake::NoWhiteCommand => b"twogtp: no command for white\n",
+            Mistake::BadKomi => b"twogtp: bad komi\n",
+            Mistake::BadHandicap => b"twogtp: bad handicap\n",
+        }
+    }
+}
+
+/// Why the program can't go on.
+#[derive(Clone, Copy, Debug, PartialEq, Eq, Drop)]
+pub enum Failure {
+    /// The text of a game, a line of `--why`, the help or the version could not be written.
     Write,
     /// Memory was refused while the arguments were read, or for the start of a process.
     OutOfMemory,
@@ -30,30 +63,13 @@ pub enum Failure {
 }
 
 impl Failure {
-    /// The failure of arguments that could not be collected, by the kind of the error.
-    pub fn of_arguments(kind: ErrorKind) -> Self
-        ensures memory { kind ≡ ErrorKind.OutOfMemory → result ≡ Failure.OutOfMemory }
-        ensures other { kind ≢ ErrorKind.OutOfMemory → result ≡ Failure.BadArgument }
+    /// Reports the failure in one line, and returns the status 3. A writer that fails doesn't change the status.
+    pub fn report<E: Output>(self, errors: &mut E) -> u8
+        ensures status { result ≡ own_failure }
+        ensures written { ReportsFailure E.Output self errors.old errors.new }
     {
-        match kind {
-            ErrorKind::OutOfMemory => Failure::OutOfMemory,
-            _ => Failure::BadArgument,
-        }
-    }
-
-    /// The status that the program ends with: 2 for a mistake in the arguments, 3 for a failure of its own.
-    pub fn status(self) -> u8
-        ensures { result ≡ exit_status self }
-    {
-        match self {
-            Failure::BadArgument
-            | Failure::NoBlackCommand
-            | Failure::NoWhiteCommand
-            | Failure::BadKomi
-            | Failure::BadHandicap => 2,
-            Failure::Write | Failure::OutOfMemory | Failure::TooManyTurns | Failure::NoNullDevice =>
-                3,
-        }
+        write_or_break(errors, self.line());
+        3
     }
 
     /// Its line on standard error.
@@ -61,11 +77,6 @@ impl Failure {
         ensures { result.now ≡ failure_line self }
     {
         match self {
-            Failure::BadArgument => b"twogtp: bad argument\n",
-            Failure::NoBlackCommand => b"twogtp: no command for black\n",
-            Failure::NoWhiteCommand => b"twogtp: no command for white\n",
-            Failure::BadKomi => b"twogtp: bad komi\n",
-            Failure::BadHandicap => b"twogtp: bad handicap\n",
             Failure::Write => b"twogtp: write fault\n",
             Failure::OutOfMemory => b"twogtp: out of memory\n",
             Failure::TooManyTurns => b"twogtp: too many turns\n",
@@ -76,11 +87,67 @@ impl Failure {
     }
 }
 
-/// Tells the failure in one line, and returns the status. A writer that fails doesn't change the status.
-pub fn tell<E: Output>(failure: Failure, errors: &mut E) -> u8
-    ensures status { result ≡ exit_status failure }
-    ensures told { TellsFailure E.Output failure errors.old errors.new }
-{
-    write_or_break(errors, failure.line());
-    failure.status()
+impl From<AllocError> for Failure {
+    ghost from_gives = { λ _ failure. failure ≡ the_failure.OutOfMemory };
+
+    fn from(_error: AllocError) -> Failure {
+        Failure::OutOfMemory
+    }
+}
+
+impl From<NotWritten> for Failure {
+    ghost from_gives = { λ _ failure. failure ≡ the_failure.Write };
+
+    fn from(_error: NotWritten) -> Failure {
+        Failure::Write
+    }
+}
+
+/// Why the words of a command line come to no plan.
+#[derive(Clone, Copy, Debug, PartialEq, Eq, Drop)]
+pub enum PlanError {
+    /// They have a mistake.
+    BadWords(Mistake),
+    /// Memory was refused.
+    OutOfMemory,
+}
+
+impl PlanError {
+    /// Why arguments could not be collected, by the kind of the error.
+    pub fn of_arguments(kind: ErrorKind) -> Self
+        ensures memory { kind ≡ ErrorKind.OutOfMemory → result ≡ PlanError.OutOfMemory }
+        ensures other { kind ≢ ErrorKind.OutOfMemory →
+            result ≡ PlanError.BadWords Mistake.BadArgument }
+    {
+        match kind {
+            ErrorKind::OutOfMemory => PlanError::OutOfMemory,
+            _ => PlanError::BadWords(Mistake::BadArgument),
+        }
+    }
+
+    /// Reports it in one line, and returns the status: 2 for a mistake, 3 for want of memory.
+    pub fn report<E: Output>(self, errors: &mut E) -> u8
+        ensures { ReportsPlanError E.Output self result errors.old errors.new }
+    {
+        match self {
+            PlanError::BadWords(mistake) => mistake.report(errors),
+            PlanError::OutOfMemory => Failure::OutOfMemory.report(errors),
+        }
+    }
+}
+
+impl From<AllocError> for PlanError {
+    ghost from_gives = { λ _ error. error ≡ plan_error.OutOfMemory };
+
+    fn from(_error: AllocError) -> PlanError {
+        PlanError::OutOfMemory
+    }
+}
+
+impl From<Mistake> for PlanError {
+    ghost from_gives = { λ mistake error. error ≡ plan_error.BadWords mistake };
+
+    fn from(mistake: Mistake) -> PlanError {
+        PlanError::BadWords(mistake)
+    }
 }

@@ -60,11 +60,11 @@ pub struct Options<'a> {
     pub max_moves: u32,
     /// How often a side is started again at most, 0 to 1,000.
     pub restarts: u32,
-    /// Whether the record is told.
+    /// Whether the record is written.
     pub record: bool,
-    /// Whether the board is told.
+    /// Whether the board is written.
     pub show: bool,
-    /// Whether it is told why a side is lost.
+    /// Whether it is written why a side failed.
     pub why: bool,
 }
 

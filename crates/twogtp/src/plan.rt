@@ -1,8 +1,8 @@
 //! From the options of a run to the engines' commands and the task.
-ghost use Rattle.std.specs.Prelude.{◌≡◌, ◌⊎◌, IfOk, IfErr};
-ghost use Rattle.twogtp.specs.Tasks.{AreCommandsOf, IsCommand, IsMistake, IsPlanOf, IsTaskMistake, IsTaskOf};
+ghost use Rattle.std.specs.Prelude.{◌≡◌, IfOk, IfErr};
+ghost use Rattle.twogtp.specs.Tasks.{AreCommandsOf, HasNoPlan, HaveWords, IsCommand, IsMistake, IsPlanOf, IsTaskOf};
 
-use crate::failure::Failure;
+use crate::failure::{Mistake, PlanError};
 use crate::options::Options;
 use crate::task::{Commands, Task};
 use go_base::{Komi, Size};
@@ -24,10 +24,9 @@ pub struct Plan<'a> {
 ///
 /// `OutOfMemory`, or the first mistake in this order: Black's command has no word, White's has none, the text of komi
 /// is no komi, the size doesn't allow the handicap.
-pub fn plan_of<'a>(alloc: Global, options: &Options<'a>) -> Result<Plan<'a>, Failure>
-    ensures plan { IfOk result (λ plan. IsPlanOf options.now plan.commands plan.task) }
-    ensures failure { IfErr result (λ failure.
-        (failure ≡ Failure.OutOfMemory) ⊎ IsMistake options.now failure) }
+pub fn plan_of<'a>(alloc: Global, options: &Options<'a>) -> Result<Plan<'a>, PlanError>
+    ensures plan { IfOk result (IsPlanOf options.now) }
+    ensures no_plan { IfErr result (HasNoPlan options.now) }
 {
     let commands = commands_of(alloc, options)?;
     let task = task_of(options)?;
@@ -35,37 +34,33 @@ pub fn plan_of<'a>(alloc: Global, options: &Options<'a>) -> Result<Plan<'a>, Fai
 }
 
 /// The commands of the options. Black's is looked at first.
-fn commands_of<'a>(alloc: Global, options: &Options<'a>) -> Result<Commands<'a>, Failure>
+fn commands_of<'a>(alloc: Global, options: &Options<'a>) -> Result<Commands<'a>, PlanError>
     ensures commands { IfOk result (AreCommandsOf options.now) }
-    ensures failure { IfErr result (λ failure.
-        (failure ≡ Failure.OutOfMemory) ⊎ IsMistake options.now failure) }
+    ensures no_plan { IfErr result (HasNoPlan options.now) }
 {
-    let Ok(black) = words_of(alloc, options.black) else {
-        return Err(Failure::OutOfMemory);
-    };
+    let black = words_of(alloc, options.black)?;
     if black.is_empty() {
-        return Err(Failure::NoBlackCommand);
+        return Err(PlanError::BadWords(Mistake::NoBlackCommand));
     }
-    let Ok(white) = words_of(alloc, options.white) else {
-        return Err(Failure::OutOfMemory);
-    };
+    let white = words_of(alloc, options.white)?;
     if white.is_empty() {
-        return Err(Failure::NoWhiteCommand);
+        return Err(PlanError::BadWords(Mistake::NoWhiteCommand));
     }
     Ok(Commands { black, white })
 }
 
-/// The task of the options. Komi is looked at first. That a size or another number is past its limits isn't met, since
-/// the command line refuses it.
-fn task_of(options: &Options<'_>) -> Result<Task, Failure>
+/// The task of options whose commands have words. Komi is looked at first. That a size or another number is past its
+/// limits isn't met, since the command line refuses it.
+fn task_of(options: &Options<'_>) -> Result<Task, Mistake>
     ensures task { IfOk result (IsTaskOf options.now) }
-    ensures failure { IfErr result (IsTaskMistake options.now) }
+    ensures mistake { IfErr result (λ mistake.
+        HaveWords options.now → IsMistake options.now mistake) }
 {
     let Some(komi) = Komi::read(options.komi.as_bytes()) else {
-        return Err(Failure::BadKomi);
+        return Err(Mistake::BadKomi);
     };
     let Some(size) = Size::new(options.size) else {
-        return Err(Failure::BadHandicap);
+        return Err(Mistake::BadHandicap);
     };
     match Setup::new(
         size,
@@ -81,7 +76,7 @@ fn task_of(options: &Options<'_>) -> Result<Task, Failure>
             show: options.show,
             why: options.why,
         }),
-        Err(_) => Err(Failure::BadHandicap),
+        Err(_) => Err(Mistake::BadHandicap),
     }
 }
 

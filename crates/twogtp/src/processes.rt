@@ -1,15 +1,16 @@
 //! The processes of both sides.
 ghost use Rattle.std.specs.Prelude.{◌≡◌, Some};
-ghost use Rattle.go_base.specs.declared.colours.Colour.TheVariants.{Black, White};
+ghost use Rattle.std.specs.Borrow.{sem};
 ghost use Rattle.gtp_match.specs.declared.sides.Status.TheVariants as status;
-ghost use Rattle.twogtp.specs.Processes.{AreEnded, AreEndings, Ends, EndsWhere, IsEnded, OtherStays, ending_for};
+ghost use Rattle.twogtp.specs.Processes.{AreEnded, Ends, EndsWhere, IsEnded, OtherStays};
 ghost use Rattle.twogtp.specs.Processes.{kept_by, no_processes, process_of};
+ghost use Rattle.twogtp.specs.private.Lending.{LendsProcess};
 
 use crate::starter::{Ending, Process};
 use go_base::Side;
 use gtp_match::{Match, Status};
 
-/// The process of each side that has one. It is not `Drop`: `end` ends them all, or `close` of a `Told` that has them.
+/// The process of each side that has one. It is not `Drop`: `end` ends them all, or `close` of a `WrittenGame`.
 pub struct Processes<P> {
     /// Black's.
     pub black: Option<P>,
@@ -40,15 +41,26 @@ impl<P: Process> Processes<P> {
         }
     }
 
-    /// Ends the processes of the sides that are down, and returns how they ended.
-    pub fn end_what_is_down(&mut self, game: &Match) -> Endings
-        ensures black { self.new.black ≡ kept_by game.now Black self.old.black }
-        ensures white { self.new.white ≡ kept_by game.now White self.old.white }
-        ensures endings { AreEndings P.Process game.now self.old result }
+    /// The process of a side, if it has one, to be changed.
+    pub fn process_mut(&mut self, side: Side) -> &mut Option<P>
+        ensures* lends { sem 𝓛 (LendsProcess P.row self.entry side result) }
+        ensures value { result.now ≡ process_of self.old side }
     {
-        Endings {
-            black: end_if_down(game, Side::Black, &mut self.black),
-            white: end_if_down(game, Side::White, &mut self.white),
+        match side {
+            Side::Black => &mut self.black,
+            Side::White => &mut self.white,
+        }
+    }
+
+    /// Ends the process of a side that is down, and returns how it ended.
+    pub fn end_if_down(&mut self, game: &Match, side: Side) -> Ending
+        ensures kept { process_of self.new side ≡ kept_by game.now side (process_of self.old side) }
+        ensures rests { OtherStays side self.old self.new }
+        ensures ended { Ends P.Process game.now side (process_of self.old side) result }
+    {
+        match game.status(side) {
+            Status::Down => end_known(self.process_mut(side).take()),
+            Status::Up { .. } => Ending::Unknown,
         }
     }
 
@@ -62,40 +74,8 @@ impl<P: Process> Processes<P> {
     }
 }
 
-/// How the processes of both sides ended, in a turn.
-#[derive(Clone, Copy, Debug, PartialEq, Eq, Drop)]
-pub struct Endings {
-    /// Black's.
-    pub black: Ending,
-    /// White's.
-    pub white: Ending,
-}
-
-impl Endings {
-    /// A side's.
-    pub fn of(self, side: Side) -> Ending
-        ensures { result ≡ ending_for self side }
-    {
-        match side {
-            Side::Black => self.black,
-            Side::White => self.white,
-        }
-    }
-}
-
-/// Ends the process of a side that is down, and returns how it ended.
-fn end_if_down<P: Process>(game: &Match, side: Side, process: &mut Option<P>) -> Ending
-    ensures kept { process.new ≡ kept_by game.now side process.old }
-    ensures ended { Ends P.Process game.now side process.old result }
-{
-    match game.status(side) {
-        Status::Down => end_one(process.take()),
-        Status::Up { .. } => Ending::Unknown,
-    }
-}
-
 /// Ends a process, if there is one, and returns how it ended.
-fn end_one<P: Process>(process: Option<P>) -> Ending
+fn end_known<P: Process>(process: Option<P>) -> Ending
     ensures { EndsWhere P.Process status.Down process result }
 {
     match process {
@@ -108,5 +88,5 @@ fn end_one<P: Process>(process: Option<P>) -> Ending
 pub fn end<P: Process>(process: Option<P>)
     ensures { IsEnded P.Process process }
 {
-    let _ = end_one(process);
+    let _ = end_known(process);
 }

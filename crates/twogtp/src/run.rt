@@ -1,35 +1,33 @@
 //! The program, over any writers and any means to start processes.
 ghost use Rattle.std.specs.Prelude.{◌≡◌, ◌⊎◌, map, true, false, string_bytes};
-ghost use Rattle.std.specs.Prelude.{IfOk, IfErr, IsErr, IsOkAnd, OnOk, OnErr};
-ghost use Rattle.twogtp.specs.Options.{AsksForNoWhy};
-ghost use Rattle.twogtp.specs.Writing.{BreaksAt, GoesOut, IsWritten};
-ghost use Rattle.twogtp.specs.Status.{IsRequest, IsStatus, TellsFailure, done, exit_status, own_failure};
+ghost use Rattle.std.specs.Prelude.{IfOk, IsErr, IsOkAnd, OnOk, OnErr};
+ghost use Rattle.twogtp.specs.Games.{GamesEnd, HasBegun, HasDone, HasMistake, HasShown, IsShown, seen};
+ghost use Rattle.twogtp.specs.Options.{IsWithoutWhy};
+ghost use Rattle.twogtp.specs.Status.{IsRequest, IsStatus, ReportsFailure, done, own_failure};
 ghost use Rattle.twogtp.specs.Status.{some_given_up, status_with, usage_failure};
-ghost use Rattle.twogtp.specs.Telling.{HasBegun, HasBegunToTell, HasDone, HasMistake, HasShown, HasTold, IsShown};
-ghost use Rattle.twogtp.specs.Turns.{seen};
+ghost use Rattle.twogtp.specs.Writing.{BreaksAt, GoesOut, IsWritten};
 
-use crate::failure::{Failure, tell};
+use crate::failure::Failure;
+use crate::game::play_game;
 use crate::options::read_options;
 use crate::output::{NotWritten, Output};
-use crate::plan::plan_of;
+use crate::plan::{Plan, plan_of};
 use crate::starter::Starter;
-use crate::task::{Commands, Task};
-use crate::turns::play_game;
 use crate::writing::{write_or_break, write_text};
 use clap::error::ErrorKind;
 use gtp_match::Verdict;
 use std::alloc::{AllocError, Global};
 use std::convert::AsStr;
 
-/// Plays the games that the words of the command line ask for, the first of which is the program's name, tells each on
-/// `output`, and returns the status that the program ends with:
+/// Plays the games that the words of the command line ask for, the first of which is the program's name. Writes the text
+/// of each to `output`, and returns the status that the program ends with:
 ///
 /// - 0 where each game ended by the rules, and where the words ask for help or the version, which goes to `output`;
 /// - 1 where in some game a side was unfit or given up;
 /// - 2 where the words have a mistake;
-/// - 3 where the output or a line of a lost side can't be written, memory was refused, or a game had too many turns.
+/// - 3 where the output or a line of `--why` can't be written, memory was refused, or a game had too many turns.
 ///
-/// What a status of 2 or 3 means is told on `errors`, and whether that can be written changes nothing.
+/// What a status of 2 or 3 means is written to `errors`, and whether that can be written changes nothing.
 pub fn run<A: AsStr, O: Output, E: Output, S: Starter>(
     alloc: Global,
     words: &[A],
@@ -39,15 +37,15 @@ pub fn run<A: AsStr, O: Output, E: Output, S: Starter>(
 ) -> u8
     ensures status { IsStatus result }
     // After a mistake in the words nothing was started, and nothing was written to the output. Of
-    // the options the first mistake is told on standard error.
+    // the options the first mistake is reported on standard error.
     ensures usage { result ≡ usage_failure →
         HasMistake E.Output (map A.text words.now) errors.old errors.new
         × (output.new ≡ output.old) × (starter.new ≡ starter.old) }
-    // Where the status is 0 or 1 and it isn't asked why engines are lost, nothing is told on
+    // Where the status is 0 or 1 and it isn't asked why engines fail, nothing is written to
     // standard error.
-    ensures quiet { (result ≡ done) ⊎ (result ≡ some_given_up) → AsksForNoWhy (map A.text words.now)
+    ensures quiet { (result ≡ done) ⊎ (result ≡ some_given_up) → IsWithoutWhy (map A.text words.now)
         → errors.new ≡ errors.old }
-    // All games of the task that the words ask for were played and told; or they ask for help or
+    // All games of the task that the words ask for were played and written; or they ask for help or
     // the version, that was written, and nothing was started.
     ensures played { (result ≡ done) ⊎ (result ≡ some_given_up) →
         ((starter.new ≡ starter.old)
@@ -55,15 +53,15 @@ pub fn run<A: AsStr, O: Output, E: Output, S: Starter>(
         ⊎ HasDone S.Process.Process O.Output E.Output (map A.text words.now) result
         output.old output.new
         (seen (S.asked starter.old) errors.old) (seen (S.asked starter.new) errors.new) }
-    // What was written before the program had to stop is the beginning of what is told, or of the
-    // help or the version: then the output broke at it. Why it stopped is told last on standard
-    // error. Memory that was refused before any game is the one cause that isn't seen here.
+    // What was written before the program had to stop is the beginning of the games' texts, or of
+    // the help or the version: then the output broke at it. Why it stopped is reported last on
+    // standard error. Memory that was refused before any game is the one cause that isn't seen here.
     ensures stopped { result ≡ own_failure →
         ((starter.new ≡ starter.old) × (output.new ≡ output.old)
-        × TellsFailure E.Output Failure.OutOfMemory errors.old errors.new)
+        × ReportsFailure E.Output Failure.OutOfMemory errors.old errors.new)
         ⊎ ((starter.new ≡ starter.old)
         × HasShown O.Output (map A.text words.now) result output.old output.new
-        × TellsFailure E.Output Failure.Write errors.old errors.new)
+        × ReportsFailure E.Output Failure.Write errors.old errors.new)
         ⊎ HasBegun S.Process.Process O.Output E.Output (map A.text words.now)
         output.old output.new
         (seen (S.asked starter.old) errors.old) (seen (S.asked starter.new) errors.new) }
@@ -74,37 +72,29 @@ pub fn run<A: AsStr, O: Output, E: Output, S: Starter>(
     };
     let plan = match plan_of(alloc, &options) {
         Ok(plan) => plan,
-        Err(failure) => return tell(failure, errors),
+        Err(error) => return error.report(errors),
     };
-    match play_games(&plan.task, &plan.commands, output, errors, starter) {
+    match play_games(&plan, output, errors, starter) {
         Ok(status) => status,
-        Err(failure) => tell(failure, errors),
+        Err(failure) => failure.report(errors),
     }
 }
 
-/// Plays the games of a task, and tells each.
+/// Plays the games of a plan, and writes the text of each.
 fn play_games<O: Output, E: Output, S: Starter>(
-    task: &Task,
-    commands: &Commands<'_>,
+    plan: &Plan<'_>,
     output: &mut O,
     errors: &mut E,
     starter: &mut S,
 ) -> Result<u8, Failure>
-    ensures told { IfOk result (λ status.
-        HasTold S.Process.Process O.Output E.Output commands.now task.now status
-        output.old output.new
-        (seen (S.asked starter.old) errors.old) (seen (S.asked starter.new) errors.new)) }
-    ensures quiet { task.now.why ≡ false → errors.new ≡ errors.old }
-    ensures range { IfOk result (λ status. (status ≡ done) ⊎ (status ≡ some_given_up)) }
-    ensures begun { IfErr result
-        (HasBegunToTell S.Process.Process O.Output E.Output commands.now task.now
-        output.old output.new
-        (seen (S.asked starter.old) errors.old) (seen (S.asked starter.new) errors.new)) }
-    ensures failure { IfErr result (λ failure. exit_status failure ≡ own_failure) }
+    ensures { let had = seen (S.asked starter.old) errors.old in
+        let has = seen (S.asked starter.new) errors.new in
+        GamesEnd S.Process.Process O.Output E.Output plan.now output.old output.new
+        had has result }
 {
     let mut status = 0;
-    for index in 0..task.games {
-        let verdict = play_game(task, index + 1, commands, output, errors, starter)?;
+    for index in 0..plan.task.games {
+        let verdict = play_game(plan, index + 1, output, errors, starter)?;
         status = with_verdict(status, verdict);
     }
     Ok(status)
@@ -120,8 +110,8 @@ fn with_verdict(status: u8, verdict: Verdict) -> u8
     }
 }
 
-/// Tells what `clap` returns in place of options, an error of this kind with this text, and returns the status. Where
-/// memory was refused for the text, that is told instead.
+/// Writes what `clap` returns in place of options, an error of this kind with this text, and returns the status. Where
+/// memory was refused for the text, that is reported instead.
 fn answer_error<O: Output, E: Output>(
     kind: ErrorKind,
     text: Result<String, AllocError>,
@@ -133,8 +123,8 @@ fn answer_error<O: Output, E: Output>(
     ensures quiet { result ≡ done → errors.new ≡ errors.old }
     ensures mistake { result ≡ usage_failure → ¬ IsRequest kind }
     ensures memory { kind ≡ ErrorKind.OutOfMemory → result ≡ own_failure }
-    // The text of a mistake is told, once.
-    ensures told { result ≡ usage_failure → IsOkAnd text (λ text.
+    // The text of a mistake is written, once.
+    ensures written { result ≡ usage_failure → IsOkAnd text (λ text.
         IsWritten E.Output (string_bytes text) errors.old errors.new) }
     // A text that was asked for was written once.
     ensures shown { result ≡ done → IsRequest kind × IsOkAnd text (λ text.
@@ -143,18 +133,18 @@ fn answer_error<O: Output, E: Output>(
     // text.
     ensures own { result ≡ own_failure →
         (((kind ≡ ErrorKind.OutOfMemory) ⊎ IsErr text) × (output.new ≡ output.old)
-        × TellsFailure E.Output Failure.OutOfMemory errors.old errors.new)
+        × ReportsFailure E.Output Failure.OutOfMemory errors.old errors.new)
         ⊎ (IsRequest kind
         × IsOkAnd text (λ text. BreaksAt O.Output (string_bytes text) output.old output.new)
-        × TellsFailure E.Output Failure.Write errors.old errors.new) }
+        × ReportsFailure E.Output Failure.Write errors.old errors.new) }
 {
     if kind == ErrorKind::OutOfMemory {
-        return tell(Failure::OutOfMemory, errors);
+        return Failure::OutOfMemory.report(errors);
     }
     if is_request(kind) {
         show(text, output, errors)
     } else {
-        tell_mistake(text, errors)
+        write_mistake(text, errors)
     }
 }
 
@@ -176,31 +166,31 @@ fn show<O: Output, E: Output>(
         IsShown O.Output (string_bytes text) result output.old output.new) }
     ensures quiet { result ≡ done → errors.new ≡ errors.old }
     ensures broke { OnOk text
-        (result ≡ own_failure → TellsFailure E.Output Failure.Write errors.old errors.new) }
+        (result ≡ own_failure → ReportsFailure E.Output Failure.Write errors.old errors.new) }
     ensures refused { OnErr text ((result ≡ own_failure) × (output.new ≡ output.old)
-        × TellsFailure E.Output Failure.OutOfMemory errors.old errors.new) }
+        × ReportsFailure E.Output Failure.OutOfMemory errors.old errors.new) }
 {
     match text {
         Ok(text) => match write_text(output, text.as_bytes()) {
             Ok(()) => 0,
-            Err(NotWritten) => tell(Failure::Write, errors),
+            Err(NotWritten) => Failure::Write.report(errors),
         },
-        Err(AllocError) => tell(Failure::OutOfMemory, errors),
+        Err(AllocError) => Failure::OutOfMemory.report(errors),
     }
 }
 
-/// Tells the text of a mistake in the words, unless memory was refused for it, and returns the status.
-fn tell_mistake<E: Output>(text: Result<String, AllocError>, errors: &mut E) -> u8
-    ensures told { IfOk text (λ text. (result ≡ usage_failure)
+/// Writes the text of a mistake in the words, unless memory was refused for it, and returns the status.
+fn write_mistake<E: Output>(text: Result<String, AllocError>, errors: &mut E) -> u8
+    ensures written { IfOk text (λ text. (result ≡ usage_failure)
         × IsWritten E.Output (string_bytes text) errors.old errors.new) }
     ensures refused { OnErr text ((result ≡ own_failure)
-        × TellsFailure E.Output Failure.OutOfMemory errors.old errors.new) }
+        × ReportsFailure E.Output Failure.OutOfMemory errors.old errors.new) }
 {
     match text {
         Ok(text) => {
             write_or_break(errors, text.as_bytes());
             2
         }
-        Err(AllocError) => tell(Failure::OutOfMemory, errors),
+        Err(AllocError) => Failure::OutOfMemory.report(errors),
     }
 }

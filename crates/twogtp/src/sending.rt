@@ -8,7 +8,7 @@ ghost use Rattle.gtp_match.specs.Sound.{IsSound};
 ghost use Rattle.twogtp.specs.Speaking.{TakesAllCommands, command_text};
 
 use arrayvec::ArrayVec;
-use go_base::Side;
+use go_base::{Side, push};
 use gtp_match::{Action, MOST_UNANSWERED, Match};
 use gtp_wire::MOST_COMMAND_BYTES;
 
@@ -53,6 +53,5 @@ fn push_command(text: &mut CommandsText, game: &mut Match, side: Side)
     ensures few { array_vec_len text.new ≤ array_vec_len text.old + MOST_COMMAND_BYTES }
 {
     let command = game.send(side);
-    // There is room, so all is taken.
-    let _ = text.try_extend_from_slice(&command);
+    push(text, &command);
 }

@@ -1,12 +1,12 @@
-//! What is reported of a turn: that a refused `play` is retaken, and why a side is lost.
-ghost use Rattle.std.specs.Prelude.{◌≡◌, ◌+◌, ◌≤◌, ◌++◌, length, take};
-ghost use Rattle.arrayvec.specs.ArrayVec.{array_vec_len};
+//! What is reported of a turn: that a refused `play` is retaken, and why a side failed.
+ghost use Rattle.std.specs.Prelude.{◌≡◌, take};
 ghost use Rattle.gtp_match.specs.Losing.{most_shown};
 ghost use Rattle.twogtp.specs.Starts.{first_word, program_line};
-ghost use Rattle.twogtp.specs.Why.{only_lost, unstarted};
+ghost use Rattle.twogtp.specs.Why.{only_loss, unstarted};
 
-use crate::starter::StartReason;
+use crate::starter::{Ending, StartReason};
 use arrayvec::ArrayVec;
+use go_base::{Side, push};
 use gtp_match::{Loss, MOST_SHOWN, Owed, Retake};
 
 /// How a pipe cut a side off.
@@ -20,9 +20,9 @@ pub enum PipeCause {
     Ended,
 }
 
-/// Why a side was lost in a turn.
+/// Why a side failed in a turn.
 #[derive(Drop)]
-pub enum Lost {
+pub enum TurnLoss {
     /// Its program was not started.
     NotStarted(Unstarted),
     /// It was cut off, and owed this.
@@ -34,19 +34,30 @@ pub enum Lost {
 /// What is reported of a turn.
 #[derive(Drop)]
 pub struct TurnReport {
-    /// The refused `play` that is retaken, if any. This is no loss.
+    /// The refused `play` that is retaken, if any. By this no side fails.
     pub retake: Option<Retake>,
-    /// Why a side was lost, if one was: it goes down, is unfit or forfeits.
-    pub lost: Option<Lost>,
+    /// Why the side failed, if it did.
+    pub loss: Option<TurnLoss>,
 }
 
 impl TurnReport {
-    /// A side was lost for this, if at all, and nothing is retaken.
-    pub fn only_lost(lost: Option<Lost>) -> Self
-        ensures { result ≡ only_lost lost }
+    /// The side failed for this, if at all, and nothing is retaken.
+    pub fn only_loss(loss: Option<TurnLoss>) -> Self
+        ensures { result ≡ only_loss loss }
     {
-        TurnReport { retake: None, lost }
+        TurnReport { retake: None, loss }
     }
+}
+
+/// A turn of a side.
+#[derive(Drop)]
+pub struct SideTurn {
+    /// Whose turn it was.
+    pub side: Side,
+    /// What is reported of it.
+    pub report: TurnReport,
+    /// How the side's process ended, where the side is down after the turn.
+    pub ending: Ending,
 }
 
 /// The beginning of a program's name.
@@ -88,14 +99,6 @@ fn first_bytes(text: &[u8]) -> ProgramName
     ensures { result.items ≡ take most_shown text.now }
 {
     let mut bytes = ArrayVec::new();
-    append(&mut bytes, &text[..MOST_SHOWN.min(text.len())]);
+    push(&mut bytes, &text[..MOST_SHOWN.min(text.len())]);
     bytes
-}
-
-/// Appends bytes, for which there is room.
-fn append(bytes: &mut ProgramName, more: &[u8])
-    requires { array_vec_len bytes.old + length more.now ≤ MOST_SHOWN }
-    ensures { bytes.new.items ≡ bytes.old.items ++ more.now }
-{
-    let _ = bytes.try_extend_from_slice(more);
 }

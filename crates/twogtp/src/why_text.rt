@@ -7,15 +7,15 @@ ghost use Rattle.std.specs.Fmt.{decimal};
 ghost use Rattle.std.specs.List.{join_with_byte};
 ghost use Rattle.go_base.specs.Bytes.{space};
 ghost use Rattle.gtp_wire.specs.Commands.{IsWritable, words_of};
-ghost use Rattle.twogtp.specs.Why.{CanBeTold, reason_text, pipe_text, ending_text, rule_text, wrong_text, hex_digit};
+ghost use Rattle.twogtp.specs.Why.{LossCanBeShown, reason_text, pipe_text, ending_text, rule_text, wrong_text, hex_digit};
 ghost use Rattle.twogtp.specs.Why.{shown_byte, shown_bytes, quoted, unstarted_text, before_oldest, oldest_text};
-ghost use Rattle.twogtp.specs.Why.{owed_text, wrote_text, read_text, retake_text, lost_text, line_head, retake_line};
-ghost use Rattle.twogtp.specs.Why.{lost_line};
+ghost use Rattle.twogtp.specs.Why.{owed_text, wrote_text, read_text, retake_text, loss_text, line_head, retake_line};
+ghost use Rattle.twogtp.specs.Why.{loss_line};
 
 use crate::starter::{Ending, StartReason};
-use crate::why::{Lost, PipeCause, Unstarted};
+use crate::why::{PipeCause, TurnLoss, Unstarted};
 use arrayvec::ArrayVec;
-use go_base::{Side, write_int};
+use go_base::{Side, push, write_int};
 use go_board::PlayFault;
 use gtp_match::{LossCause, Owed, Retake, SentCommand, SideFault};
 use gtp_wire::{Command, CommandText, write_command};
@@ -37,13 +37,13 @@ pub fn retake_line(number: u32, side: Side, retake: &Retake) -> ReportLine
     line
 }
 
-/// The line of a game's side that was lost, whose process ended so, with its newline.
-pub fn lost_line(number: u32, side: Side, lost: &Lost, ending: Ending) -> ReportLine
-    requires { CanBeTold lost.now }
-    ensures { result.items ≡ lost_line number side lost.now ending }
+/// The line of a game's side that failed, whose process ended so, with its newline.
+pub fn loss_line(number: u32, side: Side, loss: &TurnLoss, ending: Ending) -> ReportLine
+    requires { LossCanBeShown loss.now }
+    ensures { result.items ≡ loss_line number side loss.now ending }
 {
     let mut line = begin_line(number, side);
-    push_lost(&mut line, lost, ending);
+    push_loss(&mut line, loss, ending);
     push(&mut line, b"\n");
     line
 }
@@ -76,22 +76,22 @@ fn push_retake(line: &mut ReportLine, retake: &Retake)
     push_wrote(line, &retake.owed.bytes);
 }
 
-/// Appends why a side was lost.
-fn push_lost(line: &mut ReportLine, lost: &Lost, ending: Ending)
+/// Appends why a side failed.
+fn push_loss(line: &mut ReportLine, loss: &TurnLoss, ending: Ending)
     requires room { array_vec_len line.old ≤ 32 }
-    requires told { CanBeTold lost.now }
-    ensures bytes { line.new.items ≡ line.old.items ++ lost_text lost.now ending }
+    requires shown { LossCanBeShown loss.now }
+    ensures bytes { line.new.items ≡ line.old.items ++ loss_text loss.now ending }
     ensures len { array_vec_len line.new ≤ array_vec_len line.old + 560 }
 {
-    match lost {
-        Lost::NotStarted(start) => push_unstarted(line, start),
-        Lost::CutOff(cause, owed) => {
+    match loss {
+        TurnLoss::NotStarted(start) => push_unstarted(line, start),
+        TurnLoss::CutOff(cause, owed) => {
             push_owed(line, owed);
             push(line, pipe_text(*cause));
             push_ending(line, ending);
             push_read(line, *cause, &owed.bytes);
         }
-        Lost::Wrote(loss) => {
+        TurnLoss::Wrote(loss) => {
             push_owed(line, &loss.owed);
             push(line, wrong_text(loss.cause));
             push_wrote(line, &loss.owed.bytes);
@@ -230,7 +230,7 @@ fn push_oldest(line: &mut ReportLine, number: u32, oldest: Option<SentCommand>)
     push(line, b"\"");
 }
 
-/// What stands before the oldest of this number of unanswered commands.
+/// What is before the oldest of this number of unanswered commands.
 fn before_oldest(number: u32) -> &'static [u8]
     ensures text { result.now ≡ before_oldest number }
     ensures few { length result.now ≤ 13 }
@@ -251,7 +251,7 @@ fn command_words(command: &Command) -> CommandText
     text
 }
 
-/// Appends what is told of the bytes of a side that a pipe cut off.
+/// Appends what is written of the bytes of a side that a pipe cut off.
 fn push_read(line: &mut ReportLine, cause: PipeCause, bytes: &[u8])
     requires few { length bytes.now ≤ most_shown }
     requires room { array_vec_len line.old ≤ 250 }
@@ -338,16 +338,6 @@ fn push_number(line: &mut ReportLine, number: u32)
     ensures len { array_vec_len line.new ≤ array_vec_len line.old + 10 }
 {
     push(line, &write_int(number));
-}
-
-/// Appends bytes.
-fn push(line: &mut ReportLine, bytes: &[u8])
-    requires { array_vec_len line.old + length bytes.now ≤ LINE_ROOM }
-    ensures bytes { line.new.items ≡ line.old.items ++ bytes.now }
-    ensures len { array_vec_len line.new ≡ array_vec_len line.old + length bytes.now }
-{
-    // There is room, so all is taken.
-    let _ = line.try_extend_from_slice(bytes);
 }
 
 /// A line that has these bytes, as they are shown, and nothing else.

@@ -2,13 +2,13 @@
 use super::fakes::Full;
 use super::runs::{assert_refused, run_between, run_with};
 use crate::equal::{assert_equal, assert_true_for};
-use crate::failure::{Failure, tell};
+use crate::failure::{Failure, PlanError};
 use std::io::ErrorKind;
 use std::str;
 use std::test::Fail;
 
 #[test]
-fn mistakes_in_the_words_are_told_in_their_order(rt: HostRuntime) -> Result<(), Fail> {
+fn mistakes_in_the_words_are_reported_in_their_order(rt: HostRuntime) -> Result<(), Fail> {
     let handicap = ["--size", "6", "--handicap", "2"];
     let cases: [(&str, &str, &[&str], &str); 6] = [
         ("", "gtp_engine", &[], "twogtp: no command for black\n"),
@@ -68,39 +68,46 @@ fn mistakes_of_the_command_line_come_first(rt: HostRuntime) -> Result<(), Fail> 
     for (option, number, limits) in numbers {
         let ran = run_between(rt.alloc(), ("", "y"), [option, number].as_slice())?;
         assert_refused(&rt, &ran, "error: invalid value ")?;
-        let told = str::from_utf8(ran.errors.as_slice())?;
-        assert_true_for(&rt, told, told.contains(option) && told.contains(limits));
+        let text = str::from_utf8(ran.errors.as_slice())?;
+        assert_true_for(&rt, text, text.contains(option) && text.contains(limits));
     }
     Ok(())
 }
 
 #[test]
-fn each_failure_is_told_in_a_line(rt: HostRuntime) -> Result<(), Fail> {
+fn each_failure_is_reported_in_a_line(rt: HostRuntime) -> Result<(), Fail> {
     let cases = [
-        (Failure::Write, "twogtp: write fault\n", 3),
-        (Failure::OutOfMemory, "twogtp: out of memory\n", 3),
-        (Failure::TooManyTurns, "twogtp: too many turns\n", 3),
+        (Failure::Write, "twogtp: write fault\n"),
+        (Failure::OutOfMemory, "twogtp: out of memory\n"),
+        (Failure::TooManyTurns, "twogtp: too many turns\n"),
         (
             Failure::NoNullDevice,
             "twogtp: a standard stream is closed, and /dev/null can't be opened\n",
-            3,
-        ),
-        (
-            Failure::of_arguments(ErrorKind::InvalidData),
-            "twogtp: bad argument\n",
-            2,
-        ),
-        (
-            Failure::of_arguments(ErrorKind::OutOfMemory),
-            "twogtp: out of memory\n",
-            3,
         ),
     ];
-    for (failure, text, status) in cases {
+    for (failure, text) in cases {
         let mut errors = Vec::new(rt.alloc());
-        assert_equal(&rt, tell(failure, &mut errors), status);
+        assert_equal(&rt, failure.report(&mut errors), 3);
         assert_equal(&rt, errors.as_slice(), text.as_bytes());
-        assert_equal(&rt, tell(failure, &mut Full), status);
+        assert_equal(&rt, failure.report(&mut Full), 3);
+    }
+    Ok(())
+}
+
+#[test]
+fn arguments_that_are_not_collected_are_a_mistake_or_want_of_memory(
+    rt: HostRuntime,
+) -> Result<(), Fail> {
+    let cases = [
+        (ErrorKind::InvalidData, "twogtp: bad argument\n", 2),
+        (ErrorKind::OutOfMemory, "twogtp: out of memory\n", 3),
+    ];
+    for (kind, text, status) in cases {
+        let error = PlanError::of_arguments(kind);
+        let mut errors = Vec::new(rt.alloc());
+        assert_equal(&rt, error.report(&mut errors), status);
+        assert_equal(&rt, errors.as_slice(), text.as_bytes());
+        assert_equal(&rt, error.report(&mut Full), status);
     }
     Ok(())
 }

@@ -1,4 +1,4 @@
-//! Why a side is lost, as it is told on standard error.
+//! Why a side failed, as it is reported on standard error.
 use super::fakes::{Full, Talk, new_log};
 use super::runs::{Ran, narrow, run_between, run_into};
 use crate::equal::{assert_equal, assert_equal_for, assert_true_for};
@@ -14,82 +14,82 @@ pub fn play(alloc: Global, black: &str, white: &str, games: &str) -> Result<Ran,
     run_between(alloc, (black, white), more.as_slice())
 }
 
+/// Engines that fail in their first game, each with what its line says of it.
+static LOSSES: [(&str, &str); 15] = [
+    (
+        "no_such_program",
+        "not started: no such file: \"no_such_program\"\n",
+    ),
+    (
+        "  a\"b\\\t\x01 no_such_program",
+        "not started: no such file: \"a\\\"b\\\\\\t\\x01\"\n",
+    ),
+    (
+        // The 80th byte of the name is the first one of two.
+        "0123456789012345678901234567890123456789012345678901234567890123456789012345678\u{e4} x",
+        "not started: no such file: \"0123456789012345678901234567890123456789012345678901234567890123456789012345678\\xC3\"\n",
+    ),
+    (
+        "stops =1",
+        "3 unanswered, the first \"1 boardsize 5\": reading failed, exit status 7; it wrote \"=1\"\n",
+    ),
+    (
+        "stops =1\n\n",
+        "2 unanswered, the first \"2 komi 6.5\": reading failed, exit status 7; nothing of it was read\n",
+    ),
+    (
+        "stops =1\n\n=2\n\n=3\n\n=",
+        "1 unanswered, \"4 genmove b\": writing failed, exit status 7; it wrote \"=\"\n",
+    ),
+    (
+        "stops =1\n\n=2\n\n=3\n\n",
+        "1 unanswered, \"4 genmove b\": writing failed, exit status 7; nothing of it was read\n",
+    ),
+    (
+        "says =1\n\n=2\n\n=3\n\n",
+        "1 unanswered, \"4 genmove b\": its output ended, exit status 7; it wrote \"\"\n",
+    ),
+    (
+        "says =1\n\n=2\n\n=3\n\n=4\n\n",
+        "0 unanswered: a reply to nothing that was asked; it wrote \"=4\\n\\n\"\n",
+    ),
+    (
+        "says",
+        "3 unanswered, the first \"1 boardsize 5\": its output ended, exit status 7; it wrote \"\"\n",
+    ),
+    (
+        "mute",
+        "3 unanswered, the first \"1 boardsize 5\": reading failed, exit status 7; nothing of it was read\n",
+    ),
+    (
+        "broken",
+        "3 unanswered, the first \"1 boardsize 5\": writing failed, exit status 7; nothing of it was read\n",
+    ),
+    (
+        "says hello",
+        "3 unanswered, the first \"1 boardsize 5\": not a GTP reply (it begins with neither = nor ?); \
+            it wrote \"hello\"\n",
+    ),
+    (
+        "says =1",
+        "3 unanswered, the first \"1 boardsize 5\": its output ended, exit status 7; it wrote \"=1\"\n",
+    ),
+    (
+        "refuses",
+        "3 unanswered, the first \"1 boardsize 5\": unfit: the command failed, or was answered wrongly; \
+            it wrote \"?1 no\\n\\n\"\n",
+    ),
+];
+
 #[test]
-fn each_loss_is_told_in_a_line(rt: HostRuntime) -> Result<(), Fail> {
-    // The 80th byte of the name is the first one of two.
-    let long =
-        "0123456789012345678901234567890123456789012345678901234567890123456789012345678\u{e4} x";
-    let cases = [
-        (
-            "no_such_program",
-            "not started: no such file: \"no_such_program\"\n",
-        ),
-        (
-            "  a\"b\\\t\x01 no_such_program",
-            "not started: no such file: \"a\\\"b\\\\\\t\\x01\"\n",
-        ),
-        (
-            long,
-            "not started: no such file: \"0123456789012345678901234567890123456789012345678901234567890123456789012345678\\xC3\"\n",
-        ),
-        (
-            "stops =1",
-            "3 unanswered, the first \"1 boardsize 5\": reading failed, exit status 7; it wrote \"=1\"\n",
-        ),
-        (
-            "stops =1\n\n",
-            "2 unanswered, the first \"2 komi 6.5\": reading failed, exit status 7; nothing of it was read\n",
-        ),
-        (
-            "stops =1\n\n=2\n\n=3\n\n=",
-            "1 unanswered, \"4 genmove b\": writing failed, exit status 7; it wrote \"=\"\n",
-        ),
-        (
-            "stops =1\n\n=2\n\n=3\n\n",
-            "1 unanswered, \"4 genmove b\": writing failed, exit status 7; nothing of it was read\n",
-        ),
-        (
-            "says =1\n\n=2\n\n=3\n\n",
-            "1 unanswered, \"4 genmove b\": its output ended, exit status 7; it wrote \"\"\n",
-        ),
-        (
-            "says =1\n\n=2\n\n=3\n\n=4\n\n",
-            "0 unanswered: a reply to nothing that was asked; it wrote \"=4\\n\\n\"\n",
-        ),
-        (
-            "says",
-            "3 unanswered, the first \"1 boardsize 5\": its output ended, exit status 7; it wrote \"\"\n",
-        ),
-        (
-            "mute",
-            "3 unanswered, the first \"1 boardsize 5\": reading failed, exit status 7; nothing of it was read\n",
-        ),
-        (
-            "broken",
-            "3 unanswered, the first \"1 boardsize 5\": writing failed, exit status 7; nothing of it was read\n",
-        ),
-        (
-            "says hello",
-            "3 unanswered, the first \"1 boardsize 5\": not a GTP reply (it begins with neither = nor ?); \
-                it wrote \"hello\"\n",
-        ),
-        (
-            "says =1",
-            "3 unanswered, the first \"1 boardsize 5\": its output ended, exit status 7; it wrote \"=1\"\n",
-        ),
-        (
-            "refuses",
-            "3 unanswered, the first \"1 boardsize 5\": unfit: the command failed, or was answered wrongly; \
-                it wrote \"?1 no\\n\\n\"\n",
-        ),
-    ];
-    for (engine, line) in cases {
+fn each_loss_is_reported_in_a_line(rt: HostRuntime) -> Result<(), Fail> {
+    for (engine, line) in LOSSES {
         let ran = play(rt.alloc(), engine, "gtp_engine", "1")?;
-        let told = str::from_utf8(ran.errors.as_slice())?;
+        let reported = str::from_utf8(ran.errors.as_slice())?;
         assert_equal_for(
             &rt,
             engine,
-            told.strip_prefix("twogtp: game 1: black: "),
+            reported.strip_prefix("twogtp: game 1: black: "),
             Some(line),
         );
     }
@@ -97,7 +97,7 @@ fn each_loss_is_told_in_a_line(rt: HostRuntime) -> Result<(), Fail> {
 }
 
 #[test]
-fn each_game_is_told_by_its_number_and_its_side(rt: HostRuntime) -> Result<(), Fail> {
+fn each_game_is_reported_by_its_number_and_its_side(rt: HostRuntime) -> Result<(), Fail> {
     let ran = play(rt.alloc(), "gtp_engine", "no_such_program", "2")?;
     assert_equal(&rt, ran.status, 1);
     assert_equal(
@@ -156,7 +156,7 @@ fn each_line_is_flushed_before_the_next_start(rt: HostRuntime) -> Result<(), Fai
                 nothing of it was read\n";
     let len = line.len();
     assert_equal(&rt, status, 1);
-    // Black is started three times, and lost each time. One line tells of each loss, and is flushed by itself.
+    // Black is started three times, and fails each time. Each has its line, which is flushed by itself.
     assert_equal(&rt, log.started.get(), 4);
     assert_equal(
         &rt,
@@ -164,8 +164,12 @@ fn each_line_is_flushed_before_the_next_start(rt: HostRuntime) -> Result<(), Fai
         [len, 2 * len, 3 * len].as_slice(),
     );
     let text = str::from_utf8(errors.taken.as_slice())?;
-    assert_true_for(&rt, text, text.lines().all(|told| told == line.trim_end()));
-    // Both are started before anything is told, Black again behind the first line, and behind the second one.
+    assert_true_for(
+        &rt,
+        text,
+        text.lines().all(|written| written == line.trim_end()),
+    );
+    // Both are started before anything is written, Black again after the first line, and after the second one.
     assert_equal(&rt, log.flushed_by_starts.get(), len + 2 * len);
     Ok(())
 }

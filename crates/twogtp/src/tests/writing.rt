@@ -27,8 +27,8 @@ fn an_output_that_breaks_ends_the_program(rt: HostRuntime) -> Result<(), Fail> {
     Ok(())
 }
 
-/// Plays games on the smallest board, and tells them to an output with this room. It returns the status and the output,
-/// in whose log stands what was done with the engines.
+/// Plays games on the smallest board, and writes them to an output with this room. It returns the status and the output,
+/// whose log has what was done with the engines.
 fn play_into(alloc: Global, games: &str, room: usize) -> Result<(u8, Narrow), Fail> {
     let words = [
         "twogtp", "--black", FIRST, "--white", FIRST, "--size", "1", "--games", games,
@@ -43,7 +43,7 @@ fn play_into(alloc: Global, games: &str, room: usize) -> Result<(u8, Narrow), Fa
 #[test]
 fn what_goes_out_before_a_write_fault_is_a_beginning(rt: HostRuntime) -> Result<(), Fail> {
     let whole = "game 1: W+6.5 moves 2 restarts 0 0\ngame 2: W+6.5 moves 2 restarts 0 0\n";
-    for (room, told) in [(1, 0), (34, 0), (35, 1), (36, 1), (69, 1)] {
+    for (room, whole_games) in [(1, 0), (34, 0), (35, 1), (36, 1), (69, 1)] {
         let (status, output) = play_into(rt.alloc(), "2", room)?;
         assert_equal(&rt, status, 3);
         assert_equal(&rt, output.taken.len(), room);
@@ -52,10 +52,10 @@ fn what_goes_out_before_a_write_fault_is_a_beginning(rt: HostRuntime) -> Result<
             room,
             whole.as_bytes().starts_with(output.taken.as_slice()),
         );
-        // All engines were ended, and those of the games that are told whole, and no others, after `quit`.
-        assert_equal_for(&rt, room, output.log.started.get(), 2 * (told + 1));
-        assert_equal_for(&rt, room, output.log.ended.get(), 2 * (told + 1));
-        assert_equal_for(&rt, room, output.log.quits.get(), 2 * told);
+        // All engines were ended, and those of the games that are written whole, and no others, after `quit`.
+        assert_equal_for(&rt, room, output.log.started.get(), 2 * (whole_games + 1));
+        assert_equal_for(&rt, room, output.log.ended.get(), 2 * (whole_games + 1));
+        assert_equal_for(&rt, room, output.log.quits.get(), 2 * whole_games);
     }
     Ok(())
 }

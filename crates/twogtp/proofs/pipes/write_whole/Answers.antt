@@ -3,7 +3,7 @@ use Rattle.std.proofs.lemmas.Result.{err_from_is_err_and}
 use Rattle.std.proofs.KnownBytes.{Appends-nil, Keeps-refl, Keeps-trans}
 use Rattle.twogtp.specs.Pipes.{untouched}
 use Rattle.twogtp.proofs.PipeLemmas.{cut_off-last, cut_off-then, unbroken-last, unbroken-then}
-use Rattle.twogtp.proofs.TellingLemmas.{tail-some, tail-within, Appends-take, TakesPart-kept, TakesPart-more}
+use Rattle.twogtp.proofs.WritingLemmas.{tail-some, tail-within, Appends-take, TakesPart-kept, TakesPart-more}
 use Rattle.twogtp.proofs.pipes.write_whole.Goals as goal
 
 pub loop-done-init : goal.loop-done-init

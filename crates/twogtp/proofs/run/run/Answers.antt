@@ -1,9 +1,10 @@
 use Rattle.std.proofs.Common.{◌≡◌, ◌⊎◌, ◌∙◌, ℕ, Result, Ok, Err, inl, inr, arith, refl, subst}
 use Rattle.std.specs.Prelude.{string_bytes}
 use Rattle.std.specs.Result.{IsOkAnd}
-use Rattle.twogtp.specs.declared.failure.Failure.{Failure}
-use Rattle.twogtp.specs.Status.{TellsFailure, done, own_failure, some_given_up, usage_failure}
-use Rattle.twogtp.proofs.PlanLemmas.{mistake_is_usage}
+use Rattle.twogtp.specs.Status.{ReportsFailure, done, own_failure, some_given_up, usage_failure}
+use Rattle.twogtp.specs.declared.failure.PlanError.{PlanError}
+use Rattle.twogtp.specs.declared.failure.PlanError.TheVariants.{BadWords, OutOfMemory}
+use Rattle.twogtp.proofs.WritingLemmas.{games_are_quiet, status_range}
 use Rattle.twogtp.proofs.run.run.Goals as goal
 
 -- what is returned in place of options has no status of games
@@ -35,7 +36,7 @@ returns-in-Err-clause-quiet g c = λ range none. elim range [
 pub returns-in-Err-clause-usage : goal.returns-in-Err-clause-usage
 returns-in-Err-clause-usage g c = λ two.
     let is = c.kind.ensures in
-    let told = value_of c.to_string.result _ (c.answer_error.ensures.told two) in (
+    let text = value_of c.to_string.result _ (c.answer_error.ensures.written two) in (
       inl (record {
         kind = c.kind.result;
         mistake = c.answer_error.ensures.mistake two;
@@ -43,8 +44,8 @@ returns-in-Err-clause-usage g c = λ two.
           | inl refused ↦ let three = c.answer_error.ensures.memory (is ∙ refused) in absurd (omega (arith, two, three))
           | inr among ↦ rw is among
         ];
-        text = string_bytes told.0;
-        told = told.1;
+        text = string_bytes text.0;
+        written = text.1;
       }),
       c.answer_error.ensures.usage two,
       refl,
@@ -98,55 +99,49 @@ returns-in-Err-clause-stopped g c = λ three.
       ))
     ]
 
-pub returns-in-Err-plan_of-clause-stopped : goal.returns-in-Err-plan_of-clause-stopped
-returns-in-Err-plan_of-clause-stopped g c = λ three. elim c.in-Err-plan_of.ensures.failure [
-  | inl refused ↦ inl (
-    refl,
-    refl,
-    subst (λ (failure : Failure). TellsFailure g.E.Output failure c.args.errors.now c.tell.new.errors) refused
-        c.tell.ensures.told,
-  )
-  | inr mistake ↦
-      let two = c.tell.ensures.status ∙ mistake_is_usage c.in-Ok.options c.in-Err-plan_of.failure mistake in
-      absurd (omega (arith, two, three))
-]
-
+-- The status of games is 0 or 1.
 pub returns-in-Ok-play_games-clause-status : goal.returns-in-Ok-play_games-clause-status
-returns-in-Ok-play_games-clause-status g c = elim c.in-Ok-play_games.ensures.range
+returns-in-Ok-play_games-clause-status g c =
+    elim (status_range g.S.Process.Process g.O.Output g.E.Output _ _ _ _ _ _ _ c.in-Ok-play_games.ensures)
     [ inl e ↦ inl e | inr e ↦ inr (inl e) ]
 
 pub returns-in-Ok-play_games-clause-usage : goal.returns-in-Ok-play_games-clause-usage
 returns-in-Ok-play_games-clause-usage g c = λ two. absurd
-    (elim c.in-Ok-play_games.ensures.range [ inl e ↦ omega arith | inr e ↦ omega arith ])
+    (elim (status_range g.S.Process.Process g.O.Output g.E.Output _ _ _ _ _ _ _ c.in-Ok-play_games.ensures)
+    [ inl e ↦ omega (arith, e, two) | inr e ↦ omega (arith, e, two) ])
+
+pub returns-in-Ok-play_games-clause-stopped : goal.returns-in-Ok-play_games-clause-stopped
+returns-in-Ok-play_games-clause-stopped g c = λ three. absurd
+    (elim (status_range g.S.Process.Process g.O.Output g.E.Output _ _ _ _ _ _ _ c.in-Ok-play_games.ensures)
+    [ inl e ↦ omega (arith, e, three) | inr e ↦ omega (arith, e, three) ])
 
 pub returns-in-Ok-play_games-clause-quiet : goal.returns-in-Ok-play_games-clause-quiet
 returns-in-Ok-play_games-clause-quiet g c = λ range none.
-    c.play_games.ensures.quiet (c.in-Ok-plan_of.ensures.plan.games.why_flag ∙ none c.in-Ok.options
-    c.in-Ok.ensures.asked)
+    games_are_quiet g.S.Process.Process g.O.Output g.E.Output c.in-Ok-plan_of.plan
+    (c.in-Ok-plan_of.ensures.plan.games.why_flag ∙ none c.in-Ok.options c.in-Ok.ensures.asked)
+    _ _ _ _ _ _ c.in-Ok-play_games.ensures
 
 pub returns-in-Ok-play_games-clause-played : goal.returns-in-Ok-play_games-clause-played
 returns-in-Ok-play_games-clause-played g c = λ range. inr (record {
-  task = c.in-Ok-plan_of.plan.task;
+  plan = c.in-Ok-plan_of.plan;
   asks = record {
     options = c.in-Ok.options;
     asked = c.in-Ok.ensures.asked;
-    commands = c.in-Ok-plan_of.plan.commands;
-    plan = c.in-Ok-plan_of.ensures.plan;
+    come_to = c.in-Ok-plan_of.ensures.plan;
   };
-  told = c.in-Ok-play_games.ensures.told;
+  written = c.in-Ok-play_games.ensures;
 })
 
 pub returns-clause-stopped : goal.returns-clause-stopped
 returns-clause-stopped g c = λ three. inr (inr (record {
-  task = c.in-Ok-plan_of.plan.task;
+  plan = c.in-Ok-plan_of.plan;
   asks = record {
     options = c.in-Ok.options;
     asked = c.in-Ok.ensures.asked;
-    commands = c.in-Ok-plan_of.plan.commands;
-    plan = c.in-Ok-plan_of.ensures.plan;
+    come_to = c.in-Ok-plan_of.ensures.plan;
   };
-  losses = c.play_games.new.errors;
+  lines = c.play_games.new.errors;
   failure = c.in-Err-play_games.failure;
-  begun = c.in-Err-play_games.ensures.begun;
-  told = c.tell-in-Err-play_games.ensures.told;
+  stopped = c.in-Err-play_games.ensures;
+  reported = c.report-in-Err-play_games.ensures.written;
 }))

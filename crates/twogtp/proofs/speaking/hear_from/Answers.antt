@@ -11,9 +11,9 @@ returns-in-Ok-clause-heard g c =
     (c.in-Ok.ensures.unbroken (grind (arith, c.in-Ok.count-is))) c.in-Ok.ensures.taken
 
 pub returns-in-Ok-eq0-clause-heard : goal.returns-in-Ok-eq0-clause-heard
-returns-in-Ok-eq0-clause-heard g c = rw c.report_loss.ensures.lost (rw c.report_loss.ensures.report
+returns-in-Ok-eq0-clause-heard g c = rw c.cut_off.ensures.lost (rw c.cut_off.ensures.report
     (ended (c.in-Ok-eq0.ensures.ended (search rules) (search rules)) (search rules) c.in-Ok-eq0.ensures.taken))
 
 pub returns-in-Err-clause-heard : goal.returns-in-Err-clause-heard
-returns-in-Err-clause-heard g c = rw c.report_loss-in-Err.ensures.lost (rw c.report_loss-in-Err.ensures.report
+returns-in-Err-clause-heard g c = rw c.cut_off-in-Err.ensures.lost (rw c.cut_off-in-Err.ensures.report
     (broke c.in-Err.ensures.failed (search rules) c.in-Err.ensures.taken))

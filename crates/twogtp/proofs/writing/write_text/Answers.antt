@@ -2,8 +2,8 @@ use Rattle.std.proofs.Common.{arith}
 use Rattle.std.proofs.lemmas.Result.{err_from_is_err_and}
 use Rattle.std.proofs.KnownBytes.{Appends-nil}
 use Rattle.twogtp.specs.Writing.{no_call, one_more}
-use Rattle.twogtp.proofs.TellingLemmas.{tail-some, tail-within, Appends-take, TakesPart-kept, TakesPart-more}
-use Rattle.twogtp.proofs.TellingLemmas.{flush_breaks, flush_goes_out}
+use Rattle.twogtp.proofs.WritingLemmas.{tail-some, tail-within, Appends-take, TakesPart-kept, TakesPart-more}
+use Rattle.twogtp.proofs.WritingLemmas.{flush_breaks, flush_goes_out}
 use Rattle.twogtp.proofs.writing.write_text.Goals as goal
 
 pub loop-done-init : goal.loop-done-init
