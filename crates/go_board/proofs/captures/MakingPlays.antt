@@ -28,8 +28,7 @@ use Rattle.go_board.proofs.captures.CapturedStones.{IsFramed-without_captured}
 use Rattle.go_board.proofs.ids.Paths.{Joined-then, Joined-same, Joined-back, Joined-set, IsStone-point, AreLocalIds}
 use Rattle.go_board.proofs.ids.Paths.{IsLess, AreLocalIds-of, AreLocalIds-less, AreChainIds-steps}
 use Rattle.go_board.proofs.ids.JoiningChains.{IsOfThree, first, second, third, none, of_three, rename_three-to}
-use Rattle.go_board.proofs.ids.JoiningChains.{rename_three-a}
-use Rattle.go_board.proofs.ids.JoiningChains.{rename_three-b, rename_three-third}
+use Rattle.go_board.proofs.ids.JoiningChains.{rename_three-a, rename_three-b, rename_three-third}
 use Rattle.go_board.proofs.liberties.PseudoLiberties.{free-count, captured-other, captured-beside}
 use Rattle.go_board.proofs.captures.RemovingLoop.{places-more}
 use Rattle.go_board.proofs.boards.Neighbours.{IsOn-inside, all_beside}

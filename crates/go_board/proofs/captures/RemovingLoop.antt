@@ -2,7 +2,7 @@
 use Rattle.std.proofs.Common.{◌≡◌, ℕ, zero, suc, ◌+◌, ◌<◌, ◌≤◌, List, [], ◌∷◌, ◌++◌, length, refl, sym, ◌∙◌, ap, subst}
 use Rattle.std.proofs.Common.{arith, inl, inr, Bool, true, false, cond, get_or-set_other, get_or-set_same, append_assoc}
 use Rattle.std.proofs.Common.{add-one, length-append}
-use Rattle.std.specs.Prelude.{◌⊎◌, ◌≢◌, count_by, filter}
+use Rattle.std.specs.Prelude.{◌≢◌, count_by, filter}
 use Rattle.std.specs.List.{range_with_len}
 use Rattle.std.proofs.Math.ListN.{set, length-set}
 use Rattle.std.proofs.lemmas.List.{map-id, length-map, append-nil}

@@ -4,8 +4,7 @@ use Rattle.go_board.specs.Play.{without_captured, captured_count}
 use Rattle.go_board.specs.private.ChainId.{BoardWithIds, AreChains}
 use Rattle.go_board.specs.private.TakenStack.{captured_places, taken_at, AreNoneCaptured, HaveCapturedId}
 use Rattle.go_board.proofs.captures.MakingPlays.{play-none, captures-none, places-empty, told, HaveCapturedId-code}
-use Rattle.go_board.proofs.captures.MakingPlays.{play-code, captures-code}
-use Rattle.go_board.proofs.captures.MakingPlays.{places-code, AreChains-play}
+use Rattle.go_board.proofs.captures.MakingPlays.{play-code, captures-code, places-code, AreChains-play}
 use Rattle.go_board.proofs.chains.Chains.make_play.Goals as goal
 
 pub returns-in_default-clause-board : goal.returns-in_default-clause-board
