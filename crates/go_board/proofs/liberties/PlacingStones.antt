@@ -44,8 +44,8 @@ has_other_liberty-test board ids p q id beside counted chains empty s is b e =
     lt-test beside counted (ids_beside board ids k p) (pseudo_liberties board ids k)
     (b ∙ ap (λ (l : ℕ). ids_beside board ids l p) is)
     (e ∙ ap (pseudo_liberties board ids) is) in
-    let told = other-count board ids p q chains.framed chains.ids empty s in
-    (λ h. told.0 (test.0 h), λ h. test.1 (told.1 h))
+    let known = other-count board ids p q chains.framed chains.ids empty s in
+    (λ h. known.0 (test.0 h), λ h. test.1 (known.1 h))
 
 -- whether the stone on a place has an id
 ids_at-stone : (board : List Cell) (ids : List ℕ) (k p : ℕ) → is_stone (at board p) ≡ true
