@@ -21,7 +21,7 @@ fn new_game(rt: &impl Abort, lines: u32) -> Game {
     Game::new(size, komi)
 }
 
-/// The same under a ko rule.
+/// A game under this ko rule, on a board of `lines` lines each way, with no komi.
 fn new_game_under(rt: &impl Abort, lines: u32, rule: KoRule) -> Game {
     let size = some(rt, Size::new(lines));
     let komi = some(rt, Komi::from_half_points(0));

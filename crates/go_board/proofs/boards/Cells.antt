@@ -1,6 +1,6 @@
 -- Places and their stones.
-use Rattle.std.proofs.Common.{◌≡◌, ℕ, List, sym, ◌∙◌, subst, arith, inl, inr, get_or-set_other}
-use Rattle.std.specs.Prelude.{◌⊎◌, ◌≢◌}
+use Rattle.std.proofs.Common.{◌≡◌, ℕ, List, sym, ◌∙◌, subst, inl, inr, get_or-set_other}
+use Rattle.std.specs.Prelude.{◌≢◌}
 use Rattle.std.proofs.Math.ListN.{set, length-set}
 use Rattle.go_base.specs.Colour.{other}
 use Rattle.go_base.specs.Point.{IsOn}
@@ -9,7 +9,6 @@ use Rattle.go_base.specs.declared.colours.Colour.{Colour}
 use Rattle.go_base.specs.declared.colours.Colour.TheVariants as colour
 use Rattle.go_board.specs.Board.{at, stone}
 use Rattle.go_board.specs.private.Frame.{IsFramed}
-use Rattle.go_board.specs.Chain.{itself, HasBeside, IsFree}
 use Rattle.go_board.specs.declared.board.Cell.{Cell}
 use Rattle.go_board.specs.declared.board.Cell.TheVariants.{Edge, Empty}
 use Rattle.std.proofs.lemmas.Bool.{cases_eq}

@@ -1,18 +1,11 @@
 -- The board before the first move.
-use Rattle.std.proofs.Common.{◌≡◌, ℕ, ◌+◌, ◌<◌, List, [], length, take, get_or, refl, sym, ◌∙◌, ap, subst, inl, inr}
-use Rattle.std.proofs.Common.{slice_set, All}
-use Rattle.std.specs.Prelude.{◌⊎◌, ◌≢◌}
-use Rattle.std.proofs.Math.ListN.{set, length-set}
-use Rattle.std.proofs.lemmas.List.Sums.{fold_more}
-use Rattle.go_base.specs.Point.{IsOn}
-use Rattle.go_base.specs.Size.{most_size}
+use Rattle.std.proofs.Common.{◌≡◌, ℕ, List, length, refl, sym, ◌∙◌, ap, inl, inr}
+use Rattle.std.specs.Prelude.{◌⊎◌}
 use Rattle.go_base.specs.Handicap.{handicap_points, AllowsHandicap}
-use Rattle.go_board.specs.Board.{at, empty_board, with_black}
-use Rattle.go_board.specs.private.Frame.{IsFramed, SameEdge}
+use Rattle.go_board.specs.Board.{empty_board, with_black}
+use Rattle.go_board.specs.private.Frame.{SameEdge}
 use Rattle.go_board.specs.Game.{start}
 use Rattle.go_board.specs.declared.board.Cell.{Cell}
-use Rattle.go_board.specs.declared.board.Cell.TheVariants.{Edge, Black}
-use Rattle.go_board.proofs.captures.CapturedStones.{SameEdge-set, SameEdge-trans}
 
 -- the board has black stones on these points
 pub record IsAdding (board : List Cell) (points : List ℕ) (cells : List Cell) : Type 0 where

@@ -1,5 +1,5 @@
 -- Neighbours of a point, and the places of the points of the largest board.
-use Rattle.std.proofs.Common.{◌≡◌, ℕ, ◌+◌, ◌-◌, ◌<◌, ◌≤◌, sym, subst, refl, arith, inl, inr}
+use Rattle.std.proofs.Common.{◌≡◌, ℕ, ◌+◌, ◌-◌, ◌<◌, ◌≤◌, sym, subst, arith, inl, inr}
 use Rattle.std.specs.Prelude.{◌≢◌}
 use Rattle.go_base.specs.Point.{Neighbours, IsOn}
 use Rattle.go_base.specs.Size.{most_size}

@@ -1,9 +1,9 @@
 -- Removing the stones without a liberty, place by place.
-use Rattle.std.proofs.Common.{◌≡◌, ℕ, ◌+◌, ◌<◌, ◌≤◌, List, length, refl, sym, ◌∙◌, ap, subst, arith, inl, inr, Bool}
-use Rattle.std.proofs.Common.{true, false, cond, get_or-set_other, get_or-set_same, Contains}
-use Rattle.std.specs.Prelude.{◌⊎◌, ◌≢◌, count_by, map}
+use Rattle.std.proofs.Common.{◌≡◌, ℕ, ◌+◌, ◌<◌, ◌≤◌, List, length, refl, sym, ◌∙◌, ap, arith, inl, inr, Bool}
+use Rattle.std.proofs.Common.{true, false, cond, get_or-set_other, get_or-set_same}
+use Rattle.std.specs.Prelude.{◌≢◌, count_by, map}
 use Rattle.std.specs.List.{range_with_len}
-use Rattle.std.proofs.Math.ListN.{set, length-set}
+use Rattle.std.proofs.Math.ListN.{set}
 use Rattle.std.proofs.lemmas.List.{map-id, get_or_past}
 use Rattle.std.proofs.lemmas.List.FromFn.{fill_by_all, sum_by-map-range_with_len_more, get_or-map-range_with_len}
 use Rattle.std.proofs.lemmas.List.FromFn.{length-map-range_with_len}
@@ -12,8 +12,6 @@ use Rattle.go_base.specs.declared.colours.Colour.{Colour}
 use Rattle.go_board.specs.Board.{at, stone}
 use Rattle.go_board.specs.private.Frame.{IsFramed, HasSize, SameEdge}
 use Rattle.go_base.specs.Decide.{holds}
-use Rattle.go_board.specs.private.Flood.{AreTouching}
-use Rattle.go_board.specs.Chain.{IsCaptured}
 use Rattle.go_board.specs.decisions.Chain.{captured?}
 use Rattle.go_board.specs.Play.{is_captured, left_at, without_captured, captured_count, play}
 use Rattle.go_board.specs.declared.board.Cell.{Cell}

@@ -8,7 +8,7 @@ use Rattle.go_base.specs.Point.{Neighbours, IsOn}
 use Rattle.go_base.specs.declared.colours.Colour.{Colour}
 use Rattle.go_base.specs.declared.colours.Colour.TheVariants as colour
 use Rattle.go_board.specs.Board.{at, stone, is_point, empty_board, IsStone}
-use Rattle.go_board.specs.Chain.{Joined, itself, by_way_of, HasBeside, IsFree, IsCaptured}
+use Rattle.go_board.specs.Chain.{Joined, itself, by_way_of, HasBeside, IsFree}
 use Rattle.go_board.specs.decisions.Chain.{touches?}
 use Rattle.go_board.specs.Play.{play}
 use Rattle.go_board.specs.private.ChainId.{AreFree}
@@ -17,12 +17,11 @@ use Rattle.std.proofs.lemmas.List.{get_or_past}
 use Rattle.go_board.specs.private.Legal.{TakesAny, ReachesLiberty}
 use Rattle.go_board.specs.declared.board.Cell.{Cell}
 use Rattle.go_board.specs.declared.board.Cell.TheVariants.{Edge, Empty}
-use Rattle.go_board.proofs.boards.Cells.{stone-point, stone-filled, stone-differs}
+use Rattle.go_board.proofs.boards.Cells.{stone-point, stone-filled, stone-differs, empty-point}
 use Rattle.go_board.proofs.captures.CapturedStones.{at-play}
 use Rattle.go_board.proofs.ids.Paths.{Joined-then, Joined-same, Joined-back, Joined-kept, set-same}
 use Rattle.go_board.proofs.ko_rules.PlaysTakenBack.{IsAfter, taken, left, after-play, empty-after, taken-empty}
 use Rattle.go_board.proofs.liberties.PseudoLiberties.{captured-other, captured-beside}
-use Rattle.go_board.proofs.boards.Cells.{empty-point}
 use Rattle.go_board.proofs.captures.MakingPlays.{captured-joined}
 use Rattle.std.proofs.lemmas.Bool.{cases_eq, cases_lt}
 use Rattle.go_board.proofs.boards.Neighbours.{Neighbours-sym, not_itself}

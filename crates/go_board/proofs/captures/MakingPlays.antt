@@ -28,8 +28,7 @@ use Rattle.go_board.proofs.captures.CapturedStones.{IsFramed-without_captured}
 use Rattle.go_board.proofs.ids.Paths.{Joined-then, Joined-same, Joined-back, Joined-set, IsStone-point, AreLocalIds}
 use Rattle.go_board.proofs.ids.Paths.{IsLess, AreLocalIds-of, AreLocalIds-less, AreChainIds-steps}
 use Rattle.go_board.proofs.ids.JoiningChains.{IsOfThree, first, second, third, none, of_three, rename_three-to}
-use Rattle.go_board.proofs.ids.JoiningChains.{rename_three-a}
-use Rattle.go_board.proofs.ids.JoiningChains.{rename_three-b, rename_three-third}
+use Rattle.go_board.proofs.ids.JoiningChains.{rename_three-a, rename_three-b, rename_three-third}
 use Rattle.go_board.proofs.liberties.PseudoLiberties.{free-count, captured-other, captured-beside}
 use Rattle.go_board.proofs.captures.RemovingLoop.{places-more}
 use Rattle.go_board.proofs.boards.Neighbours.{IsOn-inside, all_beside}
@@ -46,15 +45,15 @@ captured-joined board c p q path h = (
 )
 
 -- the code's test of a chain without a liberty
-pub dead-test : (board : List Cell) (ids : List ℕ) (c : Colour) (p id counted : ℕ)
+pub captured-test : (board : List Cell) (ids : List ℕ) (c : Colour) (p id counted : ℕ)
     → AreChains board ids → at board p ≡ stone c → id ≡ id_of ids p
     → counted ≡ pseudo_liberties board ids id → (counted ≡ 0) ↔ IsCaptured board c p
-dead-test board ids c p id counted chains held is e =
-    let told = free-count board ids p chains.framed chains.ids (c, held) in
+captured-test board ids c p id counted chains held is e =
+    let known = free-count board ids p chains.framed chains.ids (c, held) in
     let same : counted ≡ pseudo_liberties board ids (id_of ids p) =
     e ∙ ap (pseudo_liberties board ids) is in (
-      (λ none. (held, λ free. let more = told.0 free in absurd (omega (arith, none, same, more)))),
-      (λ h. zero_or (pseudo_liberties board ids (id_of ids p)) same (λ more. h.1 (told.1 more))),
+      (λ none. (held, λ free. let more = known.0 free in absurd (omega (arith, none, same, more)))),
+      (λ h. zero_or (pseudo_liberties board ids (id_of ids p)) same (λ more. h.1 (known.1 more))),
     )
   where
     zero_or : {m : ℕ} (n : ℕ) → m ≡ n → ((0 < n) → ⊥) → m ≡ 0
@@ -67,8 +66,8 @@ pub is_captured-code : (board : List Cell) (ids : List ℕ) (c : Colour) (p id c
     → AreChains board ids → at board p ≡ stone c → id ≡ id_of ids p
     → counted ≡ pseudo_liberties board ids id → IsTrue (nat_eq counted 0) ↔ IsCaptured board c p
 is_captured-code board ids c p id counted chains held is e =
-    let told = dead-test board ids c p id counted chains held is e in
-    (λ h. told.0 (zero-from counted h), λ h. zero-to counted (told.1 h))
+    let known = captured-test board ids c p id counted chains held is e in
+    (λ h. known.0 (zero-from counted h), λ h. zero-to counted (known.1 h))
   where
     zero-from : (n : ℕ) → IsTrue (nat_eq n 0) → n ≡ 0
     zero-from n h = grind (arith, nat_tests)
@@ -132,18 +131,18 @@ places-empty board c p empty free no_captured =
 -- ---- where chains are taken: their ids become one
 
 -- the ids of the chains without a liberty beside the point, as the code has them
-pub record AreCapturedIds (cells : List Cell) (ids : List ℕ) (theirs : Colour) (p dead id x y z : ℕ) : Type 0 where
-  pub beside : IsCapturedBeside cells theirs p dead
-  pub is : id ≡ id_of ids dead
+pub record AreCapturedIds (cells : List Cell) (ids : List ℕ) (theirs : Colour) (p found id x y z : ℕ) : Type 0 where
+  pub beside : IsCapturedBeside cells theirs p found
+  pub is : id ≡ id_of ids found
   pub left : IsCapturedIdOr cells ids theirs (p - 1) id x
   pub above : IsCapturedIdOr cells ids theirs (p + 26) id y
   pub under : IsCapturedIdOr cells ids theirs (p - 26) id z
 
 -- a stone with one of the ids is captured
-dead-from : (board cells : List Cell) (ids : List ℕ) (c : Colour) (p dead id x y z q : ℕ) → AreChainIds cells ids
-    → AreCapturedIds cells ids (other c) p dead id x y z → IsStone (at cells q)
+captured-by_id : (board cells : List Cell) (ids : List ℕ) (c : Colour) (p found id x y z q : ℕ) → AreChainIds cells ids
+    → AreCapturedIds cells ids (other c) p found id x y z → IsStone (at cells q)
     → rename_three id x y z (id_of ids q) ≡ id → IsCaptured cells (other c) q
-dead-from board cells ids c p dead id x y z q a d held to = by_case (of_three id x y z (id_of ids q))
+captured-by_id board cells ids c p found id x y z q a d held to = by_case (of_three id x y z (id_of ids q))
   where
     -- a stone with a captured stone's id
     alike : (r : ℕ) → IsCaptured cells (other c) r → id_of ids q ≡ id_of ids r
@@ -151,7 +150,7 @@ dead-from board cells ids c p dead id x y z q a d held to = by_case (of_three id
     alike r h e = captured-joined cells (other c) r q (Joined-back ((a.same q r held (other c, h.0)).0 e)) h
 
     own : id_of ids q ≡ id → IsCaptured cells (other c) q
-    own e = alike dead d.beside.captured (e ∙ d.is)
+    own e = alike found d.beside.captured (e ∙ d.is)
 
     one : (k r : ℕ) → IsCapturedIdOr cells ids (other c) r id k → id_of ids q ≡ k
         → IsCaptured cells (other c) q
@@ -165,12 +164,12 @@ dead-from board cells ids c p dead id x y z q a d held to = by_case (of_three id
     by_case (none e) = own (sym e ∙ to)
 
 -- and a captured stone has one of them
-dead-id : (board : List Cell) (ids : List ℕ) (c : Colour) (p dead id x y z q : ℕ) → 27 ≤ p → at board p ≡ Empty
+id-of_captured : (board : List Cell) (ids : List ℕ) (c : Colour) (p found id x y z q : ℕ) → 27 ≤ p → at board p ≡ Empty
     → AreFree board → AreChainIds (set board p (stone c)) ids
-    → AreCapturedIds (set board p (stone c)) ids (other c) p dead id x y z
+    → AreCapturedIds (set board p (stone c)) ids (other c) p found id x y z
     → IsCaptured (set board p (stone c)) (other c) q
     → rename_three id x y z (id_of ids q) ≡ id
-dead-id board ids c p dead id x y z q low empty free a d h =
+id-of_captured board ids c p found id x y z q low empty free a d h =
     let taken = captured-beside board c p q empty free h in
     let held = ((captured-other board c p q empty).0 h).0 in
     let path : Joined (set board p (stone c)) q taken.place =
@@ -199,19 +198,19 @@ rename_three-at cells ids new to x y z q framed long made point =
     ap (λ (ls : List ℕ). id_of ls q) made
     ∙ get_or-map (rename_three to x y z) ids q 0 0 (omega (arith, below, long, size))
 
-pub HaveCapturedId-rename_three : (board : List Cell) (ids new : List ℕ) (c : Colour) (p dead id x y z : ℕ) → 27 ≤ p
+pub HaveCapturedId-rename_three : (board : List Cell) (ids new : List ℕ) (c : Colour) (p found id x y z : ℕ) → 27 ≤ p
     → at board p ≡ Empty → AreFree board → IsFramed (set board p (stone c))
-    → AreChainIds (set board p (stone c)) ids → AreCapturedIds (set board p (stone c)) ids (other c) p dead id x y z
+    → AreChainIds (set board p (stone c)) ids → AreCapturedIds (set board p (stone c)) ids (other c) p found id x y z
     → new ≡ map (rename_three id x y z) ids
     → HaveCapturedId (set board p (stone c)) new (other c) id
-HaveCapturedId-rename_three board ids new c p dead id x y z low empty free framed a d made q = (
+HaveCapturedId-rename_three board ids new c p found id x y z low empty free framed a d made q = (
   (λ h. (
     h.0,
     rename_three-at cells ids new id x y z q framed a.length_is made
         (λ e. stone-point (other c) (sym h.0 ∙ e))
-        ∙ dead-id board ids c p dead id x y z q low empty free a d h,
+        ∙ id-of_captured board ids c p found id x y z q low empty free a d h,
   )),
-  (λ h. dead-from board cells ids c p dead id x y z q a d (other c, h.0)
+  (λ h. captured-by_id board cells ids c p found id x y z q a d (other c, h.0)
       (sym (rename_three-at cells ids new id x y z q framed a.length_is made
       (λ e. stone-point (other c) (sym h.0 ∙ e))) ∙ h.1)),
 )
@@ -220,10 +219,10 @@ HaveCapturedId-rename_three board ids new c p dead id x y z low empty free frame
     cells = set board p (stone c)
 
 -- what is left keeps its ids
-pub AreChainIds-left : (board cells : List Cell) (ids new : List ℕ) (c : Colour) (p dead id x y z : ℕ)
-    → IsFramed cells → AreChainIds cells ids → AreCapturedIds cells ids (other c) p dead id x y z
+pub AreChainIds-left : (board cells : List Cell) (ids new : List ℕ) (c : Colour) (p found id x y z : ℕ)
+    → IsFramed cells → AreChainIds cells ids → AreCapturedIds cells ids (other c) p found id x y z
     → new ≡ map (rename_three id x y z) ids → AreChainIds (without_captured cells (other c)) new
-AreChainIds-left board cells ids new c p dead id x y z framed a d made =
+AreChainIds-left board cells ids new c p found id x y z framed a d made =
     AreChainIds-steps (without_captured cells (other c)) new
     (ap length made ∙ length-map ids (rename_three id x y z) ∙ a.length_is) (record {
       own = λ q s. subst (λ (k : ℕ). Joined (without_captured cells (other c)) q k) (sym (as_before q s)) (old.own q s);
@@ -265,34 +264,34 @@ AreChainIds-left board cells ids new c p dead id x y z framed a d made =
         by_case : IsStone (at cells q) → ¬ IsCaptured cells (other c) q → IsOfThree id x y z (id_of ids q)
             → rename_three id x y z (id_of ids q) ≡ id_of ids q
         by_case t k (none e) = e
-        by_case t k (first _ e) = absurd (k (dead-from board cells ids c p dead id x y z q a d t e))
-        by_case t k (second _ e) = absurd (k (dead-from board cells ids c p dead id x y z q a d t e))
-        by_case t k (third _ e) = absurd (k (dead-from board cells ids c p dead id x y z q a d t e))
+        by_case t k (first _ e) = absurd (k (captured-by_id board cells ids c p found id x y z q a d t e))
+        by_case t k (second _ e) = absurd (k (captured-by_id board cells ids c p found id x y z q a d t e))
+        by_case t k (third _ e) = absurd (k (captured-by_id board cells ids c p found id x y z q a d t e))
 
 -- ---- as the code goes: the board with the stone, and the other colour
 
 -- a fact of them
-pub told : (board cells : List Cell) (c theirs : Colour) (p : ℕ) → cells ≡ set board p (stone c) → theirs ≡ other c
+pub from_code : (board cells : List Cell) (c theirs : Colour) (p : ℕ) → cells ≡ set board p (stone c) → theirs ≡ other c
     → (P : List Cell → Colour → Type 0) → P cells theirs → P (set board p (stone c)) (other c)
-told board cells c theirs p e f P h =
+from_code board cells c theirs p e f P h =
     subst (λ (t : Colour). P (set board p (stone c)) t) f (subst (λ (b : List Cell). P b theirs) e h)
 
-pub back : (board cells : List Cell) (c theirs : Colour) (p : ℕ) → cells ≡ set board p (stone c) → theirs ≡ other c
+pub to_code : (board cells : List Cell) (c theirs : Colour) (p : ℕ) → cells ≡ set board p (stone c) → theirs ≡ other c
     → (P : List Cell → Colour → Type 0) → P (set board p (stone c)) (other c) → P cells theirs
-back board cells c theirs p e f P h =
+to_code board cells c theirs p e f P h =
     subst (λ (t : Colour). P cells t) (sym f) (subst (λ (b : List Cell). P b (other c)) (sym e) h)
 
 pub HaveCapturedId-code : (board cells : List Cell) (ids new : List ℕ) (c theirs : Colour)
-    (p dead id x y z : ℕ) → IsOn most_size p → at board p ≡ Empty → AreFree board
+    (p found id x y z : ℕ) → IsOn most_size p → at board p ≡ Empty → AreFree board
     → cells ≡ set board p (stone c) → theirs ≡ other c → AreChains cells ids
-    → AreCapturedIds cells ids theirs p dead id x y z → new ≡ map (rename_three id x y z) ids
+    → AreCapturedIds cells ids theirs p found id x y z → new ≡ map (rename_three id x y z) ids
     → HaveCapturedId cells new theirs id
-HaveCapturedId-code board cells ids new c theirs p dead id x y z on empty free e f chains d made =
-    back board cells c theirs p e f (λ b t. HaveCapturedId b new t id)
-    (let known = told board cells c theirs p e f (λ b _. AreChains b ids) chains in
-    HaveCapturedId-rename_three board ids new c p dead id x y z (IsOn-inside p on).low empty free known.framed
+HaveCapturedId-code board cells ids new c theirs p found id x y z on empty free e f chains d made =
+    to_code board cells c theirs p e f (λ b t. HaveCapturedId b new t id)
+    (let known = from_code board cells c theirs p e f (λ b _. AreChains b ids) chains in
+    HaveCapturedId-rename_three board ids new c p found id x y z (IsOn-inside p on).low empty free known.framed
     known.ids
-    (told board cells c theirs p e f (λ b t. AreCapturedIds b ids t p dead id x y z) d) made)
+    (from_code board cells c theirs p e f (λ b t. AreCapturedIds b ids t p found id x y z) d) made)
 
 pub play-code : (board cells : List Cell) (c theirs : Colour) (p : ℕ) → cells ≡ set board p (stone c)
     → theirs ≡ other c → without_captured cells theirs ≡ play board c p
@@ -312,13 +311,13 @@ places-code board cells c theirs p e f =
     ap (λ (b : List Cell). captured_places b theirs) e ∙ ap (captured_places (set board p (stone c))) f
 
 pub AreChains-play : (board cells : List Cell) (ids new : List ℕ) (c theirs : Colour)
-    (p dead id x y z : ℕ) → theirs ≡ other c → AreChains cells ids
-    → AreCapturedIds cells ids theirs p dead id x y z → new ≡ map (rename_three id x y z) ids
+    (p found id x y z : ℕ) → theirs ≡ other c → AreChains cells ids
+    → AreCapturedIds cells ids theirs p found id x y z → new ≡ map (rename_three id x y z) ids
     → AreChains (without_captured cells theirs) new
-AreChains-play board cells ids new c theirs p dead id x y z f chains d made =
+AreChains-play board cells ids new c theirs p found id x y z f chains d made =
     subst (λ (t : Colour). AreChains (without_captured cells t) new) (sym f) (record {
       framed = IsFramed-without_captured cells (other c) chains.framed;
       ids =
-          AreChainIds-left board cells ids new c p dead id x y z chains.framed chains.ids
-          (subst (λ (t : Colour). AreCapturedIds cells ids t p dead id x y z) f d) made;
+          AreChainIds-left board cells ids new c p found id x y z chains.framed chains.ids
+          (subst (λ (t : Colour). AreCapturedIds cells ids t p found id x y z) f d) made;
     })

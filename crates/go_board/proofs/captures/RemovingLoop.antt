@@ -2,7 +2,7 @@
 use Rattle.std.proofs.Common.{◌≡◌, ℕ, zero, suc, ◌+◌, ◌<◌, ◌≤◌, List, [], ◌∷◌, ◌++◌, length, refl, sym, ◌∙◌, ap, subst}
 use Rattle.std.proofs.Common.{arith, inl, inr, Bool, true, false, cond, get_or-set_other, get_or-set_same, append_assoc}
 use Rattle.std.proofs.Common.{add-one, length-append}
-use Rattle.std.specs.Prelude.{◌⊎◌, ◌≢◌, count_by, filter}
+use Rattle.std.specs.Prelude.{◌≢◌, count_by, filter}
 use Rattle.std.specs.List.{range_with_len}
 use Rattle.std.proofs.Math.ListN.{set, length-set}
 use Rattle.std.proofs.lemmas.List.{map-id, length-map, append-nil}
@@ -144,14 +144,14 @@ room-for_one board c number n had stack below captured room so_far =
 pub captured-id : (board cells : List Cell) (ids ls : List ℕ) (c : Colour) (id l n count : ℕ) (s : Cell)
     → HaveCapturedId board ids c id → IsClearing board c n cells count → ls ≡ ids
     → s ≡ stone c → l ≡ id_of ls n → l ≡ id → at cells n ≡ s → IsCaptured board c n
-captured-id board cells ids ls c id l n count s dead k same is l_is e held =
-    (dead n).1 (sym (k.rest n (omega arith)) ∙ held ∙ is, ap (λ (xs : List ℕ). id_of xs n) (sym same) ∙ sym l_is ∙ e)
+captured-id board cells ids ls c id l n count s owned k same is l_is e held =
+    (owned n).1 (sym (k.rest n (omega arith)) ∙ held ∙ is, ap (λ (xs : List ℕ). id_of xs n) (sym same) ∙ sym l_is ∙ e)
 
 pub free-id : (board cells : List Cell) (ids ls : List ℕ) (c : Colour) (id l n count : ℕ) (s : Cell)
     → HaveCapturedId board ids c id → IsClearing board c n cells count → ls ≡ ids
     → s ≡ stone c → l ≡ id_of ls n → (l ≡ id → at cells n ≡ s → ⊥) → ¬ IsCaptured board c n
-free-id board cells ids ls c id l n count s dead k same is l_is away captured =
-    let facts = (dead n).0 captured in
+free-id board cells ids ls c id l n count s owned k same is l_is away captured =
+    let facts = (owned n).0 captured in
     away (l_is ∙ ap (λ (xs : List ℕ). id_of xs n) same ∙ facts.1) (k.rest n (omega arith) ∙ facts.0 ∙ sym is)
 
 pub IsRemoving-taken : (board : List Cell) (ids : List ℕ) (c : Colour) (number : ℕ) (had : List TakenStone) (n : ℕ)
@@ -185,14 +185,14 @@ pub IsRemoving-past : (board : List Cell) (ids : List ℕ) (c : Colour) (id numb
     → HaveCapturedId board ids c id → ((p : ℕ) → n ≤ p → p < n + k → id_of ls p ≢ id)
     → IsRemoving board ids c number had n cells ls stack count
     → IsRemoving board ids c number had (n + k) cells ls stack count
-IsRemoving-past board ids c id number had n zero cells ls stack count dead away r =
+IsRemoving-past board ids c id number had n zero cells ls stack count owned away r =
     subst (λ (m : ℕ). IsRemoving board ids c number had m cells ls stack count) (omega arith) r
-IsRemoving-past board ids c id number had n (suc k) cells ls stack count dead away r =
+IsRemoving-past board ids c id number had n (suc k) cells ls stack count owned away r =
     let before =
-    IsRemoving-past board ids c id number had n k cells ls stack count dead
+    IsRemoving-past board ids c id number had n k cells ls stack count owned
     (λ p low high. away p low (omega arith)) r in
     let free : ¬ IsCaptured board c (n + k) =
     λ h. away (n + k) (omega arith) (omega arith)
-    (ap (λ (xs : List ℕ). id_of xs (n + k)) r.same ∙ ((dead (n + k)).0 h).1) in
+    (ap (λ (xs : List ℕ). id_of xs (n + k)) r.same ∙ ((owned (n + k)).0 h).1) in
     subst (λ (m : ℕ). IsRemoving board ids c number had m cells ls stack count) (omega arith)
     (IsRemoving-left board ids c number had (n + k) cells ls stack count free before)

@@ -13,7 +13,6 @@ use Rattle.go_board.specs.declared.board.Cell.{Cell}
 use Rattle.go_board.specs.declared.board.Cell.TheVariants.{Edge}
 use Rattle.go_board.proofs.ids.Paths.{Joined-then, Joined-same}
 use Rattle.go_board.proofs.floods.Regions.{AreSpread-grows, AreSpread-sound, spread_more, index_of}
-use Rattle.go_board.proofs.boards.Neighbours.{IsInside, IsOn-inside}
 
 -- joined to the start, and on the board
 pub record IsReached (board : List Cell) (s p : ℕ) : Type 0 where

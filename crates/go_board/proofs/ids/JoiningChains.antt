@@ -13,7 +13,7 @@ use Rattle.go_board.specs.decisions.Board.{cell?}
 use Rattle.go_board.specs.private.ChainId.{id_of, ArePseudoLiberties, AreChains, count_at}
 use Rattle.go_board.specs.private.Steps.{rename, rename_three, IsMoved, IsIdOr}
 use Rattle.go_board.specs.declared.board.Cell.{Cell}
-use Rattle.go_board.specs.declared.board.Cell.TheVariants.{Edge, Empty}
+use Rattle.go_board.specs.declared.board.Cell.TheVariants.{Empty}
 use Rattle.go_board.proofs.boards.Cells.{IsFramed-set, empty-point}
 use Rattle.go_board.proofs.captures.CapturedStones.{in_list}
 use Rattle.go_board.proofs.ids.Paths.{IsStone-point, IsStone-filled, IsOwn, IsJoining, AreLocalIds-joining}

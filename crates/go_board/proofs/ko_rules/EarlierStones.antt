@@ -19,8 +19,7 @@ use Rattle.go_board.specs.Game.{IsGame, IsLegal}
 use Rattle.go_board.specs.Play.{is_captured, play}
 use Rattle.go_board.specs.decisions.Chain.{captured?}
 use Rattle.go_board.specs.private.TakenStack.{WasTaken, StoodBelow, RepeatsBelow, IsAlsoBelow, IsVacant}
-use Rattle.go_board.specs.private.TakenStack.{captured_places}
-use Rattle.go_board.specs.private.TakenStack.{taken_places, stack_from, stack_of, taken_at}
+use Rattle.go_board.specs.private.TakenStack.{captured_places, taken_places, stack_from, stack_of, taken_at}
 use Rattle.go_board.specs.declared.board.Cell.{Cell}
 use Rattle.go_board.specs.declared.board.Cell.TheVariants.{Edge, Empty}
 use Rattle.go_board.specs.declared.taken_stack.TakenStone.{TakenStone}

@@ -7,18 +7,16 @@ use Rattle.go_base.specs.declared.colours.Colour.{Colour}
 use Rattle.go_base.specs.declared.vertices.Vertex.{Vertex}
 use Rattle.go_base.specs.declared.vertices.Vertex.TheVariants.{Pass, At}
 use Rattle.go_board.specs.Board.{at, stone}
-use Rattle.go_board.specs.Chain.{HasBeside}
-use Rattle.go_board.specs.Game.{GameRecord, board_of, with_move, without_last, after_vertex, RepeatsLast}
+use Rattle.go_board.specs.Game.{GameRecord, board_of, with_move, without_last, RepeatsLast}
 use Rattle.go_board.specs.private.Ko.{TakesOnly, IsKo}
 use Rattle.go_board.specs.Play.{play}
 use Rattle.go_board.specs.declared.board.Cell.{Cell}
 use Rattle.go_board.specs.declared.board.Cell.TheVariants.{Empty}
 use Rattle.go_board.proofs.boards.Cells.{stone-filled}
-use Rattle.go_board.proofs.records.Moves.{board-push, without_last-with_move}
+use Rattle.go_board.proofs.records.Moves.{without_last-with_move}
 use Rattle.go_board.proofs.ko_rules.PlaysTakenBack.{IsBack, IsBack-from, back-from, other-other, other-twice}
 use Rattle.go_board.proofs.ko_rules.PlaysTakenBack.{taken-held}
 use Rattle.go_board.proofs.captures.FreeStones.{new-stone}
-use Rattle.go_board.proofs.ko_rules.LoneStones.{alone-from}
 use Rattle.go_board.proofs.records.EveryGame.{board-with_move}
 
 -- without a move there is no ko

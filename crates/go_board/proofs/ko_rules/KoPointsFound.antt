@@ -14,7 +14,7 @@ use Rattle.go_board.specs.Play.{captures}
 use Rattle.go_board.specs.private.TakenStack.{captured_places, stack_of, taken_at, IsNotLast, IsOnlyTaken}
 use Rattle.go_board.specs.declared.taken_stack.TakenStone.{TakenStone}
 use Rattle.go_board.proofs.records.Moves.{with-last, IsBeforeMove, IsBeforeMove-from}
-use Rattle.go_board.proofs.ko_rules.KoPoints.{IsKo-start, IsKo-pass, IsKo-play, IsKo-many}
+use Rattle.go_board.proofs.ko_rules.KoPoints.{IsKo-pass, IsKo-play, IsKo-many}
 use Rattle.go_board.proofs.ko_rules.OneCapture.{TakesOnly-places, captures-one}
 use Rattle.go_board.proofs.records.EveryGame.{IsOrderly-game}
 use Rattle.go_board.proofs.undo.PoppedStones.{popped-all, not_last-numbers}

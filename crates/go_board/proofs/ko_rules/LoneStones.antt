@@ -1,8 +1,7 @@
 -- A play that takes just one stone.
-use Rattle.std.proofs.Common.{◌≡◌, ℕ, ◌+◌, ◌-◌, ◌≤◌, List, refl, sym, ◌∙◌, ap, subst, arith, inl, inr}
+use Rattle.std.proofs.Common.{◌≡◌, ℕ, ◌+◌, ◌-◌, ◌≤◌, List, refl, sym, ◌∙◌, ap, subst}
 use Rattle.std.proofs.Math.ListN.{set}
 use Rattle.go_base.specs.Colour.{other}
-use Rattle.go_base.specs.Point.{Neighbours}
 use Rattle.go_base.specs.declared.colours.Colour.{Colour}
 use Rattle.go_board.specs.Board.{at, stone}
 use Rattle.go_board.specs.Chain.{Joined, itself, by_way_of, HasBeside, IsCaptured}

@@ -1,7 +1,7 @@
 -- A play that takes one stone, by the count and by the list of what it takes.
 use Rattle.std.proofs.Common.{◌≡◌, ℕ, ◌<◌, List, [], ◌∷◌, length, refl, sym, ◌∙◌, ap, subst, arith, inl, inr, Bool}
 use Rattle.std.proofs.Common.{true, cond, All}
-use Rattle.std.specs.Prelude.{◌⊎◌, count_by}
+use Rattle.std.specs.Prelude.{count_by}
 use Rattle.std.specs.List.{range_with_len}
 use Rattle.std.proofs.lemmas.List.Elements.{filter_passes}
 use Rattle.std.proofs.lemmas.List.Sums.{length-filter}
@@ -9,7 +9,6 @@ use Rattle.std.proofs.Math.ListN.{set}
 use Rattle.go_base.specs.Colour.{other}
 use Rattle.go_base.specs.declared.colours.Colour.{Colour}
 use Rattle.go_board.specs.Board.{stone}
-use Rattle.go_base.specs.Decide.{holds}
 use Rattle.go_board.specs.private.Ko.{TakesOnly}
 use Rattle.go_board.specs.Chain.{IsCaptured}
 use Rattle.go_board.specs.decisions.Chain.{captured?}

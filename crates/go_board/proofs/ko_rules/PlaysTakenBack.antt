@@ -14,10 +14,9 @@ use Rattle.go_board.specs.decisions.Chain.{captured?}
 use Rattle.go_board.specs.Play.{left_at, without_captured, play}
 use Rattle.go_board.specs.declared.board.Cell.{Cell}
 use Rattle.go_board.specs.declared.board.Cell.TheVariants.{Edge, Empty}
-use Rattle.go_board.proofs.boards.Cells.{stone-filled, stone-differs}
+use Rattle.go_board.proofs.boards.Cells.{stone-filled, stone-differs, empty-point}
 use Rattle.go_board.proofs.captures.CapturedStones.{holds-yes, holds-no, at-without_captured, at-play}
 use Rattle.go_board.proofs.ids.Paths.{set-same}
-use Rattle.go_board.proofs.boards.Cells.{empty-point}
 use Rattle.std.proofs.lemmas.Bool.{cases_eq}
 
 -- what a place holds after a play: nothing where its stone was taken, else what the new stone left there

@@ -1,7 +1,6 @@
 -- A record played again on another board, by the stones that its moves took.
 use Rattle.std.proofs.Common.{◌≡◌, ℕ, zero, suc, ◌+◌, ◌-◌, ◌<◌, ◌≤◌, List, [], ◌∷◌, ◌++◌, length, refl, sym, ◌∙◌, ap}
-use Rattle.std.proofs.Common.{subst, arith}
-use Rattle.std.proofs.Common.{inl, inr, Bool, true, false, cond, take, drop, get_or, get_or-set_same, get_or-set_other}
+use Rattle.std.proofs.Common.{subst, arith, inl, inr, Bool, true, false, cond, take, drop}
 use Rattle.std.specs.Prelude.{◌⊎◌, ◌≢◌, ◌==◌, ◌↔◌, IsTrue, Some, slice_get}
 use Rattle.std.specs.List.{range_with_len, AllByRecursion}
 use Rattle.std.proofs.lemmas.Bool.Decides.{nat_tests}
@@ -39,7 +38,6 @@ use Rattle.go_board.proofs.records.EveryGame.{legal-open, board-with_move, stack
 use Rattle.go_board.proofs.undo.RestoredStones.{length-with_stones, filled-in, filled-out}
 use Rattle.go_board.proofs.records.TakenStack.{stack_of-with_move}
 use Rattle.go_board.proofs.undo.UnmadePlays.{all-captured}
-use Rattle.std.proofs.lemmas.Bool.{cases_eq}
 use Rattle.go_board.proofs.General.{all-where, all-append}
 
 -- ---- equal boards

@@ -1,17 +1,14 @@
 -- The pseudo-liberties when a stone gets another id.
-use Rattle.std.proofs.Common.{◌≡◌, ℕ, ◌+◌, ◌-◌, ◌<◌, ◌≤◌, List, length, sym, ◌∙◌, ap, arith, inl, inr, Bool, true}
-use Rattle.std.proofs.Common.{false, cond, get_or-set_other, get_or-set_same}
-use Rattle.std.specs.Prelude.{◌≢◌, ◌==◌, ◌&&◌}
-use Rattle.std.proofs.lemmas.Bool.Decides.{nat_tests}
+use Rattle.std.proofs.Common.{◌≡◌, ℕ, ◌+◌, ◌-◌, ◌<◌, ◌≤◌, List, length, sym, ◌∙◌, ap, arith}
+use Rattle.std.proofs.Common.{cond, get_or-set_other, get_or-set_same}
+use Rattle.std.specs.Prelude.{◌==◌, ◌&&◌}
 use Rattle.std.proofs.Math.ListN.{set, length-set}
 use Rattle.go_board.specs.Board.{at, IsStone}
 use Rattle.go_board.specs.private.ChainId.{id_of, is_stone, empty_beside, share, pseudo_liberties, ArePseudoLiberties}
 use Rattle.go_board.specs.private.ChainId.{count_at}
 use Rattle.go_board.specs.declared.board.Cell.{Cell}
-use Rattle.go_board.proofs.Sums.{total-changed, total-at_least}
+use Rattle.go_board.proofs.Sums.{total-changed}
 use Rattle.go_board.proofs.liberties.FillingPoints.{pseudo_liberties-total}
-use Rattle.go_board.proofs.liberties.PseudoLiberties.{stone-test}
-use Rattle.std.proofs.lemmas.Bool.{eq-eqb, ne_eqb, cases_eq}
 use Rattle.go_board.proofs.liberties.Shares.{loses-share, gains-share, share-few}
 
 -- an id's pseudo-liberties change by the stone's share

@@ -1,17 +1,15 @@
 -- Pseudo-liberties counted place by place.
-use Rattle.std.proofs.Common.{◌≡◌, ℕ, ◌+◌, ◌<◌, ◌≤◌, List, length, replicate, sym, ◌∙◌, ap, subst, arith, inl, inr}
-use Rattle.std.proofs.Common.{add-one, Bool, true, false, cond, get_or-set_other, get_or-set_same}
-use Rattle.std.specs.Prelude.{◌≢◌, ◌==◌, ◌&&◌}
+use Rattle.std.proofs.Common.{◌≡◌, ℕ, ◌+◌, ◌<◌, ◌≤◌, List, length, replicate, sym, ◌∙◌, ap, arith}
+use Rattle.std.proofs.Common.{Bool, true, false, cond}
+use Rattle.std.specs.Prelude.{◌==◌, ◌&&◌}
 use Rattle.std.proofs.lemmas.List.{get_or-replicate}
-use Rattle.std.proofs.lemmas.Bool.Decides.{nat_tests}
 use Rattle.std.proofs.Math.ListN.{set, length-set}
 use Rattle.go_board.specs.Board.{at}
 use Rattle.go_board.specs.private.ChainId.{id_of, is_stone, empty_beside, share, ArePseudoLiberties, count_at}
 use Rattle.go_board.specs.declared.board.Cell.{Cell}
-use Rattle.go_board.proofs.Sums.{total, total-suc, total-zero, total-at_most, total-more}
+use Rattle.go_board.proofs.Sums.{total, total-zero, total-at_most, total-more}
 use Rattle.go_board.proofs.liberties.FillingPoints.{pseudo_liberties-total}
 use Rattle.go_board.proofs.liberties.MergingIds.{share-four}
-use Rattle.std.proofs.lemmas.Bool.{eq-eqb, ne_eqb, cases_eq}
 use Rattle.go_board.proofs.liberties.Shares.{gains-share}
 use Rattle.go_board.proofs.liberties.PseudoLiberties.{stone-from_test}
 

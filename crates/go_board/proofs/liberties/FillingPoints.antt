@@ -2,7 +2,6 @@
 use Rattle.std.proofs.Common.{◌≡◌, ℕ, ◌+◌, ◌-◌, ◌<◌, ◌≤◌, List, refl, sym, ◌∙◌, ap, arith, inl, inr, Bool, true, false}
 use Rattle.std.proofs.Common.{cond, get_or-set_other, get_or-set_same}
 use Rattle.std.specs.Prelude.{◌≢◌, ◌==◌, if◌then◌else◌, ◌&&◌}
-use Rattle.std.proofs.lemmas.Bool.Decides.{nat_tests}
 use Rattle.std.proofs.Math.ListN.{set}
 use Rattle.go_board.specs.Board.{at}
 use Rattle.go_board.specs.private.ChainId.{id_of, is_empty, is_stone, empty_at, empty_beside, has_id, share}

@@ -2,7 +2,6 @@
 use Rattle.std.proofs.Common.{◌≡◌, ℕ, ◌+◌, ◌-◌, ◌<◌, ◌≤◌, List, length, refl, sym, ◌∙◌, ap, subst, arith, inl, inr}
 use Rattle.std.proofs.Common.{Bool, true, false, cond, get_or-set_other, get_or-set_same}
 use Rattle.std.specs.Prelude.{◌≢◌, ◌==◌, ◌&&◌, map}
-use Rattle.std.proofs.lemmas.Bool.Decides.{nat_tests}
 use Rattle.std.proofs.lemmas.List.{get_or-map}
 use Rattle.std.proofs.Math.ListN.{set, length-set}
 use Rattle.go_board.specs.Board.{at}
@@ -74,8 +73,13 @@ pseudo_liberties-to board ids new to from apart are =
     let sums = total-add (share board ids to) (share board ids from) (share board new to) 702 (λ p below.
     ap (λ (l : ℕ). part (is_stone (at board p)) (empty_beside board p) l to) (are p below)
     ∙ part-to (is_stone (at board p)) (empty_beside board p) (id_of ids p) to from apart) in
-    omega (arith, sums, pseudo_liberties-total board new to, pseudo_liberties-total board ids to,
-    pseudo_liberties-total board ids from)
+    omega (
+      arith,
+      sums,
+      pseudo_liberties-total board new to,
+      pseudo_liberties-total board ids to,
+      pseudo_liberties-total board ids from,
+    )
 
 pseudo_liberties-from : (board : List Cell) (ids new : List ℕ) (to from : ℕ) → to ≢ from → AreRenamed ids new to from
     → pseudo_liberties board new from ≡ 0

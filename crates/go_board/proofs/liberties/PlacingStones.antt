@@ -1,7 +1,7 @@
 -- The pseudo-liberties when a stone is placed, as the code changes them.
-use Rattle.std.proofs.Common.{◌≡◌, ℕ, ◌+◌, ◌-◌, ◌<◌, ◌≤◌, List, length, refl, sym, ◌∙◌, ap, subst, arith, inl, inr}
+use Rattle.std.proofs.Common.{◌≡◌, ℕ, ◌+◌, ◌-◌, ◌<◌, ◌≤◌, List, length, refl, sym, ◌∙◌, ap, arith}
 use Rattle.std.proofs.Common.{Bool, true, false, cond, get_or-set_other, get_or-set_same}
-use Rattle.std.specs.Prelude.{◌≢◌, ◌==◌, ◌&&◌, ◌↔◌, IsTrue, nat_lt}
+use Rattle.std.specs.Prelude.{◌==◌, ◌&&◌, ◌↔◌, IsTrue, nat_lt}
 use Rattle.std.proofs.lemmas.Bool.Decides.{nat_tests}
 use Rattle.std.proofs.Math.ListN.{set, length-set}
 use Rattle.go_base.specs.Point.{IsOn}
@@ -12,14 +12,13 @@ use Rattle.go_board.specs.Board.{at, stone, IsStone}
 use Rattle.go_board.specs.private.ChainId.{id_of, ids_at, ids_beside, is_empty, is_stone, empty_beside, share}
 use Rattle.go_board.specs.private.ChainId.{pseudo_liberties, ArePseudoLiberties, count_at, HasOtherLiberty, AreChains}
 use Rattle.go_board.specs.private.Frame.{IsFramed}
-use Rattle.go_board.specs.private.Steps.{IsLowered, IsRaised, AreLowered, AreRaised}
+use Rattle.go_board.specs.private.Steps.{IsRaised, AreLowered}
 use Rattle.go_board.specs.declared.board.Cell.{Cell}
 use Rattle.go_board.specs.declared.board.Cell.TheVariants.{Edge, Empty}
 use Rattle.go_board.proofs.captures.CapturedStones.{in_list}
 use Rattle.go_board.proofs.ids.Paths.{set-same, IsStone-point}
 use Rattle.go_board.proofs.liberties.FillingPoints.{pseudo_liberties-filled}
 use Rattle.go_board.proofs.liberties.PseudoLiberties.{other-count}
-use Rattle.std.proofs.lemmas.Bool.{eq-eqb, ne_eqb, cases_eq}
 use Rattle.go_board.proofs.boards.Neighbours.{IsOn-inside}
 use Rattle.go_board.proofs.liberties.Shares.{gains-share, count_at-changed}
 
@@ -45,8 +44,8 @@ has_other_liberty-test board ids p q id beside counted chains empty s is b e =
     lt-test beside counted (ids_beside board ids k p) (pseudo_liberties board ids k)
     (b ∙ ap (λ (l : ℕ). ids_beside board ids l p) is)
     (e ∙ ap (pseudo_liberties board ids) is) in
-    let told = other-count board ids p q chains.framed chains.ids empty s in
-    (λ h. told.0 (test.0 h), λ h. test.1 (told.1 h))
+    let known = other-count board ids p q chains.framed chains.ids empty s in
+    (λ h. known.0 (test.0 h), λ h. test.1 (known.1 h))
 
 -- whether the stone on a place has an id
 ids_at-stone : (board : List Cell) (ids : List ℕ) (k p : ℕ) → is_stone (at board p) ≡ true

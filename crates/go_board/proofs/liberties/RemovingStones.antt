@@ -1,8 +1,7 @@
 -- The pseudo-liberties when a stone is removed.
 use Rattle.std.proofs.Common.{◌≡◌, ℕ, ◌+◌, ◌-◌, ◌<◌, ◌≤◌, List, length, refl, sym, ◌∙◌, ap, subst, arith, inl, inr}
 use Rattle.std.proofs.Common.{Bool, true, false, cond, get_or-set_other, get_or-set_same}
-use Rattle.std.specs.Prelude.{◌≢◌, ◌==◌, ◌&&◌}
-use Rattle.std.proofs.lemmas.Bool.Decides.{nat_tests}
+use Rattle.std.specs.Prelude.{◌==◌}
 use Rattle.std.proofs.lemmas.List.{ext_get_or}
 use Rattle.std.proofs.Math.ListN.{set, length-set}
 use Rattle.go_base.specs.Point.{IsOn}
@@ -15,11 +14,10 @@ use Rattle.go_board.specs.declared.board.Cell.{Cell}
 use Rattle.go_board.specs.declared.board.Cell.TheVariants.{Edge, Empty, Black, White}
 use Rattle.go_board.proofs.captures.CapturedStones.{in_list}
 use Rattle.go_board.proofs.ids.Paths.{IsStone-point}
-use Rattle.go_board.proofs.Sums.{total-at_least}
-use Rattle.go_board.proofs.liberties.FillingPoints.{pseudo_liberties-filled, pseudo_liberties-total}
+use Rattle.go_board.proofs.liberties.FillingPoints.{pseudo_liberties-filled}
 use Rattle.go_board.proofs.liberties.MergingIds.{pseudo_liberties-few}
 use Rattle.go_board.proofs.liberties.PseudoLiberties.{stone-test}
-use Rattle.std.proofs.lemmas.Bool.{eq-eqb, ne_eqb, cases_eq}
+use Rattle.std.proofs.lemmas.Bool.{cases_eq}
 use Rattle.go_board.proofs.boards.Neighbours.{IsOn-inside}
 use Rattle.go_board.proofs.liberties.Shares.{loses-share, count_at-changed, share-few}
 

@@ -12,7 +12,7 @@ use Rattle.go_board.specs.private.ChainId.{id_of, empty_beside, count_at}
 use Rattle.go_board.specs.private.Steps.{rename_three, IsMoved, AreLowered, AreRaised, IsBelow}
 use Rattle.go_board.specs.private.Stones.{AreCounted}
 use Rattle.go_board.specs.declared.board.Cell.{Cell}
-use Rattle.go_board.specs.declared.board.Cell.TheVariants.{Edge, Empty}
+use Rattle.go_board.specs.declared.board.Cell.TheVariants.{Empty}
 use Rattle.go_board.specs.declared.stones.Stones.TheInside.{Inside}
 use Rattle.go_board.proofs.boards.Cells.{IsFramed-set, empty-point}
 use Rattle.go_board.proofs.ids.Paths.{IsStone-point}

@@ -24,12 +24,12 @@ use Rattle.go_board.specs.Game.{GameRecord, IsGame, IsLegal, start, board_of, wi
 use Rattle.go_board.specs.Play.{is_captured, left_at, without_captured, captured_count, play, captures}
 use Rattle.go_board.specs.Taken.{captures_of_vertex, taken_from, taken}
 use Rattle.go_board.specs.Area.{is_counted, area, score}
-use Rattle.go_board.specs.Laws.{IsOfSoMany, TakesStone, IsLeftByPlay, IsLeftBy, IsFirstBoard, BelongsTo, MoveTakes}
+use Rattle.go_board.specs.Laws.{IsOfSoMany, IsLeftByPlay, IsLeftBy, IsFirstBoard, BelongsTo, MoveTakes}
 use Rattle.go_board.specs.Laws.{AddsTaken, IsScore}
 use Rattle.go_board.specs.decisions.Board.{on?}
 use Rattle.go_board.specs.decisions.Chain.{captured?}
 use Rattle.go_board.specs.decisions.Counting.{counts_for?}
-use Rattle.go_board.proofs.boards.Cells.{stone-point, stone-filled}
+use Rattle.go_board.proofs.boards.Cells.{stone-point}
 use Rattle.go_board.proofs.captures.CapturedStones.{holds-yes, holds-no, in_list, at-without_captured, at-play}
 use Rattle.go_board.proofs.boards.EmptyBoard.{HasSize-empty_board, length-empty_board}
 use Rattle.go_board.proofs.boards.HandicapPoints.{points-on}

@@ -10,14 +10,10 @@ use Rattle.go_base.specs.declared.colours.Colour.{Colour}
 use Rattle.go_base.specs.declared.colours.Colour.TheVariants as colour
 use Rattle.go_base.specs.declared.moves.Move.{Move}
 use Rattle.go_base.specs.declared.vertices.Vertex.{Vertex}
-use Rattle.go_base.specs.declared.vertices.Vertex.TheVariants.{At}
 use Rattle.go_board.specs.Board.{at}
-use Rattle.go_board.specs.Chain.{IsFree}
 use Rattle.go_board.specs.declared.board.Cell.TheVariants.{Empty}
-use Rattle.go_board.proofs.boards.Cells.{empty-point}
 use Rattle.go_board.specs.private.Frame.{HasSize}
 use Rattle.go_board.specs.Game.{GameRecord, start, board_of, with_move, after_vertex, IsGame, IsLegal, RepeatsLast}
-use Rattle.go_board.specs.Game.{Repeats}
 use Rattle.go_board.specs.private.Kept.{record_of, IsKept}
 use Rattle.go_board.specs.private.Ko.{IsKo, IsKoAfter, TakesOnly}
 use Rattle.go_board.specs.private.ChainId.{AreFree}

@@ -1,9 +1,7 @@
 -- What one more move does to the record and the board.
 use Rattle.std.proofs.Common.{◌≡◌, ℕ, zero, suc, ◌+◌, ◌-◌, ◌<◌, ◌≤◌, List, [], ◌∷◌, ◌++◌, length, refl, sym, ◌∙◌, ap}
-use Rattle.std.proofs.Common.{subst, arith, inl, inr, Bool}
-use Rattle.std.specs.Prelude.{ℤ, ◌⊎◌, Result, Ok, Err, Some, slice_get, MatchResult, IsTrue, is_ok, ◌↔◌}
-use Rattle.std.specs.List.{fold}
-use Rattle.std.proofs.lemmas.Bool.{false≢true}
+use Rattle.std.proofs.Common.{subst, arith, inl, inr}
+use Rattle.std.specs.Prelude.{ℤ, ◌⊎◌, Some, slice_get}
 use Rattle.std.proofs.lemmas.List.{take-append-le, take_at, length_push, nil_from_length}
 use Rattle.go_base.specs.Komi.{IsKomi}
 use Rattle.go_base.specs.declared.colours.Colour.{Colour}

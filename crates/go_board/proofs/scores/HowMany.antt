@@ -1,14 +1,13 @@
 -- How many numbers pass a test: those that are listed, each once.
 use Rattle.std.proofs.Common.{◌≡◌, ℕ, zero, suc, ◌+◌, ◌<◌, List, [], ◌∷◌, ◌++◌, get_or, refl, sym, ◌∙◌, ap, subst}
 use Rattle.std.proofs.Common.{arith, inl, inr, Bool, true, false, cond, Contains}
-use Rattle.std.specs.Prelude.{◌⊎◌, ◌≢◌, count_by, filter}
+use Rattle.std.specs.Prelude.{◌≢◌, count_by, filter}
 use Rattle.std.specs.List.{AllPairs, range_with_len}
 use Rattle.std.proofs.lemmas.Bool.{false≢true}
 use Rattle.std.proofs.lemmas.List.{append-nil}
 use Rattle.std.proofs.lemmas.List.Elements.{Contains-push, Contains-push_cases, Contains-append_left, Contains-get_or}
 use Rattle.std.proofs.lemmas.List.Quantifiers.{all_pairs_push}
 use Rattle.std.proofs.lemmas.List.Sums.{length-filter}
-use Rattle.go_base.specs.Decide.{holds}
 use Rattle.go_board.specs.Laws.{IsOfSoMany}
 use Rattle.go_board.proofs.captures.RemovingLoop.{places-more}
 use Rattle.go_board.proofs.General.{earlier_or_last}

@@ -1,8 +1,8 @@
 -- Popping the stones of the last move off the stack.
 use Rattle.std.proofs.Common.{◌≡◌, ℕ, zero, suc, Bool, true, false, cond, ◌+◌, ◌-◌, ◌<◌, List, [], ◌∷◌, ◌++◌, length}
-use Rattle.std.proofs.Common.{take, refl, sym, ◌∙◌, ap, subst, arith}
+use Rattle.std.proofs.Common.{refl, sym, ◌∙◌, ap, subst, arith}
 use Rattle.std.specs.Prelude.{◌≢◌}
-use Rattle.std.proofs.lemmas.List.{take_at, length_push}
+use Rattle.std.proofs.lemmas.List.{length_push}
 use Rattle.std.specs.List.{AllByRecursion, filter, range_with_len}
 use Rattle.go_board.specs.private.TakenStack.{taken_at, IsNotLast, IsOnlyTaken}
 use Rattle.go_board.specs.declared.taken_stack.TakenStone.{TakenStone}

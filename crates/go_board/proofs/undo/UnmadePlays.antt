@@ -3,26 +3,23 @@ use Rattle.std.proofs.Common.{◌≡◌, ℕ, ◌<◌, List, [], ◌∷◌, leng
 use Rattle.std.proofs.Common.{get_or-set_same, get_or-set_other}
 use Rattle.std.specs.Prelude.{◌≢◌}
 use Rattle.std.specs.List.{range_with_len, filter, AllByRecursion}
-use Rattle.std.proofs.lemmas.List.{append-nil}
-use Rattle.std.proofs.lemmas.List.Sums.{length-filter}
 use Rattle.std.proofs.Math.ListN.{set, length-set}
 use Rattle.go_base.specs.Colour.{other}
 use Rattle.go_base.specs.declared.colours.Colour.{Colour}
-use Rattle.go_base.specs.declared.vertices.Vertex.TheVariants.{Pass, At}
+use Rattle.go_base.specs.declared.vertices.Vertex.TheVariants.{At}
 use Rattle.go_board.specs.Board.{at, stone}
 use Rattle.go_base.specs.Decide.{holds}
 use Rattle.go_board.specs.Chain.{IsCaptured}
 use Rattle.go_board.specs.decisions.Chain.{captured?}
-use Rattle.go_board.specs.Play.{is_captured, play, captures, captured_count}
+use Rattle.go_board.specs.Play.{is_captured, play, captures}
 use Rattle.go_board.specs.private.TakenStack.{captured_places, with_stones, AreLastPoints, IsRestored, IsAfterMove}
 use Rattle.go_board.specs.private.TakenStack.{IsUnmade}
 use Rattle.go_board.specs.declared.board.Cell.{Cell}
 use Rattle.go_board.specs.declared.board.Cell.TheVariants.{Edge, Empty}
 use Rattle.go_board.specs.declared.taken_stack.TakenStone.{TakenStone}
-use Rattle.go_board.proofs.boards.Cells.{stone-point}
+use Rattle.go_board.proofs.boards.Cells.{stone-point, empty-point}
 use Rattle.go_board.proofs.captures.CapturedStones.{holds-yes, holds-no, in_list, at-play}
 use Rattle.go_board.proofs.ko_rules.PlaysTakenBack.{taken-empty, taken-other, length-play}
-use Rattle.go_board.proofs.boards.Cells.{empty-point}
 use Rattle.go_board.proofs.undo.PoppedStones.{popped-all, popped-one, popped-rising, rising-picked}
 use Rattle.go_board.proofs.undo.RestoredStones.{length-with_stones, filled-in, filled-out}
 use Rattle.go_board.proofs.undo.BoardsBefore.{undo-board}

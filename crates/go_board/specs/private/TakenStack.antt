@@ -166,7 +166,7 @@ later_than number (taken ∷ stones) = if taken.number == number then later_than
 -- On this board the move, before which `number` others were made, took the stones at the front, and later moves the
 -- others.
 pub record AreTakenBy (board : List Cell) (c : Colour) (v : Vertex) (number : ℕ) (stones : List TakenStone) : Type 0
-    where
-  pub later : List TakenStone
-  pub are : stones ≡ taken_at number (taken_places board c v) ++ later
-  pub others : AllByRecursion (λ t. number < t.number) later
+  where
+    pub later : List TakenStone
+    pub are : stones ≡ taken_at number (taken_places board c v) ++ later
+    pub others : AllByRecursion (λ t. number < t.number) later

@@ -1,7 +1,6 @@
-use Rattle.std.proofs.Common.{◌≤◌, ◌∙◌, ap, sym, subst}
+use Rattle.std.proofs.Common.{◌≤◌, ◌∙◌, ap}
 use Rattle.go_board.specs.Board.{empty_board}
-use Rattle.go_board.specs.private.Frame.{HasSize}
-use Rattle.go_board.proofs.boards.EmptyBoard.{empty_board-from_places, HasSize-empty_board, IsFramed-has_size}
+use Rattle.go_board.proofs.boards.EmptyBoard.{empty_board-from_places}
 use Rattle.go_board.proofs.board.Board.empty.Goals as goal
 use Rattle.go_board.proofs.board.Board.empty.Goals.{After-loop-place}
 

@@ -5,8 +5,7 @@ use Rattle.go_board.specs.Board.{at}
 use Rattle.go_board.specs.Game.{after_vertex}
 use Rattle.go_board.specs.private.TakenStack.{ArePoints, AreTakenBy, IsVacant, cleared}
 use Rattle.go_board.specs.declared.board.Cell.{Cell}
-use Rattle.go_board.proofs.boards.Cells.{stone-point}
-use Rattle.go_board.proofs.boards.Cells.{empty-point}
+use Rattle.go_board.proofs.boards.Cells.{stone-point, empty-point}
 use Rattle.go_board.proofs.ko_rules.ReplayedBoards.{points-kept, again-pass, again-play}
 use Rattle.go_board.proofs.board.Board.make.Goals as goal
 use Rattle.go_board.proofs.board.Board.make.Goals.{in-Pass, in-At}

@@ -1,5 +1,5 @@
-use Rattle.std.proofs.Common.{◌≡◌, List, ℕ, length, subst, arith}
-use Rattle.go_board.proofs.ids.FindingIds.{IsGiving-none, given-all}
+use Rattle.std.proofs.Common.{arith}
+use Rattle.go_board.proofs.ids.FindingIds.{given-all}
 use Rattle.go_board.proofs.chain_ids.ChainIds.set_all.Goals as goal
 
 pub returns-clause-given : goal.returns-clause-given

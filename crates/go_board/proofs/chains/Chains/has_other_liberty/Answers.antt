@@ -3,7 +3,7 @@ use Rattle.std.specs.Prelude.{◌↔◌, IsTrue, nat_lt}
 use Rattle.go_board.specs.Board.{at, IsStone}
 use Rattle.go_board.specs.private.ChainId.{HasOtherLiberty}
 use Rattle.go_board.specs.declared.board.Cell.{Cell}
-use Rattle.go_board.proofs.liberties.PlacingStones.{stone_in, has_other_liberty-test}
+use Rattle.go_board.proofs.liberties.PlacingStones.{has_other_liberty-test}
 use Rattle.go_board.proofs.chains.Chains.has_other_liberty.Goals as goal
 
 pub returns : goal.returns

@@ -3,16 +3,15 @@ use Rattle.std.proofs.lemmas.List.{append-nil}
 use Rattle.go_board.specs.Play.{without_captured, captured_count}
 use Rattle.go_board.specs.private.ChainId.{BoardWithIds, AreChains}
 use Rattle.go_board.specs.private.TakenStack.{captured_places, taken_at, AreNoneCaptured, HaveCapturedId}
-use Rattle.go_board.proofs.captures.MakingPlays.{play-none, captures-none, places-empty, told, HaveCapturedId-code}
-use Rattle.go_board.proofs.captures.MakingPlays.{play-code, captures-code}
-use Rattle.go_board.proofs.captures.MakingPlays.{places-code, AreChains-play}
+use Rattle.go_board.proofs.captures.MakingPlays.{play-none, captures-none, places-empty, from_code, HaveCapturedId-code}
+use Rattle.go_board.proofs.captures.MakingPlays.{play-code, captures-code, places-code, AreChains-play}
 use Rattle.go_board.proofs.chains.Chains.make_play.Goals as goal
 
 pub returns-in_default-clause-board : goal.returns-in_default-clause-board
 returns-in_default-clause-board c =
     let board = c.args.self.now in
     c.place_stone.ensures ∙ sym (play-none board c.args.colour c.args.place c.requires.empty c.requires.free
-    (told board c.self.inside.stones.board c.args.colour c.other-theirs.result c.args.place
+    (from_code board c.self.inside.stones.board c.args.colour c.other-theirs.result c.args.place
     (c.self.view_is ∙ c.place_stone.ensures) c.other-theirs.ensures (λ b t. AreNoneCaptured b t c.args.place)
     c.in_default.ensures.none))
 
@@ -21,7 +20,7 @@ returns-in_default-clause-stack c =
     let board = c.args.self.now in
     sym (ap (λ (ps : List ℕ). c.args.stack.now ++ taken_at c.args.number ps)
     (places-empty board c.args.colour c.args.place c.requires.empty c.requires.free
-    (told board c.self.inside.stones.board c.args.colour c.other-theirs.result c.args.place
+    (from_code board c.self.inside.stones.board c.args.colour c.other-theirs.result c.args.place
     (c.self.view_is ∙ c.place_stone.ensures) c.other-theirs.ensures (λ b t. AreNoneCaptured b t c.args.place)
     c.in_default.ensures.none))
     ∙ append-nil c.args.stack.now)
@@ -30,7 +29,7 @@ pub returns-in_default-clause-taken : goal.returns-in_default-clause-taken
 returns-in_default-clause-taken c =
     let board = c.args.self.now in
     sym (captures-none board c.args.colour c.args.place c.requires.empty c.requires.free
-    (told board c.self.inside.stones.board c.args.colour c.other-theirs.result c.args.place
+    (from_code board c.self.inside.stones.board c.args.colour c.other-theirs.result c.args.place
     (c.self.view_is ∙ c.place_stone.ensures) c.other-theirs.ensures (λ b t. AreNoneCaptured b t c.args.place)
     c.in_default.ensures.none))
 

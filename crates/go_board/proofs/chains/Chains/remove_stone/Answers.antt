@@ -7,7 +7,7 @@ use Rattle.go_board.specs.declared.board.Cell.{Cell}
 use Rattle.go_board.specs.declared.board.Cell.TheVariants.{Empty}
 use Rattle.go_board.proofs.boards.Cells.{IsFramed-set}
 use Rattle.go_board.proofs.ids.Paths.{IsStone-point}
-use Rattle.go_board.proofs.liberties.PlacingStones.{stone_in, stone_on}
+use Rattle.go_board.proofs.liberties.PlacingStones.{stone_on}
 use Rattle.go_board.proofs.ids.SplittingChains.{AreChainIds-whole, IsCut-removed}
 use Rattle.go_board.proofs.chains.Chains.remove_stone.Goals as goal
 

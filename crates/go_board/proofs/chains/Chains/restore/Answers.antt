@@ -5,8 +5,7 @@ use Rattle.go_board.specs.declared.board.Cell.{Cell}
 use Rattle.go_board.specs.declared.board.Cell.TheVariants.{Empty}
 use Rattle.go_board.specs.declared.taken_stack.TakenStone.{TakenStone}
 use Rattle.go_board.proofs.boards.Cells.{empty-point}
-use Rattle.go_board.proofs.undo.RestoredStones.{popped-empty, IsRestoring-more, count-few}
-use Rattle.go_board.proofs.undo.RestoredStones.{IsRestoring-done}
+use Rattle.go_board.proofs.undo.RestoredStones.{popped-empty, IsRestoring-more, count-few, IsRestoring-done}
 use Rattle.go_board.proofs.chains.Chains.restore.Goals as goal
 
 pub place_stone-requires-clause-empty : goal.place_stone-requires-clause-empty

@@ -7,8 +7,7 @@ use Rattle.go_board.specs.private.Frame.{HasSize}
 use Rattle.go_board.specs.private.TakenStack.{stack_of}
 use Rattle.go_board.specs.declared.taken_stack.TakenStone.{TakenStone}
 use Rattle.go_board.proofs.ko_rules.ReplayedBoards.{IsReplayed, IsReplayed-start, IsReplayed-more, taken-next}
-use Rattle.go_board.proofs.ko_rules.ReplayedBoards.{open-next}
-use Rattle.go_board.proofs.ko_rules.ReplayedBoards.{repeats-found, repeats-last}
+use Rattle.go_board.proofs.ko_rules.ReplayedBoards.{open-next, repeats-found, repeats-last}
 use Rattle.go_board.proofs.game.Game.had_board.Goals as goal
 use Rattle.std.proofs.lemmas.Option.{slice_get_read}
 

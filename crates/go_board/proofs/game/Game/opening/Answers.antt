@@ -1,5 +1,4 @@
-use Rattle.std.proofs.Common.{◌∙◌, sym, subst}
-use Rattle.go_board.specs.private.Frame.{IsFramed}
+use Rattle.std.proofs.Common.{◌∙◌}
 use Rattle.go_board.proofs.records.GameFields.{IsKept-start}
 use Rattle.go_board.proofs.game.Game.opening.Goals as goal
 

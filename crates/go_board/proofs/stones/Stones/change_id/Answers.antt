@@ -1,7 +1,6 @@
 use Rattle.std.proofs.Common.{subst, sym}
 use Rattle.go_board.specs.Board.{at, IsStone}
 use Rattle.go_board.specs.private.ChainId.{BoardWithIds}
-use Rattle.go_board.proofs.liberties.PlacingStones.{stone_in, stone_on}
 use Rattle.go_board.proofs.liberties.StonesFields.{room-for_id_changed, AreCounted-id_changed}
 use Rattle.go_board.proofs.stones.Stones.change_id.Goals as goal
 

@@ -10,11 +10,9 @@ use Rattle.go_board.specs.declared.board.Cell.{Cell}
 use Rattle.go_board.specs.declared.taken_stack.TakenStone.{TakenStone}
 use Rattle.go_board.proofs.captures.CapturedStones.{IsClearing-done, IsClearing-count}
 use Rattle.go_board.proofs.captures.RemovingLoop.{IsRemoving, IsRemoving-taken, IsRemoving-left, IsRemoving-past}
-use Rattle.go_board.proofs.captures.RemovingLoop.{room-for_one}
-use Rattle.go_board.proofs.captures.RemovingLoop.{captured-id, free-id}
+use Rattle.go_board.proofs.captures.RemovingLoop.{room-for_one, captured-id, free-id}
 use Rattle.go_board.proofs.stones.Stones.remove_captured.Goals as goal
-use Rattle.go_board.proofs.stones.Stones.remove_captured.Goals.{then-id+then-eq, else-id}
-use Rattle.go_board.proofs.stones.Stones.remove_captured.Goals.{else-id-via-then-id+else-eq}
+use Rattle.go_board.proofs.stones.Stones.remove_captured.Goals.{then-id+then-eq, else-id, else-id-via-then-id+else-eq}
 use Rattle.go_board.proofs.stones.Stones.remove_captured.Goals.{else-id-via-else-id}
 
 pub push-requires-clause-room : goal.push-requires-clause-room

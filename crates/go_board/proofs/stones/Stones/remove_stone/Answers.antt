@@ -1,7 +1,6 @@
 use Rattle.std.proofs.Common.{subst, sym}
 use Rattle.go_board.specs.Board.{at, IsStone}
 use Rattle.go_board.specs.private.ChainId.{BoardWithIds}
-use Rattle.go_board.proofs.liberties.PlacingStones.{stone_in, stone_on}
 use Rattle.go_board.proofs.liberties.StonesFields.{room-for_removed, AreCounted-removed}
 use Rattle.go_board.proofs.stones.Stones.remove_stone.Goals as goal
 
