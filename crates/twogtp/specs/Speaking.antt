@@ -5,12 +5,12 @@ use Rattle.std.specs.Option.{option_to_list}
 use Rattle.std.specs.Io.KnownBytes.{Appends, Keeps}
 use Rattle.go_base.specs.declared.colours.Colour.{Colour}
 use Rattle.gtp_match.specs.declared.controller.Controller.{Controller}
-use Rattle.gtp_match.specs.declared.sides.Incarnation.{Incarnation}
+use Rattle.gtp_match.specs.declared.sides.EngineRun.{EngineRun}
 use Rattle.gtp_match.specs.declared.verdicts.Action.TheVariants.{Send}
 use Rattle.gtp_match.specs.declared.verdicts.SideFault.{SideFault}
 use Rattle.gtp_match.specs.Controller.{next_text, sent, lost}
 use Rattle.gtp_match.specs.Hearing.{HearsAllExactly}
-use Rattle.gtp_match.specs.Losing.{HearsAllTelling, owed}
+use Rattle.gtp_match.specs.Losing.{HearsAllReporting, owed}
 use Rattle.gtp_match.specs.Next.{next}
 use Rattle.gtp_match.specs.Retaking.{HearsAllRetakes}
 use Rattle.gtp_match.specs.declared.losses.Loss.{Loss}
@@ -26,7 +26,7 @@ use Rattle.twogtp.specs.Processes.{WithProcess}
 use Rattle.twogtp.specs.Why.{only_lost}
 
 -- The bytes of the command that a side is sent next; none where it is down.
-abbrev pub command_for : Controller → Colour → Option Incarnation → List ℕ
+abbrev pub command_for : Controller → Colour → Option EngineRun → List ℕ
 command_for c side None = []
 command_for c side (Some engine) = next_text c side engine
 
@@ -70,7 +70,7 @@ pub data AreSent {P : Type 0} (known : Ghosts P) (c : Controller) (side : Colour
 -- Why a side was lost by bytes, all of which were heard: the first loss by them, if any.
 abbrev pub LostBy : Colour → Controller → List ℕ → Controller → Option Lost → Type 0
 LostBy side c bytes new why =
-    (loss : Option Loss) × HearsAllTelling side c bytes loss new × (why ≡ option_map Wrote loss)
+    (loss : Option Loss) × HearsAllReporting side c bytes loss new × (why ≡ option_map Wrote loss)
 
 -- What is reported of bytes, all of which were heard: the `play` that is retaken by them, if any, and why the side was
 -- lost by them, if it was. It is looked for where it is to be told.
