@@ -1,4 +1,4 @@
--- That a match goes on, and what a reply counts for: told without the tables.
+-- That a match goes on, and what a reply counts for, said without the tables.
 use Rattle.std.specs.Prelude.{◌≡◌, ◌≢◌, ℕ, ◌+◌, ◌-◌, ◌<◌, ◌≤◌, ◌↔◌, false, true, List, [], ◌∷◌, ◌++◌, length, slice_get}
 use Rattle.std.specs.Prelude.{Option, None, Some, IsSome, IfSome, MatchOption, Err}
 use Rattle.go_base.specs.Colour.{other}
@@ -21,7 +21,7 @@ use Rattle.gtp_match.specs.Sides.{side_of, restarts}
 use Rattle.gtp_match.specs.Sound.{IsSound, IsIdle, IsPlay, IsUndo}
 use Rattle.gtp_match.specs.Taking.{may_retake, taking_back}
 use Rattle.gtp_match.specs.declared.controller.Controller.{Controller}
-use Rattle.gtp_match.specs.declared.sides.Incarnation.{Incarnation}
+use Rattle.gtp_match.specs.declared.sides.EngineRun.{EngineRun}
 use Rattle.gtp_match.specs.declared.unanswered.SentCommand.{SentCommand}
 use Rattle.gtp_match.specs.declared.verdicts.Action.{Action}
 use Rattle.gtp_match.specs.declared.verdicts.Action.TheVariants.{Start, Send, Wait, Done}
@@ -34,7 +34,7 @@ use Rattle.gtp_match.specs.declared.verdicts.Verdict.TheVariants.{Score, Resign,
 
 -- Why an engine has to answer before it is sent more: eight commands of it are unanswered; or a `genmove` is; or some
 -- command is, and it was sent the whole script.
-pub data HasToAnswer (game : GameRecord) (engine : Incarnation) : Type 0 where
+pub data HasToAnswer (game : GameRecord) (engine : EngineRun) : Type 0 where
   eight : 8 ≤ length engine.unanswered → HasToAnswer game engine
   move : (place : ℕ) (entry : SentCommand) → slice_get engine.unanswered place ≡ Some entry
       → IsGenmove entry.command → HasToAnswer game engine
@@ -48,8 +48,8 @@ pub record MayStart (c : Controller) (side : Colour) : Type 0 where
   pub other_idle : IsIdle (side_of c.sides (other side)).up
   pub none_taken_back : c.pending ≡ None
 
--- After a verdict it is told. Before one, a side is started that may be, a side is sent a command that is up and need
--- not answer first, and a side is waited for that has to answer.
+-- After a verdict it is returned. Before one, a side is started that may be, a side is sent a command that is up and
+-- need not answer first, and a side is waited for that has to answer.
 abbrev pub IsDue : Controller → Action → Type 0
 IsDue c (Done verdict) = c.verdict ≡ Some verdict
 IsDue c (Wait side) = (c.verdict ≡ None) × MatchOption (side_of c.sides side).up ⊥ (HasToAnswer c.game)
@@ -69,10 +69,10 @@ StartsComeFirst =
     → IsIdle c.sides.white.up → (side_of c.sides side).up ≡ None
     → (down : Colour) × (next c ≡ Start down) × ((side_of c.sides down).up ≡ None)
 
--- ---- who is in step
+-- ---- a side that is in step
 
 -- nothing of the engine is unanswered, and it has confirmed as many commands as the script has
-pub record HasWholeScript (game : GameRecord) (engine : Incarnation) : Type 0 where
+pub record HasWholeScript (game : GameRecord) (engine : EngineRun) : Type 0 where
   pub idle : engine.unanswered ≡ []
   pub as_many : engine.confirmed ≡ length (script game)
 
@@ -85,7 +85,7 @@ InStepSays =
 -- ---- when a move is asked for, or taken back
 
 -- nothing of the engine is unanswered, and it has confirmed the whole script
-pub record IsReady (game : GameRecord) (engine : Incarnation) : Type 0 where
+pub record IsReady (game : GameRecord) (engine : EngineRun) : Type 0 where
   pub idle : engine.unanswered ≡ []
   pub whole : length (script game) ≤ engine.confirmed
 
@@ -116,7 +116,7 @@ UndoIsSent =
 
 -- The bytes that were used show this fault: they end a reply where nothing is unanswered, or one without the id of the
 -- command that was sent first of those that are unanswered; or the last of them begins no reply, or is one too many.
-abbrev pub ShowsFault : Incarnation → List ℕ → ℕ → SideFault → Type 0
+abbrev pub ShowsFault : EngineRun → List ℕ → ℕ → SideFault → Type 0
 ShowsFault engine bytes used Unasked = (reply : Reply) × EndsReply engine bytes used reply × (engine.unanswered ≡ [])
 ShowsFault engine bytes used WrongId =
     (reply : Reply) × (entry : SentCommand) × (later : List SentCommand) × EndsReply engine bytes used reply
@@ -134,7 +134,7 @@ FaultsHaveCauses =
     → MatchOption (side_of c.sides s).up ⊥ (λ engine. ShowsFault engine bytes used shown)
 
 -- Of a match only what this side's engine wrote is another: it is longer by as many bytes as these.
-pub record OnlyWrote (c new : Controller) (s : Colour) (engine : Incarnation) (bytes : List ℕ) : Type 0 where
+pub record OnlyWrote (c new : Controller) (s : Colour) (engine : EngineRun) (bytes : List ℕ) : Type 0 where
   pub reader : List ℕ
   pub same : new ≡ with_side_up c s (record engine { reader = reader })
   pub longer : length reader ≡ length engine.reader + length bytes
@@ -142,14 +142,14 @@ pub record OnlyWrote (c new : Controller) (s : Colour) (engine : Incarnation) (b
 -- How many of the bytes are used, of a side that is up and before a verdict: up to the end of a reply, where one ends;
 -- or up to the byte at which a fault has its cause, which is shown then; or else all, and nothing more is done.
 pub record BytesAreUsed : Type 0 where
-  pub reply : (c new : Controller) (s : Colour) (engine : Incarnation) (value : Reply) (bytes : List ℕ)
+  pub reply : (c new : Controller) (s : Colour) (engine : EngineRun) (value : Reply) (bytes : List ℕ)
       (place used : ℕ) (fault : Option SideFault) → Hears c s bytes used fault new
       → c.verdict ≡ None → (side_of c.sides s).up ≡ Some engine → EndsReply engine bytes place value → used ≡ place
-  pub fault : (c new : Controller) (s : Colour) (engine : Incarnation) (shown : SideFault) (bytes : List ℕ)
+  pub fault : (c new : Controller) (s : Colour) (engine : EngineRun) (shown : SideFault) (bytes : List ℕ)
       (place used : ℕ) (fault : Option SideFault) → Hears c s bytes used fault new
       → c.verdict ≡ None → (side_of c.sides s).up ≡ Some engine → ShowsFault engine bytes place shown
       → (used ≡ place) × (fault ≡ Some shown)
-  pub nothing : (c new : Controller) (s : Colour) (engine : Incarnation) (bytes : List ℕ) (used : ℕ)
+  pub nothing : (c new : Controller) (s : Colour) (engine : EngineRun) (bytes : List ℕ) (used : ℕ)
       (fault : Option SideFault) → Hears c s bytes used fault new
       → c.verdict ≡ None → (side_of c.sides s).up ≡ Some engine → TellsNothing (engine.reader ++ bytes)
       → (used ≡ length bytes) × (fault ≡ None) × OnlyWrote c new s engine bytes
@@ -162,8 +162,8 @@ pub record BytesAreUsed : Type 0 where
 -- ---- what answers count for
 
 -- the side is up, these commands of its engine are unanswered, and this number of them is confirmed
-pub record Stands (c : Controller) (s : Colour) (left : List SentCommand) (number : ℕ) : Type 0 where
-  pub engine : Incarnation
+pub record HasAnswered (c : Controller) (s : Colour) (left : List SentCommand) (number : ℕ) : Type 0 where
+  pub engine : EngineRun
   pub up : (side_of c.sides s).up ≡ Some engine
   pub unanswered : engine.unanswered ≡ left
   pub confirmed : engine.confirmed ≡ number
@@ -187,27 +187,27 @@ IsEnd (Unfit side) = ⊥
 IsEnd (Abandoned side) = ⊥
 
 -- What a reply to the first of the unanswered commands counts for. One command more is confirmed, also by the move that
--- ends a match by its score or its limit. Or it refused a `play`, and the number of the last move has one retake more. Or it took a move back:
--- one command less is confirmed, the last move leaves the game, and nothing is to be taken back any more. Or its side
--- resigned: the command is answered, and not confirmed. Or a side failed by it, and the command still counts as
--- unanswered.
-pub data IsCounted (c new : Controller) (s : Colour) (engine : Incarnation) (entry : SentCommand)
+-- ends a match by its score or its limit. Or it refused a `play`, and the number of the last move has one retake more.
+-- Or it took a move back: one command less is confirmed, the last move leaves the game, and nothing is to be taken back
+-- any more. Or its side resigned: the command is answered, and not confirmed. Or a side failed by it, and the command
+-- still counts as unanswered.
+pub data IsCounted (c new : Controller) (s : Colour) (engine : EngineRun) (entry : SentCommand)
     (later : List SentCommand) (reply : Reply) : Type 0 where
-  confirmed : IfSome new.verdict IsEnd → Stands new s later (engine.confirmed + 1)
+  confirmed : IfSome new.verdict IsEnd → HasAnswered new s later (engine.confirmed + 1)
       → IsCounted c new s engine entry later reply
-  retaken : IsPlay entry.command → reply.ok ≡ false → new.verdict ≡ None → Stands new s later engine.confirmed
+  retaken : IsPlay entry.command → reply.ok ≡ false → new.verdict ≡ None → HasAnswered new s later engine.confirmed
       → new.retakes ≡ with_retake (length c.game.moves) c.retakes → IsCounted c new s engine entry later reply
-  taken_back : IsUndo entry.command → reply.ok ≡ true → new.verdict ≡ None → Stands new s later (engine.confirmed - 1)
+  taken_back : IsUndo entry.command → reply.ok ≡ true → new.verdict ≡ None → HasAnswered new s later (engine.confirmed - 1)
       → new.game ≡ without_last c.game → new.pending ≡ None → IsCounted c new s engine entry later reply
-  resigned : new.verdict ≡ Some (Resign s) → Stands new s later engine.confirmed
+  resigned : new.verdict ≡ Some (Resign s) → HasAnswered new s later engine.confirmed
       → IsCounted c new s engine entry later reply
-  failed : (v : Verdict) → new.verdict ≡ Some v → IsFailure v → Stands new s (entry ∷ later) engine.confirmed
+  failed : (v : Verdict) → new.verdict ≡ Some v → IsFailure v → HasAnswered new s (entry ∷ later) engine.confirmed
       → IsCounted c new s engine entry later reply
 
 -- Before a verdict, a reply with the id of the first of the unanswered commands shows no fault, and counts.
 abbrev pub AnswersCount : Type 0
 AnswersCount =
-    (c new : Controller) (s : Colour) (engine : Incarnation) (entry : SentCommand) (later : List SentCommand)
+    (c new : Controller) (s : Colour) (engine : EngineRun) (entry : SentCommand) (later : List SentCommand)
     (reply : Reply) (bytes : List ℕ) (used : ℕ) (fault : Option SideFault)
     → Hears c s bytes used fault new
     → c.verdict ≡ None → (side_of c.sides s).up ≡ Some engine
@@ -218,13 +218,13 @@ AnswersCount =
 -- the command still counts as unanswered.
 abbrev pub OtherPointsAreUnfit : Type 0
 OtherPointsAreUnfit =
-    (c new : Controller) (s : Colour) (engine : Incarnation) (entry : SentCommand) (later : List SentCommand)
+    (c new : Controller) (s : Colour) (engine : EngineRun) (entry : SentCommand) (later : List SentCommand)
     (reply : Reply) (bytes : List ℕ) (used : ℕ) (fault : Option SideFault)
     → IsSound c → Hears c s bytes used fault new
     → c.verdict ≡ None → (side_of c.sides s).up ≡ Some engine
     → EndsReply engine bytes used reply → engine.unanswered ≡ entry ∷ later → reply.id ≡ Some entry.id
     → NamesOtherPoints c.game entry.command reply
-    → (new.verdict ≡ Some (Unfit s)) × Stands new s (entry ∷ later) engine.confirmed
+    → (new.verdict ≡ Some (Unfit s)) × HasAnswered new s (entry ∷ later) engine.confirmed
 
 -- ---- a maker that goes down
 
@@ -235,7 +235,7 @@ pub record GoesDownWithMove (c new : Controller) (s : Colour) : Type 0 where
   pub taken_back : taking_back c ≡ Some s → (new.game ≡ without_last c.game) × (new.pending ≡ None)
   pub stays : ¬ (taking_back c ≡ Some s) → (new.game ≡ c.game) × (new.pending ≡ c.pending)
 
--- It is so of a side that is up and is lost, and wherever a fault is shown.
+-- It is so of a side that is up and goes down by `lost`, and wherever a fault is shown.
 pub record MakersTakeBack : Type 0 where
   pub lost : (c : Controller) (s : Colour) → IsSome (side_of c.sides s).up → GoesDownWithMove c (lost c s) s
   pub fault : (c new : Controller) (s : Colour) (bytes : List ℕ) (used : ℕ) (shown : SideFault)
@@ -245,7 +245,7 @@ pub record MakersTakeBack : Type 0 where
 
 -- A `play` that the engine refused is met by a retake: it is the script's last command, the last move is the other
 -- side's, and of its number there were less than three retakes.
-pub record IsMet (c : Controller) (s : Colour) (engine : Incarnation) : Type 0 where
+pub record IsMet (c : Controller) (s : Colour) (engine : EngineRun) : Type 0 where
   pub last_command : engine.confirmed + 1 ≡ length (script c.game)
   pub place : ℕ
   pub move : Move
@@ -256,7 +256,7 @@ pub record IsMet (c : Controller) (s : Colour) (engine : Incarnation) : Type 0 w
 
 pub record RetakesAreMet : Type 0 where
   -- a `play` may be retaken exactly where it is so
-  pub met : (c : Controller) (s : Colour) (engine : Incarnation) → may_retake c s engine ≡ true ↔ IsMet c s engine
+  pub met : (c : Controller) (s : Colour) (engine : EngineRun) → may_retake c s engine ≡ true ↔ IsMet c s engine
   -- with one retake more of a number there is one more of it, and no more of any other
   pub one_more : (retakes : List ℕ) (number : ℕ) → 0 < number → number ≤ length retakes
       → retakes_of (with_retake number retakes) number ≡ retakes_of retakes number + 1

@@ -11,7 +11,7 @@ abbrev pub first_fault : Option SideFault → Option SideFault → Option SideFa
 first_fault (Some shown) second = Some shown
 first_fault None second = second
 
--- What two pieces told and left, and what both in one did.
+-- What two pieces return and leave, and both in one.
 pub record AreAsOne (mid two one : Controller) (first second joined : Option SideFault) : Type 0 where
   -- the same first fault
   pub fault : joined ≡ first_fault first second
@@ -22,7 +22,7 @@ pub record AreAsOne (mid two one : Controller) (first second joined : Option Sid
   -- and equal later calls leave the same again
   pub later : (calls : List Call) (x y : Controller) → CallsExactly one calls x → CallsExactly two calls y → x ≡ y
 
--- Two pieces of a side's bytes, one heard after the other, tell and leave what they do in one.
+-- Two pieces of a side's bytes, one heard after the other, return and leave the same as both in one.
 abbrev pub PiecesAreHeardAsOne : Type 0
 PiecesAreHeardAsOne =
     (side : Colour) (c mid two one : Controller) (a b : List ℕ) (first second joined : Option SideFault)

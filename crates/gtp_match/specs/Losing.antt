@@ -1,4 +1,4 @@
--- Why a side is lost by what it writes: it goes down, is unfit or forfeits. (Own.)
+-- Why a side fails by what it writes: it goes down, is unfit or forfeits. (Own.)
 use Rattle.std.specs.Prelude.{◌≡◌, ◌⊎◌, ◌<◌, ◌↔◌, ℕ, List, [], ◌++◌, length, take, drop, Option, None, Some, IfSome}
 use Rattle.std.specs.Prelude.{IsSome, Ok, Err, option_map, if◌then◌else◌}
 use Rattle.go_base.specs.Colour.{other}
@@ -18,7 +18,7 @@ use Rattle.gtp_match.specs.declared.losses.LossCause.{LossCause}
 use Rattle.gtp_match.specs.declared.losses.LossCause.TheVariants.{Shows, Unfit, RefusesPlay, KeepsMove, NoMove}
 use Rattle.gtp_match.specs.declared.losses.LossCause.TheVariants.{NoVertex, Illegal}
 use Rattle.gtp_match.specs.declared.losses.Owed.{Owed}
-use Rattle.gtp_match.specs.declared.sides.Incarnation.{Incarnation}
+use Rattle.gtp_match.specs.declared.sides.EngineRun.{EngineRun}
 use Rattle.gtp_match.specs.declared.reply_table.Outcome.{Outcome}
 use Rattle.gtp_match.specs.declared.reply_table.Outcome.TheVariants as made
 use Rattle.gtp_match.specs.declared.verdicts.ForfeitCause.{ForfeitCause}
@@ -41,15 +41,15 @@ most_shown = 80
 
 -- What an engine owes that wrote this text since its last whole reply: how many commands it hasn't answered, the oldest
 -- of them, and the beginning of the text.
-abbrev pub owed_of : Incarnation → List ℕ → Owed
+abbrev pub owed_of : EngineRun → List ℕ → Owed
 owed_of engine text = record {
   unanswered = length engine.unanswered;
   oldest = oldest engine.unanswered;
   bytes = record { items = take most_shown text };
 }
 
--- what a side owes in a match that goes on: nothing is told of one that is down, or once a verdict was given
-abbrev pub owed_where : Option Verdict → Option Incarnation → Option Owed
+-- what a side owes in a match that goes on: none where it is down, or a verdict was given
+abbrev pub owed_where : Option Verdict → Option EngineRun → Option Owed
 owed_where None None = None
 owed_where None (Some engine) = Some (owed_of engine engine.reader)
 owed_where (Some verdict) up = None
@@ -71,9 +71,9 @@ BreaksRule game side (Some (choice.Play v)) cause =
     ((cause ≡ None) × IsLegal game side v)
     ⊎ ((fault : PlayFault) × (cause ≡ Some (Illegal fault)) × RefusesVertex game side v fault)
 
--- Why a reply with this outcome loses a side, if it does: its own, or the other one where it kept a move that the other
--- one refused. A refused play does where it may not be retaken.
-abbrev pub HasLossCause : Controller → Colour → Incarnation → Reply → Outcome → Option LossCause → Type 0
+-- Why a side fails by a reply with this outcome, if one does: the side that wrote it, or the other one where it kept a
+-- move that the other one refused. By a refused play it fails where that may not be retaken.
+abbrev pub HasLossCause : Controller → Colour → EngineRun → Reply → Outcome → Option LossCause → Type 0
 HasLossCause c side engine reply (made.Down fault) cause = cause ≡ Some (Shows fault)
 HasLossCause c side engine reply made.Unfit cause = cause ≡ Some Unfit
 HasLossCause c side engine reply (made.Forfeits forfeit.RefusedPlay) cause = cause ≡ Some RefusesPlay
@@ -92,13 +92,13 @@ HasLossCause c side engine reply made.Keeps cause = cause ≡ Some KeepsMove
 -- ---- bytes that are heard once
 
 -- a loss by this text, which is a reply or shows a fault
-abbrev pub loss_of : Incarnation → List ℕ → LossCause → Loss
+abbrev pub loss_of : EngineRun → List ℕ → LossCause → Loss
 loss_of engine text cause = record { cause = cause; owed = owed_of engine text }
 
--- What hearing the bytes once loses, of a side that is up and before any verdict: by the reply that they end, if its
--- outcome has a cause; by the fault that they show; and nothing where they do neither. A reply is shown alone, without
+-- The loss by bytes that are heard once, of a side that is up and before any verdict: by the reply that they end, if
+-- its outcome has a cause; by the fault that they show; and none where they do neither. A reply is shown alone, without
 -- what follows it. Of a text that is no reply all is shown that was heard: what was kept, and all of these bytes.
-pub data LosesUp (c : Controller) (side : Colour) (engine : Incarnation) (bytes : List ℕ) : Option Loss → Type 0 where
+pub data LosesUp (c : Controller) (side : Colour) (engine : EngineRun) (bytes : List ℕ) : Option Loss → Type 0 where
   by_reply : {count : ℕ} {value : Reply} (cause : Option LossCause) → IsFirst (engine.reader ++ bytes) count (Ok value)
       → HasLossCause c side engine value (outcome c.game side (oldest engine.unanswered) value) cause
       → LosesUp c side engine bytes (option_map (loss_of engine (take count (engine.reader ++ bytes))) cause)
@@ -106,8 +106,8 @@ pub data LosesUp (c : Controller) (side : Colour) (engine : Incarnation) (bytes 
       → LosesUp c side engine bytes (Some (loss_of engine (engine.reader ++ bytes) (Shows (side_fault shown))))
   nothing_yet : TellsNothing (engine.reader ++ bytes) → LosesUp c side engine bytes None
 
--- a side that is down loses nothing, nor does any side after a verdict
-abbrev pub LosesWhere : Controller → Colour → List ℕ → Option Verdict → Option Incarnation → Option Loss → Type 0
+-- there is none at a side that is down, nor after a verdict
+abbrev pub LosesWhere : Controller → Colour → List ℕ → Option Verdict → Option EngineRun → Option Loss → Type 0
 LosesWhere c side bytes None None loss = loss ≡ None
 LosesWhere c side bytes None (Some engine) loss = LosesUp c side engine bytes loss
 LosesWhere c side bytes (Some verdict) up loss = loss ≡ None
@@ -123,28 +123,28 @@ first_of None later = later
 first_of (Some loss) later = Some loss
 
 -- Bytes are heard until they are used up or show a fault, each time some of those that are left; and the first loss by
--- them is told, if there is any.
-pub data HearsTelling (side : Colour) : Controller → List ℕ → Option SideFault → Option Loss → Controller → Type 0 where
-  used_up : {c : Controller} → HearsTelling side c [] None None c
+-- them is reported, if there is any.
+pub data HearsReporting (side : Colour) : Controller → List ℕ → Option SideFault → Option Loss → Controller → Type 0 where
+  used_up : {c : Controller} → HearsReporting side c [] None None c
   faulty : {c new : Controller} {bytes : List ℕ} {shown : SideFault} {loss : Option Loss} (used : ℕ)
       → 0 < length bytes → HearsExactly c side bytes used (Some shown) new → Loses c side bytes loss
-      → HearsTelling side c bytes (Some shown) loss new
+      → HearsReporting side c bytes (Some shown) loss new
   goes_on : {c mid new : Controller} {bytes : List ℕ} {shown : Option SideFault} {later : Option Loss} (used : ℕ)
       (loss : Option Loss) → 0 < length bytes → HearsExactly c side bytes used None mid → Loses c side bytes loss
-      → HearsTelling side mid (drop used bytes) shown later new
-      → HearsTelling side c bytes shown (first_of loss later) new
+      → HearsReporting side mid (drop used bytes) shown later new
+      → HearsReporting side c bytes shown (first_of loss later) new
 
 -- all bytes are heard, and the first loss by them, if any, is this one
-abbrev pub HearsAllTelling : Colour → Controller → List ℕ → Option Loss → Controller → Type 0
-HearsAllTelling side c bytes loss new = (shown : Option SideFault) × HearsTelling side c bytes shown loss new
+abbrev pub HearsAllReporting : Colour → Controller → List ℕ → Option Loss → Controller → Type 0
+HearsAllReporting side c bytes loss new = (shown : Option SideFault) × HearsReporting side c bytes shown loss new
 
--- ---- what loses a side
+-- ---- by what a side fails
 
 -- the side was up, and is down
 abbrev pub GoesDown : Controller → Controller → Colour → Type 0
 GoesDown c new side = IsSome (side_of c.sides side).up × ((side_of new.sides side).up ≡ None)
 
--- A side is lost: it goes down; or there was no verdict, and by the new one a side forfeits or is unfit.
+-- A side fails: it goes down; or there was no verdict, and by the new one a side forfeits or is unfit.
 pub data LosesSide (c new : Controller) : Type 0 where
   goes_down : (side : Colour) → GoesDown c new side → LosesSide c new
   forfeits : {loser : Colour} {cause : ForfeitCause} → c.verdict ≡ None
@@ -163,9 +163,9 @@ CauseFits new side fault NoMove = new.verdict ≡ Some (verdict.Forfeit side for
 CauseFits new side fault NoVertex = new.verdict ≡ Some (verdict.Forfeit side forfeit.NoVertex)
 CauseFits new side fault (Illegal rule) = new.verdict ≡ Some (verdict.Forfeit side forfeit.IllegalMove)
 
--- what a match tells of bytes of this side that were heard
-pub record IsTold (side : Colour) (c new : Controller) (fault : Option SideFault) (loss : Option Loss) : Type 0 where
-  -- a loss is told exactly where a side is lost
+-- what a match reports of bytes of this side that were heard
+pub record ReportsLoss (side : Colour) (c new : Controller) (fault : Option SideFault) (loss : Option Loss) : Type 0 where
+  -- a loss is reported exactly where a side fails
   pub exact : IsSome loss ↔ LosesSide c new
   -- its cause is the fault that is shown, or fits the new verdict
   pub cause : IfSome loss (λ l. CauseFits new side fault l.cause)
@@ -175,10 +175,10 @@ pub record IsTold (side : Colour) (c new : Controller) (fault : Option SideFault
   pub other_stays : side_of new.sides (other side) ≡ side_of c.sides (other side)
 
 -- This holds of bytes that are heard once, and of all bytes of a piece, which are heard reply by reply. Of the match
--- nothing is asked. Once a verdict was given no side is lost by what is heard, and nothing is told.
-pub record LossesAreTold : Type 0 where
+-- nothing is asked. Once a verdict was given no side fails by what is heard, and nothing is reported.
+pub record LossesAreReported : Type 0 where
   pub once : (c new : Controller) (side : Colour) (bytes : List ℕ) (used : ℕ) (fault : Option SideFault)
       (loss : Option Loss) → HearsExactly c side bytes used fault new → Loses c side bytes loss
-      → IsTold side c new fault loss
+      → ReportsLoss side c new fault loss
   pub all : (c new : Controller) (side : Colour) (bytes : List ℕ) (fault : Option SideFault) (loss : Option Loss)
-      → HearsTelling side c bytes fault loss new → IsTold side c new fault loss
+      → HearsReporting side c bytes fault loss new → ReportsLoss side c new fault loss

@@ -1,4 +1,4 @@
--- What bytes of a side, and a loss, may change of a match, and why: told of the replies themselves, without the table.
+-- What bytes of a side, and `lost`, may change of a match, and why: said of the replies themselves, without the table.
 use Rattle.std.specs.Prelude.{◌≡◌, ℕ, ◌+◌, ◌-◌, ◌<◌, ◌⊎◌, true, false, List, [], ◌∷◌, ◌++◌, length, drop, codes}
 use Rattle.std.specs.Prelude.{Option, None, Some, IsSome, MatchOption, Ok}
 use Rattle.go_base.specs.Handicap.{handicap_points}
@@ -23,7 +23,7 @@ use Rattle.gtp_match.specs.Sound.{IsPlay, IsUndo}
 use Rattle.gtp_match.specs.Taking.{may_retake, taking_back}
 use Rattle.gtp_match.specs.Unanswered.{oldest}
 use Rattle.gtp_match.specs.declared.controller.Controller.{Controller}
-use Rattle.gtp_match.specs.declared.sides.Incarnation.{Incarnation}
+use Rattle.gtp_match.specs.declared.sides.EngineRun.{EngineRun}
 use Rattle.gtp_match.specs.declared.unanswered.SentCommand.{SentCommand}
 use Rattle.gtp_match.specs.declared.verdicts.ForfeitCause.{ForfeitCause}
 use Rattle.gtp_match.specs.declared.verdicts.ForfeitCause.TheVariants.{RefusedPlay, NoMove, NoVertex, IllegalMove}
@@ -34,12 +34,12 @@ use Rattle.gtp_match.specs.declared.verdicts.Verdict.TheVariants.{Score, Resign,
 -- ---- the reply that was heard
 
 -- the bytes that were used end this reply of the engine
-abbrev pub EndsReply : Incarnation → List ℕ → ℕ → Reply → Type 0
+abbrev pub EndsReply : EngineRun → List ℕ → ℕ → Reply → Type 0
 EndsReply engine bytes used reply = IsFirst (engine.reader ++ bytes) (length engine.reader + used) (Ok reply)
 
 -- The bytes that were used end a reply that has the id of the engine's oldest unanswered command, and the command and
 -- the reply are so.
-pub record HearsReply (engine : Incarnation) (bytes : List ℕ) (used : ℕ) (Is : Command → Reply → Type 0) : Type 0 where
+pub record HearsReply (engine : EngineRun) (bytes : List ℕ) (used : ℕ) (Is : Command → Reply → Type 0) : Type 0 where
   pub reply : Reply
   pub entry : SentCommand
   pub ends : EndsReply engine bytes used reply
@@ -48,8 +48,8 @@ pub record HearsReply (engine : Incarnation) (bytes : List ℕ) (used : ℕ) (Is
   pub is : Is entry.command reply
 
 -- the reply has no id, or not that of the oldest unanswered command, or nothing is unanswered
-abbrev pub IsStranger : Incarnation → Reply → Type 0
-IsStranger engine reply = (entry : SentCommand) → oldest engine.unanswered ≡ Some entry → ¬ (reply.id ≡ Some entry.id)
+abbrev pub IsStrangeReply : EngineRun → Reply → Type 0
+IsStrangeReply engine reply = (entry : SentCommand) → oldest engine.unanswered ≡ Some entry → ¬ (reply.id ≡ Some entry.id)
 
 abbrev pub IsGenmove : Command → Type 0
 IsGenmove command = (colour : Colour) × (command ≡ Genmove colour)
@@ -60,7 +60,7 @@ abbrev pub Succeeds : Command → Reply → Type 0
 Succeeds command reply = reply.ok ≡ true
 
 -- one command more is confirmed, the oldest unanswered one: by a success that has its id
-pub record ConfirmsOne (before after : Incarnation) (bytes : List ℕ) (used : ℕ) : Type 0 where
+pub record ConfirmsOne (before after : EngineRun) (bytes : List ℕ) (used : ℕ) : Type 0 where
   pub heard : HearsReply before bytes used Succeeds
   pub one_more : after.confirmed ≡ before.confirmed + 1
   pub answered : after.unanswered ≡ drop 1 before.unanswered
@@ -69,26 +69,26 @@ pub record ConfirmsOne (before after : Incarnation) (bytes : List ℕ) (used : �
 -- unanswered command, and that one command is confirmed.
 abbrev pub ConfirmedById : Type 0
 ConfirmedById =
-    (c new : Controller) (s : Colour) (before after : Incarnation) (bytes : List ℕ) (used : ℕ)
+    (c new : Controller) (s : Colour) (before after : EngineRun) (bytes : List ℕ) (used : ℕ)
     (fault : Option SideFault)
     → Hears c s bytes used fault new
     → (side_of c.sides s).up ≡ Some before → (side_of new.sides s).up ≡ Some after
     → before.confirmed < after.confirmed → ConfirmsOne before after bytes used
 
 -- an `undo` succeeded
-abbrev pub TellsUndone : Command → Reply → Type 0
-TellsUndone command reply = IsUndo command × (reply.ok ≡ true)
+abbrev pub UndoSucceeds : Command → Reply → Type 0
+UndoSucceeds command reply = IsUndo command × (reply.ok ≡ true)
 
 -- one command less is confirmed, and `undo` answered: by a success that has its id
-pub record UnconfirmsOne (before after : Incarnation) (bytes : List ℕ) (used : ℕ) : Type 0 where
-  pub heard : HearsReply before bytes used TellsUndone
+pub record UnconfirmsOne (before after : EngineRun) (bytes : List ℕ) (used : ℕ) : Type 0 where
+  pub heard : HearsReply before bytes used UndoSucceeds
   pub one_less : after.confirmed ≡ before.confirmed - 1
   pub answered : after.unanswered ≡ drop 1 before.unanswered
 
 -- Where an engine has confirmed less after its bytes were heard, they ended a success of an `undo` with its id.
 abbrev pub UnconfirmedById : Type 0
 UnconfirmedById =
-    (c new : Controller) (s : Colour) (before after : Incarnation) (bytes : List ℕ) (used : ℕ)
+    (c new : Controller) (s : Colour) (before after : EngineRun) (bytes : List ℕ) (used : ℕ)
     (fault : Option SideFault)
     → Hears c s bytes used fault new
     → (side_of c.sides s).up ≡ Some before → (side_of new.sides s).up ≡ Some after
@@ -98,13 +98,13 @@ UnconfirmedById =
 
 -- Before a verdict, a reply that nothing unanswered is owed, that has no id or another than the oldest unanswered
 -- command's, shows a fault; and its side is down.
-abbrev pub StrangersPutDown : Type 0
-StrangersPutDown =
-    (c new : Controller) (s : Colour) (engine : Incarnation) (reply : Reply) (bytes : List ℕ) (used : ℕ)
+abbrev pub StrangeRepliesPutDown : Type 0
+StrangeRepliesPutDown =
+    (c new : Controller) (s : Colour) (engine : EngineRun) (reply : Reply) (bytes : List ℕ) (used : ℕ)
     (fault : Option SideFault)
     → Hears c s bytes used fault new
     → c.verdict ≡ None → (side_of c.sides s).up ≡ Some engine
-    → EndsReply engine bytes used reply → IsStranger engine reply
+    → EndsReply engine bytes used reply → IsStrangeReply engine reply
     → IsSome fault × ((side_of new.sides s).up ≡ None)
 
 -- wherever a fault is shown, the side is down
@@ -113,7 +113,7 @@ FaultsPutDown =
     (c new : Controller) (s : Colour) (bytes : List ℕ) (used : ℕ) (fault : Option SideFault)
     → Hears c s bytes used fault new → IsSome fault → (side_of new.sides s).up ≡ None
 
--- a side that is lost is down, and a verdict that was given stays
+-- after `lost` the side is down, and a verdict that was given stays
 abbrev pub LossesPutDown : Type 0
 LossesPutDown =
     (c : Controller) (s : Colour)
@@ -131,50 +131,50 @@ pub record ChoosesVertex (vertex : Vertex) (command : Command) (reply : Reply) :
   pub spelled : SpellsVertex vertex word
 
 -- it is the vertex of a move that was legal for the side
-abbrev pub TellsMove : GameRecord → Colour → Vertex → Command → Reply → Type 0
-TellsMove game s vertex command reply = ChoosesVertex vertex command reply × IsLegal game s vertex
+abbrev pub ChoosesMove : GameRecord → Colour → Vertex → Command → Reply → Type 0
+ChoosesMove game s vertex command reply = ChoosesVertex vertex command reply × IsLegal game s vertex
 
--- the bytes end a reply that tells a legal move of the side, and the new game is the old one with this move
+-- the bytes end a reply that is a legal move of the side, and the new game is the old one with this move
 pub record MakesMove (c new : Controller) (s : Colour) (bytes : List ℕ) (used : ℕ) : Type 0 where
-  pub engine : Incarnation
+  pub engine : EngineRun
   pub up : (side_of c.sides s).up ≡ Some engine
   pub vertex : Vertex
-  pub heard : HearsReply engine bytes used (TellsMove c.game s vertex)
+  pub heard : HearsReply engine bytes used (ChoosesMove c.game s vertex)
   pub game : new.game ≡ with_move c.game s vertex
 
 -- a `play` failed
-abbrev pub TellsRefusal : Command → Reply → Type 0
-TellsRefusal command reply = IsPlay command × (reply.ok ≡ false)
+abbrev pub PlayFails : Command → Reply → Type 0
+PlayFails command reply = IsPlay command × (reply.ok ≡ false)
 
 -- it is up, and has confirmed as many commands as the script has
-abbrev pub HasConfirmedAll : GameRecord → Option Incarnation → Type 0
+abbrev pub HasConfirmedAll : GameRecord → Option EngineRun → Type 0
 HasConfirmedAll game up = MatchOption up ⊥ (λ engine. engine.confirmed ≡ length (script game))
 
 -- Why a move leaves the game: its maker took it back; it was refused, and its maker isn't up with all commands of the
 -- script confirmed; or its maker, at which it was to be taken back, is put down by a fault.
-pub data WhyTakenBack (c : Controller) (s : Colour) (engine : Incarnation) (bytes : List ℕ) (used : ℕ)
+pub data WhyTakenBack (c : Controller) (s : Colour) (engine : EngineRun) (bytes : List ℕ) (used : ℕ)
     (fault : Option SideFault) : Type 0 where
-  undone : HearsReply engine bytes used TellsUndone → WhyTakenBack c s engine bytes used fault
-  refused : HearsReply engine bytes used TellsRefusal → may_retake c s engine ≡ true
+  undone : HearsReply engine bytes used UndoSucceeds → WhyTakenBack c s engine bytes used fault
+  refused : HearsReply engine bytes used PlayFails → may_retake c s engine ≡ true
       → (¬ HasConfirmedAll c.game (side_of c.sides (other s)).up) → WhyTakenBack c s engine bytes used fault
   put_down : IsSome fault → taking_back c ≡ Some s → WhyTakenBack c s engine bytes used fault
 
 pub record TakesMoveBack (c new : Controller) (s : Colour) (bytes : List ℕ) (used : ℕ) (fault : Option SideFault)
     : Type 0 where
-  pub engine : Incarnation
+  pub engine : EngineRun
   pub up : (side_of c.sides s).up ≡ Some engine
   pub why : WhyTakenBack c s engine bytes used fault
   pub game : new.game ≡ without_last c.game
 
--- What is heard of a side leaves the game, or tells the move that is added to it, or takes its last move back.
-abbrev pub MovesAreTold : Type 0
-MovesAreTold =
+-- What is heard of a side leaves the game, or is the move that is added to it, or takes its last move back.
+abbrev pub MovesHaveReplies : Type 0
+MovesHaveReplies =
     (c new : Controller) (s : Colour) (bytes : List ℕ) (used : ℕ) (fault : Option SideFault)
     → Hears c s bytes used fault new
     → (new.game ≡ c.game) ⊎ (MakesMove c new s bytes used ⊎ TakesMoveBack c new s bytes used fault)
 
--- A start and a command that is sent leave the game. So does a loss, but for a move that was to be taken back at the
--- side that is lost.
+-- A start and a command that is sent leave the game. So does `lost`, but for a move that was to be taken back at the
+-- side that goes down.
 abbrev pub OthersLeaveTheGame : Type 0
 OthersLeaveTheGame =
     (c : Controller) (s : Colour)
@@ -187,22 +187,22 @@ OthersLeaveTheGame =
 -- maker is up and has confirmed all commands of the script, the move is to be taken back there, and stays in the record
 -- till then. Else it leaves the record at once.
 pub record CountsRetake (c new : Controller) (s : Colour) (bytes : List ℕ) (used : ℕ) : Type 0 where
-  pub engine : Incarnation
+  pub engine : EngineRun
   pub up : (side_of c.sides s).up ≡ Some engine
-  pub heard : HearsReply engine bytes used TellsRefusal
+  pub heard : HearsReply engine bytes used PlayFails
   pub may : may_retake c s engine ≡ true
   pub one_more : new.retakes ≡ with_retake (length c.game.moves) c.retakes
   pub pending : HasConfirmedAll c.game (side_of c.sides (other s)).up
       → (taking_back new ≡ Some (other s)) × (new.game ≡ c.game)
   pub gone : (¬ HasConfirmedAll c.game (side_of c.sides (other s)).up) → new.game ≡ without_last c.game
 
--- what is heard of a side leaves the retakes, or tells the refusal that is met by one
-abbrev pub RetakesAreTold : Type 0
-RetakesAreTold =
+-- what is heard of a side leaves the retakes, or is the refusal that is met by one
+abbrev pub RetakesHaveRefusals : Type 0
+RetakesHaveRefusals =
     (c new : Controller) (s : Colour) (bytes : List ℕ) (used : ℕ) (fault : Option SideFault)
     → Hears c s bytes used fault new → (new.retakes ≡ c.retakes) ⊎ CountsRetake c new s bytes used
 
--- a start, also of a new engine, a command that is sent and a loss leave the retakes
+-- a start, also of a new engine, a command that is sent and `lost` leave the retakes
 abbrev pub OthersLeaveTheRetakes : Type 0
 OthersLeaveTheRetakes =
     (c : Controller) (s : Colour)
@@ -240,34 +240,34 @@ pub record IsUnfit (game : GameRecord) (command : Command) (reply : Reply) : Typ
   pub why : (reply.ok ≡ false) ⊎ NamesOtherPoints game command reply
 
 -- a reply for which its side forfeits; a `play` that it refused may not be retaken
-abbrev pub IsForfeit : Controller → Colour → Incarnation → ForfeitCause → Command → Reply → Type 0
-IsForfeit c s engine RefusedPlay command reply = TellsRefusal command reply × (may_retake c s engine ≡ false)
+abbrev pub IsForfeit : Controller → Colour → EngineRun → ForfeitCause → Command → Reply → Type 0
+IsForfeit c s engine RefusedPlay command reply = PlayFails command reply × (may_retake c s engine ≡ false)
 IsForfeit c s engine NoMove command reply = IsGenmove command × (reply.ok ≡ false)
 IsForfeit c s engine NoVertex command reply = ChoosesNothing command reply
 IsForfeit c s engine IllegalMove command reply =
     (vertex : Vertex) × ChoosesVertex vertex command reply × ¬ IsLegal c.game s vertex
 
 -- an `undo` failed
-abbrev pub TellsKept : Command → Reply → Type 0
-TellsKept command reply = IsUndo command × (reply.ok ≡ false)
+abbrev pub UndoFails : Command → Reply → Type 0
+UndoFails command reply = IsUndo command × (reply.ok ≡ false)
 
 -- A side forfeits by its own reply; or it had refused a move, and the other side's reply fails to take it back.
-pub data IsForfeited (c : Controller) (s : Colour) (engine : Incarnation) (bytes : List ℕ) (used : ℕ)
+pub data IsForfeited (c : Controller) (s : Colour) (engine : EngineRun) (bytes : List ℕ) (used : ℕ)
     : Colour → ForfeitCause → Type 0 where
   by_itself : {cause : ForfeitCause} → HearsReply engine bytes used (IsForfeit c s engine cause)
       → IsForfeited c s engine bytes used s cause
-  by_the_other : HearsReply engine bytes used TellsKept → IsForfeited c s engine bytes used (other s) RefusedPlay
+  by_the_other : HearsReply engine bytes used UndoFails → IsForfeited c s engine bytes used (other s) RefusedPlay
 
 -- the command that a resignation answers is answered, and isn't confirmed
-pub record IsAnsweredOnly (engine : Incarnation) (new : Controller) (s : Colour) : Type 0 where
-  pub after : Incarnation
+pub record IsAnsweredOnly (engine : EngineRun) (new : Controller) (s : Colour) : Type 0 where
+  pub after : EngineRun
   pub up : (side_of new.sides s).up ≡ Some after
   pub answered : after.unanswered ≡ drop 1 engine.unanswered
   pub confirmed : after.confirmed ≡ engine.confirmed
 
 -- Why a verdict is given when bytes of the side are heard: it names the side, or the other where this one keeps a move
 -- that the other refused, or is the end after its move.
-abbrev pub HasCause : Controller → Controller → Colour → Incarnation → List ℕ → ℕ → Option SideFault → Verdict → Type 0
+abbrev pub HasCause : Controller → Controller → Colour → EngineRun → List ℕ → ℕ → Option SideFault → Verdict → Type 0
 HasCause c new s engine bytes used fault (Resign side) =
     (side ≡ s) × HearsReply engine bytes used ChoosesResign × IsAnsweredOnly engine new s
 HasCause c new s engine bytes used fault (Forfeit side cause) = IsForfeited c s engine bytes used side cause
@@ -281,9 +281,9 @@ abbrev pub CausesAreTrue : Type 0
 CausesAreTrue =
     (c new : Controller) (s : Colour) (bytes : List ℕ) (used : ℕ) (fault : Option SideFault) (v : Verdict)
     → Hears c s bytes used fault new → c.verdict ≡ None → new.verdict ≡ Some v
-    → (engine : Incarnation) × ((side_of c.sides s).up ≡ Some engine) × HasCause c new s engine bytes used fault v
+    → (engine : EngineRun) × ((side_of c.sides s).up ≡ Some engine) × HasCause c new s engine bytes used fault v
 
--- a start and a command that is sent leave the verdict; a loss gives none but that its side is given up
+-- a start and a command that is sent leave the verdict; `lost` gives none but that its side is given up
 abbrev pub OthersGiveNoVerdict : Type 0
 OthersGiveNoVerdict =
     (c : Controller) (s : Colour)

@@ -11,7 +11,7 @@ use Rattle.gtp_wire.specs.declared.replies.ReplyFault.{ReplyFault}
 use Rattle.gtp_wire.specs.Replies.{TellsNothing, IsFirst}
 use Rattle.gtp_match.specs.declared.controller.Controller.{Controller}
 use Rattle.gtp_match.specs.declared.reports.Retake.{Retake}
-use Rattle.gtp_match.specs.declared.sides.Incarnation.{Incarnation}
+use Rattle.gtp_match.specs.declared.sides.EngineRun.{EngineRun}
 use Rattle.gtp_match.specs.declared.reply_table.Outcome.{Outcome}
 use Rattle.gtp_match.specs.declared.reply_table.Outcome.TheVariants.{Down, Unfit, Forfeits, Confirms, Resigns, Moves}
 use Rattle.gtp_match.specs.declared.reply_table.Outcome.TheVariants.{Refuses, TakesBack, Keeps}
@@ -30,7 +30,7 @@ use Rattle.gtp_match.specs.Unanswered.{oldest}
 -- ---- bytes that are heard once
 
 -- the next retake of the last move's number, by this text, which ends with the refusal
-abbrev pub retake_of : Controller → Incarnation → List ℕ → Retake
+abbrev pub retake_of : Controller → EngineRun → List ℕ → Retake
 retake_of c engine text = record {
   count = retakes_of c.retakes (length c.game.moves) + 1;
   owed = owed_of engine text;
@@ -38,7 +38,7 @@ retake_of c engine text = record {
 
 -- What a reply with this outcome, the end of this text, reports as retaken: a refused `play` that may be retaken.
 -- Whether an `undo` can still follow makes no difference.
-abbrev pub retake_by : Controller → Colour → Incarnation → List ℕ → Outcome → Option Retake
+abbrev pub retake_by : Controller → Colour → EngineRun → List ℕ → Outcome → Option Retake
 retake_by c side engine text (Down fault) = None
 retake_by c side engine text Unfit = None
 retake_by c side engine text (Forfeits cause) = None
@@ -52,7 +52,7 @@ retake_by c side engine text Keeps = None
 -- What hearing the bytes once reports as retaken, of a side that is up and before any verdict: by the reply that they
 -- end, which is shown alone, without what follows it. A fault reports nothing as retaken, nor does a text that is no
 -- whole reply yet.
-pub data RetakesUp (c : Controller) (side : Colour) (engine : Incarnation) (bytes : List ℕ)
+pub data RetakesUp (c : Controller) (side : Colour) (engine : EngineRun) (bytes : List ℕ)
     : Option Retake → Type 0 where
   by_reply : {count : ℕ} {value : Reply} → IsFirst (engine.reader ++ bytes) count (Ok value)
       → RetakesUp c side engine bytes (retake_by c side engine (take count (engine.reader ++ bytes))
@@ -62,7 +62,7 @@ pub data RetakesUp (c : Controller) (side : Colour) (engine : Incarnation) (byte
   nothing_yet : TellsNothing (engine.reader ++ bytes) → RetakesUp c side engine bytes None
 
 -- of a side that is down nothing is reported, nor after a verdict
-abbrev pub RetakesWhere : Controller → Colour → List ℕ → Option Verdict → Option Incarnation → Option Retake → Type 0
+abbrev pub RetakesWhere : Controller → Colour → List ℕ → Option Verdict → Option EngineRun → Option Retake → Type 0
 RetakesWhere c side bytes None None retake = retake ≡ None
 RetakesWhere c side bytes None (Some engine) retake = RetakesUp c side engine bytes retake
 RetakesWhere c side bytes (Some verdict) up retake = retake ≡ None

@@ -9,7 +9,7 @@ use Rattle.go_board.specs.Taken.{same_colour}
 use Rattle.gtp_match.specs.Retakes.{most_retakes, retakes_of}
 use Rattle.gtp_match.specs.Script.{script}
 use Rattle.gtp_match.specs.declared.controller.Controller.{Controller}
-use Rattle.gtp_match.specs.declared.sides.Incarnation.{Incarnation}
+use Rattle.gtp_match.specs.declared.sides.EngineRun.{EngineRun}
 use Rattle.gtp_match.specs.declared.verdicts.Verdict.{Verdict}
 
 -- ---- which move
@@ -27,19 +27,19 @@ abbrev pub moved_last : GameRecord → Colour → Bool
 moved_last game colour = is_by (last_move game) colour
 
 -- the engine's oldest unanswered command of the script is its last one
-abbrev pub owes_last : GameRecord → Incarnation → Bool
+abbrev pub owes_last : GameRecord → EngineRun → Bool
 owes_last game engine = engine.confirmed + 1 == length (script game)
 
 -- A `play` that the side refuses may be retaken: it is that of the last move, which the other side made, and moves of
 -- this number were retaken less than three times.
-abbrev pub may_retake : Controller → Colour → Incarnation → Bool
+abbrev pub may_retake : Controller → Colour → EngineRun → Bool
 may_retake c side engine =
     owes_last c.game engine
     && (moved_last c.game (other side)
     && nat_lt (retakes_of c.retakes (length c.game.moves)) most_retakes)
 
 -- the side is up and has confirmed the whole script
-abbrev pub has_all : GameRecord → Option Incarnation → Bool
+abbrev pub has_all : GameRecord → Option EngineRun → Bool
 has_all game None = false
 has_all game (Some engine) = engine.confirmed == length (script game)
 

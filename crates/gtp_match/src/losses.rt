@@ -4,7 +4,7 @@ ghost use Rattle.gtp_match.specs.Losing.{most_shown, owed_of, BreaksRule};
 ghost use Rattle.gtp_match.specs.private.Notices.{owed_then};
 
 use crate::reply_table::{Outcome, judge};
-use crate::sides::Incarnation;
+use crate::sides::EngineRun;
 use crate::unanswered::SentCommand;
 use crate::verdicts::{ForfeitCause, SideFault};
 use arrayvec::ArrayVec;
@@ -77,7 +77,7 @@ impl Owed {
 }
 
 /// What an engine owes.
-pub(crate) fn owed_by(engine: &Incarnation) -> Owed
+pub(crate) fn owed_by(engine: &EngineRun) -> Owed
     ensures { result ≡ owed_of engine.now engine.now.reader }
 {
     Owed {

@@ -7,7 +7,7 @@ use Rattle.go_board.specs.Game.{GameRecord, IsGame}
 use Rattle.go_board.specs.declared.rules.KoRule.{KoRule}
 use Rattle.gtp_session.proofs.Policies.{AllowsLawful}
 use Rattle.gtp_session.specs.Engine.{Engine}
-use Rattle.gtp_match.specs.declared.sides.Incarnation.{Incarnation}
+use Rattle.gtp_match.specs.declared.sides.EngineRun.{EngineRun}
 use Rattle.gtp_match.specs.declared.verdicts.Action.TheVariants.{Start}
 use Rattle.gtp_match.specs.declared.verdicts.Verdict.{Verdict}
 use Rattle.gtp_match.specs.Controller.{in_step, new}
@@ -45,7 +45,7 @@ none_taken_back : (verdict : Option Verdict) → unless_over verdict None ≡ No
 none_taken_back None = refl
 none_taken_back (Some verdict) = refl
 
-idle_if : (up : Option Incarnation) → ((engine : Incarnation) → up ≡ Some engine → engine.unanswered ≡ []) → IsIdle up
+idle_if : (up : Option EngineRun) → ((engine : EngineRun) → up ≡ Some engine → engine.unanswered ≡ []) → IsIdle up
 idle_if None h = tt
 idle_if (Some engine) h = h engine refl
 
@@ -53,8 +53,8 @@ is_there : {P : Type 0} (e : Option (Engine P)) → (game : GameRecord) × (game
 is_there None h = absurd (cc h.1)
 is_there (Some engine) h = refl
 
-runs_if : {P : Type 0} (up : Option Incarnation) (e : Option (Engine P))
-    → ((u : Incarnation) → up ≡ Some u → (game : GameRecord) × (game_in e ≡ Some game)) → RunsWhereUp up e
+runs_if : {P : Type 0} (up : Option EngineRun) (e : Option (Engine P))
+    → ((u : EngineRun) → up ≡ Some u → (game : GameRecord) × (game_in e ≡ Some game)) → RunsWhereUp up e
 runs_if None e h = tt
 runs_if (Some u) e h = is_there e (h u refl)
 

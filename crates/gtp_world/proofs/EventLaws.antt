@@ -12,7 +12,7 @@ use Rattle.gtp_session.specs.Policy.{May}
 use Rattle.gtp_session.specs.Engine.{Engine, Engages, output_of}
 use Rattle.gtp_session.proofs.EngineLemmas.{Replies-then}
 use Rattle.gtp_session.proofs.ConversationLemmas.{output_of-append}
-use Rattle.gtp_match.specs.declared.sides.Incarnation.{Incarnation}
+use Rattle.gtp_match.specs.declared.sides.EngineRun.{EngineRun}
 use Rattle.gtp_match.specs.declared.verdicts.Action.{Action}
 use Rattle.gtp_match.specs.declared.verdicts.Action.TheVariants.{Start, Send, Wait, Done}
 use Rattle.gtp_match.specs.declared.verdicts.SideFault.{SideFault}
@@ -37,7 +37,7 @@ use Rattle.gtp_world.proofs.Happenings.{opening_has, runs_keep}
 
 -- ---- a side that is lost is down
 
-lost_engine_down : (c : Controller) (s : Colour) (up : Option Incarnation) → (side_of c.sides s).up ≡ up
+lost_engine_down : (c : Controller) (s : Colour) (up : Option EngineRun) → (side_of c.sides s).up ≡ up
     → (side_of (lost_engine c s up).sides s).up ≡ None
 lost_engine_down c s None e = e
 lost_engine_down c Black (Some u) e = refl
@@ -50,14 +50,14 @@ end_down : {P : Type 0} (s : Colour) (c c2 : Controller) (l l2 : Lane P) → Sid
     → (side_of c2.sides s).up ≡ None
 end_down {P} s c c2 l l2 h = by_up (side_of c.sides s).up refl h
   where
-    by_up : (up : Option Incarnation) → (side_of c.sides s).up ≡ up → LosesWhereUp s c up l c2 l2
+    by_up : (up : Option EngineRun) → (side_of c.sides s).up ≡ up → LosesWhereUp s c up l c2 l2
         → (side_of c2.sides s).up ≡ None
     by_up None e x = subst (λ (d : Controller). (side_of d.sides s).up ≡ None) (sym x.0) e
     by_up (Some u) e x = subst (λ (d : Controller). (side_of d.sides s).up ≡ None) (sym x.0) (lost_is_down c s)
 
 -- ---- a side that is down has nothing
 
-bare_nothing : (game : GameRecord) (v : Option Verdict) (up : Option Incarnation) (l : BareLane) → up ≡ None
+bare_nothing : (game : GameRecord) (v : Option Verdict) (up : Option EngineRun) (l : BareLane) → up ≡ None
     → IsJoinedSide game v up l → l ≡ bare_empty
 bare_nothing game None None l e h = h
 bare_nothing game (Some v) None l e h = h
@@ -139,17 +139,17 @@ reads_join {P} may l m n j k p q = by_engine l.engine refl p
 
 -- ---- bytes reach the controller
 
-lane_stays_up : {P : Type 0} (up : Option Incarnation) (u : Incarnation) (l : Lane P) → up ≡ Some u
+lane_stays_up : {P : Type 0} (up : Option EngineRun) (u : EngineRun) (l : Lane P) → up ≡ Some u
     → lane_where_up up l ≡ l
 lane_stays_up None u l e = absurd (cc e)
 lane_stays_up (Some x) u l e = refl
 
-hears_takes : {P : Type 0} (s : Colour) (c c2 : Controller) (l l2 : Lane P) (k : ℕ) (u : Incarnation)
+hears_takes : {P : Type 0} (s : Colour) (c c2 : Controller) (l l2 : Lane P) (k : ℕ) (u : EngineRun)
     → (side_of c2.sides s).up ≡ Some u → SideHears s c l k c2 l2
     → l2 ≡ record l { to_controller = drop k l.to_controller }
 hears_takes {P} s c c2 l l2 k u up h = by_up (side_of c.sides s).up refl h
   where
-    by_up : (was : Option Incarnation) → (side_of c.sides s).up ≡ was → HearsWhereUp s c was l k c2 l2
+    by_up : (was : Option EngineRun) → (side_of c.sides s).up ≡ was → HearsWhereUp s c was l k c2 l2
         → l2 ≡ record l { to_controller = drop k l.to_controller }
     by_up None e x =
         let down : None ≡ Some u = sym e ∙ ap (λ (d : Controller). (side_of d.sides s).up) (sym x.0) ∙ up in
@@ -167,7 +167,7 @@ nothing_heard : {P : Type 0} (s : Colour) (c c2 : Controller) (l l2 : Lane P) �
     → (c2 ≡ c) × (l2 ≡ l)
 nothing_heard {P} s c c2 l l2 h = by_up (side_of c.sides s).up refl h
   where
-    by_up : (up : Option Incarnation) → (side_of c.sides s).up ≡ up → HearsWhereUp s c up l 0 c2 l2
+    by_up : (up : Option EngineRun) → (side_of c.sides s).up ≡ up → HearsWhereUp s c up l 0 c2 l2
         → (c2 ≡ c) × (l2 ≡ l)
     by_up None e x = x
     by_up (Some u) e x =

@@ -18,15 +18,15 @@ use Rattle.gtp_session.specs.Sent.{MayBeSent}
 use Rattle.gtp_session.specs.Engine.{fresh_game_under}
 use Rattle.gtp_session.proofs.CommandLemmas.{well_may_be_sent, vertex_of_legal}
 use Rattle.gtp_match.specs.declared.unanswered.SentCommand.{SentCommand}
-use Rattle.gtp_match.specs.declared.sides.Incarnation.{Incarnation}
+use Rattle.gtp_match.specs.declared.sides.EngineRun.{EngineRun}
 use Rattle.gtp_match.specs.declared.controller.Controller.{Controller}
-use Rattle.gtp_match.specs.Controller.{next_command, script_or_genmove, undo_or}
+use Rattle.gtp_match.specs.Controller.{next_command, script_or_genmove, undo_or_else}
 use Rattle.gtp_match.specs.Script.{script}
 use Rattle.gtp_match.specs.Sound.{VerdictFits, InScript, IsSound, all_retakes}
-use Rattle.gtp_match.proofs.ScriptLemmas.{past_length}
-use Rattle.gtp_match.proofs.SaysLemmas.{BothIdle, GoesOn, ToUndo, SaysSend}
-use Rattle.gtp_match.proofs.ShorterLemmas.{shorter_length}
-use Rattle.gtp_match.proofs.SoundLemmas.{my_engine, idle_plan, script_grows, in_script, on_is_free, taken_at}
+use Rattle.gtp_match.proofs.scripts.Scripts.{past_length}
+use Rattle.gtp_match.proofs.actions.Conditions.{BothIdle, GoesOn, ToUndo, SaysSend}
+use Rattle.gtp_match.proofs.scripts.WithoutLast.{shorter_length}
+use Rattle.gtp_match.proofs.soundness.Calls.{my_engine, idle_plan, script_grows, in_script, on_is_free, taken_at}
 use Rattle.gtp_world.specs.Exchange.{replayed, Answered, Owes, AllMayBeSent}
 use Rattle.gtp_world.specs.Joined.{ruled, IsPlayable}
 use Rattle.gtp_world.proofs.Invariant.{simple_game}
@@ -129,7 +129,7 @@ waits_from game is n (o ∷ os) (r ∷ rs) waiting ahead more plan h =
         record { m = rest.m; game_is = rest.game_is; plan = rest.plan; number = omega (arith, rest.number) }
 
 -- the command may be sent at some game, and behind whatever waits of an engine's unanswered commands
-pub record MayFollow (game : GameRecord) (u : Incarnation) (o : SentCommand) : Type 0 where
+pub record MayFollow (game : GameRecord) (u : EngineRun) (o : SentCommand) : Type 0 where
   pub there : GameRecord
   pub may : MayBeSent there o.command
   pub behind : (rs : List Reply) (waiting : List SentCommand) (ahead : GameRecord)
@@ -140,7 +140,7 @@ may_push : (waiting : List SentCommand) (ahead : GameRecord) (o : SentCommand) �
 may_push [] ahead o e may = (may, λ r g a. tt)
 may_push (p ∷ ps) ahead o e may = absurd (cc e)
 
-idle_follows : (game : GameRecord) (u : Incarnation) (o : SentCommand) → u.unanswered ≡ []
+idle_follows : (game : GameRecord) (u : EngineRun) (o : SentCommand) → u.unanswered ≡ []
     → MayBeSent (replayed game u.confirmed) o.command → MayFollow game u o
 idle_follows game u o idle may = record {
   there = replayed game u.confirmed;
@@ -150,7 +150,7 @@ idle_follows game u o idle may = record {
       may_push waiting ahead o now.0 (subst (λ (g : GameRecord). MayBeSent g o.command) (sym now.1) may);
 }
 
-script_follows : (game : GameRecord) (u : Incarnation) (o : SentCommand) → IsShared game
+script_follows : (game : GameRecord) (u : EngineRun) (o : SentCommand) → IsShared game
     → InScript (script game) u.confirmed u.unanswered
     → slice_get (script game) (u.confirmed + length u.unanswered) ≡ Some o.command → MayFollow game u o
 script_follows game u o is plan e = record {
@@ -165,7 +165,7 @@ script_follows game u o is plan e = record {
 }
 
 -- what a side is sent next, with its id
-abbrev pub next_sent : Controller → Colour → Incarnation → SentCommand
+abbrev pub next_sent : Controller → Colour → EngineRun → SentCommand
 next_sent c s u = record { id = u.sent + 1; command = next_command c s u }
 
 -- what a side is sent next may be sent
@@ -174,7 +174,7 @@ pub next_may : (rule : KoRule) (c : Controller) (s : Colour) → IsSound c → (
     → MayFollow (ruled rule c.game) says.engine (next_sent c s says.engine)
 next_may rule c s sound says playable = by_kind says.kind
   where
-    u : Incarnation
+    u : EngineRun
     u = says.engine
 
     g : GameRecord
@@ -215,8 +215,8 @@ next_may rule c s sound says playable = by_kind says.kind
     scripted : c.pending ≡ None → BothIdle c s u ⊎ GoesOn c.game u → MayFollow g u (next_sent c s u)
     scripted free kind =
         let k = slice_get (script c.game) (u.confirmed + length u.unanswered) in
-        let command_is : undo_or c.pending (script_or_genmove s k) ≡ script_or_genmove s k =
-        ap (λ p. undo_or p (script_or_genmove s k)) free in
+        let command_is : undo_or_else c.pending (script_or_genmove s k) ≡ script_or_genmove s k =
+        ap (λ p. undo_or_else p (script_or_genmove s k)) free in
         let M : Command → Type 0 = λ x. MayFollow g u (record { id = u.sent + 1; command = x }) in
         subst M (sym command_is) (by_script k refl free kind)
 
@@ -225,14 +225,14 @@ next_may rule c s sound says playable = by_kind says.kind
     by_kind (inr (inl on)) = scripted (on_is_free c s u sound says.verdict says.up on) (inr on)
     by_kind (inr (inr undo)) =
         let k = slice_get (script c.game) (u.confirmed + length u.unanswered) in
-        let command_is : undo_or c.pending (script_or_genmove s k) ≡ Undo =
-        ap (λ p. undo_or p (script_or_genmove s k)) undo.pending in
+        let command_is : undo_or_else c.pending (script_or_genmove s k) ≡ Undo =
+        ap (λ p. undo_or_else p (script_or_genmove s k)) undo.pending in
         let M : Command → Type 0 = λ x. MayFollow g u (record { id = u.sent + 1; command = x }) in
         let t = taken_at c s sound says.verdict undo.pending in
         let same : Some t.engine ≡ Some u = sym t.up ∙ says.up in
         let same_engine : t.engine ≡ u = cc same in
         let all : u.confirmed ≡ length (script c.game) =
-        sym (ap (λ (x : Incarnation). x.confirmed) same_engine) ∙ t.all in
+        sym (ap (λ (x : EngineRun). x.confirmed) same_engine) ∙ t.all in
         subst M (sym command_is)
         (idle_follows g u (record { id = u.sent + 1; command = Undo }) undo.idle
         (subst (λ (x : GameRecord). MayBeSent x Undo) (sym (whole all)) t.some))

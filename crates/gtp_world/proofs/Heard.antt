@@ -26,7 +26,7 @@ use Rattle.go_base.specs.declared.choices.Choice.TheVariants as choice
 use Rattle.gtp_session.specs.Commands.{answer, answer_choice}
 use Rattle.gtp_session.specs.Engine.{fresh_game_under}
 use Rattle.gtp_match.specs.declared.unanswered.SentCommand.{SentCommand}
-use Rattle.gtp_match.specs.declared.sides.Incarnation.{Incarnation}
+use Rattle.gtp_match.specs.declared.sides.EngineRun.{EngineRun}
 use Rattle.gtp_match.specs.declared.reply_table.Outcome.{Outcome}
 use Rattle.gtp_match.specs.declared.reply_table.Outcome.TheVariants.{Confirms, Resigns, Moves, Refuses, TakesBack}
 use Rattle.gtp_match.specs.declared.verdicts.SideFault.{SideFault}
@@ -47,11 +47,11 @@ use Rattle.go_board.specs.decisions.Game.{legal?}
 use Rattle.gtp_match.specs.Sound.{VerdictFits, InScript, IsAsked, AreUndo, HasPlan, LacksLast, IsUndo, IsSoundEngine}
 use Rattle.gtp_match.specs.Sound.{IsIdle, IsSound, all_retakes}
 use Rattle.gtp_match.specs.Unanswered.{most_unanswered}
-use Rattle.gtp_match.proofs.ScriptLemmas.{script_longer}
-use Rattle.gtp_match.proofs.SoundLemmas.{changed, my_engine, their_side, one_idle, idle_plan, taken_at, nothing_pending}
-use Rattle.gtp_match.proofs.ShorterLemmas.{shorter_length, script_shorter}
-use Rattle.gtp_match.proofs.ReplySound.{reply_sound}
-use Rattle.gtp_match.proofs.HeardSound.{quiet_sound}
+use Rattle.gtp_match.proofs.scripts.Scripts.{script_longer}
+use Rattle.gtp_match.proofs.soundness.Calls.{changed, my_engine, their_side, one_idle, idle_plan, taken_at, nothing_pending}
+use Rattle.gtp_match.proofs.scripts.WithoutLast.{shorter_length, script_shorter}
+use Rattle.gtp_match.proofs.soundness.Replies.{reply_sound}
+use Rattle.gtp_match.proofs.soundness.Heard.{quiet_sound}
 use Rattle.gtp_session.proofs.CommandLemmas.{vertex_of_legal}
 use Rattle.gtp_world.proofs.ReplyReads.{outcome_of_choice}
 use Rattle.gtp_world.proofs.Replay.{GoesWellOn, after_one_more, replayed_all, replayed_shorter}
@@ -69,7 +69,7 @@ use Rattle.gtp_world.proofs.Replying.{Chose, chose, without_with, this_or_other,
 use Rattle.gtp_world.proofs.Replying.{has_all_if, theirs_moved, theirs_shorter, theirs_longer, fair_ended}
 use Rattle.gtp_world.proofs.Replying.{Replied, Left, left_live, refused_heard, undone_heard}
 
-module _ (rules : Rules) (c : Controller) (s : Colour) (u : Incarnation) (e : Option EngineBody) (te tc : List ℕ)
+module _ (rules : Rules) (c : Controller) (s : Colour) (u : EngineRun) (e : Option EngineBody) (te tc : List ℕ)
     (lo : BareLane) (sound : IsSound c) (none : c.verdict ≡ None)
     (up : (side_of c.sides s).up ≡ Some u) (idle : IsIdle (side_of c.sides (other s)).up)
     (playable : IsPlayable (rule_of rules s) c.game s (Some u))
@@ -108,7 +108,7 @@ module _ (rules : Rules) (c : Controller) (s : Colour) (u : Incarnation) (e : Op
   theirs_within : IfSome (side_of c.sides (other s)).up (λ x. x.confirmed ≤ length (script c.game))
   theirs_within = by_up (side_of c.sides (other s)).up (their_side c s sound).engine idle
     where
-      by_up : (x : Option Incarnation) → IfSome x (IsSoundEngine c (other s)) → IsIdle x
+      by_up : (x : Option EngineRun) → IfSome x (IsSoundEngine c (other s)) → IsIdle x
           → IfSome x (λ y. y.confirmed ≤ length (script c.game))
       by_up None engine free = tt
       by_up (Some y) engine free =
@@ -119,7 +119,7 @@ module _ (rules : Rules) (c : Controller) (s : Colour) (u : Incarnation) (e : Op
       → (u.confirmed + 1 ≡ length (script c.game) → IsGame g)
       → Replied rules c s u here lo (outcome c.game s (oldest u.unanswered) r)
   confirms r is left whole =
-      let next : Incarnation = confirmed (heard_reply u) in
+      let next : EngineRun = confirmed (heard_reply u) in
       let mine : IsJoinedInPlay g next here =
       left_live g (u.confirmed + 1) u.sent (drop 1 u.unanswered) e te tc left in
       let done : Replied rules c s u here lo Confirms = (
@@ -145,7 +145,7 @@ module _ (rules : Rules) (c : Controller) (s : Colour) (u : Incarnation) (e : Op
       → Left g u.confirmed (drop 1 u.unanswered) e te tc
       → Replied rules c s u here lo (outcome c.game s (oldest u.unanswered) r)
   resigns r is left =
-      let next : Incarnation = answered (heard_reply u) in
+      let next : EngineRun = answered (heard_reply u) in
       let mine : IsJoinedInPlay g next here =
       left_live g u.confirmed u.sent (drop 1 u.unanswered) e te tc left in
       let done : Replied rules c s u here lo Resigns = (
@@ -168,7 +168,7 @@ module _ (rules : Rules) (c : Controller) (s : Colour) (u : Incarnation) (e : Op
   moves r v is turn is_game longer left =
       let game : GameRecord = with_move c.game s v in
       let verdict : Option Verdict = verdict_after c.setup game in
-      let next : Incarnation = confirmed (heard_reply u) in
+      let next : EngineRun = confirmed (heard_reply u) in
       let mine : IsJoinedInPlay (ruled rule game) next here =
       left_live (ruled rule game) (u.confirmed + 1) u.sent (drop 1 u.unanswered) e te tc left in
       let done : Replied rules c s u here lo (Moves v) = (
@@ -201,7 +201,7 @@ module _ (rules : Rules) (c : Controller) (s : Colour) (u : Incarnation) (e : Op
       → Left g u.confirmed (drop 1 u.unanswered) e te tc
       → AreJoined rules (retaken_at c s (heard_reply u) b) s here lo
   retakes true all is_sound some lacks left =
-      let next : Incarnation = answered (heard_reply u) in
+      let next : EngineRun = answered (heard_reply u) in
       let mine : IsJoinedInPlay g next here =
       left_live g u.confirmed u.sent (drop 1 u.unanswered) e te tc left in
       joint_put rules c s (with_engine next (side_of c.sides s)) c.game c.verdict (Some (other s))
@@ -212,7 +212,7 @@ module _ (rules : Rules) (c : Controller) (s : Colour) (u : Incarnation) (e : Op
       })
       (theirs_at c.verdict)
   retakes false not_all is_sound some lacks left =
-      let next : Incarnation = answered (heard_reply u) in
+      let next : EngineRun = answered (heard_reply u) in
       let shorter : GameRecord = without_last c.game in
       let within : u.confirmed ≤ length (script shorter) = omega (arith, lacks, script_shorter c.game some) in
       let mine : IsJoinedInPlay (ruled rule shorter) next here =
@@ -231,7 +231,7 @@ module _ (rules : Rules) (c : Controller) (s : Colour) (u : Incarnation) (e : Op
             (side_of c.sides (other s)).up their_playable;
       })
     where
-      less : (x : Option Incarnation) → has_all c.game x ≡ false → IfSome x (λ y. y.confirmed ≤ length (script c.game))
+      less : (x : Option EngineRun) → has_all c.game x ≡ false → IfSome x (λ y. y.confirmed ≤ length (script c.game))
           → IfSome x (λ y. y.confirmed ≤ length (script (without_last c.game)))
       less None lacking within = tt
       less (Some y) lacking within =
@@ -353,7 +353,7 @@ module _ (rules : Rules) (c : Controller) (s : Colour) (u : Incarnation) (e : Op
       → Left (without_last g) (u.confirmed - 1) (drop 1 u.unanswered) e te tc
       → Replied rules c s u here lo (outcome c.game s (oldest u.unanswered) r)
   takes_back r is pending left =
-      let next : Incarnation = taken_back (heard_reply u) in
+      let next : EngineRun = taken_back (heard_reply u) in
       let shorter : GameRecord = without_last c.game in
       let t = taken_at c s sound none pending in
       let mine : IsJoinedInPlay (ruled rule shorter) next here =
@@ -376,7 +376,7 @@ module _ (rules : Rules) (c : Controller) (s : Colour) (u : Incarnation) (e : Op
       in
       subst (Replied rules c s u here lo) (sym is) done
     where
-      less : 0 < length c.game.moves → (x : Option Incarnation) → IfSome x (LacksLast c.game)
+      less : 0 < length c.game.moves → (x : Option EngineRun) → IfSome x (LacksLast c.game)
           → IfSome x (λ y. y.confirmed ≤ length (script (without_last c.game)))
       less some None lacks = tt
       less some (Some y) lacks = omega (arith, lacks.lacks, script_shorter c.game some)
@@ -553,7 +553,7 @@ module _ (rules : Rules) (c : Controller) (s : Colour) (u : Incarnation) (e : Op
               let same : Some t.engine ≡ Some u = sym t.up ∙ up in
               let same_engine : t.engine ≡ u = cc same in
               let all : u.confirmed ≡ length (script c.game) =
-              sym (ap (λ (x : Incarnation). x.confirmed) same_engine) ∙ t.all in
+              sym (ap (λ (x : EngineRun). x.confirmed) same_engine) ∙ t.all in
               let is_game : IsGame g = playable.last (inr (has_all_if u.confirmed (length (script c.game)) all)) in
               let whole : replayed g u.confirmed ≡ g = replayed_all g u.confirmed is_game all in
               let a : Answered g (record { id = o.id; command = Undo }) r owes.0 =
@@ -578,7 +578,7 @@ module _ (rules : Rules) (c : Controller) (s : Colour) (u : Incarnation) (e : Op
 -- ---- bytes
 
 -- bytes that are no whole reply yet
-part_keeps : (game : GameRecord) (u : Incarnation) (e : Option EngineBody) (te x y kept : List ℕ)
+part_keeps : (game : GameRecord) (u : EngineRun) (e : Option EngineBody) (te x y kept : List ℕ)
     → (h : IsJoinedInPlay game u (record { engine = e; to_engine = te; to_controller = x ++ y }))
     → TellsNothing (h.begun ++ x) → MayKeep kept (u.reader ++ x)
     → IsJoinedInPlay game (record u { reader = kept }) (record { engine = e; to_engine = te; to_controller = y })
@@ -599,7 +599,7 @@ part_keeps game u e te x y kept h quiet keeps = record {
   uncut = h.uncut;
 }
 
-heard_settled : (game : GameRecord) (u : Incarnation) (e : Option EngineBody) (te x y : List ℕ) (used : ℕ)
+heard_settled : (game : GameRecord) (u : EngineRun) (e : Option EngineBody) (te x y : List ℕ) (used : ℕ)
     → used ≡ length x
     → IsJoinedAtEnd game u (record { engine = e; to_engine = te; to_controller = x ++ y })
     → IsJoinedAtEnd game u (record { engine = e; to_engine = te; to_controller = drop used x ++ y })
@@ -616,7 +616,7 @@ heard_settled game u e te x y used is h = record {
 }
 
 -- one call on a side that is up, before any verdict
-module _ (rules : Rules) (c : Controller) (s : Colour) (u : Incarnation) (e : Option EngineBody) (te : List ℕ) (b : ℕ)
+module _ (rules : Rules) (c : Controller) (s : Colour) (u : EngineRun) (e : Option EngineBody) (te : List ℕ) (b : ℕ)
     (x y : List ℕ) (lo : BareLane) (sound : IsSound c) (none : c.verdict ≡ None)
     (up : (side_of c.sides s).up ≡ Some u) (mine : IsJoinedInPlay (ruled (rule_of rules s) c.game) u
     (record { engine = e; to_engine = te; to_controller = (b ∷ x) ++ y }))
@@ -648,7 +648,7 @@ module _ (rules : Rules) (c : Controller) (s : Colour) (u : Incarnation) (e : Op
   quiet_keeps : (kept : List ℕ) → TellsNothing (mine.begun ++ b ∷ x) → MayKeep kept (u.reader ++ b ∷ x)
       → Keeps (length (b ∷ x)) None (with_side_up c s (record u { reader = kept }))
   quiet_keeps kept quiet keeps =
-      let next : Incarnation = record u { reader = kept } in
+      let next : EngineRun = record u { reader = kept } in
       let longer : MayKeep kept (mine.begun ++ b ∷ x) = kept_longer kept u.reader mine.begun (b ∷ x) keeps mine.kept in
       let next_sound : IsSound (with_side_up c s next) =
       quiet_sound c s u (mine.begun ++ b ∷ x) kept sound none up quiet longer in
@@ -746,7 +746,7 @@ heard_keeps rules c s e te b x y lo used fault c2 j h =
     l : BareLane
     l = record { engine = e; to_engine = te; to_controller = (b ∷ x) ++ y }
 
-    by_state : (v : Option Verdict) (up : Option Incarnation) → c.verdict ≡ v → (side_of c.sides s).up ≡ up
+    by_state : (v : Option Verdict) (up : Option EngineRun) → c.verdict ≡ v → (side_of c.sides s).up ≡ up
         → IsJoinedSide (ruled (rule_of rules s) c.game) v up
         (record { engine = e; to_engine = te; to_controller = (b ∷ x) ++ y })
         → IsPlayable (rule_of rules s) c.game s up

@@ -30,7 +30,7 @@ use Rattle.go_base.specs.declared.choices.Choice.{Choice}
 use Rattle.go_base.specs.declared.choices.Choice.TheVariants as choice
 use Rattle.gtp_session.specs.Commands.{Answer, answer, answer_choice}
 use Rattle.gtp_match.specs.declared.unanswered.SentCommand.{SentCommand}
-use Rattle.gtp_match.specs.declared.sides.Incarnation.{Incarnation}
+use Rattle.gtp_match.specs.declared.sides.EngineRun.{EngineRun}
 use Rattle.gtp_match.specs.declared.reply_table.Outcome.{Outcome}
 use Rattle.gtp_match.specs.declared.reply_table.Outcome.TheVariants.{Down, Confirms, Refuses, TakesBack}
 use Rattle.gtp_match.specs.declared.verdicts.SideFault.TheVariants.{WrongId}
@@ -49,10 +49,10 @@ use Rattle.gtp_match.specs.Setup.{SetupRecord}
 use Rattle.gtp_match.specs.Sound.{IsSoundEngine, IsIdle, IsSound}
 use Rattle.gtp_match.specs.Sound.{all_retakes}
 use Rattle.gtp_match.specs.Unanswered.{most_unanswered}
-use Rattle.gtp_match.proofs.ScriptLemmas.{script_longer}
-use Rattle.gtp_match.proofs.SoundLemmas.{idle_plan, nothing_told}
-use Rattle.gtp_match.proofs.ShorterLemmas.{turn_after}
-use Rattle.gtp_match.proofs.TurnLemmas.{has_stones}
+use Rattle.gtp_match.proofs.scripts.Scripts.{script_longer}
+use Rattle.gtp_match.proofs.soundness.Calls.{idle_plan, nothing_told}
+use Rattle.gtp_match.proofs.scripts.WithoutLast.{turn_after}
+use Rattle.gtp_match.proofs.scripts.Turns.{has_stones}
 use Rattle.gtp_session.proofs.CommandLemmas.{well_answer, genmove_answer, genmove_asks, play_refused, undo_answer}
 use Rattle.gtp_world.proofs.OrderAnswers.{succeeds_with}
 use Rattle.gtp_world.proofs.ReplyReads.{well_heard, choice_heard, outcome_of_choice}
@@ -265,7 +265,7 @@ has_all_if n m e = grind (arith, nat_tests)
 -- an idle side where the record grows: it has left the new command
 pub theirs_moved : (rule : KoRule) (c : Controller) (s : Colour) (mover : Colour) (v : Vertex)
     (verdict : Option Verdict)
-    (up : Option Incarnation) (l : BareLane)
+    (up : Option EngineRun) (l : BareLane)
     → c.verdict ≡ None → IfSome up (IsSoundEngine c s)
     → IsJoinedSide (ruled rule c.game) None up l → IsIdle up
     → IsJoinedSide (ruled rule (with_move c.game mover v)) verdict up l
@@ -279,7 +279,7 @@ theirs_moved rule c s mover v verdict (Some u) l none sound h idle =
     (replayed_longer (ruled rule c.game) mover v u.confirmed within) h)
 
 -- a side that lacks the last command of the script where the last move leaves the record
-pub theirs_shorter : (rule : KoRule) (game : GameRecord) (verdict : Option Verdict) (up : Option Incarnation)
+pub theirs_shorter : (rule : KoRule) (game : GameRecord) (verdict : Option Verdict) (up : Option EngineRun)
     (l : BareLane) → IsJoinedSide (ruled rule game) None up l
     → IfSome up (λ u. u.confirmed ≤ length (script (without_last game)))
     → IsJoinedSide (ruled rule (without_last game)) verdict up l
@@ -291,7 +291,7 @@ theirs_shorter rule game verdict (Some u) l h lacks =
     (sym (replayed_shorter (ruled rule game) u.confirmed lacks)) h)
 
 -- what the other side can replay of the longer record: the whole of the shorter one, of which it made the last move
-pub theirs_longer : (rule : KoRule) (c : Controller) (s : Colour) (v : Vertex) (up : Option Incarnation)
+pub theirs_longer : (rule : KoRule) (c : Controller) (s : Colour) (v : Vertex) (up : Option EngineRun)
     → IsSound c → to_move c.game ≡ s → IfSome up (λ u. u.confirmed ≤ length (script c.game))
     → IsPlayable rule c.game (other s) up → IsPlayable rule (with_move c.game s v) (other s) up
 theirs_longer rule c s v up sound turn within p = record {
@@ -312,7 +312,7 @@ theirs_longer rule c s v up sound turn within p = record {
     not_made made =
         let bad : true ≡ false = sym made ∙ added_by c.game s v (other s) ∙ not_other s in cc bad
 
-    not_all : (u : Option Incarnation) → IfSome u (λ x. x.confirmed ≤ length (script c.game))
+    not_all : (u : Option EngineRun) → IfSome u (λ x. x.confirmed ≤ length (script c.game))
         → has_all (with_move c.game s v) u ≡ true → ⊥
     not_all None w all = cc all
     not_all (Some x) w all =
@@ -335,7 +335,7 @@ fair_ended rules c setup game = go (holds (finished? game)) (length game.moves =
 -- ---- a whole reply that the side owes
 
 -- what hearing it leaves
-abbrev pub Replied : Rules → Controller → Colour → Incarnation → BareLane → BareLane → Outcome → Type 0
+abbrev pub Replied : Rules → Controller → Colour → EngineRun → BareLane → BareLane → Outcome → Type 0
 Replied rules c s u l lo o = (fault_of o ≡ None) × AreJoined rules (after_outcome c s (heard_reply u) o) s l lo
 
 -- what is left of a side once its oldest order is answered

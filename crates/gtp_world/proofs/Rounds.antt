@@ -22,7 +22,7 @@ use Rattle.gtp_session.proofs.Policies.{AllowsLawful}
 use Rattle.gtp_session.specs.Policy.{May}
 use Rattle.gtp_session.specs.Engine.{Engine, fresh_game_under}
 use Rattle.gtp_match.specs.declared.unanswered.SentCommand.{SentCommand}
-use Rattle.gtp_match.specs.declared.sides.Incarnation.{Incarnation}
+use Rattle.gtp_match.specs.declared.sides.EngineRun.{EngineRun}
 use Rattle.gtp_match.specs.declared.sides.SideState.{SideState}
 use Rattle.gtp_match.specs.declared.sides.Sides.{Sides}
 use Rattle.gtp_match.specs.declared.reply_table.Outcome.TheVariants.{Confirms}
@@ -30,13 +30,13 @@ use Rattle.gtp_match.specs.declared.verdicts.Action.TheVariants.{Send}
 use Rattle.gtp_match.specs.declared.verdicts.SideFault.{SideFault}
 use Rattle.gtp_match.specs.declared.verdicts.Verdict.{Verdict}
 use Rattle.gtp_match.specs.declared.controller.Controller.{Controller}
-use Rattle.gtp_match.specs.Controller.{next_command, undo_or, script_or_genmove, sent_to, with_side_up}
+use Rattle.gtp_match.specs.Controller.{next_command, undo_or_else, script_or_genmove, sent_to, with_side_up}
 use Rattle.gtp_match.specs.Hearing.{MayKeep, HearsUp, HearsWhere, Hears, HearsAllBy, HearsAll}
 use Rattle.gtp_match.specs.Next.{next}
 use Rattle.gtp_match.specs.Unanswered.{oldest}
 use Rattle.gtp_match.specs.ReplyTable.{outcome, after_outcome, fault_of, confirmed_by}
 use Rattle.gtp_match.specs.Script.{script}
-use Rattle.gtp_match.proofs.LimitLemmas.{sent_line}
+use Rattle.gtp_match.proofs.scripts.Lines.{sent_line}
 use Rattle.gtp_match.specs.Sides.{side_of, with_side, with_engine, handed as handed_command, heard_reply, confirmed}
 use Rattle.gtp_world.specs.Lane.{Lane, written_lane, EngineReads, LaneReads}
 use Rattle.gtp_world.specs.World.{lane_with_next, Sends, lane_where_up, HearsFront, HearsWhereUp, SideHears}
@@ -82,13 +82,13 @@ script_reply_short g o r g2 well a =
 -- ---- one command is unanswered, all its bytes were read, and the side is heard
 
 -- the reply that the side owes
-record OneReply (game : GameRecord) (u : Incarnation) (o : SentCommand) (begun tc : List ℕ) : Type 0 where
+record OneReply (game : GameRecord) (u : EngineRun) (o : SentCommand) (begun tc : List ℕ) : Type 0 where
   reply : Reply
   game_after : GameRecord
   answered : Answered (replayed game u.confirmed) o reply game_after
   text : begun ++ tc ≡ reply_bytes reply
 
-one_reply : (game : GameRecord) (u : Incarnation) (o : SentCommand) (b : EngineBody) (tc : List ℕ)
+one_reply : (game : GameRecord) (u : EngineRun) (o : SentCommand) (b : EngineBody) (tc : List ℕ)
     (h : IsJoinedInPlay game u (record { engine = Some b; to_engine = []; to_controller = tc })) → u.unanswered ≡ o ∷ []
     → OneReply game u o h.begun tc
 one_reply game u o b tc h one =
@@ -112,7 +112,7 @@ nothing_heard s c c2 bytes fault e HearsAllBy.used_up = refl
 nothing_heard s c c2 bytes fault e (HearsAllBy.faulty used some h) = absurd (omega (arith, some, ap length e))
 nothing_heard s c c2 bytes fault e (HearsAllBy.goes_on used some h more) = absurd (omega (arith, some, ap length e))
 
-module _ (rules : Rules) (c : Controller) (s : Colour) (u : Incarnation) (o : SentCommand) (b : EngineBody)
+module _ (rules : Rules) (c : Controller) (s : Colour) (u : EngineRun) (o : SentCommand) (b : EngineBody)
     (tc : List ℕ)
     (lo : BareLane) (j : AreJoined rules c s (record { engine = Some b; to_engine = []; to_controller = tc }) lo)
     (legal : IsGame (ruled (rule_of rules s) c.game))
@@ -184,7 +184,7 @@ module _ (rules : Rules) (c : Controller) (s : Colour) (u : Incarnation) (o : Se
   one_confirms : (used : ℕ) (fault : Option SideFault) (c2 : Controller) → Hears c s tc used fault c2
       → Confirmed used fault c2
   one_confirms used fault c2 h =
-      let F : Option Verdict → Option Incarnation → Type 0 = λ v x. HearsWhere MayKeep c s tc v x used fault c2 in
+      let F : Option Verdict → Option EngineRun → Type 0 = λ v x. HearsWhere MayKeep c s tc v x used fault c2 in
       up_confirms used fault c2 (subst (F None) up (subst (λ (v : Option Verdict). F v (side_of c.sides s).up) none h))
 
   -- all that is heard confirms the command
@@ -220,8 +220,8 @@ other_put Black x all = refl
 other_put White x all = refl
 
 -- a side that is up, has nothing unanswered and has confirmed `count` commands, and whose engine runs
-pub record IsReady {P : Type 0} (up : Option Incarnation) (l : Lane P) (count : ℕ) : Type 0 where
-  pub incarnation : Incarnation
+pub record IsReady {P : Type 0} (up : Option EngineRun) (l : Lane P) (count : ℕ) : Type 0 where
+  pub incarnation : EngineRun
   pub is_up : up ≡ Some incarnation
   pub idle : incarnation.unanswered ≡ []
   pub confirmed : incarnation.confirmed ≡ count
@@ -238,7 +238,7 @@ pub record RoundDone {P : Type 0} (s : Colour) (c c2 : Controller) (l2 : Lane P)
 
 -- the lane of a side with nothing unanswered
 lane_is_idle : {P : Type 0} (rules : Rules) (c : Controller) (s : Colour) (l : Lane P) (lo : BareLane)
-    (u : Incarnation) (e : Engine P)
+    (u : EngineRun) (e : Engine P)
     → AreJoined rules c s (bare l) lo → c.verdict ≡ None → (side_of c.sides s).up ≡ Some u
     → u.unanswered ≡ [] → l.engine ≡ Some e → l ≡ record { engine = Some e; to_engine = []; to_controller = [] }
 lane_is_idle rules c s l lo u e j none up idle runs =
@@ -252,14 +252,14 @@ module _ {P : Type 0} (may : May P) (lawful : AllowsLawful may) (rules : Rules) 
     (legal : IsGame (ruled (rule_of rules s) c.game)) (free : c.pending ≡ None) (none : c.verdict ≡ None)
     (ready : IsReady (side_of c.sides s).up l count) (k : Command)
     (scripted : slice_get (script c.game) count ≡ Some k) where
-  abbrev engine : Incarnation
+  abbrev engine : EngineRun
   engine = ready.incarnation
 
   abbrev order : SentCommand
   order = record { id = engine.sent + 1; command = next_command c s engine }
 
   -- the incarnation that was sent the command
-  abbrev asked : Incarnation
+  abbrev asked : EngineRun
   asked = handed_command (next_command c s engine) engine
 
   number : engine.confirmed + length engine.unanswered ≡ count
@@ -267,7 +267,7 @@ module _ {P : Type 0} (may : May P) (lawful : AllowsLawful may) (rules : Rules) 
 
   command_is : next_command c s engine ≡ k
   command_is =
-      ap (λ (p : Option Colour). undo_or p (script_or_genmove s (slice_get (script c.game)
+      ap (λ (p : Option Colour). undo_or_else p (script_or_genmove s (slice_get (script c.game)
       (engine.confirmed + length engine.unanswered)))) free
       ∙ ap (λ (n : ℕ). script_or_genmove s (slice_get (script c.game) n)) number ∙ ap (script_or_genmove s) scripted
 
@@ -298,7 +298,7 @@ module _ {P : Type 0} (may : May P) (lawful : AllowsLawful may) (rules : Rules) 
       let scripted_now : slice_get (script c.game) engine.confirmed ≡ Some order.command =
       ap (slice_get (script c.game)) ready.confirmed ∙ scripted ∙ ap (λ (x : Command). Some x) (sym command_is) in
       let h : HearsFront s sender (fed_lane after written) 100 c3 l3 =
-      subst (λ (x : Option Incarnation). HearsWhereUp s sender x (fed_lane after written) 100 c3 l3) asked_up heard in
+      subst (λ (x : Option EngineRun). HearsWhereUp s sender x (fed_lane after written) 100 c3 l3) asked_up heard in
       let fits : length written ≤ 100 =
       reply_fits rules sender s asked order (body after) written lo j2 legal none asked_up one scripted_now in
       let hears : HearsAll s sender written h.fault c3 =
@@ -306,7 +306,7 @@ module _ {P : Type 0} (may : May P) (lawful : AllowsLawful may) (rules : Rules) 
       let c3_is : c3 ≡ confirmed_by sender s (heard_reply asked) =
       all_confirm rules sender s asked order (body after) written lo j2 legal none asked_up one scripted_now h.fault
       c3 hears in
-      let last : Incarnation = confirmed (heard_reply asked) in
+      let last : EngineRun = confirmed (heard_reply asked) in
       let last_up : (side_of c3.sides s).up ≡ Some last =
       ap (λ (d : Controller). (side_of d.sides s).up) c3_is
       ∙ ap (λ (x : SideState). x.up) (at_put s (with_engine last (side_of sender.sides s)) sender.sides) in
@@ -322,7 +322,7 @@ module _ {P : Type 0} (may : May P) (lawful : AllowsLawful may) (rules : Rules) 
           running = after;
           runs =
               ap (λ (x : Lane P). x.engine) h.lane ∙ ap
-              (λ (x : Option Incarnation). (lane_where_up x
+              (λ (x : Option EngineRun). (lane_where_up x
               (record (fed_lane after written) { to_controller = drop 100 written })).engine) last_up;
         };
         others =
@@ -334,11 +334,11 @@ module _ {P : Type 0} (may : May P) (lawful : AllowsLawful may) (rules : Rules) 
   pub round_done : (c1 : Controller) (l1 : Lane P) → Sends s c l c1 l1 → (l2 : Lane P) → LaneReads may l1 100 l2
       → (c3 : Controller) (l3 : Lane P) → SideHears s c1 l2 100 c3 l3 → RoundDone s c c3 l3 count
   round_done c1 l1 sends l2 fed c3 l3 heard =
-      let sender_is : c1 ≡ sender = sends.controller_is ∙ ap (λ (x : Option Incarnation). sent_to c s x) ready.is_up in
+      let sender_is : c1 ≡ sender = sends.controller_is ∙ ap (λ (x : Option EngineRun). sent_to c s x) ready.is_up in
       let before : l ≡ record { engine = Some ready.running; to_engine = []; to_controller = [] } =
       lane_is_idle rules c s l lo engine ready.running j none ready.is_up ready.idle ready.runs in
       let sent_is : l1 ≡ sent_lane =
-      sends.lane ∙ ap (λ (x : Option Incarnation). lane_with_next c s x l) ready.is_up
+      sends.lane ∙ ap (λ (x : Option EngineRun). lane_with_next c s x l) ready.is_up
       ∙ ap (λ (x : Lane P). written_lane x (next_text c s engine)) before in
       let r : EngineReads may sent_lane 100 ready.running l2 =
       subst (λ (x : Lane P). LaneReads may x 100 l2) sent_is fed in

@@ -13,7 +13,7 @@ use Rattle.gtp_wire.specs.Lines.{lines, SameFuture}
 use Rattle.gtp_wire.specs.Replies.{TellsNothing}
 use Rattle.gtp_session.specs.Engine.{Engine}
 use Rattle.gtp_match.specs.declared.unanswered.SentCommand.{SentCommand}
-use Rattle.gtp_match.specs.declared.sides.Incarnation.{Incarnation}
+use Rattle.gtp_match.specs.declared.sides.EngineRun.{EngineRun}
 use Rattle.gtp_match.specs.declared.verdicts.Verdict.{Verdict}
 use Rattle.gtp_match.specs.declared.verdicts.Verdict.TheVariants.{Score, Resign, Limit, Forfeit, Unfit, Abandoned}
 use Rattle.gtp_match.specs.declared.controller.Controller.{Controller}
@@ -45,7 +45,7 @@ ruled rule game = record game { rule = rule }
 
 -- What a side's engine can replay under its ko rule: the game without its last move, and the whole game where the side
 -- made the last move, or where its engine has confirmed the whole script.
-pub record IsPlayable (rule : KoRule) (game : GameRecord) (side : Colour) (up : Option Incarnation) : Type 0 where
+pub record IsPlayable (rule : KoRule) (game : GameRecord) (side : Colour) (up : Option EngineRun) : Type 0 where
   pub earlier : IsGame (without_last (ruled rule game))
   pub last : (moved_last game side ≡ true) ⊎ (has_all game up ≡ true) → IsGame (ruled rule game)
 
@@ -104,7 +104,7 @@ CutByCrash (Some engine) cut = cut ≡ []
 -- A side that is up, before any verdict. At the game to which the confirmed commands brought it, the engine was sent
 -- the unanswered ones: some of them it has answered, the others wait. The bytes that the controller heard since the
 -- last whole reply, with the bytes on their way to it and those that were lost with the engine, are those replies.
-pub record IsJoinedInPlay (game : GameRecord) (side : Incarnation) (lane : BareLane) : Type 0 where
+pub record IsJoinedInPlay (game : GameRecord) (side : EngineRun) (lane : BareLane) : Type 0 where
   pub few : length side.unanswered ≤ most_unanswered
   pub replies : List Reply
   pub waiting : List SentCommand
@@ -123,7 +123,7 @@ pub record IsJoinedInPlay (game : GameRecord) (side : Incarnation) (lane : BareL
 
 -- The same after a verdict, when what is heard is dropped: of the bytes on their way to the controller it says only
 -- that they are no more than those of the replies.
-pub record IsJoinedAtEnd (game : GameRecord) (side : Incarnation) (lane : BareLane) : Type 0 where
+pub record IsJoinedAtEnd (game : GameRecord) (side : EngineRun) (lane : BareLane) : Type 0 where
   pub few : length side.unanswered ≤ most_unanswered
   pub replies : List Reply
   pub waiting : List SentCommand
@@ -135,7 +135,7 @@ pub record IsJoinedAtEnd (game : GameRecord) (side : Incarnation) (lane : BareLa
   pub room : length lane.to_controller ≤ length (all_reply_bytes replies)
 
 -- a side and its lane; one that is down has an empty lane
-abbrev pub IsJoinedSide : GameRecord → Option Verdict → Option Incarnation → BareLane → Type 0
+abbrev pub IsJoinedSide : GameRecord → Option Verdict → Option EngineRun → BareLane → Type 0
 IsJoinedSide game verdict None lane = lane ≡ bare_empty
 IsJoinedSide game None (Some side) lane = IsJoinedInPlay game side lane
 IsJoinedSide game (Some verdict) (Some side) lane = IsJoinedAtEnd game side lane

@@ -6,7 +6,7 @@ use Rattle.go_base.specs.declared.colours.Colour.TheVariants.{Black, White}
 use Rattle.go_board.specs.Game.{GameRecord, IsGame}
 use Rattle.gtp_wire.specs.declared.commands.Command.{Command}
 use Rattle.gtp_session.specs.Engine.{Engine}
-use Rattle.gtp_match.specs.declared.sides.Incarnation.{Incarnation}
+use Rattle.gtp_match.specs.declared.sides.EngineRun.{EngineRun}
 use Rattle.gtp_match.specs.declared.controller.Controller.{Controller}
 use Rattle.gtp_match.specs.Controller.{in_step}
 use Rattle.gtp_match.specs.Script.{script}
@@ -24,12 +24,12 @@ use Rattle.gtp_world.specs.Laws.{rules_of}
 -- ---- the events
 
 -- one `Act` where the side is down
-abbrev pub start_of : Option Incarnation → List Event
+abbrev pub start_of : Option EngineRun → List Event
 start_of None = Act ∷ []
 start_of (Some engine) = []
 
 -- the script commands that a side has left: neither confirmed nor unanswered; all of them for a side that is down
-abbrev pub script_left : GameRecord → Option Incarnation → List Command
+abbrev pub script_left : GameRecord → Option EngineRun → List Command
 script_left game None = script game
 script_left game (Some engine) = drop (engine.confirmed + length engine.unanswered) (script game)
 
@@ -50,7 +50,7 @@ settle c =
 -- ---- where it works, and what it leaves
 
 -- an engine runs, where the side is up
-abbrev pub RunsWhereUp : {P : Type 0} → Option Incarnation → Option (Engine P) → Type 0
+abbrev pub RunsWhereUp : {P : Type 0} → Option EngineRun → Option (Engine P) → Type 0
 RunsWhereUp None engine = Unit {0}
 RunsWhereUp (Some u) engine = IsSome engine
 

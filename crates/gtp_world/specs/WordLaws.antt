@@ -8,7 +8,7 @@ use Rattle.go_board.specs.Game.{GameRecord, IsGame}
 use Rattle.go_board.specs.declared.rules.KoRule.{KoRule}
 use Rattle.go_board.specs.declared.rules.KoRule.TheVariants.{Simple, Positional}
 use Rattle.gtp_session.specs.Policy.{May}
-use Rattle.gtp_match.specs.declared.sides.Incarnation.{Incarnation}
+use Rattle.gtp_match.specs.declared.sides.EngineRun.{EngineRun}
 use Rattle.gtp_match.specs.declared.verdicts.Action.TheVariants.{Send, Done}
 use Rattle.gtp_match.specs.declared.verdicts.ForfeitCause.{ForfeitCause}
 use Rattle.gtp_match.specs.declared.verdicts.ForfeitCause.TheVariants.{RefusedPlay}
@@ -101,7 +101,7 @@ module _ {M N B W : Type 0} (may_b : May B) (may_w : May W) (made_b : M → B �
 pub record IsQuiet {B W : Type 0} (rule : Colour → KoRule) (world : World B W) : Type 0 where
   pub not_done : (verdict : Verdict) → next world.controller ≢ Done verdict
   pub running : (side : Colour) → IsUp world side → IsRunning world side
-  pub answered : (side : Colour) (engine : Incarnation) → (side_of world.controller.sides side).up ≡ Some engine
+  pub answered : (side : Colour) (engine : EngineRun) → (side_of world.controller.sides side).up ≡ Some engine
       → engine.unanswered ≡ []
   pub none_taken_back : world.controller.pending ≡ None
   pub games : (side : Colour) → IsGame (ruled (rule side) world.controller.game)

@@ -7,7 +7,7 @@ use Rattle.go_base.specs.Colour.{other}
 use Rattle.go_base.specs.declared.colours.Colour.{Colour}
 use Rattle.go_base.specs.declared.colours.Colour.TheVariants.{Black, White}
 use Rattle.gtp_match.specs.declared.controller.Controller.{Controller}
-use Rattle.gtp_match.specs.declared.sides.Incarnation.{Incarnation}
+use Rattle.gtp_match.specs.declared.sides.EngineRun.{EngineRun}
 use Rattle.gtp_match.specs.declared.verdicts.Action.{Action}
 use Rattle.gtp_match.specs.declared.verdicts.Action.TheVariants.{Start, Send, Wait, Done}
 use Rattle.gtp_match.specs.declared.verdicts.SideFault.{SideFault}
@@ -22,14 +22,14 @@ use Rattle.gtp_match.specs.Retakes.{total_of}
 use Rattle.gtp_match.specs.Setup.{IsSetup, SetupRecord}
 use Rattle.gtp_match.specs.Sides.{side_of}
 use Rattle.gtp_match.specs.Sound.{IsSound, most_commands}
-use Rattle.gtp_match.proofs.BoundLemmas.{all_leaves, down_starts, hears_leaves, started_starts, up_starts}
-use Rattle.gtp_match.proofs.CallsLemmas.{opening_is_game}
-use Rattle.gtp_match.proofs.CauseLemmas.{retakes_are_told}
-use Rattle.gtp_match.proofs.DownLemmas.{lost_sound}
-use Rattle.gtp_match.proofs.DueLemmas.{next_is_due}
-use Rattle.gtp_match.proofs.HeardLemmas.{all_wider}
-use Rattle.gtp_match.proofs.HeardSound.{hears_all_sound, hears_sound}
-use Rattle.gtp_match.proofs.SoundLemmas.{all_few, my_side, new_sound, sent_sound, started_sound}
+use Rattle.gtp_match.proofs.bounds.Limits.{all_leaves, down_starts, hears_leaves, started_starts, up_starts}
+use Rattle.gtp_match.proofs.soundness.CallLists.{opening_is_game}
+use Rattle.gtp_match.proofs.endings.Causes.{retakes_have_refusals}
+use Rattle.gtp_match.proofs.soundness.Down.{lost_sound}
+use Rattle.gtp_match.proofs.actions.Due.{next_is_due}
+use Rattle.gtp_match.proofs.hearing.Exactly.{all_wider}
+use Rattle.gtp_match.proofs.soundness.Heard.{hears_all_sound, hears_sound}
+use Rattle.gtp_match.proofs.soundness.Calls.{all_few, my_side, new_sound, sent_sound, started_sound}
 use Rattle.twogtp.specs.declared.output.Output.{Ghosts as OutputGhosts}
 use Rattle.twogtp.specs.declared.processes.Processes.{Processes}
 use Rattle.twogtp.specs.declared.starter.Process.{Ghosts}
@@ -74,7 +74,7 @@ same_beyond m c new same = ap (λ (xs : List ℕ). total_of (drop m xs)) same
 
 hear_beyond : (m : ℕ) (c mid : Controller) (s : Colour) (bytes : List ℕ) (used : ℕ) (fault : Option SideFault)
     → IsSound c → c.setup.max_moves ≡ m → Hears c s bytes used fault mid → beyond m mid ≡ beyond m c
-hear_beyond m c mid s bytes used fault sound is hears = by_way (retakes_are_told c mid s bytes used fault hears)
+hear_beyond m c mid s bytes used fault sound is hears = by_way (retakes_have_refusals c mid s bytes used fault hears)
   where
     by_way : (mid.retakes ≡ c.retakes) ⊎ CountsRetake c mid s bytes used → beyond m mid ≡ beyond m c
     by_way (inl same) = same_beyond m c mid same
@@ -117,11 +117,11 @@ sent_carries c s sound e = record {
   starts = λ t. same_starts t (side_of c.sides s).up;
 }
   where
-    same_setup : (u : Option Incarnation) → (sent_to c s u).setup ≡ c.setup
+    same_setup : (u : Option EngineRun) → (sent_to c s u).setup ≡ c.setup
     same_setup None = refl
     same_setup (Some engine) = refl
 
-    same_starts : (t : Colour) (u : Option Incarnation)
+    same_starts : (t : Colour) (u : Option EngineRun)
         → (side_of (sent_to c s u).sides t).starts ≡ (side_of c.sides t).starts
     same_starts t None = refl
     same_starts t (Some engine) = up_starts c.sides s t _
@@ -140,11 +140,11 @@ lost_carries c s sound = record {
   starts = λ t. same_starts t (side_of c.sides s).up;
 }
   where
-    same_setup : (u : Option Incarnation) → (lost_engine c s u).setup ≡ c.setup
+    same_setup : (u : Option EngineRun) → (lost_engine c s u).setup ≡ c.setup
     same_setup None = refl
     same_setup (Some engine) = refl
 
-    same_starts : (t : Colour) (u : Option Incarnation)
+    same_starts : (t : Colour) (u : Option EngineRun)
         → (side_of (lost_engine c s u).sides t).starts ≡ (side_of c.sides t).starts
     same_starts t None = refl
     same_starts t (Some engine) = down_starts c.sides s t
@@ -269,7 +269,7 @@ one_up c s up = ap bit up
 
 none_up : (c : Controller) (s : Colour) → up_in c s ≡ None → up_one c s ≡ 0
 unfolding up_one bit
-none_up c s down = ap (λ (u : Option Incarnation). bit (is_some u)) down
+none_up c s down = ap (λ (u : Option EngineRun). bit (is_some u)) down
 
 one_few : (c : Controller) (s : Colour) → up_one c s ≤ 1
 unfolding up_one
@@ -367,7 +367,7 @@ module _ {P : Type 0} (known : Ghosts P) where
       })
 
   -- a side that is sent or heard is up
-  up_there : (o : Option Incarnation) (Q : Incarnation → Type 0) → MatchOption o ⊥ Q → is_some o ≡ true
+  up_there : (o : Option EngineRun) (Q : EngineRun → Type 0) → MatchOption o ⊥ Q → is_some o ≡ true
   up_there None Q x = absurd x
   up_there (Some engine) Q x = refl
 

@@ -9,7 +9,7 @@ use Rattle.go_base.specs.declared.colours.Colour.TheVariants.{Black, White}
 use Rattle.gtp_match.specs.declared.controller.Controller.{Controller}
 use Rattle.gtp_match.specs.declared.losses.Loss.{Loss}
 use Rattle.gtp_match.specs.declared.reports.Retake.{Retake}
-use Rattle.gtp_match.specs.declared.sides.Incarnation.{Incarnation}
+use Rattle.gtp_match.specs.declared.sides.EngineRun.{EngineRun}
 use Rattle.gtp_match.specs.declared.sides.SideState.{SideState}
 use Rattle.gtp_match.specs.declared.verdicts.Action.{Action}
 use Rattle.gtp_match.specs.declared.verdicts.Action.TheVariants.{Start, Send, Wait, Done}
@@ -41,7 +41,7 @@ use Rattle.twogtp.specs.Why.{loss_lines, retake_lines}
 
 -- ---- what a turn keeps
 
-unfoldable pub up_in : Controller → Colour → Option Incarnation
+unfoldable pub up_in : Controller → Colour → Option EngineRun
 up_in c s = (side_of c.sides s).up
 
 -- the verdict stays, and the same sides are up
@@ -52,7 +52,7 @@ record KeepsSides (c m : Controller) : Type 0 where
 keeps_itself : (c : Controller) → KeepsSides c c
 keeps_itself c = record { verdict = refl; up = λ s. refl }
 
-sent_up : (c : Controller) (side s : Colour) (u : Option Incarnation) → up_in c side ≡ u
+sent_up : (c : Controller) (side s : Colour) (u : Option EngineRun) → up_in c side ≡ u
     → is_some (up_in (sent_to c side u) s) ≡ is_some (up_in c s)
 unfolding up_in
 sent_up c side s None is = refl
@@ -61,7 +61,7 @@ sent_up c Black White (Some engine) is = refl
 sent_up c White Black (Some engine) is = refl
 sent_up c White White (Some engine) is = rw is refl
 
-sent_verdict : (c : Controller) (side : Colour) (u : Option Incarnation) → (sent_to c side u).verdict ≡ c.verdict
+sent_verdict : (c : Controller) (side : Colour) (u : Option EngineRun) → (sent_to c side u).verdict ≡ c.verdict
 sent_verdict c side None = refl
 sent_verdict c side (Some engine) = refl
 
@@ -86,7 +86,7 @@ loses_none : (c m : Controller) → KeepsSides c m → LosesSide c m → ⊥
 unfolding up_in
 loses_none c m keeps (goes_down s down) =
     let still : is_some (up_in m s) ≡ true = keeps.up s ∙ down.0 in
-    let gone : is_some (up_in m s) ≡ false = ap (λ (u : Option Incarnation). is_some u) down.1 in absurd (cc)
+    let gone : is_some (up_in m s) ≡ false = ap (λ (u : Option EngineRun). is_some u) down.1 in absurd (cc)
 loses_none c m keeps (forfeits was is) = let same = keeps.verdict in absurd (cc)
 loses_none c m keeps (is_unfit was is) = let same = keeps.verdict in absurd (cc)
 
@@ -103,13 +103,13 @@ unfolding up_in
 downed_up c Black = refl
 downed_up c White = refl
 
-cut_cases : (c m : Controller) (side : Colour) (cause : PipeCause) (u : Option Incarnation) → KeepsSides c m
+cut_cases : (c m : Controller) (side : Colour) (cause : PipeCause) (u : Option EngineRun) → KeepsSides c m
     → up_in m side ≡ u
     → IsSome (option_map (CutOff cause) (owed_where None u)) ↔ LosesSide c (lost_engine m side u)
 unfolding up_in
 cut_cases c m side cause None keeps is = neither None _ refl (loses_none c m keeps)
 cut_cases c m side cause (Some engine) keeps is =
-    let was : is_some (up_in c side) ≡ true = sym (keeps.up side) ∙ ap (λ (u : Option Incarnation). is_some u) is in
+    let was : is_some (up_in c side) ≡ true = sym (keeps.up side) ∙ ap (λ (u : Option EngineRun). is_some u) is in
     ((λ some. goes_down side (was, downed_up m side)), (λ loses. refl))
 
 cut_is_loss : (c m : Controller) (side : Colour) (cause : PipeCause) → KeepsSides c m → c.verdict ≡ None
@@ -166,11 +166,11 @@ starts_loses_none c side next_is (is_not_started {side = s} starts down) =
     let up = started_up c side in
     let none : is_some (up_in (started c side) side) ≡ false =
     subst (λ (t : Colour). is_some (up_in (started c side) t) ≡ false) same
-    (ap (λ (u : Option Incarnation). is_some u) down) in
+    (ap (λ (u : Option EngineRun). is_some u) down) in
     absurd (cc)
 starts_loses_none c side next_is (is_lost (goes_down s down)) =
     let still = started_keeps c side s down.0 in
-    let gone : is_some (up_in (started c side) s) ≡ false = ap (λ (u : Option Incarnation). is_some u) down.1 in
+    let gone : is_some (up_in (started c side) s) ≡ false = ap (λ (u : Option EngineRun). is_some u) down.1 in
     absurd (cc)
 starts_loses_none c side next_is (is_lost (forfeits was is)) = absurd (cc)
 starts_loses_none c side next_is (is_lost (is_unfit was is)) = absurd (cc)
@@ -252,13 +252,13 @@ unfolding up_in
 down_is c new Black Black stays down = refl
 down_is c new White White stays down = refl
 down_is c new Black White stays down =
-    let gone : is_some (up_in new White) ≡ false = ap (λ (u : Option Incarnation). is_some u) down.1 in
+    let gone : is_some (up_in new White) ≡ false = ap (λ (u : Option EngineRun). is_some u) down.1 in
     let was = down.0 in absurd (cc)
 down_is c new White Black stays down =
-    let gone : is_some (up_in new Black) ≡ false = ap (λ (u : Option Incarnation). is_some u) down.1 in
+    let gone : is_some (up_in new Black) ≡ false = ap (λ (u : Option EngineRun). is_some u) down.1 in
     let was = down.0 in absurd (cc)
 
-lost_leaves : (m : Controller) (side : Colour) (u : Option Incarnation)
+lost_leaves : (m : Controller) (side : Colour) (u : Option EngineRun)
     → is_some (up_in (lost_engine m side u) (other side)) ≡ is_some (up_in m (other side))
 unfolding up_in
 lost_leaves m side None = refl
@@ -297,7 +297,7 @@ module _ {P : Type 0} (known : Ghosts P) where
   heard_leaves c new side old now report (IsHeard.heard bytes fault some given heard reported unbroken taken) =
       let lost_by = reported.1 in
       ap (λ (s : SideState). is_some s.up)
-      (all_told c new side bytes lost_by.1.0 lost_by.0 lost_by.1.1).other_stays
+      (all_losses_reported c new side bytes lost_by.1.0 lost_by.0 lost_by.1.1).other_stays
   heard_leaves c _ side old now _ (IsHeard.ended over given taken) = cut_leaves c c side (keeps_itself c)
   heard_leaves c _ side old now _ (IsHeard.broke cut given taken) = cut_leaves c c side (keeps_itself c)
 

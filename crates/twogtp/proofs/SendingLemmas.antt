@@ -8,7 +8,7 @@ use Rattle.go_base.specs.declared.colours.Colour.{Colour}
 use Rattle.go_base.specs.declared.colours.Colour.TheVariants.{Black, White}
 use Rattle.go_board.specs.Game.{GameRecord}
 use Rattle.gtp_match.specs.declared.controller.Controller.{Controller}
-use Rattle.gtp_match.specs.declared.sides.Incarnation.{Incarnation}
+use Rattle.gtp_match.specs.declared.sides.EngineRun.{EngineRun}
 use Rattle.gtp_match.specs.declared.verdicts.Action.{Action}
 use Rattle.gtp_match.specs.declared.verdicts.Action.TheVariants.{Send, Wait}
 use Rattle.gtp_match.specs.declared.verdicts.Verdict.{Verdict}
@@ -17,11 +17,11 @@ use Rattle.gtp_match.specs.Next.{must_answer, next, next_of, next_where}
 use Rattle.gtp_match.specs.Sides.{side_of}
 use Rattle.gtp_match.specs.Unanswered.{is_full, most_unanswered}
 use Rattle.gtp_match.specs.Sound.{IsSound}
-use Rattle.gtp_match.proofs.SaysLemmas.{says_send}
-use Rattle.gtp_match.proofs.SoundLemmas.{maker_is_up}
+use Rattle.gtp_match.proofs.actions.Conditions.{says_send}
+use Rattle.gtp_match.proofs.soundness.Calls.{maker_is_up}
 
 -- how many commands an engine has unanswered
-abbrev pub count_of : Option Incarnation → ℕ
+abbrev pub count_of : Option EngineRun → ℕ
 count_of None = 0
 count_of (Some engine) = length engine.unanswered
 
@@ -53,7 +53,7 @@ white_waits side true must later is e = cc
 white_waits side false true later is e = cc
 white_waits side false false later is e = cc
 
-full_must_answer : (game : GameRecord) (up : Option Incarnation) → most_unanswered ≤ count_of up
+full_must_answer : (game : GameRecord) (up : Option EngineRun) → most_unanswered ≤ count_of up
     → must_answer game up ≡ true
 full_must_answer game None many = absurd (omega arith)
 full_must_answer game (Some engine) many =
@@ -69,7 +69,7 @@ full_waits c White many e =
 
 -- ---- each command that is sent counts
 
-counts_more : (c : Controller) (side : Colour) (up : Option Incarnation) (engine : Incarnation) → up ≡ Some engine
+counts_more : (c : Controller) (side : Colour) (up : Option EngineRun) (engine : EngineRun) → up ≡ Some engine
     → (side_of c.sides side).up ≡ up → count (sent_to c side up) side ≡ count_of up + 1
 counts_more c Black None engine is e = absurd (cc)
 counts_more c White None engine is e = absurd (cc)

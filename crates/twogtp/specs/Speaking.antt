@@ -5,12 +5,12 @@ use Rattle.std.specs.Option.{option_to_list}
 use Rattle.std.specs.Io.KnownBytes.{Appends, Keeps}
 use Rattle.go_base.specs.declared.colours.Colour.{Colour}
 use Rattle.gtp_match.specs.declared.controller.Controller.{Controller}
-use Rattle.gtp_match.specs.declared.sides.Incarnation.{Incarnation}
+use Rattle.gtp_match.specs.declared.sides.EngineRun.{EngineRun}
 use Rattle.gtp_match.specs.declared.verdicts.Action.TheVariants.{Send}
 use Rattle.gtp_match.specs.declared.verdicts.SideFault.{SideFault}
 use Rattle.gtp_match.specs.Controller.{next_text, sent, lost}
 use Rattle.gtp_match.specs.Hearing.{HearsAllExactly}
-use Rattle.gtp_match.specs.Losing.{HearsAllTelling, owed}
+use Rattle.gtp_match.specs.Losing.{HearsAllReporting, owed}
 use Rattle.gtp_match.specs.Next.{next}
 use Rattle.gtp_match.specs.Retaking.{HearsAllRetakes}
 use Rattle.gtp_match.specs.declared.losses.Loss.{Loss}
@@ -26,7 +26,7 @@ use Rattle.twogtp.specs.Processes.{WithProcess}
 use Rattle.twogtp.specs.Why.{only_loss}
 
 -- The bytes of the command that a side is sent next; none where it is down.
-abbrev pub command_for : Controller → Colour → Option Incarnation → List ℕ
+abbrev pub command_for : Controller → Colour → Option EngineRun → List ℕ
 command_for c side None = []
 command_for c side (Some engine) = next_text c side engine
 

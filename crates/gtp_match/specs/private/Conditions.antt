@@ -10,13 +10,13 @@ use Rattle.gtp_wire.specs.declared.commands.Command.TheVariants.{Genmove, Undo, 
 use Rattle.gtp_match.specs.Sides.{side_of}
 use Rattle.gtp_match.specs.Unanswered.{most_unanswered, oldest}
 use Rattle.gtp_match.specs.declared.controller.Controller.{Controller}
-use Rattle.gtp_match.specs.declared.sides.Incarnation.{Incarnation}
+use Rattle.gtp_match.specs.declared.sides.EngineRun.{EngineRun}
 use Rattle.gtp_match.specs.declared.reply_table.Outcome.{Outcome}
 use Rattle.gtp_match.specs.declared.reply_table.Outcome.TheVariants.{Down, Unfit, Forfeits, Confirms, Resigns, Moves}
 use Rattle.gtp_match.specs.declared.reply_table.Outcome.TheVariants.{Refuses, TakesBack, Keeps}
 
 -- an engine may be sent a command more
-abbrev pub MayHand : Incarnation → Type 0
+abbrev pub MayHand : EngineRun → Type 0
 MayHand engine = (engine.sent < most_int) × (length engine.unanswered < most_unanswered)
 
 -- a reply to the command may be judged: where it is a handicap, the game's size allows it
@@ -31,11 +31,11 @@ MayBeAnswered game Undo = Unit {0}
 MayBeAnswered game Quit = Unit {0}
 
 -- an engine that is up may be heard: its oldest command may be judged, and one more may be confirmed
-pub record MayReply (game : GameRecord) (engine : Incarnation) : Type 0 where
+pub record MayReply (game : GameRecord) (engine : EngineRun) : Type 0 where
   pub answered : IfSome (oldest engine.unanswered) (λ entry. MayBeAnswered game entry.command)
   pub confirmed : engine.confirmed < most_int
 
--- a side may be heard: the record has room for a move
+-- a side may be heard: the record isn't full
 pub record MayHear (c : Controller) (side : Colour) : Type 0 where
   pub room : HasRoom c.game
   pub engine : IfSome (side_of c.sides side).up (MayReply c.game)

@@ -10,7 +10,7 @@ use Rattle.gtp_match.specs.declared.reply_table.Outcome.{Outcome}
 use Rattle.gtp_match.specs.declared.reports.Notice.{Notice}
 use Rattle.gtp_match.specs.declared.reports.Notice.TheVariants.{Retakes, Fails}
 use Rattle.gtp_match.specs.declared.reports.Retake.{Retake}
-use Rattle.gtp_match.specs.declared.sides.Incarnation.{Incarnation}
+use Rattle.gtp_match.specs.declared.sides.EngineRun.{EngineRun}
 use Rattle.gtp_match.specs.Losing.{most_shown, owed_of, HasLossCause}
 use Rattle.gtp_match.specs.Retaking.{retake_by}
 
@@ -37,7 +37,7 @@ abbrev pub loss_owing : Owed → LossCause → Loss
 loss_owing owed cause = record { cause = cause; owed = owed }
 
 -- what is reported of a reply with this outcome: the retake by it, and the cause by which it loses its side
-pub record HasNotice (c : Controller) (side : Colour) (engine : Incarnation) (reply : Reply) (made : Outcome)
+pub record HasNotice (c : Controller) (side : Colour) (engine : EngineRun) (reply : Reply) (made : Outcome)
     (notice : Option Notice) : Type 0 where
   pub retake : (text : List ℕ)
       → retake_by c side engine text made ≡ option_map (retake_owing (owed_of engine text)) (count_in notice)

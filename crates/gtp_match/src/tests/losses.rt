@@ -125,8 +125,8 @@ fn of_a_long_greeting_the_first_80_bytes_are_kept(rt: HostRuntime) {
     fails(&rt, &mut played, Side::Black, b"hello", cause, want);
 }
 
-/// Of a reply to Black's first `genmove` with `len` letters that comes in two pieces, the first of `cut` bytes, the first
-/// 80 bytes are shown.
+/// Of a reply to Black's first `genmove` with `len` letters that comes in two pieces, the first of `cut` bytes, the
+/// first 80 bytes are shown.
 fn is_cut_short(rt: &impl Abort, len: usize, cut: usize) {
     let reply = success(4, some(rt, [b'x'; 100].get(..len)));
     let bytes = reply.as_slice();

@@ -83,11 +83,11 @@ fn the_last_move_that_is_allowed_ends_by_the_limit(rt: HostRuntime) {
 #[test]
 fn a_result_line_has_room_for_96_bytes_and_a_record_line_for_10_000(rt: HostRuntime) {
     let played = black_answered(&rt, b"=4 resign\n\n");
-    let told: Option<ArrayVec<u8, 96>> = result_line(1, &played);
+    let line: Option<ArrayVec<u8, 96>> = result_line(1, &played);
     let record: ArrayVec<u8, 10_000> = record_line(&played);
     assert_equal(
         &rt,
-        some(&rt, told).as_slice(),
+        some(&rt, line).as_slice(),
         b"game 1: W+R moves 0 restarts 0 0".as_slice(),
     );
     assert_equal(&rt, record.as_slice(), b"".as_slice());

@@ -1,4 +1,4 @@
-use Rattle.gtp_match.proofs.AnswersLemmas.{answers_count}
+use Rattle.gtp_match.proofs.replies.Counting.{answers_count}
 use Rattle.gtp_match.proofs.laws.answers_count.Goals as goal
 
 pub returns : goal.returns

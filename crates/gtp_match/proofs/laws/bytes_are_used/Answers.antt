@@ -1,4 +1,4 @@
-use Rattle.gtp_match.proofs.UsedLemmas.{reply_is_used, fault_is_shown, nothing_is_used, down_is_used, over_is_used}
+use Rattle.gtp_match.proofs.hearing.Used.{reply_is_used, fault_is_shown, nothing_is_used, down_is_used, over_is_used}
 use Rattle.gtp_match.proofs.laws.bytes_are_used.Goals as goal
 
 pub returns : goal.returns

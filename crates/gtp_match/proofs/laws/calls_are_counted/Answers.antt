@@ -1,4 +1,4 @@
-use Rattle.gtp_match.proofs.CountLemmas.{calls_are_counted}
+use Rattle.gtp_match.proofs.bounds.Counts.{calls_are_counted}
 use Rattle.gtp_match.proofs.laws.calls_are_counted.Goals as goal
 
 pub returns : goal.returns

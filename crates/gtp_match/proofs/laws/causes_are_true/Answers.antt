@@ -1,4 +1,4 @@
-use Rattle.gtp_match.proofs.CauseLemmas.{causes_are_true}
+use Rattle.gtp_match.proofs.endings.Causes.{causes_are_true}
 use Rattle.gtp_match.proofs.laws.causes_are_true.Goals as goal
 
 pub returns : goal.returns

@@ -1,4 +1,4 @@
-use Rattle.gtp_match.proofs.ReplyingLemmas.{confirmed_by_id}
+use Rattle.gtp_match.proofs.hearing.Changes.{confirmed_by_id}
 use Rattle.gtp_match.proofs.laws.confirmed_by_id.Goals as goal
 
 pub returns : goal.returns

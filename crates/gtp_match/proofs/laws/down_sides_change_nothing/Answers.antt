@@ -1,4 +1,4 @@
-use Rattle.gtp_match.proofs.LeavingLemmas.{loss_of_none, heard_of_none}
+use Rattle.gtp_match.proofs.hearing.LeftAlone.{loss_of_none, heard_of_none}
 use Rattle.gtp_match.proofs.laws.down_sides_change_nothing.Goals as goal
 
 pub returns : goal.returns

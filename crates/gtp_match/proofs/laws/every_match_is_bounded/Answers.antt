@@ -1,4 +1,4 @@
-use Rattle.gtp_match.proofs.BoundLemmas.{match_bounded}
+use Rattle.gtp_match.proofs.bounds.Limits.{match_bounded}
 use Rattle.gtp_match.proofs.laws.every_match_is_bounded.Goals as goal
 
 pub returns : goal.returns

@@ -1,4 +1,4 @@
-use Rattle.gtp_match.proofs.FaultLemmas.{faults_have_causes}
+use Rattle.gtp_match.proofs.replies.Faults.{faults_have_causes}
 use Rattle.gtp_match.proofs.laws.faults_have_causes.Goals as goal
 
 pub returns : goal.returns

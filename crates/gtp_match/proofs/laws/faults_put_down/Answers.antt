@@ -1,4 +1,4 @@
-use Rattle.gtp_match.proofs.ReplyingLemmas.{faults_put_down}
+use Rattle.gtp_match.proofs.hearing.Changes.{faults_put_down}
 use Rattle.gtp_match.proofs.laws.faults_put_down.Goals as goal
 
 pub returns : goal.returns

@@ -1,4 +1,4 @@
-use Rattle.gtp_match.proofs.NameLemmas.{named_once, names_them}
+use Rattle.gtp_match.proofs.texts.Points.{named_once, names_them}
 use Rattle.gtp_match.proofs.laws.handicaps_are_named_once.Goals as goal
 
 pub returns : goal.returns

@@ -1,5 +1,5 @@
 use Rattle.gtp_match.specs.Sides.{side_of}
-use Rattle.gtp_match.proofs.StepLemmas.{in_step_says}
+use Rattle.gtp_match.proofs.actions.InStep.{in_step_says}
 use Rattle.gtp_match.proofs.laws.in_step_says.Goals as goal
 
 pub returns : goal.returns

@@ -1,4 +1,4 @@
-use Rattle.gtp_match.proofs.DueLemmas.{next_is_due}
+use Rattle.gtp_match.proofs.actions.Due.{next_is_due}
 use Rattle.gtp_match.proofs.laws.next_is_due.Goals as goal
 
 pub returns : goal.returns

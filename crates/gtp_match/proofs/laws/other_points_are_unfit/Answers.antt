@@ -1,4 +1,4 @@
-use Rattle.gtp_match.proofs.PointsLemmas.{other_points_are_unfit}
+use Rattle.gtp_match.proofs.replies.OtherPoints.{other_points_are_unfit}
 use Rattle.gtp_match.proofs.laws.other_points_are_unfit.Goals as goal
 
 pub returns : goal.returns

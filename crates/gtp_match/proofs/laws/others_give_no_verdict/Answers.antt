@@ -1,4 +1,4 @@
-use Rattle.gtp_match.proofs.CauseLemmas.{others_give_no_verdict}
+use Rattle.gtp_match.proofs.endings.Causes.{others_give_no_verdict}
 use Rattle.gtp_match.proofs.laws.others_give_no_verdict.Goals as goal
 
 pub returns : goal.returns

@@ -1,4 +1,4 @@
-use Rattle.gtp_match.proofs.CauseLemmas.{others_leave_the_game}
+use Rattle.gtp_match.proofs.endings.Causes.{others_leave_the_game}
 use Rattle.gtp_match.proofs.laws.others_leave_the_game.Goals as goal
 
 pub returns : goal.returns

@@ -1,4 +1,4 @@
-use Rattle.gtp_match.proofs.JoinLemmas.{as_one}
+use Rattle.gtp_match.proofs.hearing.Pieces.{as_one}
 use Rattle.gtp_match.proofs.laws.pieces_are_heard_as_one.Goals as goal
 
 pub returns : goal.returns

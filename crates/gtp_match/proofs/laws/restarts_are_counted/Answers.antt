@@ -1,5 +1,5 @@
 use Rattle.std.proofs.Common.{ap, ◌-◌}
-use Rattle.gtp_match.proofs.CountLemmas.{calls_are_counted}
+use Rattle.gtp_match.proofs.bounds.Counts.{calls_are_counted}
 use Rattle.gtp_match.proofs.laws.restarts_are_counted.Goals as goal
 
 pub returns : goal.returns

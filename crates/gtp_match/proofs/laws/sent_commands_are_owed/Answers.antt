@@ -1,4 +1,4 @@
-use Rattle.gtp_match.proofs.LeavingLemmas.{sent_is_owed}
+use Rattle.gtp_match.proofs.hearing.LeftAlone.{sent_is_owed}
 use Rattle.gtp_match.proofs.laws.sent_commands_are_owed.Goals as goal
 
 pub returns : goal.returns

@@ -1,4 +1,4 @@
-use Rattle.gtp_match.proofs.LeavingLemmas.{starts_come_first}
+use Rattle.gtp_match.proofs.hearing.LeftAlone.{starts_come_first}
 use Rattle.gtp_match.proofs.laws.starts_come_first.Goals as goal
 
 pub returns : goal.returns

@@ -1,4 +1,4 @@
-use Rattle.gtp_match.proofs.CutLemmas.{texts_are_cut}
+use Rattle.gtp_match.proofs.texts.Cuts.{texts_are_cut}
 use Rattle.gtp_match.proofs.laws.texts_are_cut.Goals as goal
 
 pub returns : goal.returns

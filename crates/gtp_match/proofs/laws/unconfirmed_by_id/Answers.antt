@@ -1,4 +1,4 @@
-use Rattle.gtp_match.proofs.ReplyingLemmas.{unconfirmed_by_id}
+use Rattle.gtp_match.proofs.hearing.Changes.{unconfirmed_by_id}
 use Rattle.gtp_match.proofs.laws.unconfirmed_by_id.Goals as goal
 
 pub returns : goal.returns

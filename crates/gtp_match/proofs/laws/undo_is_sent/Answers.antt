@@ -1,4 +1,4 @@
-use Rattle.gtp_match.proofs.UndoLemmas.{undo_is_sent}
+use Rattle.gtp_match.proofs.actions.Undo.{undo_is_sent}
 use Rattle.gtp_match.proofs.laws.undo_is_sent.Goals as goal
 
 pub returns : goal.returns

@@ -1,4 +1,4 @@
-use Rattle.gtp_match.proofs.VerdictLemmas.{verdicts_stay, once_stays, all_stay}
+use Rattle.gtp_match.proofs.endings.GivenOnce.{verdicts_stay, once_stays, all_stay}
 use Rattle.gtp_match.proofs.laws.verdicts_stay.Goals as goal
 
 pub returns : goal.returns

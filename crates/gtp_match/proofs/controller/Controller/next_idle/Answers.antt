@@ -1,8 +1,8 @@
 use Rattle.std.proofs.Common.{◌∙◌, sym, ap}
 use Rattle.gtp_match.specs.declared.verdicts.Action.TheVariants.{Send}
 use Rattle.gtp_match.specs.Controller.{to_move}
-use Rattle.gtp_match.proofs.NextLemmas.{idle_tests_of, at_black_down, at_white_down, at_black_script_left}
-use Rattle.gtp_match.proofs.NextLemmas.{at_white_script_left, at_none}
+use Rattle.gtp_match.proofs.actions.Tests.{idle_tests_of, at_black_down, at_white_down, at_black_script_left}
+use Rattle.gtp_match.proofs.actions.Tests.{at_white_script_left, at_none}
 use Rattle.gtp_match.proofs.controller.Controller.next_idle.Goals as goal
 
 pub returns-then-is_down : goal.returns-then-is_down

@@ -1,7 +1,7 @@
 use Rattle.std.proofs.Common.{◌≡◌, ◌-◌, ◌≤◌, ◌++◌, ◌∙◌, ap, List, ℕ, take, length, arith}
 use Rattle.std.proofs.lemmas.List.{take_min}
 use Rattle.gtp_match.specs.declared.losses.Owed.{Owed}
-use Rattle.gtp_match.proofs.LosingLemmas.{take_over}
+use Rattle.gtp_match.proofs.reporting.LossOnce.{take_over}
 use Rattle.gtp_match.proofs.losses.Owed.then.Goals as goal
 
 pub returns : goal.returns

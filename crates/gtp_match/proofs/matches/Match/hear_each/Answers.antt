@@ -3,13 +3,13 @@ use Rattle.std.specs.Option.{option_or, option_to_list}
 use Rattle.std.proofs.lemmas.List.{take_rest}
 use Rattle.gtp_match.specs.declared.losses.Loss.{Loss}
 use Rattle.gtp_match.specs.declared.reports.Retake.{Retake}
-use Rattle.gtp_match.specs.Losing.{HearsTelling, first_of}
+use Rattle.gtp_match.specs.Losing.{HearsReporting, first_of}
 use Rattle.gtp_match.specs.Retaking.{HearsRetakes}
-use Rattle.gtp_match.proofs.HeardLemmas.{none_left, some_left}
-use Rattle.gtp_match.proofs.RetakingLemmas.{reports, none_again, idle_after, listed, listed_end, listed_alone}
-use Rattle.gtp_match.proofs.RetakingLemmas.{shows_either, retakes_faulty, retakes_more, retakes_end, retake_shown}
-use Rattle.gtp_match.proofs.TellingLemmas.{tells_faulty, tells_more, tells_end, first_of_all, first_of_none}
-use Rattle.gtp_match.proofs.TellingLemmas.{shows_first, loss_shown}
+use Rattle.gtp_match.proofs.hearing.Exactly.{none_left, some_left}
+use Rattle.gtp_match.proofs.reporting.RetakeOnce.{reports, none_again, idle_after, listed, listed_end, listed_alone}
+use Rattle.gtp_match.proofs.reporting.RetakeOnce.{shows_either, retakes_faulty, retakes_more, retakes_end, retake_shown}
+use Rattle.gtp_match.proofs.reporting.AllBytes.{tells_faulty, tells_more, tells_end, first_of_all, first_of_none}
+use Rattle.gtp_match.proofs.reporting.AllBytes.{shows_first, loss_shown}
 use Rattle.gtp_match.proofs.matches.Match.hear_each.Goals as goal
 
 pub returns-then-is_some-clause-loss : goal.returns-then-is_some-clause-loss
@@ -86,7 +86,7 @@ loop-rest-preserved c =
 
 pub returns-clause-loss : goal.returns-clause-loss
 returns-clause-loss c =
-    subst (λ (loss : Option Loss). HearsTelling c.args.side c.args.self.now c.args.bytes.now None loss c.loop-rest.self)
+    subst (λ (loss : Option Loss). HearsReporting c.args.side c.args.self.now c.args.bytes.now None loss c.loop-rest.self)
     (first_of_none c.loop-rest.report.loss)
     (c.loop-rest.invariant.tells None None c.loop-rest.self
     (tells_end c.args.side c.loop-rest.self c.loop-rest.rest.now

@@ -5,7 +5,7 @@ use Rattle.gtp_match.specs.declared.controller.Controller.{Controller}
 use Rattle.gtp_match.specs.declared.losses.Loss.{Loss}
 use Rattle.gtp_match.specs.declared.reports.Retake.{Retake}
 use Rattle.gtp_match.specs.declared.verdicts.SideFault.{SideFault}
-use Rattle.gtp_match.specs.Losing.{HearsTelling, CanBeShown, first_of}
+use Rattle.gtp_match.specs.Losing.{HearsReporting, CanBeShown, first_of}
 use Rattle.gtp_match.specs.Retaking.{HearsRetakes}
 use Rattle.gtp_match.specs.Sides.{side_of}
 use Rattle.gtp_match.specs.Sound.{IsIdle}
@@ -16,8 +16,8 @@ use Rattle.gtp_match.proofs.matches.Match.hear_each.Given as goal
 abbrev pub invariant-loop-rest : goal.invariant-loop-rest
 invariant-loop-rest l = record {
   tells : (shown : Option SideFault) (later : Option Loss) (new : Controller)
-      → HearsTelling l.side l.self l.rest shown later new
-      → HearsTelling l.side l.fn.self l.bytes shown (first_of l.report.loss later) new;
+      → HearsReporting l.side l.self l.rest shown later new
+      → HearsReporting l.side l.fn.self l.bytes shown (first_of l.report.loss later) new;
   retakes : (shown : Option SideFault) (later : List Retake) (new : Controller)
       → HearsRetakes l.side l.self l.rest shown later new
       → HearsRetakes l.side l.fn.self l.bytes shown (option_to_list l.report.retake ++ later) new;

@@ -1,6 +1,6 @@
 use Rattle.std.proofs.Common.{◌∙◌, sym}
-use Rattle.gtp_match.proofs.HeardSound.{hears_sound, may_hear, none_of}
-use Rattle.gtp_match.proofs.HeardLemmas.{wider, uses_one}
+use Rattle.gtp_match.proofs.soundness.Heard.{hears_sound, may_hear, none_of}
+use Rattle.gtp_match.proofs.hearing.Exactly.{wider, uses_one}
 use Rattle.gtp_match.proofs.matches.Match.hear_once.Goals as goal
 
 pub hear-requires-clause-may : goal.hear-requires-clause-may

@@ -1,4 +1,4 @@
-use Rattle.gtp_match.proofs.TellingLemmas.{telling_hears}
+use Rattle.gtp_match.proofs.reporting.AllBytes.{telling_hears}
 use Rattle.gtp_match.proofs.matches.Match.hear_reporting.Goals as goal
 
 pub returns-clause-exact : goal.returns-clause-exact

@@ -1,6 +1,6 @@
 use Rattle.gtp_match.specs.Setup.{IsSetup}
-use Rattle.gtp_match.proofs.CallsLemmas.{opening_is_game}
-use Rattle.gtp_match.proofs.SoundLemmas.{new_sound}
+use Rattle.gtp_match.proofs.soundness.CallLists.{opening_is_game}
+use Rattle.gtp_match.proofs.soundness.Calls.{new_sound}
 use Rattle.gtp_match.proofs.matches.Match.new.Goals as goal
 
 pub invariant_of-result : goal.invariant_of-result

@@ -1,4 +1,4 @@
-use Rattle.gtp_match.proofs.TellingLemmas.{owed_shown}
+use Rattle.gtp_match.proofs.reporting.AllBytes.{owed_shown}
 use Rattle.gtp_match.proofs.matches.Match.owed.Goals as goal
 
 pub returns-clause-shown : goal.returns-clause-shown

@@ -1,0 +1,8 @@
+-- What comes next, and what holds then.
+pub mod Tests
+pub mod Conditions
+pub mod Due
+pub mod Genmove
+pub mod NothingUnanswered
+pub mod InStep
+pub mod Undo

@@ -1,0 +1,3 @@
+-- How many starts and commands there are.
+pub mod Limits
+pub mod Counts

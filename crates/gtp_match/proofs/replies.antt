@@ -1,0 +1,9 @@
+-- What a whole reply does, and why.
+pub mod Outcomes
+pub mod LegalMoves
+pub mod Reasons
+pub mod Counting
+pub mod NoFault
+pub mod Refusals
+pub mod OtherPoints
+pub mod Faults
