@@ -21,9 +21,9 @@ use Rattle.gtp_match.specs.Retakes.{total_of}
 use Rattle.gtp_match.specs.Retaking.{AreReported, IsOfLastMove}
 use Rattle.gtp_match.specs.Sides.{side_of}
 use Rattle.gtp_match.specs.Sound.{IsSound}
-use Rattle.gtp_match.proofs.CauseLemmas.{others_leave_the_retakes}
-use Rattle.gtp_match.proofs.ReportedLemmas.{all_reported}
-use Rattle.gtp_match.proofs.ToldLemmas.{all_told}
+use Rattle.gtp_match.proofs.endings.Causes.{others_leave_the_retakes}
+use Rattle.gtp_match.proofs.reporting.RetakeReports.{all_reported}
+use Rattle.gtp_match.proofs.reporting.LossReports.{all_losses_reported}
 use Rattle.twogtp.specs.declared.starter.Ending.{Ending}
 use Rattle.twogtp.specs.declared.starter.Process.{Ghosts}
 use Rattle.twogtp.specs.declared.task.Commands.{Commands}
@@ -196,7 +196,7 @@ module _ {P : Type 0} (known : Ghosts P) where
       → IsHeard known true c side old now new report → IsSome report.loss ↔ LosesSide c new
   hears_told c new side old now report live (IsHeard.heard bytes fault some given heard reported unbroken taken) =
       let lost_by = reported.1 in
-      let told = (all_told c new side bytes lost_by.1.0 lost_by.0 lost_by.1.1).exact in
+      let told = (all_losses_reported c new side bytes lost_by.1.0 lost_by.0 lost_by.1.1).exact in
       subst (λ (w : Option TurnLoss). IsSome w ↔ LosesSide c new) (sym lost_by.2) (wrote lost_by.0 told)
     where
       wrote : (loss : Option Loss) → IsSome loss ↔ LosesSide c new → IsSome (option_map Wrote loss) ↔ LosesSide c new

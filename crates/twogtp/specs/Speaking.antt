@@ -70,7 +70,7 @@ pub data AreSent {P : Type 0} (known : Ghosts P) (c : Controller) (side : Colour
 -- Why a side failed by bytes, all of which were heard: the first loss by them, if any.
 abbrev pub LostBy : Colour → Controller → List ℕ → Controller → Option TurnLoss → Type 0
 LostBy side c bytes new reported =
-    (loss : Option Loss) × HearsAllTelling side c bytes loss new × (reported ≡ option_map Wrote loss)
+    (loss : Option Loss) × HearsAllReporting side c bytes loss new × (reported ≡ option_map Wrote loss)
 
 -- What is reported of bytes, all of which were heard: the `play` that is retaken by them, if any, and why the side
 -- failed by them, if it did. It is looked for where it is to be written.
