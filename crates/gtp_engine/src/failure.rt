@@ -1,4 +1,4 @@
-//! The failures that the program tells in a line of its own.
+//! The failures that the program reports in a line of its own.
 ghost use Rattle.std.specs.Prelude.{◌≡◌, ◌≢◌};
 ghost use Rattle.gtp_engine.specs.Status.{TellsFailure, failure_line, status_for};
 

@@ -26,7 +26,7 @@ impl<W: Outgoing> Write for Plain<'_, W> {
     }
 }
 
-/// Writes the text and flushes it. It takes no memory, so a text is told also where none is left. Whether it was
+/// Writes the text and flushes it. It takes no memory, so a text is written also where none is left. Whether it was
 /// written changes nothing, and no clause speaks of it.
 pub fn print<T: Display, W: Outgoing>(text: &T, writer: &mut W) {
     let mut plain = Plain { writer };

@@ -10,14 +10,14 @@ use Rattle.go_base.specs.Int.{SpellsInt, int_of}
 use Rattle.go_base.proofs.IntLemmas.{int_of_spelled, spells_int_of}
 use Rattle.gtp_session.specs.declared.fault.Fault.{Fault}
 use Rattle.gtp_session.specs.declared.fault.Fault.TheVariants.{Off, Stop, Cut, Junk, Flood}
-use Rattle.gtp_session.specs.FaultTexts.{SpellsBetween, SpellsNumbered, SpellsFault, FaultOfTells, before_colon, from_colon, behind_first, where_between, genmove_of, kept_of, cut_where, fault_spelled_by, fault_spelled}
+use Rattle.gtp_session.specs.FaultTexts.{SpellsBetween, SpellsNumbered, SpellsFault, FaultOfTells, before_colon, from_colon, after_first, where_between, genmove_of, kept_of, cut_where, fault_spelled_by, fault_spelled}
 
 -- ---- colons
 
 -- a text with a colon is what stands before the first, the colon, and what stands behind it
 rejoined_by_test : (b : ℕ) (bs rest : List ℕ)
-    → (behind_first (from_colon bs) ≡ Some rest → bs ≡ before_colon bs ++ 58 ∷ rest)
-    → (colon : Bool) → (b == 58) ≡ colon → behind_first (cond colon (b ∷ bs) (from_colon bs)) ≡ Some rest
+    → (after_first (from_colon bs) ≡ Some rest → bs ≡ before_colon bs ++ 58 ∷ rest)
+    → (colon : Bool) → (b == 58) ≡ colon → after_first (cond colon (b ∷ bs) (from_colon bs)) ≡ Some rest
     → b ∷ bs ≡ cond colon [] (b ∷ before_colon bs) ++ 58 ∷ rest
 rejoined_by_test b bs rest later true t e =
     let is : b ≡ 58 = grind (arith, nat_tests) in
@@ -25,17 +25,17 @@ rejoined_by_test b bs rest later true t e =
     cc
 rejoined_by_test b bs rest later false t e = ap (λ (l : List ℕ). b ∷ l) (later e)
 
-pub rejoined : (text rest : List ℕ) → behind_first (from_colon text) ≡ Some rest → text ≡ before_colon text ++ 58 ∷ rest
+pub rejoined : (text rest : List ℕ) → after_first (from_colon text) ≡ Some rest → text ≡ before_colon text ++ 58 ∷ rest
 rejoined [] rest e = absurd (cc)
 rejoined (b ∷ bs) rest e = rejoined_by_test b bs rest (rejoined bs rest) (b == 58) refl e
 
 -- one without a colon is what stands before it
-whole_by_test : (b : ℕ) (bs : List ℕ) → (behind_first (from_colon bs) ≡ None → before_colon bs ≡ bs) → (colon : Bool)
-    → behind_first (cond colon (b ∷ bs) (from_colon bs)) ≡ None → cond colon [] (b ∷ before_colon bs) ≡ b ∷ bs
+whole_by_test : (b : ℕ) (bs : List ℕ) → (after_first (from_colon bs) ≡ None → before_colon bs ≡ bs) → (colon : Bool)
+    → after_first (cond colon (b ∷ bs) (from_colon bs)) ≡ None → cond colon [] (b ∷ before_colon bs) ≡ b ∷ bs
 whole_by_test b bs later true e = absurd (cc)
 whole_by_test b bs later false e = ap (λ (l : List ℕ). b ∷ l) (later e)
 
-pub whole_before : (text : List ℕ) → behind_first (from_colon text) ≡ None → before_colon text ≡ text
+pub whole_before : (text : List ℕ) → after_first (from_colon text) ≡ None → before_colon text ≡ text
 whole_before [] e = refl
 whole_before (b ∷ bs) e = whole_by_test b bs (whole_before bs) (b == 58) e
 
@@ -84,7 +84,7 @@ within_spelled least most n text e = of_within least most n text (int_of text) r
 
 cut_of : (first last : List ℕ) (number kept : ℕ) → SpellsBetween 1 2000 number first → SpellsBetween 0 2048 kept last
     → cut_where (genmove_of (before_colon (first ++ 58 ∷ last)))
-    (option_and_then kept_of (behind_first (from_colon (first ++ 58 ∷ last))))
+    (option_and_then kept_of (after_first (from_colon (first ++ 58 ∷ last))))
     ≡ Some (Cut number kept)
 cut_of first last number kept spells_number spells_kept =
     let digits = spells_number.int.numeral.1 in
@@ -122,7 +122,7 @@ numbered kind make numbers text (Some n) is shape fault e =
 
 cut_spelled : (numbers text : List ℕ) → text ≡ codes "cut:" ++ numbers
     → (number : Option ℕ) → genmove_of (before_colon numbers) ≡ number
-    → (behind : Option (List ℕ)) → behind_first (from_colon numbers) ≡ behind
+    → (behind : Option (List ℕ)) → after_first (from_colon numbers) ≡ behind
     → (kept : Option ℕ) → option_and_then kept_of behind ≡ kept
     → (fault : Fault) → cut_where number kept ≡ Some fault → SpellsFault fault text
 cut_spelled numbers text shape None n behind b kept k fault e = absurd (cc)
@@ -144,7 +144,7 @@ kind_spelled : (kind numbers text : List ℕ) → text ≡ kind ++ 58 ∷ number
     → Decides junk (kind ≡ codes "junk") → Decides flood (kind ≡ codes "flood")
     → cond stop (option_map Stop (genmove_of numbers))
     (cond cut (cut_where (genmove_of (before_colon numbers))
-    (option_and_then kept_of (behind_first (from_colon numbers))))
+    (option_and_then kept_of (after_first (from_colon numbers))))
     (cond junk (option_map Junk (genmove_of numbers))
     (cond flood (option_map Flood (genmove_of numbers)) None)))
     ≡ Some fault → SpellsFault fault text
@@ -165,7 +165,7 @@ kind_spelled kind numbers text shape fault false false false true is_stop is_cut
     subst (λ (f : Fault). SpellsFault f text) read.1 read.2
 kind_spelled kind numbers text shape fault false false false false is_stop is_cut is_junk is_flood e = absurd (cc)
 
-none_spelled : (text : List ℕ) → behind_first (from_colon text) ≡ None → (none : Bool)
+none_spelled : (text : List ℕ) → after_first (from_colon text) ≡ None → (none : Bool)
     → Decides none (before_colon text ≡ codes "none") → (fault : Fault) → cond none (Some Off) None ≡ Some fault
     → SpellsFault fault text
 none_spelled text whole true is_none fault e =
@@ -173,7 +173,7 @@ none_spelled text whole true is_none fault e =
     subst (λ (f : Fault). SpellsFault f text) same (sym (whole_before text whole) ∙ is_none.0 refl)
 none_spelled text whole false is_none fault e = absurd (cc)
 
-parts_spelled : (text : List ℕ) (behind : Option (List ℕ)) → behind_first (from_colon text) ≡ behind → (fault : Fault)
+parts_spelled : (text : List ℕ) (behind : Option (List ℕ)) → after_first (from_colon text) ≡ behind → (fault : Fault)
     → fault_spelled_by (before_colon text) behind ≡ Some fault → SpellsFault fault text
 parts_spelled text None is fault e = none_spelled text is _ (bytes_eq-Decides (before_colon text) (codes "none"))
     fault e
@@ -184,7 +184,7 @@ parts_spelled text (Some numbers) is fault e =
     (bytes_eq-Decides kind (codes "junk")) (bytes_eq-Decides kind (codes "flood")) e
 
 pub spells_fault_of : (fault : Fault) (text : List ℕ) → fault_spelled text ≡ Some fault → SpellsFault fault text
-spells_fault_of fault text e = parts_spelled text (behind_first (from_colon text)) refl fault e
+spells_fault_of fault text e = parts_spelled text (after_first (from_colon text)) refl fault e
 
 pub fault_of_tells : FaultOfTells
 fault_of_tells = λ fault text. (fault_of_spelled fault text, spells_fault_of fault text)

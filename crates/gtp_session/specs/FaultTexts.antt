@@ -49,9 +49,9 @@ from_colon [] = []
 from_colon (b ∷ bs) = if b == colon then b ∷ bs else from_colon bs
 
 -- what stands behind the first byte, where there is one
-abbrev pub behind_first : List ℕ → Option (List ℕ)
-behind_first [] = None
-behind_first (b ∷ bs) = Some bs
+abbrev pub after_first : List ℕ → Option (List ℕ)
+after_first [] = None
+after_first (b ∷ bs) = Some bs
 
 -- the number, where it lies between these limits
 abbrev pub where_between : ℕ → ℕ → Option ℕ → Option ℕ
@@ -77,7 +77,7 @@ abbrev pub fault_of_kind : List ℕ → List ℕ → Option Fault
 fault_of_kind kind numbers =
     if bytes_eq kind (codes "stop") then option_map Stop (genmove_of numbers)
     else (if bytes_eq kind (codes "cut")
-    then cut_where (genmove_of (before_colon numbers)) (option_and_then kept_of (behind_first (from_colon numbers)))
+    then cut_where (genmove_of (before_colon numbers)) (option_and_then kept_of (after_first (from_colon numbers)))
     else (if bytes_eq kind (codes "junk") then option_map Junk (genmove_of numbers)
     else (if bytes_eq kind (codes "flood") then option_map Flood (genmove_of numbers)
     else None)))
@@ -89,7 +89,7 @@ fault_spelled_by kind (Some numbers) = fault_of_kind kind numbers
 
 -- the fault that a text spells, where it spells one
 abbrev pub fault_spelled : List ℕ → Option Fault
-fault_spelled text = fault_spelled_by (before_colon text) (behind_first (from_colon text))
+fault_spelled text = fault_spelled_by (before_colon text) (after_first (from_colon text))
 
 -- the function tells what the relation says
 abbrev pub FaultOfTells : Type 0

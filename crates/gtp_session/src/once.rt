@@ -1,8 +1,8 @@
 //! One call of a reader or a writer, and what it did.
 //!
-//! The clauses of the standard library tell the bytes of a call. They don't tell that it was one call, nor that it
+//! The clauses of the standard library say the bytes of a call. They don't say that it was one call, nor that it
 //! failed or let go out what it had. Here a reader or a writer names what each of its calls does, by relations between
-//! itself before and after. So who stands on it can promise which calls it makes. One of the standard library names
+//! itself before and after. So a function over it can promise which calls it makes. One of the standard library names
 //! nothing.
 ghost use Rattle.std.specs.Prelude.{ℕ, List, Option, ◌≡◌, length, take, IfOk, OnOk, OnErr};
 ghost use Rattle.std.specs.Io.{ReadsAtMost, WritesAtMost};

@@ -53,7 +53,7 @@ pub(crate) fn write_outcome(outcome: &Outcome, game: &Game, id: Option<u32>, rep
     }
 }
 
-/// The same for a success.
+/// Puts the reply of a success in place of what `reply` holds.
 fn write_success(text: &Text, game: &Game, id: Option<u32>, reply: &mut ReplyText)
     requires { length (text_of game.now text.now) ≤ most_text_bytes }
     ensures { reply.new.items ≡ written_reply true id (text_of game.now text.now) }
@@ -70,7 +70,7 @@ fn write_success(text: &Text, game: &Game, id: Option<u32>, reply: &mut ReplyTex
     }
 }
 
-/// The same for the vertices of the handicap stones.
+/// Puts a reply with the vertices of the handicap stones in place of what `reply` holds.
 fn write_handicap(game: &Game, id: Option<u32>, reply: &mut ReplyText)
     requires { length (handicap_text game.now) ≤ most_text_bytes }
     ensures { reply.new.items ≡ written_reply true id (handicap_text game.now) }
@@ -81,14 +81,15 @@ fn write_handicap(game: &Game, id: Option<u32>, reply: &mut ReplyText)
     }
 }
 
-/// The same for the names of the commands, apart since only they need room for the text.
+/// Puts a reply with the names of the commands in place of what `reply` holds. It is apart, since only this needs room
+/// for the names.
 fn write_names(id: Option<u32>, reply: &mut ReplyText)
     ensures { reply.new.items ≡ written_reply true id all_names }
 {
     write_reply_into(reply, true, id, &all_names());
 }
 
-/// The same for the board.
+/// Puts a reply with the board in place of what `reply` holds.
 fn write_board(game: &Game, id: Option<u32>, reply: &mut ReplyText)
     requires { length (board_text game.now) ≤ most_text_bytes }
     ensures { reply.new.items ≡ written_reply true id (board_text game.now) }

@@ -49,7 +49,7 @@ impl Policy for Random {
         if all.is_empty() {
             return Choice::Play(Vertex::Pass);
         }
-        // The word that `next_u64` gives; the contract of this call tells the state after it too.
+        // The word that `next_u64` gives; the contract of this call names the state after it too.
         let word = self.generator.next_word();
         let number = word % all.len() as u64;
         play_or_pass(all.get(number as usize).copied())

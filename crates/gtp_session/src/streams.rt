@@ -14,7 +14,7 @@ use thiserror::Error;
 #[error("broken stream")]
 pub struct Broken;
 
-/// A reader that counts its reads, those that found the end and those that failed, and tells what the last one gave.
+/// A reader that counts its reads, those that found the end and those that failed, and keeps what the last one gave.
 /// Each count stays at its greatest value, 2^64 - 1.
 pub trait Incoming {
     // The bytes that reads will give from here on, where they are known, how many reads were made, how many of them
@@ -38,7 +38,7 @@ pub trait Incoming {
         ensures last { (shown self.new).last ≡ bytes_moved result };
 }
 
-/// A writer that counts the calls that failed, and tells whether the last one did and whether what it took waits for a
+/// A writer that counts the calls that failed, and keeps whether the last one did and whether what it took waits for a
 /// flush.
 pub trait Outgoing {
     // The bytes that the writer holds, where they are known, how many writes and flushes failed, how many bytes the

@@ -1,4 +1,4 @@
-//! Streams that fail, and how failures are told.
+//! Streams that fail, and how failures are reported.
 use super::{Broken, Holding};
 use crate::equal::{assert_equal, assert_equal_for};
 use crate::failure::{Failure, tell};

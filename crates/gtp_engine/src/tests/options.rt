@@ -37,7 +37,7 @@ fn each_option_is_taken(rt: HostRuntime) -> Result<(), Fail> {
     Ok(())
 }
 
-/// Arguments with a mistake, and how the text that tells it begins.
+/// Arguments with a mistake, and how the text that reports it begins.
 static MISTAKES: [(&[&str], &str); 16] = [
     (
         &["--policy", "third"],

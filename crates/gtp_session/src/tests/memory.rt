@@ -65,7 +65,7 @@ impl Write for Limited<'_> {
     }
 }
 
-/// Counts the replies that were taken whole, and tells their number at each flush.
+/// Counts the replies that were taken whole, and reports their number at each flush.
 #[derive(Drop)]
 pub struct Telling {
     pub replies: u32,
