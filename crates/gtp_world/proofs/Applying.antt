@@ -3,6 +3,7 @@ use Rattle.std.proofs.Common.{◌≡◌, ℕ, List, [], ◌++◌, Option, Some, 
 use Rattle.go_base.specs.declared.colours.Colour.{Colour}
 use Rattle.go_base.specs.declared.colours.Colour.TheVariants.{Black, White}
 use Rattle.go_board.specs.Game.{GameRecord}
+use Rattle.go_board.specs.declared.rules.KoRule.{KoRule}
 use Rattle.gtp_session.proofs.Policies.{AllowsLawful}
 use Rattle.gtp_session.specs.Policy.{May}
 use Rattle.gtp_session.specs.Engine.{Engine}
@@ -11,21 +12,23 @@ use Rattle.gtp_match.specs.declared.verdicts.Action.{Action}
 use Rattle.gtp_match.specs.declared.verdicts.Action.TheVariants.{Start, Send, Wait, Done}
 use Rattle.gtp_match.specs.declared.verdicts.Verdict.{Verdict}
 use Rattle.gtp_match.specs.declared.controller.Controller.{Controller}
-use Rattle.gtp_match.specs.Controller.{next_text}
+use Rattle.gtp_match.specs.Controller.{started, next_text}
 use Rattle.gtp_match.specs.Next.{next}
 use Rattle.gtp_match.specs.Sides.{side_of}
 use Rattle.gtp_world.specs.declared.events.Event.TheVariants.{Act, BrokenWrite, ToEngine, ToController, Crash, End}
-use Rattle.gtp_world.specs.Lane.{Lane, SidePolicies, written_lane, LaneReads, ReadsWhereRunning, crashed_lane}
-use Rattle.gtp_world.specs.World.{World, opening, Acts, BreaksOff, SideHears, HearsWhereUp, SideIsLost, LosesWhereUp}
-use Rattle.gtp_world.specs.World.{lane_with_next}
+use Rattle.gtp_world.specs.Lane.{Lane, SidePolicies, idle_lane, written_lane, LaneReads, ReadsWhereRunning, crashed_lane}
+use Rattle.gtp_world.specs.World.{World, at_side, lane_of, lane_with_next, Sends, NothingHappens, SideHears}
+use Rattle.gtp_world.specs.World.{HearsWhereUp, SideIsLost, LosesWhereUp, side_of_action, SideBreaksOff, policies_at}
+use Rattle.gtp_world.specs.World.{HappensAt, Happens}
 use Rattle.gtp_world.specs.Worlds.{game_in}
-use Rattle.gtp_world.specs.Joined.{ruled, IsJoined, IsJoinedSide, BareLane, EngineBody, bare, body_of}
+use Rattle.gtp_world.specs.Joined.{rule_of, ruled, IsJoined, IsJoinedSide, BareLane, EngineBody, bare, body_of}
 use Rattle.gtp_world.specs.Joined.{WillReadWhereRunning}
 use Rattle.gtp_world.specs.Laws.{rules_of}
-use Rattle.gtp_world.specs.EventLaws.{Applies, own_rule, IsStarted, IsSent, WhatDoesNotApplyIsNothing, ActsAreDone}
+use Rattle.gtp_world.specs.EventLaws.{Applies, IsSent, WhatDoesNotApplyIsNothing, ActsAreDone}
 use Rattle.gtp_world.specs.EventLaws.{NothingWaitsForNoEngine, StartsMakePolicies, engine_from_nothing}
 use Rattle.gtp_world.proofs.Agreement.{settled_of}
-use Rattle.gtp_world.proofs.Happenings.{opening_has, runs_keep}
+use Rattle.gtp_world.proofs.Happenings.{reached_has}
+use Rattle.gtp_world.proofs.Invariant.{seen_from, same_world, acted}
 
 -- ---- lanes
 
@@ -102,23 +105,20 @@ no_body None h = refl
 no_body (Some x) h = absurd (cc h)
 
 module _ {B W : Type 0} (mb : SidePolicies B) (mw : SidePolicies W) where
-  world_is : (old new : World B W) → new.controller ≡ old.controller → new.black ≡ old.black → new.white ≡ old.white
-      → new ≡ old
-  world_is old new c b w =
-      ap (λ (x : Controller). record { controller = x; black = new.black; white = new.white }) c
-      ∙ ap (λ (x : Lane B). record { controller = old.controller; black = x; white = new.white }) b
-      ∙ ap (λ (x : Lane W). record { controller = old.controller; black = old.black; white = x }) w
-
-  idle_act : (a : Action) (old new : World B W) → next old.controller ≡ a → ¬ Applies old Act → Acts mb mw old a new
-      → new ≡ old
+  idle_act : (a : Action) (old new : World B W) → next old.controller ≡ a → ¬ Applies old Act
+      → HappensAt mb mw (side_of_action a) old Act new → new ≡ old
   idle_act (Start s) old new is un h = absurd (un (s, inl is))
   idle_act (Send s) old new is un h = absurd (un (s, inr is))
   idle_act (Wait s) old new is un h = h
   idle_act (Done v) old new is un h = h
 
   idle_break : (a : Action) (old new : World B W) (k : ℕ) → next old.controller ≡ a → ¬ Applies old (BrokenWrite k)
-      → BreaksOff mb mw old a new → new ≡ old
-  idle_break (Start s) old new k is un h = h
+      → HappensAt mb mw (side_of_action a) old (BrokenWrite k) new → new ≡ old
+  idle_break (Start s) old new k is un h =
+      let same : NothingHappens old.controller (lane_of old s) new.controller (lane_of new s) =
+      subst (λ (x : Action). SideBreaksOff (policies_at mb mw s) s x old.controller (lane_of old s) new.controller
+      (lane_of new s)) is h.0 in
+      same_world s old new same.0 same.1 h.1
   idle_break (Send s) old new k is un h = absurd (un (s, is))
   idle_break (Wait s) old new k is un h = h
   idle_break (Done v) old new k is un h = h
@@ -126,100 +126,70 @@ module _ {B W : Type 0} (mb : SidePolicies B) (mw : SidePolicies W) where
   pub does_nothing : WhatDoesNotApplyIsNothing mb mw
   does_nothing Act old new un h = idle_act (next old.controller) old new refl un h
   does_nothing (BrokenWrite k) old new un h = idle_break (next old.controller) old new k refl un h
-  does_nothing (ToEngine Black k) old new un h =
-      world_is old new h.1 (reads_none mb.may old.black new.black k un h.0) h.2
-  does_nothing (ToEngine White k) old new un h =
-      world_is old new h.1 h.2 (reads_none mw.may old.white new.white k un h.0)
-  does_nothing (ToController Black k) old new un h =
-      let same = hears_none Black old.controller new.controller old.black new.black k un h.0 in
-      world_is old new same.0 same.1 h.1
-  does_nothing (ToController White k) old new un h =
-      let same = hears_none White old.controller new.controller old.white new.white k un h.0 in
-      world_is old new same.0 h.1 same.1
-  does_nothing (Crash Black k) old new un h =
-      h ∙ ap (λ (l : Lane B). record old { black = l }) (crash_none old.black k un)
-  does_nothing (Crash White k) old new un h =
-      h ∙ ap (λ (l : Lane W). record old { white = l }) (crash_none old.white k un)
-  does_nothing (End Black) old new un h =
-      let same = loses_none Black old.controller new.controller old.black new.black un h.0 in
-      world_is old new same.0 same.1 h.1
-  does_nothing (End White) old new un h =
-      let same = loses_none White old.controller new.controller old.white new.white un h.0 in
-      world_is old new same.0 h.1 same.1
+  does_nothing (ToEngine s k) old new un h =
+      same_world s old new h.0.0 (reads_none (policies_at mb mw s).may (lane_of old s) (lane_of new s) k un h.0.1) h.1
+  does_nothing (ToController s k) old new un h =
+      let same = hears_none s old.controller new.controller (lane_of old s) (lane_of new s) k un h.0 in
+      same_world s old new same.0 same.1 h.1
+  does_nothing (Crash s k) old new un h =
+      same_world s old new h.0.0 (h.0.1 ∙ crash_none (lane_of old s) k un) h.1
+  does_nothing (End s) old new un h =
+      let same = loses_none s old.controller new.controller (lane_of old s) (lane_of new s) un h.0 in
+      same_world s old new same.0 same.1 h.1
 
-  started_is : (s : Colour) (old new : World B W) → Acts mb mw old (Start s) new
-      → IsStarted (own_rule mb mw s) old s new
-  started_is Black old new h =
-      let lane = h.0.fresh_lane.lane in
-      record {
-        engine = ap (λ (l : Lane B). game_in l.engine) lane;
-        to_engine = ap (λ (l : Lane B). l.to_engine) lane;
-        to_controller = ap (λ (l : Lane B). l.to_controller) lane;
-        controller = h.0.controller_is;
-      }
-  started_is White old new h =
-      let lane = h.0.fresh_lane.lane in
-      record {
-        engine = ap (λ (l : Lane W). game_in l.engine) lane;
-        to_engine = ap (λ (l : Lane W). l.to_engine) lane;
-        to_controller = ap (λ (l : Lane W). l.to_controller) lane;
-        controller = h.0.controller_is;
-      }
+  rule_at_side : (s : Colour) → (policies_at mb mw s).rule ≡ rule_of (rules_of mb mw) s
+  rule_at_side Black = refl
+  rule_at_side White = refl
+
+  -- an engine that was just started has its side's ko rule
+  started_engine : (s : Colour) (old new : World B W) → next old.controller ≡ Start s → Happens mb mw old Act new
+      → (policy : at_side B W s) × (policies_at mb mw s).made policy
+      × (lane_of new s ≡ idle_lane (engine_from_nothing (rule_of (rules_of mb mw) s) policy))
+      × (new.controller ≡ started old.controller s)
+  started_engine s old new is h =
+      let it = (acted mb mw (Start s) s refl old new is h).0 in
+      let fresh = it.fresh_lane in
+      let lane =
+      fresh.lane ∙ ap (λ (rule : KoRule). idle_lane (engine_from_nothing rule fresh.policy)) (rule_at_side s) in
+      (fresh.policy, fresh.made, lane, it.controller_is)
 
   sent_is : (s : Colour) (u : Incarnation) (old new : World B W) → (side_of old.controller.sides s).up ≡ Some u
-      → Acts mb mw old (Send s) new → IsSent old s u new
-  sent_is Black u old new up h =
-      let t : List ℕ = next_text old.controller Black u in
-      let lane : new.black ≡ written_lane old.black t =
-      h.0.lane ∙ ap (λ (x : Option Incarnation). lane_with_next old.controller Black x old.black) up in
+      → Sends s old.controller (lane_of old s) new.controller (lane_of new s) → IsSent old s u new
+  sent_is s u old new up h =
+      let t : List ℕ = next_text old.controller s u in
+      let L : Type 0 = Lane (at_side B W s) in
+      let lane : lane_of new s ≡ written_lane (lane_of old s) t =
+      h.lane ∙ ap (λ (x : Option Incarnation). lane_with_next old.controller s x (lane_of old s)) up in
       record {
-        controller = h.0.controller_is;
-        engine = ap (λ (l : Lane B). game_in l.engine) lane ∙ ap game_in (written_engine old.black t);
-        to_controller = ap (λ (l : Lane B). l.to_controller) lane ∙ written_to_controller old.black t;
-        to_engine = λ runs. ap (λ (l : Lane B). l.to_engine) lane ∙ written_where_running old.black t runs.0 runs.1;
-      }
-  sent_is White u old new up h =
-      let t : List ℕ = next_text old.controller White u in
-      let lane : new.white ≡ written_lane old.white t =
-      h.0.lane ∙ ap (λ (x : Option Incarnation). lane_with_next old.controller White x old.white) up in
-      record {
-        controller = h.0.controller_is;
-        engine = ap (λ (l : Lane W). game_in l.engine) lane ∙ ap game_in (written_engine old.white t);
-        to_controller = ap (λ (l : Lane W). l.to_controller) lane ∙ written_to_controller old.white t;
-        to_engine = λ runs. ap (λ (l : Lane W). l.to_engine) lane ∙ written_where_running old.white t runs.0 runs.1;
+        controller = h.controller_is;
+        engine = ap (λ (l : L). game_in l.engine) lane ∙ ap game_in (written_engine (lane_of old s) t);
+        to_controller = ap (λ (l : L). l.to_controller) lane ∙ written_to_controller (lane_of old s) t;
+        to_engine = λ runs. ap (λ (l : L). l.to_engine) lane ∙ written_where_running (lane_of old s) t runs.0 runs.1;
       }
 
   pub acts_are_done : ActsAreDone mb mw
   acts_are_done = record {
-    starts = λ s old new is h. started_is s old new (subst (λ (a : Action). Acts mb mw old a new) is h);
-    sends = λ s u old new is up h. sent_is s u old new up (subst (λ (a : Action). Acts mb mw old a new) is h);
+    starts = λ s old new is h.
+        let it = started_engine s old new is h in
+        let L : Type 0 = Lane (at_side B W s) in
+        record {
+          engine = ap (λ (l : L). game_in l.engine) it.2;
+          to_engine = ap (λ (l : L). l.to_engine) it.2;
+          to_controller = ap (λ (l : L). l.to_controller) it.2;
+          controller = it.3;
+        };
+    sends = λ s u old new is up h. sent_is s u old new up (acted mb mw (Send s) s refl old new is h).0;
   }
-
-  starts_black : (old new : World B W) → Acts mb mw old (Start Black) new
-      → (policy : B) × mb.made policy × (new.black.engine ≡ Some (engine_from_nothing mb.rule policy))
-  starts_black old new h =
-      let it = h.0.fresh_lane in (it.policy, it.made, ap (λ (l : Lane B). l.engine) it.lane)
-
-  starts_white : (old new : World B W) → Acts mb mw old (Start White) new
-      → (policy : W) × mw.made policy × (new.white.engine ≡ Some (engine_from_nothing mw.rule policy))
-  starts_white old new h =
-      let it = h.0.fresh_lane in (it.policy, it.made, ap (λ (l : Lane W). l.engine) it.lane)
 
   pub starts_make_policies : StartsMakePolicies mb mw
-  starts_make_policies = record {
-    black = λ old new is h. starts_black old new (subst (λ (a : Action). Acts mb mw old a new) is h);
-    white = λ old new is h. starts_white old new (subst (λ (a : Action). Acts mb mw old a new) is h);
-  }
+  starts_make_policies s old new is h =
+      let it = started_engine s old new is h in
+      (it.0, it.1, ap (λ (l : Lane (at_side B W s)). l.engine) it.2)
 
   module _ (law_b : AllowsLawful mb.may) (law_w : AllowsLawful mw.may) where
     pub none_waits : NothingWaitsForNoEngine mb mw
-    none_waits setup events v Black is runs none =
-        let j : IsJoined (rules_of mb mw) v =
-        runs_keep mb mw law_b law_w (opening setup) events v runs (opening_has (rules_of mb mw) setup is) in
-        nothing_waits (ruled mb.rule v.controller.game) v.controller.verdict v.controller.sides.black.up (bare v.black)
-        (no_body v.black.engine none) j.mine.joined
-    none_waits setup events v White is runs none =
-        let j : IsJoined (rules_of mb mw) v =
-        runs_keep mb mw law_b law_w (opening setup) events v runs (opening_has (rules_of mb mw) setup is) in
-        nothing_waits (ruled mw.rule v.controller.game) v.controller.verdict v.controller.sides.white.up (bare v.white)
-        (no_body v.white.engine none) j.theirs.joined
+    none_waits setup events v s is runs none =
+        let j : IsJoined (rules_of mb mw) v = reached_has mb mw law_b law_w setup events v is runs in
+        nothing_waits (ruled (rule_of (rules_of mb mw) s) v.controller.game) v.controller.verdict
+        (side_of v.controller.sides s).up (bare (lane_of v s)) (no_body (lane_of v s).engine none)
+        (seen_from (rules_of mb mw) v s j).mine.joined

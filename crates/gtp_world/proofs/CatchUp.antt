@@ -4,6 +4,7 @@ use Rattle.std.proofs.Common.{Some, None, slice_get, refl, sym, ◌∙◌, ap, s
 use Rattle.std.specs.Prelude.{◌&&◌, ◌==◌, not, nat_lt, is_some, IsSome}
 use Rattle.std.proofs.lemmas.Bool.Decides.{nat_tests}
 use Rattle.std.proofs.lemmas.List.{append-nil}
+use Rattle.go_base.specs.Colour.{other}
 use Rattle.go_base.specs.declared.colours.Colour.{Colour}
 use Rattle.go_base.specs.declared.colours.Colour.TheVariants.{Black, White}
 use Rattle.go_board.specs.Game.{GameRecord, IsGame}
@@ -12,7 +13,6 @@ use Rattle.gtp_session.proofs.Policies.{AllowsLawful}
 use Rattle.gtp_session.specs.Engine.{Engine, fresh_under}
 use Rattle.gtp_match.specs.declared.unanswered.SentCommand.{SentCommand}
 use Rattle.gtp_match.specs.declared.sides.Incarnation.{Incarnation}
-use Rattle.gtp_match.specs.declared.verdicts.Action.{Action}
 use Rattle.gtp_match.specs.declared.verdicts.Action.TheVariants.{Start, Send}
 use Rattle.gtp_match.specs.declared.controller.Controller.{Controller}
 use Rattle.gtp_match.specs.Controller.{to_move, engine_in_step, in_step}
@@ -23,7 +23,7 @@ use Rattle.gtp_match.specs.Taking.{taking_back, unless_over}
 use Rattle.gtp_match.specs.Sound.{all_retakes}
 use Rattle.gtp_match.specs.Unanswered.{none_unanswered}
 use Rattle.gtp_match.specs.Script.{script}
-use Rattle.gtp_match.specs.Sides.{new_incarnation}
+use Rattle.gtp_match.specs.Sides.{side_of, new_incarnation}
 use Rattle.gtp_match.specs.Sound.{IsIdle}
 use Rattle.gtp_match.proofs.NextLemmas.{IdleTests, idle_tests_of, tests_of, next_live, at_idle, at_black_down}
 use Rattle.gtp_match.proofs.NextLemmas.{at_white_down, at_black_script_left, at_white_script_left}
@@ -31,12 +31,12 @@ use Rattle.gtp_match.proofs.SoundLemmas.{my_engine, idle_plan}
 use Rattle.gtp_world.specs.declared.events.Event.{Event}
 use Rattle.gtp_world.specs.declared.events.Event.TheVariants.{Act, ToEngine, ToController}
 use Rattle.gtp_world.specs.Lane.{Lane, SidePolicies}
-use Rattle.gtp_world.specs.World.{World, opening, Starts, Sends, SideHears, Acts, Happens, Runs}
+use Rattle.gtp_world.specs.World.{World, lane_of, SideHears, policies_at, Happens, Runs}
 use Rattle.gtp_world.specs.Settle.{start_of, script_left, round, rounds, RunsWhereUp, MaySettle, IsSettled, Settles}
-use Rattle.gtp_world.proofs.Invariant.{flipped}
-use Rattle.gtp_world.proofs.Happenings.{opening_has, happens_keeps, runs_keep}
+use Rattle.gtp_world.proofs.Invariant.{seen_from, acted}
+use Rattle.gtp_world.proofs.Happenings.{lawful_at, happens_keeps, reached_has}
 use Rattle.gtp_world.proofs.Rounds.{IsReady, RoundDone, round_done}
-use Rattle.gtp_world.specs.Joined.{Rules, rule_of, ruled, bare, AreJoined, IsJoined}
+use Rattle.gtp_world.specs.Joined.{Rules, rule_of, ruled, bare, IsJoined}
 use Rattle.gtp_world.specs.Laws.{rules_of}
 
 -- ---- what comes next
@@ -127,6 +127,20 @@ module _ (c : Controller) (black white : Incarnation) (none : c.verdict ≡ None
       (ap is_down white_up) (ap (has_script_left c.game) black_up ∙ lacks_none c.game black all)
       (ap (has_script_left c.game) white_up ∙ lacks_some c.game white white_idle less))
 
+-- the side is next to be sent its script: Black at once, White where Black has confirmed as many commands as it has
+abbrev MaySend : GameRecord → Colour → ℕ → Type 0
+MaySend game Black black = Unit {0}
+MaySend game White black = length (script game) ≤ black
+
+sends_side : (c : Controller) (s : Colour) (mine theirs : Incarnation) → c.verdict ≡ None → c.pending ≡ None
+    → (side_of c.sides s).up ≡ Some mine → (side_of c.sides (other s)).up ≡ Some theirs → mine.unanswered ≡ []
+    → theirs.unanswered ≡ [] → mine.confirmed < length (script c.game) → MaySend c.game s theirs.confirmed
+    → next c ≡ Send s
+sends_side c Black mine theirs none free up others idle others_idle less may =
+    sends_black c mine theirs none free up others idle others_idle less
+sends_side c White mine theirs none free up others idle others_idle less may =
+    sends_white c theirs mine none free others up others_idle idle may less
+
 -- ---- lists
 
 drop_head : {A : Type 0} (xs : List A) (n : ℕ) (x : A) (left : List A) → drop n xs ≡ x ∷ left
@@ -169,37 +183,43 @@ module _ {B W : Type 0} (mb : SidePolicies B) (mw : SidePolicies W) (law_b : All
   abbrev rules : Rules
   rules = rules_of mb mw
 
-  -- both sides are up with running engines and nothing unanswered, and have confirmed as many commands as these counts say
-  record Settling (game : GameRecord) (v : World B W) (black_count white_count : ℕ) : Type 0 where
+  -- Both sides are up with running engines and nothing unanswered. The side has confirmed as many commands as the first
+  -- count says, and the other side as many as the second.
+  record Settling (game : GameRecord) (v : World B W) (s : Colour) (mine theirs : ℕ) : Type 0 where
     inv : IsJoined rules v
     none : v.controller.verdict ≡ None
     free : v.controller.pending ≡ None
     games : (side : Colour) → IsGame (ruled (rule_of rules side) v.controller.game)
     game_is : v.controller.game ≡ game
-    black : IsReady v.controller.sides.black.up v.black black_count
-    white : IsReady v.controller.sides.white.up v.white white_count
+    own : IsReady (side_of v.controller.sides s).up (lane_of v s) mine
+    others : IsReady (side_of v.controller.sides (other s)).up (lane_of v (other s)) theirs
 
-  black_within : (game : GameRecord) (v : World B W) (n m : ℕ) → Settling game v n m → n ≤ length (script game)
-  black_within game v n m h =
-      let u = h.black.incarnation in
-      let within : u.confirmed ≤ length (script v.controller.game) =
-      idle_plan v.controller.game v.controller.pending (all_retakes v.controller) Black u
-      ((my_engine v.controller Black u h.inv.sound h.black.is_up).under_way h.none) h.black.idle in
-      omega (arith, within, h.black.confirmed, ap (λ (g : GameRecord). length (script g)) h.game_is)
+  -- it is seen from White
+  turned : (game : GameRecord) (v : World B W) (n m : ℕ) → Settling game v Black n m → Settling game v White m n
+  turned game v n m h = record {
+    inv = h.inv;
+    none = h.none;
+    free = h.free;
+    games = h.games;
+    game_is = h.game_is;
+    own = h.others;
+    others = h.own;
+  }
 
-  white_within : (game : GameRecord) (v : World B W) (n m : ℕ) → Settling game v n m → m ≤ length (script game)
-  white_within game v n m h =
-      let u = h.white.incarnation in
-      let within : u.confirmed ≤ length (script v.controller.game) =
-      idle_plan v.controller.game v.controller.pending (all_retakes v.controller) White u
-      ((my_engine v.controller White u h.inv.sound h.white.is_up).under_way h.none) h.white.idle in
-      omega (arith, within, h.white.confirmed, ap (λ (g : GameRecord). length (script g)) h.game_is)
+  within : (game : GameRecord) (v : World B W) (s : Colour) (n m : ℕ) → Settling game v s n m
+      → n ≤ length (script game)
+  within game v s n m h =
+      let u = h.own.incarnation in
+      let few : u.confirmed ≤ length (script v.controller.game) =
+      idle_plan v.controller.game v.controller.pending (all_retakes v.controller) s u
+      ((my_engine v.controller s u h.inv.sound h.own.is_up).under_way h.none) h.own.idle in
+      omega (arith, few, h.own.confirmed, ap (λ (g : GameRecord). length (script g)) h.game_is)
 
   -- what some of the events lead to, and the rest of them
-  record Reaches (game : GameRecord) (black_count white_count : ℕ) (later : List Event)
-      (last : World B W) : Type 0 where
+  record Reaches (game : GameRecord) (s : Colour) (mine theirs : ℕ) (later : List Event) (last : World B W)
+      : Type 0 where
     world : World B W
-    settling : Settling game world black_count white_count
+    settling : Settling game world s mine theirs
     rest : Runs mb mw world later last
 
   keeps : (v : World B W) (e : Event) (v2 : World B W) → Happens mb mw v e v2 → IsJoined rules v → IsJoined rules v2
@@ -212,115 +232,58 @@ module _ {B W : Type 0} (mb : SidePolicies B) (mw : SidePolicies W) (law_b : All
   still_games rules c c2 same games side =
       let G : GameRecord → Type 0 = λ g. IsGame (ruled (rule_of rules side) g) in subst G (sym same) (games side)
 
-  -- a round of Black
-  black_round : (game : GameRecord) (k : Command) (v last : World B W) (n m : ℕ) (later : List Event)
-      → Settling game v n m → slice_get (script game) n ≡ Some k → n < length (script game)
-      → Runs mb mw v (round Black ++ later) last → Reaches game (n + 1) m later last
-  black_round game k v last n m later h scripted less (Runs.then_ {mid = v1} a
+  -- a round of a side
+  side_round : (game : GameRecord) (k : Command) (v last : World B W) (s : Colour) (n m : ℕ) (later : List Event)
+      → Settling game v s n m → MaySend game s m → slice_get (script game) n ≡ Some k → n < length (script game)
+      → Runs mb mw v (round s ++ later) last → Reaches game s (n + 1) m later last
+  side_round game k v last s n m later h may scripted less (Runs.then_ {mid = v1} a
       (Runs.then_ {mid = v2} b (Runs.then_ {mid = v3} d rest))) =
       let c = v.controller in
-      let fewer : h.black.incarnation.confirmed < length (script c.game) =
-      omega (arith, less, h.black.confirmed, ap (λ (g : GameRecord). length (script g)) h.game_is) in
-      let is : next c ≡ Send Black =
-      sends_black c h.black.incarnation h.white.incarnation h.none h.free h.black.is_up h.white.is_up
-      h.black.idle h.white.idle fewer in
-      let acts : Sends Black c v.black v1.controller v1.black × (v1.white ≡ v.white) =
-      subst (λ (x : Action). Acts mb mw v x v1) is a in
-      let hears : SideHears Black v1.controller v2.black 100 v3.controller v3.black =
-      subst (λ (x : Controller). SideHears Black x v2.black 100 v3.controller v3.black) b.1 d.0 in
+      let fewer : h.own.incarnation.confirmed < length (script c.game) =
+      omega (arith, less, h.own.confirmed, ap (λ (g : GameRecord). length (script g)) h.game_is) in
+      let turn : MaySend c.game s h.others.incarnation.confirmed =
+      subst (λ (g : GameRecord). MaySend g s h.others.incarnation.confirmed) (sym h.game_is)
+      (subst (MaySend game s) (sym h.others.confirmed) may) in
+      let is : next c ≡ Send s =
+      sends_side c s h.own.incarnation h.others.incarnation h.none h.free h.own.is_up h.others.is_up h.own.idle
+      h.others.idle fewer turn in
+      let acts = acted mb mw (Send s) s refl v v1 is a in
+      let hears : SideHears s v1.controller (lane_of v2 s) 100 v3.controller (lane_of v3 s) =
+      subst (λ (x : Controller). SideHears s x (lane_of v2 s) 100 v3.controller (lane_of v3 s)) b.0.0 d.0 in
       let here : slice_get (script c.game) n ≡ Some k =
       ap (λ (g : GameRecord). slice_get (script g) n) h.game_is ∙ scripted in
-      let done : RoundDone Black c v3.controller v3.black n =
-      round_done mb.may law_b rules Black c v.black
-      (bare v.white) n is h.inv (h.games Black) h.free h.none h.black k here v1.controller v1.black acts.0 v2.black b.0
-      v3.controller v3.black hears in
+      let done : RoundDone s c v3.controller (lane_of v3 s) n =
+      round_done (policies_at mb mw s).may (lawful_at mb mw law_b law_w s) rules s c (lane_of v s)
+      (bare (lane_of v (other s))) n is (seen_from rules v s h.inv) (h.games s) h.free h.none h.own k here
+      v1.controller (lane_of v1 s) acts.0 (lane_of v2 s) b.0.1 v3.controller (lane_of v3 s) hears in
       record {
         world = v3;
         settling = record {
-          inv = keeps v2 (ToController Black 100) v3 d (keeps v1 (ToEngine Black 100) v2 b (keeps v Act v1 a h.inv));
+          inv = keeps v2 (ToController s 100) v3 d (keeps v1 (ToEngine s 100) v2 b (keeps v Act v1 a h.inv));
           none = done.verdict;
           free = done.pending;
           games = λ side. still_games rules c v3.controller done.game h.games side;
           game_is = done.game ∙ h.game_is;
-          black = done.ready;
-          white =
-              stays_ready c.sides.white.up v3.controller.sides.white.up v.white v3.white m done.others
-              (d.1 ∙ b.2 ∙ acts.1) h.white;
+          own = done.ready;
+          others =
+              stays_ready (side_of c.sides (other s)).up (side_of v3.controller.sides (other s)).up
+              (lane_of v (other s)) (lane_of v3 (other s)) m done.others (d.1 ∙ b.1 ∙ acts.1) h.others;
         };
         rest = rest;
       }
 
-  -- a round of White, where Black is in step
-  white_round : (game : GameRecord) (k : Command) (v last : World B W) (n m : ℕ) (later : List Event)
-      → Settling game v n m → length (script game) ≤ n
-      → slice_get (script game) m ≡ Some k → m < length (script game) → Runs mb mw v (round White ++ later) last
-      → Reaches game n (m + 1) later last
-  white_round game k v last n m later h all scripted less
-      (Runs.then_ {mid = v1} a (Runs.then_ {mid = v2} b (Runs.then_ {mid = v3} d rest))) =
-      let c = v.controller in
-      let size = ap (λ (g : GameRecord). length (script g)) h.game_is in
-      let fewer : h.white.incarnation.confirmed < length (script c.game) =
-      omega (arith, less, h.white.confirmed, size) in
-      let enough : length (script c.game) ≤ h.black.incarnation.confirmed =
-      omega (arith, all, h.black.confirmed, size) in
-      let is : next c ≡ Send White =
-      sends_white c h.black.incarnation h.white.incarnation h.none h.free h.black.is_up h.white.is_up h.black.idle
-      h.white.idle enough fewer in
-      let acts : Sends White c v.white v1.controller v1.white × (v1.black ≡ v.black) =
-      subst (λ (x : Action). Acts mb mw v x v1) is a in
-      let hears : SideHears White v1.controller v2.white 100 v3.controller v3.white =
-      subst (λ (x : Controller). SideHears White x v2.white 100 v3.controller v3.white) b.1 d.0 in
-      let here : slice_get (script c.game) m ≡ Some k =
-      ap (λ (g : GameRecord). slice_get (script g) m) h.game_is ∙ scripted in
-      let joint : AreJoined rules c White (bare v.white) (bare v.black) =
-      flipped rules c Black (bare v.black) (bare v.white) h.inv in
-      let done : RoundDone White c v3.controller v3.white m =
-      round_done mw.may law_w rules White c v.white
-      (bare v.black) m is joint (h.games White) h.free h.none h.white k here v1.controller v1.white acts.0 v2.white b.0
-      v3.controller v3.white hears in
-      record {
-        world = v3;
-        settling = record {
-          inv = keeps v2 (ToController White 100) v3 d (keeps v1 (ToEngine White 100) v2 b (keeps v Act v1 a h.inv));
-          none = done.verdict;
-          free = done.pending;
-          games = λ side. still_games rules c v3.controller done.game h.games side;
-          game_is = done.game ∙ h.game_is;
-          black =
-              stays_ready c.sides.black.up v3.controller.sides.black.up v.black v3.black n done.others
-              (d.1 ∙ b.2 ∙ acts.1) h.black;
-          white = done.ready;
-        };
-        rest = rest;
-      }
-
-  black_rounds : (game : GameRecord) (left : List Command) (v last : World B W) (n m : ℕ) (later : List Event)
-      → Settling game v n m → drop n (script game) ≡ left
-      → Runs mb mw v (rounds Black left ++ later) last → Reaches game (length (script game)) m later last
-  black_rounds game [] v last n m later h e runs =
-      let count : n ≡ length (script game) = omega (arith, black_within game v n m h, drop_none (script game) n e) in
-      record { world = v; settling = subst (λ (x : ℕ). Settling game v x m) count h; rest = runs }
-  black_rounds game (k ∷ left) v last n m later h e runs =
+  side_rounds : (game : GameRecord) (left : List Command) (v last : World B W) (s : Colour) (n m : ℕ)
+      (later : List Event) → Settling game v s n m → MaySend game s m → drop n (script game) ≡ left
+      → Runs mb mw v (rounds s left ++ later) last → Reaches game s (length (script game)) m later last
+  side_rounds game [] v last s n m later h may e runs =
+      let count : n ≡ length (script game) = omega (arith, within game v s n m h, drop_none (script game) n e) in
+      record { world = v; settling = subst (λ (x : ℕ). Settling game v s x m) count h; rest = runs }
+  side_rounds game (k ∷ left) v last s n m later h may e runs =
       let head = drop_head (script game) n k left e in
-      let one : Reaches game (n + 1) m (rounds Black left ++ later) last =
-      black_round game k v last n m (rounds Black left ++ later) h head.0 head.2 runs in
+      let one : Reaches game s (n + 1) m (rounds s left ++ later) last =
+      side_round game k v last s n m (rounds s left ++ later) h may head.0 head.2 runs in
       let number : n + 1 ≡ suc n = omega arith in
-      black_rounds game left one.world last (n + 1) m later one.settling
-      (ap (λ (x : ℕ). drop x (script game)) number ∙ head.1) one.rest
-
-  white_rounds : (game : GameRecord) (left : List Command) (v last : World B W) (n m : ℕ) (later : List Event)
-      → Settling game v n m → length (script game) ≤ n
-      → drop m (script game) ≡ left → Runs mb mw v (rounds White left ++ later) last
-      → Reaches game n (length (script game)) later last
-  white_rounds game [] v last n m later h all e runs =
-      let count : m ≡ length (script game) = omega (arith, white_within game v n m h, drop_none (script game) m e) in
-      record { world = v; settling = subst (λ (x : ℕ). Settling game v n x) count h; rest = runs }
-  white_rounds game (k ∷ left) v last n m later h all e runs =
-      let head = drop_head (script game) m k left e in
-      let one : Reaches game n (m + 1) (rounds White left ++ later) last =
-      white_round game k v last n m (rounds White left ++ later) h all head.0 head.2 runs in
-      let number : m + 1 ≡ suc m = omega arith in
-      white_rounds game left one.world last n (m + 1) later one.settling all
+      side_rounds game left one.world last s (n + 1) m later one.settling may
       (ap (λ (x : ℕ). drop x (script game)) number ∙ head.1) one.rest
 
   -- ---- the starts
@@ -365,8 +328,7 @@ module _ {B W : Type 0} (mb : SidePolicies B) (mw : SidePolicies W) (law_b : All
       started_by v1 down a rest =
           let is : next old.controller ≡ Start Black = starts_black old.controller may.verdict
           (free_of_all old.controller may.verdict may.nothing) (may.idle White) down in
-          let begun : Starts mb Black old.controller v1.controller v1.black × (v1.white ≡ old.white) =
-          subst (λ (x : Action). Acts mb mw old x v1) is a in
+          let begun = acted mb mw (Start Black) Black refl old v1 is a in
           record {
             world = v1;
             count = 0;
@@ -408,7 +370,7 @@ module _ {B W : Type 0} (mb : SidePolicies B) (mw : SidePolicies W) (law_b : All
     world : World B W
     black_count : ℕ
     white_count : ℕ
-    settling : Settling game world black_count white_count
+    settling : Settling game world Black black_count white_count
     black_is : drop black_count (script game) ≡ black_left
     white_is : drop white_count (script game) ≡ white_left
     rest : Runs mb mw world later last
@@ -428,8 +390,7 @@ module _ {B W : Type 0} (mb : SidePolicies B) (mw : SidePolicies W) (law_b : All
           let c = h.world.controller in
           let is : next c ≡ Start White =
           starts_white c h.black.incarnation h.none h.free h.black.is_up h.black.idle (h.others ∙ down) in
-          let begun : Starts mw White c v1.controller v1.white × (v1.black ≡ h.world.black) =
-          subst (λ (x : Action). Acts mb mw h.world x v1) is a in
+          let begun = acted mb mw (Start White) White refl h.world v1 is a in
           record {
             world = v1;
             black_count = h.count;
@@ -441,10 +402,10 @@ module _ {B W : Type 0} (mb : SidePolicies B) (mw : SidePolicies W) (law_b : All
               games = still_games rules old.controller v1.controller
                   (ap (λ (d : Controller). d.game) begun.0.controller_is ∙ h.game_is) may.games;
               game_is = ap (λ (d : Controller). d.game) begun.0.controller_is ∙ h.game_is;
-              black =
+              own =
                   stays_ready c.sides.black.up v1.controller.sides.black.up h.world.black v1.black h.count
                   (ap (λ (d : Controller). d.sides.black.up) begun.0.controller_is) begun.1 h.black;
-              white =
+              others =
                   new_ready v1.controller.sides.white.up v1.white (fresh_under mw.rule begun.0.fresh_lane.policy)
                   (ap (λ (d : Controller). d.sides.white.up) begun.0.controller_is)
                   (ap (λ (l : Lane W). l.engine) begun.0.fresh_lane.lane);
@@ -467,8 +428,8 @@ module _ {B W : Type 0} (mb : SidePolicies B) (mw : SidePolicies W) (law_b : All
           free = h.free;
           games = still_games rules old.controller h.world.controller h.game_is may.games;
           game_is = h.game_is;
-          black = h.black;
-          white =
+          own = h.black;
+          others =
               stays_ready old.controller.sides.white.up h.world.controller.sides.white.up old.white h.world.white
               u.confirmed h.others h.white (up_ready old.controller.sides.white.up u old.white is idle running);
         };
@@ -492,44 +453,44 @@ module _ {B W : Type 0} (mb : SidePolicies B) (mw : SidePolicies W) (law_b : All
       same : (m n : ℕ) → m ≡ n → (m == n) ≡ true
       same m n e = grind (arith, nat_tests)
 
-  settled : (old last : World B W) → Settling old.controller.game last (length (script old.controller.game))
+  settled : (old last : World B W) → Settling old.controller.game last White (length (script old.controller.game))
       (length (script old.controller.game)) → IsSettled old last
   settled old last h = record {
-    black_runs = ap is_some h.black.runs;
-    white_runs = ap is_some h.white.runs;
-    in_step = λ s. elim s as (λ t. in_step last.controller t ≡ true) [ Black ↦ black_in_step | White ↦ white_in_step ];
+    black_runs = ap is_some h.others.runs;
+    white_runs = ap is_some h.own.runs;
+    in_step = λ s. elim s as (λ t. in_step last.controller t ≡ true) [
+      | Black ↦ side_in_step Black h.others
+      | White ↦ side_in_step White h.own
+    ];
     record_stays = h.game_is;
   }
     where
-      black_in_step : in_step last.controller Black ≡ true
-      black_in_step =
-          ap (λ (g : GameRecord). engine_in_step g last.controller.sides.black.up) h.game_is
-          ∙ ready_in_step old.controller.game last.controller.sides.black.up last.black h.black
-
-      white_in_step : in_step last.controller White ≡ true
-      white_in_step =
-          ap (λ (g : GameRecord). engine_in_step g last.controller.sides.white.up) h.game_is
-          ∙ ready_in_step old.controller.game last.controller.sides.white.up last.white h.white
+      side_in_step : (s : Colour)
+          → IsReady (side_of last.controller.sides s).up (lane_of last s) (length (script old.controller.game))
+          → in_step last.controller s ≡ true
+      side_in_step s ready =
+          ap (λ (g : GameRecord). engine_in_step g (side_of last.controller.sides s).up) h.game_is
+          ∙ ready_in_step old.controller.game (side_of last.controller.sides s).up (lane_of last s) ready
 
   pub settles : Settles mb mw
   settles setup events old last is reached may runs =
       let game = old.controller.game in
+      let all = length (script game) in
       let black_left = script_left game old.controller.sides.black.up in
       let white_left = script_left game old.controller.sides.white.up in
-      let j : IsJoined rules old =
-      runs_keep mb mw law_b law_w (opening setup) events old reached (opening_has rules setup is) in
+      let j : IsJoined rules old = reached_has mb mw law_b law_w setup events old is reached in
       let one =
       black_begins old last (start_of old.controller.sides.white.up ++
       (rounds Black black_left ++ rounds White white_left)) j may runs in
       let two = white_begins old last (rounds Black black_left ++ rounds White white_left) may one in
-      let three : Reaches game (length (script game)) two.white_count (rounds White white_left) last =
-      black_rounds game black_left two.world last two.black_count two.white_count
-      (rounds White white_left) two.settling two.black_is two.rest in
+      let three : Reaches game Black all two.white_count (rounds White white_left) last =
+      side_rounds game black_left two.world last Black two.black_count two.white_count (rounds White white_left)
+      two.settling tt two.black_is two.rest in
       let white_runs : Runs mb mw three.world (rounds White white_left ++ []) last =
       subst (λ (es : List Event). Runs mb mw three.world es last)
       (sym (append-nil (rounds White white_left))) three.rest in
-      let four : Reaches game (length (script game)) (length (script game)) [] last =
-      white_rounds game white_left three.world last (length (script game)) two.white_count [] three.settling
-      (omega arith) two.white_is white_runs in
-      settled old last (subst (λ (v : World B W). Settling game v (length (script game)) (length (script game)))
+      let four : Reaches game White all all [] last =
+      side_rounds game white_left three.world last White two.white_count all []
+      (turned game three.world all two.white_count three.settling) (omega arith) two.white_is white_runs in
+      settled old last (subst (λ (v : World B W). Settling game v White all all)
       (sym (runs_none four.world last four.rest)) four.settling)

@@ -1,9 +1,9 @@
 -- A quiet world may settle, and in one that is settled both sides have caught up.
-use Rattle.std.proofs.Common.{◌≡◌, List, Option, Some, None, refl, sym, ◌∙◌, ap, subst}
+use Rattle.std.proofs.Common.{◌≡◌, Option, Some, None, refl, sym, ◌∙◌, ap}
 use Rattle.std.specs.Prelude.{[], IsSome}
 use Rattle.go_base.specs.declared.colours.Colour.{Colour}
 use Rattle.go_base.specs.declared.colours.Colour.TheVariants.{Black, White}
-use Rattle.go_board.specs.Game.{GameRecord, IsGame}
+use Rattle.go_board.specs.Game.{GameRecord}
 use Rattle.go_board.specs.declared.rules.KoRule.{KoRule}
 use Rattle.gtp_session.proofs.Policies.{AllowsLawful}
 use Rattle.gtp_session.specs.Engine.{Engine}
@@ -16,17 +16,15 @@ use Rattle.gtp_match.specs.Setup.{SetupRecord, IsSetup}
 use Rattle.gtp_match.specs.Sides.{side_of}
 use Rattle.gtp_match.specs.Sound.{IsIdle}
 use Rattle.gtp_match.specs.Taking.{unless_over}
-use Rattle.gtp_world.specs.declared.events.Event.{Event}
-use Rattle.gtp_world.specs.EventLaws.{own_rule}
 use Rattle.gtp_world.specs.Lane.{SidePolicies}
-use Rattle.gtp_world.specs.World.{World, opening, Runs}
+use Rattle.gtp_world.specs.World.{World, opening}
 use Rattle.gtp_world.specs.Worlds.{game_in, game_at}
 use Rattle.gtp_world.specs.Joined.{Rules, rule_of, ruled, IsJoined}
 use Rattle.gtp_world.specs.Laws.{rules_of}
 use Rattle.gtp_world.specs.Settle.{settle, MaySettle, IsSettled, RunsWhereUp}
 use Rattle.gtp_world.specs.WordLaws.{IsQuiet, IsCaughtUp, OpeningsMaySettle, SettledIsCaughtUp, QuietWorldsCatchUp}
 use Rattle.gtp_world.proofs.CatchUp.{settles}
-use Rattle.gtp_world.proofs.Happenings.{opening_has, opening_under, runs_keep}
+use Rattle.gtp_world.proofs.Happenings.{opening_under, runs_keep, reached_has}
 use Rattle.gtp_world.proofs.Settle.{no_verdict}
 use Rattle.gtp_world.proofs.There.{there}
 
@@ -100,45 +98,25 @@ module _ {B W : Type 0} (mb : SidePolicies B) (mw : SidePolicies W) (law_b : All
   abbrev rules : Rules
   rules = rules_of mb mw
 
-  own_is : (s : Colour) → rule_of rules s ≡ own_rule mb mw s
-  own_is Black = refl
-  own_is White = refl
-
-  -- a quiet world in the words of both sides' rules
-  ruled_quiet : (v : World B W) → IsQuiet (own_rule mb mw) v → IsQuiet (rule_of rules) v
-  ruled_quiet v quiet =
-      record {
-        not_done = quiet.not_done;
-        running = quiet.running;
-        answered = quiet.answered;
-        none_taken_back = quiet.none_taken_back;
-        games = λ s. subst (λ (rule : KoRule). IsGame (ruled rule v.controller.game)) (sym (own_is s)) (quiet.games s);
-      }
-
   caught_up : (old new : World B W) (s : Colour) → IsJoined rules new → IsSettled old new
-      → IsCaughtUp (own_rule mb mw s) old s new
+      → IsCaughtUp (rule_of rules s) old s new
   caught_up old new s joined settled =
       let x = runs_at old new settled s in
       record {
         in_step = settled.in_step s;
         engine =
             x.1 ∙ ap (λ (g : GameRecord). Some g)
-            (there rules new s x.0 joined x.1 (settled.in_step s) ∙ ap (ruled (rule_of rules s)) settled.record_stays
-            ∙ ap (λ (rule : KoRule). ruled rule old.controller.game) (own_is s));
+            (there rules new s x.0 joined x.1 (settled.in_step s) ∙ ap (ruled (rule_of rules s)) settled.record_stays);
         controller = settled.record_stays;
       }
 
-  reached_is : (setup : SetupRecord) (events : List Event) (v : World B W) → IsSetup setup
-      → Runs mb mw (opening setup) events v → IsJoined rules v
-  reached_is setup events v is runs =
-      runs_keep mb mw law_b law_w (opening setup) events v runs (opening_has rules setup is)
-
   pub settled_is : SettledIsCaughtUp mb mw
   settled_is setup events old new s is runs settled =
-      caught_up old new s (reached_is setup events new is runs) settled
+      caught_up old new s (reached_has mb mw law_b law_w setup events new is runs) settled
 
   pub quiet_catches_up : QuietWorldsCatchUp mb mw
   quiet_catches_up setup events old new s is runs quiet more =
       caught_up old new s
-      (runs_keep mb mw law_b law_w old (settle old.controller) new more (reached_is setup events old is runs))
-      (settles mb mw law_b law_w setup events old new is runs (may_settle rules old (ruled_quiet old quiet)) more)
+      (runs_keep mb mw law_b law_w old (settle old.controller) new more
+      (reached_has mb mw law_b law_w setup events old is runs))
+      (settles mb mw law_b law_w setup events old new is runs (may_settle rules old quiet) more)
