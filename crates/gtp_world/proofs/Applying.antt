@@ -18,7 +18,7 @@ use Rattle.gtp_match.specs.Sides.{side_of}
 use Rattle.gtp_world.specs.declared.events.Event.TheVariants.{Act, BrokenWrite, ToEngine, ToController, Crash, End}
 use Rattle.gtp_world.specs.Lane.{Lane, SidePolicies, idle_lane, written_lane, LaneReads, ReadsWhereRunning, crashed_lane}
 use Rattle.gtp_world.specs.World.{World, at_side, lane_of, lane_with_next, Sends, NothingHappens, SideHears}
-use Rattle.gtp_world.specs.World.{HearsWhereUp, SideIsLost, LosesWhereUp, side_of_action, SideBreaksOff, policies_at}
+use Rattle.gtp_world.specs.World.{HearsWhereUp, SideFails, FailsWhereUp, side_of_action, SideBreaksOff, policies_at}
 use Rattle.gtp_world.specs.World.{HappensAt, Happens}
 use Rattle.gtp_world.specs.Worlds.{game_in}
 use Rattle.gtp_world.specs.Joined.{rule_of, ruled, IsJoined, IsJoinedSide, BareLane, EngineBody, bare, body_of}
@@ -84,10 +84,10 @@ hears_none {P} s c c2 l l2 k un h = by_up (side_of c.sides s).up refl h
     by_up (Some u) is h = absurd (un (u, is))
 
 loses_none : {P : Type 0} (s : Colour) (c c2 : Controller) (l l2 : Lane P)
-    → ¬ ((engine : Incarnation) × ((side_of c.sides s).up ≡ Some engine)) → SideIsLost s c l c2 l2 → (c2 ≡ c) × (l2 ≡ l)
+    → ¬ ((engine : Incarnation) × ((side_of c.sides s).up ≡ Some engine)) → SideFails s c l c2 l2 → (c2 ≡ c) × (l2 ≡ l)
 loses_none {P} s c c2 l l2 un h = by_up (side_of c.sides s).up refl h
   where
-    by_up : (up : Option Incarnation) → (side_of c.sides s).up ≡ up → LosesWhereUp s c up l c2 l2 → (c2 ≡ c) × (l2 ≡ l)
+    by_up : (up : Option Incarnation) → (side_of c.sides s).up ≡ up → FailsWhereUp s c up l c2 l2 → (c2 ≡ c) × (l2 ≡ l)
     by_up None is h = h
     by_up (Some u) is h = absurd (un (u, is))
 

@@ -1,6 +1,6 @@
 -- What one event puts down, takes and leaves.
-use Rattle.std.proofs.Common.{◌≡◌, ℕ, ◌+◌, List, [], ◌++◌, length, take, drop, Option, Some, None, refl, sym, ◌∙◌, ap}
-use Rattle.std.proofs.Common.{subst, arith, append_assoc}
+use Rattle.std.proofs.Common.{◌≡◌, ℕ, ◌+◌, List, ◌++◌, take, drop, Option, Some, None, refl, sym, ◌∙◌, ap}
+use Rattle.std.proofs.Common.{subst, append_assoc}
 use Rattle.std.specs.Prelude.{◌≢◌}
 use Rattle.std.proofs.Math.Seq.{take-add}
 use Rattle.std.proofs.lemmas.List.{drop-drop}
@@ -15,10 +15,8 @@ use Rattle.gtp_session.proofs.ConversationLemmas.{output_of-append}
 use Rattle.gtp_match.specs.declared.sides.Incarnation.{Incarnation}
 use Rattle.gtp_match.specs.declared.verdicts.Action.{Action}
 use Rattle.gtp_match.specs.declared.verdicts.Action.TheVariants.{Start, Send, Wait, Done}
-use Rattle.gtp_match.specs.declared.verdicts.SideFault.{SideFault}
 use Rattle.gtp_match.specs.declared.verdicts.Verdict.{Verdict}
 use Rattle.gtp_match.specs.declared.controller.Controller.{Controller}
-use Rattle.gtp_match.specs.Hearing.{HearsAllBy, HearsAll}
 use Rattle.gtp_match.specs.Next.{next}
 use Rattle.gtp_match.specs.Sides.{side_of}
 use Rattle.gtp_world.specs.declared.events.Event.{Event}
@@ -33,6 +31,7 @@ use Rattle.gtp_world.specs.EventLaws.{IsDown, HasNothing, BrokenWritesAreAlike, 
 use Rattle.gtp_world.specs.EventLaws.{OthersStay, NoByteHeardIsNothing, CutsOfReadingsJoin}
 use Rattle.gtp_world.proofs.Invariant.{seen_from, same_world}
 use Rattle.gtp_world.proofs.Happenings.{reached_has}
+use Rattle.gtp_world.proofs.Rounds.{no_bytes_heard}
 
 -- ---- a side that is down has nothing
 
@@ -105,12 +104,6 @@ lane_stays_up : {P : Type 0} (up : Option Incarnation) (u : Incarnation) (l : La
 lane_stays_up None u l e = absurd (cc e)
 lane_stays_up (Some x) u l e = refl
 
-none_heard : (s : Colour) (c c2 : Controller) (bytes : List ℕ) (fault : Option SideFault) → bytes ≡ []
-    → HearsAll s c bytes fault c2 → c2 ≡ c
-none_heard s c c2 bytes fault e HearsAllBy.used_up = refl
-none_heard s c c2 bytes fault e (HearsAllBy.faulty used some h) = absurd (omega (arith, ap length e, some))
-none_heard s c c2 bytes fault e (HearsAllBy.goes_on used some h more) = absurd (omega (arith, ap length e, some))
-
 nothing_heard : {P : Type 0} (s : Colour) (c c2 : Controller) (l l2 : Lane P) → SideHears s c l 0 c2 l2
     → (c2 ≡ c) × (l2 ≡ l)
 nothing_heard {P} s c c2 l l2 h = by_up (side_of c.sides s).up refl h
@@ -119,7 +112,7 @@ nothing_heard {P} s c c2 l l2 h = by_up (side_of c.sides s).up refl h
         → (c2 ≡ c) × (l2 ≡ l)
     by_up None e x = x
     by_up (Some u) e x =
-        let same : c2 ≡ c = none_heard s c c2 (take 0 l.to_controller) x.fault refl x.hears in
+        let same : c2 ≡ c = no_bytes_heard s c c2 (take 0 l.to_controller) x.fault refl x.hears in
         let up : (side_of c2.sides s).up ≡ Some u = ap (λ (d : Controller). (side_of d.sides s).up) same ∙ e in
         (same, x.lane ∙ lane_stays_up (side_of c2.sides s).up u l up)
 

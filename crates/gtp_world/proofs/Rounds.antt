@@ -106,11 +106,11 @@ one_reply game u o b tc h one =
         record { reply = r; game_after = owes.0; answered = owes.1; text = text ∙ append-nil (reply_bytes r) }
     by_replies (r ∷ q ∷ rs) owes text = absurd owes.2
 
-nothing_heard : (s : Colour) (c c2 : Controller) (bytes : List ℕ) (fault : Option SideFault) → bytes ≡ []
+pub no_bytes_heard : (s : Colour) (c c2 : Controller) (bytes : List ℕ) (fault : Option SideFault) → bytes ≡ []
     → HearsAll s c bytes fault c2 → c2 ≡ c
-nothing_heard s c c2 bytes fault e HearsAllBy.used_up = refl
-nothing_heard s c c2 bytes fault e (HearsAllBy.faulty used some h) = absurd (omega (arith, some, ap length e))
-nothing_heard s c c2 bytes fault e (HearsAllBy.goes_on used some h more) = absurd (omega (arith, some, ap length e))
+no_bytes_heard s c c2 bytes fault e HearsAllBy.used_up = refl
+no_bytes_heard s c c2 bytes fault e (HearsAllBy.faulty used some h) = absurd (omega (arith, some, ap length e))
+no_bytes_heard s c c2 bytes fault e (HearsAllBy.goes_on used some h more) = absurd (omega (arith, some, ap length e))
 
 module _ (rules : Rules) (c : Controller) (s : Colour) (u : Incarnation) (o : SentCommand) (b : EngineBody)
     (tc : List ℕ)
@@ -206,7 +206,7 @@ module _ (rules : Rules) (c : Controller) (s : Colour) (u : Incarnation) (o : Se
       by_bytes bytes is fault c2 (HearsAllBy.goes_on {mid = mid} used some h more) =
           let done : Confirmed used None mid =
           one_confirms used None mid (subst (λ (t : List ℕ). Hears c s t used None mid) (sym is) h) in
-          nothing_heard s mid c2 (drop used bytes) fault
+          no_bytes_heard s mid c2 (drop used bytes) fault
           (drop_all used bytes (omega (arith, done.0, ap length is))) more ∙ done.2
 
 -- ---- the round

@@ -86,7 +86,7 @@ pub record IsStarted {B W : Type 0} (rule : KoRule) (old : World B W) (side : Co
   pub controller : new.controller ≡ started old.controller side
 
 -- The controller counts its next command to the side as sent, also where no engine runs. Where one runs, the command's
--- bytes stand behind what was on its way to it. The engine stays, and so does what is on its way to the controller.
+-- bytes come after what was on its way to it. The engine stays, and so does what is on its way to the controller.
 pub record IsSent {B W : Type 0} (old : World B W) (side : Colour) (up : Incarnation) (new : World B W)
     : Type 0 where
   pub controller : new.controller ≡ sent old.controller side

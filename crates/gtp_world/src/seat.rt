@@ -5,7 +5,7 @@ ghost use Rattle.gtp_match.specs.Controller as controller;
 ghost use Rattle.gtp_match.specs.Next.{next, is_down};
 ghost use Rattle.gtp_match.specs.Sides.{side_of};
 ghost use Rattle.gtp_world.specs.Lane.{empty_lane, crashed_lane, LaneReads};
-ghost use Rattle.gtp_world.specs.World.{Starts, Sends, SideHears, SideIsLost, SideActs, SideBreaksOff};
+ghost use Rattle.gtp_world.specs.World.{Starts, Sends, SideHears, SideFails, SideActs, SideBreaksOff};
 ghost use Rattle.gtp_world.specs.World.{side_of_action, side_of_event};
 ghost use Rattle.gtp_world.specs.World.{most_to_engine, most_to_controller};
 ghost use Rattle.gtp_world.specs.Worlds.{SeatHappens, game_in};
@@ -135,7 +135,7 @@ impl<M: Maker> Seat<M> {
     /// The side fails, where it is up.
     fn end(&mut self, played: &mut Match, side: Side)
         ensures making { self.new.making ≡ self.old.making }
-        ensures ends { SideIsLost side played.old self.old.lane played.new self.new.lane }
+        ensures ends { SideFails side played.old self.old.lane played.new self.new.lane }
     {
         if is_down(played, side) {
             return;

@@ -12,7 +12,7 @@ use Rattle.gtp_match.specs.Next.{next}
 use Rattle.gtp_world.specs.Lane.{Lane}
 use Rattle.gtp_world.specs.World.{most_to_engine, most_to_controller}
 
--- an engine reads these bytes, and what it writes goes behind what is there
+-- an engine reads these bytes, and what it writes comes after what is there
 pub record ReadsAndReplies {P : Type 0} (may : May P) (old : Engine P) (bytes : List ℕ) (new : Engine P)
     (before after : List ℕ) : Type 0 where
   pub written : List ℕ

@@ -41,14 +41,14 @@ impl Events {
 
 /// A world of size 2 with the policy `First` at both ends, and the events that led to it.
 #[derive(Drop)]
-pub struct Told {
+pub struct Recorded {
     pub world: World<Firsts, Firsts>,
     pub events: Events,
 }
 
-impl Told {
+impl Recorded {
     pub fn new(rt: &impl Abort) -> Self {
-        Told {
+        Recorded {
             world: World::new(small_setup(rt), Firsts, Firsts),
             events: Events::new(),
         }
@@ -88,45 +88,45 @@ impl Told {
 }
 
 /// Both sides in step, and Black asked for a move, which its engine made.
-pub fn black_moved(rt: &impl Abort) -> Told {
-    let mut told = Told::new(rt);
-    told.step(rt, Event::Act);
-    told.step(rt, Event::Act);
-    told.rounds(rt, Side::Black, 3);
-    assert_true(rt, told.in_step(Side::Black));
-    assert_true(rt, !told.in_step(Side::White));
-    told.rounds(rt, Side::White, 3);
-    assert_true(rt, told.in_step(Side::Black));
-    assert_true(rt, told.in_step(Side::White));
-    assert_equal(rt, told.record_len(), 0);
-    told.step(rt, Event::Act);
+pub fn black_moved(rt: &impl Abort) -> Recorded {
+    let mut recorded = Recorded::new(rt);
+    recorded.step(rt, Event::Act);
+    recorded.step(rt, Event::Act);
+    recorded.rounds(rt, Side::Black, 3);
+    assert_true(rt, recorded.in_step(Side::Black));
+    assert_true(rt, !recorded.in_step(Side::White));
+    recorded.rounds(rt, Side::White, 3);
+    assert_true(rt, recorded.in_step(Side::Black));
+    assert_true(rt, recorded.in_step(Side::White));
+    assert_equal(rt, recorded.record_len(), 0);
+    recorded.step(rt, Event::Act);
     assert_equal(
         rt,
-        told.world.to_engine(Side::Black),
+        recorded.world.to_engine(Side::Black),
         b"4 genmove b\n".as_slice(),
     );
-    told.step(rt, Event::ToEngine(Side::Black, 100));
-    assert_equal(rt, told.world.to_engine(Side::Black), b"".as_slice());
+    recorded.step(rt, Event::ToEngine(Side::Black, 100));
+    assert_equal(rt, recorded.world.to_engine(Side::Black), b"".as_slice());
     assert_equal(
         rt,
-        told.world.to_controller(Side::Black),
+        recorded.world.to_controller(Side::Black),
         b"=4 A1\n\n".as_slice(),
     );
-    let game = some(rt, told.world.running(Side::Black));
+    let game = some(rt, recorded.world.running(Side::Black));
     assert_equal(rt, game.moves().len(), 1);
-    assert_true(rt, !told.in_step(Side::Black));
-    told
+    assert_true(rt, !recorded.in_step(Side::Black));
+    recorded
 }
 
 /// The same, the engine gone with its reply, and the end of its stream met.
-pub fn black_lost(rt: &impl Abort) -> Told {
-    let mut told = black_moved(rt);
-    told.step(rt, Event::Crash(Side::Black, 0));
-    assert_true(rt, told.world.running(Side::Black).is_none());
-    assert_equal(rt, told.world.to_controller(Side::Black), b"".as_slice());
-    told.step(rt, Event::End(Side::Black));
-    assert_equal(rt, told.record_len(), 0);
-    assert_equal(rt, told.status(Side::Black), Status::Down);
-    assert_true(rt, told.in_step(Side::White));
-    told
+pub fn black_lost(rt: &impl Abort) -> Recorded {
+    let mut recorded = black_moved(rt);
+    recorded.step(rt, Event::Crash(Side::Black, 0));
+    assert_true(rt, recorded.world.running(Side::Black).is_none());
+    assert_equal(rt, recorded.world.to_controller(Side::Black), b"".as_slice());
+    recorded.step(rt, Event::End(Side::Black));
+    assert_equal(rt, recorded.record_len(), 0);
+    assert_equal(rt, recorded.status(Side::Black), Status::Down);
+    assert_true(rt, recorded.in_step(Side::White));
+    recorded
 }

@@ -1,5 +1,5 @@
-use Rattle.gtp_world.proofs.Spent.{last_starts_are_up}
-use Rattle.gtp_world.proofs.laws.who_has_no_start_left_is_up.Goals as goal
+use Rattle.gtp_world.proofs.Downs.{last_starts_are_up}
+use Rattle.gtp_world.proofs.laws.a_side_with_no_start_left_is_up.Goals as goal
 
 pub returns : goal.returns
 returns g c black white =
