@@ -2,8 +2,8 @@
 ghost use Rattle.gtp_session.specs.Policy.{IsLawful};
 
 use super::SIDES;
-use super::same::{assert_same_game, assert_same_world};
 use super::recorded::Events;
+use super::same::{assert_same_game, assert_same_world};
 use crate::equal::{assert_equal, assert_true, some};
 use crate::{Event, Maker, World};
 use go_base::{Colour, Komi, Side, Size, Vertex};

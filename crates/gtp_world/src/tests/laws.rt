@@ -20,6 +20,7 @@ fn the_laws_hold_of_each_maker() {
     laws::a_side_that_is_down_has_nothing::<Firsts, Firsts>();
     laws::a_crash_stops_and_cuts::<Firsts, Firsts>();
     laws::the_other_side_stays::<Firsts, Firsts>();
+    laws::the_table_is_of_both_sides::<Firsts, Firsts>();
     laws::an_engine_is_given_as_many_bytes_as_come::<Firsts, Firsts>();
     laws::the_controller_is_given_as_many_bytes_as_come::<Firsts, Firsts>();
     laws::the_words_are_as_strong::<Firsts, Firsts>();

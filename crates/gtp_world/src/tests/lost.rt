@@ -1,6 +1,6 @@
 //! Engines that are gone, and writes that break.
-use super::same::assert_same_world;
 use super::recorded::{Recorded, black_lost, black_moved};
+use super::same::assert_same_world;
 use crate::Event;
 use crate::equal::{assert_equal, assert_true};
 use go_base::Side;
@@ -41,7 +41,11 @@ fn a_reply_that_a_crash_cut_short_answers_nothing(rt: HostRuntime) {
         b"=4 A1\n".as_slice(),
     );
     recorded.step(&rt, Event::ToController(Side::Black, 100));
-    assert_equal(&rt, recorded.world.to_controller(Side::Black), b"".as_slice());
+    assert_equal(
+        &rt,
+        recorded.world.to_controller(Side::Black),
+        b"".as_slice(),
+    );
     let asked = Status::Up {
         confirmed: 3,
         unanswered: 1,

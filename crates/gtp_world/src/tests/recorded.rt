@@ -123,7 +123,11 @@ pub fn black_lost(rt: &impl Abort) -> Recorded {
     let mut recorded = black_moved(rt);
     recorded.step(rt, Event::Crash(Side::Black, 0));
     assert_true(rt, recorded.world.running(Side::Black).is_none());
-    assert_equal(rt, recorded.world.to_controller(Side::Black), b"".as_slice());
+    assert_equal(
+        rt,
+        recorded.world.to_controller(Side::Black),
+        b"".as_slice(),
+    );
     recorded.step(rt, Event::End(Side::Black));
     assert_equal(rt, recorded.record_len(), 0);
     assert_equal(rt, recorded.status(Side::Black), Status::Down);

@@ -1,7 +1,7 @@
 //! Worlds that settle.
 use super::SIDES;
-use super::same::assert_same_game;
 use super::recorded::{Events, Recorded, black_lost};
+use super::same::assert_same_game;
 use crate::equal::{assert_equal, assert_true, some};
 use crate::{Event, Maker, World};
 use gtp_match::Status;

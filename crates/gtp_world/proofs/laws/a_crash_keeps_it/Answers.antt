@@ -1,6 +1,6 @@
 use Rattle.gtp_world.specs.declared.events.Event.TheVariants.{Crash}
 use Rattle.gtp_world.specs.Worlds.{policies_by}
-use Rattle.gtp_world.proofs.Happenings.{happens_keeps}
+use Rattle.gtp_world.proofs.joined.EventLemmas.{happens_keeps}
 use Rattle.gtp_world.proofs.laws.a_crash_keeps_it.Goals as goal
 
 pub returns : goal.returns

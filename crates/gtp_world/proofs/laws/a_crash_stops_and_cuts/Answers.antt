@@ -1,5 +1,5 @@
 use Rattle.gtp_world.specs.Worlds.{policies_by}
-use Rattle.gtp_world.proofs.EventLaws.{crashes_need_an_engine}
+use Rattle.gtp_world.proofs.event_laws.OneEventLemmas.{crashes_need_an_engine}
 use Rattle.gtp_world.proofs.laws.a_crash_stops_and_cuts.Goals as goal
 
 pub returns-clause-nothing : goal.returns-clause-nothing

@@ -1,4 +1,4 @@
-use Rattle.gtp_world.proofs.EventLaws.{down_has_nothing}
+use Rattle.gtp_world.proofs.event_laws.OneEventLemmas.{down_has_nothing}
 use Rattle.gtp_world.proofs.laws.a_side_that_is_down_has_nothing.Goals as goal
 
 pub returns : goal.returns

@@ -1,4 +1,4 @@
-use Rattle.gtp_world.proofs.Downs.{last_starts_are_up}
+use Rattle.gtp_world.proofs.event_laws.DownLemmas.{last_starts_are_up}
 use Rattle.gtp_world.proofs.laws.a_side_with_no_start_left_is_up.Goals as goal
 
 pub returns : goal.returns

@@ -1,5 +1,5 @@
 use Rattle.gtp_world.specs.declared.events.Event.TheVariants.{Act}
-use Rattle.gtp_world.proofs.Happenings.{happens_keeps}
+use Rattle.gtp_world.proofs.joined.EventLemmas.{happens_keeps}
 use Rattle.gtp_world.proofs.laws.an_act_keeps_it.Goals as goal
 
 pub returns : goal.returns

@@ -1,5 +1,5 @@
 use Rattle.gtp_world.specs.declared.events.Event.TheVariants.{ToEngine}
-use Rattle.gtp_world.proofs.Happenings.{happens_keeps}
+use Rattle.gtp_world.proofs.joined.EventLemmas.{happens_keeps}
 use Rattle.gtp_world.proofs.laws.bytes_to_an_engine_keep_it.Goals as goal
 
 pub returns : goal.returns

@@ -1,4 +1,4 @@
-use Rattle.gtp_world.proofs.Applying.{acts_are_done, does_nothing, none_waits, starts_make_policies}
+use Rattle.gtp_world.proofs.event_laws.AppliesLemmas.{acts_are_done, does_nothing, none_waits, starts_make_policies}
 use Rattle.gtp_world.proofs.laws.events_do_what_they_say.Goals as goal
 
 pub returns-clause-acts : goal.returns-clause-acts

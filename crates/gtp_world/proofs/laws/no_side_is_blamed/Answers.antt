@@ -1,4 +1,4 @@
-use Rattle.gtp_world.proofs.Downs.{never_blames}
+use Rattle.gtp_world.proofs.event_laws.DownLemmas.{never_blames}
 use Rattle.gtp_world.proofs.laws.no_side_is_blamed.Goals as goal
 
 pub returns : goal.returns

@@ -1,4 +1,4 @@
-use Rattle.gtp_world.proofs.Downs.{only_these}
+use Rattle.gtp_world.proofs.event_laws.DownLemmas.{only_these}
 use Rattle.gtp_world.proofs.laws.only_breaks_put_a_side_down.Goals as goal
 
 pub returns : goal.returns

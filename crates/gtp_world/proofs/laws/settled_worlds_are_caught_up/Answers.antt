@@ -1,4 +1,4 @@
-use Rattle.gtp_world.proofs.CaughtUp.{openings_settle, quiet_catches_up, settled_is}
+use Rattle.gtp_world.proofs.settling.CaughtUpLemmas.{openings_settle, quiet_catches_up, settled_is}
 use Rattle.gtp_world.proofs.laws.settled_worlds_are_caught_up.Goals as goal
 
 pub returns-clause-openings : goal.returns-clause-openings

@@ -1,5 +1,5 @@
 use Rattle.gtp_world.specs.Worlds.{policies_by}
-use Rattle.gtp_world.proofs.EventLaws.{no_byte_heard_is_nothing}
+use Rattle.gtp_world.proofs.event_laws.OneEventLemmas.{no_byte_heard_is_nothing}
 use Rattle.gtp_world.proofs.laws.the_controller_is_given_as_many_bytes_as_come.Goals as goal
 
 pub returns-clause-nothing : goal.returns-clause-nothing

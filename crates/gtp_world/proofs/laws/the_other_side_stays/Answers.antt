@@ -1,4 +1,4 @@
-use Rattle.gtp_world.proofs.EventLaws.{others_stay}
+use Rattle.gtp_world.proofs.event_laws.OneEventLemmas.{others_stay}
 use Rattle.gtp_world.proofs.laws.the_other_side_stays.Goals as goal
 
 pub returns : goal.returns

@@ -1,4 +1,4 @@
-use Rattle.gtp_world.proofs.Agreement.{agreement}
+use Rattle.gtp_world.proofs.joined.AgreementLemmas.{agreement}
 use Rattle.gtp_world.proofs.laws.worlds_always_agree.Goals as goal
 
 pub returns : goal.returns

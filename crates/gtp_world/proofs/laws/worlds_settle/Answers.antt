@@ -1,5 +1,5 @@
-use Rattle.gtp_world.proofs.CatchUp.{settles}
-use Rattle.gtp_world.proofs.Downs.{starts_are_left}
+use Rattle.gtp_world.proofs.settling.SettleLemmas.{settles}
+use Rattle.gtp_world.proofs.event_laws.DownLemmas.{starts_are_left}
 use Rattle.gtp_world.proofs.laws.worlds_settle.Goals as goal
 
 pub returns-clause-settle : goal.returns-clause-settle

@@ -3,7 +3,7 @@ use Rattle.go_base.specs.declared.colours.Colour.{Colour}
 use Rattle.go_base.specs.declared.colours.Colour.TheVariants.{Black, White}
 use Rattle.gtp_world.specs.World.{side_of_event}
 use Rattle.gtp_world.specs.Worlds.{made_world, MadeWorld, rules_in, policies_by, MadeHappens}
-use Rattle.gtp_world.proofs.Reaching.{reached_inv, reached_more, has_room, black_happens, white_happens}
+use Rattle.gtp_world.proofs.joined.ReachedLemmas.{reached_inv, reached_more, has_room, black_happens, white_happens}
 use Rattle.gtp_world.proofs.world.World.step.Goals as goal
 
 pub step-requires-clause-room : goal.step-requires-clause-room

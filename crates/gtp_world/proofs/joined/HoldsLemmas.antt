@@ -7,7 +7,7 @@ use Rattle.go_board.specs.declared.rules.KoRule.{KoRule}
 use Rattle.gtp_world.specs.World.{Holds}
 use Rattle.gtp_world.specs.Joined.{ruled}
 use Rattle.gtp_world.specs.WordLaws.{AgreeingIsBeingThere}
-use Rattle.gtp_world.proofs.Reaching.{game_in_step}
+use Rattle.gtp_world.proofs.joined.ReachedLemmas.{game_in_step}
 
 -- ---- words
 

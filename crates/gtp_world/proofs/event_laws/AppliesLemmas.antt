@@ -26,9 +26,9 @@ use Rattle.gtp_world.specs.Joined.{WillReadWhereRunning}
 use Rattle.gtp_world.specs.Laws.{rules_of}
 use Rattle.gtp_world.specs.EventLaws.{Applies, IsSent, WhatDoesNotApplyIsNothing, ActsAreDone}
 use Rattle.gtp_world.specs.EventLaws.{NothingWaitsForNoEngine, StartsMakePolicies, engine_from_nothing}
-use Rattle.gtp_world.proofs.Agreement.{settled_of}
-use Rattle.gtp_world.proofs.Happenings.{reached_has}
-use Rattle.gtp_world.proofs.Invariant.{seen_from, same_world, acted}
+use Rattle.gtp_world.proofs.joined.AgreementLemmas.{settled_of}
+use Rattle.gtp_world.proofs.joined.EventLemmas.{reached_has}
+use Rattle.gtp_world.proofs.joined.JoinedLemmas.{seen_from, same_world, acted}
 
 -- ---- lanes
 

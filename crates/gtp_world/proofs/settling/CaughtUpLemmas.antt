@@ -23,10 +23,10 @@ use Rattle.gtp_world.specs.Joined.{Rules, rule_of, ruled, IsJoined}
 use Rattle.gtp_world.specs.Laws.{rules_of}
 use Rattle.gtp_world.specs.Settle.{settle, MaySettle, IsSettled, RunsWhereUp}
 use Rattle.gtp_world.specs.WordLaws.{IsQuiet, IsCaughtUp, OpeningsMaySettle, SettledIsCaughtUp, QuietWorldsCatchUp}
-use Rattle.gtp_world.proofs.CatchUp.{settles}
-use Rattle.gtp_world.proofs.Happenings.{opening_under, runs_keep, reached_has}
-use Rattle.gtp_world.proofs.Settle.{no_verdict}
-use Rattle.gtp_world.proofs.There.{there}
+use Rattle.gtp_world.proofs.settling.SettleLemmas.{settles}
+use Rattle.gtp_world.proofs.joined.EventLemmas.{opening_under, runs_keep, reached_has}
+use Rattle.gtp_world.proofs.settling.IdleLemmas.{no_verdict}
+use Rattle.gtp_world.proofs.joined.InStepLemmas.{there}
 
 runs_some : {P : Type 0} (e : Option (Engine P)) → IsSome e → (game : GameRecord) × (game_in e ≡ Some game)
 runs_some None h = absurd (cc h)

@@ -53,21 +53,21 @@ use Rattle.gtp_match.proofs.ShorterLemmas.{shorter_length, script_shorter}
 use Rattle.gtp_match.proofs.ReplySound.{reply_sound}
 use Rattle.gtp_match.proofs.HeardSound.{quiet_sound}
 use Rattle.gtp_session.proofs.CommandLemmas.{vertex_of_legal}
-use Rattle.gtp_world.proofs.ReplyReads.{outcome_of_choice}
-use Rattle.gtp_world.proofs.Replay.{GoesWellOn, after_one_more, replayed_all, replayed_shorter}
-use Rattle.gtp_world.proofs.Replay.{EndsWith, Place, place}
-use Rattle.gtp_world.proofs.Exchange.{owes_replies}
-use Rattle.gtp_world.proofs.Invariant.{IsPut, joint_put, simple_game, playable_shorter}
-use Rattle.gtp_world.proofs.Sides.{live_any, live_at, judged_any, Brings, arrives, quiet_or_first}
+use Rattle.gtp_world.proofs.exchange.ReplyLemmas.{outcome_of_choice}
+use Rattle.gtp_world.proofs.exchange.ScriptLemmas.{GoesWellOn, after_one_more, replayed_all, replayed_shorter}
+use Rattle.gtp_world.proofs.exchange.ScriptLemmas.{EndsWith, Place, place}
+use Rattle.gtp_world.proofs.exchange.ExchangeLemmas.{owes_replies}
+use Rattle.gtp_world.proofs.joined.JoinedLemmas.{IsPut, joint_put, simple_game, playable_shorter}
+use Rattle.gtp_world.proofs.one_side.SideLemmas.{live_any, live_at, judged_any, Brings, arrives, quiet_or_first}
 use Rattle.gtp_world.specs.Exchange.{CanBeWritten, Answered, reply_bytes, replayed, Owes, AllMayBeSent, all_reply_bytes}
 use Rattle.gtp_world.specs.Joined.{Rules, rule_of, ruled, IsPlayable, IsRefusal, EngineBody, BareLane}
 use Rattle.gtp_world.specs.Joined.{WillReadWhereRunning, CutByCrash, IsJoinedInPlay}
 use Rattle.gtp_world.specs.Joined.{IsJoinedAtEnd, IsJoinedSide, AreJoined, bare_empty}
 use Rattle.std.proofs.Math.Seq.{drop-length}
-use Rattle.gtp_world.proofs.Replying.{kept_longer, scripted_outcome, scripted_game, simple_rule, simple_ends}
-use Rattle.gtp_world.proofs.Replying.{Chose, chose, without_with, this_or_other, made_by, has_all_is}
-use Rattle.gtp_world.proofs.Replying.{has_all_if, theirs_moved, theirs_shorter, theirs_longer, fair_ended}
-use Rattle.gtp_world.proofs.Replying.{Replied, Left, left_live, refused_heard, undone_heard}
+use Rattle.gtp_world.proofs.one_side.OutcomeLemmas.{kept_longer, scripted_outcome, scripted_game, simple_rule, simple_ends}
+use Rattle.gtp_world.proofs.one_side.OutcomeLemmas.{Chose, chose, without_with, this_or_other, made_by, has_all_is}
+use Rattle.gtp_world.proofs.one_side.OutcomeLemmas.{has_all_if, theirs_moved, theirs_shorter, theirs_longer, fair_ended}
+use Rattle.gtp_world.proofs.one_side.OutcomeLemmas.{Replied, Left, left_live, refused_heard, undone_heard}
 
 module _ (rules : Rules) (c : Controller) (s : Colour) (u : Incarnation) (e : Option EngineBody) (te tc : List ℕ)
     (lo : BareLane) (sound : IsSound c) (none : c.verdict ≡ None)

@@ -11,9 +11,9 @@ use Rattle.gtp_world.specs.World.{World, lane_of}
 use Rattle.gtp_world.specs.Worlds.{MadeWorld, policies_by, rules_in, game_at, IsThereInStep}
 use Rattle.gtp_world.specs.Joined.{Rules, rule_of, ruled, IsJoined, bare, body, body_of}
 use Rattle.gtp_world.specs.WordLaws.{EnginesInStepAreThere}
-use Rattle.gtp_world.proofs.Agreement.{same_game}
-use Rattle.gtp_world.proofs.Invariant.{seen_from}
-use Rattle.gtp_world.proofs.Reaching.{game_some, reached_inv}
+use Rattle.gtp_world.proofs.joined.AgreementLemmas.{same_game}
+use Rattle.gtp_world.proofs.joined.JoinedLemmas.{seen_from}
+use Rattle.gtp_world.proofs.joined.ReachedLemmas.{game_some, reached_inv}
 
 pub there : {B W : Type 0} (rules : Rules) (v : World B W) (s : Colour) (game : GameRecord) → IsJoined rules v
     → game_at v s ≡ Some game → in_step v.controller s ≡ true → game ≡ ruled (rule_of rules s) v.controller.game

@@ -33,9 +33,9 @@ use Rattle.gtp_world.specs.declared.events.Event.TheVariants.{Act, ToEngine, ToC
 use Rattle.gtp_world.specs.Lane.{Lane, SidePolicies}
 use Rattle.gtp_world.specs.World.{World, lane_of, SideHears, policies_at, Happens, Runs}
 use Rattle.gtp_world.specs.Settle.{start_of, script_left, round, rounds, RunsWhereUp, MaySettle, IsSettled, Settles}
-use Rattle.gtp_world.proofs.Invariant.{seen_from, acted}
-use Rattle.gtp_world.proofs.Happenings.{lawful_at, happens_keeps, reached_has}
-use Rattle.gtp_world.proofs.Rounds.{IsReady, RoundDone, round_done}
+use Rattle.gtp_world.proofs.joined.JoinedLemmas.{seen_from, acted}
+use Rattle.gtp_world.proofs.joined.EventLemmas.{lawful_at, happens_keeps, reached_has}
+use Rattle.gtp_world.proofs.settling.RoundLemmas.{IsReady, RoundDone, round_done}
 use Rattle.gtp_world.specs.Joined.{Rules, rule_of, ruled, bare, IsJoined}
 use Rattle.gtp_world.specs.Laws.{rules_of}
 

@@ -29,9 +29,9 @@ use Rattle.gtp_world.specs.Joined.{Rules, rule_of, ruled, BareLane, bare, body_o
 use Rattle.gtp_world.specs.Laws.{rules_of}
 use Rattle.gtp_world.specs.EventLaws.{IsDown, HasNothing, BrokenWritesAreAlike, DownHasNothing, CrashesNeedAnEngine}
 use Rattle.gtp_world.specs.EventLaws.{OthersStay, NoByteHeardIsNothing, CutsOfReadingsJoin}
-use Rattle.gtp_world.proofs.Invariant.{seen_from, same_world}
-use Rattle.gtp_world.proofs.Happenings.{reached_has}
-use Rattle.gtp_world.proofs.Rounds.{no_bytes_heard}
+use Rattle.gtp_world.proofs.joined.JoinedLemmas.{seen_from, same_world}
+use Rattle.gtp_world.proofs.joined.EventLemmas.{reached_has}
+use Rattle.gtp_world.proofs.settling.RoundLemmas.{no_bytes_heard}
 
 -- ---- a side that is down has nothing
 

@@ -54,11 +54,11 @@ use Rattle.gtp_match.proofs.SoundLemmas.{idle_plan, nothing_told}
 use Rattle.gtp_match.proofs.ShorterLemmas.{turn_after}
 use Rattle.gtp_match.proofs.TurnLemmas.{has_stones}
 use Rattle.gtp_session.proofs.CommandLemmas.{well_answer, genmove_answer, genmove_asks, play_refused, undo_answer}
-use Rattle.gtp_world.proofs.OrderAnswers.{succeeds_with}
-use Rattle.gtp_world.proofs.ReplyReads.{well_heard, choice_heard, outcome_of_choice}
-use Rattle.gtp_world.proofs.Replay.{GoesWellOn, replayed_longer, replayed_shorter, with_moves}
-use Rattle.gtp_world.proofs.Replay.{get_after, EndsWith, ends_with, some_or_none, place}
-use Rattle.gtp_world.proofs.Sides.{live_any, live_at, alike}
+use Rattle.gtp_world.proofs.exchange.AnswerLemmas.{succeeds_with}
+use Rattle.gtp_world.proofs.exchange.ReplyLemmas.{well_heard, choice_heard, outcome_of_choice}
+use Rattle.gtp_world.proofs.exchange.ScriptLemmas.{GoesWellOn, replayed_longer, replayed_shorter, with_moves}
+use Rattle.gtp_world.proofs.exchange.ScriptLemmas.{get_after, EndsWith, ends_with, some_or_none, place}
+use Rattle.gtp_world.proofs.one_side.SideLemmas.{live_any, live_at, alike}
 use Rattle.gtp_world.specs.Exchange.{CanBeWritten, Answered, reply_with_id, replayed, Owes, AllMayBeSent}
 use Rattle.gtp_world.specs.Exchange.{all_reply_bytes}
 use Rattle.gtp_session.specs.CommandAnswers.{after_command, GoesWell}

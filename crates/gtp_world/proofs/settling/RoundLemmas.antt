@@ -42,13 +42,13 @@ use Rattle.gtp_world.specs.Lane.{Lane, written_lane, EngineReads, LaneReads}
 use Rattle.gtp_world.specs.World.{lane_with_next, Sends, lane_where_up, HearsFront, HearsWhereUp, SideHears}
 use Rattle.gtp_match.specs.Controller.{next_text}
 use Rattle.gtp_session.proofs.CommandLemmas.{well_answer}
-use Rattle.gtp_world.proofs.OrderAnswers.{answered_is_reply, succeeds_with}
-use Rattle.gtp_world.proofs.Replay.{GoesWellOn, script_well, well_at}
-use Rattle.gtp_world.proofs.Agreement.{reply_length}
-use Rattle.gtp_world.proofs.Sides.{quiet_or_first}
-use Rattle.gtp_world.proofs.Replying.{scripted_outcome}
-use Rattle.gtp_world.proofs.Happenings.{send_keeps, fed_keeps}
-use Rattle.gtp_world.proofs.Settle.{idle_lists_empty, no_orders_left, no_replies_left}
+use Rattle.gtp_world.proofs.exchange.AnswerLemmas.{answered_is_reply, succeeds_with}
+use Rattle.gtp_world.proofs.exchange.ScriptLemmas.{GoesWellOn, script_well, well_at}
+use Rattle.gtp_world.proofs.joined.AgreementLemmas.{reply_length}
+use Rattle.gtp_world.proofs.one_side.SideLemmas.{quiet_or_first}
+use Rattle.gtp_world.proofs.one_side.OutcomeLemmas.{scripted_outcome}
+use Rattle.gtp_world.proofs.joined.EventLemmas.{send_keeps, fed_keeps}
+use Rattle.gtp_world.proofs.settling.IdleLemmas.{idle_lists_empty, no_orders_left, no_replies_left}
 use Rattle.gtp_world.specs.Exchange.{Answered, reply_with_id, reply_bytes, replayed, Owes, all_reply_bytes}
 use Rattle.gtp_session.specs.CommandAnswers.{GoesWell, success_text}
 use Rattle.gtp_world.specs.Joined.{Rules, rule_of, ruled, EngineBody, body, BareLane, bare, IsJoinedInPlay, AreJoined}

@@ -29,10 +29,10 @@ use Rattle.gtp_match.proofs.ShorterLemmas.{shorter_length}
 use Rattle.gtp_match.proofs.SoundLemmas.{my_engine, idle_plan, script_grows, in_script, on_is_free, taken_at}
 use Rattle.gtp_world.specs.Exchange.{replayed, Answered, Owes, AllMayBeSent}
 use Rattle.gtp_world.specs.Joined.{ruled, IsPlayable}
-use Rattle.gtp_world.proofs.Invariant.{simple_game}
-use Rattle.gtp_world.proofs.Exchange.{owes_idle}
-use Rattle.gtp_world.proofs.Replying.{scripted_game}
-use Rattle.gtp_world.proofs.Replay.{after_one_more, replayed_all, EndsWith, Place, place}
+use Rattle.gtp_world.proofs.joined.JoinedLemmas.{simple_game}
+use Rattle.gtp_world.proofs.exchange.ExchangeLemmas.{owes_idle}
+use Rattle.gtp_world.proofs.one_side.OutcomeLemmas.{scripted_game}
+use Rattle.gtp_world.proofs.exchange.ScriptLemmas.{after_one_more, replayed_all, EndsWith, Place, place}
 
 -- the game after one command more of the script
 replayed_next : (game : GameRecord) (n : ℕ) (k : Command) → slice_get (script game) n ≡ Some k
