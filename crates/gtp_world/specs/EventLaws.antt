@@ -1,16 +1,13 @@
 -- Laws of one event: where it applies, what an `Act` does, which side it puts down, what it takes off the lists, and
 -- what it leaves.
-use Rattle.std.specs.Prelude.{◌≡◌, ◌≢◌, ◌⊎◌, ℕ, ◌+◌, pos, false, List, [], ◌++◌, take, drop, Option, None, Some}
+use Rattle.std.specs.Prelude.{◌≡◌, ◌≢◌, ◌⊎◌, ℕ, ◌+◌, pos, false, List, [], ◌++◌, take, drop, None, Some}
 use Rattle.go_base.specs.Colour.{other}
 use Rattle.go_base.specs.declared.colours.Colour.{Colour}
-use Rattle.go_base.specs.declared.colours.Colour.TheVariants.{Black, White}
 use Rattle.go_board.specs.Game.{GameRecord}
 use Rattle.go_board.specs.declared.rules.KoRule.{KoRule}
 use Rattle.gtp_session.specs.Engine.{Engine}
-use Rattle.gtp_match.specs.declared.sides.EngineRun.{EngineRun}
-use Rattle.gtp_match.specs.declared.verdicts.Action.{Action}
-use Rattle.gtp_match.specs.declared.verdicts.Action.TheVariants.{Start, Send, Wait, Done}
-use Rattle.gtp_match.specs.declared.controller.Controller.{Controller}
+use Rattle.gtp_match.specs.declared.sides.Incarnation.{Incarnation}
+use Rattle.gtp_match.specs.declared.verdicts.Action.TheVariants.{Start, Send}
 use Rattle.gtp_match.specs.Controller.{started, sent, next_text}
 use Rattle.gtp_match.specs.Next.{next}
 use Rattle.gtp_match.specs.Setup.{SetupRecord, IsSetup}
@@ -18,7 +15,10 @@ use Rattle.gtp_match.specs.Sides.{side_of}
 use Rattle.gtp_world.specs.declared.events.Event.{Event}
 use Rattle.gtp_world.specs.declared.events.Event.TheVariants.{Act, BrokenWrite, ToEngine, ToController, Crash, End}
 use Rattle.gtp_world.specs.Lane.{SidePolicies}
-use Rattle.gtp_world.specs.World.{World, opening, Happens, Runs, to_engine_of, to_controller_of}
+use Rattle.gtp_world.specs.Joined.{rule_of}
+use Rattle.gtp_world.specs.Laws.{rules_of}
+use Rattle.gtp_world.specs.World.{World, at_side, lane_of, SameLane, opening, side_of_event, policies_at, Happens, Runs}
+use Rattle.gtp_world.specs.World.{to_engine_of, to_controller_of}
 use Rattle.gtp_world.specs.Worlds.{game_at}
 
 -- ---- one side of a world
@@ -29,7 +29,7 @@ IsDown world side = (side_of world.controller.sides side).up ≡ None
 
 -- the controller counts the side as up
 abbrev pub IsUp : {B W : Type 0} → World B W → Colour → Type 0
-IsUp world side = (engine : EngineRun) × ((side_of world.controller.sides side).up ≡ Some engine)
+IsUp world side = (engine : Incarnation) × ((side_of world.controller.sides side).up ≡ Some engine)
 
 -- an engine of the side runs
 abbrev pub IsRunning : {B W : Type 0} → World B W → Colour → Type 0
@@ -40,11 +40,6 @@ pub record HasNothing {B W : Type 0} (world : World B W) (side : Colour) : Type 
   pub engine : game_at world side ≡ None
   pub to_engine : to_engine_of world side ≡ []
   pub to_controller : to_controller_of world side ≡ []
-
--- the side has the same engine and the same lists in both worlds
-abbrev pub SameLane : {B W : Type 0} → Colour → World B W → World B W → Type 0
-SameLane Black old new = new.black ≡ old.black
-SameLane White old new = new.white ≡ old.white
 
 -- the side's engine is gone, with what was on its way to it; of what it wrote the first `count` bytes are left, or all
 -- where there are fewer
@@ -72,11 +67,6 @@ pub record IsTakenToController {B W : Type 0} (old : World B W) (side : Colour) 
   pub to_controller : to_controller_of new side ≡ drop count (to_controller_of old side)
   pub others : SameLane (other side) old new
 
--- the ko rule of a side's engines
-abbrev pub own_rule : {B W : Type 0} → SidePolicies B → SidePolicies W → Colour → KoRule
-own_rule policies_black policies_white Black = policies_black.rule
-own_rule policies_black policies_white White = policies_white.rule
-
 -- The game of an engine that was given nothing: on an empty board of size 19, with komi 0, this ko rule, no handicap
 -- and no moves.
 abbrev pub game_from_nothing : KoRule → GameRecord
@@ -96,8 +86,8 @@ pub record IsStarted {B W : Type 0} (rule : KoRule) (old : World B W) (side : Co
   pub controller : new.controller ≡ started old.controller side
 
 -- The controller counts its next command to the side as sent, also where no engine runs. Where one runs, the command's
--- bytes stand behind what was on its way to it. The engine stays, and so does what is on its way to the controller.
-pub record IsSent {B W : Type 0} (old : World B W) (side : Colour) (up : EngineRun) (new : World B W)
+-- bytes come after what was on its way to it. The engine stays, and so does what is on its way to the controller.
+pub record IsSent {B W : Type 0} (old : World B W) (side : Colour) (up : Incarnation) (new : World B W)
     : Type 0 where
   pub controller : new.controller ≡ sent old.controller side
   pub engine : game_at new side ≡ game_at old side
@@ -117,24 +107,6 @@ Applies world (ToEngine side count) = IsRunning world side
 Applies world (ToController side count) = IsUp world side
 Applies world (Crash side count) = IsRunning world side
 Applies world (End side) = IsUp world side
-
--- ---- the side at which an event happens
-
--- the side that an action is for
-abbrev pub side_of_action : Action → Option Colour
-side_of_action (Start side) = Some side
-side_of_action (Send side) = Some side
-side_of_action (Wait side) = None
-side_of_action (Done verdict) = None
-
--- the side of an event, in a world of this controller
-abbrev pub side_of_event : Controller → Event → Option Colour
-side_of_event c Act = side_of_action (next c)
-side_of_event c (BrokenWrite count) = side_of_action (next c)
-side_of_event c (ToEngine side count) = Some side
-side_of_event c (ToController side count) = Some side
-side_of_event c (Crash side count) = Some side
-side_of_event c (End side) = Some side
 
 -- ---- the laws
 
@@ -186,7 +158,7 @@ module _ {B W : Type 0} (policies_black : SidePolicies B) (policies_white : Side
 
   -- bytes that reach the controller are taken off the list to it, as many as the event says, where the side stays up
   abbrev pub HearingsTakeTheirCount : Type 0
-  HearingsTakeTheirCount = (side : Colour) (count : ℕ) (old new : World B W) (engine : EngineRun)
+  HearingsTakeTheirCount = (side : Colour) (count : ℕ) (old new : World B W) (engine : Incarnation)
       → (side_of new.controller.sides side).up ≡ Some engine
       → Happens policies_black policies_white old (ToController side count) new
       → IsTakenToController old side count new
@@ -205,22 +177,19 @@ module _ {B W : Type 0} (policies_black : SidePolicies B) (policies_white : Side
 
   -- After a start the side has an engine that was given nothing, under the side's ko rule. Its policy is one that a
   -- start of the side may make.
-  pub record StartsMakePolicies : Type 0 where
-    pub black : (old new : World B W) → next old.controller ≡ Start Black
-        → Happens policies_black policies_white old Act new
-        → (policy : B) × policies_black.made policy
-        × (new.black.engine ≡ Some (engine_from_nothing policies_black.rule policy))
-    pub white : (old new : World B W) → next old.controller ≡ Start White
-        → Happens policies_black policies_white old Act new
-        → (policy : W) × policies_white.made policy
-        × (new.white.engine ≡ Some (engine_from_nothing policies_white.rule policy))
+  abbrev pub StartsMakePolicies : Type 0
+  StartsMakePolicies = (side : Colour) (old new : World B W) → next old.controller ≡ Start side
+      → Happens policies_black policies_white old Act new
+      → (policy : at_side B W side) × (policies_at policies_black policies_white side).made policy
+      × ((lane_of new side).engine
+      ≡ Some (engine_from_nothing (rule_of (rules_of policies_black policies_white) side) policy))
 
   -- an `Act` does what is next: it starts a side's engine, or sends a side its next command
   pub record ActsAreDone : Type 0 where
     pub starts : (side : Colour) (old new : World B W) → next old.controller ≡ Start side
         → Happens policies_black policies_white old Act new
-        → IsStarted (own_rule policies_black policies_white side) old side new
-    pub sends : (side : Colour) (up : EngineRun) (old new : World B W) → next old.controller ≡ Send side
+        → IsStarted (rule_of (rules_of policies_black policies_white) side) old side new
+    pub sends : (side : Colour) (up : Incarnation) (old new : World B W) → next old.controller ≡ Send side
         → (side_of old.controller.sides side).up ≡ Some up
         → Happens policies_black policies_white old Act new → IsSent old side up new
 

@@ -33,7 +33,7 @@ pub record CanBeWritten (sent : SentCommand) : Type 0 where
   pub writable : IsWritable sent.command
   pub limits : IsInLimits sent.command
 
--- commands, one behind the other
+-- commands, one after the other
 abbrev pub all_sent_bytes : List SentCommand → List ℕ
 all_sent_bytes [] = []
 all_sent_bytes (sent ∷ later) = sent_bytes sent ++ all_sent_bytes later
@@ -41,7 +41,7 @@ all_sent_bytes (sent ∷ later) = sent_bytes sent ++ all_sent_bytes later
 abbrev pub reply_bytes : Reply → List ℕ
 reply_bytes reply = written_reply reply.ok reply.id reply.text.items
 
--- replies, one behind the other
+-- replies, one after the other
 abbrev pub all_reply_bytes : List Reply → List ℕ
 all_reply_bytes [] = []
 all_reply_bytes (reply ∷ later) = reply_bytes reply ++ all_reply_bytes later
@@ -59,7 +59,7 @@ pub record Answered (before : GameRecord) (sent : SentCommand) (given : Reply) (
   pub lawful : IfSome (asked before (sent_line sent)) (λ colour. IsLawful before colour choice)
   pub game : after ≡ (answer before (sent_line sent) choice).game
   pub reply : given ≡ reply_with_id sent.id (answer before (sent_line sent) choice)
-  -- the id and the text can stand in a reply
+  -- the id and the text fit into a reply
   pub fits : sent.id ≤ most_int
   pub spoken : IsReplyText (answer before (sent_line sent) choice).text
 

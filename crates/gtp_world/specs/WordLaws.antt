@@ -7,8 +7,7 @@ use Rattle.go_base.specs.declared.moves.Move.{Move}
 use Rattle.go_board.specs.Game.{GameRecord, IsGame}
 use Rattle.go_board.specs.declared.rules.KoRule.{KoRule}
 use Rattle.go_board.specs.declared.rules.KoRule.TheVariants.{Simple, Positional}
-use Rattle.gtp_session.specs.Policy.{May}
-use Rattle.gtp_match.specs.declared.sides.EngineRun.{EngineRun}
+use Rattle.gtp_match.specs.declared.sides.Incarnation.{Incarnation}
 use Rattle.gtp_match.specs.declared.verdicts.Action.TheVariants.{Send, Done}
 use Rattle.gtp_match.specs.declared.verdicts.ForfeitCause.{ForfeitCause}
 use Rattle.gtp_match.specs.declared.verdicts.ForfeitCause.TheVariants.{RefusedPlay}
@@ -22,12 +21,12 @@ use Rattle.gtp_match.specs.Setup.{SetupRecord, IsSetup}
 use Rattle.gtp_match.specs.Sides.{side_of}
 use Rattle.gtp_world.specs.declared.events.Event.{Event}
 use Rattle.gtp_world.specs.declared.events.Event.TheVariants.{BrokenWrite, End}
-use Rattle.gtp_world.specs.EventLaws.{IsUp, IsRunning, own_rule}
+use Rattle.gtp_world.specs.EventLaws.{IsUp, IsRunning}
 use Rattle.gtp_world.specs.Lane.{SidePolicies}
 use Rattle.gtp_world.specs.World.{World, opening, Runs, Holds, Agrees, to_engine_of, to_controller_of}
-use Rattle.gtp_world.specs.Worlds.{MadeWorld, MadeReached, game_at, rule_at, HoldsInStep, SameInStep}
+use Rattle.gtp_world.specs.Worlds.{Making, MadeWorld, MadeReached, game_at, rule_at, HoldsInStep, SameInStep}
 use Rattle.gtp_world.specs.Joined.{Rules, rule_of, ruled, IsFair}
-use Rattle.gtp_world.specs.Laws.{PutsDown}
+use Rattle.gtp_world.specs.Laws.{PutsDown, rules_of}
 use Rattle.gtp_world.specs.Settle.{MaySettle, IsSettled, settle}
 
 -- ---- holding, agreeing
@@ -85,12 +84,12 @@ PuttingDownIsBreaking B W = (world : World B W) (event : Event) (side : Colour) 
 
 -- ---- the headline, with the ko rules
 
-module _ {M N B W : Type 0} (may_b : May B) (may_w : May W) (made_b : M → B → Type 0) (made_w : N → W → Type 0) where
+module _ {M N B W : Type 0} (black_by : Making M → SidePolicies B) (white_by : Making N → SidePolicies W) where
   -- in every world that was reached, an engine that runs and is in step is at the controller's game, under its own
   -- side's ko rule
   abbrev pub EnginesInStepAreThere : Type 0
   EnginesInStepAreThere = (made : MadeWorld M N B W) (side : Colour) (game : GameRecord)
-      → MadeReached may_b may_w made_b made_w made
+      → MadeReached black_by white_by made
       → game_at made.world side ≡ Some game → in_step made.world.controller side ≡ true
       → game ≡ ruled (rule_at made side) made.world.controller.game
 
@@ -101,7 +100,7 @@ module _ {M N B W : Type 0} (may_b : May B) (may_w : May W) (made_b : M → B �
 pub record IsQuiet {B W : Type 0} (rule : Colour → KoRule) (world : World B W) : Type 0 where
   pub not_done : (verdict : Verdict) → next world.controller ≢ Done verdict
   pub running : (side : Colour) → IsUp world side → IsRunning world side
-  pub answered : (side : Colour) (engine : EngineRun) → (side_of world.controller.sides side).up ≡ Some engine
+  pub answered : (side : Colour) (engine : Incarnation) → (side_of world.controller.sides side).up ≡ Some engine
       → engine.unanswered ≡ []
   pub none_taken_back : world.controller.pending ≡ None
   pub games : (side : Colour) → IsGame (ruled (rule side) world.controller.game)
@@ -125,16 +124,16 @@ module _ {B W : Type 0} (policies_black : SidePolicies B) (policies_white : Side
   abbrev pub SettledIsCaughtUp : Type 0
   SettledIsCaughtUp = (setup : SetupRecord) (events : List Event) (old new : World B W) (side : Colour) → IsSetup setup
       → Runs policies_black policies_white (opening setup) events new → IsSettled old new
-      → IsCaughtUp (own_rule policies_black policies_white side) old side new
+      → IsCaughtUp (rule_of (rules_of policies_black policies_white) side) old side new
 
   -- from a reached world in which nothing is going on, the events that settle it make both sides catch up
   abbrev pub QuietWorldsCatchUp : Type 0
   QuietWorldsCatchUp =
       (setup : SetupRecord) (events : List Event) (old new : World B W) (side : Colour) → IsSetup setup
       → Runs policies_black policies_white (opening setup) events old
-      → IsQuiet (own_rule policies_black policies_white) old
+      → IsQuiet (rule_of (rules_of policies_black policies_white)) old
       → Runs policies_black policies_white old (settle old.controller) new
-      → IsCaughtUp (own_rule policies_black policies_white side) old side new
+      → IsCaughtUp (rule_of (rules_of policies_black policies_white) side) old side new
 
   -- over every list of events from the opening: a side that was started more often than it may be restarted is up, as
   -- long as the controller isn't done

@@ -2,8 +2,8 @@
 ghost use Rattle.gtp_session.specs.Policy.{IsLawful};
 
 use super::SIDES;
+use super::recorded::Events;
 use super::same::{assert_same_game, assert_same_world};
-use super::told::Events;
 use crate::equal::{assert_equal, assert_true, some};
 use crate::{Event, Maker, World};
 use go_base::{Colour, Komi, Side, Size, Vertex};
@@ -116,7 +116,7 @@ impl Draws {
     }
 
     /// An event of a match that is to get far: often one that brings it forward, and else any. While a move is to be
-    /// taken back, a side is lost more often.
+    /// taken back, a side fails more often.
     fn event_of(&mut self, world: &DrawnWorld) -> Event {
         if self.below(4) == 0 {
             return self.event();

@@ -20,11 +20,12 @@ fn the_laws_hold_of_each_maker() {
     laws::a_side_that_is_down_has_nothing::<Firsts, Firsts>();
     laws::a_crash_stops_and_cuts::<Firsts, Firsts>();
     laws::the_other_side_stays::<Firsts, Firsts>();
+    laws::the_table_is_of_both_sides::<Firsts, Firsts>();
     laws::an_engine_is_given_as_many_bytes_as_come::<Firsts, Firsts>();
     laws::the_controller_is_given_as_many_bytes_as_come::<Firsts, Firsts>();
-    laws::the_words_say_no_less::<Firsts, Firsts>();
+    laws::the_words_are_as_strong::<Firsts, Firsts>();
     laws::engines_in_step_are_there::<Firsts, Firsts>();
     laws::settled_worlds_are_caught_up::<Firsts, Firsts>();
-    laws::who_has_no_start_left_is_up::<Firsts, Firsts>();
+    laws::a_side_with_no_start_left_is_up::<Firsts, Firsts>();
     laws::events_do_what_they_say::<Firsts, Firsts>();
 }

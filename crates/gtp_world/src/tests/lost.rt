@@ -1,6 +1,6 @@
 //! Engines that are gone, and writes that break.
+use super::recorded::{Recorded, black_lost, black_moved};
 use super::same::assert_same_world;
-use super::told::{Told, black_lost, black_moved};
 use crate::Event;
 use crate::equal::{assert_equal, assert_true};
 use go_base::Side;
@@ -9,70 +9,74 @@ use std::process::Abort;
 
 #[test]
 fn a_move_that_was_made_and_not_heard_is_lost_with_its_engine(rt: HostRuntime) {
-    let mut told = black_lost(&rt);
-    told.step(&rt, Event::Act);
-    assert_true(&rt, told.world.running(Side::Black).is_some());
-    assert_true(&rt, !told.in_step(Side::Black));
-    told.rounds(&rt, Side::Black, 3);
-    assert_true(&rt, told.in_step(Side::Black));
-    assert_true(&rt, told.in_step(Side::White));
-    assert_equal(&rt, told.world.controller().restarts(Side::Black), 1);
+    let mut recorded = black_lost(&rt);
+    recorded.step(&rt, Event::Act);
+    assert_true(&rt, recorded.world.running(Side::Black).is_some());
+    assert_true(&rt, !recorded.in_step(Side::Black));
+    recorded.rounds(&rt, Side::Black, 3);
+    assert_true(&rt, recorded.in_step(Side::Black));
+    assert_true(&rt, recorded.in_step(Side::White));
+    assert_equal(&rt, recorded.world.controller().restarts(Side::Black), 1);
     assert_equal(
         &rt,
-        told.world.controller().next(),
+        recorded.world.controller().next(),
         Action::Send(Side::Black),
     );
-    told.step(&rt, Event::Act);
+    recorded.step(&rt, Event::Act);
     assert_equal(
         &rt,
-        told.world.to_engine(Side::Black),
+        recorded.world.to_engine(Side::Black),
         b"4 genmove b\n".as_slice(),
     );
-    told.assert_one_run(&rt);
+    recorded.assert_one_run(&rt);
 }
 
 #[test]
 fn a_reply_that_a_crash_cut_short_answers_nothing(rt: HostRuntime) {
-    let mut told = black_moved(&rt);
-    told.step(&rt, Event::Crash(Side::Black, 6));
+    let mut recorded = black_moved(&rt);
+    recorded.step(&rt, Event::Crash(Side::Black, 6));
     assert_equal(
         &rt,
-        told.world.to_controller(Side::Black),
+        recorded.world.to_controller(Side::Black),
         b"=4 A1\n".as_slice(),
     );
-    told.step(&rt, Event::ToController(Side::Black, 100));
-    assert_equal(&rt, told.world.to_controller(Side::Black), b"".as_slice());
+    recorded.step(&rt, Event::ToController(Side::Black, 100));
+    assert_equal(
+        &rt,
+        recorded.world.to_controller(Side::Black),
+        b"".as_slice(),
+    );
     let asked = Status::Up {
         confirmed: 3,
         unanswered: 1,
         asked: true,
     };
-    assert_equal(&rt, told.status(Side::Black), asked);
-    told.step(&rt, Event::End(Side::Black));
-    assert_equal(&rt, told.status(Side::Black), Status::Down);
-    assert_equal(&rt, told.record_len(), 0);
-    told.assert_one_run(&rt);
+    assert_equal(&rt, recorded.status(Side::Black), asked);
+    recorded.step(&rt, Event::End(Side::Black));
+    assert_equal(&rt, recorded.status(Side::Black), Status::Down);
+    assert_equal(&rt, recorded.record_len(), 0);
+    recorded.assert_one_run(&rt);
 }
 
 #[test]
 fn the_last_byte_of_a_reply_answers(rt: HostRuntime) {
-    let mut told = black_moved(&rt);
-    told.step(&rt, Event::ToController(Side::Black, 6));
-    assert_equal(&rt, told.record_len(), 0);
-    assert_true(&rt, !told.in_step(Side::Black));
-    told.step(&rt, Event::ToController(Side::Black, 1));
-    assert_equal(&rt, told.record_len(), 1);
-    assert_true(&rt, told.in_step(Side::Black));
-    assert_true(&rt, !told.in_step(Side::White));
-    told.assert_one_run(&rt);
+    let mut recorded = black_moved(&rt);
+    recorded.step(&rt, Event::ToController(Side::Black, 6));
+    assert_equal(&rt, recorded.record_len(), 0);
+    assert_true(&rt, !recorded.in_step(Side::Black));
+    recorded.step(&rt, Event::ToController(Side::Black, 1));
+    assert_equal(&rt, recorded.record_len(), 1);
+    assert_true(&rt, recorded.in_step(Side::Black));
+    assert_true(&rt, !recorded.in_step(Side::White));
+    recorded.assert_one_run(&rt);
 }
 
 /// The world in which `sent` bytes of Black's move went out to White before the write broke.
-fn broken_after(rt: &impl Abort, sent: usize) -> Told {
-    let mut told = black_moved(rt);
-    told.step(rt, Event::ToController(Side::Black, 7));
-    told.step(rt, Event::BrokenWrite(sent));
-    told
+fn broken_after(rt: &impl Abort, sent: usize) -> Recorded {
+    let mut recorded = black_moved(rt);
+    recorded.step(rt, Event::ToController(Side::Black, 7));
+    recorded.step(rt, Event::BrokenWrite(sent));
+    recorded
 }
 
 #[test]

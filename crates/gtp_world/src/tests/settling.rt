@@ -1,7 +1,7 @@
 //! Worlds that settle.
 use super::SIDES;
+use super::recorded::{Events, Recorded, black_lost};
 use super::same::assert_same_game;
-use super::told::{Events, Told, black_lost};
 use crate::equal::{assert_equal, assert_true, some};
 use crate::{Event, Maker, World};
 use gtp_match::Status;
@@ -34,28 +34,28 @@ fn settling<B: Maker, W: Maker>(rt: &impl Abort, world: &World<B, W>) -> Events 
 }
 
 /// The world settles by `count` events, and its record stays.
-fn assert_settles(rt: &impl Abort, told: &mut Told, count: usize) {
-    let events = settling(rt, &told.world);
+fn assert_settles(rt: &impl Abort, recorded: &mut Recorded, count: usize) {
+    let events = settling(rt, &recorded.world);
     assert_equal(rt, events.all(rt).len(), count);
-    let before = told.record_len();
-    told.world.run(events.all(rt));
+    let before = recorded.record_len();
+    recorded.world.run(events.all(rt));
     for side in SIDES {
-        assert_true(rt, told.in_step(side));
-        let game = some(rt, told.world.running(side));
-        assert_same_game(rt, game, told.world.controller().game());
+        assert_true(rt, recorded.in_step(side));
+        let game = some(rt, recorded.world.running(side));
+        assert_same_game(rt, game, recorded.world.controller().game());
     }
-    assert_equal(rt, told.record_len(), before);
+    assert_equal(rt, recorded.record_len(), before);
 }
 
 #[test]
 fn a_new_world_settles_by_twenty_events(rt: HostRuntime) {
-    assert_settles(&rt, &mut Told::new(&rt), 20);
+    assert_settles(&rt, &mut Recorded::new(&rt), 20);
 }
 
 #[test]
 fn a_world_that_lost_an_engine_settles_by_ten_events(rt: HostRuntime) {
-    let mut told = black_lost(&rt);
-    assert_settles(&rt, &mut told, 10);
+    let mut recorded = black_lost(&rt);
+    assert_settles(&rt, &mut recorded, 10);
     // Then no event is left.
-    assert_settles(&rt, &mut told, 0);
+    assert_settles(&rt, &mut recorded, 0);
 }

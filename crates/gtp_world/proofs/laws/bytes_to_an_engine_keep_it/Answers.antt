@@ -1,10 +1,8 @@
 use Rattle.gtp_world.specs.declared.events.Event.TheVariants.{ToEngine}
-use Rattle.gtp_world.specs.Worlds.{policies_by}
-use Rattle.gtp_world.proofs.Happenings.{happens_keeps}
+use Rattle.gtp_world.proofs.joined.EventLemmas.{happens_keeps}
 use Rattle.gtp_world.proofs.laws.bytes_to_an_engine_keep_it.Goals as goal
 
 pub returns : goal.returns
-returns g c side count black white rule_black rule_white old new joined happens =
-    happens_keeps (policies_by g.B.Made.Policy.may g.B.Maker.may_make black rule_black)
-    (policies_by g.W.Made.Policy.may g.W.Maker.may_make white rule_white)
+returns g c side count black white old new joined happens =
+    happens_keeps _ _
     g.met.B.Made.Policy.lawful g.met.W.Made.Policy.lawful old (ToEngine side count) new happens joined

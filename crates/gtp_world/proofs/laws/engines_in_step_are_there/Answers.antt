@@ -1,4 +1,4 @@
-use Rattle.gtp_world.proofs.There.{engines_are_there}
+use Rattle.gtp_world.proofs.joined.InStepLemmas.{engines_are_there}
 use Rattle.gtp_world.proofs.laws.engines_in_step_are_there.Goals as goal
 
 pub returns : goal.returns

@@ -1,4 +1,4 @@
-use Rattle.gtp_world.proofs.Agreement.{inv_agrees}
+use Rattle.gtp_world.proofs.joined.AgreementLemmas.{inv_agrees}
 use Rattle.gtp_world.proofs.laws.joined_worlds_agree.Goals as goal
 
 pub returns : goal.returns

@@ -1,4 +1,4 @@
-use Rattle.gtp_world.proofs.Happenings.{opening_has}
+use Rattle.gtp_world.proofs.joined.EventLemmas.{opening_has}
 use Rattle.gtp_world.proofs.laws.openings_are_joined.Goals as goal
 
 pub returns : goal.returns

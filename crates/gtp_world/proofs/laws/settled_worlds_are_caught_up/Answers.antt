@@ -1,18 +1,15 @@
-use Rattle.gtp_world.specs.Worlds.{policies_by}
-use Rattle.gtp_world.proofs.CaughtUp.{openings_settle, quiet_catches_up, settled_is}
+use Rattle.gtp_world.proofs.settling.CaughtUpLemmas.{openings_settle, quiet_catches_up, settled_is}
 use Rattle.gtp_world.proofs.laws.settled_worlds_are_caught_up.Goals as goal
 
 pub returns-clause-openings : goal.returns-clause-openings
 returns-clause-openings g c = openings_settle
 
 pub returns-clause-quiet : goal.returns-clause-quiet
-returns-clause-quiet g c black white rule_black rule_white =
-    quiet_catches_up (policies_by g.B.Made.Policy.may g.B.Maker.may_make black rule_black)
-    (policies_by g.W.Made.Policy.may g.W.Maker.may_make white rule_white)
+returns-clause-quiet g c black white =
+    quiet_catches_up _ _
     g.met.B.Made.Policy.lawful g.met.W.Made.Policy.lawful
 
 pub returns-clause-settled : goal.returns-clause-settled
-returns-clause-settled g c black white rule_black rule_white =
-    settled_is (policies_by g.B.Made.Policy.may g.B.Maker.may_make black rule_black)
-    (policies_by g.W.Made.Policy.may g.W.Maker.may_make white rule_white)
+returns-clause-settled g c black white =
+    settled_is _ _
     g.met.B.Made.Policy.lawful g.met.W.Made.Policy.lawful

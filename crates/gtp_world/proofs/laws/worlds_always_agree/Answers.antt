@@ -1,9 +1,7 @@
-use Rattle.gtp_world.specs.Worlds.{policies_by}
-use Rattle.gtp_world.proofs.Agreement.{agreement}
+use Rattle.gtp_world.proofs.joined.AgreementLemmas.{agreement}
 use Rattle.gtp_world.proofs.laws.worlds_always_agree.Goals as goal
 
 pub returns : goal.returns
-returns g c black white rule_black rule_white =
-    agreement (policies_by g.B.Made.Policy.may g.B.Maker.may_make black rule_black)
-    (policies_by g.W.Made.Policy.may g.W.Maker.may_make white rule_white)
+returns g c black white =
+    agreement _ _
     g.met.B.Made.Policy.lawful g.met.W.Made.Policy.lawful

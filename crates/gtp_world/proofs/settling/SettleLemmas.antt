@@ -1,0 +1,496 @@
+-- Catching up: the starts, the rounds of Black, and the rounds of White.
+use Rattle.std.proofs.Common.{◌≡◌, ℕ, zero, suc, ◌+◌, ◌<◌, ◌≤◌, true, false, List, [], ◌∷◌, ◌++◌, length, drop, Option}
+use Rattle.std.proofs.Common.{Some, None, slice_get, refl, sym, ◌∙◌, ap, subst, arith}
+use Rattle.std.specs.Prelude.{◌&&◌, ◌==◌, not, nat_lt, is_some, IsSome}
+use Rattle.std.proofs.lemmas.Bool.Decides.{nat_tests}
+use Rattle.std.proofs.lemmas.List.{append-nil}
+use Rattle.go_base.specs.Colour.{other}
+use Rattle.go_base.specs.declared.colours.Colour.{Colour}
+use Rattle.go_base.specs.declared.colours.Colour.TheVariants.{Black, White}
+use Rattle.go_board.specs.Game.{GameRecord, IsGame}
+use Rattle.gtp_wire.specs.declared.commands.Command.{Command}
+use Rattle.gtp_session.proofs.Policies.{AllowsLawful}
+use Rattle.gtp_session.specs.Engine.{Engine, fresh_under}
+use Rattle.gtp_match.specs.declared.unanswered.SentCommand.{SentCommand}
+use Rattle.gtp_match.specs.declared.sides.Incarnation.{Incarnation}
+use Rattle.gtp_match.specs.declared.verdicts.Action.TheVariants.{Start, Send}
+use Rattle.gtp_match.specs.declared.controller.Controller.{Controller}
+use Rattle.gtp_match.specs.Controller.{to_move, engine_in_step, in_step}
+use Rattle.gtp_match.specs.Next.{has_unanswered, must_answer, is_down, has_script_left, next_of_idle, next_of_free}
+use Rattle.gtp_match.specs.Next.{next}
+use Rattle.gtp_match.specs.declared.verdicts.Verdict.{Verdict}
+use Rattle.gtp_match.specs.Taking.{taking_back, unless_over}
+use Rattle.gtp_match.specs.Sound.{all_retakes}
+use Rattle.gtp_match.specs.Unanswered.{none_unanswered}
+use Rattle.gtp_match.specs.Script.{script}
+use Rattle.gtp_match.specs.Sides.{side_of, new_incarnation}
+use Rattle.gtp_match.specs.Sound.{IsIdle}
+use Rattle.gtp_match.proofs.NextLemmas.{IdleTests, idle_tests_of, tests_of, next_live, at_idle, at_black_down}
+use Rattle.gtp_match.proofs.NextLemmas.{at_white_down, at_black_script_left, at_white_script_left}
+use Rattle.gtp_match.proofs.SoundLemmas.{my_engine, idle_plan}
+use Rattle.gtp_world.specs.declared.events.Event.{Event}
+use Rattle.gtp_world.specs.declared.events.Event.TheVariants.{Act, ToEngine, ToController}
+use Rattle.gtp_world.specs.Lane.{Lane, SidePolicies}
+use Rattle.gtp_world.specs.World.{World, lane_of, SideHears, policies_at, Happens, Runs}
+use Rattle.gtp_world.specs.Settle.{start_of, script_left, round, rounds, RunsWhereUp, MaySettle, IsSettled, Settles}
+use Rattle.gtp_world.proofs.joined.JoinedLemmas.{seen_from, acted}
+use Rattle.gtp_world.proofs.joined.EventLemmas.{lawful_at, happens_keeps, reached_has}
+use Rattle.gtp_world.proofs.settling.RoundLemmas.{IsReady, RoundDone, round_done}
+use Rattle.gtp_world.specs.Joined.{Rules, rule_of, ruled, bare, IsJoined}
+use Rattle.gtp_world.specs.Laws.{rules_of}
+
+-- ---- what comes next
+
+-- nothing is unanswered of a side that is idle
+free_of : (game : GameRecord) (up : Option Incarnation) → IsIdle up → must_answer game up ≡ false
+free_of game None idle = refl
+free_of game (Some u) idle = ap (λ (os : List SentCommand). must_answer game (Some (record u { unanswered = os }))) idle
+
+none_of : (up : Option Incarnation) → IsIdle up → has_unanswered up ≡ false
+none_of None idle = refl
+none_of (Some u) idle = ap (λ (os : List SentCommand). not (none_unanswered os)) idle
+
+-- so the last lines say what comes next
+next_where_idle : (c : Controller) → c.verdict ≡ None → c.pending ≡ None → IsIdle c.sides.black.up
+    → IsIdle c.sides.white.up
+    → next c ≡ next_of_idle c.game c.sides.black.up c.sides.white.up
+next_where_idle c none free black white =
+    next_live c none
+    ∙ sym (at_idle (tests_of c.game c.sides.black.up c.sides.white.up)
+    (next_of_free c.pending c.game c.sides.black.up c.sides.white.up)
+    (record {
+      black_free = free_of c.game c.sides.black.up black;
+      white_free = free_of c.game c.sides.white.up white;
+      black_idle = none_of c.sides.black.up black;
+      white_idle = none_of c.sides.white.up white;
+    }))
+    ∙ ap (λ (p : Option Colour). next_of_free p c.game c.sides.black.up c.sides.white.up) free
+
+idle_down : (up : Option Incarnation) → up ≡ None → IsIdle up
+idle_down up down = subst IsIdle (sym down) tt
+
+idle_up : (up : Option Incarnation) (u : Incarnation) → up ≡ Some u → u.unanswered ≡ [] → IsIdle up
+idle_up up u is idle = subst IsIdle (sym is) idle
+
+starts_black : (c : Controller) → c.verdict ≡ None → c.pending ≡ None → IsIdle c.sides.white.up
+    → c.sides.black.up ≡ None
+    → next c ≡ Start Black
+starts_black c none free idle down =
+    next_where_idle c none free (idle_down c.sides.black.up down) idle
+    ∙ sym (at_black_down (to_move c.game) (idle_tests_of c.game c.sides.black.up c.sides.white.up) (ap is_down down))
+
+starts_white : (c : Controller) (black : Incarnation) → c.verdict ≡ None → c.pending ≡ None
+    → c.sides.black.up ≡ Some black
+    → black.unanswered ≡ [] → c.sides.white.up ≡ None → next c ≡ Start White
+starts_white c black none free up idle down =
+    next_where_idle c none free (idle_up c.sides.black.up black up idle) (idle_down c.sides.white.up down)
+    ∙ sym (at_white_down (to_move c.game) (idle_tests_of c.game c.sides.black.up c.sides.white.up) (ap is_down up)
+    (ap is_down down))
+
+lacks_some : (game : GameRecord) (u : Incarnation) → u.unanswered ≡ [] → u.confirmed < length (script game)
+    → has_script_left game (Some u) ≡ true
+lacks_some game u idle less =
+    below (u.confirmed + length u.unanswered) (length (script game)) (omega (arith, less, ap length idle))
+  where
+    below : (m n : ℕ) → m < n → nat_lt m n ≡ true
+    below m n h = grind (arith, nat_tests)
+
+lacks_none : (game : GameRecord) (u : Incarnation) → length (script game) ≤ u.confirmed
+    → has_script_left game (Some u) ≡ false
+lacks_none game u all = above (u.confirmed + length u.unanswered) (length (script game)) (omega (arith, all))
+  where
+    above : (m n : ℕ) → n ≤ m → nat_lt m n ≡ false
+    above m n h = grind (arith, nat_tests)
+
+module _ (c : Controller) (black white : Incarnation) (none : c.verdict ≡ None) (free : c.pending ≡ None)
+    (black_up : c.sides.black.up ≡ Some black) (white_up : c.sides.white.up ≡ Some white)
+    (black_idle : black.unanswered ≡ []) (white_idle : white.unanswered ≡ []) where
+  abbrev tests : IdleTests
+  tests = idle_tests_of c.game c.sides.black.up c.sides.white.up
+
+  next_is : next c ≡ next_of_idle c.game c.sides.black.up c.sides.white.up
+  next_is =
+      next_where_idle c none free (idle_up c.sides.black.up black black_up black_idle)
+      (idle_up c.sides.white.up white white_up white_idle)
+
+  sends_black : black.confirmed < length (script c.game) → next c ≡ Send Black
+  sends_black less =
+      next_is
+      ∙ sym (at_black_script_left (to_move c.game) tests (ap is_down black_up)
+      (ap is_down white_up) (ap (has_script_left c.game) black_up ∙ lacks_some c.game black black_idle less))
+
+  sends_white : length (script c.game) ≤ black.confirmed → white.confirmed < length (script c.game)
+      → next c ≡ Send White
+  sends_white all less =
+      next_is
+      ∙ sym (at_white_script_left (to_move c.game) tests (ap is_down black_up)
+      (ap is_down white_up) (ap (has_script_left c.game) black_up ∙ lacks_none c.game black all)
+      (ap (has_script_left c.game) white_up ∙ lacks_some c.game white white_idle less))
+
+-- the side is next to be sent its script: Black at once, White where Black has confirmed as many commands as it has
+abbrev MaySend : GameRecord → Colour → ℕ → Type 0
+MaySend game Black black = Unit {0}
+MaySend game White black = length (script game) ≤ black
+
+sends_side : (c : Controller) (s : Colour) (mine theirs : Incarnation) → c.verdict ≡ None → c.pending ≡ None
+    → (side_of c.sides s).up ≡ Some mine → (side_of c.sides (other s)).up ≡ Some theirs → mine.unanswered ≡ []
+    → theirs.unanswered ≡ [] → mine.confirmed < length (script c.game) → MaySend c.game s theirs.confirmed
+    → next c ≡ Send s
+sends_side c Black mine theirs none free up others idle others_idle less may =
+    sends_black c mine theirs none free up others idle others_idle less
+sends_side c White mine theirs none free up others idle others_idle less may =
+    sends_white c theirs mine none free others up others_idle idle may less
+
+-- ---- lists
+
+drop_head : {A : Type 0} (xs : List A) (n : ℕ) (x : A) (left : List A) → drop n xs ≡ x ∷ left
+    → (slice_get xs n ≡ Some x) × (drop (suc n) xs ≡ left) × (n < length xs)
+drop_head [] zero x left e = absurd (cc e)
+drop_head [] (suc n) x left e = absurd (cc e)
+drop_head (y ∷ xs) zero x left e = let head : y ≡ x = cc e in (ap (λ (z : _). Some z) head, cc e, omega arith)
+drop_head (y ∷ xs) (suc n) x left e = let rest = drop_head xs n x left e in (rest.0, rest.1, omega (arith, rest.2))
+
+drop_none : {A : Type 0} (xs : List A) (n : ℕ) → drop n xs ≡ [] → length xs ≤ n
+drop_none [] n e = omega arith
+drop_none (x ∷ xs) zero e = absurd (cc e)
+drop_none (x ∷ xs) (suc n) e = omega (arith, drop_none xs n e)
+
+some_of : {A : Type 0} (o : Option A) → IsSome o → (x : A) × (o ≡ Some x)
+some_of None h = absurd (cc h)
+some_of (Some x) h = (x, refl)
+
+-- a side stays as it was
+stays_ready : {P : Type 0} (up up2 : Option Incarnation) (l l2 : Lane P) (n : ℕ) → up2 ≡ up → l2 ≡ l → IsReady up l n
+    → IsReady up2 l2 n
+stays_ready {P} up up2 l l2 n e f h = record {
+  incarnation = h.incarnation;
+  is_up = e ∙ h.is_up;
+  idle = h.idle;
+  confirmed = h.confirmed;
+  running = h.running;
+  runs = ap (λ (x : Lane P). x.engine) f ∙ h.runs;
+}
+
+-- a side that was just started
+new_ready : {P : Type 0} (up : Option Incarnation) (l : Lane P) (e : Engine P) → up ≡ Some new_incarnation
+    → l.engine ≡ Some e → IsReady up l 0
+new_ready up l e is runs =
+    record { incarnation = new_incarnation; is_up = is; idle = refl; confirmed = refl; running = e; runs = runs }
+
+module _ {B W : Type 0} (mb : SidePolicies B) (mw : SidePolicies W) (law_b : AllowsLawful mb.may)
+    (law_w : AllowsLawful mw.may) where
+  -- the ko rules of both sides
+  abbrev rules : Rules
+  rules = rules_of mb mw
+
+  -- Both sides are up with running engines and nothing unanswered. The side has confirmed as many commands as the first
+  -- count says, and the other side as many as the second.
+  record Settling (game : GameRecord) (v : World B W) (s : Colour) (mine theirs : ℕ) : Type 0 where
+    inv : IsJoined rules v
+    none : v.controller.verdict ≡ None
+    free : v.controller.pending ≡ None
+    games : (side : Colour) → IsGame (ruled (rule_of rules side) v.controller.game)
+    game_is : v.controller.game ≡ game
+    own : IsReady (side_of v.controller.sides s).up (lane_of v s) mine
+    others : IsReady (side_of v.controller.sides (other s)).up (lane_of v (other s)) theirs
+
+  -- it is seen from White
+  turned : (game : GameRecord) (v : World B W) (n m : ℕ) → Settling game v Black n m → Settling game v White m n
+  turned game v n m h = record {
+    inv = h.inv;
+    none = h.none;
+    free = h.free;
+    games = h.games;
+    game_is = h.game_is;
+    own = h.others;
+    others = h.own;
+  }
+
+  within : (game : GameRecord) (v : World B W) (s : Colour) (n m : ℕ) → Settling game v s n m
+      → n ≤ length (script game)
+  within game v s n m h =
+      let u = h.own.incarnation in
+      let few : u.confirmed ≤ length (script v.controller.game) =
+      idle_plan v.controller.game v.controller.pending (all_retakes v.controller) s u
+      ((my_engine v.controller s u h.inv.sound h.own.is_up).under_way h.none) h.own.idle in
+      omega (arith, few, h.own.confirmed, ap (λ (g : GameRecord). length (script g)) h.game_is)
+
+  -- what some of the events lead to, and the rest of them
+  record Reaches (game : GameRecord) (s : Colour) (mine theirs : ℕ) (later : List Event) (last : World B W)
+      : Type 0 where
+    world : World B W
+    settling : Settling game world s mine theirs
+    rest : Runs mb mw world later last
+
+  keeps : (v : World B W) (e : Event) (v2 : World B W) → Happens mb mw v e v2 → IsJoined rules v → IsJoined rules v2
+  keeps v e v2 h j = happens_keeps mb mw law_b law_w v e v2 h j
+
+  -- the game stays one under the ko rule of each side
+  still_games : (rules : Rules) (c c2 : Controller) → c2.game ≡ c.game
+      → ((side : Colour) → IsGame (ruled (rule_of rules side) c.game)) → (side : Colour)
+      → IsGame (ruled (rule_of rules side) c2.game)
+  still_games rules c c2 same games side =
+      let G : GameRecord → Type 0 = λ g. IsGame (ruled (rule_of rules side) g) in subst G (sym same) (games side)
+
+  -- a round of a side
+  side_round : (game : GameRecord) (k : Command) (v last : World B W) (s : Colour) (n m : ℕ) (later : List Event)
+      → Settling game v s n m → MaySend game s m → slice_get (script game) n ≡ Some k → n < length (script game)
+      → Runs mb mw v (round s ++ later) last → Reaches game s (n + 1) m later last
+  side_round game k v last s n m later h may scripted less (Runs.then_ {mid = v1} a
+      (Runs.then_ {mid = v2} b (Runs.then_ {mid = v3} d rest))) =
+      let c = v.controller in
+      let fewer : h.own.incarnation.confirmed < length (script c.game) =
+      omega (arith, less, h.own.confirmed, ap (λ (g : GameRecord). length (script g)) h.game_is) in
+      let turn : MaySend c.game s h.others.incarnation.confirmed =
+      subst (λ (g : GameRecord). MaySend g s h.others.incarnation.confirmed) (sym h.game_is)
+      (subst (MaySend game s) (sym h.others.confirmed) may) in
+      let is : next c ≡ Send s =
+      sends_side c s h.own.incarnation h.others.incarnation h.none h.free h.own.is_up h.others.is_up h.own.idle
+      h.others.idle fewer turn in
+      let acts = acted mb mw (Send s) s refl v v1 is a in
+      let hears : SideHears s v1.controller (lane_of v2 s) 100 v3.controller (lane_of v3 s) =
+      subst (λ (x : Controller). SideHears s x (lane_of v2 s) 100 v3.controller (lane_of v3 s)) b.0.0 d.0 in
+      let here : slice_get (script c.game) n ≡ Some k =
+      ap (λ (g : GameRecord). slice_get (script g) n) h.game_is ∙ scripted in
+      let done : RoundDone s c v3.controller (lane_of v3 s) n =
+      round_done (policies_at mb mw s).may (lawful_at mb mw law_b law_w s) rules s c (lane_of v s)
+      (bare (lane_of v (other s))) n is (seen_from rules v s h.inv) (h.games s) h.free h.none h.own k here
+      v1.controller (lane_of v1 s) acts.0 (lane_of v2 s) b.0.1 v3.controller (lane_of v3 s) hears in
+      record {
+        world = v3;
+        settling = record {
+          inv = keeps v2 (ToController s 100) v3 d (keeps v1 (ToEngine s 100) v2 b (keeps v Act v1 a h.inv));
+          none = done.verdict;
+          free = done.pending;
+          games = λ side. still_games rules c v3.controller done.game h.games side;
+          game_is = done.game ∙ h.game_is;
+          own = done.ready;
+          others =
+              stays_ready (side_of c.sides (other s)).up (side_of v3.controller.sides (other s)).up
+              (lane_of v (other s)) (lane_of v3 (other s)) m done.others (d.1 ∙ b.1 ∙ acts.1) h.others;
+        };
+        rest = rest;
+      }
+
+  side_rounds : (game : GameRecord) (left : List Command) (v last : World B W) (s : Colour) (n m : ℕ)
+      (later : List Event) → Settling game v s n m → MaySend game s m → drop n (script game) ≡ left
+      → Runs mb mw v (rounds s left ++ later) last → Reaches game s (length (script game)) m later last
+  side_rounds game [] v last s n m later h may e runs =
+      let count : n ≡ length (script game) = omega (arith, within game v s n m h, drop_none (script game) n e) in
+      record { world = v; settling = subst (λ (x : ℕ). Settling game v s x m) count h; rest = runs }
+  side_rounds game (k ∷ left) v last s n m later h may e runs =
+      let head = drop_head (script game) n k left e in
+      let one : Reaches game s (n + 1) m (rounds s left ++ later) last =
+      side_round game k v last s n m (rounds s left ++ later) h may head.0 head.2 runs in
+      let number : n + 1 ≡ suc n = omega arith in
+      side_rounds game left one.world last s (n + 1) m later one.settling may
+      (ap (λ (x : ℕ). drop x (script game)) number ∙ head.1) one.rest
+
+  -- ---- the starts
+
+  -- Black is up; the rest is as it was
+  record BlackBegun (old : World B W) (later : List Event) (last : World B W) : Type 0 where
+    world : World B W
+    count : ℕ
+    inv : IsJoined rules world
+    none : world.controller.verdict ≡ None
+    free : world.controller.pending ≡ None
+    game_is : world.controller.game ≡ old.controller.game
+    black : IsReady world.controller.sides.black.up world.black count
+    left : drop count (script old.controller.game) ≡ script_left old.controller.game old.controller.sides.black.up
+    others : world.controller.sides.white.up ≡ old.controller.sides.white.up
+    white : world.white ≡ old.white
+    rest : Runs mb mw world later last
+
+  -- a side that is up, with its running engine
+  up_ready : {P : Type 0} (up : Option Incarnation) (u : Incarnation) (l : Lane P) → up ≡ Some u → IsIdle (Some u)
+      → RunsWhereUp (Some u) l.engine → IsReady up l u.confirmed
+  up_ready up u l is idle runs =
+      let running = some_of l.engine runs in
+      record { incarnation = u; is_up = is; idle = idle; confirmed = refl; running = running.0; runs = running.1 }
+
+  left_of : (game : GameRecord) (u : Incarnation) → u.unanswered ≡ []
+      → drop u.confirmed (script game) ≡ script_left game (Some u)
+  left_of game u idle =
+      let number : u.confirmed ≡ u.confirmed + length u.unanswered =
+      omega (arith, ap length idle) in ap (λ (n : ℕ). drop n (script game)) number
+
+  -- nothing is to be taken back
+  free_of_all : (c : Controller) → c.verdict ≡ None → taking_back c ≡ None → c.pending ≡ None
+  free_of_all c none nothing = sym (ap (λ (v : Option Verdict). unless_over v c.pending) none) ∙ nothing
+
+  black_begins : (old last : World B W) (later : List Event) → IsJoined rules old → MaySettle rules old
+      → Runs mb mw old (start_of old.controller.sides.black.up ++ later) last → BlackBegun old later last
+  black_begins old last later j may runs = by_up old.controller.sides.black.up refl (may.idle Black) may.black runs
+    where
+      started_by : (v1 : World B W) → old.controller.sides.black.up ≡ None → Happens mb mw old Act v1
+          → Runs mb mw v1 later last → BlackBegun old later last
+      started_by v1 down a rest =
+          let is : next old.controller ≡ Start Black = starts_black old.controller may.verdict
+          (free_of_all old.controller may.verdict may.nothing) (may.idle White) down in
+          let begun = acted mb mw (Start Black) Black refl old v1 is a in
+          record {
+            world = v1;
+            count = 0;
+            inv = keeps old Act v1 a j;
+            none = ap (λ (d : Controller). d.verdict) begun.0.controller_is ∙ may.verdict;
+            free = ap (λ (d : Controller). d.pending) begun.0.controller_is
+                ∙ free_of_all old.controller may.verdict may.nothing;
+            game_is = ap (λ (d : Controller). d.game) begun.0.controller_is;
+            black =
+                new_ready v1.controller.sides.black.up v1.black (fresh_under mb.rule begun.0.fresh_lane.policy)
+                (ap (λ (d : Controller). d.sides.black.up) begun.0.controller_is)
+                (ap (λ (l : Lane B). l.engine) begun.0.fresh_lane.lane);
+            left = sym (ap (script_left old.controller.game) down);
+            others = ap (λ (d : Controller). d.sides.white.up) begun.0.controller_is;
+            white = begun.1;
+            rest = rest;
+          }
+
+      by_up : (up : Option Incarnation) → old.controller.sides.black.up ≡ up → IsIdle up
+          → RunsWhereUp up old.black.engine → Runs mb mw old (start_of up ++ later) last → BlackBegun old later last
+      by_up None down idle running (Runs.then_ {mid = v1} a rest) = started_by v1 down a rest
+      by_up (Some u) is idle running rest = record {
+        world = old;
+        count = u.confirmed;
+        inv = j;
+        none = may.verdict;
+        free = free_of_all old.controller may.verdict may.nothing;
+        game_is = refl;
+        black = up_ready old.controller.sides.black.up u old.black is idle running;
+        left = left_of old.controller.game u idle ∙ sym (ap (script_left old.controller.game) is);
+        others = refl;
+        white = refl;
+        rest = rest;
+      }
+
+  -- both sides are up
+  record BothBegun (game : GameRecord) (black_left white_left : List Command) (later : List Event)
+      (last : World B W) : Type 0 where
+    world : World B W
+    black_count : ℕ
+    white_count : ℕ
+    settling : Settling game world Black black_count white_count
+    black_is : drop black_count (script game) ≡ black_left
+    white_is : drop white_count (script game) ≡ white_left
+    rest : Runs mb mw world later last
+
+  abbrev Begun : World B W → List Event → World B W → Type 0
+  Begun old later last =
+      BothBegun old.controller.game (script_left old.controller.game old.controller.sides.black.up)
+      (script_left old.controller.game old.controller.sides.white.up) later last
+
+  white_begins : (old last : World B W) (later : List Event) → MaySettle rules old
+      → BlackBegun old (start_of old.controller.sides.white.up ++ later) last → Begun old later last
+  white_begins old last later may h = by_up old.controller.sides.white.up refl (may.idle White) may.white h.rest
+    where
+      started_by : (v1 : World B W) → old.controller.sides.white.up ≡ None → Happens mb mw h.world Act v1
+          → Runs mb mw v1 later last → Begun old later last
+      started_by v1 down a rest =
+          let c = h.world.controller in
+          let is : next c ≡ Start White =
+          starts_white c h.black.incarnation h.none h.free h.black.is_up h.black.idle (h.others ∙ down) in
+          let begun = acted mb mw (Start White) White refl h.world v1 is a in
+          record {
+            world = v1;
+            black_count = h.count;
+            white_count = 0;
+            settling = record {
+              inv = keeps h.world Act v1 a h.inv;
+              none = ap (λ (d : Controller). d.verdict) begun.0.controller_is ∙ h.none;
+              free = ap (λ (d : Controller). d.pending) begun.0.controller_is ∙ h.free;
+              games = still_games rules old.controller v1.controller
+                  (ap (λ (d : Controller). d.game) begun.0.controller_is ∙ h.game_is) may.games;
+              game_is = ap (λ (d : Controller). d.game) begun.0.controller_is ∙ h.game_is;
+              own =
+                  stays_ready c.sides.black.up v1.controller.sides.black.up h.world.black v1.black h.count
+                  (ap (λ (d : Controller). d.sides.black.up) begun.0.controller_is) begun.1 h.black;
+              others =
+                  new_ready v1.controller.sides.white.up v1.white (fresh_under mw.rule begun.0.fresh_lane.policy)
+                  (ap (λ (d : Controller). d.sides.white.up) begun.0.controller_is)
+                  (ap (λ (l : Lane W). l.engine) begun.0.fresh_lane.lane);
+            };
+            black_is = h.left;
+            white_is = sym (ap (script_left old.controller.game) down);
+            rest = rest;
+          }
+
+      by_up : (up : Option Incarnation) → old.controller.sides.white.up ≡ up → IsIdle up
+          → RunsWhereUp up old.white.engine → Runs mb mw h.world (start_of up ++ later) last → Begun old later last
+      by_up None down idle running (Runs.then_ {mid = v1} a rest) = started_by v1 down a rest
+      by_up (Some u) is idle running rest = record {
+        world = h.world;
+        black_count = h.count;
+        white_count = u.confirmed;
+        settling = record {
+          inv = h.inv;
+          none = h.none;
+          free = h.free;
+          games = still_games rules old.controller h.world.controller h.game_is may.games;
+          game_is = h.game_is;
+          own = h.black;
+          others =
+              stays_ready old.controller.sides.white.up h.world.controller.sides.white.up old.white h.world.white
+              u.confirmed h.others h.white (up_ready old.controller.sides.white.up u old.white is idle running);
+        };
+        black_is = h.left;
+        white_is = left_of old.controller.game u idle ∙ sym (ap (script_left old.controller.game) is);
+        rest = rest;
+      }
+
+  -- ---- the end
+
+  runs_none : (v last : World B W) → Runs mb mw v [] last → last ≡ v
+  runs_none v last Runs.done = refl
+
+  ready_in_step : {P : Type 0} (game : GameRecord) (up : Option Incarnation) (l : Lane P)
+      → IsReady up l (length (script game)) → engine_in_step game up ≡ true
+  ready_in_step game up l h =
+      ap (engine_in_step game) h.is_up
+      ∙ ap (λ (os : List SentCommand). none_unanswered os && h.incarnation.confirmed == length (script game)) h.idle
+      ∙ same h.incarnation.confirmed (length (script game)) h.confirmed
+    where
+      same : (m n : ℕ) → m ≡ n → (m == n) ≡ true
+      same m n e = grind (arith, nat_tests)
+
+  settled : (old last : World B W) → Settling old.controller.game last White (length (script old.controller.game))
+      (length (script old.controller.game)) → IsSettled old last
+  settled old last h = record {
+    black_runs = ap is_some h.others.runs;
+    white_runs = ap is_some h.own.runs;
+    in_step = λ s. elim s as (λ t. in_step last.controller t ≡ true) [
+      | Black ↦ side_in_step Black h.others
+      | White ↦ side_in_step White h.own
+    ];
+    record_stays = h.game_is;
+  }
+    where
+      side_in_step : (s : Colour)
+          → IsReady (side_of last.controller.sides s).up (lane_of last s) (length (script old.controller.game))
+          → in_step last.controller s ≡ true
+      side_in_step s ready =
+          ap (λ (g : GameRecord). engine_in_step g (side_of last.controller.sides s).up) h.game_is
+          ∙ ready_in_step old.controller.game (side_of last.controller.sides s).up (lane_of last s) ready
+
+  pub settles : Settles mb mw
+  settles setup events old last is reached may runs =
+      let game = old.controller.game in
+      let all = length (script game) in
+      let black_left = script_left game old.controller.sides.black.up in
+      let white_left = script_left game old.controller.sides.white.up in
+      let j : IsJoined rules old = reached_has mb mw law_b law_w setup events old is reached in
+      let one =
+      black_begins old last (start_of old.controller.sides.white.up ++
+      (rounds Black black_left ++ rounds White white_left)) j may runs in
+      let two = white_begins old last (rounds Black black_left ++ rounds White white_left) may one in
+      let three : Reaches game Black all two.white_count (rounds White white_left) last =
+      side_rounds game black_left two.world last Black two.black_count two.white_count (rounds White white_left)
+      two.settling tt two.black_is two.rest in
+      let white_runs : Runs mb mw three.world (rounds White white_left ++ []) last =
+      subst (λ (es : List Event). Runs mb mw three.world es last)
+      (sym (append-nil (rounds White white_left))) three.rest in
+      let four : Reaches game White all all [] last =
+      side_rounds game white_left three.world last White two.white_count all []
+      (turned game three.world all two.white_count three.settling) (omega arith) two.white_is white_runs in
+      settled old last (subst (λ (v : World B W). Settling game v White all all)
+      (sym (runs_none four.world last four.rest)) four.settling)

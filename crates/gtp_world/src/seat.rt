@@ -1,0 +1,188 @@
+//! One side of a world, and what happens between it and the controller.
+ghost use Rattle.std.specs.Prelude.{◌≡◌, ◌≤◌, length, MatchOption, Some, None};
+ghost use Rattle.gtp_match.specs.declared.verdicts.Action.TheVariants as action;
+ghost use Rattle.gtp_match.specs.Controller as controller;
+ghost use Rattle.gtp_match.specs.Next.{next, is_down};
+ghost use Rattle.gtp_match.specs.Sides.{side_of};
+ghost use Rattle.gtp_world.specs.Lane.{empty_lane, crashed_lane, LaneReads};
+ghost use Rattle.gtp_world.specs.World.{Starts, Sends, SideHears, SideFails, SideActs, SideBreaksOff};
+ghost use Rattle.gtp_world.specs.World.{side_of_action, side_of_event};
+ghost use Rattle.gtp_world.specs.World.{most_to_engine, most_to_controller};
+ghost use Rattle.gtp_world.specs.Worlds.{SeatHappens, game_in};
+ghost use Rattle.gtp_world.specs.private.Feeding.{HasRoom};
+
+use crate::events::Event;
+use crate::lane::Lane;
+use crate::maker::{Maker, Seated};
+use go_base::Side;
+use go_board::{Game, KoRule};
+use gtp_match::{Action, Match, Status};
+use std::marker::Model;
+
+/// One side: what makes its engines' policies, their ko rule, and its engine with the bytes on their ways.
+#[derive(Drop)]
+pub(crate) struct Seat<M: Maker> {
+    maker: M,
+    rule: KoRule,
+    lane: Lane<M::Made>,
+}
+
+impl<M: Maker> Model for Seat<M> {
+    ghost use Rattle.gtp_world.specs.Worlds.{Seat as Seats};
+
+    ghost Value = { Seats M M.Made };
+
+    ghost view = { λ s. record {
+      making = record { maker = s.maker; rule = s.rule };
+      lane = s.lane;
+    } };
+}
+
+/// Whether a side is down.
+fn is_down(played: &Match, side: Side) -> bool
+    ensures { result ≡ is_down (side_of played.now.sides side).up }
+{
+    match played.status(side) {
+        Status::Down => true,
+        Status::Up { .. } => false,
+    }
+}
+
+impl<M: Maker> Seat<M> {
+    /// No engine, and empty lists.
+    pub fn new(maker: M, rule: KoRule) -> Seat<M>
+        ensures { result ≡ record {
+          making = record { maker = maker; rule = rule };
+          lane = empty_lane;
+        } }
+    {
+        Seat {
+            maker,
+            rule,
+            lane: Lane::new(),
+        }
+    }
+
+    /// The side's engine is started, with a new policy and the side's ko rule.
+    fn start(&mut self, played: &mut Match, side: Side)
+        requires { next played.old ≡ action.Start side }
+        ensures making { self.new.making ≡ self.old.making }
+        ensures starts { Starts (⟦<M as Seated>⟧.policies self.old.making) side
+            played.old played.new self.new.lane }
+    {
+        played.started(side);
+        self.lane = Lane::begin(self.maker.make(), self.rule);
+    }
+
+    /// The side is sent its next command.
+    fn send(&mut self, played: &mut Match, side: Side)
+        requires next { next played.old ≡ action.Send side }
+        requires room { HasRoom side played.old self.old.lane }
+        ensures making { self.new.making ≡ self.old.making }
+        ensures sends { Sends side played.old self.old.lane played.new self.new.lane }
+    {
+        let text = played.send(side);
+        self.lane.hand(text.as_slice());
+    }
+
+    /// What the controller is to do next at the side is done.
+    fn act(&mut self, played: &mut Match, side: Side)
+        requires side { side_of_action (next played.old) ≡ Some side }
+        requires room { HasRoom side played.old self.old.lane }
+        ensures making { self.new.making ≡ self.old.making }
+        ensures acts { SideActs (⟦<M as Seated>⟧.policies self.old.making) side (next played.old)
+            played.old self.old.lane played.new self.new.lane }
+    {
+        match played.next() {
+            Action::Start(_) => self.start(played, side),
+            Action::Send(_) => self.send(played, side),
+            Action::Wait(_) | Action::Done(_) => {}
+        }
+    }
+
+    /// The write of the side's next command breaks, and the side fails.
+    fn break_off(&mut self, played: &mut Match, side: Side)
+        requires { side_of_action (next played.old) ≡ Some side }
+        ensures making { self.new.making ≡ self.old.making }
+        ensures breaks { SideBreaksOff (⟦<M as Seated>⟧.policies self.old.making) side
+            (next played.old) played.old self.old.lane played.new self.new.lane }
+    {
+        match played.next() {
+            Action::Send(_) => {
+                let _ = played.send(side);
+                played.lost(side);
+                self.lane = Lane::new();
+            }
+            Action::Start(_) | Action::Wait(_) | Action::Done(_) => {}
+        }
+    }
+
+    /// The first `count` bytes of the side, or all where there are fewer, are heard, where it is up.
+    fn hear(&mut self, played: &mut Match, side: Side, count: usize)
+        ensures making { self.new.making ≡ self.old.making }
+        ensures hears { SideHears side played.old self.old.lane count played.new self.new.lane }
+    {
+        if is_down(played, side) {
+            return;
+        }
+        let _ = played.hear_all(side, self.lane.front(count));
+        self.lane.cut(count);
+        if is_down(played, side) {
+            self.lane = Lane::new();
+        }
+    }
+
+    /// The side fails, where it is up.
+    fn end(&mut self, played: &mut Match, side: Side)
+        ensures making { self.new.making ≡ self.old.making }
+        ensures ends { SideFails side played.old self.old.lane played.new self.new.lane }
+    {
+        if is_down(played, side) {
+            return;
+        }
+        played.lost(side);
+        self.lane = Lane::new();
+    }
+
+    /// One event happens at the side. Where it doesn't apply, nothing does.
+    pub(crate) fn step(&mut self, played: &mut Match, side: Side, event: Event)
+        requires side { side_of_event played.old event ≡ Some side }
+        requires room { HasRoom side played.old self.old.lane }
+        ensures { SeatHappens ⟦<M as Seated>⟧.policies side event
+            played.old self.old played.new self.new }
+    {
+        match event {
+            Event::Act => self.act(played, side),
+            // The side fails and its engine with it, so it doesn't matter how many bytes went out.
+            Event::BrokenWrite(_) => self.break_off(played, side),
+            Event::ToEngine(_, count) => self.lane.feed(count),
+            Event::ToController(_, count) => self.hear(played, side, count),
+            Event::Crash(_, count) => self.lane.crash(count),
+            Event::End(_) => self.end(played, side),
+        }
+    }
+
+    /// The game of the engine, if one runs.
+    pub(crate) fn game(&self) -> Option<&Game>
+        ensures { MatchOption result (game_in self.now.lane.engine ≡ None) (λ game.
+            game_in self.now.lane.engine ≡ Some game.now) }
+    {
+        self.lane.game()
+    }
+
+    /// The bytes on their way to the engine.
+    pub(crate) fn to_engine(&self) -> &[u8]
+        ensures bytes { result.now ≡ self.now.lane.to_engine }
+        ensures room { length result.now ≤ most_to_engine }
+    {
+        self.lane.to_engine()
+    }
+
+    /// The bytes on their way to the controller.
+    pub(crate) fn to_controller(&self) -> &[u8]
+        ensures bytes { result.now ≡ self.now.lane.to_controller }
+        ensures room { length result.now ≤ most_to_controller }
+    {
+        self.lane.to_controller()
+    }
+}
