@@ -6,7 +6,7 @@ use Rattle.go_base.specs.declared.colours.Colour.{Colour}
 use Rattle.go_board.specs.Game.{GameRecord}
 use Rattle.go_board.specs.declared.rules.KoRule.{KoRule}
 use Rattle.gtp_session.specs.Engine.{Engine}
-use Rattle.gtp_match.specs.declared.sides.Incarnation.{Incarnation}
+use Rattle.gtp_match.specs.declared.sides.EngineRun.{EngineRun}
 use Rattle.gtp_match.specs.declared.verdicts.Action.TheVariants.{Start, Send}
 use Rattle.gtp_match.specs.Controller.{started, sent, next_text}
 use Rattle.gtp_match.specs.Next.{next}
@@ -29,7 +29,7 @@ IsDown world side = (side_of world.controller.sides side).up ≡ None
 
 -- the controller counts the side as up
 abbrev pub IsUp : {B W : Type 0} → World B W → Colour → Type 0
-IsUp world side = (engine : Incarnation) × ((side_of world.controller.sides side).up ≡ Some engine)
+IsUp world side = (engine : EngineRun) × ((side_of world.controller.sides side).up ≡ Some engine)
 
 -- an engine of the side runs
 abbrev pub IsRunning : {B W : Type 0} → World B W → Colour → Type 0
@@ -87,7 +87,7 @@ pub record IsStarted {B W : Type 0} (rule : KoRule) (old : World B W) (side : Co
 
 -- The controller counts its next command to the side as sent, also where no engine runs. Where one runs, the command's
 -- bytes come after what was on its way to it. The engine stays, and so does what is on its way to the controller.
-pub record IsSent {B W : Type 0} (old : World B W) (side : Colour) (up : Incarnation) (new : World B W)
+pub record IsSent {B W : Type 0} (old : World B W) (side : Colour) (up : EngineRun) (new : World B W)
     : Type 0 where
   pub controller : new.controller ≡ sent old.controller side
   pub engine : game_at new side ≡ game_at old side
@@ -158,7 +158,7 @@ module _ {B W : Type 0} (policies_black : SidePolicies B) (policies_white : Side
 
   -- bytes that reach the controller are taken off the list to it, as many as the event says, where the side stays up
   abbrev pub HearingsTakeTheirCount : Type 0
-  HearingsTakeTheirCount = (side : Colour) (count : ℕ) (old new : World B W) (engine : Incarnation)
+  HearingsTakeTheirCount = (side : Colour) (count : ℕ) (old new : World B W) (engine : EngineRun)
       → (side_of new.controller.sides side).up ≡ Some engine
       → Happens policies_black policies_white old (ToController side count) new
       → IsTakenToController old side count new
@@ -189,7 +189,7 @@ module _ {B W : Type 0} (policies_black : SidePolicies B) (policies_white : Side
     pub starts : (side : Colour) (old new : World B W) → next old.controller ≡ Start side
         → Happens policies_black policies_white old Act new
         → IsStarted (rule_of (rules_of policies_black policies_white) side) old side new
-    pub sends : (side : Colour) (up : Incarnation) (old new : World B W) → next old.controller ≡ Send side
+    pub sends : (side : Colour) (up : EngineRun) (old new : World B W) → next old.controller ≡ Send side
         → (side_of old.controller.sides side).up ≡ Some up
         → Happens policies_black policies_white old Act new → IsSent old side up new
 

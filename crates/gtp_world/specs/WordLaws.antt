@@ -7,7 +7,7 @@ use Rattle.go_base.specs.declared.moves.Move.{Move}
 use Rattle.go_board.specs.Game.{GameRecord, IsGame}
 use Rattle.go_board.specs.declared.rules.KoRule.{KoRule}
 use Rattle.go_board.specs.declared.rules.KoRule.TheVariants.{Simple, Positional}
-use Rattle.gtp_match.specs.declared.sides.Incarnation.{Incarnation}
+use Rattle.gtp_match.specs.declared.sides.EngineRun.{EngineRun}
 use Rattle.gtp_match.specs.declared.verdicts.Action.TheVariants.{Send, Done}
 use Rattle.gtp_match.specs.declared.verdicts.ForfeitCause.{ForfeitCause}
 use Rattle.gtp_match.specs.declared.verdicts.ForfeitCause.TheVariants.{RefusedPlay}
@@ -100,7 +100,7 @@ module _ {M N B W : Type 0} (black_by : Making M → SidePolicies B) (white_by :
 pub record IsQuiet {B W : Type 0} (rule : Colour → KoRule) (world : World B W) : Type 0 where
   pub not_done : (verdict : Verdict) → next world.controller ≢ Done verdict
   pub running : (side : Colour) → IsUp world side → IsRunning world side
-  pub answered : (side : Colour) (engine : Incarnation) → (side_of world.controller.sides side).up ≡ Some engine
+  pub answered : (side : Colour) (engine : EngineRun) → (side_of world.controller.sides side).up ≡ Some engine
       → engine.unanswered ≡ []
   pub none_taken_back : world.controller.pending ≡ None
   pub games : (side : Colour) → IsGame (ruled (rule side) world.controller.game)

@@ -7,7 +7,7 @@ use Rattle.go_board.specs.declared.rules.KoRule.{KoRule}
 use Rattle.gtp_session.proofs.Policies.{AllowsLawful}
 use Rattle.gtp_session.specs.Policy.{May}
 use Rattle.gtp_session.specs.Engine.{Engine}
-use Rattle.gtp_match.specs.declared.sides.Incarnation.{Incarnation}
+use Rattle.gtp_match.specs.declared.sides.EngineRun.{EngineRun}
 use Rattle.gtp_match.specs.declared.verdicts.Action.{Action}
 use Rattle.gtp_match.specs.declared.verdicts.Action.TheVariants.{Start, Send, Wait, Done}
 use Rattle.gtp_match.specs.declared.verdicts.Verdict.{Verdict}
@@ -74,24 +74,24 @@ crash_none {P} l k un = by_engine l.engine refl
     by_engine (Some x) is = absurd (un (x.game, ap game_in is))
 
 hears_none : {P : Type 0} (s : Colour) (c c2 : Controller) (l l2 : Lane P) (k : ℕ)
-    → ¬ ((engine : Incarnation) × ((side_of c.sides s).up ≡ Some engine)) → SideHears s c l k c2 l2
+    → ¬ ((engine : EngineRun) × ((side_of c.sides s).up ≡ Some engine)) → SideHears s c l k c2 l2
     → (c2 ≡ c) × (l2 ≡ l)
 hears_none {P} s c c2 l l2 k un h = by_up (side_of c.sides s).up refl h
   where
-    by_up : (up : Option Incarnation) → (side_of c.sides s).up ≡ up → HearsWhereUp s c up l k c2 l2
+    by_up : (up : Option EngineRun) → (side_of c.sides s).up ≡ up → HearsWhereUp s c up l k c2 l2
         → (c2 ≡ c) × (l2 ≡ l)
     by_up None is h = h
     by_up (Some u) is h = absurd (un (u, is))
 
 loses_none : {P : Type 0} (s : Colour) (c c2 : Controller) (l l2 : Lane P)
-    → ¬ ((engine : Incarnation) × ((side_of c.sides s).up ≡ Some engine)) → SideFails s c l c2 l2 → (c2 ≡ c) × (l2 ≡ l)
+    → ¬ ((engine : EngineRun) × ((side_of c.sides s).up ≡ Some engine)) → SideFails s c l c2 l2 → (c2 ≡ c) × (l2 ≡ l)
 loses_none {P} s c c2 l l2 un h = by_up (side_of c.sides s).up refl h
   where
-    by_up : (up : Option Incarnation) → (side_of c.sides s).up ≡ up → FailsWhereUp s c up l c2 l2 → (c2 ≡ c) × (l2 ≡ l)
+    by_up : (up : Option EngineRun) → (side_of c.sides s).up ≡ up → FailsWhereUp s c up l c2 l2 → (c2 ≡ c) × (l2 ≡ l)
     by_up None is h = h
     by_up (Some u) is h = absurd (un (u, is))
 
-nothing_waits : (game : GameRecord) (v : Option Verdict) (up : Option Incarnation) (l : BareLane) → l.engine ≡ None
+nothing_waits : (game : GameRecord) (v : Option Verdict) (up : Option EngineRun) (l : BareLane) → l.engine ≡ None
     → IsJoinedSide game v up l → l.to_engine ≡ []
 nothing_waits game None None l none h = ap (λ (x : BareLane). x.to_engine) h
 nothing_waits game (Some v) None l none h = ap (λ (x : BareLane). x.to_engine) h
@@ -153,13 +153,13 @@ module _ {B W : Type 0} (mb : SidePolicies B) (mw : SidePolicies W) where
       fresh.lane ∙ ap (λ (rule : KoRule). idle_lane (engine_from_nothing rule fresh.policy)) (rule_at_side s) in
       (fresh.policy, fresh.made, lane, it.controller_is)
 
-  sent_is : (s : Colour) (u : Incarnation) (old new : World B W) → (side_of old.controller.sides s).up ≡ Some u
+  sent_is : (s : Colour) (u : EngineRun) (old new : World B W) → (side_of old.controller.sides s).up ≡ Some u
       → Sends s old.controller (lane_of old s) new.controller (lane_of new s) → IsSent old s u new
   sent_is s u old new up h =
       let t : List ℕ = next_text old.controller s u in
       let L : Type 0 = Lane (at_side B W s) in
       let lane : lane_of new s ≡ written_lane (lane_of old s) t =
-      h.lane ∙ ap (λ (x : Option Incarnation). lane_with_next old.controller s x (lane_of old s)) up in
+      h.lane ∙ ap (λ (x : Option EngineRun). lane_with_next old.controller s x (lane_of old s)) up in
       record {
         controller = h.controller_is;
         engine = ap (λ (l : L). game_in l.engine) lane ∙ ap game_in (written_engine (lane_of old s) t);

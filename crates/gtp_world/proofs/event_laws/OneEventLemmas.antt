@@ -12,7 +12,7 @@ use Rattle.gtp_session.specs.Policy.{May}
 use Rattle.gtp_session.specs.Engine.{Engine, Engages, output_of}
 use Rattle.gtp_session.proofs.EngineLemmas.{Replies-then}
 use Rattle.gtp_session.proofs.ConversationLemmas.{output_of-append}
-use Rattle.gtp_match.specs.declared.sides.Incarnation.{Incarnation}
+use Rattle.gtp_match.specs.declared.sides.EngineRun.{EngineRun}
 use Rattle.gtp_match.specs.declared.verdicts.Action.{Action}
 use Rattle.gtp_match.specs.declared.verdicts.Action.TheVariants.{Start, Send, Wait, Done}
 use Rattle.gtp_match.specs.declared.verdicts.Verdict.{Verdict}
@@ -35,7 +35,7 @@ use Rattle.gtp_world.proofs.settling.RoundLemmas.{no_bytes_heard}
 
 -- ---- a side that is down has nothing
 
-bare_nothing : (game : GameRecord) (v : Option Verdict) (up : Option Incarnation) (l : BareLane) → up ≡ None
+bare_nothing : (game : GameRecord) (v : Option Verdict) (up : Option EngineRun) (l : BareLane) → up ≡ None
     → IsJoinedSide game v up l → l ≡ bare_empty
 bare_nothing game None None l e h = h
 bare_nothing game (Some v) None l e h = h
@@ -99,7 +99,7 @@ reads_join {P} may l m n j k p q = by_engine l.engine refl p
 
 -- ---- bytes reach the controller
 
-lane_stays_up : {P : Type 0} (up : Option Incarnation) (u : Incarnation) (l : Lane P) → up ≡ Some u
+lane_stays_up : {P : Type 0} (up : Option EngineRun) (u : EngineRun) (l : Lane P) → up ≡ Some u
     → lane_where_up up l ≡ l
 lane_stays_up None u l e = absurd (cc e)
 lane_stays_up (Some x) u l e = refl
@@ -108,7 +108,7 @@ nothing_heard : {P : Type 0} (s : Colour) (c c2 : Controller) (l l2 : Lane P) �
     → (c2 ≡ c) × (l2 ≡ l)
 nothing_heard {P} s c c2 l l2 h = by_up (side_of c.sides s).up refl h
   where
-    by_up : (up : Option Incarnation) → (side_of c.sides s).up ≡ up → HearsWhereUp s c up l 0 c2 l2
+    by_up : (up : Option EngineRun) → (side_of c.sides s).up ≡ up → HearsWhereUp s c up l 0 c2 l2
         → (c2 ≡ c) × (l2 ≡ l)
     by_up None e x = x
     by_up (Some u) e x =
