@@ -2,10 +2,10 @@
 use Rattle.go_base.proofs.General.{AllByRecursion-append, split_parts}
 use Rattle.std.proofs.lemmas.Bool.{cases_Bool}
 use Rattle.std.proofs.Common.{◌≡◌, ℕ, List, [], ◌∷◌, ◌++◌, Option, Some, None, Bool, true, false, refl, sym, ◌∙◌, ap}
-use Rattle.std.proofs.Common.{cond, ◌⊎◌, inl, inr, append_assoc, append-nil, filter}
+use Rattle.std.proofs.Common.{inl, inr, append_assoc, append-nil, filter}
 use Rattle.std.proofs.lemmas.List.Elements.{filter-append, All-from_recursion}
 use Rattle.std.proofs.lemmas.List.Splits.{slice_split_at, slice_split_none}
-use Rattle.std.specs.List.{slice_split, onto_first, filter_map, cons_option, AllByRecursion}
+use Rattle.std.specs.List.{slice_split, filter_map, cons_option, AllByRecursion}
 use Rattle.std.specs.Option.{option_to_list}
 use Rattle.gtp_wire.specs.declared.lines.Line.{Line}
 use Rattle.gtp_wire.specs.Bytes.{is_kept, is_newline}

@@ -1,7 +1,7 @@
 -- Two newlines in a row, in a text that grows at its end.
 use Rattle.std.proofs.lemmas.Bool.{or_cases, and_parts, and_right, or_from, or_right}
 use Rattle.std.proofs.Common.{◌≡◌, ℕ, List, [], ◌∷◌, ◌++◌, Bool, true, false, refl, sym, ◌∙◌, ap, ◌&&◌, ◌||◌}
-use Rattle.std.proofs.Common.{append_assoc, ◌⊎◌, inl, inr}
+use Rattle.std.proofs.Common.{append_assoc, inl, inr}
 use Rattle.std.proofs.lemmas.Bool.{eqb-true, cases_Bool, or_parts}
 use Rattle.std.proofs.Math.Bool.{or-false, or_assoc}
 use Rattle.gtp_wire.specs.Bytes.{is_newline}

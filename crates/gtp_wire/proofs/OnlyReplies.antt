@@ -2,7 +2,7 @@
 use Rattle.go_base.proofs.TextLemmas.{length-skip_while}
 use Rattle.std.proofs.Common.{◌≡◌, ℕ, ◌+◌, ◌<◌, ◌≤◌, List, [], ◌∷◌, ◌++◌, length, take, drop, Option, Some}
 use Rattle.std.proofs.Common.{Bool, true, false, refl, sym, ◌∙◌, ap, subst, arith, cond, eqb, ◌⊎◌, inl, inr, Result, Ok}
-use Rattle.std.proofs.Common.{Err, append_assoc, append-nil, length-append, length-drop}
+use Rattle.std.proofs.Common.{Err, append_assoc, length-append, length-drop}
 use Rattle.std.proofs.lemmas.Bool.{cases_lt, eqb-true, cases_Bool}
 use Rattle.std.proofs.lemmas.List.{same_from_push, take-append-drop, take_all, take-take, length-take-le}
 use Rattle.std.proofs.lemmas.List.Elements.{All-from_recursion}
@@ -21,7 +21,8 @@ use Rattle.gtp_wire.proofs.ReplyReadingLemmas.{first_more}
 use Rattle.gtp_wire.proofs.ReplyReadingLemmas.{past_copy}
 use Rattle.gtp_wire.proofs.ReplyBytes.{EndsWithNewline, newline_last, reply_alike, bytes_change_nothing}
 use Rattle.gtp_wire.proofs.ReplyFaults.{faults_have_places}
-use Rattle.gtp_wire.proofs.ReplySaying.{replies_say, prepared_printed, status_past}
+use Rattle.gtp_wire.proofs.ReplyLemmas.{prepared_printed, status_past}
+use Rattle.gtp_wire.proofs.ReplySaying.{replies_say}
 use Rattle.gtp_wire.proofs.AnswerShapes.{answers_have_shapes, status_cases}
 use Rattle.gtp_wire.proofs.Controls.{control_byte}
 use Rattle.gtp_wire.proofs.EitherWay.{IsUntold, either_way, reply_inside}

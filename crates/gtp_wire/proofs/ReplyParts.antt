@@ -1,19 +1,18 @@
 -- Every body says an id or none, and a text; and the bytes that are left are newlines or printed.
 use Rattle.go_base.proofs.TextLemmas.{skip_while-first, list_all-front_while, digits_model}
 use Rattle.go_base.proofs.TextLemmas.{front_while-skip_while}
-use Rattle.std.proofs.Common.{◌≡◌, ℕ, ◌<◌, List, [], ◌∷◌, ◌++◌, length, Option, Some, None}
-use Rattle.std.proofs.Common.{Bool, true, refl, sym, ◌∙◌, ap, subst, arith, eqb, ◌⊎◌, inl, inr}
+use Rattle.std.proofs.Common.{◌≡◌, ℕ, List, [], ◌∷◌, ◌++◌, length, Option, Some, None}
+use Rattle.std.proofs.Common.{true, refl, sym, ◌∙◌, ap, subst, arith, eqb, ◌⊎◌, inl, inr}
 use Rattle.std.proofs.Common.{length-append}
 use Rattle.std.proofs.lemmas.Bool.Decides.{nat_tests}
 use Rattle.std.proofs.lemmas.Bool.{eqb-true, cases_Bool}
 use Rattle.std.proofs.lemmas.List.{same_from_push}
 use Rattle.std.proofs.lemmas.List.Elements.{All-from_recursion, recursion_from_All}
-use Rattle.std.specs.Char.{is_ascii_digit, digit_value}
+use Rattle.std.specs.Char.{is_ascii_digit}
 use Rattle.std.specs.List.{AllByRecursion}
 use Rattle.std.specs.Str.Parse.{AllDigits}
 use Rattle.go_base.specs.Int.{SpellsInt, int_of}
-use Rattle.go_base.proofs.IntLemmas.{spells_int_of, int_of_spelled, option_cases, digit_bounds, not_digit_bounds}
-use Rattle.go_base.proofs.IntLemmas.{digit_value-digit}
+use Rattle.go_base.proofs.IntLemmas.{spells_int_of, int_of_spelled, option_cases, not_digit_bounds}
 use Rattle.go_base.specs.Text.{front_while, skip_while}
 use Rattle.gtp_wire.specs.Bytes.{is_kept, space_for_tab, is_newline, is_space, is_blank}
 use Rattle.gtp_wire.specs.Replies.{prepared}

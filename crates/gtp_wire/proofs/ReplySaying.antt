@@ -2,8 +2,8 @@
 use Rattle.go_base.proofs.General.{AllByRecursion-append, last_of}
 use Rattle.go_base.proofs.TextLemmas.{front_while-append, skip_while-append, digits_model}
 use Rattle.std.proofs.lemmas.Bool.{cases_Bool}
-use Rattle.std.proofs.Common.{◌≡◌, ◌≢◌, ℕ, ◌≤◌, List, [], ◌∷◌, ◌++◌, Option}
-use Rattle.std.proofs.Common.{Bool, true, false, refl, sym, ◌∙◌, ap, subst, arith, cond, eqb, ◌⊎◌, inl, inr}
+use Rattle.std.proofs.Common.{◌≡◌, ◌≢◌, ℕ, List, [], ◌∷◌, ◌++◌, Option}
+use Rattle.std.proofs.Common.{false, refl, sym, ◌∙◌, ap, subst, arith, cond, inl, inr}
 use Rattle.std.proofs.Common.{append_assoc, append-nil, length-append, reverse}
 use Rattle.std.proofs.lemmas.Bool.Decides.{nat_tests}
 use Rattle.std.proofs.lemmas.List.{reverse-append, reverse-reverse}
@@ -14,28 +14,13 @@ use Rattle.std.specs.List.{AllByRecursion}
 use Rattle.go_base.specs.Int.{int_of}
 use Rattle.go_base.proofs.IntLemmas.{int_of_spelled, int_of_unspelled, digit_bounds}
 use Rattle.go_base.specs.Text.{front_while, skip_while}
-use Rattle.gtp_wire.specs.Bytes.{is_kept, space_for_tab, is_space}
-use Rattle.gtp_wire.specs.Replies.{prepared, past_blanks, is_status, trim}
+use Rattle.gtp_wire.specs.Bytes.{is_space}
+use Rattle.gtp_wire.specs.Replies.{prepared, trim}
 use Rattle.gtp_wire.specs.Replies.{IsWhole}
-use Rattle.gtp_wire.specs.AnyText.{IsPrinted}
 use Rattle.gtp_wire.specs.AnyText.{NoDigitFirst, HasId, IsAround, RepliesSay}
 use Rattle.gtp_wire.specs.AnyText.HasId.{an_int, no_digits, no_int}
-use Rattle.gtp_wire.proofs.ReplyLemmas.{reply_made}
+use Rattle.gtp_wire.proofs.ReplyLemmas.{reply_made, prepared_printed, status_past, status_test, status_ok}
 use Rattle.gtp_wire.proofs.NewlineLemmas.{no_two}
-
-pub prepared_printed : (l : List ℕ) → AllByRecursion (λ b. (b ≡ 10) ⊎ IsPrinted b) l → prepared l ≡ l
-prepared_printed [] all = refl
-prepared_printed (b ∷ l) all =
-    rw (kept b all.0) (rw (stays b all.0) (ap (λ t. b ∷ t) (prepared_printed l all.1)))
-  where
-    kept : (b : ℕ) → (b ≡ 10) ⊎ IsPrinted b → is_kept b ≡ true
-    kept b is = elim is [
-      | inl e ↦ rw e refl
-      | inr h ↦ let low : 32 ≤ b = h.0 in let no_delete : b ≢ 127 = h.1 in grind (arith, nat_tests)
-    ]
-
-    stays : (b : ℕ) → (b ≡ 10) ⊎ IsPrinted b → space_for_tab b ≡ b
-    stays b is = elim is [ inl e ↦ rw e refl | inr h ↦ let low : 32 ≤ b = h.0 in grind (arith, nat_tests) ]
 
 -- a text after its digits
 no_digit_test : (b : ℕ) (more : List ℕ) → NoDigitFirst (b ∷ more) → is_ascii_digit b ≡ false
@@ -117,19 +102,6 @@ said id body bytes (no_int digits rest are none_spelled none) =
           ∙ append-nil digits) ∙ sym (int_of_unspelled digits none_spelled));
       text_is = refl;
     }
-
-pub status_past : (ok : Bool) (l : List ℕ) → prepared l ≡ l → past_blanks (cond ok 61 63 ∷ l) ≡ cond ok 61 63 ∷ l
-unfolding past_blanks
-status_past true l same = ap (λ t. 61 ∷ t) same
-status_past false l same = ap (λ t. 63 ∷ t) same
-
-status_test : (ok : Bool) → is_status (cond ok 61 63) ≡ true
-status_test true = refl
-status_test false = refl
-
-status_ok : (ok : Bool) → ok ≡ eqb (cond ok 61 63) 61
-status_ok true = refl
-status_ok false = refl
 
 pub replies_say : RepliesSay
 replies_say ok id body bytes value printed single fits has around ok_is id_is =

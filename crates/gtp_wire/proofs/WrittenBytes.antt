@@ -1,30 +1,27 @@
 -- What is written has no byte to spare, and no more bytes than are allowed.
-use Rattle.std.specs.Str.Parse.{AllDigits}
-use Rattle.std.proofs.lemmas.Str.Parse.{digit_from_value}
-use Rattle.go_base.proofs.General.{AllByRecursion-append, last_of}
+use Rattle.go_base.proofs.General.{last_of}
 use Rattle.std.proofs.lemmas.Bool.{or_parts}
-use Rattle.std.proofs.Common.{◌≡◌, ◌≢◌, ℕ, ◌+◌, ◌≤◌, List, [], ◌∷◌, ◌++◌, length, Option, None, Bool, true, false}
+use Rattle.std.proofs.Common.{◌≡◌, ◌≢◌, ℕ, ◌+◌, ◌≤◌, List, [], ◌∷◌, ◌++◌, length, None, true, false}
 use Rattle.std.proofs.Common.{refl, sym, ◌∙◌, ap, arith, cond, eqb, ◌⊎◌, inl, inr, append_assoc, length-append, reverse, get_or}
 use Rattle.std.proofs.Common.{zero, suc, ◌&&◌}
 use Rattle.std.proofs.lemmas.Bool.Decides.{nat_tests}
 use Rattle.std.proofs.lemmas.Fmt.{decimal_is_IsNumeral, decimal_digit, first_decimal}
 use Rattle.std.proofs.lemmas.List.{reverse-append}
 use Rattle.std.proofs.lemmas.List.Elements.{All-from_recursion, recursion_from_All}
-use Rattle.std.specs.Prelude.{IfSome}
 use Rattle.std.specs.List.{concat, join_with_byte, list_all, AllByRecursion}
-use Rattle.go_base.specs.Int.{most_int, written_int}
+use Rattle.go_base.specs.Int.{written_int}
 use Rattle.gtp_wire.specs.declared.commands.Command.{Command}
 use Rattle.gtp_wire.specs.declared.commands.Command.TheVariants.{Boardsize, Komi, ClearBoard, FixedHandicap, Play}
 use Rattle.gtp_wire.specs.declared.commands.Command.TheVariants.{Genmove, Undo, Quit}
 use Rattle.gtp_wire.specs.Bytes.{is_kept, is_blank, is_newline}
 use Rattle.gtp_wire.specs.Commands.{words_of, name_of, arguments_of, IsWritable}
-use Rattle.gtp_wire.specs.Replies.{written_id, written_reply, spaced, is_shown, begins_blank, has_two_newlines}
+use Rattle.gtp_wire.specs.Replies.{written_id, written_reply, is_shown, begins_blank, has_two_newlines}
 use Rattle.gtp_wire.specs.Replies.{IsReplyText}
 use Rattle.gtp_wire.specs.private.LineReading.{is_plain}
 use Rattle.gtp_wire.specs.AnyText.{IsPrinted, HasInts, CommandsHaveNoByteToSpare, RepliesHaveNoByteToSpare}
 use Rattle.gtp_wire.specs.AnyText.{LimitsAreThese, AreDigitsOf, IsTextOfLines}
 use Rattle.gtp_wire.proofs.WordLemmas.{weight, length-join, plain_byte}
-use Rattle.gtp_wire.proofs.WrittenLemmas.{id_text, all_shown}
+use Rattle.gtp_wire.proofs.WrittenLemmas.{all_shown, reply_printed}
 use Rattle.gtp_wire.proofs.WrittenReplies.{reply_short}
 use Rattle.gtp_wire.proofs.CommandWords.{line_plain, command_short}
 use Rattle.gtp_wire.proofs.NewlineLemmas.{no_two}
@@ -95,36 +92,6 @@ commands_to_spare = record {
 }
 
 -- ---- replies
-
-abbrev IsReplyByte : ℕ → Type 0
-IsReplyByte b = (b ≡ 10) ⊎ IsPrinted b
-
-printed_byte : (b : ℕ) → 32 ≤ b → b ≤ 126 → IsReplyByte b
-printed_byte b low high = inr (low, λ (e : b ≡ 127). omega (arith, high, e))
-
-status_printed : (ok : Bool) → IsReplyByte (cond ok 61 63)
-status_printed true = printed_byte 61 (omega arith) (omega arith)
-status_printed false = printed_byte 63 (omega arith) (omega arith)
-
-digits_printed : (l : List ℕ) → AllDigits 10 l → AllByRecursion IsReplyByte l
-digits_printed [] all = tt
-digits_printed (c ∷ l) all =
-    let range = digit_from_value c all.0 in
-    (printed_byte c (omega (arith, range.0)) (omega (arith, range.1)), digits_printed l all.1)
-
-spaced_printed : (text : List ℕ) → AllByRecursion IsReplyByte text → AllByRecursion IsReplyByte (spaced text)
-spaced_printed [] all = tt
-spaced_printed (b ∷ bs) all = (printed_byte 32 (omega arith) (omega arith), all)
-
-reply_printed : (ok : Bool) (id : Option ℕ) (text : List ℕ) → IfSome id (λ n. n ≤ most_int)
-    → AllByRecursion IsReplyByte text → AllByRecursion IsReplyByte (written_reply ok id text)
-reply_printed ok id text fits all = (
-  status_printed ok,
-  AllByRecursion-append IsReplyByte (written_id id) (spaced text ++ 10 ∷ 10 ∷ [])
-      (digits_printed (written_id id) ((id_text id fits).digits))
-      (AllByRecursion-append IsReplyByte (spaced text) (10 ∷ 10 ∷ []) (spaced_printed text all)
-      (inl refl, (inl refl, tt))),
-)
 
 pub replies_to_spare : RepliesHaveNoByteToSpare
 replies_to_spare = record {

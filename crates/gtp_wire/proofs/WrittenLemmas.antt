@@ -1,9 +1,9 @@
 -- What is written is read: a written reply is one reply, of its status, id and text.
-use Rattle.go_base.proofs.General.{AllByRecursion-append, last_of}
+use Rattle.go_base.proofs.General.{AllByRecursion-append, AllByRecursion-implied, last_of}
 use Rattle.std.proofs.lemmas.Bool.{or_cases, and_parts}
 use Rattle.go_base.proofs.TextLemmas.{front_while-append, skip_while-append, digits_model}
 use Rattle.std.proofs.Common.{◌≡◌, ℕ, ◌+◌, ◌≤◌, List, [], ◌∷◌, ◌++◌, length, Option, Some, None, Bool, true, false}
-use Rattle.std.proofs.Common.{refl, sym, ◌∙◌, ap, subst, arith, cond, eqb, leb, ◌&&◌, ◌||◌, ◌⊎◌, inl, inr, reverse}
+use Rattle.std.proofs.Common.{refl, sym, ◌∙◌, ap, subst, arith, cond, leb, ◌⊎◌, inl, inr, reverse}
 use Rattle.std.proofs.Common.{append_assoc, append-nil, length-append}
 use Rattle.std.specs.Prelude.{is_some, IfSome}
 use Rattle.std.specs.Char.{is_ascii_digit}
@@ -19,12 +19,12 @@ use Rattle.go_base.specs.Int.{int_of, most_int}
 use Rattle.go_base.proofs.IntLemmas.{int_of_spelled}
 use Rattle.go_base.specs.Text.{front_while, skip_while}
 use Rattle.gtp_wire.specs.declared.replies.Reply.{Reply}
-use Rattle.gtp_wire.specs.Bytes.{is_kept, space_for_tab, is_newline, is_space, is_blank}
-use Rattle.gtp_wire.specs.Replies.{prepared, past_blanks, is_status, has_two_newlines, trim}
+use Rattle.gtp_wire.specs.Bytes.{is_newline, is_space, is_blank}
+use Rattle.gtp_wire.specs.Replies.{has_two_newlines, trim}
 use Rattle.gtp_wire.specs.Replies.{IsWhole, IsReply, written_reply, written_id, spaced, is_shown, begins_blank}
 use Rattle.gtp_wire.specs.Replies.{IsReplyText}
 use Rattle.gtp_wire.proofs.NewlineLemmas.{has_two_newlines_front, body_more}
-use Rattle.gtp_wire.proofs.ReplyLemmas.{reply_made}
+use Rattle.gtp_wire.proofs.ReplyLemmas.{reply_made, IsReplyByte, prepared_printed, status_past, status_test, status_ok}
 
 -- a newline or a byte that is shown
 abbrev IsShown : ℕ → Type 0
@@ -43,21 +43,9 @@ all_shown (b ∷ l) shown = elim (cases_Bool (is_shown b)) [
   | inr e ↦ let none : false ≡ true = rw e at shown in absurd (cc)
 ]
 
-shown_kept : (b : ℕ) → IsShown b → is_kept b ≡ true
-shown_kept b shown =
-    elim shown [
-      | inl e ↦ rw e refl
-      | inr h ↦ let low : 32 ≤ b = h.0 in
-          let high : b ≤ 126 = h.1 in grind (arith, nat_tests)
-    ]
-
-shown_stays : (b : ℕ) → IsShown b → space_for_tab b ≡ b
-shown_stays b shown = elim shown [ inl e ↦ rw e refl | inr h ↦ let low : 32 ≤ b = h.0 in grind (arith, nat_tests) ]
-
-prepared_shown : (l : List ℕ) → AllByRecursion IsShown l → prepared l ≡ l
-prepared_shown [] shown = refl
-prepared_shown (b ∷ l) shown =
-    rw (shown_kept b shown.0) (rw (shown_stays b shown.0) (ap (λ t. b ∷ t) (prepared_shown l shown.1)))
+shown_printed : (b : ℕ) → IsShown b → IsReplyByte b
+shown_printed b (inl e) = inl e
+shown_printed b (inr h) = inr (h.0, λ (e : b ≡ 127). omega (arith, h.1, e))
 
 -- digits
 abbrev pub IsDigit : ℕ → Type 0
@@ -66,10 +54,6 @@ IsDigit c = (48 ≤ c) × (c ≤ 57)
 pub digits_of_value : (l : List ℕ) → AllDigits 10 l → AllByRecursion IsDigit l
 digits_of_value [] all = tt
 digits_of_value (c ∷ l) all = let range = digit_from_value c all.0 in ((range.0, range.1), digits_of_value l all.1)
-
-digits_shown : (l : List ℕ) → AllByRecursion IsDigit l → AllByRecursion IsShown l
-digits_shown [] all = tt
-digits_shown (c ∷ l) all = (inr (omega (arith, all.0.0), omega (arith, all.0.1)), digits_shown l all.1)
 
 digit_no_newline : (c : ℕ) → IsDigit c → is_newline c ≡ false
 digit_no_newline c digit = let low : 48 ≤ c = digit.0 in grind (arith, nat_tests)
@@ -130,10 +114,6 @@ has_two_newlines_spaced (b ∷ bs) fits =
     ∙ ap (λ t. has_two_newlines (t ++ 10 ∷ [])) last.2
     ∙ body_more last.0 last.1 front (not_newline last.1 (last_byte last.0 last.1 (b ∷ bs) last.2 fits.end))
 
-spaced_shown : (text : List ℕ) → AllByRecursion IsShown text → AllByRecursion IsShown (spaced text)
-spaced_shown [] all = tt
-spaced_shown (b ∷ bs) all = (inr (omega arith, omega arith), all)
-
 pub length-spaced : (text : List ℕ) → length (spaced text) ≤ length text + 1
 length-spaced [] = omega arith
 length-spaced (b ∷ bs) = omega arith
@@ -158,23 +138,33 @@ id_text (Some n) fits =
 abbrev status_of : Bool → ℕ
 status_of ok = cond ok 61 63
 
-status_known : (ok : Bool) → is_status (status_of ok) ≡ true
-status_known true = refl
-status_known false = refl
+-- all of its bytes are those of a reply
+printed_byte : (b : ℕ) → 32 ≤ b → b ≤ 126 → IsReplyByte b
+printed_byte b low high = inr (low, λ (e : b ≡ 127). omega (arith, high, e))
 
-status_shown : (ok : Bool) → IsShown (status_of ok)
-status_shown true = inr (omega arith, omega arith)
-status_shown false = inr (omega arith, omega arith)
+status_printed : (ok : Bool) → IsReplyByte (cond ok 61 63)
+status_printed true = printed_byte 61 (omega arith) (omega arith)
+status_printed false = printed_byte 63 (omega arith) (omega arith)
 
-status_is : (ok : Bool) → ok ≡ eqb (status_of ok) 61
-status_is true = refl
-status_is false = refl
+digits_printed : (l : List ℕ) → AllDigits 10 l → AllByRecursion IsReplyByte l
+digits_printed [] all = tt
+digits_printed (c ∷ l) all =
+    let range = digit_from_value c all.0 in
+    (printed_byte c (omega (arith, range.0)) (omega (arith, range.1)), digits_printed l all.1)
 
-past_blanks_status : (ok : Bool) (l : List ℕ) → AllByRecursion IsShown (status_of ok ∷ l)
-    → past_blanks (status_of ok ∷ l) ≡ status_of ok ∷ l
-unfolding past_blanks
-past_blanks_status true l shown = ap (skip_while is_blank) (prepared_shown (61 ∷ l) shown)
-past_blanks_status false l shown = ap (skip_while is_blank) (prepared_shown (63 ∷ l) shown)
+spaced_printed : (text : List ℕ) → AllByRecursion IsReplyByte text → AllByRecursion IsReplyByte (spaced text)
+spaced_printed [] all = tt
+spaced_printed (b ∷ bs) all = (printed_byte 32 (omega arith) (omega arith), all)
+
+pub reply_printed : (ok : Bool) (id : Option ℕ) (text : List ℕ) → IfSome id (λ n. n ≤ most_int)
+    → AllByRecursion IsReplyByte text → AllByRecursion IsReplyByte (written_reply ok id text)
+reply_printed ok id text fits all = (
+  status_printed ok,
+  AllByRecursion-append IsReplyByte (written_id id) (spaced text ++ 10 ∷ 10 ∷ [])
+      (digits_printed (written_id id) ((id_text id fits).digits))
+      (AllByRecursion-append IsReplyByte (spaced text) (10 ∷ 10 ∷ []) (spaced_printed text all)
+      (inl refl, (inl refl, tt))),
+)
 
 -- a written reply is one reply
 pub written_whole : (ok : Bool) (id : Option ℕ) (text : List ℕ) → IfSome id (λ n. n ≤ most_int) → IsReplyText text
@@ -182,12 +172,8 @@ pub written_whole : (ok : Bool) (id : Option ℕ) (text : List ℕ) → IfSome i
 written_whole ok id text fits_id fits_text =
     let word = id_text id fits_id in
     let digits = digits_of_value (written_id id) word.digits in
-    let shown : AllByRecursion IsShown (written_id id ++ (spaced text ++ 10 ∷ 10 ∷ [])) =
-    AllByRecursion-append IsShown (written_id id) (spaced text ++ 10 ∷ 10 ∷ [])
-    (digits_shown (written_id id) digits)
-    (AllByRecursion-append IsShown (spaced text) (10 ∷ 10 ∷ []) (spaced_shown text (all_shown text fits_text.shown))
-    (inl refl, (inl refl, tt)))
-    in
+    let printed = reply_printed ok id text fits_id
+    (AllByRecursion-implied IsShown IsReplyByte text shown_printed (all_shown text fits_text.shown)) in
     record {
       fits =
           omega (
@@ -205,9 +191,10 @@ written_whole ok id text fits_id fits_text =
       status = status_of ok;
       body = written_id id ++ spaced text;
       shape =
-          past_blanks_status ok (written_id id ++ (spaced text ++ 10 ∷ 10 ∷ [])) (status_shown ok, shown)
+          status_past ok (written_id id ++ (spaced text ++ 10 ∷ 10 ∷ []))
+          (prepared_printed (written_id id ++ (spaced text ++ 10 ∷ 10 ∷ [])) printed.1)
           ∙ ap (λ t. status_of ok ∷ t) (sym (append_assoc (written_id id) (spaced text) (10 ∷ 10 ∷ [])));
-      known = status_known ok;
+      known = status_test ok;
       first_end =
           ap has_two_newlines (append_assoc (written_id id) (spaced text) (10 ∷ []))
           ∙ has_two_newlines_digits (written_id id) (spaced text ++ 10 ∷ []) digits
@@ -229,7 +216,7 @@ written_is_read ok id text value fits_id fits_text ok_is id_is text_is =
     let word = id_text id fits_id in
     let digits = digits_model.from (written_id id) word.digits in
     reply_made (written_reply ok id text) (written_whole ok id text fits_id fits_text) value.ok value.id value.text
-    (ok_is ∙ status_is ok)
+    (ok_is ∙ status_ok ok)
     (id_is ∙ word.id_is ∙ ap int_of (sym (front_while-append is_ascii_digit (written_id id) (spaced text) digits
     ∙ ap (λ t. written_id id ++ t) (spaced_front text) ∙ append-nil (written_id id))))
     (text_is ∙ sym (trim_spaced text fits_text) ∙ ap trim (sym (text_after id text digits))
