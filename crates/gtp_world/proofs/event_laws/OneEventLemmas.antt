@@ -20,8 +20,8 @@ use Rattle.gtp_match.specs.declared.controller.Controller.{Controller}
 use Rattle.gtp_match.specs.Next.{next}
 use Rattle.gtp_match.specs.Sides.{side_of}
 use Rattle.gtp_world.specs.declared.events.Event.{Event}
-use Rattle.gtp_world.specs.declared.events.Event.TheVariants.{BrokenWrite}
-use Rattle.gtp_world.specs.Lane.{Lane, SidePolicies, ReadsWhereRunning, LaneReads, crashed_lane}
+use Rattle.gtp_world.specs.declared.events.Event.TheVariants.{BrokenWrite, Crash}
+use Rattle.gtp_world.specs.Lane.{Lane, SidePolicies, ReadsWhereRunning, LaneReads}
 use Rattle.gtp_world.specs.World.{World, lane_of, SameLane, lane_where_up, HearsWhereUp, SideHears, side_of_event}
 use Rattle.gtp_world.specs.World.{SideBreaksOff, policies_at, HappensAt}
 use Rattle.gtp_world.specs.Worlds.{game_in}
@@ -30,6 +30,7 @@ use Rattle.gtp_world.specs.Laws.{rules_of}
 use Rattle.gtp_world.specs.EventLaws.{IsDown, HasNothing, BrokenWritesAreAlike, DownHasNothing, CrashesNeedAnEngine}
 use Rattle.gtp_world.specs.EventLaws.{OthersStay, NoByteHeardIsNothing, CutsOfReadingsJoin}
 use Rattle.gtp_world.proofs.joined.JoinedLemmas.{seen_from, same_world}
+use Rattle.gtp_world.proofs.event_laws.AppliesLemmas.{does_nothing}
 use Rattle.gtp_world.proofs.joined.EventLemmas.{reached_has}
 use Rattle.gtp_world.proofs.settling.RoundLemmas.{no_bytes_heard}
 
@@ -45,16 +46,6 @@ bare_nothing game (Some v) (Some u) l e h = absurd (cc e)
 no_game : {P : Type 0} (e : Option (Engine P)) → body_of e ≡ None → game_in e ≡ None
 no_game None e = refl
 no_game (Some x) e = absurd (cc e)
-
--- ---- crashes
-
-crashed_where_none : {P : Type 0} (l : Lane P) (k : ℕ) → game_in l.engine ≡ None → crashed_lane l k ≡ l
-crashed_where_none {P} l k is = by_engine l.engine is
-  where
-    by_engine : (e : Option (Engine P)) → game_in e ≡ None
-        → crashed_lane (record l { engine = e }) k ≡ record l { engine = e }
-    by_engine None is = refl
-    by_engine (Some x) is = absurd (cc is)
 
 -- ---- bytes reach an engine
 
@@ -157,7 +148,7 @@ module _ {B W : Type 0} (mb : SidePolicies B) (mw : SidePolicies W) where
 
   pub crashes_need_an_engine : CrashesNeedAnEngine mb mw
   crashes_need_an_engine s k old new is h =
-      same_world s old new h.0.0 (h.0.1 ∙ crashed_where_none (lane_of old s) k is) h.1
+      does_nothing mb mw (Crash s k) old new (λ runs. let bad = sym is ∙ runs.1 in absurd (cc bad)) h
 
   -- ---- the other side stays
 

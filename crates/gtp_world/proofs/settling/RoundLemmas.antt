@@ -211,11 +211,11 @@ module _ (rules : Rules) (c : Controller) (s : Colour) (u : EngineRun) (o : Sent
 
 -- ---- the round
 
-at_put : (s : Colour) (x : SideState) (all : Sides) → side_of (with_side s x all) s ≡ x
+pub at_put : (s : Colour) (x : SideState) (all : Sides) → side_of (with_side s x all) s ≡ x
 at_put Black x all = refl
 at_put White x all = refl
 
-other_put : (s : Colour) (x : SideState) (all : Sides) → side_of (with_side s x all) (other s) ≡ side_of all (other s)
+pub other_put : (s : Colour) (x : SideState) (all : Sides) → side_of (with_side s x all) (other s) ≡ side_of all (other s)
 other_put Black x all = refl
 other_put White x all = refl
 

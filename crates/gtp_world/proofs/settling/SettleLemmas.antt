@@ -12,7 +12,8 @@ use Rattle.gtp_wire.specs.declared.commands.Command.{Command}
 use Rattle.gtp_session.proofs.Policies.{AllowsLawful}
 use Rattle.gtp_session.specs.Engine.{Engine, fresh_under}
 use Rattle.gtp_match.specs.declared.unanswered.SentCommand.{SentCommand}
-use Rattle.gtp_match.specs.declared.sides.EngineRun.{EngineRun}
+use Rattle.gtp_match.specs.declared.sides.Incarnation.{Incarnation}
+use Rattle.gtp_match.specs.declared.sides.SideState.{SideState}
 use Rattle.gtp_match.specs.declared.verdicts.Action.TheVariants.{Start, Send}
 use Rattle.gtp_match.specs.declared.controller.Controller.{Controller}
 use Rattle.gtp_match.specs.Controller.{to_move, engine_in_step, in_step}
@@ -23,30 +24,30 @@ use Rattle.gtp_match.specs.Taking.{taking_back, unless_over}
 use Rattle.gtp_match.specs.Sound.{all_retakes}
 use Rattle.gtp_match.specs.Unanswered.{none_unanswered}
 use Rattle.gtp_match.specs.Script.{script}
-use Rattle.gtp_match.specs.Sides.{side_of, new_run}
+use Rattle.gtp_match.specs.Sides.{side_of, new_incarnation}
 use Rattle.gtp_match.specs.Sound.{IsIdle}
-use Rattle.gtp_match.proofs.actions.Tests.{IdleTests, idle_tests_of, tests_of, next_live, at_idle, at_black_down}
-use Rattle.gtp_match.proofs.actions.Tests.{at_white_down, at_black_script_left, at_white_script_left}
-use Rattle.gtp_match.proofs.soundness.Calls.{my_engine, idle_plan}
+use Rattle.gtp_match.proofs.NextLemmas.{IdleTests, idle_tests_of, tests_of, next_live, at_idle, at_black_down}
+use Rattle.gtp_match.proofs.NextLemmas.{at_white_down, at_black_script_left, at_white_script_left}
+use Rattle.gtp_match.proofs.SoundLemmas.{my_engine, idle_plan}
 use Rattle.gtp_world.specs.declared.events.Event.{Event}
 use Rattle.gtp_world.specs.declared.events.Event.TheVariants.{Act, ToEngine, ToController}
 use Rattle.gtp_world.specs.Lane.{Lane, SidePolicies}
-use Rattle.gtp_world.specs.World.{World, lane_of, SideHears, policies_at, Happens, Runs}
-use Rattle.gtp_world.specs.Settle.{start_of, script_left, round, rounds, RunsWhereUp, MaySettle, IsSettled, Settles}
+use Rattle.gtp_world.specs.World.{World, at_side, lane_of, SameLane, SideHears, policies_at, Happens, Runs}
+use Rattle.gtp_world.specs.Settle.{start_of, script_left, round, rounds, RunsWhereUp, IsSettled, Settles}
 use Rattle.gtp_world.proofs.joined.JoinedLemmas.{seen_from, acted}
 use Rattle.gtp_world.proofs.joined.EventLemmas.{lawful_at, happens_keeps, reached_has}
-use Rattle.gtp_world.proofs.settling.RoundLemmas.{IsReady, RoundDone, round_done}
+use Rattle.gtp_world.proofs.settling.RoundLemmas.{at_put, other_put, IsReady, RoundDone, round_done}
 use Rattle.gtp_world.specs.Joined.{Rules, rule_of, ruled, bare, IsJoined}
 use Rattle.gtp_world.specs.Laws.{rules_of}
 
 -- ---- what comes next
 
 -- nothing is unanswered of a side that is idle
-free_of : (game : GameRecord) (up : Option EngineRun) → IsIdle up → must_answer game up ≡ false
+free_of : (game : GameRecord) (up : Option Incarnation) → IsIdle up → must_answer game up ≡ false
 free_of game None idle = refl
 free_of game (Some u) idle = ap (λ (os : List SentCommand). must_answer game (Some (record u { unanswered = os }))) idle
 
-none_of : (up : Option EngineRun) → IsIdle up → has_unanswered up ≡ false
+none_of : (up : Option Incarnation) → IsIdle up → has_unanswered up ≡ false
 none_of None idle = refl
 none_of (Some u) idle = ap (λ (os : List SentCommand). not (none_unanswered os)) idle
 
@@ -66,10 +67,10 @@ next_where_idle c none free black white =
     }))
     ∙ ap (λ (p : Option Colour). next_of_free p c.game c.sides.black.up c.sides.white.up) free
 
-idle_down : (up : Option EngineRun) → up ≡ None → IsIdle up
+idle_down : (up : Option Incarnation) → up ≡ None → IsIdle up
 idle_down up down = subst IsIdle (sym down) tt
 
-idle_up : (up : Option EngineRun) (u : EngineRun) → up ≡ Some u → u.unanswered ≡ [] → IsIdle up
+idle_up : (up : Option Incarnation) (u : Incarnation) → up ≡ Some u → u.unanswered ≡ [] → IsIdle up
 idle_up up u is idle = subst IsIdle (sym is) idle
 
 starts_black : (c : Controller) → c.verdict ≡ None → c.pending ≡ None → IsIdle c.sides.white.up
@@ -79,7 +80,7 @@ starts_black c none free idle down =
     next_where_idle c none free (idle_down c.sides.black.up down) idle
     ∙ sym (at_black_down (to_move c.game) (idle_tests_of c.game c.sides.black.up c.sides.white.up) (ap is_down down))
 
-starts_white : (c : Controller) (black : EngineRun) → c.verdict ≡ None → c.pending ≡ None
+starts_white : (c : Controller) (black : Incarnation) → c.verdict ≡ None → c.pending ≡ None
     → c.sides.black.up ≡ Some black
     → black.unanswered ≡ [] → c.sides.white.up ≡ None → next c ≡ Start White
 starts_white c black none free up idle down =
@@ -87,7 +88,7 @@ starts_white c black none free up idle down =
     ∙ sym (at_white_down (to_move c.game) (idle_tests_of c.game c.sides.black.up c.sides.white.up) (ap is_down up)
     (ap is_down down))
 
-lacks_some : (game : GameRecord) (u : EngineRun) → u.unanswered ≡ [] → u.confirmed < length (script game)
+lacks_some : (game : GameRecord) (u : Incarnation) → u.unanswered ≡ [] → u.confirmed < length (script game)
     → has_script_left game (Some u) ≡ true
 lacks_some game u idle less =
     below (u.confirmed + length u.unanswered) (length (script game)) (omega (arith, less, ap length idle))
@@ -95,14 +96,14 @@ lacks_some game u idle less =
     below : (m n : ℕ) → m < n → nat_lt m n ≡ true
     below m n h = grind (arith, nat_tests)
 
-lacks_none : (game : GameRecord) (u : EngineRun) → length (script game) ≤ u.confirmed
+lacks_none : (game : GameRecord) (u : Incarnation) → length (script game) ≤ u.confirmed
     → has_script_left game (Some u) ≡ false
 lacks_none game u all = above (u.confirmed + length u.unanswered) (length (script game)) (omega (arith, all))
   where
     above : (m n : ℕ) → n ≤ m → nat_lt m n ≡ false
     above m n h = grind (arith, nat_tests)
 
-module _ (c : Controller) (black white : EngineRun) (none : c.verdict ≡ None) (free : c.pending ≡ None)
+module _ (c : Controller) (black white : Incarnation) (none : c.verdict ≡ None) (free : c.pending ≡ None)
     (black_up : c.sides.black.up ≡ Some black) (white_up : c.sides.white.up ≡ Some white)
     (black_idle : black.unanswered ≡ []) (white_idle : white.unanswered ≡ []) where
   abbrev tests : IdleTests
@@ -132,7 +133,7 @@ abbrev MaySend : GameRecord → Colour → ℕ → Type 0
 MaySend game Black black = Unit {0}
 MaySend game White black = length (script game) ≤ black
 
-sends_side : (c : Controller) (s : Colour) (mine theirs : EngineRun) → c.verdict ≡ None → c.pending ≡ None
+sends_side : (c : Controller) (s : Colour) (mine theirs : Incarnation) → c.verdict ≡ None → c.pending ≡ None
     → (side_of c.sides s).up ≡ Some mine → (side_of c.sides (other s)).up ≡ Some theirs → mine.unanswered ≡ []
     → theirs.unanswered ≡ [] → mine.confirmed < length (script c.game) → MaySend c.game s theirs.confirmed
     → next c ≡ Send s
@@ -160,7 +161,7 @@ some_of None h = absurd (cc h)
 some_of (Some x) h = (x, refl)
 
 -- a side stays as it was
-stays_ready : {P : Type 0} (up up2 : Option EngineRun) (l l2 : Lane P) (n : ℕ) → up2 ≡ up → l2 ≡ l → IsReady up l n
+stays_ready : {P : Type 0} (up up2 : Option Incarnation) (l l2 : Lane P) (n : ℕ) → up2 ≡ up → l2 ≡ l → IsReady up l n
     → IsReady up2 l2 n
 stays_ready {P} up up2 l l2 n e f h = record {
   incarnation = h.incarnation;
@@ -172,10 +173,10 @@ stays_ready {P} up up2 l l2 n e f h = record {
 }
 
 -- a side that was just started
-new_ready : {P : Type 0} (up : Option EngineRun) (l : Lane P) (e : Engine P) → up ≡ Some new_run
+new_ready : {P : Type 0} (up : Option Incarnation) (l : Lane P) (e : Engine P) → up ≡ Some new_incarnation
     → l.engine ≡ Some e → IsReady up l 0
 new_ready up l e is runs =
-    record { incarnation = new_run; is_up = is; idle = refl; confirmed = refl; running = e; runs = runs }
+    record { incarnation = new_incarnation; is_up = is; idle = refl; confirmed = refl; running = e; runs = runs }
 
 module _ {B W : Type 0} (mb : SidePolicies B) (mw : SidePolicies W) (law_b : AllowsLawful mb.may)
     (law_w : AllowsLawful mw.may) where
@@ -288,28 +289,14 @@ module _ {B W : Type 0} (mb : SidePolicies B) (mw : SidePolicies W) (law_b : All
 
   -- ---- the starts
 
-  -- Black is up; the rest is as it was
-  record BlackBegun (old : World B W) (later : List Event) (last : World B W) : Type 0 where
-    world : World B W
-    count : ℕ
-    inv : IsJoined rules world
-    none : world.controller.verdict ≡ None
-    free : world.controller.pending ≡ None
-    game_is : world.controller.game ≡ old.controller.game
-    black : IsReady world.controller.sides.black.up world.black count
-    left : drop count (script old.controller.game) ≡ script_left old.controller.game old.controller.sides.black.up
-    others : world.controller.sides.white.up ≡ old.controller.sides.white.up
-    white : world.white ≡ old.white
-    rest : Runs mb mw world later last
-
   -- a side that is up, with its running engine
-  up_ready : {P : Type 0} (up : Option EngineRun) (u : EngineRun) (l : Lane P) → up ≡ Some u → IsIdle (Some u)
+  up_ready : {P : Type 0} (up : Option Incarnation) (u : Incarnation) (l : Lane P) → up ≡ Some u → IsIdle (Some u)
       → RunsWhereUp (Some u) l.engine → IsReady up l u.confirmed
   up_ready up u l is idle runs =
       let running = some_of l.engine runs in
       record { incarnation = u; is_up = is; idle = idle; confirmed = refl; running = running.0; runs = running.1 }
 
-  left_of : (game : GameRecord) (u : EngineRun) → u.unanswered ≡ []
+  left_of : (game : GameRecord) (u : Incarnation) → u.unanswered ≡ []
       → drop u.confirmed (script game) ≡ script_left game (Some u)
   left_of game u idle =
       let number : u.confirmed ≡ u.confirmed + length u.unanswered =
@@ -319,131 +306,80 @@ module _ {B W : Type 0} (mb : SidePolicies B) (mw : SidePolicies W) (law_b : All
   free_of_all : (c : Controller) → c.verdict ≡ None → taking_back c ≡ None → c.pending ≡ None
   free_of_all c none nothing = sym (ap (λ (v : Option Verdict). unless_over v c.pending) none) ∙ nothing
 
-  black_begins : (old last : World B W) (later : List Event) → IsJoined rules old → MaySettle rules old
-      → Runs mb mw old (start_of old.controller.sides.black.up ++ later) last → BlackBegun old later last
-  black_begins old last later j may runs = by_up old.controller.sides.black.up refl (may.idle Black) may.black runs
-    where
-      started_by : (v1 : World B W) → old.controller.sides.black.up ≡ None → Happens mb mw old Act v1
-          → Runs mb mw v1 later last → BlackBegun old later last
-      started_by v1 down a rest =
-          let is : next old.controller ≡ Start Black = starts_black old.controller may.verdict
-          (free_of_all old.controller may.verdict may.nothing) (may.idle White) down in
-          let begun = acted mb mw (Start Black) Black refl old v1 is a in
-          record {
-            world = v1;
-            count = 0;
-            inv = keeps old Act v1 a j;
-            none = ap (λ (d : Controller). d.verdict) begun.0.controller_is ∙ may.verdict;
-            free = ap (λ (d : Controller). d.pending) begun.0.controller_is
-                ∙ free_of_all old.controller may.verdict may.nothing;
-            game_is = ap (λ (d : Controller). d.game) begun.0.controller_is;
-            black =
-                new_ready v1.controller.sides.black.up v1.black (fresh_under mb.rule begun.0.fresh_lane.policy)
-                (ap (λ (d : Controller). d.sides.black.up) begun.0.controller_is)
-                (ap (λ (l : Lane B). l.engine) begun.0.fresh_lane.lane);
-            left = sym (ap (script_left old.controller.game) down);
-            others = ap (λ (d : Controller). d.sides.white.up) begun.0.controller_is;
-            white = begun.1;
-            rest = rest;
-          }
-
-      by_up : (up : Option EngineRun) → old.controller.sides.black.up ≡ up → IsIdle up
-          → RunsWhereUp up old.black.engine → Runs mb mw old (start_of up ++ later) last → BlackBegun old later last
-      by_up None down idle running (Runs.then_ {mid = v1} a rest) = started_by v1 down a rest
-      by_up (Some u) is idle running rest = record {
-        world = old;
-        count = u.confirmed;
-        inv = j;
-        none = may.verdict;
-        free = free_of_all old.controller may.verdict may.nothing;
-        game_is = refl;
-        black = up_ready old.controller.sides.black.up u old.black is idle running;
-        left = left_of old.controller.game u idle ∙ sym (ap (script_left old.controller.game) is);
-        others = refl;
-        white = refl;
-        rest = rest;
-      }
-
-  -- both sides are up
-  record BothBegun (game : GameRecord) (black_left white_left : List Command) (later : List Event)
-      (last : World B W) : Type 0 where
+  -- A side is up, with its running engine, and this is left of the script for it. The other side is as it was.
+  record Begun (old v : World B W) (s : Colour) (later : List Event) (last : World B W) : Type 0 where
     world : World B W
-    black_count : ℕ
-    white_count : ℕ
-    settling : Settling game world Black black_count white_count
-    black_is : drop black_count (script game) ≡ black_left
-    white_is : drop white_count (script game) ≡ white_left
+    count : ℕ
+    inv : IsJoined rules world
+    none : world.controller.verdict ≡ None
+    free : world.controller.pending ≡ None
+    game_is : world.controller.game ≡ old.controller.game
+    ready : IsReady (side_of world.controller.sides s).up (lane_of world s) count
+    left : drop count (script old.controller.game)
+        ≡ script_left old.controller.game (side_of old.controller.sides s).up
+    others : (side_of world.controller.sides (other s)).up ≡ (side_of v.controller.sides (other s)).up
+    others_lane : SameLane (other s) v world
     rest : Runs mb mw world later last
 
-  abbrev Begun : World B W → List Event → World B W → Type 0
-  Begun old later last =
-      BothBegun old.controller.game (script_left old.controller.game old.controller.sides.black.up)
-      (script_left old.controller.game old.controller.sides.white.up) later last
-
-  white_begins : (old last : World B W) (later : List Event) → MaySettle rules old
-      → BlackBegun old (start_of old.controller.sides.white.up ++ later) last → Begun old later last
-  white_begins old last later may h = by_up old.controller.sides.white.up refl (may.idle White) may.white h.rest
-    where
-      started_by : (v1 : World B W) → old.controller.sides.white.up ≡ None → Happens mb mw h.world Act v1
-          → Runs mb mw v1 later last → Begun old later last
-      started_by v1 down a rest =
-          let c = h.world.controller in
-          let is : next c ≡ Start White =
-          starts_white c h.black.incarnation h.none h.free h.black.is_up h.black.idle (h.others ∙ down) in
-          let begun = acted mb mw (Start White) White refl h.world v1 is a in
-          record {
-            world = v1;
-            black_count = h.count;
-            white_count = 0;
-            settling = record {
-              inv = keeps h.world Act v1 a h.inv;
-              none = ap (λ (d : Controller). d.verdict) begun.0.controller_is ∙ h.none;
-              free = ap (λ (d : Controller). d.pending) begun.0.controller_is ∙ h.free;
-              games = still_games rules old.controller v1.controller
-                  (ap (λ (d : Controller). d.game) begun.0.controller_is ∙ h.game_is) may.games;
-              game_is = ap (λ (d : Controller). d.game) begun.0.controller_is ∙ h.game_is;
-              own =
-                  stays_ready c.sides.black.up v1.controller.sides.black.up h.world.black v1.black h.count
-                  (ap (λ (d : Controller). d.sides.black.up) begun.0.controller_is) begun.1 h.black;
-              others =
-                  new_ready v1.controller.sides.white.up v1.white (fresh_under mw.rule begun.0.fresh_lane.policy)
-                  (ap (λ (d : Controller). d.sides.white.up) begun.0.controller_is)
-                  (ap (λ (l : Lane W). l.engine) begun.0.fresh_lane.lane);
-            };
-            black_is = h.left;
-            white_is = sym (ap (script_left old.controller.game) down);
-            rest = rest;
-          }
-
-      by_up : (up : Option EngineRun) → old.controller.sides.white.up ≡ up → IsIdle up
-          → RunsWhereUp up old.white.engine → Runs mb mw h.world (start_of up ++ later) last → Begun old later last
-      by_up None down idle running (Runs.then_ {mid = v1} a rest) = started_by v1 down a rest
-      by_up (Some u) is idle running rest = record {
-        world = h.world;
-        black_count = h.count;
-        white_count = u.confirmed;
-        settling = record {
-          inv = h.inv;
-          none = h.none;
-          free = h.free;
-          games = still_games rules old.controller h.world.controller h.game_is may.games;
-          game_is = h.game_is;
-          own = h.black;
+  -- of a side that is in this world as it was in the old one, and is started there where it is down
+  module _ (old v last : World B W) (s : Colour) (later : List Event) (j : IsJoined rules v)
+      (none : v.controller.verdict ≡ None) (free : v.controller.pending ≡ None)
+      (game_is : v.controller.game ≡ old.controller.game)
+      (same : (side_of v.controller.sides s).up ≡ (side_of old.controller.sides s).up) (lane : SameLane s old v)
+      (starts : (side_of v.controller.sides s).up ≡ None → next v.controller ≡ Start s) where
+    started : (v1 : World B W) → (side_of old.controller.sides s).up ≡ None → Happens mb mw v Act v1
+        → Runs mb mw v1 later last → Begun old v s later last
+    started v1 down a rest =
+        let begun = acted mb mw (Start s) s refl v v1 (starts (same ∙ down)) a in
+        let it = begun.0.controller_is in
+        record {
+          world = v1;
+          count = 0;
+          inv = keeps v Act v1 a j;
+          none = ap (λ (d : Controller). d.verdict) it ∙ none;
+          free = ap (λ (d : Controller). d.pending) it ∙ free;
+          game_is = ap (λ (d : Controller). d.game) it ∙ game_is;
+          ready =
+              new_ready (side_of v1.controller.sides s).up (lane_of v1 s)
+              (fresh_under (policies_at mb mw s).rule begun.0.fresh_lane.policy)
+              (ap (λ (d : Controller). (side_of d.sides s).up) it
+              ∙ ap (λ (x : SideState). x.up) (at_put s _ v.controller.sides))
+              (ap (λ (l : Lane (at_side B W s)). l.engine) begun.0.fresh_lane.lane);
+          left = sym (ap (script_left old.controller.game) down);
           others =
-              stays_ready old.controller.sides.white.up h.world.controller.sides.white.up old.white h.world.white
-              u.confirmed h.others h.white (up_ready old.controller.sides.white.up u old.white is idle running);
-        };
-        black_is = h.left;
-        white_is = left_of old.controller.game u idle ∙ sym (ap (script_left old.controller.game) is);
-        rest = rest;
-      }
+              ap (λ (d : Controller). (side_of d.sides (other s)).up) it
+              ∙ ap (λ (x : SideState). x.up) (other_put s _ v.controller.sides);
+          others_lane = begun.1;
+          rest = rest;
+        }
+
+    by_up : (up : Option Incarnation) → (side_of old.controller.sides s).up ≡ up → IsIdle up
+        → RunsWhereUp up (lane_of old s).engine → Runs mb mw v (start_of up ++ later) last
+        → Begun old v s later last
+    by_up None down idle running (Runs.then_ {mid = v1} a rest) = started v1 down a rest
+    by_up (Some u) is idle running rest = record {
+      world = v;
+      count = u.confirmed;
+      inv = j;
+      none = none;
+      free = free;
+      game_is = game_is;
+      ready =
+          stays_ready (side_of old.controller.sides s).up (side_of v.controller.sides s).up (lane_of old s)
+          (lane_of v s) u.confirmed same lane
+          (up_ready (side_of old.controller.sides s).up u (lane_of old s) is idle running);
+      left = left_of old.controller.game u idle ∙ sym (ap (script_left old.controller.game) is);
+      others = refl;
+      others_lane = refl;
+      rest = rest;
+    }
 
   -- ---- the end
 
   runs_none : (v last : World B W) → Runs mb mw v [] last → last ≡ v
   runs_none v last Runs.done = refl
 
-  ready_in_step : {P : Type 0} (game : GameRecord) (up : Option EngineRun) (l : Lane P)
+  ready_in_step : {P : Type 0} (game : GameRecord) (up : Option Incarnation) (l : Lane P)
       → IsReady up l (length (script game)) → engine_in_step game up ≡ true
   ready_in_step game up l h =
       ap (engine_in_step game) h.is_up
@@ -479,18 +415,38 @@ module _ {B W : Type 0} (mb : SidePolicies B) (mw : SidePolicies W) (law_b : All
       let black_left = script_left game old.controller.sides.black.up in
       let white_left = script_left game old.controller.sides.white.up in
       let j : IsJoined rules old = reached_has mb mw law_b law_w setup events old is reached in
-      let one =
-      black_begins old last (start_of old.controller.sides.white.up ++
-      (rounds Black black_left ++ rounds White white_left)) j may runs in
-      let two = white_begins old last (rounds Black black_left ++ rounds White white_left) may one in
-      let three : Reaches game Black all two.white_count (rounds White white_left) last =
-      side_rounds game black_left two.world last Black two.black_count two.white_count (rounds White white_left)
-      two.settling tt two.black_is two.rest in
+      let free = free_of_all old.controller may.verdict may.nothing in
+      let one : Begun old old Black (start_of old.controller.sides.white.up ++
+      (rounds Black black_left ++ rounds White white_left)) last =
+      by_up old old last Black (start_of old.controller.sides.white.up ++
+      (rounds Black black_left ++ rounds White white_left)) j may.verdict free refl refl refl
+      (λ down. starts_black old.controller may.verdict free (may.idle White) down) old.controller.sides.black.up refl
+      (may.idle Black) may.black runs in
+      let v = one.world in
+      let two : Begun old v White (rounds Black black_left ++ rounds White white_left) last =
+      by_up old v last White (rounds Black black_left ++ rounds White white_left) one.inv one.none one.free one.game_is
+      one.others one.others_lane
+      (λ down. starts_white v.controller one.ready.incarnation one.none one.free one.ready.is_up one.ready.idle down)
+      old.controller.sides.white.up refl (may.idle White) may.white one.rest in
+      let settling : Settling game two.world Black one.count two.count = record {
+        inv = two.inv;
+        none = two.none;
+        free = two.free;
+        games = still_games rules old.controller two.world.controller two.game_is may.games;
+        game_is = two.game_is;
+        own =
+            stays_ready v.controller.sides.black.up two.world.controller.sides.black.up v.black two.world.black one.count
+            two.others two.others_lane one.ready;
+        others = two.ready;
+      } in
+      let three : Reaches game Black all two.count (rounds White white_left) last =
+      side_rounds game black_left two.world last Black one.count two.count (rounds White white_left)
+      settling tt one.left two.rest in
       let white_runs : Runs mb mw three.world (rounds White white_left ++ []) last =
       subst (λ (es : List Event). Runs mb mw three.world es last)
       (sym (append-nil (rounds White white_left))) three.rest in
       let four : Reaches game White all all [] last =
-      side_rounds game white_left three.world last White two.white_count all []
-      (turned game three.world all two.white_count three.settling) (omega arith) two.white_is white_runs in
+      side_rounds game white_left three.world last White two.count all []
+      (turned game three.world all two.count three.settling) (omega arith) two.left white_runs in
       settled old last (subst (λ (v : World B W). Settling game v White all all)
       (sym (runs_none four.world last four.rest)) four.settling)
