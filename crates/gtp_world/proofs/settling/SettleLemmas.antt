@@ -12,7 +12,7 @@ use Rattle.gtp_wire.specs.declared.commands.Command.{Command}
 use Rattle.gtp_session.proofs.Policies.{AllowsLawful}
 use Rattle.gtp_session.specs.Engine.{Engine, fresh_under}
 use Rattle.gtp_match.specs.declared.unanswered.SentCommand.{SentCommand}
-use Rattle.gtp_match.specs.declared.sides.Incarnation.{Incarnation}
+use Rattle.gtp_match.specs.declared.sides.EngineRun.{EngineRun}
 use Rattle.gtp_match.specs.declared.sides.SideState.{SideState}
 use Rattle.gtp_match.specs.declared.verdicts.Action.TheVariants.{Start, Send}
 use Rattle.gtp_match.specs.declared.controller.Controller.{Controller}
@@ -24,11 +24,11 @@ use Rattle.gtp_match.specs.Taking.{taking_back, unless_over}
 use Rattle.gtp_match.specs.Sound.{all_retakes}
 use Rattle.gtp_match.specs.Unanswered.{none_unanswered}
 use Rattle.gtp_match.specs.Script.{script}
-use Rattle.gtp_match.specs.Sides.{side_of, new_incarnation}
+use Rattle.gtp_match.specs.Sides.{side_of, new_run}
 use Rattle.gtp_match.specs.Sound.{IsIdle}
-use Rattle.gtp_match.proofs.NextLemmas.{IdleTests, idle_tests_of, tests_of, next_live, at_idle, at_black_down}
-use Rattle.gtp_match.proofs.NextLemmas.{at_white_down, at_black_script_left, at_white_script_left}
-use Rattle.gtp_match.proofs.SoundLemmas.{my_engine, idle_plan}
+use Rattle.gtp_match.proofs.actions.Tests.{IdleTests, idle_tests_of, tests_of, next_live, at_idle, at_black_down}
+use Rattle.gtp_match.proofs.actions.Tests.{at_white_down, at_black_script_left, at_white_script_left}
+use Rattle.gtp_match.proofs.soundness.Calls.{my_engine, idle_plan}
 use Rattle.gtp_world.specs.declared.events.Event.{Event}
 use Rattle.gtp_world.specs.declared.events.Event.TheVariants.{Act, ToEngine, ToController}
 use Rattle.gtp_world.specs.Lane.{Lane, SidePolicies}
@@ -43,11 +43,11 @@ use Rattle.gtp_world.specs.Laws.{rules_of}
 -- ---- what comes next
 
 -- nothing is unanswered of a side that is idle
-free_of : (game : GameRecord) (up : Option Incarnation) → IsIdle up → must_answer game up ≡ false
+free_of : (game : GameRecord) (up : Option EngineRun) → IsIdle up → must_answer game up ≡ false
 free_of game None idle = refl
 free_of game (Some u) idle = ap (λ (os : List SentCommand). must_answer game (Some (record u { unanswered = os }))) idle
 
-none_of : (up : Option Incarnation) → IsIdle up → has_unanswered up ≡ false
+none_of : (up : Option EngineRun) → IsIdle up → has_unanswered up ≡ false
 none_of None idle = refl
 none_of (Some u) idle = ap (λ (os : List SentCommand). not (none_unanswered os)) idle
 
@@ -67,10 +67,10 @@ next_where_idle c none free black white =
     }))
     ∙ ap (λ (p : Option Colour). next_of_free p c.game c.sides.black.up c.sides.white.up) free
 
-idle_down : (up : Option Incarnation) → up ≡ None → IsIdle up
+idle_down : (up : Option EngineRun) → up ≡ None → IsIdle up
 idle_down up down = subst IsIdle (sym down) tt
 
-idle_up : (up : Option Incarnation) (u : Incarnation) → up ≡ Some u → u.unanswered ≡ [] → IsIdle up
+idle_up : (up : Option EngineRun) (u : EngineRun) → up ≡ Some u → u.unanswered ≡ [] → IsIdle up
 idle_up up u is idle = subst IsIdle (sym is) idle
 
 starts_black : (c : Controller) → c.verdict ≡ None → c.pending ≡ None → IsIdle c.sides.white.up
@@ -80,7 +80,7 @@ starts_black c none free idle down =
     next_where_idle c none free (idle_down c.sides.black.up down) idle
     ∙ sym (at_black_down (to_move c.game) (idle_tests_of c.game c.sides.black.up c.sides.white.up) (ap is_down down))
 
-starts_white : (c : Controller) (black : Incarnation) → c.verdict ≡ None → c.pending ≡ None
+starts_white : (c : Controller) (black : EngineRun) → c.verdict ≡ None → c.pending ≡ None
     → c.sides.black.up ≡ Some black
     → black.unanswered ≡ [] → c.sides.white.up ≡ None → next c ≡ Start White
 starts_white c black none free up idle down =
@@ -88,7 +88,7 @@ starts_white c black none free up idle down =
     ∙ sym (at_white_down (to_move c.game) (idle_tests_of c.game c.sides.black.up c.sides.white.up) (ap is_down up)
     (ap is_down down))
 
-lacks_some : (game : GameRecord) (u : Incarnation) → u.unanswered ≡ [] → u.confirmed < length (script game)
+lacks_some : (game : GameRecord) (u : EngineRun) → u.unanswered ≡ [] → u.confirmed < length (script game)
     → has_script_left game (Some u) ≡ true
 lacks_some game u idle less =
     below (u.confirmed + length u.unanswered) (length (script game)) (omega (arith, less, ap length idle))
@@ -96,14 +96,14 @@ lacks_some game u idle less =
     below : (m n : ℕ) → m < n → nat_lt m n ≡ true
     below m n h = grind (arith, nat_tests)
 
-lacks_none : (game : GameRecord) (u : Incarnation) → length (script game) ≤ u.confirmed
+lacks_none : (game : GameRecord) (u : EngineRun) → length (script game) ≤ u.confirmed
     → has_script_left game (Some u) ≡ false
 lacks_none game u all = above (u.confirmed + length u.unanswered) (length (script game)) (omega (arith, all))
   where
     above : (m n : ℕ) → n ≤ m → nat_lt m n ≡ false
     above m n h = grind (arith, nat_tests)
 
-module _ (c : Controller) (black white : Incarnation) (none : c.verdict ≡ None) (free : c.pending ≡ None)
+module _ (c : Controller) (black white : EngineRun) (none : c.verdict ≡ None) (free : c.pending ≡ None)
     (black_up : c.sides.black.up ≡ Some black) (white_up : c.sides.white.up ≡ Some white)
     (black_idle : black.unanswered ≡ []) (white_idle : white.unanswered ≡ []) where
   abbrev tests : IdleTests
@@ -133,7 +133,7 @@ abbrev MaySend : GameRecord → Colour → ℕ → Type 0
 MaySend game Black black = Unit {0}
 MaySend game White black = length (script game) ≤ black
 
-sends_side : (c : Controller) (s : Colour) (mine theirs : Incarnation) → c.verdict ≡ None → c.pending ≡ None
+sends_side : (c : Controller) (s : Colour) (mine theirs : EngineRun) → c.verdict ≡ None → c.pending ≡ None
     → (side_of c.sides s).up ≡ Some mine → (side_of c.sides (other s)).up ≡ Some theirs → mine.unanswered ≡ []
     → theirs.unanswered ≡ [] → mine.confirmed < length (script c.game) → MaySend c.game s theirs.confirmed
     → next c ≡ Send s
@@ -161,7 +161,7 @@ some_of None h = absurd (cc h)
 some_of (Some x) h = (x, refl)
 
 -- a side stays as it was
-stays_ready : {P : Type 0} (up up2 : Option Incarnation) (l l2 : Lane P) (n : ℕ) → up2 ≡ up → l2 ≡ l → IsReady up l n
+stays_ready : {P : Type 0} (up up2 : Option EngineRun) (l l2 : Lane P) (n : ℕ) → up2 ≡ up → l2 ≡ l → IsReady up l n
     → IsReady up2 l2 n
 stays_ready {P} up up2 l l2 n e f h = record {
   incarnation = h.incarnation;
@@ -173,10 +173,10 @@ stays_ready {P} up up2 l l2 n e f h = record {
 }
 
 -- a side that was just started
-new_ready : {P : Type 0} (up : Option Incarnation) (l : Lane P) (e : Engine P) → up ≡ Some new_incarnation
+new_ready : {P : Type 0} (up : Option EngineRun) (l : Lane P) (e : Engine P) → up ≡ Some new_run
     → l.engine ≡ Some e → IsReady up l 0
 new_ready up l e is runs =
-    record { incarnation = new_incarnation; is_up = is; idle = refl; confirmed = refl; running = e; runs = runs }
+    record { incarnation = new_run; is_up = is; idle = refl; confirmed = refl; running = e; runs = runs }
 
 module _ {B W : Type 0} (mb : SidePolicies B) (mw : SidePolicies W) (law_b : AllowsLawful mb.may)
     (law_w : AllowsLawful mw.may) where
@@ -290,13 +290,13 @@ module _ {B W : Type 0} (mb : SidePolicies B) (mw : SidePolicies W) (law_b : All
   -- ---- the starts
 
   -- a side that is up, with its running engine
-  up_ready : {P : Type 0} (up : Option Incarnation) (u : Incarnation) (l : Lane P) → up ≡ Some u → IsIdle (Some u)
+  up_ready : {P : Type 0} (up : Option EngineRun) (u : EngineRun) (l : Lane P) → up ≡ Some u → IsIdle (Some u)
       → RunsWhereUp (Some u) l.engine → IsReady up l u.confirmed
   up_ready up u l is idle runs =
       let running = some_of l.engine runs in
       record { incarnation = u; is_up = is; idle = idle; confirmed = refl; running = running.0; runs = running.1 }
 
-  left_of : (game : GameRecord) (u : Incarnation) → u.unanswered ≡ []
+  left_of : (game : GameRecord) (u : EngineRun) → u.unanswered ≡ []
       → drop u.confirmed (script game) ≡ script_left game (Some u)
   left_of game u idle =
       let number : u.confirmed ≡ u.confirmed + length u.unanswered =
@@ -353,7 +353,7 @@ module _ {B W : Type 0} (mb : SidePolicies B) (mw : SidePolicies W) (law_b : All
           rest = rest;
         }
 
-    by_up : (up : Option Incarnation) → (side_of old.controller.sides s).up ≡ up → IsIdle up
+    by_up : (up : Option EngineRun) → (side_of old.controller.sides s).up ≡ up → IsIdle up
         → RunsWhereUp up (lane_of old s).engine → Runs mb mw v (start_of up ++ later) last
         → Begun old v s later last
     by_up None down idle running (Runs.then_ {mid = v1} a rest) = started v1 down a rest
@@ -379,7 +379,7 @@ module _ {B W : Type 0} (mb : SidePolicies B) (mw : SidePolicies W) (law_b : All
   runs_none : (v last : World B W) → Runs mb mw v [] last → last ≡ v
   runs_none v last Runs.done = refl
 
-  ready_in_step : {P : Type 0} (game : GameRecord) (up : Option Incarnation) (l : Lane P)
+  ready_in_step : {P : Type 0} (game : GameRecord) (up : Option EngineRun) (l : Lane P)
       → IsReady up l (length (script game)) → engine_in_step game up ≡ true
   ready_in_step game up l h =
       ap (engine_in_step game) h.is_up
