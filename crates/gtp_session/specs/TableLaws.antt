@@ -160,8 +160,8 @@ LinesSucceedWhereTheyCan = (game : GameRecord) (id : Option ℕ) (words : List (
     → ((answer_with game id words choice).ok ≡ true)
     ↔ ((named : CommandName) × Names words named × CanBeDone game named words)
 
--- Each failure is answered by its cause, and where there are two by the first: a line that is too long or arguments that
--- can't be read before all, a full record before a move that isn't legal, and a board that isn't empty before a number
+-- Each failure is answered by its cause, and where there are two by the first: a line that is too long or arguments
+-- that can't be read before all, a full record before a move that isn't legal, and a board that isn't empty before a number
 -- of stones that isn't allowed.
 pub record FirstCausesAreTold : Type 0 where
   pub too_long : (game : GameRecord) (choice : Choice)
@@ -173,7 +173,8 @@ pub record FirstCausesAreTold : Type 0 where
       → Names words command.Boardsize → CanBeRead command.Boardsize words → ¬ CanBeDone game command.Boardsize words
       → answer_with game id words choice ≡ failure game (codes "unacceptable size")
   pub full : (game : GameRecord) (id : Option ℕ) (words : List (List ℕ)) (choice : Choice) (named : CommandName)
-      → Names words named → CanBeRead named words → (named ≡ command.Play) ⊎ (named ≡ command.Genmove) → ¬ TakesMove game
+      → Names words named → CanBeRead named words → (named ≡ command.Play) ⊎ (named ≡ command.Genmove)
+      → ¬ TakesMove game
       → answer_with game id words choice ≡ failure game (codes "record full")
   pub illegal : (game : GameRecord) (id : Option ℕ) (words : List (List ℕ)) (choice : Choice)
       → Names words command.Play → CanBeRead command.Play words → TakesMove game → ¬ CanBeDone game command.Play words
@@ -264,7 +265,8 @@ HaveOneReplyEach [] (reply ∷ replies) = ⊥
 HaveOneReplyEach (line ∷ later) [] = ⊥
 HaveOneReplyEach (line ∷ later) (reply ∷ replies) =
     RepeatsId line reply
-    × ((LineNames line command.Quit → replies ≡ []) × ((¬ LineNames line command.Quit) → HaveOneReplyEach later replies))
+    × ((LineNames line command.Quit → replies ≡ [])
+    × ((¬ LineNames line command.Quit) → HaveOneReplyEach later replies))
 
 -- an engine whose session goes on answers each line once
 abbrev pub EachLineIsAnsweredOnce : {P : Type 0} → May P → Type 0
