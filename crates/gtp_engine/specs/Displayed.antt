@@ -1,4 +1,4 @@
--- What the function says that tells a text of `clap`. (Own.)
+-- What is written where a text of `clap` is shown. (Own.)
 use Rattle.std.specs.Prelude.{◌≡◌, ℕ, List, Option, IfSome}
 use Rattle.gtp_session.specs.Streams.{Sink}
 use Rattle.gtp_engine.specs.Program.{IsShown}

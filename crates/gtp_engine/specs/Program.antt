@@ -1,5 +1,5 @@
 -- What the program does between its streams: the conversation that the words of the command line ask for, and what is
--- told. (Own.)
+-- reported. (Own.)
 use Rattle.std.specs.Prelude.{◌≡◌, ◌⊎◌, ℕ, List, Result}
 use Rattle.clap.specs.Words.{Text}
 use Rattle.clap.specs.declared.error.kind.ErrorKind.{ErrorKind}
@@ -55,7 +55,7 @@ PolicyCameOut Book seed entries rule fault served reader reader_now writer write
     FreshCameOut book_may fault rule entries served reader reader_now writer writer_now
 
 -- The options have a book and a fault. The conversation that they ask for was held, its end has this status, and why it
--- stopped is told where it stopped before its end.
+-- stopped is reported where it stopped before its end.
 pub record HasConversed (options : Options) (status : ℕ) (before after : Streams) : Type 0 where
   pub entries : List Entry
   pub fault : Fault
@@ -74,7 +74,7 @@ pub record HasServed (words : List Text) (status : ℕ) (before after : Streams)
 
 -- ---- texts that were asked for
 
--- With status 0 the output took the text, and nothing is told. With 3 the output failed in it, and that is told.
+-- With status 0 the output took the text, and nothing is reported. With 3 the output failed in it, which is reported.
 abbrev pub IsShown : List ℕ → ℕ → Sink → Sink → Sink → Sink → Type 0
 IsShown text status output output_now errors errors_now =
     ((status ≡ done) × TookWhole text output output_now × (errors_now ≡ errors))
@@ -88,12 +88,12 @@ pub record HasHelped (words : List Text) (status : ℕ) (before after : Streams)
 
 -- ---- what else may end a run
 
--- The program could not go on, and it is told that memory was refused.
+-- The program could not go on, and reports that memory was refused.
 pub record IsOutOfMemory (status : ℕ) (before after : Streams) : Type 0 where
   pub status_is : status ≡ own_failure
   pub told : TellsFailure OutOfMemory before.errors after.errors
 
--- The words ask for options whose texts have a mistake. The first one is told.
+-- The words ask for options whose texts have a mistake. The first one is reported.
 pub record AsksWrongly (words : List Text) (errors errors_now : Sink) : Type 0 where
   pub options : Options
   pub asked : AsksFor words options
@@ -101,7 +101,7 @@ pub record AsksWrongly (words : List Text) (errors errors_now : Sink) : Type 0 w
   pub mistake : IsMistake options failure
   pub told : TellsFailure failure errors errors_now
 
--- The words have a mistake, or the texts that they give as a book and as a fault do. What is told of a mistake in the
+-- The words have a mistake, or the texts that they give as a book and as a fault do. What is reported of a mistake in the
 -- words is not said here.
 abbrev pub HasMistake : List Text → Sink → Sink → Type 0
 HasMistake words errors errors_now =

@@ -46,7 +46,8 @@ is_done game command.Boardsize words can =
 is_done game command.Komi words can = (can.0.0, of_argument a_komi words 1 can.0.0 can.0.1, refl)
 is_done game command.Play words can = (
   record { colour = can.0; vertex = can.2.0 },
-  move_reads _ _ can.0 can.2.0 (of_argument a_colour words 1 can.0 can.1) (of_argument a_vertex words 2 can.2.0 can.2.1),
+  move_reads _ _ can.0 can.2.0 (of_argument a_colour words 1 can.0 can.1)
+      (of_argument a_vertex words 2 can.2.0 can.2.1),
   move_unrefused (move_settles game (record { colour = can.0; vertex = can.2.0 })) can.2.2.0 can.2.2.1,
 )
 is_done game command.Genmove words can = (

@@ -95,7 +95,7 @@ fresh_game_under rule = record { size = 19; komi = pos 0; rule = rule; handicap 
 abbrev pub fresh_under : {P : Type 0} → KoRule → P → Engine P
 fresh_under rule policy = record { rest = []; game = fresh_game_under rule; policy = policy; ended = false }
 
--- the same with simple ko
+-- the engine with simple ko that was given nothing
 abbrev pub fresh : {P : Type 0} → P → Engine P
 fresh policy = fresh_under Simple policy
 
@@ -111,7 +111,7 @@ abbrev pub reply_if : Bool → List ℕ → Bool → List WrittenReply
 reply_if false text genmove = []
 reply_if true text genmove = record { text = text; genmove = genmove } ∷ []
 
--- the same of an option
+-- the reply of an optional text, if there is one, as a list
 abbrev pub replies_of : Option (ArrayVec ℕ) → Bool → List WrittenReply
 replies_of None genmove = []
 replies_of (Some text) genmove = record { text = text.items; genmove = genmove } ∷ []

@@ -38,17 +38,17 @@ SpellsFault (Flood number) text = SpellsNumbered (codes "flood:") number text
 abbrev pub colon : ℕ
 colon = 58
 
--- what stands before the first colon
+-- the text before the first colon
 abbrev pub before_colon : List ℕ → List ℕ
 before_colon [] = []
 before_colon (b ∷ bs) = if b == colon then [] else b ∷ before_colon bs
 
--- what stands from the first colon on
+-- the text from the first colon on
 abbrev pub from_colon : List ℕ → List ℕ
 from_colon [] = []
 from_colon (b ∷ bs) = if b == colon then b ∷ bs else from_colon bs
 
--- what stands behind the first byte, where there is one
+-- the text after its first byte, where there is one
 abbrev pub after_first : List ℕ → Option (List ℕ)
 after_first [] = None
 after_first (b ∷ bs) = Some bs
@@ -72,7 +72,7 @@ cut_where None kept = None
 cut_where (Some number) None = None
 cut_where (Some number) (Some kept) = Some (Cut number kept)
 
--- the fault of a kind, with what stands behind its colon
+-- the fault of a kind, with the text after its colon
 abbrev pub fault_of_kind : List ℕ → List ℕ → Option Fault
 fault_of_kind kind numbers =
     if bytes_eq kind (codes "stop") then option_map Stop (genmove_of numbers)
@@ -82,7 +82,7 @@ fault_of_kind kind numbers =
     else (if bytes_eq kind (codes "flood") then option_map Flood (genmove_of numbers)
     else None)))
 
--- the fault of what stands before the first colon and of what stands behind it, where there is one
+-- the fault of the text before the first colon and of the text after it, where there is one
 abbrev pub fault_spelled_by : List ℕ → Option (List ℕ) → Option Fault
 fault_spelled_by kind None = if bytes_eq kind (codes "none") then Some Off else None
 fault_spelled_by kind (Some numbers) = fault_of_kind kind numbers
@@ -91,6 +91,6 @@ fault_spelled_by kind (Some numbers) = fault_of_kind kind numbers
 abbrev pub fault_spelled : List ℕ → Option Fault
 fault_spelled text = fault_spelled_by (before_colon text) (after_first (from_colon text))
 
--- the function tells what the relation says
+-- the function finds what the relation says
 abbrev pub FaultOfTells : Type 0
 FaultOfTells = (fault : Fault) (text : List ℕ) → SpellsFault fault text ↔ (fault_spelled text ≡ Some fault)

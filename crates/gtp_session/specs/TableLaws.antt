@@ -1,4 +1,4 @@
--- Laws of the table of the commands: what it must do, in other words than its rows. Names, texts and numbers stand here
+-- Laws of the table of the commands: what it must do, in other words than its rows. Names, texts and numbers are here
 -- as the page of the protocol has them.
 use Rattle.std.specs.Prelude.{◌≡◌, ◌≢◌, ◌⊎◌, ◌↔◌, ℕ, ◌<◌, ◌≤◌, ℤ, pos, negsuc, suc, Bool, true, false, ◌+◌, ◌*◌, List, [], ◌∷◌, ◌++◌, length, slice_get, Option, Some, None, IsTrue, AllPairs, Contains, codes}
 use Rattle.std.specs.Fmt.{decimal}
@@ -58,7 +58,7 @@ standard_name command.Showboard = codes "showboard"
 abbrev pub Names : List (List ℕ) → CommandName → Type 0
 Names words named = slice_get words 0 ≡ Some (standard_name named)
 
--- the same of a line; one that is too long names none
+-- the first word of a line is the name of this command; a line that is too long names none
 abbrev pub LineNames : Line → CommandName → Type 0
 LineNames line.TooLong _ = ⊥
 LineNames (line.Command command_line) named = Names command_line.words named
@@ -139,7 +139,7 @@ failure game text = record { game = game; ok = false; text = text }
 abbrev pub success : GameRecord → List ℕ → Answer
 success after text = record { game = after; ok = true; text = text }
 
--- The text writes a number of half points as points: the digits of the whole points, and behind them `.5` where a half
+-- The text writes a number of half points as points: the digits of the whole points, and after them `.5` where a half
 -- is left.
 pub data WritesPoints (half_points : ℕ) (text : List ℕ) : Type 0 where
   whole : (points : ℕ) → half_points ≡ 2 * points → text ≡ decimal points → WritesPoints half_points text
@@ -160,8 +160,8 @@ LinesSucceedWhereTheyCan = (game : GameRecord) (id : Option ℕ) (words : List (
     → ((answer_with game id words choice).ok ≡ true)
     ↔ ((named : CommandName) × Names words named × CanBeDone game named words)
 
--- Each failure tells its cause, and where two stand together the first one: a line that is too long or arguments that
--- can't be read before all, a full record before a move that isn't legal, and a board that isn't empty before a number
+-- Each failure is answered by its cause, and where there are two by the first: a line that is too long or arguments
+-- that can't be read before all, a full record before a move that isn't legal, and a board that isn't empty before a number
 -- of stones that isn't allowed.
 pub record FirstCausesAreTold : Type 0 where
   pub too_long : (game : GameRecord) (choice : Choice)
@@ -173,7 +173,8 @@ pub record FirstCausesAreTold : Type 0 where
       → Names words command.Boardsize → CanBeRead command.Boardsize words → ¬ CanBeDone game command.Boardsize words
       → answer_with game id words choice ≡ failure game (codes "unacceptable size")
   pub full : (game : GameRecord) (id : Option ℕ) (words : List (List ℕ)) (choice : Choice) (named : CommandName)
-      → Names words named → CanBeRead named words → (named ≡ command.Play) ⊎ (named ≡ command.Genmove) → ¬ TakesMove game
+      → Names words named → CanBeRead named words → (named ≡ command.Play) ⊎ (named ≡ command.Genmove)
+      → ¬ TakesMove game
       → answer_with game id words choice ≡ failure game (codes "record full")
   pub illegal : (game : GameRecord) (id : Option ℕ) (words : List (List ℕ)) (choice : Choice)
       → Names words command.Play → CanBeRead command.Play words → TakesMove game → ¬ CanBeDone game command.Play words
@@ -241,7 +242,7 @@ pub record ScoresNameTheLeader : Type 0 where
       → score game ≡ pos 0
       → answer_with game id (codes "final_score" ∷ more) choice ≡ success game (codes "0")
 
--- `showboard` gives the text of the board as it stands, and `quit` no text; both leave the game
+-- `showboard` gives the text of the current board, and `quit` no text; both leave the game
 pub record BoardsAreShown : Type 0 where
   pub board : (game : GameRecord) (id : Option ℕ) (more : List (List ℕ)) (choice : Choice)
       → answer_with game id (codes "showboard" ∷ more) choice ≡ success game (board_text game)
@@ -256,15 +257,16 @@ RepeatsId line.TooLong reply = (ok : Bool) × (text : List ℕ) × (reply.text �
 RepeatsId (line.Command command_line) reply =
     (ok : Bool) × (text : List ℕ) × (reply.text ≡ written_reply ok command_line.id text)
 
--- The lines up to and with the first `quit` have one reply each, in order, with their ids; what stands behind it has
--- none.
+-- The lines up to and with the first `quit` have one reply each, in order, with their ids; the lines after it
+-- have none.
 abbrev pub HaveOneReplyEach : List Line → List WrittenReply → Type 0
 HaveOneReplyEach [] [] = Unit {0}
 HaveOneReplyEach [] (reply ∷ replies) = ⊥
 HaveOneReplyEach (line ∷ later) [] = ⊥
 HaveOneReplyEach (line ∷ later) (reply ∷ replies) =
     RepeatsId line reply
-    × ((LineNames line command.Quit → replies ≡ []) × ((¬ LineNames line command.Quit) → HaveOneReplyEach later replies))
+    × ((LineNames line command.Quit → replies ≡ [])
+    × ((¬ LineNames line command.Quit) → HaveOneReplyEach later replies))
 
 -- an engine whose session goes on answers each line once
 abbrev pub EachLineIsAnsweredOnce : {P : Type 0} → May P → Type 0
@@ -291,7 +293,7 @@ pub record GenmovesAloneCount {P : Type 0} (may : May P) : Type 0 where
   -- a reply counts as one to a `genmove` exactly where its line asks for a move: a `genmove` that fails counts for none
   pub counted : (old new : State P) (line : Line) (reply : WrittenReply) → Step may old line reply new
       → (reply.genmove ≡ true) ↔ ((colour : Colour) × AsksForMove old.game line colour)
-  -- there the policy makes a choice for that colour, in the game as it stands, and this choice is made and answered
+  -- there the policy makes a choice for that colour, in the current game, and this choice is made and answered
   pub chosen : (old new : State P) (line : Line) (reply : WrittenReply) (colour : Colour)
       → Step may old line reply new → AsksForMove old.game line colour
       → (choice : Choice) × may old.policy old.game colour choice new.policy

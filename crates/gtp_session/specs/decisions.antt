@@ -1,2 +1,2 @@
--- Decision procedures: each tells, of a definition of `specs/`, whether it holds.
+-- Decision procedures: each says, of a definition of `specs/`, whether it holds.
 pub mod Candidate

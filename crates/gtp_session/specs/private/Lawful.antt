@@ -25,7 +25,7 @@ fact : {A : Type 0} (d : Dec A) → holds d ≡ true → A
 fact (yes a) e = a
 fact (no k) e = cc
 
--- what stands in a filtered list passes the test
+-- each element of a filtered list passes the test
 passes : {X : Type 0} (test : X → Bool) (xs : List X) (k : ℕ) (x : X)
     → slice_get (filter test xs) k ≡ Some x → test x ≡ true
 passes test [] k x e = cc

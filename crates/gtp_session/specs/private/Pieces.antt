@@ -4,7 +4,7 @@ use Rattle.std.specs.Io.KnownBytes.{Consumes, Keeps, IsAtEnd}
 use Rattle.gtp_session.specs.Counts.{raised}
 use Rattle.gtp_session.specs.Streams.{Source, Sink}
 
--- the reader gave these bytes, at least one, which stand at the front of the buffer
+-- the reader gave these bytes, at least one, and put them at the front of the buffer
 pub record GivesBytes (gives gives_now : Option (List ℕ)) (count : ℕ) (buffer : List ℕ) : Type 0 where
   pub some : 0 < count
   pub within : count ≤ length buffer
