@@ -1,9 +1,9 @@
 -- What loses a side.
-use Rattle.std.proofs.Common.{◌≡◌, ℕ, zero, suc, ◌+◌, ◌-◌, ◌≤◌, List, [], ◌∷◌, ◌++◌, length, take, Option, Some, None}
+use Rattle.std.proofs.Common.{◌≡◌, ℕ, zero, suc, ◌+◌, ◌-◌, List, [], ◌∷◌, ◌++◌, length, take, Option, Some, None}
 use Rattle.std.proofs.Common.{Ok, Err, refl, ap, sym, subst, ◌∙◌, arith}
 use Rattle.std.specs.Prelude.{option_map, IfSome}
 use Rattle.std.proofs.Math.Seq.{take-append-add, take-length}
-use Rattle.std.proofs.lemmas.List.{take-take, take_all}
+use Rattle.std.proofs.lemmas.List.{take-take}
 use Rattle.go_base.specs.declared.colours.Colour.{Colour}
 use Rattle.gtp_wire.specs.declared.replies.Reply.{Reply}
 use Rattle.gtp_wire.specs.declared.replies.ReplyFault.{ReplyFault}
@@ -22,10 +22,10 @@ use Rattle.gtp_match.specs.declared.sides.Sides.{Sides}
 use Rattle.gtp_match.specs.declared.verdicts.ForfeitCause.TheVariants as forfeit
 use Rattle.gtp_match.specs.declared.verdicts.Verdict.{Verdict}
 use Rattle.gtp_match.specs.Hearing.{side_fault}
-use Rattle.gtp_match.specs.Losing.{Loses, LosesUp, LosesWhere, by_reply, by_fault, nothing_yet, most_shown, owed}
-use Rattle.gtp_match.specs.Losing.{owed_of, owed_where}
+use Rattle.gtp_match.specs.Losing.{Loses, LosesUp, LosesWhere, by_reply, by_fault, nothing_yet, most_shown}
 use Rattle.gtp_match.specs.private.Feeding.{fed_engine}
-use Rattle.gtp_match.specs.private.Notices.{HasFinding, HasNotice, cause_in, held, held_by, loss_in, loss_owing, noticed}
+use Rattle.gtp_match.specs.private.Notices.{HasFinding, HasNotice, cause_in, held, held_by, loss_in, loss_owing}
+use Rattle.gtp_match.specs.private.Notices.{noticed}
 use Rattle.gtp_match.specs.ReplyTable.{outcome}
 use Rattle.gtp_match.specs.Sides.{side_of, heard_reply}
 use Rattle.gtp_match.specs.Unanswered.{oldest}
@@ -48,26 +48,6 @@ loses_up c side engine bytes loss none up h =
     let P : Option EngineRun → Type 0 = λ u. LosesWhere c side bytes None u loss in
     let Q : Option Verdict → Type 0 = λ v. LosesWhere c side bytes v (side_of c.sides side).up loss in
     subst Q (sym none) (subst P (sym up) h)
-
--- a side that is down loses nothing
-pub loses_down : (c : Controller) (side : Colour) (bytes : List ℕ)
-    → c.verdict ≡ None → (side_of c.sides side).up ≡ None → Loses c side bytes None
-loses_down c side bytes none up =
-    let P : Option EngineRun → Type 0 = λ u. LosesWhere c side bytes None u None in
-    let Q : Option Verdict → Type 0 = λ v. LosesWhere c side bytes v (side_of c.sides side).up None in
-    subst Q (sym none) (subst P (sym up) refl)
-
--- nor does any side after a verdict
-pub loses_over : (c : Controller) (side : Colour) (bytes : List ℕ) (v : Verdict) → c.verdict ≡ Some v
-    → Loses c side bytes None
-loses_over c side bytes v over =
-    let Q : Option Verdict → Type 0 = λ o. LosesWhere c side bytes o (side_of c.sides side).up None in
-    subst Q (sym over) refl
-
--- where the first fits whole
-pub take_over : (n : ℕ) (a b : List ℕ) → length a ≤ n → a ++ take (n - length a) b ≡ take n (a ++ b)
-take_over n a b fits =
-    ap (λ (t : List ℕ). t ++ take (n - length t) b) (sym (take_all n a fits)) ∙ take_joined n a b
 
 -- ---- what is shown
 

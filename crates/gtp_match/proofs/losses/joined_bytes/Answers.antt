@@ -1,4 +1,4 @@
-use Rattle.std.proofs.Common.{◌≡◌, ◌-◌, ◌++◌, ◌∙◌, ap, sym, List, ℕ, take, length}
+use Rattle.std.proofs.Common.{◌≡◌, ◌-◌, ◌++◌, ◌∙◌, ap, sym, take, length}
 use Rattle.std.proofs.lemmas.List.{take_min}
 use Rattle.gtp_match.specs.private.Notices.{bytes_in}
 use Rattle.gtp_match.proofs.reporting.LossOnce.{take_joined}

@@ -1,9 +1,8 @@
-use Rattle.std.proofs.Common.{◌++◌, ◌∙◌, [], List, sym, subst, Option, None}
-use Rattle.std.specs.Option.{option_or, option_to_list}
+use Rattle.std.proofs.Common.{◌∙◌, [], List, sym, subst, Option, None}
 use Rattle.std.proofs.lemmas.List.{take_rest}
 use Rattle.gtp_match.specs.declared.losses.Loss.{Loss}
 use Rattle.gtp_match.specs.declared.reports.Retake.{Retake}
-use Rattle.gtp_match.specs.Losing.{HearsReporting, first_of}
+use Rattle.gtp_match.specs.Losing.{HearsReporting}
 use Rattle.gtp_match.specs.Retaking.{HearsRetakes}
 use Rattle.gtp_match.proofs.hearing.Exactly.{none_left, some_left}
 use Rattle.gtp_match.proofs.reporting.RetakeOnce.{reports, none_again, idle_after, listed, listed_end, listed_alone}
@@ -86,7 +85,8 @@ loop-rest-preserved c =
 
 pub returns-clause-loss : goal.returns-clause-loss
 returns-clause-loss c =
-    subst (λ (loss : Option Loss). HearsReporting c.args.side c.args.self.now c.args.bytes.now None loss c.loop-rest.self)
+    subst (λ (loss : Option Loss).
+    HearsReporting c.args.side c.args.self.now c.args.bytes.now None loss c.loop-rest.self)
     (first_of_none c.loop-rest.report.loss)
     (c.loop-rest.invariant.tells None None c.loop-rest.self
     (tells_end c.args.side c.loop-rest.self c.loop-rest.rest.now
