@@ -197,7 +197,8 @@ pub data IsCounted (c new : Controller) (s : Colour) (engine : EngineRun) (entry
       → IsCounted c new s engine entry later reply
   retaken : IsPlay entry.command → reply.ok ≡ false → new.verdict ≡ None → HasAnswered new s later engine.confirmed
       → new.retakes ≡ with_retake (length c.game.moves) c.retakes → IsCounted c new s engine entry later reply
-  taken_back : IsUndo entry.command → reply.ok ≡ true → new.verdict ≡ None → HasAnswered new s later (engine.confirmed - 1)
+  taken_back : IsUndo entry.command → reply.ok ≡ true → new.verdict ≡ None
+      → HasAnswered new s later (engine.confirmed - 1)
       → new.game ≡ without_last c.game → new.pending ≡ None → IsCounted c new s engine entry later reply
   resigned : new.verdict ≡ Some (Resign s) → HasAnswered new s later engine.confirmed
       → IsCounted c new s engine entry later reply

@@ -124,7 +124,8 @@ first_of (Some loss) later = Some loss
 
 -- Bytes are heard until they are used up or show a fault, each time some of those that are left; and the first loss by
 -- them is reported, if there is any.
-pub data HearsReporting (side : Colour) : Controller → List ℕ → Option SideFault → Option Loss → Controller → Type 0 where
+pub data HearsReporting (side : Colour)
+    : Controller → List ℕ → Option SideFault → Option Loss → Controller → Type 0 where
   used_up : {c : Controller} → HearsReporting side c [] None None c
   faulty : {c new : Controller} {bytes : List ℕ} {shown : SideFault} {loss : Option Loss} (used : ℕ)
       → 0 < length bytes → HearsExactly c side bytes used (Some shown) new → Loses c side bytes loss
@@ -164,7 +165,8 @@ CauseFits new side fault NoVertex = new.verdict ≡ Some (verdict.Forfeit side f
 CauseFits new side fault (Illegal rule) = new.verdict ≡ Some (verdict.Forfeit side forfeit.IllegalMove)
 
 -- what a match reports of bytes of this side that were heard
-pub record ReportsLoss (side : Colour) (c new : Controller) (fault : Option SideFault) (loss : Option Loss) : Type 0 where
+pub record ReportsLoss (side : Colour) (c new : Controller) (fault : Option SideFault) (loss : Option Loss)
+    : Type 0 where
   -- a loss is reported exactly where a side fails
   pub exact : IsSome loss ↔ LosesSide c new
   -- its cause is the fault that is shown, or fits the new verdict

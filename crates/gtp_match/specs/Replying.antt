@@ -49,7 +49,8 @@ pub record HearsReply (engine : EngineRun) (bytes : List ℕ) (used : ℕ) (Is :
 
 -- the reply has no id, or not that of the oldest unanswered command, or nothing is unanswered
 abbrev pub IsStrangeReply : EngineRun → Reply → Type 0
-IsStrangeReply engine reply = (entry : SentCommand) → oldest engine.unanswered ≡ Some entry → ¬ (reply.id ≡ Some entry.id)
+IsStrangeReply engine reply =
+    (entry : SentCommand) → oldest engine.unanswered ≡ Some entry → ¬ (reply.id ≡ Some entry.id)
 
 abbrev pub IsGenmove : Command → Type 0
 IsGenmove command = (colour : Colour) × (command ≡ Genmove colour)

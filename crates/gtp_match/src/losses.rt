@@ -1,7 +1,7 @@
 //! Why a side fails by what it writes: it goes down, is unfit or forfeits.
-ghost use Rattle.std.specs.Prelude.{◌≡◌, take};
+ghost use Rattle.std.specs.Prelude.{◌≡◌, ◌++◌, take};
 ghost use Rattle.gtp_match.specs.Losing.{most_shown, owed_of, BreaksRule};
-ghost use Rattle.gtp_match.specs.private.Notices.{owed_then};
+ghost use Rattle.gtp_match.specs.private.Notices.{bytes_in};
 
 use crate::reply_table::{Outcome, judge};
 use crate::sides::EngineRun;
@@ -60,22 +60,6 @@ pub struct Loss {
     pub owed: Owed,
 }
 
-impl Owed {
-    /// The same once these bytes more were written.
-    pub(crate) fn then(self, more: &[u8]) -> Owed
-        ensures { result ≡ owed_then self more.now }
-    {
-        let mut bytes = self.bytes;
-        let room = MOST_SHOWN - bytes.len();
-        push(&mut bytes, &more[..room.min(more.len())]);
-        Owed {
-            unanswered: self.unanswered,
-            oldest: self.oldest,
-            bytes,
-        }
-    }
-}
-
 /// What an engine owes.
 pub(crate) fn owed_by(engine: &EngineRun) -> Owed
     ensures { result ≡ owed_of engine.now engine.now.reader }
@@ -88,12 +72,27 @@ pub(crate) fn owed_by(engine: &EngineRun) -> Owed
 }
 
 /// The first bytes of a text.
-fn first_bytes(text: &[u8]) -> ShownBytes
+pub(crate) fn first_bytes(text: &[u8]) -> ShownBytes
     ensures { result.items ≡ take most_shown text.now }
 {
     let mut bytes = ArrayVec::new();
     push(&mut bytes, &text[..MOST_SHOWN.min(text.len())]);
     bytes
+}
+
+/// The first bytes of two texts, joined, of which the first has no more.
+pub(crate) fn joined_bytes(held: &Option<ShownBytes>, text: &[u8]) -> ShownBytes
+    ensures { result.items ≡ take most_shown (bytes_in held.now ++ text.now) }
+{
+    match held {
+        None => first_bytes(text),
+        Some(held) => {
+            let mut bytes = first_bytes(held);
+            let room = MOST_SHOWN - bytes.len();
+            push(&mut bytes, &text[..room.min(text.len())]);
+            bytes
+        }
+    }
 }
 
 /// The rule that a chosen vertex breaks, if any.

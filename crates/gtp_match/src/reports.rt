@@ -2,9 +2,11 @@
 ghost use Rattle.std.specs.Prelude.{◌≡◌, None, Some};
 ghost use Rattle.std.specs.Option.{option_or};
 ghost use Rattle.gtp_match.specs.Losing.{first_of};
-ghost use Rattle.gtp_match.specs.private.Notices.{retake_in, loss_in};
+ghost use Rattle.gtp_match.specs.private.Notices.{bytes_in, noticed, retake_in, loss_in};
 
-use crate::losses::{Loss, LossCause, Owed};
+use crate::losses::{Loss, LossCause, Owed, ShownBytes, joined_bytes};
+use crate::sides::EngineRun;
+use crate::unanswered::SentCommand;
 use crate::verdicts::SideFault;
 
 /// That a refused `play` is retaken. The move that was refused leaves the record, and its maker is asked for another,
@@ -38,22 +40,25 @@ impl Report {
         }
     }
 
-    /// Adds what is reported of bytes that were heard, of a side that owed this before them and wrote this text then.
-    /// The first retake and the first loss stay.
-    pub(crate) fn add(&mut self, owed: Option<Owed>, text: &[u8], notice: Option<Notice>)
-        ensures retake { self.new.retake ≡ option_or self.old.retake (retake_in owed text.now notice) }
-        ensures loss { self.new.loss ≡ first_of self.old.loss (loss_in owed text.now notice) }
+    /// Adds what is reported of bytes that were heard, of a side that held these before and wrote this text then. The
+    /// first retake and the first loss stay.
+    pub(crate) fn add(&mut self, held: &Option<ShownBytes>, text: &[u8], notice: Option<Notice>)
+        ensures retake { self.new.retake
+            ≡ option_or self.old.retake (retake_in (bytes_in held.now) text.now notice) }
+        ensures loss { self.new.loss
+            ≡ first_of self.old.loss (loss_in (bytes_in held.now) text.now notice) }
     {
         let Some(notice) = notice else {
             return;
         };
-        let Some(owed) = owed else {
-            return;
+        let owed = Owed {
+            unanswered: notice.unanswered,
+            oldest: notice.oldest,
+            bytes: joined_bytes(held, text),
         };
-        let owed = owed.then(text);
-        match notice {
-            Notice::Retakes(count) => self.add_retake(Retake { count, owed }),
-            Notice::Fails(cause) => self.add_loss(Loss { cause, owed }),
+        match notice.finding {
+            Finding::Retakes(count) => self.add_retake(Retake { count, owed }),
+            Finding::Fails(cause) => self.add_loss(Loss { cause, owed }),
         }
     }
 
@@ -78,17 +83,41 @@ impl Report {
     }
 }
 
-/// What is reported of bytes of a side that were heard once.
-#[derive(Clone, Copy, Debug, PartialEq, Eq)]
-pub enum Notice {
+/// What is found of bytes of a side that were heard once.
+#[derive(Clone, Copy, Debug)]
+pub enum Finding {
     /// They end a refused `play` that is retaken. It is the retake of this count, of its number of a move.
     Retakes(u32),
     /// By them the side fails, for this cause.
     Fails(LossCause),
 }
 
+/// What is reported of bytes of a side that were heard once, and what it hadn't answered then.
+#[derive(Clone, Copy, Debug)]
+pub struct Notice {
+    /// What is found.
+    pub finding: Finding,
+    /// How many commands it hadn't answered.
+    pub unanswered: u32,
+    /// The oldest of them, if any.
+    pub oldest: Option<SentCommand>,
+}
+
+impl Notice {
+    /// This is found of what an engine wrote.
+    pub fn new(engine: &EngineRun, finding: Finding) -> Notice
+        ensures { result ≡ noticed engine.now finding }
+    {
+        Notice {
+            finding,
+            unanswered: engine.unanswered.len() as u32,
+            oldest: engine.unanswered.oldest(),
+        }
+    }
+}
+
 /// What was heard of bytes of a side: up to the end of one reply or a fault, or all of them.
-#[derive(Clone, Copy, Debug, PartialEq, Eq)]
+#[derive(Clone, Copy, Debug)]
 pub struct HeardOnce {
     /// How many of the bytes were used.
     pub used: usize,

@@ -96,7 +96,8 @@ module _ (game : GameRecord) where
   asks_if [] place entry there g = absurd (cc)
   asks_if (o ∷ os) zero entry there g =
       let same : o ≡ entry = cc in
-      or_left (is_genmove o.command) (has_genmove os) (ap (λ (x : SentCommand). is_genmove x.command) same ∙ ap is_genmove g.1)
+      or_left (is_genmove o.command) (has_genmove os)
+      (ap (λ (x : SentCommand). is_genmove x.command) same ∙ ap is_genmove g.1)
   asks_if (o ∷ os) (suc place) entry there g =
       or_right (is_genmove o.command) (has_genmove os) (asks_if os place entry there g)
 

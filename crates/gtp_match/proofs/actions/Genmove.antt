@@ -116,7 +116,8 @@ past_if c s engine g = by_pending c.pending refl g
 
     by_pending : (p : Option Colour) → c.pending ≡ p
         → IsGenmove (undo_or_else p
-        (script_or_genmove s (slice_get (script c.game) (engine.confirmed + length engine.unanswered)))) → IsPast c engine
+        (script_or_genmove s (slice_get (script c.game) (engine.confirmed + length engine.unanswered))))
+        → IsPast c engine
     by_pending None free x = by_number free _ refl x
     by_pending (Some maker) some x = let e = x.1 in absurd (cc)
 

@@ -113,10 +113,10 @@ MoveHasReply c new s bytes used fault =
     (new.game ≡ c.game) ⊎ (MakesMove c new s bytes used ⊎ TakesMoveBack c new s bytes used fault)
 
 -- a side goes down by a fault
-down_has_reply : (c new : Controller) (s : Colour) (engine : EngineRun) (bytes : List ℕ) (used : ℕ)
+down_leaves : (c new : Controller) (s : Colour) (engine : EngineRun) (bytes : List ℕ) (used : ℕ)
     (fault : Option SideFault) → (side_of c.sides s).up ≡ Some engine → IsSome fault → new ≡ downed c s
     → MoveHasReply c new s bytes used fault
-down_has_reply c new s engine bytes used fault up some new_is = by_game (down_game c s)
+down_leaves c new s engine bytes used fault up some new_is = by_game (down_game c s)
   where
     by_game : ((downed c s).game ≡ c.game) ⊎ (taking_back c ≡ Some s) × ((downed c s).game ≡ without_last c.game)
         → MoveHasReply c new s bytes used fault
@@ -151,7 +151,7 @@ moves_have_replies c new s bytes used fault hears = by_way (heard c s bytes used
         → fault ≡ fault_of o
         → new ≡ after_outcome c s (heard_reply engine) o → MoveHasReply c new s bytes used fault
     by_outcome engine reply up ends (Down f) e fault_is new_is =
-        down_has_reply c new s engine bytes used fault up (subst (λ (x : Option SideFault). IsSome x) (sym fault_is) refl)
+        down_leaves c new s engine bytes used fault up (subst (λ (x : Option SideFault). IsSome x) (sym fault_is) refl)
         new_is
     by_outcome engine reply up ends Unfit e fault_is new_is = stays _ new_is refl
     by_outcome engine reply up ends (Forfeits cause) e fault_is new_is = stays _ new_is refl
@@ -172,7 +172,7 @@ moves_have_replies c new s bytes used fault hears = by_way (heard c s bytes used
     by_way (Heard.replied engine reply none up ends fault_is new_is) =
         by_outcome engine reply up ends _ refl fault_is new_is
     by_way (Heard.faulted engine shown none up first fault_is new_is) =
-        down_has_reply c new s engine bytes used fault up (subst (λ (x : Option SideFault). IsSome x) (sym fault_is) refl)
+        down_leaves c new s engine bytes used fault up (subst (λ (x : Option SideFault). IsSome x) (sym fault_is) refl)
         new_is
     by_way (Heard.quiet engine kept none up nothing fault_is new_is) = stays _ new_is refl
     by_way (Heard.down up fault_is new_is) = stays _ new_is refl

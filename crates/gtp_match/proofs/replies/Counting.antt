@@ -170,7 +170,8 @@ answers_count c new s engine entry later reply bytes used fault hears none up en
     confirms : (x : Controller) → new ≡ x → IfSome x.verdict IsEnd
         → (side_of x.sides s).up ≡ Some (confirmed (heard_reply engine)) → IsCounted c new s engine entry later reply
     confirms x new_is ends up_after =
-        IsCounted.confirmed (subst (λ (y : Controller). IfSome y.verdict IsEnd) (sym new_is) ends) (stands (confirmed (heard_reply engine)) (engine.confirmed + 1)
+        IsCounted.confirmed (subst (λ (y : Controller). IfSome y.verdict IsEnd) (sym new_is) ends)
+        (stands (confirmed (heard_reply engine)) (engine.confirmed + 1)
         (ap (up_in s) new_is ∙ up_after) refl refl)
 
     by_outcome : (o : Outcome) → outcome_of c.game s entry.command reply ≡ o → fault ≡ fault_of o
@@ -186,15 +187,19 @@ answers_count c new s engine entry later reply bytes used fault hears none up en
       IsCounted.resigned (ap (λ (x : Controller). x.verdict) new_is) (stands (answered (heard_reply engine))
           engine.confirmed (ap (up_in s) new_is ∙ up_there c.sides s (answered (heard_reply engine))) refl refl),
     )
-    by_outcome (Moves v) e fault_is new_is =
-        (fault_is, confirms _ new_is (move_ends c.setup (with_move c.game s v)) (up_there c.sides s (confirmed (heard_reply engine))))
+    by_outcome (Moves v) e fault_is new_is = (
+      fault_is,
+      confirms _ new_is (move_ends c.setup (with_move c.game s v))
+          (up_there c.sides s (confirmed (heard_reply engine))),
+    )
     by_outcome Refuses e fault_is new_is =
         by_refusal fault_is (subst (Reason c.game s entry.command reply) e (reason c.game s reply entry.command))
         (may_retake c s (heard_reply engine)) new_is
     by_outcome TakesBack e fault_is new_is =
         let why = subst (Reason c.game s entry.command reply) e (reason c.game s reply entry.command) in (
           fault_is,
-          IsCounted.taken_back why.0 why.1 (goes_on _ new_is none) (stands (taken_back (heard_reply engine)) (engine.confirmed - 1)
+          IsCounted.taken_back why.0 why.1 (goes_on _ new_is none)
+              (stands (taken_back (heard_reply engine)) (engine.confirmed - 1)
               (ap (up_in s) new_is ∙ up_there c.sides s (taken_back (heard_reply engine))) refl refl)
               (ap (λ (x : Controller). x.game) new_is) (ap (λ (x : Controller). x.pending) new_is),
         )

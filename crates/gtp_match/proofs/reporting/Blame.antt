@@ -283,7 +283,8 @@ up_told c new side engine bytes used fault loss none (HearsUp.replied {value = x
     let text = take n (engine.reader ++ bytes) in
     let o = outcome c.game side (oldest engine.unanswered) x in
     let is : HasLossCause c side engine x o cause =
-    subst (λ (r : Reply). HasLossCause c side engine r (outcome c.game side (oldest engine.unanswered) r) cause) same has
+    subst (λ (r : Reply). HasLossCause c side engine r (outcome c.game side (oldest engine.unanswered) r) cause) same
+    has
     in (
       told_with engine text cause (LosesBy c new fault) (cause_is_loss c side engine x o cause none refl is),
       fits_with engine text cause (Fits c side engine o) (cause_fits c side engine x o cause is),

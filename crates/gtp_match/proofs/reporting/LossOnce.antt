@@ -1,9 +1,9 @@
 -- What loses a side.
-use Rattle.std.proofs.Common.{◌≡◌, ℕ, zero, suc, ◌+◌, ◌-◌, ◌≤◌, List, [], ◌∷◌, ◌++◌, length, take, Option, Some, None}
+use Rattle.std.proofs.Common.{◌≡◌, ℕ, zero, suc, ◌+◌, ◌-◌, List, [], ◌∷◌, ◌++◌, length, take, Option, Some, None}
 use Rattle.std.proofs.Common.{Ok, Err, refl, ap, sym, subst, ◌∙◌, arith}
 use Rattle.std.specs.Prelude.{option_map, IfSome}
 use Rattle.std.proofs.Math.Seq.{take-append-add, take-length}
-use Rattle.std.proofs.lemmas.List.{take-take, take_all}
+use Rattle.std.proofs.lemmas.List.{take-take}
 use Rattle.go_base.specs.declared.colours.Colour.{Colour}
 use Rattle.gtp_wire.specs.declared.replies.Reply.{Reply}
 use Rattle.gtp_wire.specs.declared.replies.ReplyFault.{ReplyFault}
@@ -15,15 +15,17 @@ use Rattle.gtp_match.specs.declared.losses.Owed.{Owed}
 use Rattle.gtp_match.specs.declared.reply_table.Outcome.{Outcome}
 use Rattle.gtp_match.specs.declared.reply_table.Outcome.TheVariants as made
 use Rattle.gtp_match.specs.declared.reports.Notice.{Notice}
-use Rattle.gtp_match.specs.declared.reports.Notice.TheVariants.{Fails}
+use Rattle.gtp_match.specs.declared.reports.Finding.{Finding}
+use Rattle.gtp_match.specs.declared.reports.Finding.TheVariants.{Fails}
 use Rattle.gtp_match.specs.declared.sides.EngineRun.{EngineRun}
 use Rattle.gtp_match.specs.declared.sides.Sides.{Sides}
 use Rattle.gtp_match.specs.declared.verdicts.ForfeitCause.TheVariants as forfeit
 use Rattle.gtp_match.specs.declared.verdicts.Verdict.{Verdict}
 use Rattle.gtp_match.specs.Hearing.{side_fault}
-use Rattle.gtp_match.specs.Losing.{Loses, LosesUp, LosesWhere, by_reply, by_fault, nothing_yet, most_shown, owed}
-use Rattle.gtp_match.specs.Losing.{owed_of, owed_where}
-use Rattle.gtp_match.specs.private.Notices.{HasNotice, cause_in, loss_in, loss_owing}
+use Rattle.gtp_match.specs.Losing.{Loses, LosesUp, LosesWhere, by_reply, by_fault, nothing_yet, most_shown}
+use Rattle.gtp_match.specs.private.Feeding.{fed_engine}
+use Rattle.gtp_match.specs.private.Notices.{HasFinding, HasNotice, cause_in, held, held_by, loss_in, loss_owing}
+use Rattle.gtp_match.specs.private.Notices.{noticed}
 use Rattle.gtp_match.specs.ReplyTable.{outcome}
 use Rattle.gtp_match.specs.Sides.{side_of, heard_reply}
 use Rattle.gtp_match.specs.Unanswered.{oldest}
@@ -46,26 +48,6 @@ loses_up c side engine bytes loss none up h =
     let P : Option EngineRun → Type 0 = λ u. LosesWhere c side bytes None u loss in
     let Q : Option Verdict → Type 0 = λ v. LosesWhere c side bytes v (side_of c.sides side).up loss in
     subst Q (sym none) (subst P (sym up) h)
-
--- a side that is down loses nothing
-pub loses_down : (c : Controller) (side : Colour) (bytes : List ℕ)
-    → c.verdict ≡ None → (side_of c.sides side).up ≡ None → Loses c side bytes None
-loses_down c side bytes none up =
-    let P : Option EngineRun → Type 0 = λ u. LosesWhere c side bytes None u None in
-    let Q : Option Verdict → Type 0 = λ v. LosesWhere c side bytes v (side_of c.sides side).up None in
-    subst Q (sym none) (subst P (sym up) refl)
-
--- nor does any side after a verdict
-pub loses_over : (c : Controller) (side : Colour) (bytes : List ℕ) (v : Verdict) → c.verdict ≡ Some v
-    → Loses c side bytes None
-loses_over c side bytes v over =
-    let Q : Option Verdict → Type 0 = λ o. LosesWhere c side bytes o (side_of c.sides side).up None in
-    subst Q (sym over) refl
-
--- where the first fits whole
-pub take_over : (n : ℕ) (a b : List ℕ) → length a ≤ n → a ++ take (n - length a) b ≡ take n (a ++ b)
-take_over n a b fits =
-    ap (λ (t : List ℕ). t ++ take (n - length t) b) (sym (take_all n a fits)) ∙ take_joined n a b
 
 -- ---- what is shown
 
@@ -91,35 +73,40 @@ owed_showing engine shown = record {
   bytes = record { items = shown };
 }
 
--- a side that is up owes what its engine does
-pub owed_up : (c : Controller) (side : Colour) (engine : EngineRun) → c.verdict ≡ None
-    → (side_of c.sides side).up ≡ Some engine → owed c side ≡ Some (owed_of engine engine.reader)
-owed_up c side engine none up =
-    ap (λ (v : Option Verdict). owed_where v (side_of c.sides side).up) none ∙ ap (owed_where None) up
+-- what a side holds that is up
+pub held_up : (c : Controller) (side : Colour) (engine : EngineRun) → (side_of c.sides side).up ≡ Some engine
+    → held c side ≡ take most_shown engine.reader
+held_up c side engine up = ap held_by up
 
--- nothing is lost where nothing is to be reported
-pub no_loss : (o : Option Owed) (text : List ℕ) → loss_in o text None ≡ None
-no_loss None text = refl
-no_loss (Some o) text = refl
+-- a loss by what was found, of an engine
+loss_found : (engine : EngineRun) (bytes text : List ℕ) (finding : Option Finding)
+    → loss_in bytes text (option_map (noticed engine) finding)
+    ≡ option_map (loss_owing (owed_showing engine (take most_shown (bytes ++ text)))) (cause_in finding)
+loss_found engine bytes text None = refl
+loss_found engine bytes text (Some finding) = refl
 
 -- ---- what a reader told, of an engine that is up and before any verdict
 
--- what is reported of a reply is the same once its bytes were read
-pub notice_kept : (c : Controller) (new : Sides) (side : Colour) (e : EngineRun) (reply : Reply) (o : Outcome)
-    (notice : Option Notice) → HasNotice (with_sides c new) side (heard_reply e) reply o notice
-    → HasNotice c side e reply o notice
-notice_kept c new side e reply (made.Down fault) notice h = record { retake = h.retake; loss = h.loss }
-notice_kept c new side e reply made.Unfit notice h = record { retake = h.retake; loss = h.loss }
-notice_kept c new side e reply (made.Forfeits forfeit.RefusedPlay) notice h = record { retake = h.retake; loss = h.loss }
-notice_kept c new side e reply (made.Forfeits forfeit.NoMove) notice h = record { retake = h.retake; loss = h.loss }
-notice_kept c new side e reply (made.Forfeits forfeit.NoVertex) notice h = record { retake = h.retake; loss = h.loss }
-notice_kept c new side e reply (made.Forfeits forfeit.IllegalMove) notice h = record { retake = h.retake; loss = h.loss }
-notice_kept c new side e reply made.Confirms notice h = record { retake = h.retake; loss = h.loss }
-notice_kept c new side e reply made.Resigns notice h = record { retake = h.retake; loss = h.loss }
-notice_kept c new side e reply (made.Moves v) notice h = record { retake = h.retake; loss = h.loss }
-notice_kept c new side e reply made.Refuses notice h = record { retake = h.retake; loss = h.loss }
-notice_kept c new side e reply made.TakesBack notice h = record { retake = h.retake; loss = h.loss }
-notice_kept c new side e reply made.Keeps notice h = record { retake = h.retake; loss = h.loss }
+-- what is found of a reply is the same once its bytes were read
+finding_kept : (c : Controller) (new : Sides) (side : Colour) (e : EngineRun) (reply : Reply) (o : Outcome)
+    (finding : Option Finding) → HasFinding (with_sides c new) side (heard_reply e) reply o finding
+    → HasFinding c side e reply o finding
+finding_kept c new side e reply (made.Down fault) finding h = record { retake = h.retake; loss = h.loss }
+finding_kept c new side e reply made.Unfit finding h = record { retake = h.retake; loss = h.loss }
+finding_kept c new side e reply (made.Forfeits forfeit.RefusedPlay) finding h =
+    record { retake = h.retake; loss = h.loss }
+finding_kept c new side e reply (made.Forfeits forfeit.NoMove) finding h =
+    record { retake = h.retake; loss = h.loss }
+finding_kept c new side e reply (made.Forfeits forfeit.NoVertex) finding h =
+    record { retake = h.retake; loss = h.loss }
+finding_kept c new side e reply (made.Forfeits forfeit.IllegalMove) finding h =
+    record { retake = h.retake; loss = h.loss }
+finding_kept c new side e reply made.Confirms finding h = record { retake = h.retake; loss = h.loss }
+finding_kept c new side e reply made.Resigns finding h = record { retake = h.retake; loss = h.loss }
+finding_kept c new side e reply (made.Moves v) finding h = record { retake = h.retake; loss = h.loss }
+finding_kept c new side e reply made.Refuses finding h = record { retake = h.retake; loss = h.loss }
+finding_kept c new side e reply made.TakesBack finding h = record { retake = h.retake; loss = h.loss }
+finding_kept c new side e reply made.Keeps finding h = record { retake = h.retake; loss = h.loss }
 
 -- so it is what is reported of the outcome that the reply has
 pub notice_of : (c : Controller) (side : Colour) (e : EngineRun) (bytes : List ℕ) (fed : ReplyFed) (new : Sides)
@@ -128,31 +115,36 @@ pub notice_of : (c : Controller) (side : Colour) (e : EngineRun) (bytes : List �
     → IfSome (side_of new side).up (λ engine. HasNotice (with_sides c new) side engine reply o notice)
     → HasNotice c side e reply (outcome c.game side (oldest e.unanswered) reply) notice
 notice_of c side e bytes fed new reply o notice g o_is has =
+    let here : HasNotice (with_sides c new) side (heard_reply e) reply o notice =
+    subst (λ (u : Option EngineRun). IfSome u (λ engine. HasNotice (with_sides c new) side engine reply o notice))
+    (up_replied c side e bytes fed new reply g) has in
     subst (λ (x : Outcome). HasNotice c side e reply x notice) o_is
-    (notice_kept c new side e reply o notice
-    (subst (λ (u : Option EngineRun). IfSome u (λ engine. HasNotice (with_sides c new) side engine reply o notice))
-    (up_replied c side e bytes fed new reply g) has))
+    (here.0, finding_kept c new side e reply o here.0 here.1, here.2)
 
 -- a reply loses its side by the cause of its outcome, if that has one
 pub reply_loses : (c : Controller) (side : Colour) (e : EngineRun) (bytes : List ℕ) (fed : ReplyFed) (new : Sides)
     (reply : Reply) (notice : Option Notice) → HasGot c side e bytes fed new (Some (Ok reply))
     → HasNotice c side e reply (outcome c.game side (oldest e.unanswered) reply) notice
-    → Loses c side bytes (loss_in (owed c side) (take fed.used bytes) notice)
+    → Loses c side bytes (loss_in (held c side) (take fed.used bytes) notice)
 reply_loses c side e bytes fed new reply notice g has =
     let up = g.has_fed.up in
-    rw (owed_up c side e g.none up)
-    (subst (λ (t : List ℕ). Loses c side bytes (option_map (loss_owing (owed_showing e t)) (cause_in notice)))
+    rw (held_up c side e up)
+    (subst (λ (l : Option Loss). Loses c side bytes l)
+    (ap (λ (t : List ℕ). option_map (loss_owing (owed_showing e t)) (cause_in has.0))
     (sym (shown_alone e.reader bytes fed.used))
+    ∙ sym (ap (loss_in (take most_shown e.reader) (take fed.used bytes)) has.2
+    ∙ loss_found e (take most_shown e.reader) (take fed.used bytes) has.0))
     (loses_up c side e bytes _ g.none up
-    (by_reply (cause_in notice) (first_got c side e bytes fed new (Ok reply) g) has.loss)))
+    (by_reply (cause_in has.0) (first_got c side e bytes fed new (Ok reply) g) has.1.loss)))
 
 -- a fault loses its side, and all that was heard is shown
 pub fault_loses : (c : Controller) (side : Colour) (e : EngineRun) (bytes : List ℕ) (fed : ReplyFed) (new : Sides)
     (fault : ReplyFault) → HasGot c side e bytes fed new (Some (Err fault))
-    → Loses c side bytes (loss_in (owed c side) (take (length bytes) bytes) (Some (Fails (Shows (side_fault fault)))))
+    → Loses c side bytes (loss_in (held c side) (take (length bytes) bytes)
+    (Some (noticed (fed_engine e bytes fed) (Fails (Shows (side_fault fault))))))
 fault_loses c side e bytes fed new fault g =
     let up = g.has_fed.up in
-    rw (owed_up c side e g.none up)
+    rw (held_up c side e up)
     (subst (λ (t : List ℕ). Loses c side bytes (Some (loss_owing (owed_showing e t) (Shows (side_fault fault)))))
     (sym (ap (λ (t : List ℕ). take most_shown (take most_shown e.reader ++ t)) (take-length bytes)
     ∙ take_held most_shown e.reader bytes))
@@ -160,7 +152,6 @@ fault_loses c side e bytes fed new fault g =
 
 -- where nothing is told yet, nothing is lost
 pub quiet_loses : (c : Controller) (side : Colour) (e : EngineRun) (bytes : List ℕ) (fed : ReplyFed) (new : Sides)
-    (text : List ℕ) → HasGot c side e bytes fed new None → Loses c side bytes (loss_in (owed c side) text None)
-quiet_loses c side e bytes fed new text g =
-    rw (no_loss (owed c side) text)
-    (loses_up c side e bytes _ g.none g.has_fed.up (nothing_yet (nothing_got c side e bytes fed new g)))
+    → HasGot c side e bytes fed new None → Loses c side bytes None
+quiet_loses c side e bytes fed new g =
+    loses_up c side e bytes _ g.none g.has_fed.up (nothing_yet (nothing_got c side e bytes fed new g))

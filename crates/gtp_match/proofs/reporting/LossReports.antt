@@ -334,6 +334,6 @@ pub once_loss_reported : (c new : Controller) (side : Colour) (bytes : List ℕ)
 once_loss_reported c new side bytes used fault loss hears loses =
     (heard_step side c new bytes used fault loss hears loses).told
 
-pub all_losses_reported : (c new : Controller) (side : Colour) (bytes : List ℕ) (fault : Option SideFault) (loss : Option Loss)
-    → HearsReporting side c bytes fault loss new → ReportsLoss side c new fault loss
+pub all_losses_reported : (c new : Controller) (side : Colour) (bytes : List ℕ) (fault : Option SideFault)
+    (loss : Option Loss) → HearsReporting side c bytes fault loss new → ReportsLoss side c new fault loss
 all_losses_reported c new side bytes fault loss hears = (all_steps side c new bytes fault loss hears).told

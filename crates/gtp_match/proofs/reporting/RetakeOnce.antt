@@ -1,9 +1,8 @@
 -- What a match reports as retaken of the bytes that it hears: of one piece one retake at most.
-use Rattle.std.proofs.Common.{◌≡◌, ◌+◌, ◌<◌, ℕ, List, [], ◌++◌, length, take, drop, Option, Some, None, Result}
+use Rattle.std.proofs.Common.{◌≡◌, ◌+◌, ◌<◌, ℕ, List, [], ◌++◌, length, take, drop, Option, Some, None}
 use Rattle.std.proofs.Common.{Ok, Err, Bool, true, false, cond, refl, sym, ◌∙◌, ap, subst, is_some}
 use Rattle.std.specs.Prelude.{IsSome, IfSome, option_map}
 use Rattle.std.specs.Option.{option_or, option_to_list}
-use Rattle.std.proofs.Math.Seq.{take-append-add}
 use Rattle.go_base.specs.Colour.{other}
 use Rattle.go_base.specs.declared.colours.Colour.{Colour}
 use Rattle.gtp_wire.proofs.ReplyLaws.{one_first}
@@ -13,12 +12,10 @@ use Rattle.gtp_wire.specs.declared.replies.ReplyFault.{ReplyFault}
 use Rattle.gtp_wire.specs.declared.reply_reader.ReplyFed.{ReplyFed}
 use Rattle.gtp_match.specs.Controller.{with_side_up, downed}
 use Rattle.gtp_match.specs.Hearing.{KeepsAll, HearsUp, HearsWhere, HearsExactly}
-use Rattle.gtp_match.specs.Losing.{CanBeShown, owed}
-use Rattle.gtp_match.specs.private.Notices.{HasNotice, count_in, retake_in, retake_owing}
-use Rattle.gtp_match.specs.declared.losses.LossCause.{LossCause}
-use Rattle.gtp_match.specs.declared.losses.Owed.{Owed}
+use Rattle.gtp_match.specs.Losing.{CanBeShown, most_shown}
+use Rattle.gtp_match.specs.private.Notices.{HasNotice, count_in, held, noticed, retake_in, retake_owing}
 use Rattle.gtp_match.specs.declared.reports.Notice.{Notice}
-use Rattle.gtp_match.specs.declared.reports.Notice.TheVariants.{Fails}
+use Rattle.gtp_match.specs.declared.reports.Finding.{Finding}
 use Rattle.gtp_match.specs.ReplyTable.{outcome, after_outcome, retaken_at, refused}
 use Rattle.gtp_match.specs.Retaking.{retake_by, retake_of, RetakesUp, RetakesWhere, RetakesOnce, by_reply, by_fault}
 use Rattle.gtp_match.specs.Retaking.{nothing_yet, HearsRetakes, used_up, faulty, goes_on}
@@ -37,7 +34,7 @@ use Rattle.gtp_match.specs.declared.unanswered.SentCommand.{SentCommand}
 use Rattle.gtp_match.specs.declared.verdicts.SideFault.{SideFault}
 use Rattle.gtp_match.specs.declared.verdicts.Verdict.{Verdict}
 use Rattle.gtp_match.proofs.hearing.Reading.{HasGot, first_got, nothing_got}
-use Rattle.gtp_match.proofs.reporting.LossOnce.{owed_showing, owed_up, shown_alone}
+use Rattle.gtp_match.proofs.reporting.LossOnce.{held_up, owed_showing, shown_alone}
 use Rattle.gtp_match.proofs.replies.Outcomes.{answered_by}
 use Rattle.gtp_match.proofs.soundness.Replies.{retake_is, last_alone}
 use Rattle.gtp_match.proofs.hearing.Changes.{up_in, up_there, down_there}
@@ -54,39 +51,40 @@ retakes_up c side engine bytes retake none up h =
     let Q : Option Verdict → Type 0 = λ v. RetakesWhere c side bytes v (side_of c.sides side).up retake in
     subst Q (sym none) (subst P (sym up) h)
 
--- no retake is reported where nothing is
-pub no_retake : (o : Option Owed) (text : List ℕ) → retake_in o text None ≡ None
-no_retake None text = refl
-no_retake (Some o) text = refl
+-- a retake by what was found, of an engine
+retake_found : (engine : EngineRun) (bytes text : List ℕ) (finding : Option Finding)
+    → retake_in bytes text (option_map (noticed engine) finding)
+    ≡ option_map (retake_owing (owed_showing engine (take most_shown (bytes ++ text)))) (count_in finding)
+retake_found engine bytes text None = refl
+retake_found engine bytes text (Some finding) = refl
 
 -- a reply reports what its outcome does
 pub reply_retakes : (c : Controller) (side : Colour) (e : EngineRun) (bytes : List ℕ) (fed : ReplyFed) (new : Sides)
     (reply : Reply) (notice : Option Notice) → HasGot c side e bytes fed new (Some (Ok reply))
     → HasNotice c side e reply (outcome c.game side (oldest e.unanswered) reply) notice
-    → RetakesOnce c side bytes (retake_in (owed c side) (take fed.used bytes) notice)
+    → RetakesOnce c side bytes (retake_in (held c side) (take fed.used bytes) notice)
 reply_retakes c side e bytes fed new reply notice g has =
     let up = g.has_fed.up in
     let whole = take (length e.reader + fed.used) (e.reader ++ bytes) in
-    rw (owed_up c side e g.none up)
+    rw (held_up c side e up)
     (subst (λ (r : Option Retake). RetakesOnce c side bytes r)
-    (has.retake whole ∙ ap (λ (t : List ℕ). option_map (retake_owing (owed_showing e t)) (count_in notice))
-    (sym (shown_alone e.reader bytes fed.used)))
+    (has.1.retake whole ∙ ap (λ (t : List ℕ). option_map (retake_owing (owed_showing e t)) (count_in has.0))
+    (sym (shown_alone e.reader bytes fed.used))
+    ∙ sym (ap (retake_in (take most_shown e.reader) (take fed.used bytes)) has.2
+    ∙ retake_found e (take most_shown e.reader) (take fed.used bytes) has.0))
     (retakes_up c side e bytes _ g.none up (by_reply (first_got c side e bytes fed new (Ok reply) g))))
 
 -- a fault reports no retake
 pub fault_retakes : (c : Controller) (side : Colour) (e : EngineRun) (bytes : List ℕ) (fed : ReplyFed) (new : Sides)
-    (fault : ReplyFault) (text : List ℕ) (cause : LossCause) → HasGot c side e bytes fed new (Some (Err fault))
-    → RetakesOnce c side bytes (retake_in (owed c side) text (Some (Fails cause)))
-fault_retakes c side e bytes fed new fault text cause g =
-    rw (owed_up c side e g.none g.has_fed.up)
-    (retakes_up c side e bytes _ g.none g.has_fed.up (by_fault (first_got c side e bytes fed new (Err fault) g)))
+    (fault : ReplyFault) → HasGot c side e bytes fed new (Some (Err fault)) → RetakesOnce c side bytes None
+fault_retakes c side e bytes fed new fault g =
+    retakes_up c side e bytes _ g.none g.has_fed.up (by_fault (first_got c side e bytes fed new (Err fault) g))
 
 -- nor does a text of which nothing is told yet
 pub quiet_retakes : (c : Controller) (side : Colour) (e : EngineRun) (bytes : List ℕ) (fed : ReplyFed) (new : Sides)
-    (text : List ℕ) → HasGot c side e bytes fed new None → RetakesOnce c side bytes (retake_in (owed c side) text None)
-quiet_retakes c side e bytes fed new text g =
-    rw (no_retake (owed c side) text)
-    (retakes_up c side e bytes _ g.none g.has_fed.up (nothing_yet (nothing_got c side e bytes fed new g)))
+    → HasGot c side e bytes fed new None → RetakesOnce c side bytes None
+quiet_retakes c side e bytes fed new g =
+    retakes_up c side e bytes _ g.none g.has_fed.up (nothing_yet (nothing_got c side e bytes fed new g))
 
 -- ---- the ways in which bytes are heard and reported
 

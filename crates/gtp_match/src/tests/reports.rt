@@ -3,7 +3,7 @@ ghost use Rattle.std.specs.Prelude.{IfSome};
 ghost use Rattle.gtp_match.specs.Losing.{CanBeShown};
 
 use super::losses::{Owes, is_loss, owes};
-use super::steps::{black_answered, send, has_moves, start, white_sent_a1};
+use super::steps::{black_answered, has_moves, send, start, white_sent_a1};
 use crate::equal::{assert_equal, assert_true, some};
 use crate::{LossCause, Match, Retake, SideFault};
 use go_base::Side;

@@ -1,6 +1,6 @@
 use super::steps::{
-    Exchange, answer, black_answered, bring, converse, ended, refused, send, send_and_wait, has_moves,
-    start, undo_sent, up,
+    Exchange, answer, black_answered, bring, converse, ended, has_moves, refused, send,
+    send_and_wait, start, undo_sent, up,
 };
 use crate::equal::{assert_equal, assert_true};
 use crate::{ForfeitCause, Verdict};

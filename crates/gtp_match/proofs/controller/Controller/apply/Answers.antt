@@ -15,6 +15,6 @@ returns-in-Moves-clause-applied c =
     c.verdict_after-self.result c.in-Moves.is
     (is_played c.args.self.now.game c.play.new.self c.args.side c.in-Moves.vertex c.play.result may.0 may.1
     c.play.ensures.played c.play.ensures.answer)
-    (rw c.confirm-in-Moves.ensures (confirms_lent c.args.self.now.sides c.args.side c.side_of_mut.result.now c.in-Some.engine
-    c.side_of_mut.ensures.value c.in-Some.is))
+    (rw c.confirm-in-Moves.ensures (confirms_lent c.args.self.now.sides c.args.side c.side_of_mut.result.now
+    c.in-Some.engine c.side_of_mut.ensures.value c.in-Some.is))
     c.verdict_after-self.ensures

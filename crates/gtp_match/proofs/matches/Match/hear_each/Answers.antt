@@ -1,9 +1,8 @@
-use Rattle.std.proofs.Common.{◌++◌, ◌∙◌, [], List, sym, subst, Option, None}
-use Rattle.std.specs.Option.{option_or, option_to_list}
+use Rattle.std.proofs.Common.{◌∙◌, [], List, sym, subst, Option, None}
 use Rattle.std.proofs.lemmas.List.{take_rest}
 use Rattle.gtp_match.specs.declared.losses.Loss.{Loss}
 use Rattle.gtp_match.specs.declared.reports.Retake.{Retake}
-use Rattle.gtp_match.specs.Losing.{HearsReporting, first_of}
+use Rattle.gtp_match.specs.Losing.{HearsReporting}
 use Rattle.gtp_match.specs.Retaking.{HearsRetakes}
 use Rattle.gtp_match.proofs.hearing.Exactly.{none_left, some_left}
 use Rattle.gtp_match.proofs.reporting.RetakeOnce.{reports, none_again, idle_after, listed, listed_end, listed_alone}
@@ -14,7 +13,7 @@ use Rattle.gtp_match.proofs.matches.Match.hear_each.Goals as goal
 
 pub returns-then-is_some-clause-loss : goal.returns-then-is_some-clause-loss
 returns-then-is_some-clause-loss c =
-    rw (c.add.ensures.loss, c.owed-owed.ensures.owed)
+    rw (c.add.ensures.loss, c.held-held.ensures)
     (c.loop-rest.invariant.tells c.hear_once-once.result.fault _ c.hear_once-once.new.self
     (tells_faulty c.args.side c.loop-rest.self c.hear_once-once.new.self c.loop-rest.rest.now
     c.hear_once-once.result.used c.hear_once-once.result.fault _ (sym c.is_some.ensures ∙ c.if-is_some.true)
@@ -24,7 +23,7 @@ returns-then-is_some-clause-loss c =
 pub returns-then-is_some-clause-retake : goal.returns-then-is_some-clause-retake
 returns-then-is_some-clause-retake c =
     let r = reports _ _ _ _ _ _ _ c.hear_once-once.ensures.exact c.hear_once-once.ensures.retake in
-    rw (c.add.ensures.retake, c.owed-owed.ensures.owed)
+    rw (c.add.ensures.retake, c.held-held.ensures)
     (subst (λ (rs : List Retake). HearsRetakes c.args.side c.args.self.now c.args.bytes.now
     c.hear_once-once.result.fault rs c.hear_once-once.new.self)
     (sym (listed_end c.loop-rest.report.retake _
@@ -37,14 +36,14 @@ returns-then-is_some-clause-retake c =
 
 pub returns-then-is_some-clause-loss_shown : goal.returns-then-is_some-clause-loss_shown
 returns-then-is_some-clause-loss_shown c =
-    rw (c.add.ensures.loss, c.owed-owed.ensures.owed)
+    rw (c.add.ensures.loss, c.held-held.ensures)
     (shows_first c.loop-rest.report.loss _ c.loop-rest.invariant.loss_shown
     (loss_shown c.loop-rest.self c.args.side c.loop-rest.rest.now _ c.hear_once-once.ensures.sound
     c.hear_once-once.ensures.loss))
 
 pub returns-then-is_some-clause-retake_shown : goal.returns-then-is_some-clause-retake_shown
 returns-then-is_some-clause-retake_shown c =
-    rw (c.add.ensures.retake, c.owed-owed.ensures.owed)
+    rw (c.add.ensures.retake, c.held-held.ensures)
     (shows_either c.loop-rest.report.retake _ c.loop-rest.invariant.retake_shown
     (retake_shown c.loop-rest.self c.args.side c.loop-rest.rest.now _ c.hear_once-once.ensures.sound
     c.hear_once-once.ensures.retake))
@@ -54,7 +53,7 @@ loop-rest-preserved c =
     let r = reports _ _ _ _ _ _ _ c.hear_once-once.ensures.exact c.hear_once-once.ensures.retake in
     let more = some_left c.loop-rest.rest.now (sym c.is_empty.ensures ∙ c.loop-rest-test.true) in
     let no_fault = sym c.is_some.ensures ∙ c.if-is_some.false in
-    rw (c.add.ensures.loss, c.add.ensures.retake, c.owed-owed.ensures.owed) (record {
+    rw (c.add.ensures.loss, c.add.ensures.retake, c.held-held.ensures) (record {
       tells = λ shown later new told.
           rw (first_of_all c.loop-rest.report.loss _ later)
           (c.loop-rest.invariant.tells shown _ new
@@ -86,7 +85,8 @@ loop-rest-preserved c =
 
 pub returns-clause-loss : goal.returns-clause-loss
 returns-clause-loss c =
-    subst (λ (loss : Option Loss). HearsReporting c.args.side c.args.self.now c.args.bytes.now None loss c.loop-rest.self)
+    subst (λ (loss : Option Loss).
+    HearsReporting c.args.side c.args.self.now c.args.bytes.now None loss c.loop-rest.self)
     (first_of_none c.loop-rest.report.loss)
     (c.loop-rest.invariant.tells None None c.loop-rest.self
     (tells_end c.args.side c.loop-rest.self c.loop-rest.rest.now
