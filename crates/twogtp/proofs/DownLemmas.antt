@@ -1,10 +1,9 @@
 -- A side that is down has no process.
-use Rattle.std.proofs.Common.{◌≡◌, ◌∙◌, ℕ, Bool, true, false, Option, Some, None, refl, sym, ap}
+use Rattle.std.proofs.Common.{◌≡◌, ◌∙◌, ℕ, Bool, false, Option, Some, None, refl, ap}
 use Rattle.std.specs.Prelude.{is_some}
 use Rattle.go_base.specs.Colour.{other}
 use Rattle.go_base.specs.declared.colours.Colour.{Colour}
 use Rattle.go_base.specs.declared.colours.Colour.TheVariants.{Black, White}
-use Rattle.gtp_match.specs.declared.controller.Controller.{Controller}
 use Rattle.gtp_match.specs.declared.sides.Incarnation.{Incarnation}
 use Rattle.gtp_match.specs.declared.verdicts.Action.{Action}
 use Rattle.gtp_match.specs.declared.verdicts.Action.TheVariants.{Start, Send, Wait, Done}
@@ -20,7 +19,7 @@ use Rattle.twogtp.specs.declared.why.TurnReport.{TurnReport}
 use Rattle.twogtp.specs.Processes.{OtherStays, process_of, while_up}
 use Rattle.twogtp.specs.Starts.{Attempts}
 use Rattle.twogtp.specs.Turns.{DownSidesHaveNoProcess, GameState, IsTurn, Plays, Turn, not_yet, opening, turns}
-use Rattle.twogtp.proofs.LossLemmas.{OtherStaysUp, turn_leaves, up_in}
+use Rattle.twogtp.proofs.LossLemmas.{turn_leaves, up_in}
 
 -- a side has no process where it is down
 unfoldable HasNone : {P : Type 0} → GameState P → Colour → Type 0
