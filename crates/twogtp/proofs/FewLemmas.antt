@@ -1,6 +1,6 @@
 -- The turns of a game have few lines: one for each start of a side at most, and one for each retake.
 use Rattle.std.proofs.Common.{◌≡◌, ◌∙◌, ◌+◌, ◌-◌, ◌<◌, ◌≤◌, ℕ, zero, suc, List, [], ◌∷◌, length, take, drop, replicate}
-use Rattle.std.proofs.Common.{slice_set, Bool, true, false, Option, Some, None, refl, sym, ap, subst, arith, inl, inr}
+use Rattle.std.proofs.Common.{slice_set, Bool, true, false, Option, Some, None, refl, ap, subst, arith, inl, inr}
 use Rattle.std.specs.Prelude.{◌⊎◌, ◌↔◌, ◌≢◌, ◌*◌, IsSome, is_some, MatchOption}
 use Rattle.std.proofs.lemmas.List.{length-append}
 use Rattle.go_base.specs.Colour.{other}
@@ -178,11 +178,11 @@ module _ {P : Type 0} (known : Ghosts P) where
   send_carries c new s (Some old) None why sound e done = absurd done
 
   wait_carries : (c new : Controller) (s : Colour) (before after : Option P) (report : TurnReport) → IsSound c
-      → HearsFromSide known true c s before after new report → Carries c new
+      → HearsFromSide known c s before after new report → Carries c new
   wait_carries c new s None None report sound done = rw done.0 (lost_carries c s sound)
   wait_carries c new s (Some old) (Some now) report sound done = by_way new report done
     where
-      by_way : (new : Controller) (report : TurnReport) → IsHeard known true c s old now new report → Carries c new
+      by_way : (new : Controller) (report : TurnReport) → IsHeard known c s old now new report → Carries c new
       by_way new report (IsHeard.heard bytes fault some given heard reported unbroken taken) =
           heard_carries c new s bytes fault sound heard
       by_way _ _ (IsHeard.ended over given taken) = lost_carries c s sound
@@ -191,11 +191,11 @@ module _ {P : Type 0} (known : Ghosts P) where
   wait_carries c new s (Some old) None report sound done = absurd done
 
   wait_beyond : (m : ℕ) (c new : Controller) (s : Colour) (before after : Option P) (report : TurnReport) → IsSound c
-      → c.setup.max_moves ≡ m → HearsFromSide known true c s before after new report → beyond m new ≡ beyond m c
+      → c.setup.max_moves ≡ m → HearsFromSide known c s before after new report → beyond m new ≡ beyond m c
   wait_beyond m c new s None None report sound is done = rw done.0 (same_beyond m c (lost c s) (lost_retakes c s))
   wait_beyond m c new s (Some old) (Some now) report sound is done = by_way new report done
     where
-      by_way : (new : Controller) (report : TurnReport) → IsHeard known true c s old now new report
+      by_way : (new : Controller) (report : TurnReport) → IsHeard known c s old now new report
           → beyond m new ≡ beyond m c
       by_way new report (IsHeard.heard bytes fault some given heard reported unbroken taken) =
           all_beyond m s c new bytes fault sound is (all_wider s c new bytes fault heard)
@@ -374,7 +374,7 @@ module _ {P : Type 0} (known : Ghosts P) where
   turned : (m : ℕ) (commands : Commands) (before after : GameState P) (a : Action) (whose : Colour)
       (report : TurnReport) → IsSound before.game → before.game.setup.max_moves ≡ m → next before.game ≡ a
       → IsDue before.game a → IsSome report.loss ↔ TurnLosesSide before.game after.game
-      → Turn known commands true a before after whose report → Turned m before.game after.game report.loss
+      → Turn known commands a before after whose report → Turned m before.game after.game report.loss
   unfolding up_in one_if
   turned m commands before after (Start s) whose report sound is e due told turn =
       begin_turned m commands s before after report.loss sound e due turn.1

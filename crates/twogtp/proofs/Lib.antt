@@ -1,4 +1,5 @@
 mod ClosingLemmas
+mod DownLemmas
 mod FewLemmas
 mod LossLemmas
 mod OptionLemmas

@@ -193,7 +193,7 @@ module _ {P : Type 0} (known : Ghosts P) where
       cut_is_loss c new side Writing (takes_keep c side new all.number _ all.takes) live
 
   hears_told : (c new : Controller) (side : Colour) (old now : P) (report : TurnReport) → c.verdict ≡ None
-      → IsHeard known true c side old now new report → IsSome report.loss ↔ LosesSide c new
+      → IsHeard known c side old now new report → IsSome report.loss ↔ LosesSide c new
   hears_told c new side old now report live (IsHeard.heard bytes fault some given heard reported unbroken taken) =
       let lost_by = reported.1 in
       let told = (all_losses_reported c new side bytes lost_by.1.0 lost_by.0 lost_by.1.1).exact in
@@ -217,7 +217,7 @@ module _ {P : Type 0} (known : Ghosts P) where
   send_told c new side (Some old) None why live done = absurd done
 
   wait_told : (c new : Controller) (side : Colour) (before after : Option P) (report : TurnReport) → c.verdict ≡ None
-      → HearsFromSide known true c side before after new report
+      → HearsFromSide known c side before after new report
       → IsSome report.loss ↔ LosesSide c new
   wait_told c new side None None report live done =
       rw (done.0, done.1) (cut_is_loss c c side Reading (keeps_itself c) live)
@@ -227,7 +227,7 @@ module _ {P : Type 0} (known : Ghosts P) where
 
   -- why a side failed is known exactly where one did
   pub turn_told : (commands : Commands) (before after : GameState P) (a : Action) (whose : Colour) (report : TurnReport)
-      → next before.game ≡ a → Turn known commands true a before after whose report
+      → next before.game ≡ a → Turn known commands a before after whose report
       → IsSome report.loss ↔ TurnLosesSide before.game after.game
   turn_told commands before after (Start side) whose report e turn =
       begin_told commands side before after report.loss e turn.1
@@ -292,7 +292,7 @@ module _ {P : Type 0} (known : Ghosts P) where
       cut_leaves c mid side (takes_keep c side mid all.number _ all.takes)
 
   heard_leaves : (c new : Controller) (side : Colour) (old now : P) (report : TurnReport)
-      → IsHeard known true c side old now new report → OtherStaysUp c new side
+      → IsHeard known c side old now new report → OtherStaysUp c new side
   unfolding up_in
   heard_leaves c new side old now report (IsHeard.heard bytes fault some given heard reported unbroken taken) =
       let lost_by = reported.1 in
@@ -309,7 +309,7 @@ module _ {P : Type 0} (known : Ghosts P) where
   send_leaves c new side (Some old) None why done = absurd done
 
   pub wait_leaves : (c new : Controller) (side : Colour) (before after : Option P) (report : TurnReport)
-      → HearsFromSide known true c side before after new report → OtherStaysUp c new side
+      → HearsFromSide known c side before after new report → OtherStaysUp c new side
   wait_leaves c new side None None report done = rw done.0 (cut_leaves c c side (keeps_itself c))
   wait_leaves c new side (Some old) (Some now) report done = heard_leaves c new side old now report done
   wait_leaves c new side None (Some now) report done = absurd done
@@ -317,7 +317,7 @@ module _ {P : Type 0} (known : Ghosts P) where
 
   -- whose turn it was
   pub whose_turn : (commands : Commands) (before after : GameState P) (a : Action) (whose : Colour)
-      (report : TurnReport) → Turn known commands true a before after whose report → turn_side a ≡ Some whose
+      (report : TurnReport) → Turn known commands a before after whose report → turn_side a ≡ Some whose
   whose_turn commands before after (Start side) whose report turn = ap (λ (t : Colour). Some t) (sym turn.0)
   whose_turn commands before after (Send side) whose report turn = ap (λ (t : Colour). Some t) (sym turn.0)
   whose_turn commands before after (Wait side) whose report turn = ap (λ (t : Colour). Some t) (sym turn.0)
@@ -325,7 +325,7 @@ module _ {P : Type 0} (known : Ghosts P) where
 
   -- the other side stays up or down
   pub turn_leaves : (commands : Commands) (before after : GameState P) (a : Action) (whose : Colour)
-      (report : TurnReport) → Turn known commands true a before after whose report
+      (report : TurnReport) → Turn known commands a before after whose report
       → OtherStaysUp before.game after.game whose
   turn_leaves commands before after (Start side) whose report turn =
       rw turn.0 (begin_leaves commands side before after report.loss turn.1)
@@ -394,7 +394,7 @@ module _ {P : Type 0} (known : Ghosts P) where
   send_retakes c new side (Some old) None why done = absurd done
 
   heard_retakes : (c new : Controller) (side : Colour) (old now : P) (report : TurnReport) → IsSound c
-      → IsHeard known true c side old now new report → CountsReported c new (Wait side) report.retake
+      → IsHeard known c side old now new report → CountsReported c new (Wait side) report.retake
   heard_retakes c new side old now report sound
       (IsHeard.heard bytes fault some given heard reported unbroken taken) =
       reported_of c new side report.retake
@@ -405,7 +405,7 @@ module _ {P : Type 0} (known : Ghosts P) where
       none_counted c (lost c side) (Wait side) None (lost_retakes c side) refl
 
   wait_retakes : (c new : Controller) (side : Colour) (before after : Option P) (report : TurnReport) → IsSound c
-      → HearsFromSide known true c side before after new report → CountsReported c new (Wait side) report.retake
+      → HearsFromSide known c side before after new report → CountsReported c new (Wait side) report.retake
   wait_retakes c new side None None report sound done =
       rw (done.0, done.1) (none_counted c (lost c side) (Wait side) None (lost_retakes c side) refl)
   wait_retakes c new side (Some old) (Some now) report sound done = heard_retakes c new side old now report sound done
@@ -414,7 +414,7 @@ module _ {P : Type 0} (known : Ghosts P) where
 
   -- a retake is reported exactly where one more is counted
   turn_retakes : (commands : Commands) (before after : GameState P) (a : Action) (whose : Colour) (report : TurnReport)
-      → IsSound before.game → Turn known commands true a before after whose report
+      → IsSound before.game → Turn known commands a before after whose report
       → CountsReported before.game after.game a report.retake
   turn_retakes commands before after (Start side) whose report sound turn =
       none_counted before.game after.game (Start side) report.retake

@@ -24,7 +24,7 @@ pub cut_off-then : {P : Type 0} {fails : Fails P} {succeeds : GoesThrough P} {be
 cut_off-then p (broke q fault) = broke (unbroken-then p q) fault
 cut_off-then p (interrupted q tries) = interrupted (unbroken-then p q) tries
 
--- calls that didn't break, and then some that told the end of the output
+-- calls that didn't break, and then some that met the end of the output
 pub ended-then : {P : Type 0} {fails : Fails P} {succeeds : GoesThrough P} {runs_out : RunsOut P} {before mid after : P}
     → IsUnbroken fails succeeds before mid → OutputEnded fails succeeds runs_out mid after
     → OutputEnded fails succeeds runs_out before after

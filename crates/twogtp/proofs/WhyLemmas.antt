@@ -4,7 +4,7 @@ use Rattle.std.proofs.Common.{◌∙◌, ap, append_assoc}
 use Rattle.std.proofs.lemmas.List.{append-nil, take_more}
 use Rattle.twogtp.specs.Why.{shown_byte, shown_bytes}
 
--- several texts behind another, one after the other or together
+-- several texts after another, one after the other or together
 pub joined-3 : (l a b d : List ℕ) → ((l ++ a) ++ b) ++ d ≡ l ++ (a ++ (b ++ d))
 joined-3 l a b d = append_assoc (l ++ a) b d ∙ append_assoc l a (b ++ d)
 
@@ -21,7 +21,7 @@ shown_bytes-push (b ∷ bytes) last =
     ap (λ (t : List ℕ). shown_byte b ++ t) (shown_bytes-push bytes last)
     ∙ sym (append_assoc (shown_byte b) (shown_bytes bytes) (shown_byte last))
 
--- `count` bytes are shown behind a line
+-- `count` bytes are shown after a line
 pub record AreShown (bytes : List ℕ) (count : ℕ) (line text : List ℕ) : Type 0 where
   pub shown : text ≡ line ++ shown_bytes (take count bytes)
   pub short : length text ≤ length line + 4 * count

@@ -22,10 +22,10 @@ use Rattle.twogtp.specs.Processes.{IsEnded}
 abbrev pub quit_line : List ℕ
 quit_line = written_command None Quit
 
--- A reply was waited for: the process was read until its bytes told a reply, or that they are none; or its output ended
+-- A reply was waited for: the process was read until its bytes were a reply or a fault; or its output ended
 -- before that, or it was cut off. It was sent nothing.
 pub data IsAwaited {P : Type 0} (known : Ghosts P) (before after : P) : Type 0 where
-  told : (bytes : List ℕ) (count : ℕ) (answer : Result Reply ReplyFault)
+  replied : (bytes : List ℕ) (count : ℕ) (answer : Result Reply ReplyFault)
       → Appends (known.given before) (known.given after) bytes → IsFirst bytes count answer
       → IsUnbroken known.fails known.succeeds before after → Keeps (known.taken before) (known.taken after)
       → IsAwaited known before after
@@ -36,25 +36,25 @@ pub data IsAwaited {P : Type 0} (known : Ghosts P) (before after : P) : Type 0 w
       → IsCutOff known.fails known.succeeds before after → Keeps (known.taken before) (known.taken after)
       → IsAwaited known before after
 
--- A process was told to `quit`: it took the line, nothing waits to go out, and its reply was waited for. Or it took a
+-- A process was sent `quit`: it took the line, nothing waits to go out, and its reply was waited for. Or it took a
 -- beginning of the line and was cut off.
-pub data IsToldToQuit {P : Type 0} (known : Ghosts P) (before after : P) : Type 0 where
+pub data IsSentQuit {P : Type 0} (known : Ghosts P) (before after : P) : Type 0 where
   taken : {mid : P} → Appends (known.taken before) (known.taken mid) quit_line
       → IsUnbroken known.fails known.succeeds before mid → known.flushed mid
       → Keeps (known.given before) (known.given mid) → IsAwaited known mid after
-      → IsToldToQuit known before after
+      → IsSentQuit known before after
   failed : TakesPart quit_line (known.taken before) (known.taken after)
       → IsCutOff known.fails known.succeeds before after → Keeps (known.given before) (known.given after)
-      → IsToldToQuit known before after
+      → IsSentQuit known before after
 
--- a process was told to `quit`, and then it ended
+-- a process was sent `quit`, and then it ended
 pub record QuitsAndEnds {P : Type 0} (known : Ghosts P) (before : P) : Type 0 where
   pub after : P
-  pub quit : IsToldToQuit known before after
+  pub quit : IsSentQuit known before after
   pub ending : Ending
   pub left : known.leaves after ending
 
--- the same of a process, if there is one
+-- so it is of a process, if there is one
 abbrev pub QuitsIfAny : {P : Type 0} → Ghosts P → Option P → Type 0
 QuitsIfAny known None = Unit {0}
 QuitsIfAny known (Some process) = QuitsAndEnds known process
@@ -64,8 +64,8 @@ abbrev pub has_answered_all : Status → Bool
 has_answered_all Down = false
 has_answered_all (Up confirmed unanswered asked) = unanswered == 0
 
--- The process of a side was closed. One of a side that is up and owes nothing was told to `quit`, and then it ended.
--- Any other was told nothing, and it ended.
+-- The process of a side was closed. One of a side that is up and owes nothing was sent `quit`, and then it ended.
+-- Any other was sent nothing, and it ended.
 abbrev pub IsClosedWhere : {P : Type 0} → Ghosts P → Bool → Option P → Type 0
 IsClosedWhere known true process = QuitsIfAny known process
 IsClosedWhere known false process = IsEnded known process

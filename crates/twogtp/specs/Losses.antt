@@ -75,7 +75,7 @@ pub record TurnIsReported (number : ℕ) (c new : Controller) (lines : List (Lis
 abbrev pub LossesHaveLines : {P : Type 0} → Ghosts P → Type 0
 LossesHaveLines {P} known =
     (commands : Commands) (number : ℕ) (before after : GameState P) (turn : SideTurn)
-    → IsTurn known commands true before after turn
+    → IsTurn known commands before after turn
     → TurnIsReported number before.game after.game (turn_lines true number turn)
 
 -- ---- a whole game

@@ -49,10 +49,13 @@ with_games app = with_rule app (number_rule (codes "games") (pos 1) (pos 1000) (
 abbrev pub with_moves : App → App
 with_moves app = with_rule app (number_rule (codes "max-moves") (pos 1) (pos 2000) (codes "1000"))
 
--- `[--restarts N] [--record] [--show] [--why]`
-abbrev pub with_rest : App → App
-with_rest app = with_rule (with_rule (with_rule (with_rule app
-    (number_rule (codes "restarts") (pos 0) (pos 1000) (codes "2")))
+-- `[--restarts N]`
+abbrev pub with_restarts : App → App
+with_restarts app = with_rule app (number_rule (codes "restarts") (pos 0) (pos 1000) (codes "2"))
+
+-- `[--record] [--show] [--why]`
+abbrev pub with_flags : App → App
+with_flags app = with_rule (with_rule (with_rule app
     (flag_rule (codes "record")))
     (flag_rule (codes "show")))
     (flag_rule (codes "why"))
@@ -63,7 +66,7 @@ program = record (new_app (codes "twogtp")) { top = record (new_app (codes "twog
 
 -- all options, in the order of the help
 abbrev pub command_line : App
-command_line = with_rest (with_moves (with_games (with_game (with_engines program))))
+command_line = with_flags (with_restarts (with_moves (with_games (with_game (with_engines program)))))
 
 -- ---- what the words ask for
 

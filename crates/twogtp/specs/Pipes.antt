@@ -45,11 +45,11 @@ pub data IsCutOff {P : Type 0} (fails : Fails P) (succeeds : GoesThrough P) (bef
   interrupted : {mid : P} → IsUnbroken fails succeeds before mid → AreInterrupted fails mid most_tries after
       → IsCutOff fails succeeds before after
 
--- calls by which a process's output told its end, by the process before and after
+-- calls by which a process's output ended, by the process before and after
 abbrev pub RunsOut : Type 0 → Type 1
 RunsOut P = P → P → Type 0
 
--- A process's output ended: calls led from the one to the other, none of which broke, and the last one told the end.
+-- A process's output ended: calls led from the one to the other, none of which broke, and the last one met the end.
 pub data OutputEnded {P : Type 0} (fails : Fails P) (succeeds : GoesThrough P) (runs_out : RunsOut P) (before after : P)
     : Type 0 where
   ran_out : {mid : P} → IsUnbroken fails succeeds before mid → runs_out mid after

@@ -1,5 +1,5 @@
 -- What the process of a side is sent, and what is read of it, in a turn.
-use Rattle.std.specs.Prelude.{◌≡◌, ◌≢◌, ◌<◌, ◌+◌, ℕ, Bool, true, false, List, [], ◌++◌, length, Option, Some, None}
+use Rattle.std.specs.Prelude.{◌≡◌, ◌≢◌, ◌<◌, ◌+◌, ℕ, List, [], ◌++◌, length, Option, Some, None}
 use Rattle.std.specs.Prelude.{option_map}
 use Rattle.std.specs.Option.{option_to_list}
 use Rattle.std.specs.Io.KnownBytes.{Appends, Keeps}
@@ -52,8 +52,8 @@ abbrev pub cut_off : PipeCause → Controller → Colour → Option TurnLoss
 cut_off cause c side = option_map (CutOff cause) (owed c side)
 
 -- A side was to be sent its commands: all that come next for it, in one text. Its process took the whole text, no call
--- broke, and nothing waits to go out: they count as sent. Or it took the beginning of it and was cut off: the side is
--- lost, and the commands are among what it owed. It gave nothing.
+-- broke, and nothing waits to go out: they count as sent. Or it took the beginning of it and was cut off: the side
+-- fails, and the commands are among what it owed. It gave nothing.
 pub data AreSent {P : Type 0} (known : Ghosts P) (c : Controller) (side : Colour) (before after : P)
     : Controller → Option TurnLoss → Type 0 where
   taken : {text : List ℕ} {new : Controller} → TakesAllCommands c side text new
@@ -73,41 +73,40 @@ LostBy side c bytes new reported =
     (loss : Option Loss) × HearsAllReporting side c bytes loss new × (reported ≡ option_map Wrote loss)
 
 -- What is reported of bytes, all of which were heard: the `play` that is retaken by them, if any, and why the side
--- failed by them, if it did. It is looked for where it is to be written.
-abbrev pub ReportedBy : Bool → Colour → Controller → List ℕ → Controller → TurnReport → Type 0
-ReportedBy false side c bytes new report = report ≡ only_loss None
-ReportedBy true side c bytes new report =
+-- failed by them, if it did.
+abbrev pub ReportedBy : Colour → Controller → List ℕ → Controller → TurnReport → Type 0
+ReportedBy side c bytes new report =
     HearsAllRetakes side c bytes (option_to_list report.retake) new × LostBy side c bytes new report.loss
 
 -- A side was waited for. What its process gave, a byte at least, was heard, all of it, and no call broke. Or its output
--- ended, or the process was cut off, and it gave nothing: the side is lost. It was sent nothing.
-pub data IsHeard {P : Type 0} (known : Ghosts P) (why : Bool) (c : Controller) (side : Colour) (before after : P)
+-- ended, or the process was cut off, and it gave nothing: the side fails. It was sent nothing.
+pub data IsHeard {P : Type 0} (known : Ghosts P) (c : Controller) (side : Colour) (before after : P)
     : Controller → TurnReport → Type 0 where
   heard : {new : Controller} {report : TurnReport} (bytes : List ℕ) (fault : Option SideFault)
       → 0 < length bytes → Appends (known.given before) (known.given after) bytes
-      → HearsAllExactly side c bytes fault new → ReportedBy why side c bytes new report
+      → HearsAllExactly side c bytes fault new → ReportedBy side c bytes new report
       → IsUnbroken known.fails known.succeeds before after
       → Keeps (known.taken before) (known.taken after)
-      → IsHeard known why c side before after new report
+      → IsHeard known c side before after new report
   ended : OutputEnded known.fails known.succeeds known.runs_out before after
       → Keeps (known.given before) (known.given after)
       → Keeps (known.taken before) (known.taken after)
-      → IsHeard known why c side before after (lost c side) (only_loss (cut_off Ended c side))
+      → IsHeard known c side before after (lost c side) (only_loss (cut_off Ended c side))
   broke : IsCutOff known.fails known.succeeds before after
       → Keeps (known.given before) (known.given after)
       → Keeps (known.taken before) (known.taken after)
-      → IsHeard known why c side before after (lost c side) (only_loss (cut_off Reading c side))
+      → IsHeard known c side before after (lost c side) (only_loss (cut_off Reading c side))
 
--- a side was to be sent its commands, and one that has no process is lost
+-- a side was to be sent its commands, and one that has no process fails
 abbrev pub SendsToSide : {P : Type 0} → Ghosts P → Controller → Colour → Option P → Option P → Controller → Option TurnLoss
     → Type 0
 SendsToSide {P} known c side before after new why =
     WithProcess before after (λ (old now : P). AreSent known c side old now new why)
     ((new ≡ lost (sent c side) side) × (why ≡ cut_off Writing (sent c side) side))
 
--- a side was waited for, and one that has no process is lost
-abbrev pub HearsFromSide : {P : Type 0} → Ghosts P → Bool → Controller → Colour → Option P → Option P → Controller
+-- a side was waited for, and one that has no process fails
+abbrev pub HearsFromSide : {P : Type 0} → Ghosts P → Controller → Colour → Option P → Option P → Controller
     → TurnReport → Type 0
-HearsFromSide {P} known why c side before after new report =
-    WithProcess before after (λ (old now : P). IsHeard known why c side old now new report)
+HearsFromSide {P} known c side before after new report =
+    WithProcess before after (λ (old now : P). IsHeard known c side old now new report)
     ((new ≡ lost c side) × (report ≡ only_loss (cut_off Reading c side)))

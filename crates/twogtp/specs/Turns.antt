@@ -8,6 +8,7 @@ use Rattle.gtp_match.specs.declared.verdicts.Verdict.{Verdict}
 use Rattle.gtp_match.specs.Controller.{new, started, lost}
 use Rattle.gtp_match.specs.Next.{next}
 use Rattle.gtp_match.specs.Setup.{SetupRecord}
+use Rattle.gtp_match.specs.Sides.{side_of}
 use Rattle.gtp_match.specs.Sound.{IsSound}
 use Rattle.twogtp.specs.declared.failure.Failure.{Failure}
 use Rattle.twogtp.specs.declared.failure.Failure.TheVariants.{OutOfMemory, TooManyTurns, Write}
@@ -74,28 +75,28 @@ module _ {P : Type 0} (known : Ghosts P) (commands : Commands) where
   -- A turn of this side does what comes next, with its process, and nothing with the other's: its program is asked for,
   -- or it is sent its commands, all that come next for it, or it is waited for. Only a start asks for a program. Once
   -- the match is over there is no turn. And what is reported: why the side failed, if it did, and by what it wrote also
-  -- the `play` that is retaken; of what it wrote that is looked for where it is to be written.
-  abbrev pub Turn : Bool → Action → GameState P → GameState P → Colour → TurnReport → Type 0
-  Turn why (Start side) before after whose report =
+  -- the `play` that is retaken.
+  abbrev pub Turn : Action → GameState P → GameState P → Colour → TurnReport → Type 0
+  Turn (Start side) before after whose report =
       (whose ≡ side) × Begins side before after report.loss × (report.retake ≡ None)
       × OtherStays side before.processes after.processes
-  Turn why (Send side) before after whose report =
+  Turn (Send side) before after whose report =
       (whose ≡ side)
       × SendsToSide known before.game side (process_of before.processes side) (process_of after.processes side)
       after.game report.loss
       × (report.retake ≡ None) × OtherStays side before.processes after.processes × (after.asked ≡ before.asked)
-  Turn why (Wait side) before after whose report =
+  Turn (Wait side) before after whose report =
       (whose ≡ side)
-      × HearsFromSide known why before.game side (process_of before.processes side) (process_of after.processes side)
+      × HearsFromSide known before.game side (process_of before.processes side) (process_of after.processes side)
       after.game report
       × OtherStays side before.processes after.processes × (after.asked ≡ before.asked)
-  Turn why (Done verdict) before after whose report = ⊥
+  Turn (Done verdict) before after whose report = ⊥
 
   -- One turn did what the controller said. If its side is down after it, the process that the turn left to the side has
   -- ended, and how it did is known.
-  pub record IsTurn (why : Bool) (before after : GameState P) (turn : SideTurn) : Type 0 where
+  pub record IsTurn (before after : GameState P) (turn : SideTurn) : Type 0 where
     pub left : Processes P
-    pub done : Turn why (next before.game) before (record after { processes = left }) turn.side turn.report
+    pub done : Turn (next before.game) before (record after { processes = left }) turn.side turn.report
     pub kept : process_of after.processes turn.side ≡ kept_by after.game turn.side (process_of left turn.side)
     pub other : OtherStays turn.side left after.processes
     pub ended : Ends known after.game turn.side (process_of left turn.side) turn.ending
@@ -117,7 +118,7 @@ module _ {P E : Type 0} (known : Ghosts P) (errs : OutputGhosts E) (commands : C
       not_yet : Plays first had 0 first had
       turns : {count : ℕ} {before after : GameState P} {between has : E} (turn : SideTurn)
           → Plays first had count before between
-          → IsTurn known commands why before after turn
+          → IsTurn known commands before after turn
           → LinesGoOut errs (turn_lines why number turn) between has
           → Plays first had (count + 1) after has
 
@@ -132,7 +133,7 @@ module _ {P E : Type 0} (known : Ghosts P) (errs : OutputGhosts E) (commands : C
           → IsRefused commands before last
           → HasStopped first had last has OutOfMemory
       line_broke : {before : GameState P} {between : E} (turn : SideTurn) → HasPlayed first had before between
-          → IsTurn known commands why before last turn
+          → IsTurn known commands before last turn
           → LinesBreak errs (turn_lines why number turn) between has
           → HasStopped first had last has Write
       too_many_turns : Plays first had most_turns last has
@@ -149,3 +150,11 @@ module _ {P E : Type 0} (known : Ghosts P) (errs : OutputGhosts E) (commands : C
     abbrev pub TurnsEnd : GameState P → E → GameState P → E → Result Verdict Failure → Type 0
     TurnsEnd first had last has (Ok verdict) = IsPlayed first had last has verdict
     TurnsEnd first had last has (Err failure) = HasStopped first had last has failure
+
+-- After any turns of a game from its beginning on, a side that is down has no process.
+abbrev pub DownSidesHaveNoProcess : {P E : Type 0} → Ghosts P → OutputGhosts E → Type 0
+DownSidesHaveNoProcess {P} {E} known errs =
+    (commands : Commands) (why : Bool) (number count : ℕ) (setup : SetupRecord) (asked : Attempts P)
+    (last : GameState P) (had has : E) (side : Colour)
+    → Plays known errs commands why number (opening setup asked) had count last has
+    → (side_of last.game.sides side).up ≡ None → process_of last.processes side ≡ None

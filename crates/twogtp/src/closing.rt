@@ -1,7 +1,7 @@
 //! How the text of a match that is over is written, and how its processes are closed after that.
 ghost use Rattle.std.specs.Prelude.{◌≡◌, IfOk, OnOk, OnErr};
 ghost use Rattle.gtp_match.specs.Sides.{side_of, status_of};
-ghost use Rattle.twogtp.specs.Closing.{AreClosed, IsAwaited, IsToldToQuit, QuitsIfAny, has_answered_all};
+ghost use Rattle.twogtp.specs.Closing.{AreClosed, IsAwaited, IsSentQuit, QuitsIfAny, has_answered_all};
 ghost use Rattle.twogtp.specs.Games.{game_lines};
 ghost use Rattle.twogtp.specs.Processes.{AreEnded};
 ghost use Rattle.twogtp.specs.Writing.{BreaksAt, GoesOut};
@@ -24,7 +24,7 @@ use gtp_wire::{Command, Reply, ReplyReader, write_command};
 const MOST_QUIT_READS: u32 = 8193;
 
 /// A game that is over, and its verdict. Only `write` makes one, once the game's text is written and flushed. Only `close`
-/// sends `quit`, and it takes one. So no process is told to `quit` before that.
+/// sends `quit`, and it takes one. So no process is sent `quit` before that.
 pub struct WrittenGame<S: Starter> {
     played: GameInPlay<S>,
     verdict: Verdict,
@@ -64,7 +64,7 @@ impl<S: Starter> GameInPlay<S> {
 
 impl<S: Starter> WrittenGame<S> {
     /// Ends all processes, and returns the verdict: at once those of the sides that are down or still owe an answer;
-    /// then the others, each after it was told to `quit` and has answered.
+    /// then the others, each after it was sent `quit` and has answered.
     pub fn close(self) -> Verdict
         ensures verdict { result ≡ self.verdict }
         ensures closed { AreClosed S.Process.Process self.played.game self.played.processes }
@@ -107,7 +107,7 @@ fn has_answered_all(game: &Match, side: Side) -> bool
     }
 }
 
-/// Tells a process, if there is one, to `quit`, waits for its answer, and ends it.
+/// Sends a process, if there is one, `quit`, waits for its answer, and ends it.
 fn quit_and_end<P: Process>(process: Option<P>, buffer: &mut [u8; READ_ROOM])
     ensures { QuitsIfAny P.Process process }
 {
@@ -119,7 +119,7 @@ fn quit_and_end<P: Process>(process: Option<P>, buffer: &mut [u8; READ_ROOM])
 
 /// Sends `quit`, and waits for the reply.
 fn quit<P: Process>(process: &mut P, buffer: &mut [u8; READ_ROOM])
-    ensures { IsToldToQuit P.Process process.old process.new }
+    ensures { IsSentQuit P.Process process.old process.new }
 {
     let text = write_command(None, &Command::Quit);
     match write_whole(process, text.as_slice()) {

@@ -1,4 +1,4 @@
-//! What tests assert. What an assertion of std writes is proved anew wherever it stands, and a call isn't: so tests call
+//! What tests assert. What an assertion of std writes is proved anew at each place, and a call isn't: so tests call
 //! these.
 use std::fmt::Debug;
 use std::process::Abort;
@@ -8,7 +8,7 @@ pub fn assert_equal<T: PartialEq + Debug + Drop>(rt: &impl Abort, left: T, right
     assert_eq!(rt; left, right);
 }
 
-/// The same, where the case is printed beside each of the two.
+/// Both are equal. The case is printed beside each of the two.
 pub fn assert_equal_for<C: PartialEq + Debug + Drop, T: PartialEq + Debug + Drop>(
     rt: &impl Abort,
     case: C,

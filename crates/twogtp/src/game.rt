@@ -46,7 +46,7 @@ enum Step {
 }
 
 /// Plays a game of a plan, writes its text, and returns how it ended. The processes are closed once the text is written
-/// and flushed: only then is one told to `quit`. Each process that is started is ended, also after a failure.
+/// and flushed: only then is one sent `quit`. Each process that is started is ended, also after a failure.
 ///
 /// # Errors
 ///
@@ -104,7 +104,7 @@ impl<S: Starter> GameInPlay<S> {
             first errors.old last errors.new result }
     {
         for _turn in 0..MOST_TURNS {
-            match self.take_turn(plan, starter)? {
+            match self.take_turn(&plan.commands, starter)? {
                 Step::Taken(turn) => write_turn(plan.task.why, number, &turn, errors)?,
                 Step::Over(verdict) => return Ok(verdict),
             }
@@ -113,28 +113,23 @@ impl<S: Starter> GameInPlay<S> {
     }
 
     /// Does what comes next, and ends the process of the side whose turn it was, if the side is down then.
-    fn take_turn(&mut self, plan: &Plan<'_>, starter: &mut S) -> Result<Step, AllocError>
+    fn take_turn(&mut self, commands: &Commands<'_>, starter: &mut S) -> Result<Step, AllocError>
         ensures step { let before = state self.old.game self.old.processes (S.asked starter.old) in
             let after = state self.new.game self.new.processes (S.asked starter.new) in
-            IfOk result
-            (IsStep S.Process.Process plan.now.commands plan.now.task.why before after) }
-        ensures refused { OnErr result (IsRefused plan.now.commands
+            IfOk result (IsStep S.Process.Process commands.now before after) }
+        ensures refused { OnErr result (IsRefused commands.now
             (state self.old.game self.old.processes (S.asked starter.old))
             (state self.new.game self.new.processes (S.asked starter.new))) }
     {
         let (side, report) = match self.game.next() {
-            Action::Start(side) => (side, self.start(side, &plan.commands, starter)?),
-            Action::Send(side) => (
-                side,
-                send(&mut self.game, side, self.processes.process_mut(side)),
-            ),
+            Action::Start(side) => (side, self.start(side, commands, starter)?),
+            Action::Send(side) => {
+                let process = self.processes.process_mut(side);
+                (side, send(&mut self.game, side, process))
+            }
             Action::Wait(side) => {
                 let process = self.processes.process_mut(side);
-                let why = plan.task.why;
-                (
-                    side,
-                    hear(&mut self.game, side, process, &mut self.buffer, why),
-                )
+                (side, hear(&mut self.game, side, process, &mut self.buffer))
             }
             Action::Done(verdict) => return Ok(Step::Over(verdict)),
         };

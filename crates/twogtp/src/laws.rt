@@ -1,13 +1,14 @@
 //! Laws of the program. Each is the contract of a function that does nothing.
 ghost use Rattle.twogtp.specs.Losses.{LinesAreFew, LossesHaveLines};
+ghost use Rattle.twogtp.specs.Turns.{DownSidesHaveNoProcess};
 
 use crate::output::Output;
 use crate::starter::Process;
 
 /// Where turns are reported, a turn has at most two lines, of the side whose turn it was. It has the line of a retake
 /// exactly where the match counts one more, and that comes first: the side refused the last move, which the other one
-/// made. It has the line of a loss exactly where it loses a side: a program that can't be started, a side that goes
-/// down, one that forfeits, or one that is unfit. No other turn has a line.
+/// made. It has the line of a loss exactly where a side fails in it. Then a program can't be started, or a side goes
+/// down, forfeits or is unfit. No other turn has a line.
 pub fn losses_have_lines<P: Process>()
     ensures { LossesHaveLines P.Process }
 {}
@@ -16,4 +17,9 @@ pub fn losses_have_lines<P: Process>()
 /// three for each move that the setup allows.
 pub fn lines_are_few<P: Process, E: Output>()
     ensures { LinesAreFew P.Process E.Output }
+{}
+
+/// After any turns of a game from its beginning on, a side that is down has no process.
+pub fn down_sides_have_no_process<P: Process, E: Output>()
+    ensures { DownSidesHaveNoProcess P.Process E.Output }
 {}

@@ -16,7 +16,7 @@ pub trait Output {
     // A call that failed led from the one to the other.
     ghost fails: { Self → Self → Type 0 };
 
-    // A call that took a byte, or let go out what was taken, led from the one to the other.
+    // A call that took a byte, or flushed what was taken, led from the one to the other.
     ghost succeeds: { Self → Self → Type 0 };
 
     // Nothing that it took waits to go out.
@@ -32,7 +32,7 @@ pub trait Output {
             fails self.old self.new) }
         ensures failed { OnErr result (fails self.old self.new) };
 
-    /// Lets go out what was taken.
+    /// Flushes what was taken.
     fn flush(&mut self) -> Result<(), NotWritten>
         ensures contents { Keeps (contents self.old) (contents self.new) }
         ensures succeeded { OnOk result (succeeds self.old self.new) }
@@ -40,7 +40,7 @@ pub trait Output {
         ensures failed { OnErr result (fails self.old self.new) };
 }
 
-// A writer of the standard library tells its bytes, and nothing of its calls.
+// A writer of the standard library states its bytes, and nothing of its calls.
 impl<W: Write> Output for W {
     ghost contents = { W.contents };
 

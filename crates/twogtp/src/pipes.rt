@@ -42,7 +42,7 @@ pub fn read_once<P: Process>(process: &mut P, buffer: &mut [u8]) -> Result<usize
     Err(CutOff)
 }
 
-/// Sends the whole text, and lets it go out.
+/// Sends the whole text, and flushes it.
 ///
 /// # Errors
 ///
@@ -89,7 +89,7 @@ fn write_once<P: Process>(process: &mut P, text: &[u8]) -> Result<usize, CutOff>
     Err(CutOff)
 }
 
-/// Lets go out what was sent.
+/// Flushes what was sent.
 fn flush<P: Process>(process: &mut P) -> Result<(), CutOff>
     ensures unbroken { OnOk result (IsUnbroken P.fails P.succeeds process.old process.new) }
     ensures flushed { OnOk result (P.flushed process.new) }

@@ -1,5 +1,5 @@
 //! From the options of a run to the engines' commands and the task.
-ghost use Rattle.std.specs.Prelude.{◌≡◌, IfOk, IfErr};
+ghost use Rattle.std.specs.Prelude.{IfOk, IfErr};
 ghost use Rattle.twogtp.specs.Tasks.{AreCommandsOf, HasNoPlan, HaveWords, IsCommand, IsMistake, IsPlanOf, IsTaskOf};
 
 use crate::failure::{Mistake, PlanError};

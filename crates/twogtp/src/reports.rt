@@ -1,5 +1,5 @@
 //! What is reported of a turn is written.
-ghost use Rattle.std.specs.Prelude.{◌≡◌, true, IfSome, OnOk, OnErr};
+ghost use Rattle.std.specs.Prelude.{IfSome, OnOk, OnErr};
 ghost use Rattle.gtp_match.specs.Losing.{CanBeShown};
 ghost use Rattle.twogtp.specs.Turns.{turn_lines};
 ghost use Rattle.twogtp.specs.Why.{LossCanBeShown, ReportCanBeShown, loss_lines, retake_lines};

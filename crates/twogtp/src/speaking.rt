@@ -17,7 +17,7 @@ use crate::why::{PipeCause, TurnLoss, TurnReport};
 use go_base::Side;
 use gtp_match::{Match, Report, Status};
 
-/// Sends a side its commands: all that come next for it. A side that has no process is lost. It returns why it failed,
+/// Sends a side its commands: all that come next for it. A side that has no process fails. It returns why it failed,
 /// if it did.
 pub fn send<P: Process>(game: &mut Match, side: Side, process: &mut Option<P>) -> TurnReport
     requires { next game.old ≡ action.Send side }
@@ -36,7 +36,7 @@ pub fn send<P: Process>(game: &mut Match, side: Side, process: &mut Option<P>) -
     }
 }
 
-/// Writes a side's commands to its process, in one text. A side that is cut off is lost.
+/// Writes a side's commands to its process, in one text. A side that is cut off fails.
 fn send_to<P: Process>(game: &mut Match, side: Side, process: &mut P) -> TurnReport
     ensures sent { AreSent P.Process game.old side process.old process.new game.new result.loss }
     ensures retake { result.retake ≡ None }
@@ -49,62 +49,54 @@ fn send_to<P: Process>(game: &mut Match, side: Side, process: &mut P) -> TurnRep
     }
 }
 
-/// Hears what a side writes. A side that has no process is lost. It returns what is reported of that; what a side wrote
-/// is looked at only where that is to be written.
+/// Hears what a side writes. A side that has no process fails. It returns what is reported of that.
 pub fn hear<P: Process>(
     game: &mut Match,
     side: Side,
     process: &mut Option<P>,
     buffer: &mut [u8; READ_ROOM],
-    why: bool,
 ) -> TurnReport
     requires { next game.old ≡ action.Wait side }
-    ensures hears { HearsFromSide P.Process why game.old side process.old process.new
+    ensures hears { HearsFromSide P.Process game.old side process.old process.new
         game.new result }
     ensures shown { ReportCanBeShown result }
 {
     match process {
-        Some(process) => hear_from(game, side, process, buffer, why),
+        Some(process) => hear_from(game, side, process, buffer),
         None => cut_off(game, side, PipeCause::Reading),
     }
 }
 
 /// Reads once, and hears all that the process wrote, before anything else is done. A side whose stream has ended or
-/// that is cut off is lost. A process that has several commands to answer may run first.
+/// that is cut off fails. A process that has several commands to answer may run first.
 fn hear_from<P: Process>(
     game: &mut Match,
     side: Side,
     process: &mut P,
     buffer: &mut [u8; READ_ROOM],
-    why: bool,
 ) -> TurnReport
-    ensures heard { IsHeard P.Process why game.old side process.old process.new
+    ensures heard { IsHeard P.Process game.old side process.old process.new
         game.new result }
     ensures shown { ReportCanBeShown result }
 {
     if has_several_unanswered(game, side) {
-        process.let_run();
+        process.go_first();
     }
     match read_once(process, buffer) {
         Ok(0) => cut_off(game, side, PipeCause::Ended),
-        Ok(count) => hear_bytes(game, side, &buffer[..count], why),
+        Ok(count) => hear_bytes(game, side, &buffer[..count]),
         Err(CutOff) => cut_off(game, side, PipeCause::Reading),
     }
 }
 
 /// Hears the bytes of a side, all of them, and returns what is reported of them: the `play` that is retaken, and why
 /// the side failed by them.
-fn hear_bytes(game: &mut Match, side: Side, bytes: &[u8], why: bool) -> TurnReport
+fn hear_bytes(game: &mut Match, side: Side, bytes: &[u8]) -> TurnReport
     ensures heard { (fault : Option SideFault)
         × HearsAllExactly side game.old bytes.now fault game.new }
-    ensures reported { ReportedBy why side game.old bytes.now game.new result }
+    ensures reported { ReportedBy side game.old bytes.now game.new result }
     ensures shown { ReportCanBeShown result }
 {
-    if !why {
-        // A fault puts the side down; why it did isn't to be written.
-        let _ = game.hear_all(side, bytes);
-        return TurnReport::only_loss(None);
-    }
     let Report { retake, loss } = game.hear_reporting(side, bytes);
     TurnReport {
         retake,
@@ -115,7 +107,7 @@ fn hear_bytes(game: &mut Match, side: Side, bytes: &[u8], why: bool) -> TurnRepo
     }
 }
 
-/// A side is cut off, and so lost. It returns why, with what the side owed; nothing else is reported.
+/// A side is cut off, and so fails. It returns why, with what the side owed; nothing else is reported.
 fn cut_off(game: &mut Match, side: Side, cause: PipeCause) -> TurnReport
     ensures lost { game.new ≡ lost game.old side }
     ensures report { result ≡ only_loss (cut_off cause game.old side) }

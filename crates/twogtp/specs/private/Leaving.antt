@@ -1,4 +1,4 @@
--- Which processes are left before any is told to `quit`.
+-- Which processes are left before any is sent `quit`.
 use Rattle.std.specs.Prelude.{◌≡◌, Bool, true, false, Option, None}
 use Rattle.twogtp.specs.declared.starter.Process.{Ghosts}
 use Rattle.twogtp.specs.Processes.{IsEnded}

@@ -12,7 +12,7 @@ abbrev pub with_process : {P : Type 0} → Colour → Option P → Processes P �
 with_process Black process processes = record processes { black = process }
 with_process White process processes = record processes { white = process }
 
--- the processes end with the last value behind the reference in place of the side's
+-- the processes end with the last value that the reference shows in place of the side's
 abbrev pub LendsProcess : (P : RattleType) → MutBor (Processes P.Denot) → Colour → MutBor (Option P.Denot) → Fml
 LendsProcess P processes side lent =
     Lends (the_row P) (OptionOf P) processes lent (λ process. with_process side process processes.now)

@@ -1,5 +1,5 @@
 -- What one round of a game's loop does.
-use Rattle.std.specs.Prelude.{◌≡◌, Bool}
+use Rattle.std.specs.Prelude.{◌≡◌}
 use Rattle.gtp_match.specs.declared.verdicts.Action.TheVariants.{Done}
 use Rattle.gtp_match.specs.Next.{next}
 use Rattle.gtp_match.specs.Sound.{IsSound}
@@ -11,8 +11,8 @@ use Rattle.twogtp.specs.Turns.{GameState, IsTurn}
 use Rattle.twogtp.specs.Why.{ReportCanBeShown}
 
 -- a turn was taken, of which everything can be written; or the match is over, and nothing was done
-abbrev pub IsStep : {P : Type 0} → Ghosts P → Commands → Bool → GameState P → GameState P → Step → Type 0
-IsStep known commands why before after (Taken turn) =
-    IsTurn known commands why before after turn × ReportCanBeShown turn.report
-IsStep known commands why before after (Over verdict) =
+abbrev pub IsStep : {P : Type 0} → Ghosts P → Commands → GameState P → GameState P → Step → Type 0
+IsStep known commands before after (Taken turn) =
+    IsTurn known commands before after turn × ReportCanBeShown turn.report
+IsStep known commands before after (Over verdict) =
     (next before.game ≡ Done verdict) × IsSound before.game × (after ≡ before)

@@ -43,7 +43,7 @@ fn an_interrupted_call_is_tried_again(rt: HostRuntime) -> Result<(), Fail> {
     let once = "interrupted once";
     let often = "interrupted often";
     for engines in [(once, FIRST), (FIRST, once), (often, once)] {
-        // No side is lost by an interruption.
+        // No side fails by an interruption.
         let line = "game 1: limit moves 10 restarts 0 0\n";
         assert_plays(&rt, engines, TO_THE_LIMIT.as_slice(), line, 0)?;
         // At least each byte of `genmove b` and of its reply, five times.
@@ -88,7 +88,7 @@ fn a_process_goes_first_while_the_processor_is_back_within_a_millisecond(
         (over, Some(0), over),
     ];
     for (before, step, after) in cases {
-        assert_equal(&rt, before.let_run(&Ticking::new(step)), after);
+        assert_equal(&rt, before.go_first(&Ticking::new(step)), after);
     }
     Ok(())
 }
@@ -163,7 +163,7 @@ fn commands_that_come_next_go_out_in_one_write(rt: HostRuntime) -> Result<(), Fa
     // `genmove`, and `quit` to both.
     assert_equal(&rt, ran.log.writes.get(), 7);
     // Each side has several commands to answer once, and else one.
-    assert_equal(&rt, ran.log.let_run.get(), 2);
+    assert_equal(&rt, ran.log.go_first.get(), 2);
     Ok(())
 }
 

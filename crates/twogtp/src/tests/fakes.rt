@@ -271,8 +271,8 @@ impl Process for Talk {
         self.interrupt()
     }
 
-    fn let_run(&self) {
-        add_one(&self.log.let_run);
+    fn go_first(&self) {
+        add_one(&self.log.go_first);
     }
 
     fn end(self) -> Ending {
@@ -311,7 +311,7 @@ pub struct Counts {
     /// How many writes went through.
     pub writes: Cell<u32>,
     /// How often one was let run before it was read.
-    pub let_run: Cell<u32>,
+    pub go_first: Cell<u32>,
     /// How many calls of pipes were interrupted.
     pub interrupted: Cell<u32>,
 }
@@ -330,7 +330,7 @@ pub fn new_log(alloc: Global) -> Result<Log, AllocError> {
         flushed_by_quits: Cell::new(0),
         flushed_by_starts: Cell::new(0),
         writes: Cell::new(0),
-        let_run: Cell::new(0),
+        go_first: Cell::new(0),
         interrupted: Cell::new(0),
     };
     Ok(Rc::new(alloc, counts)?)

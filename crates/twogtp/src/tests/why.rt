@@ -2,7 +2,7 @@
 use super::fakes::{Full, Talk, new_log};
 use super::runs::{Ran, narrow, run_between, run_into};
 use crate::equal::{assert_equal, assert_equal_for, assert_true_for};
-use crate::laws::{lines_are_few, losses_have_lines};
+use crate::laws::{down_sides_have_no_process, lines_are_few, losses_have_lines};
 use crate::why_text::shown_for_test;
 use std::alloc::Global;
 use std::str;
@@ -186,4 +186,5 @@ fn bytes_that_are_not_printable_are_escaped(rt: HostRuntime) -> Result<(), Fail>
 fn the_laws_of_lines_can_be_cited(_rt: HostRuntime) {
     losses_have_lines::<Talk>();
     lines_are_few::<Talk, Full>();
+    down_sides_have_no_process::<Talk, Full>();
 }

@@ -4,7 +4,7 @@ use Rattle.std.specs.Io.KnownBytes.{Keeps}
 use Rattle.std.proofs.KnownBytes.{Appends-kept, Appends-nil, Appends-trans, Keeps-refl, Keeps-trans}
 use Rattle.std.proofs.lemmas.Grind.{common_steps}
 use Rattle.gtp_wire.proofs.ReplyReadingLemmas.{read_nothing}
-use Rattle.twogtp.specs.Closing.{broke, ended, told}
+use Rattle.twogtp.specs.Closing.{broke, ended, replied}
 use Rattle.twogtp.specs.Pipes.{untouched}
 use Rattle.twogtp.proofs.ClosingLemmas.{held, quiet_still, told_there, too_many_tell}
 use Rattle.twogtp.proofs.PipeLemmas.{cut_off-then, ended-then, unbroken-then}
@@ -30,7 +30,7 @@ returns-in-Ok-eq0 g c =
 pub returns-then-is_some : goal.returns-then-is_some
 returns-then-is_some g c =
     let found = told_there _ _ _ _ _ c.feed_into.result.got (search rules) c.feed_into.ensures.reads in
-    told _ _ found.0 (Appends-trans _ _ _ _ _ c.loop-read.invariant.given (search rules)) found.1
+    replied _ _ found.0 (Appends-trans _ _ _ _ _ c.loop-read.invariant.given (search rules)) found.1
     (unbroken-then c.loop-read.invariant.unbroken (c.in-Ok.ensures.unbroken (grind (arith, c.in-Ok.count-is))))
     (Keeps-trans _ _ _ c.loop-read.invariant.taken c.in-Ok.ensures.taken)
 

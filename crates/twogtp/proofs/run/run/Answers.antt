@@ -1,9 +1,7 @@
-use Rattle.std.proofs.Common.{◌≡◌, ◌⊎◌, ◌∙◌, ℕ, Result, Ok, Err, inl, inr, arith, refl, subst}
+use Rattle.std.proofs.Common.{◌≡◌, ◌⊎◌, ◌∙◌, ℕ, Result, Ok, Err, inl, inr, arith, refl}
 use Rattle.std.specs.Prelude.{string_bytes}
 use Rattle.std.specs.Result.{IsOkAnd}
-use Rattle.twogtp.specs.Status.{ReportsFailure, done, own_failure, some_given_up, usage_failure}
-use Rattle.twogtp.specs.declared.failure.PlanError.{PlanError}
-use Rattle.twogtp.specs.declared.failure.PlanError.TheVariants.{BadWords, OutOfMemory}
+use Rattle.twogtp.specs.Status.{done, own_failure, some_given_up, usage_failure}
 use Rattle.twogtp.proofs.WritingLemmas.{games_are_quiet, status_range}
 use Rattle.twogtp.proofs.run.run.Goals as goal
 
