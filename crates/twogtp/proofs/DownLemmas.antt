@@ -4,7 +4,7 @@ use Rattle.std.specs.Prelude.{is_some}
 use Rattle.go_base.specs.Colour.{other}
 use Rattle.go_base.specs.declared.colours.Colour.{Colour}
 use Rattle.go_base.specs.declared.colours.Colour.TheVariants.{Black, White}
-use Rattle.gtp_match.specs.declared.sides.Incarnation.{Incarnation}
+use Rattle.gtp_match.specs.declared.sides.EngineRun.{EngineRun}
 use Rattle.gtp_match.specs.declared.verdicts.Action.{Action}
 use Rattle.gtp_match.specs.declared.verdicts.Action.TheVariants.{Start, Send, Wait, Done}
 use Rattle.gtp_match.specs.Next.{next}
@@ -25,15 +25,15 @@ use Rattle.twogtp.proofs.LossLemmas.{turn_leaves, up_in}
 unfoldable HasNone : {P : Type 0} → GameState P → Colour → Type 0
 HasNone st side = up_in st.game side ≡ None → process_of st.processes side ≡ None
 
-down_has_none : {P : Type 0} (u : Option Incarnation) (process kept : Option P) → u ≡ None
+down_has_none : {P : Type 0} (u : Option EngineRun) (process kept : Option P) → u ≡ None
     → kept ≡ while_up (status_of u) process → kept ≡ None
 down_has_none None process kept down is = is
 down_has_none (Some engine) process kept down is = absurd (cc)
 
-was_down : (old new : Option Incarnation) → is_some new ≡ is_some old → new ≡ None → old ≡ None
+was_down : (old new : Option EngineRun) → is_some new ≡ is_some old → new ≡ None → old ≡ None
 was_down None new same down = refl
 was_down (Some engine) new same down =
-    absurd (let gone : is_some new ≡ false = ap (λ (u : Option Incarnation). is_some u) down in cc)
+    absurd (let gone : is_some new ≡ false = ap (λ (u : Option EngineRun). is_some u) down in cc)
 
 -- of the other side the process is the same one
 other_process : {P : Type 0} (side : Colour) (before after : Processes P) → OtherStays side before after
