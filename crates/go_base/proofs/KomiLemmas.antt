@@ -277,7 +277,7 @@ sign_split_by b bs true is_minus e0 e1 = let same : b ≡ 43 = grind (arith, nat
 sign_split_by b bs false true e0 e1 = let same : b ≡ 45 = grind (arith, nat_tests) in ap (λ c. c ∷ bs) same
 sign_split_by b bs false false e0 e1 = refl
 
--- a text is its sign and what is behind it
+-- a text is its sign and what comes after it
 sign_split : (text : List ℕ) → text ≡ sign_text (sign_of text) ++ without_sign text
 sign_split [] = refl
 sign_split (b ∷ bs) = sign_split_by b bs _ _ refl refl
@@ -335,7 +335,7 @@ spells_komi_of half_points text e =
       value = parts.value ∙ ap (with_sign (sign_of text)) u.value;
     }
 
--- a text that spells no number behind its sign spells no komi
+-- a text that spells no number after its sign spells no komi
 pub no_komi : (text : List ℕ) → None ≡ unsigned_half_points_of (without_sign text) → (half_points : ℤ)
     → SpellsKomi half_points text → ⊥
 no_komi text none half_points spelled =

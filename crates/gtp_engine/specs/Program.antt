@@ -23,7 +23,7 @@ use Rattle.gtp_engine.specs.declared.options.Options.{Options}
 use Rattle.gtp_engine.specs.declared.options.PolicyName.{PolicyName}
 use Rattle.gtp_engine.specs.declared.options.PolicyName.TheVariants.{First, Random, Book}
 use Rattle.gtp_engine.specs.Options.{AsksFor, AsksForText, HasFault, IsMistake, Spells}
-use Rattle.gtp_engine.specs.Status.{done, own_failure, status_after, IsRequest, TellsFailure, TellsEnd}
+use Rattle.gtp_engine.specs.Status.{done, own_failure, status_after, IsRequest, ReportsFailure, ReportsEnd}
 
 -- what the program's streams show: its input, its output, and its standard error
 pub record Streams : Type 0 where
@@ -64,7 +64,7 @@ pub record HasConversed (options : Options) (status : ℕ) (before after : Strea
   pub came_out : PolicyCameOut options.policy options.seed entries options.rule fault served
       before.input after.input before.output after.output
   pub status_is : status ≡ status_after served
-  pub told : TellsEnd served before.errors after.errors
+  pub reported : ReportsEnd served before.errors after.errors
 
 -- the words ask for such options
 pub record HasServed (words : List Text) (status : ℕ) (before after : Streams) : Type 0 where
@@ -78,7 +78,7 @@ pub record HasServed (words : List Text) (status : ℕ) (before after : Streams)
 abbrev pub IsShown : List ℕ → ℕ → Sink → Sink → Sink → Sink → Type 0
 IsShown text status output output_now errors errors_now =
     ((status ≡ done) × TookWhole text output output_now × (errors_now ≡ errors))
-    ⊎ ((status ≡ own_failure) × TookPart text output output_now × TellsFailure (Serve Write) errors errors_now)
+    ⊎ ((status ≡ own_failure) × TookPart text output output_now × ReportsFailure (Serve Write) errors errors_now)
 
 -- the words ask for the help or the version, and one text was written, or the writer failed in it
 pub record HasHelped (words : List Text) (status : ℕ) (before after : Streams) : Type 0 where
@@ -91,7 +91,7 @@ pub record HasHelped (words : List Text) (status : ℕ) (before after : Streams)
 -- The program could not go on, and reports that memory was refused.
 pub record IsOutOfMemory (status : ℕ) (before after : Streams) : Type 0 where
   pub status_is : status ≡ own_failure
-  pub told : TellsFailure OutOfMemory before.errors after.errors
+  pub reported : ReportsFailure OutOfMemory before.errors after.errors
 
 -- The words ask for options whose texts have a mistake. The first one is reported.
 pub record AsksWrongly (words : List Text) (errors errors_now : Sink) : Type 0 where
@@ -99,10 +99,10 @@ pub record AsksWrongly (words : List Text) (errors errors_now : Sink) : Type 0 w
   pub asked : AsksFor words options
   pub failure : Failure
   pub mistake : IsMistake options failure
-  pub told : TellsFailure failure errors errors_now
+  pub reported : ReportsFailure failure errors errors_now
 
--- The words have a mistake, or the texts that they give as a book and as a fault do. What is reported of a mistake in the
--- words is not said here.
+-- The words have a mistake, or the texts that they give as a book and as a fault do. What is reported of a mistake in
+-- the words is not said here.
 abbrev pub HasMistake : List Text → Sink → Sink → Type 0
 HasMistake words errors errors_now =
     ((kind : ErrorKind) × (¬ IsRequest kind) × HasFault words kind) ⊎ AsksWrongly words errors errors_now

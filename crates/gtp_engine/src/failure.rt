@@ -1,6 +1,6 @@
 //! The failures that the program reports in a line of its own.
 ghost use Rattle.std.specs.Prelude.{◌≡◌, ◌≢◌};
-ghost use Rattle.gtp_engine.specs.Status.{TellsFailure, failure_line, status_for};
+ghost use Rattle.gtp_engine.specs.Status.{ReportsFailure, failure_line, status_for};
 
 use gtp_session::serve::ServeFault;
 use gtp_session::streams::{Outgoing, send};
@@ -64,10 +64,10 @@ impl Failure {
     }
 }
 
-/// Tells the failure in one line, and returns the status. A writer that fails doesn't change the status.
-pub fn tell<E: Outgoing>(failure: Failure, errors: &mut E) -> u8
+/// Reports the failure in one line, and returns the status. A writer that fails doesn't change the status.
+pub fn report<E: Outgoing>(failure: Failure, errors: &mut E) -> u8
     ensures status { result ≡ status_for failure }
-    ensures told { TellsFailure failure (E.shown errors.old) (E.shown errors.new) }
+    ensures reported { ReportsFailure failure (E.shown errors.old) (E.shown errors.new) }
 {
     let _ = send(errors, failure.line());
     failure.status()

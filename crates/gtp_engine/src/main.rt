@@ -11,7 +11,7 @@ mod standard;
 #[cfg(test)]
 mod tests;
 
-use failure::{Failure, tell};
+use failure::{Failure, report};
 use gtp_session::streams::Counted;
 use run::run;
 use standard::hold_closed;
@@ -23,7 +23,7 @@ fn main(rt: HostRuntime) -> ExitCode {
     let status = match hold_closed(&rt, rt.stdin(), rt.stdout(), rt.stderr()) {
         // They are held until the engine has ended.
         Ok(_held) => answer(&rt),
-        Err(_) => tell(Failure::NoNullDevice, &mut Counted::new(rt.stderr())),
+        Err(_) => report(Failure::NoNullDevice, &mut Counted::new(rt.stderr())),
     };
     ExitCode::from(status)
 }
@@ -39,7 +39,7 @@ fn answer(rt: &HostRuntime) -> u8 {
             &mut Counted::new(rt.stdout()),
             errors,
         ),
-        Err(error) => tell(Failure::of_arguments(error.kind()), errors),
+        Err(error) => report(Failure::of_arguments(error.kind()), errors),
     }
 }
 

@@ -14,7 +14,7 @@ use Rattle.gtp_session.specs.FaultTexts.{SpellsBetween, SpellsNumbered, SpellsFa
 
 -- ---- colons
 
--- a text with a colon is what stands before the first, the colon, and what stands behind it
+-- a text with a colon is what comes before the first, the colon, and what comes after it
 rejoined_by_test : (b : ℕ) (bs rest : List ℕ)
     → (after_first (from_colon bs) ≡ Some rest → bs ≡ before_colon bs ++ 58 ∷ rest)
     → (colon : Bool) → (b == 58) ≡ colon → after_first (cond colon (b ∷ bs) (from_colon bs)) ≡ Some rest
@@ -29,7 +29,7 @@ pub rejoined : (text rest : List ℕ) → after_first (from_colon text) ≡ Some
 rejoined [] rest e = absurd (cc)
 rejoined (b ∷ bs) rest e = rejoined_by_test b bs rest (rejoined bs rest) (b == 58) refl e
 
--- one without a colon is what stands before it
+-- one without a colon is what comes before it
 whole_by_test : (b : ℕ) (bs : List ℕ) → (after_first (from_colon bs) ≡ None → before_colon bs ≡ bs) → (colon : Bool)
     → after_first (cond colon (b ∷ bs) (from_colon bs)) ≡ None → cond colon [] (b ∷ before_colon bs) ≡ b ∷ bs
 whole_by_test b bs later true e = absurd (cc)

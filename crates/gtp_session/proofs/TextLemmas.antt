@@ -479,7 +479,7 @@ short-written_points n =
       either_length (eqb (n % 2) 1) (codes ".5") [] 2 (lit≤ tt) (lit≤ tt),
     )
 
--- a score behind the winner's letter may be the text of a reply
+-- a score after the winner's letter may be the text of a reply
 black_score_fits : (n : ℕ) → IsReplyText (codes "B+" ++ written_points n)
 black_score_fits n =
     IsReplyText-neat (codes "B+" ++ written_points n) (omega (arith, short-written_points n))

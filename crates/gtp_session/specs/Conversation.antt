@@ -37,7 +37,7 @@ pub record Conversation {P : Type 0} (may : May P) (old new : Engine P)
   pub given : Consumes gives gives_now input
   pub delivered : Delivered may old input new held holds
 
--- The last read gave the LF of a line: as many bytes as it gave reach back over those that stand behind the LF, which
+-- The last read gave the LF of a line: as many bytes as it gave reach back over those that come after the LF, which
 -- are not read as lines any more. So nothing was read after the line was executed.
 abbrev pub GaveLine : Option ℕ → List ℕ → Type 0
 GaveLine last unread = (count : ℕ) × (last ≡ Some count) × (length unread < count)

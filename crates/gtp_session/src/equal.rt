@@ -1,4 +1,4 @@
-//! What tests assert. What an assertion of std writes is proved anew wherever it stands, and a call isn't: so tests call
+//! What tests assert. What an assertion of std writes is proved anew at each place, and a call isn't: so tests call
 //! these.
 use std::fmt::Debug;
 use std::process::Abort;

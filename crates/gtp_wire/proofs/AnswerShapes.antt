@@ -1,4 +1,4 @@
--- Where something is told: a reply at two newlines, and a fault at the first byte that begins none.
+-- Where an answer comes: a reply at two newlines, and a fault at the first byte that begins none.
 use Rattle.go_base.specs.Text.{front_while}
 use Rattle.go_base.proofs.TextLemmas.{front_while-skip_while}
 use Rattle.std.proofs.Common.{◌≡◌, ℕ, ◌+◌, ◌≤◌, List, [], ◌∷◌, ◌++◌, length, take, true, false, Err}

@@ -1,4 +1,4 @@
--- Each text tells something, or is read on; and one that begins and ends as a reply does tells something.
+-- Each text gives an answer, or is read on; and one that begins and ends as a reply does gives one.
 use Rattle.go_base.proofs.General.{last_of}
 use Rattle.std.proofs.Common.{◌≡◌, ℕ, ◌<◌, ◌≤◌, List, [], ◌∷◌, ◌++◌, length}
 use Rattle.std.proofs.Common.{true, false, refl, sym, ◌∙◌, ap, subst, arith, eqb, ◌⊎◌, inl, inr, Result, Ok, Err}
@@ -25,13 +25,13 @@ use Rattle.gtp_wire.proofs.ReplyReadingLemmas.{first_overlong, first_more}
 use Rattle.gtp_wire.proofs.AnswerShapes.{HasBegun, begun_shape}
 use Rattle.gtp_wire.proofs.Controls.{control_removed}
 
--- something is told
+-- there is an answer
 pub record IsTold (text : List ℕ) : Type 0 where
   pub count : ℕ
   pub answer : Result Reply ReplyFault
   pub first : IsFirst text count answer
 
--- nothing is told yet, and a phase is reached
+-- there is no answer yet, and a phase is reached
 pub record IsUntold (text : List ℕ) : Type 0 where
   pub phase : Phase
   pub reading : IsReading text phase
@@ -112,9 +112,9 @@ read_on held (b ∷ rest) either =
 pub either_way : (text : List ℕ) → IsEither text
 either_way text = read_on [] text (inr (record { phase = Before; reading = read_nothing }))
 
--- ---- what is told has a shape, so that it is told where it is
+-- ---- an answer has a shape, so that it comes where it is
 
--- a text that begins with a status and ends with two newlines tells something
+-- a text that begins with a status and ends with two newlines gives an answer
 status_byte : (b : ℕ) → (b ≡ 61) ⊎ (b ≡ 63)
     → (is_kept b ≡ true) × (eqb b 9 ≡ false) × (is_blank b ≡ false) × (is_newline b ≡ false)
 status_byte b known = elim known [ inl e ↦ rw e (refl, refl, refl, refl) | inr e ↦ rw e (refl, refl, refl, refl) ]

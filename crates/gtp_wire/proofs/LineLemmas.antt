@@ -98,7 +98,7 @@ lines_removed u b z e =
     ∙ sym (filter-append is_kept u z))
     ∙ sym (lines_cut (u ++ z))
 
--- what is fed so far may stand for another text with the same future
+-- what is fed so far may be in place of another text with the same future
 pub lines_same : (u v : List ℕ) (b : ℕ) (z : List ℕ) → AllByRecursion (λ b. is_kept b ≡ true) u
     → AllByRecursion (λ b. is_kept b ≡ true) v → NoNewline u → NoNewline v
     → is_kept b ≡ true → is_newline b ≡ false → ((l : List ℕ) → line_of (u ++ b ∷ l) ≡ line_of (v ++ l))

@@ -49,7 +49,7 @@ two_newlines body =
     ap has_two_newlines (append_assoc body (10 ∷ []) (10 ∷ [])) ∙ has_two_newlines_two body 10 10
     ∙ or_right (has_two_newlines (body ++ 10 ∷ [])) true refl
 
--- two newlines in a row stand somewhere
+-- there are two newlines in a row
 record HasTwo (l : List ℕ) : Type 0 where
   front : List ℕ
   end : List ℕ

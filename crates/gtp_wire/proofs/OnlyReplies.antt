@@ -1,4 +1,4 @@
--- The laws of replies hold of no other way to tell.
+-- The laws of replies hold of no other way to answer.
 use Rattle.go_base.proofs.TextLemmas.{length-skip_while}
 use Rattle.std.proofs.Common.{◌≡◌, ℕ, ◌+◌, ◌<◌, ◌≤◌, List, [], ◌∷◌, ◌++◌, length, take, drop, Option, Some}
 use Rattle.std.proofs.Common.{Bool, true, false, refl, sym, ◌∙◌, ap, subst, arith, cond, eqb, ◌⊎◌, inl, inr, Result, Ok}
@@ -28,7 +28,7 @@ use Rattle.gtp_wire.proofs.Controls.{control_byte}
 use Rattle.gtp_wire.proofs.EitherWay.{IsUntold, either_way, reply_inside}
 use Rattle.gtp_wire.proofs.ReplyParts.{SaysId, SaysText, says_id, says_text, AreLeft, are_left, left_after_blanks, left_front}
 
--- what tells nothing is told nothing by any other way to tell
+-- what gives no answer gives none by any other way to answer
 abbrev Told : (List ℕ → Option (ℕ × Result Reply ReplyFault)) → List ℕ → ℕ → Result Reply ReplyFault → Type 0
 Told told text count answer = told text ≡ Some (count, answer)
 
@@ -264,7 +264,7 @@ reply_alike_told told reads raw value reply =
     (past_front told reads (prepared raw) value fits
     (subst P (sym plain.shape ∙ past_copy raw) (plain.says told reads)))
 
--- ---- the same is told
+-- ---- both give the same
 
 from_front : (told : List ℕ → Option (ℕ × Result Reply ReplyFault)) → ReadsReplies (Told told) → (text : List ℕ)
     → (count n : ℕ) (answer : Result Reply ReplyFault) → n ≡ count
@@ -334,7 +334,7 @@ first_alike told reads text count answer is = elim (either_way text) [
       absurd (quiet_alike told reads text untold.reading.quiet count answer is)
 ]
 
--- ---- what is told first is such a way to tell
+-- ---- what comes first is such a way to answer
 
 reply_at : (raw : List ℕ) (value : Reply) → IsFirst raw (length raw) (Ok value) → IsReply raw value
 reply_at raw value first =

@@ -1,4 +1,4 @@
--- In whatever pieces a text is read, the same thing is told first.
+-- In whatever pieces a text is read, the same answer comes first.
 use Rattle.std.proofs.Common.{◌≡◌, ℕ, ◌+◌, List, [], ◌++◌, length, take, Option, Some, None, Result}
 use Rattle.std.proofs.Common.{refl, sym, ◌∙◌, ap, subst, arith, append_assoc, append-nil, length-append}
 use Rattle.std.proofs.lemmas.List.{take-append-le, take_all}
@@ -19,7 +19,7 @@ reads_nothing old none =
     let same : old ≡ old ++ [] = sym (append-nil old) in
     record { first = tt; nothing = subst P same none; all = refl; within = omega arith; rest = same }
 
--- a piece that tells something, with more after it
+-- a piece that gives an answer, with more after it
 reads_longer : (old piece later : List ℕ) (used : ℕ) (answer : Result Reply ReplyFault) (new : List ℕ)
     → ReadsFirst old piece used (Some answer) new → ReadsFirst old (piece ++ later) used (Some answer) new
 reads_longer old piece later used answer new reads = record {
@@ -33,7 +33,7 @@ reads_longer old piece later used answer new reads = record {
       ∙ ap (λ (t : List ℕ). rest_after (Some answer) (old ++ t)) (sym (take-append-le used piece later reads.within));
 }
 
--- what is held after a piece that told nothing
+-- what is held after a piece that gave no answer
 held_after : (old piece : List ℕ) (used : ℕ) (mid : List ℕ) → ReadsFirst old piece used None mid → mid ≡ old ++ piece
 held_after old piece used mid reads =
     let all : used ≡ length piece = reads.all in
@@ -44,7 +44,7 @@ take_after : (piece rest : List ℕ) (used more : ℕ) → used ≡ length piece
 take_after piece rest used more all = ap (λ (n : ℕ). take (n + more) (piece ++ rest)) all
     ∙ take-append-add piece rest more
 
--- a piece that tells nothing, and what is read after it
+-- a piece that gives no answer, and what is read after it
 reads_on : (old piece rest : List ℕ) (used more : ℕ) (got : Option (Result Reply ReplyFault)) (mid new : List ℕ)
     → ReadsFirst old piece used None mid → ReadsFirst mid rest more got new
     → ReadsFirst old (piece ++ rest) (used + more) got new

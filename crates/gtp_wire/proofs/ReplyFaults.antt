@@ -1,4 +1,4 @@
--- Where faults are told.
+-- Where faults come.
 use Rattle.std.proofs.Common.{◌≡◌, ◌≢◌, ℕ, ◌+◌, ◌<◌, ◌≤◌, List, [], ◌∷◌, ◌++◌, length, take}
 use Rattle.std.proofs.Common.{true, false, refl, sym, ◌∙◌, ap, subst, arith, inl, inr}
 use Rattle.std.proofs.Common.{append_assoc, append-nil, length-append, Result, Err}
@@ -63,7 +63,7 @@ strange b none =
       status = ap is_status same ∙ grind (arith, nat_tests);
     }
 
--- what was told of a front
+-- what a front gave
 first_in_longer : (front : List ℕ) (b : ℕ) (later : List ℕ) (count : ℕ) (answer : Result Reply ReplyFault)
     → IsFirst (front ++ b ∷ []) count answer → IsFirst (front ++ b ∷ later) count answer
 first_in_longer front b later count answer first =
@@ -85,7 +85,7 @@ faults_have_places = record {
       omega (arith, first.told, first.inside, length-take-le count text first.inside);
 }
 
--- what a text tells first its front tells first
+-- the first answer of a text is the first of its front
 pub first_of_front : (text : List ℕ) (count : ℕ) (answer : Result Reply ReplyFault) → IsFirst text count answer
     → IsFirst (take count text) count answer
 first_of_front text count answer first =

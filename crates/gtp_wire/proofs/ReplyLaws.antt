@@ -1,4 +1,4 @@
--- A text tells one thing first, and no reply begins another.
+-- A text gives one answer first, and no reply begins another.
 use Rattle.go_base.proofs.General.{last_of}
 use Rattle.go_base.proofs.TextLemmas.{skip_while-some}
 use Rattle.std.proofs.Common.{◌≡◌, ℕ, ◌<◌, ◌≤◌, List, [], ◌∷◌, ◌++◌, length, take, drop, Result, Ok, Err, true, false}
@@ -28,7 +28,7 @@ one_value raw v w a b =
     let body : a.whole.body ≡ b.whole.body = append_cancel_right a.whole.body b.whole.body (10 ∷ 10 ∷ []) tails in
     a.value_is ∙ ap (λ s. reply_of s a.whole.body) status ∙ ap (reply_of b.whole.status) body ∙ sym b.value_is
 
--- what is told at one byte is one thing
+-- what is answered at one byte is one thing
 pub one_answer : (raw : List ℕ) (a b : Result Reply ReplyFault) → Tells raw a → Tells raw b → a ≡ b
 one_answer raw (Ok v) (Ok w) x y = ap (λ v. Ok v) (one_value raw v w x y)
 one_answer raw (Ok v) (Err NoStatus) x y = absurd (no_status_begun raw x.whole.status _ x.whole.shape x.whole.known y)
@@ -40,7 +40,7 @@ one_answer raw (Err Overlong) (Ok w) x y = absurd (omega (arith, y.whole.fits))
 one_answer raw (Err Overlong) (Err NoStatus) x y = absurd (omega (arith, y.fits))
 one_answer raw (Err Overlong) (Err Overlong) x y = refl
 
--- a text tells one thing first, and tells it at one byte
+-- a text gives one answer first, and gives it at one byte
 pub one_first : (text : List ℕ) (n m : ℕ) (a b : Result Reply ReplyFault) → IsFirst text n a → IsFirst text m b
     → (n ≡ m) × (a ≡ b)
 one_first text n m a b x y = elim (cases_lt n m) [
@@ -100,7 +100,7 @@ no_status_in_reply front later whole fault =
     let other : is_status fault.byte ≡ false = fault.other in
     cc
 
--- a proper front of a reply tells nothing
+-- a proper front of a reply gives no answer
 pub front_is_quiet : (front : List ℕ) (b : ℕ) (more : List ℕ) (other : Result Reply ReplyFault)
     → IsWhole (front ++ b ∷ more) → Tells front other → ⊥
 front_is_quiet front b more (Ok value) whole told = no_reply_in_reply front b more told.whole whole
@@ -139,7 +139,7 @@ first_at raw value reply =
     let P : List ℕ → Type 0 = λ t. IsFirst t (length raw) (Ok value) in
     subst P (append-nil raw) (reply_is_first raw [] value reply)
 
--- a reply that is cut short tells nothing
+-- a reply that is cut short gives no answer
 pub front_tells_nothing : (raw : List ℕ) (value : Reply) (k : ℕ) → IsReply raw value → k < length raw
     → TellsNothing (take k raw)
 front_tells_nothing raw value k reply less n answer inside told =

@@ -1,4 +1,4 @@
--- What is written as a reply is told first, and is short.
+-- What is written as a reply comes first, and is short.
 use Rattle.std.proofs.Common.{◌≡◌, ℕ, ◌≤◌, List, [], ◌∷◌, ◌++◌, length, Option, Bool, Ok, arith, length-append}
 use Rattle.std.specs.Prelude.{IfSome}
 use Rattle.go_base.specs.Int.{most_int}
@@ -8,7 +8,7 @@ use Rattle.gtp_wire.specs.Replies.{most_written_bytes}
 use Rattle.gtp_wire.proofs.ReplyLaws.{reply_is_first}
 use Rattle.gtp_wire.proofs.WrittenLemmas.{written_is_read, id_text, length-spaced}
 
--- it is told first, at its own end, whatever follows it
+-- it comes first, at its own end, whatever follows it
 pub written_is_first : (ok : Bool) (id : Option ℕ) (text later : List ℕ) (value : Reply)
     → IfSome id (λ n. n ≤ most_int) → IsReplyText text → value.ok ≡ ok → value.id ≡ id → value.text.items ≡ text
     → IsFirst (written_reply ok id text ++ later) (length (written_reply ok id text)) (Ok value)

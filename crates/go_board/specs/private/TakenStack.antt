@@ -75,7 +75,7 @@ unfoldable pub IsNotLast : List TakenStone → ℕ → Type 0
 IsNotLast stones number = (before : List TakenStone) (last : TakenStone) → stones ≡ before ++ last ∷ []
     → last.number ≢ number
 
--- The last stone stands on this place and was taken by the move with this number, and the one under it wasn't. As later
+-- The last stone was on this place and was taken by the move with this number, and the one under it wasn't. As later
 -- moves lie above earlier ones, it is the only one that this move took.
 pub record IsOnlyTaken (stones : List TakenStone) (number place : ℕ) : Type 0 where
   pub before : List TakenStone

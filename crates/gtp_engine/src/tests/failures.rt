@@ -1,7 +1,7 @@
 //! Streams that fail, and how failures are reported.
 use super::{Broken, Holding};
 use crate::equal::{assert_equal, assert_equal_for};
-use crate::failure::{Failure, tell};
+use crate::failure::{Failure, report};
 use crate::run::run;
 use gtp_session::serve::ServeFault;
 use gtp_session::streams::Counted;
@@ -106,8 +106,8 @@ static FAILURES: [(Failure, u8, &str); 6] = [
 fn each_failure_is_told_in_a_line(rt: HostRuntime) {
     for (failure, status, line) in &FAILURES {
         let mut errors = Vec::new(rt.alloc());
-        let told = tell(*failure, &mut Counted::new(&mut errors));
-        assert_equal_for(&rt, line, told, *status);
+        let reported = report(*failure, &mut Counted::new(&mut errors));
+        assert_equal_for(&rt, line, reported, *status);
         assert_equal(&rt, errors.as_slice(), line.as_bytes());
     }
     let no_text = Failure::of_arguments(ErrorKind::InvalidData);

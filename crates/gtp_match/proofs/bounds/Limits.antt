@@ -344,7 +344,7 @@ spent_few c s h = by_up (side_of c.sides s).up refl
           most,
         )
 
--- what holds of the last match is told by the setup of the first
+-- what holds of the last match is said by the setup of the first
 bounded : (setup : SetupRecord) (calls : List Call) (last : Controller) → IsSound last
     → count_sends calls ≤ total (most_commands last.setup) last.sides
     → ((t : Colour) → count_starts t calls ≡ (side_of last.sides t).starts)

@@ -1,4 +1,4 @@
--- Each move was told by a reply, and each verdict has its cause.
+-- Each move came by a reply, and each verdict has its cause.
 use Rattle.std.proofs.Common.{◌≡◌, ℕ, List, length, Option, Some, None, Bool, true, false, refl, sym, ◌∙◌, ap, subst}
 use Rattle.std.proofs.Common.{cond, eqb, inl, inr, arith}
 use Rattle.std.specs.Prelude.{◌⊎◌, ℤ, IsSome, nat_lt}

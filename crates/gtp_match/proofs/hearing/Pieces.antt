@@ -178,15 +178,15 @@ down_of_fault c s bytes used x new h = by_state c.verdict (side_of c.sides s).up
     by_state None None a = let clash : Some x ≡ None = a.no_fault in absurd (cc)
     by_state None (Some engine) a = down_of_up c s engine bytes used (Some x) x new refl a
 
--- ---- a piece, with another behind it
+-- ---- a piece, with another after it
 
--- what was told first stays so
+-- what was answered first stays so
 first_in_both : (rest a b : List ℕ) (place : ℕ) (answer : Result Reply ReplyFault) → IsFirst (rest ++ a) place answer
     → IsFirst (rest ++ (a ++ b)) place answer
 first_in_both rest a b place answer first =
     subst (λ (t : List ℕ). IsFirst t place answer) (append_assoc rest a b) (first_more (rest ++ a) b place answer first)
 
--- the same uses of the piece show the same with another piece behind it
+-- the same uses of the piece show the same with another piece after it
 abbrev Takes : Controller → Colour → List ℕ → ℕ → Option SideFault → Controller → Type 0
 Takes c s a used fault new = (used ≤ length a) × ((b : List ℕ) → HearsExactly c s (a ++ b) used fault new)
 
@@ -203,7 +203,7 @@ Taken c s a used fault mid = Takes c s a used fault mid ⊎ (fault ≡ None) × 
 inside_piece : (rest a : List ℕ) (used : ℕ) → length rest + used ≤ length (rest ++ a) → used ≤ length a
 inside_piece rest a used h = omega (arith, h, length-append rest a)
 
--- what is told first of a piece behind another
+-- the first answer of a piece after another
 moved_first : (rest kept a b : List ℕ) (u : ℕ) (answer : Result Reply ReplyFault) → kept ≡ rest ++ a
     → IsFirst (kept ++ b) (length kept + u) answer
     → IsFirst (rest ++ (a ++ b)) (length rest + (length a + u)) answer

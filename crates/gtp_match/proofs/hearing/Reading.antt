@@ -122,7 +122,7 @@ fed_engine_by engine bytes fed got e =
     ap (λ g. let h : EngineRun = record engine { reader = rest_after g (engine.reader ++ take fed.used bytes) } in h)
     e
 
--- ---- what the reader told
+-- ---- what the reader returned
 
 -- Before any verdict such a side's reader got this of the bytes: a reply, a fault, or nothing yet.
 pub record HasGot (c : Controller) (side : Colour) (engine : EngineRun) (bytes : List ℕ) (fed : ReplyFed)
@@ -153,7 +153,7 @@ nothing_got c side e bytes fed new g =
     subst (λ (got : Option (Result Reply ReplyFault)). IfNone got (TellsNothing (e.reader ++ bytes))) g.is
     g.has_fed.read.nothing
 
--- ---- nothing was told
+-- ---- nothing was returned
 
 pub hears_nothing_yet : (c : Controller) (side : Colour) (e : EngineRun) (bytes : List ℕ) (fed : ReplyFed)
     (new : Sides) → HasGot c side e bytes fed new None → HearsExactly c side bytes fed.used None (with_sides c new)
@@ -173,7 +173,7 @@ hears_nothing_yet c side e bytes fed new g =
     (hears_up c side e bytes (length bytes) None (with_side_up c side (record e { reader = e.reader ++ bytes }))
     g.none f.up (HearsUp.nothing_yet (nothing_got c side e bytes fed new g) refl)))
 
--- ---- a fault was told
+-- ---- a fault was returned
 
 pub hears_faulted : (c : Controller) (side : Colour) (e : EngineRun) (bytes : List ℕ) (fed : ReplyFed) (new : Sides)
     (fault : ReplyFault) (c2 : Controller) → HasGot c side e bytes fed new (Some (Err fault))
@@ -187,7 +187,7 @@ hears_faulted c side e bytes fed new fault c2 g is =
     subst H (sym c2_is) (hears_up c side e bytes fed.used (Some (side_fault fault)) (downed c side) g.none
     g.has_fed.up (HearsUp.faulted (first_got c side e bytes fed new (Err fault) g)))
 
--- ---- a reply was told
+-- ---- a reply was returned
 
 -- the engine that is up then holds nothing
 pub up_replied : (c : Controller) (side : Colour) (e : EngineRun) (bytes : List ℕ) (fed : ReplyFed) (new : Sides)

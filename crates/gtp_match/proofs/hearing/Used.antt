@@ -31,7 +31,7 @@ hears_up c new s engine bytes used fault hears none up =
     subst (λ (v : Option Verdict). HearsWhere MayKeep c s bytes v (side_of c.sides s).up used fault new) none hears in
     subst (λ (u : Option EngineRun). HearsWhere MayKeep c s bytes None u used fault new) up live
 
--- what is told first of the engine's text is told once
+-- the first answer of the engine's text comes once
 module _ (engine : EngineRun) (bytes : List ℕ) where
   place_is : (used place : ℕ) (a b : Result Reply ReplyFault)
       → IsFirst (engine.reader ++ bytes) (length engine.reader + used) a

@@ -172,7 +172,7 @@ module _ (game : GameRecord) (pending : Option Colour) (s : Colour) (engine : En
       subst (λ (x : Command). Fits game pending s engine x (outcome_of game s x reply)) (sym is)
       (undo_fits told command.Undo reply.ok)
 
--- ---- the oldest command that is unanswered, and those behind it
+-- ---- the oldest command that is unanswered, and those after it
 
 pub record Answered (game : GameRecord) (pending : Option Colour) (s : Colour) (engine : EngineRun) (o : Outcome)
     : Type 0 where

@@ -1,4 +1,4 @@
--- What a match tells of the bytes that it hears.
+-- What a match reports of the bytes that it hears.
 use Rattle.std.proofs.Common.{◌≡◌, ◌≤◌, ◌<◌, ℕ, List, [], length, drop, Option, Some, None, true, false, inl, inr}
 use Rattle.std.proofs.Common.{refl, sym, subst, arith, is_some}
 use Rattle.std.specs.Prelude.{IfSome, option_map}
@@ -101,7 +101,7 @@ loss_shown c side bytes loss sound = by_both c.verdict (side_of c.sides side).up
 
 -- ---- all bytes
 
--- what is heard and told of is heard
+-- what is heard and reported is heard
 pub telling_hears : (side : Colour) (c new : Controller) (bytes : List ℕ) (shown : Option SideFault)
     (loss : Option Loss)
     → HearsReporting side c bytes shown loss new → HearsAllExactly side c bytes shown new

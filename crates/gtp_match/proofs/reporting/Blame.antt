@@ -1,4 +1,4 @@
--- Of bytes that are heard once, a loss is told exactly where they show a fault or a side is blamed.
+-- Of bytes that are heard once, a loss is reported exactly where they show a fault or a side is blamed.
 use Rattle.std.proofs.Common.{◌≡◌, ℕ, ◌+◌, List, ◌++◌, length, take, Option, Some, None, Ok, Err, Bool, true, false}
 use Rattle.std.proofs.Common.{refl, sym, ap, subst, cond, inl, inr}
 use Rattle.std.specs.Prelude.{◌↔◌, ◌==◌, ℤ, IsSome, IfSome, option_map}
@@ -146,7 +146,7 @@ none_lost c new fault none blame (LosesBy.forfeits {loser = s} {cause = cause} b
     (blame before).0 s cause given
 none_lost c new fault none blame (LosesBy.is_unfit {loser = s} before given) = (blame before).1 s given
 
--- nothing is told, and no side is lost
+-- nothing is reported, and no side fails
 neither : {A : Type 0} (told : Option A) (c new : Controller) (fault : Option SideFault) → told ≡ None → fault ≡ None
     → (c.verdict ≡ None → IsNoBlame new.verdict) → IsSome told ↔ LosesBy c new fault
 neither {A} told c new fault nothing none blame = (
@@ -154,7 +154,7 @@ neither {A} told c new fault nothing none blame = (
   (λ lost. absurd (none_lost c new fault none blame lost)),
 )
 
--- something is told, and a side is lost
+-- something is reported, and a side fails
 both : {A : Type 0} (told : Option A) (c new : Controller) (fault : Option SideFault) → IsSome told
     → LosesBy c new fault → IsSome told ↔ LosesBy c new fault
 both told c new fault some lost = ((λ x. lost), (λ x. some))
@@ -261,7 +261,7 @@ cause_fits c side engine reply Keeps cause is = fits_one (Fits c side engine Kee
 
 -- ---- an engine that is up
 
--- a cause is told of where there is one
+-- a cause is reported where there is one
 told_with : (engine : EngineRun) (text : List ℕ) (cause : Option LossCause) (X : Type 0) → IsSome cause ↔ X
     → IsSome (option_map (loss_of engine text) cause) ↔ X
 told_with engine text None X h = h

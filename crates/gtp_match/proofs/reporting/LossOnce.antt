@@ -85,7 +85,7 @@ loss_found : (engine : EngineRun) (bytes text : List ℕ) (finding : Option Find
 loss_found engine bytes text None = refl
 loss_found engine bytes text (Some finding) = refl
 
--- ---- what a reader told, of an engine that is up and before any verdict
+-- ---- what a reader returned, of an engine that is up and before any verdict
 
 -- what is found of a reply is the same once its bytes were read
 finding_kept : (c : Controller) (new : Sides) (side : Colour) (e : EngineRun) (reply : Reply) (o : Outcome)
@@ -150,7 +150,7 @@ fault_loses c side e bytes fed new fault g =
     ∙ take_held most_shown e.reader bytes))
     (loses_up c side e bytes _ g.none up (by_fault (first_got c side e bytes fed new (Err fault) g))))
 
--- where nothing is told yet, nothing is lost
+-- where there is no answer yet, no side fails
 pub quiet_loses : (c : Controller) (side : Colour) (e : EngineRun) (bytes : List ℕ) (fed : ReplyFed) (new : Sides)
     → HasGot c side e bytes fed new None → Loses c side bytes None
 quiet_loses c side e bytes fed new g =

@@ -1,4 +1,4 @@
--- Of bytes that are heard, once or all, a loss is told exactly where a side is lost.
+-- Of bytes that are heard, once or all, a loss is reported exactly where a side fails.
 use Rattle.std.proofs.Common.{◌≡◌, ℕ, List, drop, Option, Some, None}
 use Rattle.std.proofs.Common.{refl, sym, ◌∙◌, ap, subst, inl, inr}
 use Rattle.std.specs.Prelude.{◌↔◌, ◌⊎◌, IsSome, IfSome}
@@ -30,7 +30,7 @@ use Rattle.gtp_match.proofs.replies.Refusals.{refused_all}
 use Rattle.gtp_match.proofs.hearing.Changes.{up_there, down_there}
 use Rattle.gtp_match.proofs.soundness.Calls.{mine_or_theirs}
 
--- ---- what is told, and what isn't
+-- ---- what is reported, and what isn't
 
 none_told : (A : Type 0) → IsSome {T = A} None → ⊥
 none_told A some = cc
@@ -43,7 +43,7 @@ some_or_none : {A : Type 0} (o : Option A) → (o ≡ None → ⊥) → IsSome o
 some_or_none None h = absurd (h refl)
 some_or_none (Some x) h = refl
 
--- a loss that is told first, or later
+-- a loss that is reported first, or later
 told_first : (a b : Option Loss) → IsSome a → IsSome (first_of a b)
 told_first None b some = absurd (cc)
 told_first (Some x) b some = refl
@@ -153,7 +153,7 @@ lost_by c new side fault loss down stays told = ((λ some. to (told.0 some)), (�
     from (LosesSide.forfeits none given) = LosesBy.forfeits none given
     from (LosesSide.is_unfit none given) = LosesBy.is_unfit none given
 
--- What is told of a step, and what it leaves: a side that is down stays so, and so does a verdict.
+-- What is reported of a step, and what it leaves: a side that is down stays so, and so does a verdict.
 record Step (side : Colour) (c new : Controller) (fault : Option SideFault) (loss : Option Loss) : Type 0 where
   told : ReportsLoss side c new fault loss
   stays_down : (side_of c.sides side).up ≡ None → (side_of new.sides side).up ≡ None

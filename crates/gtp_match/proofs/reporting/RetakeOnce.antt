@@ -41,7 +41,7 @@ use Rattle.gtp_match.proofs.hearing.Changes.{up_in, up_there, down_there}
 use Rattle.gtp_match.proofs.soundness.Calls.{my_engine}
 use Rattle.gtp_match.proofs.reporting.AllBytes.{my_oldest}
 
--- ---- what a reader told, of an engine that is up and before any verdict
+-- ---- what a reader returned, of an engine that is up and before any verdict
 
 pub retakes_up : (c : Controller) (side : Colour) (engine : EngineRun) (bytes : List ℕ) (retake : Option Retake)
     → c.verdict ≡ None → (side_of c.sides side).up ≡ Some engine → RetakesUp c side engine bytes retake
@@ -80,7 +80,7 @@ pub fault_retakes : (c : Controller) (side : Colour) (e : EngineRun) (bytes : Li
 fault_retakes c side e bytes fed new fault g =
     retakes_up c side e bytes _ g.none g.has_fed.up (by_fault (first_got c side e bytes fed new (Err fault) g))
 
--- nor does a text of which nothing is told yet
+-- nor does a text that gives no answer yet
 pub quiet_retakes : (c : Controller) (side : Colour) (e : EngineRun) (bytes : List ℕ) (fed : ReplyFed) (new : Sides)
     → HasGot c side e bytes fed new None → RetakesOnce c side bytes None
 quiet_retakes c side e bytes fed new g =

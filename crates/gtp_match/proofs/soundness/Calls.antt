@@ -393,7 +393,7 @@ pub may_hand : (c : Controller) (s : Colour) → IsSound c → (says : SaysSend 
 may_hand c s h says =
     let engine = my_engine c s says.engine h says.up in (omega (arith, engine.sent, h.setup.moves.1), says.room)
 
--- the script's next command behind those that are unanswered
+-- the script's next command after those that are unanswered
 pub script_grows : (commands : List Command) (n : ℕ) (entries : List SentCommand) (entry : SentCommand)
     → InScript commands n entries → slice_get commands (n + length entries) ≡ Some entry.command
     → InScript commands n (entries ++ entry ∷ [])

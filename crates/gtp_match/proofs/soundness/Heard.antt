@@ -29,7 +29,7 @@ use Rattle.gtp_match.proofs.soundness.Calls.{no_blame, my_side, one_idle, with_v
 use Rattle.gtp_match.proofs.soundness.Calls.{goes_on_taking, taken_at}
 use Rattle.gtp_match.proofs.soundness.Down.{downed_sound}
 
--- ---- what may be kept for a text that tells nothing tells nothing
+-- ---- what may be kept for a text that gives no answer gives none
 
 no_first : (text kept : List ℕ) → MayKeep kept text → TellsNothing text → (n : ℕ) (answer : Result Reply ReplyFault)
     → IsFirst kept n answer → ⊥
@@ -39,7 +39,7 @@ no_first text kept keep quiet n answer first =
     let there : IsFirst text n answer = subst F (append-nil text) same in
     quiet n answer there.inside there.told
 
--- a place at which a text tells something is the first or behind one
+-- a place at which a text gives an answer is the first or after one
 none_below : (kept : List ℕ) → ((n : ℕ) (answer : Result Reply ReplyFault) → IsFirst kept n answer → ⊥)
     → (m n : ℕ) (answer : Result Reply ReplyFault) → n < m → n ≤ length kept → Tells (take n kept) answer → ⊥
 none_below kept none zero n answer below inside told = omega (arith, below)

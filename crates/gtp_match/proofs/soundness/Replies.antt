@@ -379,7 +379,7 @@ last_alone game pending s engine a plan last =
     by_plan (inr (inr (is, undo))) =
         let both : a.entry ∷ a.more ≡ undo.entry ∷ [] = sym a.entries_are ∙ undo.alone in cc
 
--- a list without anything behind its first element has at most one
+-- a list without anything after its first element has at most one
 pub few_left : (es : List SentCommand) → drop 1 es ≡ [] → length es ≤ 1
 few_left [] e = omega arith
 few_left (x ∷ es) e = omega (arith, ap length e)

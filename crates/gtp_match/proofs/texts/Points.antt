@@ -16,7 +16,7 @@ use Rattle.go_base.specs.declared.vertices.Vertex.{Vertex}
 use Rattle.go_base.specs.declared.vertices.Vertex.TheVariants.{Pass, At}
 use Rattle.gtp_match.specs.ReplyWords.{is_at, names_point, names_points, NamesEachOnce}
 
--- a word that passes a test, and those before and behind it
+-- a word that passes a test, and those before and after it
 record IsFound (test : List ℕ → Bool) (words : List (List ℕ)) : Type 0 where
   before : List (List ℕ)
   word : List ℕ

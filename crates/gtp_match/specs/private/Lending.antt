@@ -7,6 +7,6 @@ use Rattle.gtp_match.specs.contracts.sides.Sides.{the_row as sides_row}
 use Rattle.gtp_match.specs.declared.sides.SideState.{SideState}
 use Rattle.gtp_match.specs.declared.sides.Sides.{Sides}
 
--- the sides end with the last value behind the reference in place of one of them
+-- the sides end with the last value of the reference in place of one of them
 abbrev pub LendsSide : MutBor Sides → Colour → MutBor SideState → Fml
 LendsSide sides side lent = Lends sides_row side_row sides lent (λ state. with_side side state sides.now)

@@ -1,4 +1,4 @@
--- What a side is sent next may be sent behind the commands that it hasn't answered.
+-- What a side is sent next may be sent after the commands that it hasn't answered.
 use Rattle.std.proofs.Common.{◌≡◌, ℕ, suc, ◌+◌, ◌-◌, ◌<◌, ◌≤◌, true, List, [], ◌∷◌, ◌++◌, length, Option, Some, None}
 use Rattle.std.proofs.Common.{refl, ap, sym}
 use Rattle.std.proofs.Common.{◌∙◌, subst, arith, inl, inr}
@@ -60,7 +60,7 @@ last_may_be_sent game is e =
       (is_vertex, is.simple.size),
     )
 
--- each command of the script may be sent where it stands
+-- each command of the script may be sent at its place
 script_one_may : (game : GameRecord) → IsShared game → (n : ℕ) (k : Command) → slice_get (script game) n ≡ Some k
     → MayBeSent (replayed game n) k
 script_one_may game is n k there = by_place (place game is.earlier n k there)
@@ -71,7 +71,8 @@ script_one_may game is n k there = by_place (place game is.earlier n k there)
         subst (λ (g : GameRecord). MayBeSent g k) (sym at)
         (subst (λ (x : Command). MayBeSent (without_last game) x) (sym is_play) (last_may_be_sent game is e))
 
--- the script's commands from a number on may be sent, one after the other, to an engine of the game that stands there
+-- the script's commands from a number on may be sent, one after the other, to an engine that holds the game of that
+-- place
 script_may : (game : GameRecord) → IsShared game → (n : ℕ) (os : List SentCommand) → InScript (script game) n os
     → AllMayBeSent (replayed game n) os
 script_may game is n [] plan = tt
@@ -89,7 +90,7 @@ script_may game is n (o ∷ os) plan = (
         later
     by_place r g1 a (Place.last e is_play lacks at) later = nothing_left os plan.1
       where
-        -- nothing stands behind the last move
+        -- nothing comes after the last move
         nothing_left : (left : List SentCommand) → InScript (script game) (n + 1) left → AllMayBeSent g1 left
         nothing_left [] p = tt
         nothing_left (x ∷ xs) p =
@@ -102,7 +103,7 @@ record WaitsFrom (game : GameRecord) (n : ℕ) (os waiting : List SentCommand) (
   plan : InScript (script game) m waiting
   number : m + length waiting ≡ n + length os
 
--- where the script goes on behind the commands that were sent: so the last move isn't among them
+-- where the script goes on after the commands that were sent: so the last move isn't among them
 waits_from : (game : GameRecord) → IsGame (without_last game) → (n : ℕ) (os : List SentCommand) (rs : List Reply)
     (waiting : List SentCommand) (ahead : GameRecord) → n + length os < length (script game)
     → InScript (script game) n os
@@ -128,7 +129,7 @@ waits_from game is n (o ∷ os) (r ∷ rs) waiting ahead more plan h =
         let rest = later (subst (λ (g : GameRecord). Owes g os rs waiting ahead) next h.2) in
         record { m = rest.m; game_is = rest.game_is; plan = rest.plan; number = omega (arith, rest.number) }
 
--- the command may be sent at some game, and behind whatever waits of an engine's unanswered commands
+-- the command may be sent at some game, and after whatever waits of an engine's unanswered commands
 pub record MayFollow (game : GameRecord) (u : EngineRun) (o : SentCommand) : Type 0 where
   pub there : GameRecord
   pub may : MayBeSent there o.command

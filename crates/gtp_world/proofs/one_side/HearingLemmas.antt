@@ -633,7 +633,7 @@ module _ (rules : Rules) (c : Controller) (s : Colour) (u : EngineRun) (e : Opti
       (fault ≡ None)
       × AreJoined rules c2 s (record { engine = e; to_engine = te; to_controller = drop used (b ∷ x) ++ y }) lo
 
-  -- what the bytes heard so far tell, by what the reader's text tells
+  -- what the bytes heard so far give, by what the reader's text gives
   as_begun : (place : ℕ) (answer : Result Reply ReplyFault) → IsFirst (u.reader ++ b ∷ x) place answer
       → IsFirst (mine.begun ++ b ∷ x) place answer
   as_begun place answer first =

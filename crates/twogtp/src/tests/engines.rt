@@ -151,7 +151,7 @@ fn quit_is_said_where_all_was_answered(rt: HostRuntime) -> Result<(), Fail> {
     assert_equal(&rt, ran.log.started.get(), 2);
     assert_equal(&rt, ran.log.quits.get(), 2);
     assert_equal(&rt, ran.log.ended.get(), 2);
-    // Each is ended before the next is told to quit.
+    // Each is ended before the next is sent `quit`.
     assert_equal(&rt, ran.log.ended_by_quit.get(), 1);
     Ok(())
 }
@@ -159,7 +159,7 @@ fn quit_is_said_where_all_was_answered(rt: HostRuntime) -> Result<(), Fail> {
 #[test]
 fn commands_that_come_next_go_out_in_one_write(rt: HostRuntime) -> Result<(), Fail> {
     let ran = run_between(rt.alloc(), (FIRST, FIRST), ["--size", "1"].as_slice())?;
-    // Each side's first three commands in one; then Black's `genmove`, the pass that White is told of, White's
+    // Each side's first three commands in one; then Black's `genmove`, the pass that is sent to White, White's
     // `genmove`, and `quit` to both.
     assert_equal(&rt, ran.log.writes.get(), 7);
     // Each side has several commands to answer once, and else one.
@@ -170,7 +170,7 @@ fn commands_that_come_next_go_out_in_one_write(rt: HostRuntime) -> Result<(), Fa
 #[test]
 fn a_side_that_owes_an_answer_is_ended_before_the_other_quits(rt: HostRuntime) -> Result<(), Fail> {
     // One side refuses its first command, so it is unfit, and that command counts as unanswered: it is ended, and then
-    // the other is told to quit.
+    // the other is sent `quit`.
     for (engines, line) in [
         (
             ("refuses", FIRST),

@@ -1,4 +1,4 @@
-//! Games, and what is told of them.
+//! Games, and what is written of them.
 use super::runs::{FIRST, assert_plays};
 use std::test::Fail;
 

@@ -1,4 +1,4 @@
-//! A refused `play` that is retaken, as it is told on standard error.
+//! A refused `play` that is retaken, as it is reported on standard error.
 use super::fakes::{Narrow, new_log};
 use super::runs::{FIRST, narrow, run_into};
 use super::why::play;
@@ -43,7 +43,7 @@ fn moves_that_are_taken_back_are_reported(rt: HostRuntime) -> Result<(), Fail> {
 /// White refuses Black's first move, and in the same piece writes what is no reply.
 const BOTH: &str = "answers =1;=2;=3;?4_no\n\nhello;";
 
-/// What is told of the one, and then of the other.
+/// What is reported of the one, and then of the other.
 const REFUSED: &str =
     "twogtp: game 1: white: 1 unanswered, \"4 play b A1\": the play was refused (retake 1 of 3); \
         it wrote \"?4 no\\n\\n\"\n";

@@ -27,8 +27,8 @@ fn an_output_that_breaks_ends_the_program(rt: HostRuntime) -> Result<(), Fail> {
     Ok(())
 }
 
-/// Plays games on the smallest board, and writes them to an output with this room. It returns the status and the output,
-/// whose log has what was done with the engines.
+/// Plays games on the smallest board, and writes them to an output with this room. It returns the status and the
+/// output, whose log has what was done with the engines.
 fn play_into(alloc: Global, games: &str, room: usize) -> Result<(u8, Narrow), Fail> {
     let words = [
         "twogtp", "--black", FIRST, "--white", FIRST, "--size", "1", "--games", games,
@@ -66,7 +66,7 @@ fn each_game_is_flushed_before_its_engines_are_told_to_quit(rt: HostRuntime) -> 
     assert_equal(&rt, status, 0);
     // A line has 35 bytes.
     assert_equal(&rt, output.flushed.as_slice(), [35, 70, 105].as_slice());
-    // Both engines of a game are told to quit once its line is flushed, and before the next one is written.
+    // Both engines of a game are sent `quit` once its line is flushed, and before the next one is written.
     assert_equal(&rt, output.log.quits.get(), 6);
     assert_equal(&rt, output.log.flushed_by_quits.get(), 2 * (35 + 70 + 105));
     Ok(())

@@ -9,7 +9,7 @@ returns-in-Ok-clause-usage g c = λ two.
         asked = c.in-Ok.ensures.asked;
         failure = usage.0;
         mistake = usage.1;
-        told = usage.2;
+        reported = usage.2;
       }),
       usage.3,
       usage.4,
@@ -57,7 +57,7 @@ returns-in-Err-clause-served g c = λ other.
           ))
       | inr (inl two) ↦ absurd (other two)
       | inr (inr three) ↦ elim (c.answer_error.ensures.own three) [
-        | inl same ↦ inr (inr (record { status_is = three; told = same.2 }, refl, same.1))
+        | inl same ↦ inr (inr (record { status_is = three; reported = same.2 }, refl, same.1))
         | inr broke ↦ inr (inl (
           refl,
           record {

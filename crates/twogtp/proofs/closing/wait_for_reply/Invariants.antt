@@ -4,7 +4,7 @@ use Rattle.gtp_wire.specs.Replies.{TellsNothing}
 use Rattle.twogtp.specs.Pipes.{IsUnbroken}
 use Rattle.twogtp.proofs.closing.wait_for_reply.Given as goal
 
--- The reader holds what the process gave so far, which tells nothing. No call broke, and each read gave a byte.
+-- The reader holds what the process gave so far, which gives no answer. No call broke, and each read gave a byte.
 abbrev pub invariant-loop-read : goal.invariant-loop-read
 invariant-loop-read g l = record {
   given : Appends (g.P.Process.given l.fn.process) (g.P.Process.given l.process) l.reader;

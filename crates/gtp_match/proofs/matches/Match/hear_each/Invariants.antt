@@ -11,7 +11,7 @@ use Rattle.gtp_match.specs.Sides.{side_of}
 use Rattle.gtp_match.specs.Sound.{IsIdle}
 use Rattle.gtp_match.proofs.matches.Match.hear_each.Given as goal
 
--- Whatever is heard and told of what is left is heard of all, after the loss and the retake so far. Once there is a
+-- Whatever is heard and reported of what is left is heard of all, after the loss and the retake so far. Once there is a
 -- retake, nothing of the side is unanswered.
 abbrev pub invariant-loop-rest : goal.invariant-loop-rest
 invariant-loop-rest l = record {
