@@ -1,9 +1,9 @@
 //! The commands that the engine knows.
-ghost use Rattle.std.specs.Prelude.{◌≡◌, ◌+◌, ◌≤◌, ◌∷◌, ◌++◌, length};
-ghost use Rattle.arrayvec.specs.ArrayVec.{array_vec_len};
+ghost use Rattle.std.specs.Prelude.{◌≡◌, ◌≤◌, length};
 ghost use Rattle.gtp_session.specs.Commands.{spelled, command_named, all_names};
 
 use arrayvec::ArrayVec;
+use go_base::push_word;
 
 /// A command that the engine knows.
 #[derive(Clone, Copy, Debug, PartialEq, Eq)]
@@ -70,26 +70,10 @@ pub(crate) fn all_names() -> ArrayVec<u8, NAMES_ROOM>
     ensures { result.items ≡ all_names }
 {
     let mut text = ArrayVec::new();
-    let [first, more @ ..] = COMMANDS else {
-        unreachable!()
-    };
-    // The text has room for all names.
-    let _ = text.try_extend_from_slice(first.name());
-    for command in more {
-        push_row(&mut text, *command);
+    for command in COMMANDS {
+        push_word(&mut text, b'\n', command.name());
     }
     text
-}
-
-/// Appends a newline and the command's name.
-fn push_row(text: &mut ArrayVec<u8, NAMES_ROOM>, command: CommandName)
-    requires { array_vec_len text.old + MOST_NAME_BYTES + 1 ≤ NAMES_ROOM }
-    ensures bytes { text.new.items ≡ text.old.items ++ 10 ∷ spelled command }
-    ensures len { array_vec_len text.new ≤ array_vec_len text.old + MOST_NAME_BYTES + 1 }
-{
-    text.push(b'\n');
-    // The text has room for the name: the caller sees to it.
-    let _ = text.try_extend_from_slice(command.name());
 }
 
 impl CommandName {

@@ -1,8 +1,5 @@
 //! What a command comes to, and how it is written as a reply.
-ghost use Rattle.std.specs.Prelude.{◌≡◌, ◌+◌, ◌≤◌, ◌++◌, length, true};
-ghost use Rattle.arrayvec.specs.ArrayVec.{array_vec_len};
-ghost use Rattle.go_base.specs.Vertex.{written_vertex};
-ghost use Rattle.go_base.specs.declared.vertices.Vertex.TheVariants.{At};
+ghost use Rattle.std.specs.Prelude.{◌≡◌, ◌≤◌, length, true};
 ghost use Rattle.gtp_wire.specs.Replies.{most_text_bytes, written_reply};
 ghost use Rattle.go_board.specs.Show.{board_text};
 ghost use Rattle.gtp_session.specs.Commands.{all_names, written_vertices};
@@ -10,7 +7,7 @@ ghost use Rattle.gtp_session.specs.private.Outcome.{text_of, handicap_text, answ
 
 use crate::commands::all_names;
 use arrayvec::ArrayVec;
-use go_base::{Point, Vertex, handicap, write_int, write_score};
+use go_base::{Point, Vertex, handicap, push_vertex, write_int, write_score};
 use go_board::Game;
 use gtp_wire::{ReplyText, write_reply_into};
 
@@ -38,8 +35,8 @@ pub(crate) enum Text {
     Board,
 }
 
-/// The room for nine vertices of at most four bytes, as any vertex may have, and the spaces between them.
-const VERTICES_ROOM: usize = 44;
+/// The room for nine vertices, by five bytes each: a space and a vertex.
+const VERTICES_ROOM: usize = 45;
 
 /// Puts the reply of a command that left this game in place of what `reply` holds.
 pub(crate) fn write_outcome(outcome: &Outcome, game: &Game, id: Option<u32>, reply: &mut ReplyText)
@@ -103,24 +100,8 @@ fn written_vertices(points: &[Point]) -> ArrayVec<u8, VERTICES_ROOM>
     ensures { result.items ≡ written_vertices points.now }
 {
     let mut text = ArrayVec::new();
-    let [first, more @ ..] = points else {
-        return text;
-    };
-    push_vertex(&mut text, *first);
-    for point in more {
-        text.push(b' ');
-        push_vertex(&mut text, *point);
+    for point in points {
+        push_vertex(&mut text, Vertex::At(*point));
     }
     text
-}
-
-/// Appends the point's vertex.
-fn push_vertex(text: &mut ArrayVec<u8, VERTICES_ROOM>, point: Point)
-    requires { array_vec_len text.old + 4 ≤ VERTICES_ROOM }
-    ensures bytes { text.new.items ≡ text.old.items ++ written_vertex (At point) }
-    ensures len { array_vec_len text.new ≤ array_vec_len text.old + 4 }
-{
-    let vertex = Vertex::At(point).write();
-    // The text has room for the vertex: the caller sees to it.
-    let _ = text.try_extend_from_slice(&vertex);
 }

@@ -1,13 +1,22 @@
-use Rattle.std.proofs.Common.{rules, refl}
+use Rattle.std.proofs.Common.{arith, ◌<◌, ◌∙◌, ap, refl, List, ℕ, length}
+use Rattle.go_base.proofs.JoinLemmas.{joined-take}
+use Rattle.go_base.specs.Text.{joined}
+use Rattle.gtp_session.specs.Commands.{all_commands, spelled}
+use Rattle.gtp_session.specs.declared.commands.CommandName.{CommandName}
 use Rattle.gtp_session.specs.declared.commands.CommandName.TheVariants as command
-use Rattle.gtp_session.proofs.JoinLemmas.{AreNamed-push}
 use Rattle.gtp_session.proofs.commands.all_names.Goals as goal
 
-pub loop-command-init : goal.loop-command-init
-loop-command-init c =
-    record { first = command.ProtocolVersion; all = refl; short = search rules; written = search rules }
+-- no name is empty
+spelled-some : (c : CommandName) → 0 < length (spelled c)
+spelled-some command.Name = omega arith
+spelled-some c = omega arith
 
 pub loop-command-preserved : goal.loop-command-preserved
-loop-command-preserved c =
-    AreNamed-push _ c.loop-command.command-index c.loop-command.text.items c.push_row.new.text.items _
-    c.loop-command.invariant c.loop-command-test.true (search rules) (search rules) c.push_row.ensures.bytes
+loop-command-preserved c = record {
+  short = omega (arith, c.push_word.ensures.len, c.loop-command.invariant.short, c.name.ensures.few);
+  written =
+      c.push_word.ensures.bytes
+      ∙ ap (λ (t : List ℕ). joined 10 t c.name.result.now) c.loop-command.invariant.written
+      ∙ ap (joined 10 _) c.name.ensures.name
+      ∙ joined-take 10 spelled spelled-some all_commands c.loop-command.command-index _ _ c.loop-command-test.true refl;
+}
