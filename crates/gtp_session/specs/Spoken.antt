@@ -33,7 +33,7 @@ pub record IsSpoken (bytes : List ℕ) : Type 0 where
   pub written : bytes ≡ written_reply reply.ok reply.id reply.text.items
   pub read : IsReply bytes reply
 
--- What is said of one call that feeds an engine: of `input` it used the first `used` bytes.
+-- An engine is given `input`. It uses the first `used` bytes, and gives this reply to the line that they end, or none.
 pub record IsFed {P : Type 0} (may : May P) (old : Engine P) (input : List ℕ) (used : ℕ) (new : Engine P)
     (reply : Option (ArrayVec ℕ)) (genmove : Bool) : Type 0 where
   pub within : used ≤ length input
