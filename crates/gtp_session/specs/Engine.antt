@@ -106,10 +106,10 @@ pub record StopsAtLine {P : Type 0} (may : May P) (old : Engine P) (text : List 
   pub ends : text ≡ front ++ newline ∷ []
   pub before : Replies may old front between []
 
--- the reply of this text, if there is one, as a list
-abbrev pub reply_if : Bool → List ℕ → Bool → List WrittenReply
-reply_if false text genmove = []
-reply_if true text genmove = record { text = text; genmove = genmove } ∷ []
+-- the reply of this text, if there is one
+abbrev pub reply_if : Bool → ArrayVec ℕ → Option (ArrayVec ℕ)
+reply_if false text = None
+reply_if true text = Some text
 
 -- the reply of an optional text, if there is one, as a list
 abbrev pub replies_of : Option (ArrayVec ℕ) → Bool → List WrittenReply
