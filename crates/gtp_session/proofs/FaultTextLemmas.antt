@@ -10,7 +10,7 @@ use Rattle.go_base.specs.Int.{SpellsInt, int_of}
 use Rattle.go_base.proofs.IntLemmas.{int_of_spelled, spells_int_of}
 use Rattle.gtp_session.specs.declared.fault.Fault.{Fault}
 use Rattle.gtp_session.specs.declared.fault.Fault.TheVariants.{Off, Stop, Cut, Junk, Flood}
-use Rattle.gtp_session.specs.FaultTexts.{SpellsBetween, SpellsNumbered, SpellsFault, FaultOfTells, before_colon, from_colon, after_first, where_between, genmove_of, kept_of, cut_where, fault_spelled_by, fault_spelled}
+use Rattle.gtp_session.specs.FaultTexts.{SpellsBetween, SpellsNumbered, SpellsFault, FaultOfAgrees, before_colon, from_colon, after_first, where_between, genmove_of, kept_of, cut_where, fault_spelled_by, fault_spelled}
 
 -- ---- colons
 
@@ -186,5 +186,5 @@ parts_spelled text (Some numbers) is fault e =
 pub spells_fault_of : (fault : Fault) (text : List ℕ) → fault_spelled text ≡ Some fault → SpellsFault fault text
 spells_fault_of fault text e = parts_spelled text (after_first (from_colon text)) refl fault e
 
-pub fault_of_tells : FaultOfTells
-fault_of_tells = λ fault text. (fault_of_spelled fault text, spells_fault_of fault text)
+pub fault_of_agrees : FaultOfAgrees
+fault_of_agrees = λ fault text. (fault_of_spelled fault text, spells_fault_of fault text)

@@ -48,8 +48,8 @@ spelled command.Showboard = codes "showboard"
 abbrev pub all_commands : List CommandName
 all_commands =
     command.ProtocolVersion ∷ command.Name ∷ command.Version ∷ command.KnownCommand ∷ command.ListCommands
-    ∷ command.Quit ∷ command.Boardsize ∷ command.ClearBoard ∷ command.Komi ∷ command.Play ∷ command.Genmove ∷ command.FixedHandicap
-    ∷ command.Undo ∷ command.FinalScore ∷ command.Showboard ∷ []
+    ∷ command.Quit ∷ command.Boardsize ∷ command.ClearBoard ∷ command.Komi ∷ command.Play ∷ command.Genmove
+    ∷ command.FixedHandicap ∷ command.Undo ∷ command.FinalScore ∷ command.Showboard ∷ []
 
 -- their names, one per row (the standard, administrative commands: list_commands)
 abbrev pub all_names : List ℕ

@@ -36,7 +36,7 @@ module _ {E : Type 0} where
   bytes_moved (Ok bytes) = Some bytes
   bytes_moved (Err _) = None
 
-  -- after a flush, which moves no byte
+  -- how many bytes a flush with this answer moved: none, and nothing is said where it failed
   abbrev pub moved_by_flush : {T : Type 0} → Result T E → Option ℕ
   moved_by_flush (Ok _) = Some 0
   moved_by_flush (Err _) = None

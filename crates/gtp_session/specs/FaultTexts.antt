@@ -92,5 +92,5 @@ abbrev pub fault_spelled : List ℕ → Option Fault
 fault_spelled text = fault_spelled_by (before_colon text) (after_first (from_colon text))
 
 -- the function finds what the relation says
-abbrev pub FaultOfTells : Type 0
-FaultOfTells = (fault : Fault) (text : List ℕ) → SpellsFault fault text ↔ (fault_spelled text ≡ Some fault)
+abbrev pub FaultOfAgrees : Type 0
+FaultOfAgrees = (fault : Fault) (text : List ℕ) → SpellsFault fault text ↔ (fault_spelled text ≡ Some fault)

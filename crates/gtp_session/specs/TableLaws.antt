@@ -161,9 +161,9 @@ LinesSucceedWhereTheyCan = (game : GameRecord) (id : Option ℕ) (words : List (
     ↔ ((named : CommandName) × Names words named × CanBeDone game named words)
 
 -- Each failure is answered by its cause, and where there are two by the first: a line that is too long or arguments
--- that can't be read before all, a full record before a move that isn't legal, and a board that isn't empty before a number
--- of stones that isn't allowed.
-pub record FirstCausesAreTold : Type 0 where
+-- that can't be read before all, a full record before a move that isn't legal, and a board that isn't empty before a
+-- number of stones that isn't allowed.
+pub record FirstCausesAreGiven : Type 0 where
   pub too_long : (game : GameRecord) (choice : Choice)
       → answer game line.TooLong choice ≡ failure game (codes "syntax error")
   pub unread : (game : GameRecord) (id : Option ℕ) (words : List (List ℕ)) (choice : Choice) (named : CommandName)

@@ -1,5 +1,5 @@
-use Rattle.gtp_session.proofs.FaultTextLemmas.{fault_of_tells}
+use Rattle.gtp_session.proofs.FaultTextLemmas.{fault_of_agrees}
 use Rattle.gtp_session.proofs.laws.fault_texts.Goals as goal
 
 pub returns : goal.returns
-returns c = fault_of_tells
+returns c = fault_of_agrees
