@@ -121,8 +121,8 @@ pub record IsJoinedInPlay (game : GameRecord) (side : EngineRun) (lane : BareLan
   pub runs : WillReadWhereRunning lane.engine lane.to_engine ahead waiting
   pub uncut : CutByCrash lane.engine cut
 
--- The same after a verdict, when what is heard is dropped: of the bytes on their way to the controller it says only
--- that they are no more than those of the replies.
+-- How a side and its engine are joined after a verdict, when what is heard is dropped: of the bytes on their way to the
+-- controller it says only that they are no more than those of the replies.
 pub record IsJoinedAtEnd (game : GameRecord) (side : EngineRun) (lane : BareLane) : Type 0 where
   pub few : length side.unanswered ≤ most_unanswered
   pub replies : List Reply

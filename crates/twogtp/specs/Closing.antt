@@ -54,7 +54,7 @@ pub record QuitsAndEnds {P : Type 0} (known : Ghosts P) (before : P) : Type 0 wh
   pub ending : Ending
   pub left : known.leaves after ending
 
--- so it is of a process, if there is one
+-- a process, if there is one, is sent `quit` and ended
 abbrev pub QuitsIfAny : {P : Type 0} → Ghosts P → Option P → Type 0
 QuitsIfAny known None = Unit {0}
 QuitsIfAny known (Some process) = QuitsAndEnds known process

@@ -95,8 +95,8 @@ module _ {P O E : Type 0} (known : Ghosts P) (outs : OutputGhosts O) (errs : Out
         → GameIsWritten (number + 1) before after between has verdict
         → GamesAreWritten first had (number + 1) (status_with status verdict) after has
 
-  -- Some games were played and written. The next one isn't written whole: it stopped before its end, or it was played to
-  -- its end and the output broke at it. The failure says which, and nothing else was asked for.
+  -- Some games were played and written. The next one isn't written whole: it stopped before its end, or it was played
+  -- to its end and the output broke at it. The failure says which, and nothing else was asked for.
   pub record GamesHaveStopped (before after : O) (had has : Seen P E) (failure : Failure) : Type 0 where
     pub number : ℕ
     pub status : ℕ

@@ -49,7 +49,7 @@ abbrev pub IsEnded : {P : Type 0} → Ghosts P → Option P → Type 0
 IsEnded known None = Unit {0}
 IsEnded known (Some process) = (ending : Ending) × known.leaves process ending
 
--- so did those of both sides
+-- the processes of both sides have ended, each if there is one
 pub record AreEnded {P : Type 0} (known : Ghosts P) (processes : Processes P) : Type 0 where
   pub black : IsEnded known processes.black
   pub white : IsEnded known processes.white

@@ -98,8 +98,8 @@ pub data IsHeard {P : Type 0} (known : Ghosts P) (c : Controller) (side : Colour
       → IsHeard known c side before after (lost c side) (only_loss (cut_off Reading c side))
 
 -- a side was to be sent its commands, and one that has no process fails
-abbrev pub SendsToSide : {P : Type 0} → Ghosts P → Controller → Colour → Option P → Option P → Controller → Option TurnLoss
-    → Type 0
+abbrev pub SendsToSide : {P : Type 0} → Ghosts P → Controller → Colour → Option P → Option P → Controller
+    → Option TurnLoss → Type 0
 SendsToSide {P} known c side before after new why =
     WithProcess before after (λ (old now : P). AreSent known c side old now new why)
     ((new ≡ lost (sent c side) side) × (why ≡ cut_off Writing (sent c side) side))

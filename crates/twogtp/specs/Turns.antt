@@ -34,8 +34,8 @@ most_turns = 1000000000000
 
 -- ---- between two turns
 
--- a game between two turns: the match, the processes of its sides, and the starts that were asked for so far, where they
--- are known
+-- a game between two turns: the match, the processes of its sides, and the starts that were asked for so far, where
+-- they are known
 pub record GameState (P : Type 0) : Type 0 where
   pub game : Controller
   pub processes : Processes P
@@ -48,8 +48,8 @@ state game processes asked = record { game = game; processes = processes; asked 
 abbrev pub opening : {P : Type 0} → SetupRecord → Attempts P → GameState P
 opening setup asked = state (new setup) no_processes asked
 
--- what is written of a turn under this number of a game, where that is asked for: the line of a retake and then that of a
--- loss, each where there is one
+-- what is written of a turn under this number of a game, where that is asked for: the line of a retake and then that of
+-- a loss, each where there is one
 abbrev pub turn_lines : Bool → ℕ → SideTurn → List (List ℕ)
 turn_lines false number turn = []
 turn_lines true number turn =
@@ -126,8 +126,8 @@ module _ {P E : Type 0} (known : Ghosts P) (errs : OutputGhosts E) (commands : C
     abbrev pub HasPlayed : GameState P → E → GameState P → E → Type 0
     HasPlayed first had last has = (count : ℕ) × Plays first had count last has
 
-    -- A game stopped before its end, where its turns had led: turns were taken, and then memory was refused for a start;
-    -- or after the last turn the stream broke at a line of it; or there were too many turns.
+    -- A game stopped before its end, where its turns had led: turns were taken, and then memory was refused for a
+    -- start; or after the last turn the stream broke at a line of it; or there were too many turns.
     pub data HasStopped (first : GameState P) (had : E) (last : GameState P) (has : E) : Failure → Type 0 where
       out_of_memory : {before : GameState P} → HasPlayed first had before has
           → IsRefused commands before last
@@ -140,7 +140,8 @@ module _ {P E : Type 0} (known : Ghosts P) (errs : OutputGhosts E) (commands : C
           → HasStopped first had last has TooManyTurns
 
     -- a game was played to its end, with this verdict
-    pub record IsPlayed (first : GameState P) (had : E) (last : GameState P) (has : E) (verdict : Verdict) : Type 0 where
+    pub record IsPlayed (first : GameState P) (had : E) (last : GameState P) (has : E) (verdict : Verdict)
+        : Type 0 where
       pub plays : HasPlayed first had last has
       pub over : next last.game ≡ Done verdict
       -- what holds of each match: its record is a game of the setup, and its verdict is right

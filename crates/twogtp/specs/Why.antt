@@ -160,7 +160,7 @@ LossCanBeShown (NotStarted start) = Unit {0}
 LossCanBeShown (CutOff cause owed) = CanBeShown owed
 LossCanBeShown (Wrote loss) = CanBeShown loss.owed
 
--- so can what is reported of a turn
+-- what is reported of a turn can be shown
 abbrev pub ReportCanBeShown : TurnReport → Type 0
 ReportCanBeShown report =
     IfSome report.retake (λ retake. CanBeShown retake.owed) × IfSome report.loss LossCanBeShown

@@ -19,12 +19,12 @@ use go_base::Side;
 use gtp_match::{Match, Status, Verdict};
 use gtp_wire::{Command, Reply, ReplyReader, write_command};
 
-/// How often a reply to `quit` is read for at most. Each read gives a byte, and by 8,193 bytes a reply reader has returned
-/// a reply or a fault: a reply has at most 8,192.
+/// How often a reply to `quit` is read for at most. Each read gives a byte, and by 8,193 bytes a reply reader has
+/// returned a reply or a fault: a reply has at most 8,192.
 const MOST_QUIT_READS: u32 = 8193;
 
-/// A game that is over, and its verdict. Only `write` makes one, once the game's text is written and flushed. Only `close`
-/// sends `quit`, and it takes one. So no process is sent `quit` before that.
+/// A game that is over, and its verdict. Only `write` makes one, once the game's text is written and flushed. Only
+/// `close` sends `quit`, and it takes one. So no process is sent `quit` before that.
 pub struct WrittenGame<S: Starter> {
     played: GameInPlay<S>,
     verdict: Verdict,

@@ -19,8 +19,8 @@ use gtp_match::Verdict;
 use std::alloc::{AllocError, Global};
 use std::convert::AsStr;
 
-/// Plays the games that the words of the command line ask for, the first of which is the program's name. Writes the text
-/// of each to `output`, and returns the status that the program ends with:
+/// Plays the games that the words of the command line ask for, the first of which is the program's name. Writes the
+/// text of each to `output`, and returns the status that the program ends with:
 ///
 /// - 0 where each game ended by the rules, and where the words ask for help or the version, which goes to `output`;
 /// - 1 where in some game a side was unfit or given up;

@@ -61,7 +61,7 @@ noticed engine finding = record {
   oldest = oldest engine.unanswered;
 }
 
--- so it is reported
+-- What is found of a reply with this outcome is reported, with what the side hadn't answered.
 abbrev pub HasNotice : Controller → Colour → EngineRun → Reply → Outcome → Option Notice → Type 0
 HasNotice c side engine reply made notice =
     (finding : Option Finding) × HasFinding c side engine reply made finding
