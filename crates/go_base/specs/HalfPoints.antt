@@ -7,7 +7,7 @@ use Rattle.go_base.specs.Int.{written_int}
 abbrev pub written_points : ℕ → List ℕ
 written_points half_points = written_int (half_points / 2) ++ (if half_points % 2 == 1 then codes ".5" else [])
 
--- the same of any whole number, with `-` before it where it is negative
+-- any whole number of half points as points: as above, with `-` before it where it is negative
 abbrev pub written_half_points : ℤ → List ℕ
 written_half_points (pos n) = written_points n
 written_half_points (negsuc n) = codes "-" ++ written_points (n + 1)

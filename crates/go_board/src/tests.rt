@@ -42,7 +42,7 @@ fn read_move(rt: &impl Abort, word: &str) -> Move {
     }
 }
 
-/// Plays the moves of a text one after the other, with spaces between. The word `undo` takes one back. Each call must be
+/// Plays the moves of a text one after the other, with spaces between. The word `undo` takes one back. Each call is to be
 /// accepted.
 fn play_all(rt: &impl Abort, game: &mut Game, moves: &str) {
     for word in moves.split_whitespace() {
@@ -63,7 +63,7 @@ fn mark(stone: Option<Colour>) -> u8 {
     }
 }
 
-/// Compares each point with a drawing: the rows from the highest one down, with spaces between, `X` for Black's stone and
+/// Compares each point with a drawing: the rows from the highest down, with spaces between, `X` for Black's stone and
 /// `O` for White's.
 fn assert_board(rt: &impl Abort, game: &Game, drawing: &str) {
     let lines = game.size().get();

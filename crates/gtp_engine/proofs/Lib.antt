@@ -1,1 +1,1 @@
-pub mod OptionLemmas
+pub mod command_line

@@ -1,6 +1,6 @@
 -- What is written where a text of `clap` is shown. (Own.)
 use Rattle.std.specs.Prelude.{◌≡◌, ℕ, List, Option, IfSome}
-use Rattle.gtp_session.specs.Streams.{Sink}
+use Rattle.byte_streams.specs.Streams.{Sink}
 use Rattle.gtp_engine.specs.Program.{IsShown}
 
 -- a text was written that is what a value is displayed as, where that is specified

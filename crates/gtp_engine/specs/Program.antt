@@ -15,7 +15,7 @@ use Rattle.gtp_session.specs.Policies.{first_may, random_may, book_may}
 use Rattle.gtp_session.specs.Random.{generator_of}
 use Rattle.gtp_session.specs.Counts.{most_reads}
 use Rattle.gtp_session.specs.Engine.{Engine, fresh_under}
-use Rattle.gtp_session.specs.Streams.{Source, Sink, TookWhole, TookPart}
+use Rattle.byte_streams.specs.Streams.{Source, Sink, TookWhole, TookPart}
 use Rattle.gtp_session.specs.Serving.{CameOut}
 use Rattle.gtp_engine.specs.declared.failure.Failure.{Failure}
 use Rattle.gtp_engine.specs.declared.failure.Failure.TheVariants.{OutOfMemory, Serve}
@@ -23,7 +23,8 @@ use Rattle.gtp_engine.specs.declared.options.Options.{Options}
 use Rattle.gtp_engine.specs.declared.options.PolicyName.{PolicyName}
 use Rattle.gtp_engine.specs.declared.options.PolicyName.TheVariants.{First, Random, Book}
 use Rattle.gtp_engine.specs.Options.{AsksFor, AsksForText, HasFault, IsMistake, Spells}
-use Rattle.gtp_engine.specs.Status.{done, own_failure, status_after, IsRequest, ReportsFailure, ReportsEnd}
+use Rattle.gtp_engine.specs.Status.{status_after, ReportsFailure, ReportsEnd}
+use Rattle.programs.specs.Status.{done, own_failure, IsRequest}
 
 -- what the program's streams show: its input, its output, and its standard error
 pub record Streams : Type 0 where

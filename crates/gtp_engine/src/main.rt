@@ -7,16 +7,15 @@ mod failure;
 mod options;
 mod plain;
 pub mod run;
-mod standard;
 #[cfg(test)]
 mod tests;
 
 use failure::{Failure, report};
 use gtp_session::streams::Counted;
+use programs::standard::hold_closed;
+use programs::words::arguments;
 use run::run;
-use standard::hold_closed;
 use std::process::ExitCode;
-use std::{env, io};
 
 /// Holds the standard streams that are closed, runs the engine, and ends with its status.
 fn main(rt: HostRuntime) -> ExitCode {
@@ -41,9 +40,4 @@ fn answer(rt: &HostRuntime) -> u8 {
         ),
         Err(error) => report(Failure::of_arguments(error.kind()), errors),
     }
-}
-
-/// The program's name and its arguments.
-fn arguments(rt: &HostRuntime) -> io::Result<Vec<String>> {
-    Ok(env::args(rt)?.collect(rt.alloc())?)
 }

@@ -5,7 +5,7 @@
 pub use Rattle.gtp_match.proofs.soundness.Calls.{my_side, their_side, my_engine, one_idle}
 -- An engine without unanswered commands has confirmed no more than the script has; an empty rest gives no answer; and
 -- the controller with another game, verdict and side.
-pub use Rattle.gtp_match.proofs.soundness.Calls.{idle_plan, nothing_told, changed}
+pub use Rattle.gtp_match.proofs.soundness.Calls.{idle_plan, nothing_given, changed}
 -- What is unanswered goes on in the script: with a command of it more, and wherever no `genmove` is unanswered.
 pub use Rattle.gtp_match.proofs.soundness.Calls.{script_grows, in_script}
 -- Each call keeps a match sound: a new match, a start, a command, a side that goes down, and a side that is lost.

@@ -1,4 +1,3 @@
-pub mod texts
 pub mod scripts
 pub mod actions
 pub mod hearing

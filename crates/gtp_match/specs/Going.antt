@@ -5,7 +5,7 @@ use Rattle.go_base.specs.Colour.{other}
 use Rattle.go_base.specs.declared.colours.Colour.{Colour}
 use Rattle.go_base.specs.declared.moves.Move.{Move}
 use Rattle.go_board.specs.Game.{GameRecord, without_last}
-use Rattle.gtp_wire.specs.Replies.{TellsNothing, IsFirst}
+use Rattle.gtp_wire.specs.Replies.{GivesNoAnswer, IsFirst}
 use Rattle.gtp_wire.specs.declared.commands.Command.{Command}
 use Rattle.gtp_wire.specs.declared.replies.Reply.{Reply}
 use Rattle.gtp_wire.specs.declared.replies.ReplyFault.TheVariants as reply_fault
@@ -151,7 +151,7 @@ pub record BytesAreUsed : Type 0 where
       → (used ≡ place) × (fault ≡ Some shown)
   pub nothing : (c new : Controller) (s : Colour) (engine : EngineRun) (bytes : List ℕ) (used : ℕ)
       (fault : Option SideFault) → Hears c s bytes used fault new
-      → c.verdict ≡ None → (side_of c.sides s).up ≡ Some engine → TellsNothing (engine.reader ++ bytes)
+      → c.verdict ≡ None → (side_of c.sides s).up ≡ Some engine → GivesNoAnswer (engine.reader ++ bytes)
       → (used ≡ length bytes) × (fault ≡ None) × OnlyWrote c new s engine bytes
   -- of a side that is down, and after a verdict, all are
   pub down : (c new : Controller) (s : Colour) (bytes : List ℕ) (used : ℕ) (fault : Option SideFault)

@@ -11,7 +11,7 @@ use Rattle.go_board.specs.Refusals.{RefusesVertex}
 use Rattle.gtp_wire.specs.declared.replies.Reply.{Reply}
 use Rattle.gtp_wire.specs.declared.replies.ReplyFault.{ReplyFault}
 use Rattle.gtp_wire.specs.Commands.{IsWritable}
-use Rattle.gtp_wire.specs.Replies.{TellsNothing, IsFirst}
+use Rattle.gtp_wire.specs.Replies.{GivesNoAnswer, IsFirst, most_shown}
 use Rattle.gtp_match.specs.declared.controller.Controller.{Controller}
 use Rattle.gtp_match.specs.declared.losses.Loss.{Loss}
 use Rattle.gtp_match.specs.declared.losses.LossCause.{LossCause}
@@ -28,16 +28,12 @@ use Rattle.gtp_match.specs.declared.verdicts.Verdict.{Verdict}
 use Rattle.gtp_match.specs.declared.verdicts.Verdict.TheVariants as verdict
 use Rattle.gtp_match.specs.Hearing.{HearsExactly, side_fault}
 use Rattle.gtp_match.specs.ReplyTable.{outcome}
-use Rattle.gtp_match.specs.ReplyWords.{choice_of_text}
+use Rattle.gtp_wire.specs.ReplyWords.{choice_of_text}
 use Rattle.gtp_match.specs.Sides.{side_of}
 use Rattle.gtp_match.specs.Taking.{may_retake}
 use Rattle.gtp_match.specs.Unanswered.{oldest}
 
 -- ---- what a side owes
-
--- how many bytes of an answer are kept to be shown
-abbrev pub most_shown : ℕ
-most_shown = 80
 
 -- What an engine owes that wrote this text since its last whole reply: how many commands it hasn't answered, the oldest
 -- of them, and the beginning of the text.
@@ -104,7 +100,7 @@ pub data LosesUp (c : Controller) (side : Colour) (engine : EngineRun) (bytes : 
       → LosesUp c side engine bytes (option_map (loss_of engine (take count (engine.reader ++ bytes))) cause)
   by_fault : {count : ℕ} {shown : ReplyFault} → IsFirst (engine.reader ++ bytes) count (Err shown)
       → LosesUp c side engine bytes (Some (loss_of engine (engine.reader ++ bytes) (Shows (side_fault shown))))
-  nothing_yet : TellsNothing (engine.reader ++ bytes) → LosesUp c side engine bytes None
+  nothing_yet : GivesNoAnswer (engine.reader ++ bytes) → LosesUp c side engine bytes None
 
 -- there is none at a side that is down, nor after a verdict
 abbrev pub LosesWhere : Controller → Colour → List ℕ → Option Verdict → Option EngineRun → Option Loss → Type 0

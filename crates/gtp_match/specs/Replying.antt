@@ -14,7 +14,7 @@ use Rattle.gtp_wire.specs.declared.commands.Command.TheVariants.{FixedHandicap, 
 use Rattle.gtp_wire.specs.declared.replies.Reply.{Reply}
 use Rattle.gtp_match.specs.Controller.{started, sent, lost}
 use Rattle.gtp_match.specs.Hearing.{Hears}
-use Rattle.gtp_match.specs.ReplyWords.{NamesEachOnce}
+use Rattle.gtp_wire.specs.ReplyWords.{NamesEachOnce}
 use Rattle.gtp_match.specs.Script.{script}
 use Rattle.gtp_wire.specs.Words.{reply_words}
 use Rattle.gtp_match.specs.Sides.{side_of}

@@ -8,7 +8,7 @@ use Rattle.go_base.specs.declared.moves.Move.{Move}
 use Rattle.gtp_wire.specs.declared.commands.Command.TheVariants.{Play}
 use Rattle.gtp_wire.specs.declared.replies.Reply.{Reply}
 use Rattle.gtp_wire.specs.declared.replies.ReplyFault.{ReplyFault}
-use Rattle.gtp_wire.specs.Replies.{TellsNothing, IsFirst}
+use Rattle.gtp_wire.specs.Replies.{GivesNoAnswer, IsFirst}
 use Rattle.gtp_match.specs.declared.controller.Controller.{Controller}
 use Rattle.gtp_match.specs.declared.reports.Retake.{Retake}
 use Rattle.gtp_match.specs.declared.sides.EngineRun.{EngineRun}
@@ -59,7 +59,7 @@ pub data RetakesUp (c : Controller) (side : Colour) (engine : EngineRun) (bytes 
       (outcome c.game side (oldest engine.unanswered) value))
   by_fault : {count : ℕ} {shown : ReplyFault} → IsFirst (engine.reader ++ bytes) count (Err shown)
       → RetakesUp c side engine bytes None
-  nothing_yet : TellsNothing (engine.reader ++ bytes) → RetakesUp c side engine bytes None
+  nothing_yet : GivesNoAnswer (engine.reader ++ bytes) → RetakesUp c side engine bytes None
 
 -- of a side that is down nothing is reported, nor after a verdict
 abbrev pub RetakesWhere : Controller → Colour → List ℕ → Option Verdict → Option EngineRun → Option Retake → Type 0

@@ -1,6 +1,7 @@
 //! Why a side fails by what it writes: it goes down, is unfit or forfeits.
 ghost use Rattle.std.specs.Prelude.{◌≡◌, ◌++◌, take};
-ghost use Rattle.gtp_match.specs.Losing.{most_shown, owed_of, BreaksRule};
+ghost use Rattle.gtp_match.specs.Losing.{owed_of, BreaksRule};
+ghost use Rattle.gtp_wire.specs.Replies.{most_shown};
 ghost use Rattle.gtp_match.specs.private.Notices.{bytes_in};
 
 use crate::reply_table::{Outcome, judge};
@@ -10,10 +11,7 @@ use crate::verdicts::{ForfeitCause, SideFault};
 use arrayvec::ArrayVec;
 use go_base::{Choice, Side, push};
 use go_board::{Game, PlayFault};
-use gtp_wire::Reply;
-
-/// How many bytes of what a side wrote are kept to be shown.
-pub const MOST_SHOWN: usize = 80;
+use gtp_wire::{MOST_SHOWN, Reply};
 
 /// The beginning of what a side wrote.
 pub type ShownBytes = ArrayVec<u8, MOST_SHOWN>;

@@ -10,9 +10,8 @@ use crate::losses::{LossCause, Owed, ShownBytes, broken_rule, first_bytes, owed_
 use crate::reply_table::Outcome;
 use crate::reports::{Finding, Notice};
 use crate::verdicts::ForfeitCause;
-use crate::words::read_choice;
 use go_base::Side;
-use gtp_wire::Reply;
+use gtp_wire::{Reply, read_choice};
 
 impl Controller {
     /// What a side owes. None where it is down, or a verdict was given.

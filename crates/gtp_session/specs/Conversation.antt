@@ -62,13 +62,6 @@ pub record ReadWhileOpen {P : Type 0} (may : May P) (old : Engine P)
   pub engine : Replies may old before between replies
   pub is_open : between.ended ≡ false
 
--- the writer took the beginning of a text
-pub record TakesPart (text : List ℕ) (held holds : Option (List ℕ)) : Type 0 where
-  pub part : List ℕ
-  pub left : List ℕ
-  pub cut : text ≡ part ++ left
-  pub taken : Appends held holds part
-
 -- the reader gave at least as many bytes
 pub record GivesAtLeast (gives gives_now : Option (List ℕ)) (least : ℕ) : Type 0 where
   pub input : List ℕ

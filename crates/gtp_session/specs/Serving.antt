@@ -7,9 +7,9 @@ use Rattle.gtp_session.specs.declared.serve.Served.TheVariants.{Quit, EndOfInput
 use Rattle.gtp_session.specs.declared.serve.ServeFault.{ServeFault}
 use Rattle.gtp_session.specs.declared.serve.ServeFault.TheVariants.{Read, Write, TooManyReads}
 use Rattle.gtp_session.specs.Policy.{May}
-use Rattle.gtp_session.specs.Counts.{raised}
+use Rattle.byte_streams.specs.Counts.{raised}
 use Rattle.gtp_session.specs.Conversation.{GivesAtLeast, ReadWhileOpen}
-use Rattle.gtp_session.specs.Streams.{Source, Sink}
+use Rattle.byte_streams.specs.Streams.{Source, Sink}
 use Rattle.gtp_session.specs.Engine.{Engine}
 use Rattle.gtp_session.specs.Faults.{BentConversation, StoppedConversation, BrokenBentConversation}
 

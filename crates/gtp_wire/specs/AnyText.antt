@@ -14,7 +14,7 @@ use Rattle.gtp_wire.specs.declared.replies.ReplyFault.{ReplyFault}
 use Rattle.gtp_wire.specs.declared.replies.ReplyFault.TheVariants.{Overlong, NoStatus}
 use Rattle.gtp_wire.specs.Commands.{words_of, written_command, IsInLimits}
 use Rattle.gtp_wire.specs.Lines.{lines}
-use Rattle.gtp_wire.specs.Replies.{IsReply, IsFirst, IsReplyText, ReadsFirst, Tells, TellsNothing, written_reply}
+use Rattle.gtp_wire.specs.Replies.{IsReply, IsFirst, IsReplyText, ReadsFirst, GivesAnswer, GivesNoAnswer, written_reply}
 
 -- a control character that is removed: below 32, or 127; but not HT (9) and not LF (10) (the standard, preprocessing)
 abbrev pub IsControl : ℕ → Type 0
@@ -97,11 +97,11 @@ pub record LinesAreTheOnlyReading : Type 0 where
 pub record BytesChangeNothing : Type 0 where
   pub control : (front : List ℕ) (b c : ℕ) (later : List ℕ) (answer : Result Reply ReplyFault) → IsControl b
       → length (front ++ b ∷ c ∷ later) ≤ 8192
-      → Tells (front ++ c ∷ later) answer → Tells (front ++ b ∷ c ∷ later) answer
+      → GivesAnswer (front ++ c ∷ later) answer → GivesAnswer (front ++ b ∷ c ∷ later) answer
   pub tab : (front later : List ℕ) (answer : Result Reply ReplyFault)
-      → Tells (front ++ 32 ∷ later) answer → Tells (front ++ 9 ∷ later) answer
+      → GivesAnswer (front ++ 32 ∷ later) answer → GivesAnswer (front ++ 9 ∷ later) answer
   pub blank : (b : ℕ) (raw : List ℕ) (answer : Result Reply ReplyFault) → (b ≡ 32) ⊎ (b ≡ 10) → length raw < 8192
-      → Tells raw answer → Tells (b ∷ raw) answer
+      → GivesAnswer raw answer → GivesAnswer (b ∷ raw) answer
 
 -- what is passed over before a reply: a control character, HT, a newline or a space (own)
 abbrev pub IsPassedOver : ℕ → Type 0
@@ -116,7 +116,7 @@ BeginsNone b = IsPrinted b × (b ≢ 32) × (b ≢ 61) × (b ≢ 63)
 pub record FaultsHavePlaces : Type 0 where
   pub no_status : (front : List ℕ) (b : ℕ) (later : List ℕ) → All IsPassedOver front → length front < 8192
       → BeginsNone b → IsFirst (front ++ b ∷ later) (length front + 1) (Err NoStatus)
-  pub overlong : (text : List ℕ) (b : ℕ) (later : List ℕ) → length text ≡ 8192 → TellsNothing text
+  pub overlong : (text : List ℕ) (b : ℕ) (later : List ℕ) → length text ≡ 8192 → GivesNoAnswer text
       → IsFirst (text ++ b ∷ later) 8193 (Err Overlong)
   pub place : (text : List ℕ) (count : ℕ) → IsFirst text count (Err Overlong) → count ≡ 8193
 
@@ -246,10 +246,10 @@ pub record ReadsReplies (tells : List ℕ → ℕ → Result Reply ReplyFault �
 -- All of this holds of what comes first in a text, and every function of texts of which it holds returns just that.
 pub record RepliesAreTheOnlyReading : Type 0 where
   pub holds : ReadsReplies IsFirst
-  pub only : (told : List ℕ → Option (ℕ × Result Reply ReplyFault))
-      → ReadsReplies (λ text count answer. told text ≡ Some (count, answer))
+  pub only : (reading : List ℕ → Option (ℕ × Result Reply ReplyFault))
+      → ReadsReplies (λ text count answer. reading text ≡ Some (count, answer))
       → (text : List ℕ) (count : ℕ) (answer : Result Reply ReplyFault)
-      → (told text ≡ Some (count, answer)) ↔ IsFirst text count answer
+      → (reading text ≡ Some (count, answer)) ↔ IsFirst text count answer
 
 -- ---- what is written (the standard, command and response structure)
 

@@ -1,10 +1,16 @@
 -- Laws of lines, commands and replies: what holds of the definitions alone, whatever code reads and writes the bytes.
 use Rattle.std.specs.Prelude.{◌≡◌, ◌≢◌, ℕ, ◌+◌, ◌<◌, ◌≤◌, Bool, true, List, [], ◌∷◌, ◌++◌, length, take, drop, All}
-use Rattle.std.specs.Prelude.{Option, Some, None, Result, Ok, IfSome}
-use Rattle.std.specs.List.{concat, join_with_byte, list_all}
+use Rattle.std.specs.Prelude.{Option, Some, None, Result, Ok, IfSome, ◌⊎◌, ◌↔◌, map, codes}
+use Rattle.std.specs.List.{concat, join_with_byte, list_all, AllPairs}
 use Rattle.std.specs.Option.{option_to_list}
 use Rattle.go_base.specs.Bytes.{newline, space}
 use Rattle.go_base.specs.Int.{most_int, int_of}
+use Rattle.go_base.specs.Point.{IsOn}
+use Rattle.go_base.specs.Size.{most_size}
+use Rattle.go_base.specs.Vertex.{IsVertex, written_vertex}
+use Rattle.go_base.specs.declared.choices.Choice.TheVariants.{Play, Resign}
+use Rattle.go_base.specs.declared.vertices.Vertex.{Vertex}
+use Rattle.go_base.specs.declared.vertices.Vertex.TheVariants.{At}
 use Rattle.gtp_wire.specs.declared.commands.Command.{Command}
 use Rattle.gtp_wire.specs.declared.lines.Line.{Line}
 use Rattle.gtp_wire.specs.declared.lines.Line.TheVariants as line
@@ -12,8 +18,9 @@ use Rattle.gtp_wire.specs.declared.replies.Reply.{Reply}
 use Rattle.gtp_wire.specs.declared.replies.ReplyFault.{ReplyFault}
 use Rattle.gtp_wire.specs.Commands.{words_of, written_command, most_command_bytes, IsWritable, IsInLimits}
 use Rattle.gtp_wire.specs.Lines.{lines, Finds, SameFuture}
-use Rattle.gtp_wire.specs.Words.{most_line_bytes, is_written_word, id_words}
-use Rattle.gtp_wire.specs.Replies.{IsWhole, IsReply, IsFirst, TellsNothing, IsReplyText, written_reply, ReadsFirst}
+use Rattle.gtp_wire.specs.ReplyWords.{choice_of_text, names_points, NamesEachOnce}
+use Rattle.gtp_wire.specs.Words.{most_line_bytes, is_written_word, id_words, reply_words}
+use Rattle.gtp_wire.specs.Replies.{IsWhole, IsReply, IsFirst, GivesNoAnswer, IsReplyText, written_reply, ReadsFirst}
 use Rattle.gtp_wire.specs.Replies.{most_text_bytes, most_written_bytes}
 
 -- ---- lines (the standard, preprocessing and command structure)
@@ -125,7 +132,7 @@ WrittenRepliesAreReplies = (ok : Bool) (id : Option ℕ) (text : List ℕ) (valu
 -- no front of a reply that is cut short is a reply or a fault
 abbrev pub FrontsAreNoAnswers : Type 0
 FrontsAreNoAnswers = (raw : List ℕ) (value : Reply) (k : ℕ)
-    → IsReply raw value → k < length raw → TellsNothing (take k raw)
+    → IsReply raw value → k < length raw → GivesNoAnswer (take k raw)
 
 -- what comes first in a text comes first in every longer text that it begins, at the same byte
 abbrev pub FirstStaysFirst : Type 0
@@ -153,7 +160,7 @@ pub data AreRead : List ℕ → List (List ℕ) → ℕ → Option (Result Reply
       (piece : List ℕ) (pieces : List (List ℕ)) (used : ℕ)
       → ReadsFirst old piece used None mid → AreRead mid pieces more got new
       → AreRead old (piece ∷ pieces) (used + more) got new
-  told : {old new : List ℕ} (piece : List ℕ) (pieces : List (List ℕ)) (used : ℕ) (answer : Result Reply ReplyFault)
+  is_given : {old new : List ℕ} (piece : List ℕ) (pieces : List (List ℕ)) (used : ℕ) (answer : Result Reply ReplyFault)
       → ReadsFirst old piece used (Some answer) new
       → AreRead old (piece ∷ pieces) used (Some answer) new
 
@@ -162,4 +169,31 @@ pub data AreRead : List ℕ → List (List ℕ) → ℕ → Option (Result Reply
 abbrev pub AnyPiecesAnswerAlike : Type 0
 AnyPiecesAnswerAlike = (old : List ℕ) (pieces : List (List ℕ)) (used : ℕ) (got : Option (Result Reply ReplyFault))
     (new : List ℕ)
-    → TellsNothing old → AreRead old pieces used got new → ReadsFirst old (concat pieces) used got new
+    → GivesNoAnswer old → AreRead old pieces used got new → ReadsFirst old (concat pieces) used got new
+
+-- ---- the words of a reply's text (the standard, response structure)
+
+-- The empty text has no word, and a text of bytes that are neither a newline nor a space is one word. A text that a
+-- newline or a space cuts has the words before it, and then those after it. So the words of every text are fixed. (10
+-- is LF, and 32 a space.)
+pub record TextsAreCut : Type 0 where
+  pub none : reply_words [] ≡ []
+  pub one : (text : List ℕ) → 0 < length text → All (λ b. (b ≢ 10) × (b ≢ 32)) text → reply_words text ≡ text ∷ []
+  pub both : (front back : List ℕ) (b : ℕ) → (b ≡ 10) ⊎ (b ≡ 32)
+      → reply_words (front ++ b ∷ back) ≡ reply_words front ++ reply_words back
+
+-- Distinct points are named exactly where each word is a vertex on one of them, and each is named once, in any order.
+abbrev pub HandicapsAreNamedOnce : Type 0
+HandicapsAreNamedOnce =
+    (points : List ℕ) (words : List (List ℕ)) → AllPairs (λ p q. p ≢ q) points
+    → names_points points words ≡ true ↔ NamesEachOnce points words
+
+-- What is written as a vertex is read as the play of it, and `resign` as the resignation.
+pub record WrittenChoicesAreRead : Type 0 where
+  pub play : (vertex : Vertex) → IsVertex vertex → choice_of_text (written_vertex vertex) ≡ Some (Play vertex)
+  pub resign : choice_of_text (codes "resign") ≡ Some Resign
+
+-- Points that are written as vertices with single spaces between them are named.
+abbrev pub WrittenPointsAreNamed : Type 0
+WrittenPointsAreNamed = (points : List ℕ) → All (IsOn most_size) points
+    → names_points points (reply_words (join_with_byte space (map (λ p. written_vertex (At p)) points))) ≡ true

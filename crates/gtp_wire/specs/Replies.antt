@@ -25,6 +25,10 @@ most_text_bytes = 2000
 abbrev pub most_written_bytes : ℕ
 most_written_bytes = 2048
 
+-- the most bytes of what an engine wrote that are shown (own)
+abbrev pub most_shown : ℕ
+most_shown = 80
+
 -- What the controller does before it parses: the control characters but HT and LF are removed, and HT becomes a space.
 -- It knows no comments.
 abbrev pub prepared : List ℕ → List ℕ
@@ -85,21 +89,21 @@ pub record IsNoStatus (raw : List ℕ) : Type 0 where
 
 -- The answer that the raw bytes are, where no front of them is one: a reply; that they begin none; or, with byte 8,193,
 -- whatever it is, that they are too many (own).
-abbrev pub Tells : List ℕ → Result Reply ReplyFault → Type 0
-Tells raw (Ok value) = IsReply raw value
-Tells raw (Err NoStatus) = IsNoStatus raw
-Tells raw (Err Overlong) = length raw ≡ most_reply_bytes + 1
+abbrev pub GivesAnswer : List ℕ → Result Reply ReplyFault → Type 0
+GivesAnswer raw (Ok value) = IsReply raw value
+GivesAnswer raw (Err NoStatus) = IsNoStatus raw
+GivesAnswer raw (Err Overlong) = length raw ≡ most_reply_bytes + 1
 
 -- neither the text nor a front of it is a reply or a fault
-abbrev pub TellsNothing : List ℕ → Type 0
-TellsNothing text = (n : ℕ) (answer : Result Reply ReplyFault) → n ≤ length text → Tells (take n text) answer → ⊥
+abbrev pub GivesNoAnswer : List ℕ → Type 0
+GivesNoAnswer text = (n : ℕ) (answer : Result Reply ReplyFault) → n ≤ length text → GivesAnswer (take n text) answer → ⊥
 
 -- What comes first in the text, and how many bytes of it give it: a reply, and its length; or a fault, and the
 -- bytes up to and with the one that shows it.
 pub record IsFirst (text : List ℕ) (count : ℕ) (answer : Result Reply ReplyFault) : Type 0 where
   pub inside : count ≤ length text
-  pub told : Tells (take count text) answer
-  pub before : (n : ℕ) (other : Result Reply ReplyFault) → n < count → Tells (take n text) other → ⊥
+  pub is_given : GivesAnswer (take count text) answer
+  pub before : (n : ℕ) (other : Result Reply ReplyFault) → n < count → GivesAnswer (take n text) other → ⊥
 
 -- What stays of the text after this answer: a reply is taken off, and the rest begins anew; else all of it stays.
 abbrev pub rest_after : Option (Result Reply ReplyFault) → List ℕ → List ℕ
@@ -112,7 +116,7 @@ rest_after (Some (Err fault)) text = text
 pub record ReadsFirst (old input : List ℕ) (used : ℕ) (got : Option (Result Reply ReplyFault)) (new : List ℕ)
     : Type 0 where
   pub first : IfSome got (λ answer. IsFirst (old ++ input) (length old + used) answer)
-  pub nothing : IfNone got (TellsNothing (old ++ input))
+  pub nothing : IfNone got (GivesNoAnswer (old ++ input))
   pub all : IfNone got (used ≡ length input)
   pub within : used ≤ length input
   -- a reply is taken off, and all else is kept as it came

@@ -7,7 +7,8 @@ ghost use Rattle.gtp_wire.specs.Laws.{WrittenCommandsAreLines, CommandFrontsAreO
 ghost use Rattle.gtp_wire.specs.Laws.{RepliesHaveOneValue, OneAnswerComesFirst, NoReplyBeginsAnother};
 ghost use Rattle.gtp_wire.specs.Laws.{RepliesComeFirst, WrittenRepliesAreReplies, FrontsAreNoAnswers};
 ghost use Rattle.gtp_wire.specs.Laws.{FirstStaysFirst, WrittenRepliesComeFirst, RepliesAreShort};
-ghost use Rattle.gtp_wire.specs.Laws.{AnyPiecesAnswerAlike};
+ghost use Rattle.gtp_wire.specs.Laws.{AnyPiecesAnswerAlike, TextsAreCut, HandicapsAreNamedOnce};
+ghost use Rattle.gtp_wire.specs.Laws.{WrittenChoicesAreRead, WrittenPointsAreNamed};
 ghost use Rattle.gtp_wire.specs.AnyText.{LinesAreTheOnlyReading, BytesChangeNothing, FaultsHavePlaces, FaultsStay};
 ghost use Rattle.gtp_wire.specs.AnyText.{RepliesLeaveNothing, AnswersHaveShapes, RepliesSay, RepliesAreTheOnlyReading};
 ghost use Rattle.gtp_wire.specs.AnyText.{CommandsHaveNoByteToSpare, RepliesHaveNoByteToSpare, LimitsAreThese};
@@ -18,13 +19,13 @@ pub fn lines_go_on()
 {}
 
 /// Only a newline ends a line: bytes without one add no line.
-#[tactic(auto, using(crate::proofs::ReadingLemmas::lines_without_newline))]
+#[tactic(auto, using(crate::proofs::line_reading::OneAfterOther::lines_without_newline))]
 pub fn only_newlines_end_lines()
     ensures { OnlyNewlinesEndLines }
 {}
 
 /// What follows a newline is read by itself.
-#[tactic(auto, using(crate::proofs::ReadingLemmas::lines_anew))]
+#[tactic(auto, using(crate::proofs::line_reading::OneAfterOther::lines_anew))]
 pub fn newlines_begin_anew()
     ensures { NewlinesBeginAnew }
 {}
@@ -50,13 +51,13 @@ pub fn any_pieces_read_alike()
 {}
 
 /// Words that are written with single spaces and a newline are one line, of that id and those words.
-#[tactic(auto, using(crate::proofs::WrittenLines::written_words_are_read))]
+#[tactic(auto, using(crate::proofs::written::OneLine::written_words_are_read))]
 pub fn written_lines_are_read()
     ensures { WrittenLinesAreRead }
 {}
 
 /// A command that is written is, with anything after it, one line of its id and words, and then the lines of the rest.
-#[tactic(auto, using(crate::proofs::CommandWords::commands_are_lines))]
+#[tactic(auto, using(crate::proofs::written::CommandWords::commands_are_lines))]
 pub fn written_commands_are_lines()
     ensures { WrittenCommandsAreLines }
 {}
@@ -67,7 +68,7 @@ pub fn command_fronts_are_open()
 {}
 
 /// A command that is written has at most 64 bytes.
-#[tactic(auto, using(crate::proofs::CommandWords::command_short))]
+#[tactic(auto, using(crate::proofs::written::CommandWords::command_short))]
 pub fn commands_are_short()
     ensures { CommandsAreShort }
 {}
@@ -78,7 +79,7 @@ pub fn replies_have_one_value()
 {}
 
 /// In a text one reply or fault comes first, at one byte.
-#[tactic(auto, using(crate::proofs::ReplyLaws::one_first))]
+#[tactic(auto, using(crate::proofs::first_answers::OneAnswer::one_first))]
 pub fn one_answer_comes_first()
     ensures { OneAnswerComesFirst }
 {}
@@ -104,7 +105,7 @@ pub fn fronts_are_no_answers()
 {}
 
 /// What comes first in a text comes first in every longer text that it begins, at the same byte.
-#[tactic(auto, using(crate::proofs::ReplyReadingLemmas::first_more))]
+#[tactic(auto, using(crate::proofs::first_answers::OneByteMore::first_more))]
 pub fn first_stays_first()
     ensures { FirstStaysFirst }
 {}
@@ -126,25 +127,25 @@ pub fn any_pieces_answer_alike()
 
 /// Control characters and comments are nothing, HT is a space, spaces only separate, newlines end lines, and words are
 /// a line of an id and words or one that is too long. The lines of a text are the only reading that does all of this.
-#[tactic(auto, using(crate::proofs::OnlyReading::only_reading))]
+#[tactic(auto, using(crate::proofs::line_reading::OnlyReading::only_reading))]
 pub fn lines_are_the_only_reading()
     ensures { LinesAreTheOnlyReading }
 {}
 
 /// A control character, HT for a space, or a blank in front changes nothing of a reply but the count of its bytes.
-#[tactic(auto, using(crate::proofs::ReplyBytes::bytes_change_nothing))]
+#[tactic(auto, using(crate::proofs::reply_bytes::SameReply::bytes_change_nothing))]
 pub fn bytes_change_nothing()
     ensures { BytesChangeNothing }
 {}
 
 /// `NoStatus` comes at the first byte that begins no reply, and `Overlong` at byte 8,193.
-#[tactic(auto, using(crate::proofs::ReplyFaults::faults_have_places))]
+#[tactic(auto, using(crate::proofs::first_answers::Faults::faults_have_places))]
 pub fn faults_have_places()
     ensures { FaultsHavePlaces }
 {}
 
 /// A reply that `=` or `?` began ends at two newlines, and `NoStatus` comes at the first byte that begins none.
-#[tactic(auto, using(crate::proofs::AnswerShapes::answers_have_shapes))]
+#[tactic(auto, using(crate::proofs::first_answers::Shapes::answers_have_shapes))]
 pub fn answers_have_shapes()
     ensures { AnswersHaveShapes }
 {}
@@ -156,7 +157,7 @@ pub fn replies_say()
 
 /// What comes first in a text is as the laws of shapes, of faults and of what replies say have it. Every function of
 /// texts that returns an answer as they have it returns just that.
-#[tactic(auto, using(crate::proofs::OnlyReplies::replies_are_the_only_reading))]
+#[tactic(auto, using(crate::proofs::first_answers::OnlyReplies::replies_are_the_only_reading))]
 pub fn replies_are_the_only_reading()
     ensures { RepliesAreTheOnlyReading }
 {}
@@ -172,20 +173,44 @@ pub fn replies_leave_nothing()
 {}
 
 /// A command's line has no byte to spare: its words, one byte after each, and an id's digits and a space in front.
-#[tactic(auto, using(crate::proofs::WrittenBytes::commands_to_spare))]
+#[tactic(auto, using(crate::proofs::written::FewBytes::commands_to_spare))]
 pub fn commands_have_no_byte_to_spare()
     ensures { CommandsHaveNoByteToSpare }
 {}
 
 /// A reply that is written has no byte to spare: the status, the id's digits, a space and the text, two newlines.
-#[tactic(auto, using(crate::proofs::WrittenBytes::replies_to_spare))]
+#[tactic(auto, using(crate::proofs::written::FewBytes::replies_to_spare))]
 pub fn replies_have_no_byte_to_spare()
     ensures { RepliesHaveNoByteToSpare }
 {}
 
 /// What may be the text of a reply: at most 2,000 bytes, each a newline or 32 to 126, in lines without an empty one. A
 /// reply then has at most 2,048 bytes, and a command's line at most 64.
-#[tactic(auto, using(crate::proofs::WrittenBytes::limits_are_these))]
+#[tactic(auto, using(crate::proofs::written::FewBytes::limits_are_these))]
 pub fn limits_are_these()
     ensures { LimitsAreThese }
+{}
+
+/// Newlines and spaces cut a reply's text into words, and nothing else does. A text without them is one word, and the
+/// empty text has none. A text that one of them cuts has the words before it, and then those after it.
+pub fn texts_are_cut()
+    ensures { TextsAreCut }
+{}
+
+/// The words of a reply to `fixed_handicap` name the points of the handicap, or any other distinct points, exactly where
+/// each word is a vertex on one of them, and each of them is named by one word, in any order.
+pub fn handicaps_are_named_once()
+    ensures { HandicapsAreNamedOnce }
+{}
+
+/// What is written as one vertex is read as the play of it, and `resign` as a resignation.
+#[tactic(auto, using(crate::proofs::texts::ReadBack::choices_are_read))]
+pub fn written_choices_are_read()
+    ensures { WrittenChoicesAreRead }
+{}
+
+/// Points that are written as vertices with single spaces between them are named by these words.
+#[tactic(auto, using(crate::proofs::texts::ReadBack::points_are_named))]
+pub fn written_points_are_named()
+    ensures { WrittenPointsAreNamed }
 {}

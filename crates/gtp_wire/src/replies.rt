@@ -11,6 +11,9 @@ use go_base::{push, write_int};
 /// The most bytes of a reply that is read, what is removed and skipped included.
 pub(crate) const MOST_REPLY_BYTES: usize = 8192;
 
+/// The most bytes of what an engine wrote that are shown.
+pub const MOST_SHOWN: usize = 80;
+
 /// What an engine answered to a command.
 #[derive(Debug, Drop)]
 pub struct Reply {

@@ -1,4 +1,5 @@
 //! Examples of lines, replies and commands, worked out by hand from the page of the protocol.
 mod lines;
 mod replies;
+mod reply_words;
 mod written;

@@ -22,7 +22,7 @@ pub fn first_word(text: &[u8]) -> Option<(&[u8], &[u8])>
 }
 
 /// The text without the spaces and newlines in front.
-#[tactic(auto, using(crate::proofs::ReplyWordLemmas::drop_prefix_len))]
+#[tactic(auto, using(crate::proofs::reply_bytes::FirstWord::drop_prefix_len))]
 pub(crate) fn skip_blanks(text: &[u8]) -> &[u8]
     ensures text { result.now ≡ skip_while is_blank text.now }
     ensures short { length result.now ≤ length text.now }

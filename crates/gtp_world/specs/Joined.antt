@@ -10,7 +10,7 @@ use Rattle.go_board.specs.declared.rules.KoRule.{KoRule}
 use Rattle.go_board.specs.declared.rules.KoRule.TheVariants.{Simple, Positional}
 use Rattle.gtp_wire.specs.declared.replies.Reply.{Reply}
 use Rattle.gtp_wire.specs.Lines.{lines, SameFuture}
-use Rattle.gtp_wire.specs.Replies.{TellsNothing}
+use Rattle.gtp_wire.specs.Replies.{GivesNoAnswer}
 use Rattle.gtp_session.specs.Engine.{Engine}
 use Rattle.gtp_match.specs.declared.unanswered.SentCommand.{SentCommand}
 use Rattle.gtp_match.specs.declared.sides.EngineRun.{EngineRun}
@@ -115,7 +115,7 @@ pub record IsJoinedInPlay (game : GameRecord) (side : EngineRun) (lane : BareLan
   -- heard since the last whole reply, and lost with the engine
   pub begun : List ℕ
   pub cut : List ℕ
-  pub begun_quiet : TellsNothing begun
+  pub begun_quiet : GivesNoAnswer begun
   pub kept : MayKeep side.reader begun
   pub arriving : (begun ++ lane.to_controller) ++ cut ≡ all_reply_bytes replies
   pub runs : WillReadWhereRunning lane.engine lane.to_engine ahead waiting

@@ -1,10 +1,3 @@
-mod ClosingLemmas
-mod DownLemmas
-mod FewLemmas
-mod LossLemmas
-mod OptionLemmas
-mod PipeLemmas
-mod PlanLemmas
-mod SendingLemmas
-mod WritingLemmas
-mod WhyLemmas
+mod command_line
+mod streams
+mod matches

@@ -12,18 +12,19 @@ use Rattle.twogtp.specs.declared.failure.Failure.{Failure}
 use Rattle.twogtp.specs.declared.failure.Failure.TheVariants.{Write}
 use Rattle.twogtp.specs.declared.failure.Mistake.{Mistake}
 use Rattle.twogtp.specs.declared.options.Options.{Options}
-use Rattle.twogtp.specs.declared.output.Output.{Ghosts as OutputGhosts}
+use Rattle.byte_streams.specs.declared.calls.WriteOnce.{Ghosts as WriterGhosts}
 use Rattle.twogtp.specs.declared.plan.Plan.{Plan}
-use Rattle.twogtp.specs.declared.starter.Process.{Ghosts}
+use Rattle.gtp_process.specs.declared.starter.Process.{Ghosts}
 use Rattle.twogtp.specs.declared.task.Task.{Task}
 use Rattle.twogtp.specs.Closing.{AreClosed}
 use Rattle.twogtp.specs.Options.{AsksFor, AsksForText, HasFault}
 use Rattle.twogtp.specs.Processes.{AreEnded}
-use Rattle.twogtp.specs.Starts.{Attempts}
-use Rattle.twogtp.specs.Status.{IsRequest, ReportsFailure, ReportsMistake, done, own_failure, status_with}
+use Rattle.gtp_process.specs.Starts.{Attempts}
+use Rattle.programs.specs.Status.{IsRequest, done, own_failure}
+use Rattle.twogtp.specs.Status.{ReportsFailure, ReportsMistake, status_with}
 use Rattle.twogtp.specs.Tasks.{IsMistake, IsPlanOf}
 use Rattle.twogtp.specs.Turns.{GameState, HasStopped, IsPlayed, opening}
-use Rattle.twogtp.specs.Writing.{BreaksAt, GoesOut, IsWritten}
+use Rattle.byte_streams.specs.Writing.{BreaksAt, GoesOut, IsWritten}
 
 -- ---- the text of a game
 
@@ -56,7 +57,7 @@ pub record Seen (P E : Type 0) : Type 0 where
 abbrev pub seen : {P E : Type 0} → Attempts P → E → Seen P E
 seen asked errors = record { asked = asked; errors = errors }
 
-module _ {P O E : Type 0} (known : Ghosts P) (outs : OutputGhosts O) (errs : OutputGhosts E) (plan : Plan) where
+module _ {P O E : Type 0} (known : Ghosts P) (outs : WriterGhosts O) (errs : WriterGhosts E) (plan : Plan) where
   -- A game was played to its end, from its beginning without processes, and its text under this number went out. After
   -- that its processes were closed.
   pub record GameIsWritten (number : ℕ) (before after : O) (had has : Seen P E) (verdict : Verdict) : Type 0 where
@@ -119,7 +120,7 @@ pub record AsksForPlan (words : List Text) (plan : Plan) : Type 0 where
   pub asked : AsksFor words options
   pub come_to : IsPlanOf options plan
 
-module _ {P O E : Type 0} (known : Ghosts P) (outs : OutputGhosts O) (errs : OutputGhosts E) (words : List Text) where
+module _ {P O E : Type 0} (known : Ghosts P) (outs : WriterGhosts O) (errs : WriterGhosts E) (words : List Text) where
   -- all games that the words ask for were played and written, with this status
   pub record HasDone (status : ℕ) (before after : O) (had has : Seen P E) : Type 0 where
     pub plan : Plan
@@ -139,19 +140,19 @@ module _ {P O E : Type 0} (known : Ghosts P) (outs : OutputGhosts O) (errs : Out
 -- ---- texts that were asked for, and mistakes
 
 -- a text that was asked for went out with status 0, or the output broke at it with status 3
-abbrev pub IsShown : {O : Type 0} → OutputGhosts O → List ℕ → ℕ → O → O → Type 0
+abbrev pub IsShown : {O : Type 0} → WriterGhosts O → List ℕ → ℕ → O → O → Type 0
 IsShown outs text status before after =
     ((status ≡ done) × GoesOut outs text before after) ⊎ ((status ≡ own_failure) × BreaksAt outs text before after)
 
 -- the words ask for the help or the version, and a text went out with status 0, or the output broke at it with 3
-pub record HasShown {O : Type 0} (outs : OutputGhosts O) (words : List Text) (status : ℕ) (before after : O)
+pub record HasShown {O : Type 0} (outs : WriterGhosts O) (words : List Text) (status : ℕ) (before after : O)
     : Type 0 where
   pub asked : AsksForText words
   pub text : List ℕ
   pub shown : IsShown outs text status before after
 
 -- The options that the words ask for have a mistake. The first one is reported.
-pub record AsksWrongly {E : Type 0} (errs : OutputGhosts E) (words : List Text) (before after : E) : Type 0 where
+pub record AsksWrongly {E : Type 0} (errs : WriterGhosts E) (words : List Text) (before after : E) : Type 0 where
   pub options : Options
   pub asked : AsksFor words options
   pub what : Mistake
@@ -159,7 +160,7 @@ pub record AsksWrongly {E : Type 0} (errs : OutputGhosts E) (words : List Text) 
   pub reported : ReportsMistake errs what before after
 
 -- The words have a mistake. One text is written.
-pub record IsRefusedByClap {E : Type 0} (errs : OutputGhosts E) (words : List Text) (before after : E) : Type 0 where
+pub record IsRefusedByClap {E : Type 0} (errs : WriterGhosts E) (words : List Text) (before after : E) : Type 0 where
   pub kind : ErrorKind
   pub mistake : ¬ IsRequest kind
   pub has : HasFault words kind
@@ -167,5 +168,5 @@ pub record IsRefusedByClap {E : Type 0} (errs : OutputGhosts E) (words : List Te
   pub written : IsWritten errs text before after
 
 -- the words have a mistake, or what they ask for has one
-abbrev pub HasMistake : {E : Type 0} → OutputGhosts E → List Text → E → E → Type 0
+abbrev pub HasMistake : {E : Type 0} → WriterGhosts E → List Text → E → E → Type 0
 HasMistake errs words before after = IsRefusedByClap errs words before after ⊎ AsksWrongly errs words before after

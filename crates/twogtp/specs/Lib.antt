@@ -2,7 +2,6 @@ pub mod Closing
 pub mod Games
 pub mod Losses
 pub mod Options
-pub mod Pipes
 pub mod Processes
 pub mod Speaking
 pub mod Starts
@@ -10,5 +9,4 @@ pub mod Status
 pub mod Tasks
 pub mod Turns
 pub mod Why
-pub mod Writing
 pub mod private

@@ -13,14 +13,14 @@ use Rattle.gtp_match.specs.Retaking.{IsOfLastMove}
 use Rattle.gtp_match.specs.Setup.{IsSetup, SetupRecord}
 use Rattle.gtp_match.specs.Sides.{side_of}
 use Rattle.gtp_match.specs.Sound.{IsSound}
-use Rattle.twogtp.specs.declared.output.Output.{Ghosts as OutputGhosts}
+use Rattle.byte_streams.specs.declared.calls.WriteOnce.{Ghosts as WriterGhosts}
 use Rattle.twogtp.specs.declared.processes.Processes.{Processes}
-use Rattle.twogtp.specs.declared.starter.Ending.{Ending}
-use Rattle.twogtp.specs.declared.starter.Process.{Ghosts}
+use Rattle.gtp_process.specs.declared.starter.Ending.{Ending}
+use Rattle.gtp_process.specs.declared.starter.Process.{Ghosts}
 use Rattle.twogtp.specs.declared.task.Commands.{Commands}
 use Rattle.twogtp.specs.declared.why.SideTurn.{SideTurn}
 use Rattle.twogtp.specs.declared.why.TurnLoss.{TurnLoss}
-use Rattle.twogtp.specs.Starts.{Attempts}
+use Rattle.gtp_process.specs.Starts.{Attempts}
 use Rattle.twogtp.specs.Turns.{GameState, IsTurn, Plays, not_yet, state, turns, turn_lines}
 use Rattle.twogtp.specs.Why.{loss_line, retake_line}
 
@@ -80,7 +80,7 @@ LossesHaveLines {P} known =
 
 -- ---- a whole game
 
-module _ {P E : Type 0} (known : Ghosts P) (errs : OutputGhosts E) where
+module _ {P E : Type 0} (known : Ghosts P) (errs : WriterGhosts E) where
   -- how many lines were written of these turns
   abbrev pub lines_written : (commands : Commands) (why : Bool) (number : ℕ) (first : GameState P) (had : E) (count : ℕ)
       (last : GameState P) (has : E) → Plays known errs commands why number first had count last has → ℕ
@@ -98,7 +98,7 @@ pub record AreFew (setup : SetupRecord) (last : Controller) (lines : ℕ) : Type
   pub by_setup : lines ≤ 2 * (setup.max_restarts + 1) + most_retakes * setup.max_moves
 
 -- The turns of a game have few lines, from its new match on, where they are reported.
-abbrev pub LinesAreFew : {P E : Type 0} → Ghosts P → OutputGhosts E → Type 0
+abbrev pub LinesAreFew : {P E : Type 0} → Ghosts P → WriterGhosts E → Type 0
 LinesAreFew {P} {E} known errs =
     (commands : Commands) (number count : ℕ) (setup : SetupRecord) (processes : Processes P) (asked : Attempts P)
     (last : GameState P) (had has : E) → IsSetup setup

@@ -9,7 +9,7 @@ use Rattle.clap.specs.declared.builder.value_parser.ValueParser.{ValueParser}
 use Rattle.clap.specs.declared.builder.value_parser.ValueParser.TheVariants.{Signed}
 use Rattle.clap.specs.declared.error.kind.ErrorKind.{ErrorKind}
 use Rattle.twogtp.specs.declared.options.Options.{Options}
-use Rattle.twogtp.specs.Status.{IsRequest}
+use Rattle.programs.specs.Status.{IsRequest}
 
 -- ---- the options that there are
 

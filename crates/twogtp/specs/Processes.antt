@@ -7,9 +7,10 @@ use Rattle.gtp_match.specs.declared.sides.Status.{Status}
 use Rattle.gtp_match.specs.declared.sides.Status.TheVariants.{Down, Up}
 use Rattle.gtp_match.specs.Sides.{side_of, status_of}
 use Rattle.twogtp.specs.declared.processes.Processes.{Processes}
-use Rattle.twogtp.specs.declared.starter.Process.{Ghosts}
-use Rattle.twogtp.specs.declared.starter.Ending.{Ending}
-use Rattle.twogtp.specs.declared.starter.Ending.TheVariants.{Unknown}
+use Rattle.gtp_process.specs.declared.starter.Process.{Ghosts}
+use Rattle.gtp_process.specs.declared.starter.Ending.{Ending}
+use Rattle.gtp_process.specs.declared.starter.Ending.TheVariants.{Unknown}
+use Rattle.gtp_process.specs.Endings.{EndsAs, IsEnded}
 
 -- no side has a process
 abbrev pub no_processes : {P : Type 0} → Processes P
@@ -36,18 +37,12 @@ kept_by c side process = while_up (status_of (side_of c.sides side).up) process
 
 -- A side that is down has no process any more: the one that it had ended so. Of any other nothing is known.
 abbrev pub EndsWhere : {P : Type 0} → Ghosts P → Status → Option P → Ending → Type 0
-EndsWhere known Down (Some process) ending = known.leaves process ending
-EndsWhere known Down None ending = ending ≡ Unknown
+EndsWhere known Down process ending = EndsAs known process ending
 EndsWhere known (Up confirmed unanswered asked) process ending = ending ≡ Unknown
 
 -- how the process of a side ended in a match, if it did
 abbrev pub Ends : {P : Type 0} → Ghosts P → Controller → Colour → Option P → Ending → Type 0
 Ends known c side process ending = EndsWhere known (status_of (side_of c.sides side).up) process ending
-
--- a process, if there is one, ended in some way
-abbrev pub IsEnded : {P : Type 0} → Ghosts P → Option P → Type 0
-IsEnded known None = Unit {0}
-IsEnded known (Some process) = (ending : Ending) × known.leaves process ending
 
 -- the processes of both sides have ended, each if there is one
 pub record AreEnded {P : Type 0} (known : Ghosts P) (processes : Processes P) : Type 0 where

@@ -15,13 +15,14 @@ use Rattle.gtp_match.specs.Next.{next}
 use Rattle.gtp_match.specs.Retaking.{HearsAllRetakes}
 use Rattle.gtp_match.specs.declared.losses.Loss.{Loss}
 use Rattle.gtp_match.specs.Sides.{side_of}
-use Rattle.twogtp.specs.declared.starter.Process.{Ghosts}
+use Rattle.gtp_process.specs.declared.starter.Process.{Ghosts}
 use Rattle.twogtp.specs.declared.why.TurnLoss.{TurnLoss}
 use Rattle.twogtp.specs.declared.why.TurnLoss.TheVariants.{CutOff, Wrote}
-use Rattle.twogtp.specs.declared.why.PipeCause.{PipeCause}
-use Rattle.twogtp.specs.declared.why.PipeCause.TheVariants.{Writing, Reading, Ended}
+use Rattle.gtp_process.specs.declared.causes.PipeCause.{PipeCause}
+use Rattle.gtp_process.specs.declared.causes.PipeCause.TheVariants.{Writing, Reading, Ended}
 use Rattle.twogtp.specs.declared.why.TurnReport.{TurnReport}
-use Rattle.twogtp.specs.Pipes.{IsCutOff, IsUnbroken, OutputEnded, TakesPart}
+use Rattle.byte_streams.specs.Parts.{TakesPart}
+use Rattle.gtp_process.specs.Pipes.{IsCutOff, IsUnbroken, OutputEnded}
 use Rattle.twogtp.specs.Processes.{WithProcess}
 use Rattle.twogtp.specs.Why.{only_loss}
 

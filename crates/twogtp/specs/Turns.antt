@@ -12,21 +12,24 @@ use Rattle.gtp_match.specs.Sides.{side_of}
 use Rattle.gtp_match.specs.Sound.{IsSound}
 use Rattle.twogtp.specs.declared.failure.Failure.{Failure}
 use Rattle.twogtp.specs.declared.failure.Failure.TheVariants.{OutOfMemory, TooManyTurns, Write}
-use Rattle.twogtp.specs.declared.output.Output.{Ghosts as OutputGhosts}
+use Rattle.byte_streams.specs.declared.calls.WriteOnce.{Ghosts as WriterGhosts}
 use Rattle.twogtp.specs.declared.processes.Processes.{Processes}
-use Rattle.twogtp.specs.declared.starter.Process.{Ghosts}
-use Rattle.twogtp.specs.declared.starter.StartFault.TheVariants as start_fault
-use Rattle.twogtp.specs.declared.starter.StartReason.{StartReason}
+use Rattle.gtp_process.specs.declared.starter.Process.{Ghosts}
+use Rattle.gtp_process.specs.declared.starter.StartFault.TheVariants as start_fault
+use Rattle.gtp_process.specs.declared.starter.StartReason.{StartReason}
 use Rattle.twogtp.specs.declared.task.Commands.{Commands}
 use Rattle.twogtp.specs.declared.why.SideTurn.{SideTurn}
 use Rattle.twogtp.specs.declared.why.TurnLoss.{TurnLoss}
 use Rattle.twogtp.specs.declared.why.TurnLoss.TheVariants.{NotStarted}
 use Rattle.twogtp.specs.declared.why.TurnReport.{TurnReport}
-use Rattle.twogtp.specs.Processes.{Ends, IsEnded, OtherStays, kept_by, no_processes, process_of}
+use Rattle.twogtp.specs.Starts.{program_line_for}
+use Rattle.gtp_process.specs.Endings.{IsEnded}
+use Rattle.twogtp.specs.Processes.{Ends, OtherStays, kept_by, no_processes, process_of}
 use Rattle.twogtp.specs.Speaking.{HearsFromSide, SendsToSide}
-use Rattle.twogtp.specs.Starts.{Attempts, Tries, program_line_for}
-use Rattle.twogtp.specs.Why.{loss_lines, retake_lines, unstarted}
-use Rattle.twogtp.specs.Writing.{LinesBreak, LinesGoOut}
+use Rattle.gtp_process.specs.Starts.{Attempts, Tries}
+use Rattle.gtp_process.specs.Shown.{unstarted}
+use Rattle.twogtp.specs.Why.{loss_lines, retake_lines}
+use Rattle.byte_streams.specs.Writing.{LinesBreak, LinesGoOut}
 
 -- how many turns a game has at most; no match within the limits has this number
 abbrev pub most_turns : ℕ
@@ -111,7 +114,7 @@ pub record IsRefused {P : Type 0} (commands : Commands) (before after : GameStat
 
 -- ---- turns, one after another
 
-module _ {P E : Type 0} (known : Ghosts P) (errs : OutputGhosts E) (commands : Commands) (why : Bool) (number : ℕ)
+module _ {P E : Type 0} (known : Ghosts P) (errs : WriterGhosts E) (commands : Commands) (why : Bool) (number : ℕ)
   where
     -- Turns were taken, this many, from a first state on. What is written of each went out after it.
     pub data Plays (first : GameState P) (had : E) : ℕ → GameState P → E → Type 0 where
@@ -153,7 +156,7 @@ module _ {P E : Type 0} (known : Ghosts P) (errs : OutputGhosts E) (commands : C
     TurnsEnd first had last has (Err failure) = HasStopped first had last has failure
 
 -- After any turns of a game from its beginning on, a side that is down has no process.
-abbrev pub DownSidesHaveNoProcess : {P E : Type 0} → Ghosts P → OutputGhosts E → Type 0
+abbrev pub DownSidesHaveNoProcess : {P E : Type 0} → Ghosts P → WriterGhosts E → Type 0
 DownSidesHaveNoProcess {P} {E} known errs =
     (commands : Commands) (why : Bool) (number count : ℕ) (setup : SetupRecord) (asked : Attempts P)
     (last : GameState P) (had has : E) (side : Colour)

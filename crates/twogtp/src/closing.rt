@@ -1,27 +1,20 @@
 //! How the text of a match that is over is written, and how its processes are closed after that.
 ghost use Rattle.std.specs.Prelude.{◌≡◌, IfOk, OnOk, OnErr};
 ghost use Rattle.gtp_match.specs.Sides.{side_of, status_of};
-ghost use Rattle.twogtp.specs.Closing.{AreClosed, IsAwaited, IsSentQuit, QuitsIfAny, has_answered_all};
+ghost use Rattle.twogtp.specs.Closing.{AreClosed, has_answered_all};
 ghost use Rattle.twogtp.specs.Games.{game_lines};
 ghost use Rattle.twogtp.specs.Processes.{AreEnded};
-ghost use Rattle.twogtp.specs.Writing.{BreaksAt, GoesOut};
+ghost use Rattle.byte_streams.specs.Writing.{BreaksAt, GoesOut};
 ghost use Rattle.twogtp.specs.private.Leaving.{IsLeft};
 
 use crate::game::GameInPlay;
 use crate::game_text::game_text;
-use crate::output::{NotWritten, Output};
-use crate::pipes::{CutOff, READ_ROOM, read_once, write_whole};
-use crate::processes::{Processes, end};
-use crate::starter::{Process, Starter};
+use crate::processes::Processes;
 use crate::task::Task;
-use crate::writing::write_text;
+use byte_streams::{Broken, WriteOnce, write_text};
 use go_base::Side;
 use gtp_match::{Match, Status, Verdict};
-use gtp_wire::{Command, Reply, ReplyReader, write_command};
-
-/// How often a reply to `quit` is read for at most. Each read gives a byte, and by 8,193 bytes a reply reader has
-/// returned a reply or a fault: a reply has at most 8,192.
-const MOST_QUIT_READS: u32 = 8193;
+use gtp_process::{Process, Starter, end, quit_and_end};
 
 /// A game that is over, and its verdict. Only `write` makes one, once the game's text is written and flushed. Only
 /// `close` sends `quit`, and it takes one. So no process is sent `quit` before that.
@@ -33,19 +26,19 @@ pub struct WrittenGame<S: Starter> {
 impl<S: Starter> GameInPlay<S> {
     /// Writes the text of a match that is over and has this verdict. To its processes nothing is sent. Where the text
     /// can't be written, they are ended at once.
-    pub fn write<O: Output>(
+    pub fn write<O: WriteOnce>(
         self,
         task: &Task,
         number: u32,
         verdict: Verdict,
         output: &mut O,
-    ) -> Result<WrittenGame<S>, NotWritten>
+    ) -> Result<WrittenGame<S>, Broken>
         ensures whole { OnOk result
-            (GoesOut O.Output (game_lines task.now number self.game) output.old output.new) }
+            (GoesOut O.WriteOnce (game_lines task.now number self.game) output.old output.new) }
         ensures played { IfOk result (λ written. written.played ≡ self) }
         ensures verdict { IfOk result (λ written. written.verdict ≡ verdict) }
         ensures broke { OnErr result
-            (BreaksAt O.Output (game_lines task.now number self.game) output.old output.new) }
+            (BreaksAt O.WriteOnce (game_lines task.now number self.game) output.old output.new) }
         ensures ended { OnErr result (AreEnded S.Process.Process self.processes) }
     {
         let text = game_text(task, number, &self.game);
@@ -54,9 +47,9 @@ impl<S: Starter> GameInPlay<S> {
                 played: self,
                 verdict,
             }),
-            Err(NotWritten) => {
+            Err(Broken) => {
                 self.end();
-                Err(NotWritten)
+                Err(Broken)
             }
         }
     }
@@ -104,45 +97,5 @@ fn has_answered_all(game: &Match, side: Side) -> bool
     match game.status(side) {
         Status::Up { unanswered, .. } => unanswered == 0,
         Status::Down => false,
-    }
-}
-
-/// Sends a process, if there is one, `quit`, waits for its answer, and ends it.
-fn quit_and_end<P: Process>(process: Option<P>, buffer: &mut [u8; READ_ROOM])
-    ensures { QuitsIfAny P.Process process }
-{
-    if let Some(mut process) = process {
-        quit(&mut process, buffer);
-        let _ = process.end();
-    }
-}
-
-/// Sends `quit`, and waits for the reply.
-fn quit<P: Process>(process: &mut P, buffer: &mut [u8; READ_ROOM])
-    ensures { IsSentQuit P.Process process.old process.new }
-{
-    let text = write_command(None, &Command::Quit);
-    match write_whole(process, text.as_slice()) {
-        Ok(()) => wait_for_reply(process, buffer),
-        Err(CutOff) => {}
-    }
-}
-
-/// Waits for a reply, a fault of the reply, or the end of the stream.
-fn wait_for_reply<P: Process>(process: &mut P, buffer: &mut [u8; READ_ROOM])
-    ensures { IsAwaited P.Process process.old process.new }
-{
-    let mut reader = ReplyReader::new();
-    let mut reply = Reply::new();
-    for _read in 0..MOST_QUIT_READS {
-        match read_once(process, buffer) {
-            Ok(0) => return,
-            Err(CutOff) => return,
-            Ok(count) => {
-                if reader.feed_into(&buffer[..count], &mut reply).got.is_some() {
-                    return;
-                }
-            }
-        }
     }
 }

@@ -3,10 +3,10 @@ ghost use Rattle.std.specs.Prelude.{◌≡◌, ◌≢◌};
 ghost use Rattle.twogtp.specs.declared.failure.Failure.TheVariants as the_failure;
 ghost use Rattle.twogtp.specs.declared.failure.PlanError.TheVariants as plan_error;
 ghost use Rattle.twogtp.specs.Status.{ReportsFailure, ReportsMistake, ReportsPlanError, failure_line};
-ghost use Rattle.twogtp.specs.Status.{mistake_line, own_failure, usage_failure};
+ghost use Rattle.twogtp.specs.Status.{mistake_line};
+ghost use Rattle.programs.specs.Status.{own_failure, usage_failure};
 
-use crate::output::{NotWritten, Output};
-use crate::writing::write_or_break;
+use byte_streams::{Broken, WriteOnce, write_or_break};
 use std::alloc::AllocError;
 use std::io::ErrorKind;
 
@@ -27,9 +27,9 @@ pub enum Mistake {
 
 impl Mistake {
     /// Reports the mistake in one line, and returns the status 2. A writer that fails doesn't change the status.
-    pub fn report<E: Output>(self, errors: &mut E) -> u8
+    pub fn report<E: WriteOnce>(self, errors: &mut E) -> u8
         ensures status { result ≡ usage_failure }
-        ensures written { ReportsMistake E.Output self errors.old errors.new }
+        ensures written { ReportsMistake E.WriteOnce self errors.old errors.new }
     {
         write_or_break(errors, self.line());
         2
@@ -64,9 +64,9 @@ pub enum Failure {
 
 impl Failure {
     /// Reports the failure in one line, and returns the status 3. A writer that fails doesn't change the status.
-    pub fn report<E: Output>(self, errors: &mut E) -> u8
+    pub fn report<E: WriteOnce>(self, errors: &mut E) -> u8
         ensures status { result ≡ own_failure }
-        ensures written { ReportsFailure E.Output self errors.old errors.new }
+        ensures written { ReportsFailure E.WriteOnce self errors.old errors.new }
     {
         write_or_break(errors, self.line());
         3
@@ -95,10 +95,10 @@ impl From<AllocError> for Failure {
     }
 }
 
-impl From<NotWritten> for Failure {
+impl From<Broken> for Failure {
     ghost from_gives = { λ _ failure. failure ≡ the_failure.Write };
 
-    fn from(_error: NotWritten) -> Failure {
+    fn from(_error: Broken) -> Failure {
         Failure::Write
     }
 }
@@ -126,8 +126,8 @@ impl PlanError {
     }
 
     /// Reports it in one line, and returns the status: 2 for a mistake, 3 for want of memory.
-    pub fn report<E: Output>(self, errors: &mut E) -> u8
-        ensures { ReportsPlanError E.Output self result errors.old errors.new }
+    pub fn report<E: WriteOnce>(self, errors: &mut E) -> u8
+        ensures { ReportsPlanError E.WriteOnce self result errors.old errors.new }
     {
         match self {
             PlanError::BadWords(mistake) => mistake.report(errors),

@@ -10,17 +10,16 @@ ghost use Rattle.twogtp.specs.Why.{ReportCanBeShown};
 ghost use Rattle.twogtp.specs.private.Steps.{IsStep};
 
 use crate::failure::Failure;
-use crate::output::Output;
-use crate::pipes::READ_ROOM;
 use crate::plan::Plan;
-use crate::processes::{Processes, end};
+use crate::processes::Processes;
 use crate::reports::write_turn;
 use crate::speaking::{hear, send};
-use crate::starter::{StartFault, Starter};
 use crate::task::Commands;
-use crate::why::{SideTurn, TurnLoss, TurnReport, Unstarted};
+use crate::why::{SideTurn, TurnLoss, TurnReport};
+use byte_streams::WriteOnce;
 use go_base::Side;
 use gtp_match::{Action, Match, Setup, Verdict};
+use gtp_process::{READ_ROOM, StartFault, Starter, Unstarted, end};
 use std::alloc::AllocError;
 
 /// How many turns a game has at most. No match within the limits has this number.
@@ -51,7 +50,7 @@ enum Step {
 /// # Errors
 ///
 /// `OutOfMemory` where the start of a process was refused memory, `TooManyTurns`, `Write`.
-pub fn play_game<O: Output, E: Output, S: Starter>(
+pub fn play_game<O: WriteOnce, E: WriteOnce, S: Starter>(
     plan: &Plan<'_>,
     number: u32,
     output: &mut O,
@@ -60,7 +59,7 @@ pub fn play_game<O: Output, E: Output, S: Starter>(
 ) -> Result<Verdict, Failure>
     ensures { let had = seen (S.asked starter.old) errors.old in
         let has = seen (S.asked starter.new) errors.new in
-        GameEnds S.Process.Process O.Output E.Output plan.now number output.old output.new
+        GameEnds S.Process.Process O.WriteOnce E.WriteOnce plan.now number output.old output.new
         had has result }
 {
     let mut played = GameInPlay::new(plan.task.setup);
@@ -91,7 +90,7 @@ impl<S: Starter> GameInPlay<S> {
 
     /// Takes turns until the match is over. What is reported of a turn is written after it, under the game's number,
     /// where the task asks for it.
-    fn take_turns<E: Output>(
+    fn take_turns<E: WriteOnce>(
         &mut self,
         plan: &Plan<'_>,
         number: u32,
@@ -100,7 +99,7 @@ impl<S: Starter> GameInPlay<S> {
     ) -> Result<Verdict, Failure>
         ensures { let first = state self.old.game self.old.processes (S.asked starter.old) in
             let last = state self.new.game self.new.processes (S.asked starter.new) in
-            TurnsEnd S.Process.Process E.Output plan.now.commands plan.now.task.why number
+            TurnsEnd S.Process.Process E.WriteOnce plan.now.commands plan.now.task.why number
             first errors.old last errors.new result }
     {
         for _turn in 0..MOST_TURNS {

@@ -2,8 +2,8 @@
 ghost use Rattle.twogtp.specs.Losses.{LinesAreFew, LossesHaveLines};
 ghost use Rattle.twogtp.specs.Turns.{DownSidesHaveNoProcess};
 
-use crate::output::Output;
-use crate::starter::Process;
+use byte_streams::WriteOnce;
+use gtp_process::Process;
 
 /// Where turns are reported, a turn has at most two lines, of the side whose turn it was. It has the line of a retake
 /// exactly where the match counts one more, and that comes first: the side refused the last move, which the other one
@@ -15,11 +15,11 @@ pub fn losses_have_lines<P: Process>()
 
 /// Where turns are reported, the turns of a game have at most as many lines as there were starts of both sides, and
 /// three for each move that the setup allows.
-pub fn lines_are_few<P: Process, E: Output>()
-    ensures { LinesAreFew P.Process E.Output }
+pub fn lines_are_few<P: Process, E: WriteOnce>()
+    ensures { LinesAreFew P.Process E.WriteOnce }
 {}
 
 /// After any turns of a game from its beginning on, a side that is down has no process.
-pub fn down_sides_have_no_process<P: Process, E: Output>()
-    ensures { DownSidesHaveNoProcess P.Process E.Output }
+pub fn down_sides_have_no_process<P: Process, E: WriteOnce>()
+    ensures { DownSidesHaveNoProcess P.Process E.WriteOnce }
 {}

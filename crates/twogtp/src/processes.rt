@@ -1,14 +1,13 @@
 //! The processes of both sides.
 ghost use Rattle.std.specs.Prelude.{◌≡◌, Some};
 ghost use Rattle.std.specs.Borrow.{sem};
-ghost use Rattle.gtp_match.specs.declared.sides.Status.TheVariants as status;
-ghost use Rattle.twogtp.specs.Processes.{AreEnded, Ends, EndsWhere, IsEnded, OtherStays};
+ghost use Rattle.twogtp.specs.Processes.{AreEnded, Ends, OtherStays};
 ghost use Rattle.twogtp.specs.Processes.{kept_by, no_processes, process_of};
 ghost use Rattle.twogtp.specs.private.Lending.{LendsProcess};
 
-use crate::starter::{Ending, Process};
 use go_base::Side;
 use gtp_match::{Match, Status};
+use gtp_process::{Ending, Process, end, end_known};
 
 /// The process of each side that has one. It is not `Drop`: `end` ends them all, or `close` of a `WrittenGame`.
 pub struct Processes<P> {
@@ -72,21 +71,4 @@ impl<P: Process> Processes<P> {
         end(black);
         end(white);
     }
-}
-
-/// Ends a process, if there is one, and returns how it ended.
-fn end_known<P: Process>(process: Option<P>) -> Ending
-    ensures { EndsWhere P.Process status.Down process result }
-{
-    match process {
-        Some(process) => process.end(),
-        None => Ending::Unknown,
-    }
-}
-
-/// Ends a process, if there is one.
-pub fn end<P: Process>(process: Option<P>)
-    ensures { IsEnded P.Process process }
-{
-    let _ = end_known(process);
 }

@@ -1,21 +1,21 @@
 //! The program, over any writers and any means to start processes.
-ghost use Rattle.std.specs.Prelude.{◌≡◌, ◌⊎◌, map, true, false, string_bytes};
+ghost use Rattle.std.specs.Prelude.{◌≡◌, ◌⊎◌, map, string_bytes};
 ghost use Rattle.std.specs.Prelude.{IfOk, IsErr, IsOkAnd, OnOk, OnErr};
 ghost use Rattle.twogtp.specs.Games.{GamesEnd, HasBegun, HasDone, HasMistake, HasShown, IsShown, seen};
 ghost use Rattle.twogtp.specs.Options.{IsWithoutWhy};
-ghost use Rattle.twogtp.specs.Status.{IsRequest, IsStatus, ReportsFailure, done, own_failure};
-ghost use Rattle.twogtp.specs.Status.{some_given_up, status_with, usage_failure};
-ghost use Rattle.twogtp.specs.Writing.{BreaksAt, GoesOut, IsWritten};
+ghost use Rattle.twogtp.specs.Status.{IsStatus, ReportsFailure, some_given_up, status_with};
+ghost use Rattle.programs.specs.Status.{IsRequest, done, own_failure, usage_failure};
+ghost use Rattle.byte_streams.specs.Writing.{BreaksAt, GoesOut, IsWritten};
 
 use crate::failure::Failure;
 use crate::game::play_game;
 use crate::options::read_options;
-use crate::output::{NotWritten, Output};
 use crate::plan::{Plan, plan_of};
-use crate::starter::Starter;
-use crate::writing::{write_or_break, write_text};
+use byte_streams::{Broken, WriteOnce, write_or_break, write_text};
 use clap::error::ErrorKind;
 use gtp_match::Verdict;
+use gtp_process::Starter;
+use programs::words::is_request;
 use std::alloc::{AllocError, Global};
 use std::convert::AsStr;
 
@@ -28,7 +28,7 @@ use std::convert::AsStr;
 /// - 3 where the output or a line of `--why` can't be written, memory was refused, or a game had too many turns.
 ///
 /// What a status of 2 or 3 means is written to `errors`, and whether that can be written changes nothing.
-pub fn run<A: AsStr, O: Output, E: Output, S: Starter>(
+pub fn run<A: AsStr, O: WriteOnce, E: WriteOnce, S: Starter>(
     alloc: Global,
     words: &[A],
     output: &mut O,
@@ -39,7 +39,7 @@ pub fn run<A: AsStr, O: Output, E: Output, S: Starter>(
     // After a mistake in the words nothing was started, and nothing was written to the output. Of
     // the options the first mistake is reported on standard error.
     ensures usage { result ≡ usage_failure →
-        HasMistake E.Output (map A.text words.now) errors.old errors.new
+        HasMistake E.WriteOnce (map A.text words.now) errors.old errors.new
         × (output.new ≡ output.old) × (starter.new ≡ starter.old) }
     // Where the status is 0 or 1 and it isn't asked why engines fail, nothing is written to
     // standard error.
@@ -49,8 +49,8 @@ pub fn run<A: AsStr, O: Output, E: Output, S: Starter>(
     // the version, that was written, and nothing was started.
     ensures played { (result ≡ done) ⊎ (result ≡ some_given_up) →
         ((starter.new ≡ starter.old)
-        × HasShown O.Output (map A.text words.now) result output.old output.new)
-        ⊎ HasDone S.Process.Process O.Output E.Output (map A.text words.now) result
+        × HasShown O.WriteOnce (map A.text words.now) result output.old output.new)
+        ⊎ HasDone S.Process.Process O.WriteOnce E.WriteOnce (map A.text words.now) result
         output.old output.new
         (seen (S.asked starter.old) errors.old) (seen (S.asked starter.new) errors.new) }
     // What was written before the program had to stop is the beginning of the games' texts, or of
@@ -58,11 +58,11 @@ pub fn run<A: AsStr, O: Output, E: Output, S: Starter>(
     // standard error. Memory that was refused before any game is the one cause that isn't seen here.
     ensures stopped { result ≡ own_failure →
         ((starter.new ≡ starter.old) × (output.new ≡ output.old)
-        × ReportsFailure E.Output Failure.OutOfMemory errors.old errors.new)
+        × ReportsFailure E.WriteOnce Failure.OutOfMemory errors.old errors.new)
         ⊎ ((starter.new ≡ starter.old)
-        × HasShown O.Output (map A.text words.now) result output.old output.new
-        × ReportsFailure E.Output Failure.Write errors.old errors.new)
-        ⊎ HasBegun S.Process.Process O.Output E.Output (map A.text words.now)
+        × HasShown O.WriteOnce (map A.text words.now) result output.old output.new
+        × ReportsFailure E.WriteOnce Failure.Write errors.old errors.new)
+        ⊎ HasBegun S.Process.Process O.WriteOnce E.WriteOnce (map A.text words.now)
         output.old output.new
         (seen (S.asked starter.old) errors.old) (seen (S.asked starter.new) errors.new) }
 {
@@ -81,7 +81,7 @@ pub fn run<A: AsStr, O: Output, E: Output, S: Starter>(
 }
 
 /// Plays the games of a plan, and writes the text of each.
-fn play_games<O: Output, E: Output, S: Starter>(
+fn play_games<O: WriteOnce, E: WriteOnce, S: Starter>(
     plan: &Plan<'_>,
     output: &mut O,
     errors: &mut E,
@@ -89,7 +89,7 @@ fn play_games<O: Output, E: Output, S: Starter>(
 ) -> Result<u8, Failure>
     ensures { let had = seen (S.asked starter.old) errors.old in
         let has = seen (S.asked starter.new) errors.new in
-        GamesEnd S.Process.Process O.Output E.Output plan.now output.old output.new
+        GamesEnd S.Process.Process O.WriteOnce E.WriteOnce plan.now output.old output.new
         had has result }
 {
     let mut status = 0;
@@ -112,7 +112,7 @@ fn with_verdict(status: u8, verdict: Verdict) -> u8
 
 /// Writes what `clap` returns in place of options, an error of this kind with this text, and returns the status. Where
 /// memory was refused for the text, that is reported instead.
-fn answer_error<O: Output, E: Output>(
+fn answer_error<O: WriteOnce, E: WriteOnce>(
     kind: ErrorKind,
     text: Result<String, AllocError>,
     output: &mut O,
@@ -125,18 +125,18 @@ fn answer_error<O: Output, E: Output>(
     ensures memory { kind ≡ ErrorKind.OutOfMemory → result ≡ own_failure }
     // The text of a mistake is written, once.
     ensures written { result ≡ usage_failure → IsOkAnd text (λ text.
-        IsWritten E.Output (string_bytes text) errors.old errors.new) }
+        IsWritten E.WriteOnce (string_bytes text) errors.old errors.new) }
     // A text that was asked for was written once.
     ensures shown { result ≡ done → IsRequest kind × IsOkAnd text (λ text.
-        GoesOut O.Output (string_bytes text) output.old output.new) }
+        GoesOut O.WriteOnce (string_bytes text) output.old output.new) }
     // A mistake in the words is no failure of the program's own, unless memory was refused for its
     // text.
     ensures own { result ≡ own_failure →
         (((kind ≡ ErrorKind.OutOfMemory) ⊎ IsErr text) × (output.new ≡ output.old)
-        × ReportsFailure E.Output Failure.OutOfMemory errors.old errors.new)
+        × ReportsFailure E.WriteOnce Failure.OutOfMemory errors.old errors.new)
         ⊎ (IsRequest kind
-        × IsOkAnd text (λ text. BreaksAt O.Output (string_bytes text) output.old output.new)
-        × ReportsFailure E.Output Failure.Write errors.old errors.new) }
+        × IsOkAnd text (λ text. BreaksAt O.WriteOnce (string_bytes text) output.old output.new)
+        × ReportsFailure E.WriteOnce Failure.Write errors.old errors.new) }
 {
     if kind == ErrorKind::OutOfMemory {
         return Failure::OutOfMemory.report(errors);
@@ -148,43 +148,35 @@ fn answer_error<O: Output, E: Output>(
     }
 }
 
-/// The words ask for the help or for the version.
-fn is_request(kind: ErrorKind) -> bool
-    ensures yes { result ≡ true → IsRequest kind }
-    ensures no { result ≡ false → ¬ IsRequest kind }
-{
-    matches!(kind, ErrorKind::DisplayHelp | ErrorKind::DisplayVersion)
-}
-
 /// Writes a text that was asked for, unless memory was refused for it, and returns the status.
-fn show<O: Output, E: Output>(
+fn show<O: WriteOnce, E: WriteOnce>(
     text: Result<String, AllocError>,
     output: &mut O,
     errors: &mut E,
 ) -> u8
     ensures written { IfOk text (λ text.
-        IsShown O.Output (string_bytes text) result output.old output.new) }
+        IsShown O.WriteOnce (string_bytes text) result output.old output.new) }
     ensures quiet { result ≡ done → errors.new ≡ errors.old }
     ensures broke { OnOk text
-        (result ≡ own_failure → ReportsFailure E.Output Failure.Write errors.old errors.new) }
+        (result ≡ own_failure → ReportsFailure E.WriteOnce Failure.Write errors.old errors.new) }
     ensures refused { OnErr text ((result ≡ own_failure) × (output.new ≡ output.old)
-        × ReportsFailure E.Output Failure.OutOfMemory errors.old errors.new) }
+        × ReportsFailure E.WriteOnce Failure.OutOfMemory errors.old errors.new) }
 {
     match text {
         Ok(text) => match write_text(output, text.as_bytes()) {
             Ok(()) => 0,
-            Err(NotWritten) => Failure::Write.report(errors),
+            Err(Broken) => Failure::Write.report(errors),
         },
         Err(AllocError) => Failure::OutOfMemory.report(errors),
     }
 }
 
 /// Writes the text of a mistake in the words, unless memory was refused for it, and returns the status.
-fn write_mistake<E: Output>(text: Result<String, AllocError>, errors: &mut E) -> u8
+fn write_mistake<E: WriteOnce>(text: Result<String, AllocError>, errors: &mut E) -> u8
     ensures written { IfOk text (λ text. (result ≡ usage_failure)
-        × IsWritten E.Output (string_bytes text) errors.old errors.new) }
+        × IsWritten E.WriteOnce (string_bytes text) errors.old errors.new) }
     ensures refused { OnErr text ((result ≡ own_failure)
-        × ReportsFailure E.Output Failure.OutOfMemory errors.old errors.new) }
+        × ReportsFailure E.WriteOnce Failure.OutOfMemory errors.old errors.new) }
 {
     match text {
         Ok(text) => {

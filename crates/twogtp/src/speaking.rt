@@ -10,12 +10,11 @@ ghost use Rattle.twogtp.specs.Speaking.{AreSent, HearsFromSide, IsHeard, Reporte
 ghost use Rattle.twogtp.specs.Why.{ReportCanBeShown, only_loss};
 ghost use Rattle.twogtp.specs.private.Several.{has_several_unanswered};
 
-use crate::pipes::{CutOff, READ_ROOM, read_once, write_whole};
 use crate::sending::take_commands;
-use crate::starter::Process;
-use crate::why::{PipeCause, TurnLoss, TurnReport};
+use crate::why::{TurnLoss, TurnReport};
 use go_base::Side;
 use gtp_match::{Match, Report, Status};
+use gtp_process::{CutOff, PipeCause, Process, READ_ROOM, read_once, write_whole};
 
 /// Sends a side its commands: all that come next for it. A side that has no process fails. It returns why it failed,
 /// if it did.

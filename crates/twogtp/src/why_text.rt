@@ -1,23 +1,23 @@
 //! The lines of what is reported of a turn.
 ghost use Rattle.std.specs.Prelude.{◌≡◌, ◌+◌, ◌<◌, ◌≤◌, ◌++◌, length, IfSome};
 ghost use Rattle.arrayvec.specs.ArrayVec.{array_vec_len};
-ghost use Rattle.gtp_match.specs.Losing.{CanBeShown, most_shown};
+ghost use Rattle.gtp_match.specs.Losing.{CanBeShown};
+ghost use Rattle.gtp_wire.specs.Replies.{most_shown};
 ghost use Rattle.gtp_match.specs.ResultLine.{side_name};
 ghost use Rattle.std.specs.Fmt.{decimal};
 ghost use Rattle.std.specs.List.{join_with_byte};
 ghost use Rattle.go_base.specs.Bytes.{space};
 ghost use Rattle.gtp_wire.specs.Commands.{IsWritable, words_of};
-ghost use Rattle.twogtp.specs.Why.{LossCanBeShown, reason_text, pipe_text, ending_text, rule_text, wrong_text, hex_digit};
-ghost use Rattle.twogtp.specs.Why.{shown_byte, shown_bytes, quoted, unstarted_text, before_oldest, oldest_text};
+ghost use Rattle.twogtp.specs.Why.{LossCanBeShown, rule_text, wrong_text, before_oldest, oldest_text};
 ghost use Rattle.twogtp.specs.Why.{owed_text, wrote_text, read_text, retake_text, loss_text, line_head, retake_line};
 ghost use Rattle.twogtp.specs.Why.{loss_line};
 
-use crate::starter::{Ending, StartReason};
-use crate::why::{PipeCause, TurnLoss, Unstarted};
+use crate::why::TurnLoss;
 use arrayvec::ArrayVec;
 use go_base::{Side, push, write_int};
 use go_board::PlayFault;
 use gtp_match::{LossCause, Owed, Retake, SentCommand, SideFault};
+use gtp_process::{Ending, PipeCause, pipe_text, push_ending, push_quoted, push_unstarted};
 use gtp_wire::{Command, CommandText, write_command};
 
 /// The room for a line: 320 bytes of what a side wrote, and less than 280 beside them.
@@ -99,18 +99,6 @@ fn push_loss(line: &mut ReportLine, loss: &TurnLoss, ending: Ending)
     }
 }
 
-/// Appends why a program was not started, and its name.
-fn push_unstarted(line: &mut ReportLine, start: &Unstarted)
-    requires { array_vec_len line.old ≤ 32 }
-    ensures bytes { line.new.items ≡ line.old.items ++ unstarted_text start.now }
-    ensures len { array_vec_len line.new ≤ array_vec_len line.old + 560 }
-{
-    push(line, b"not started: ");
-    push(line, reason_text(start.reason));
-    push(line, b": ");
-    push_quoted(line, &start.program);
-}
-
 fn side_name(side: Side) -> &'static [u8]
     ensures text { result.now ≡ side_name side }
     ensures few { length result.now ≤ 5 }
@@ -118,34 +106,6 @@ fn side_name(side: Side) -> &'static [u8]
     match side {
         Side::Black => b"black",
         Side::White => b"white",
-    }
-}
-
-fn reason_text(reason: StartReason) -> &'static [u8]
-    ensures text { result.now ≡ reason_text reason }
-    ensures few { length result.now ≤ 60 }
-{
-    match reason {
-        StartReason::NotFound => b"no such file",
-        StartReason::NotAllowed => b"not allowed",
-        StartReason::NotADirectory => b"a part of its path is no directory",
-        StartReason::Busy => b"the file is open for writing",
-        StartReason::TooLong => b"too long",
-        StartReason::NoFiles => b"too many open files",
-        StartReason::NoProcesses => b"too many processes",
-        StartReason::NoProgram => b"not a program that the system can run",
-        StartReason::Other => b"the system refused it",
-    }
-}
-
-fn pipe_text(cause: PipeCause) -> &'static [u8]
-    ensures text { result.now ≡ pipe_text cause }
-    ensures few { length result.now ≤ 16 }
-{
-    match cause {
-        PipeCause::Writing => b"writing failed",
-        PipeCause::Reading => b"reading failed",
-        PipeCause::Ended => b"its output ended",
     }
 }
 
@@ -178,25 +138,6 @@ fn rule_text(fault: PlayFault) -> &'static [u8]
         PlayFault::Occupied => b"an illegal move: the point is occupied",
         PlayFault::Suicide => b"an illegal move: suicide",
         PlayFault::Ko => b"an illegal move: ko",
-    }
-}
-
-/// Appends how a process ended.
-fn push_ending(line: &mut ReportLine, ending: Ending)
-    requires { array_vec_len line.old ≤ 300 }
-    ensures bytes { line.new.items ≡ line.old.items ++ ending_text ending }
-    ensures len { array_vec_len line.new ≤ array_vec_len line.old + 30 }
-{
-    match ending {
-        Ending::Unknown => {}
-        Ending::Status(number) => {
-            push(line, b", exit status ");
-            push_number(line, number);
-        }
-        Ending::Signal(number) => {
-            push(line, b", signal ");
-            push_number(line, number);
-        }
     }
 }
 
@@ -275,62 +216,6 @@ fn push_wrote(line: &mut ReportLine, bytes: &[u8])
     push_quoted(line, bytes);
 }
 
-/// Appends bytes as they are shown, in quotes.
-fn push_quoted(line: &mut ReportLine, bytes: &[u8])
-    requires few { length bytes.now ≤ most_shown }
-    requires room { array_vec_len line.old ≤ 265 }
-    ensures bytes { line.new.items ≡ line.old.items ++ quoted bytes.now }
-    ensures len { array_vec_len line.new ≤ array_vec_len line.old + 322 }
-{
-    push(line, b"\"");
-    push_shown(line, bytes);
-    push(line, b"\"");
-}
-
-/// Appends bytes as they are shown.
-fn push_shown(line: &mut ReportLine, bytes: &[u8])
-    requires few { length bytes.now ≤ most_shown }
-    requires room { array_vec_len line.old ≤ 270 }
-    ensures bytes { line.new.items ≡ line.old.items ++ shown_bytes bytes.now }
-    ensures len { array_vec_len line.new ≤ array_vec_len line.old + 320 }
-{
-    for byte in bytes {
-        push_byte(line, *byte);
-    }
-}
-
-/// Appends a byte as it is shown.
-fn push_byte(line: &mut ReportLine, byte: u8)
-    requires { array_vec_len line.old + 4 ≤ LINE_ROOM }
-    ensures bytes { line.new.items ≡ line.old.items ++ shown_byte byte }
-    ensures len { array_vec_len line.new ≤ array_vec_len line.old + 4 }
-{
-    match byte {
-        b'"' => push(line, b"\\\""),
-        b'\\' => push(line, b"\\\\"),
-        b'\n' => push(line, b"\\n"),
-        b'\r' => push(line, b"\\r"),
-        b'\t' => push(line, b"\\t"),
-        b' '..=b'~' => push(line, &[byte]),
-        _ => {
-            push(line, b"\\x");
-            push(line, &[hex_digit(byte / 16), hex_digit(byte % 16)]);
-        }
-    }
-}
-
-/// A digit in base 16.
-fn hex_digit(number: u8) -> u8
-    requires { number < 16 }
-    ensures { result ≡ hex_digit number }
-{
-    if number >= 10 {
-        b'A' + (number - 10)
-    } else {
-        b'0' + number
-    }
-}
-
 /// Appends a number.
 fn push_number(line: &mut ReportLine, number: u32)
     requires { array_vec_len line.old + 10 ≤ LINE_ROOM }
@@ -338,14 +223,4 @@ fn push_number(line: &mut ReportLine, number: u32)
     ensures len { array_vec_len line.new ≤ array_vec_len line.old + 10 }
 {
     push(line, &write_int(number));
-}
-
-/// A line that has these bytes, as they are shown, and nothing else.
-#[cfg(test)]
-pub fn shown_for_test(bytes: &[u8]) -> ReportLine
-    requires { length bytes.now ≤ most_shown }
-{
-    let mut line = ArrayVec::new();
-    push_shown(&mut line, bytes);
-    line
 }

@@ -98,7 +98,7 @@ fn each_size_allows_the_numbers_of_the_table(rt: HostRuntime) {
     }
 }
 
-/// Sizes, and the first two points of each: on the third line from the edges below size 13, and on the fourth from 13 up.
+/// Sizes, and the first two points of each: on the third line from the edges below size 13, on the fourth from 13 up.
 static CORNERS: [(u32, &str); 19] = [
     (7, "C3 E5"),
     (8, "C3 F6"),

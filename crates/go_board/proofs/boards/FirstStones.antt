@@ -4,7 +4,7 @@ use Rattle.std.proofs.Common.{true, false, cond, get_or-set_other}
 use Rattle.std.specs.Prelude.{◌⊎◌}
 use Rattle.std.proofs.Math.ListN.{set}
 use Rattle.go_base.specs.Handicap.{handicap_points, AllowsHandicap}
-use Rattle.go_base.proofs.HandicapLemmas.{handicap_bounds}
+use Rattle.go_base.proofs.board_points.HandicapPoints.{handicap_bounds}
 use Rattle.go_board.specs.Board.{at, empty_board, with_black}
 use Rattle.go_board.specs.Game.{start}
 use Rattle.go_board.specs.private.ChainId.{is_stone}

@@ -8,7 +8,7 @@ use Rattle.std.proofs.Math.ListN.{set}
 use Rattle.go_base.specs.Handicap.{low_line, middle_line, high_line, handicap_points, AllowsHandicap}
 use Rattle.go_base.specs.Point.{point, column_of, IsOn}
 use Rattle.go_base.specs.Size.{IsSize}
-use Rattle.go_base.proofs.HandicapLemmas.{handicap_bounds}
+use Rattle.go_base.proofs.board_points.HandicapPoints.{handicap_bounds}
 use Rattle.go_board.specs.Board.{at, IsStone, empty_board, with_black}
 use Rattle.go_board.specs.Chain.{itself}
 use Rattle.go_board.specs.Game.{start}

@@ -7,8 +7,8 @@ use std::process::Abort;
 /// White takes one stone at B1 by A1, in a corner where Black can take back. Then both pass.
 const LEFT: &str = "bA2 wC1 bB1 wB2 bD4 wA1 bpass wpass";
 
-/// White plays on all points of seven lines but C3, and so takes both handicap stones, C3 and E5. Black's C3 takes all of
-/// White's.
+/// White plays on all points of seven lines but C3, and so takes both handicap stones, C3 and E5. Black's C3 takes all
+/// stones of White.
 const FILLED: &str =
     "wA1 wB1 wC1 wD1 wE1 wF1 wG1 wA2 wB2 wC2 wD2 wE2 wF2 wG2 wA3 wB3 wD3 wE3 wF3 wG3 wA4 wB4 wC4 wD4 wE4 \
     wF4 wG4 wA5 wB5 wC5 wD5 wF5 wG5 wA6 wB6 wC6 wD6 wE6 wF6 wG6 wA7 wB7 wC7 wD7 wE7 wF7 wG7 wE5 bC3 wpass";

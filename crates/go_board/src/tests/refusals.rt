@@ -57,7 +57,7 @@ fn each_refusal_of_a_play(rt: HostRuntime) {
     }
 }
 
-/// Plays on a full record, and the cause that is returned of each: fullness is none, and the others are returned as ever.
+/// Plays on a full record, and the cause that is returned of each: fullness is none, the others are returned as ever.
 static FULL: [(&str, Option<PlayFault>); 3] = [
     ("bpass", None),
     ("wA1", None),

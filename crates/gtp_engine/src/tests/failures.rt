@@ -57,7 +57,7 @@ fn a_write_that_fails_is_status_3(rt: HostRuntime) -> Result<(), Fail> {
 }
 
 #[test]
-fn the_status_stays_where_nothing_can_be_told(rt: HostRuntime) -> Result<(), Fail> {
+fn the_status_stays_where_nothing_can_be_reported(rt: HostRuntime) -> Result<(), Fail> {
     let cases: [(&[&str], u8); 3] = [
         (&["gtp_engine", "--policy", "third"], 2),
         (&["gtp_engine", "--book", "C3,D44"], 2),
@@ -103,7 +103,7 @@ static FAILURES: [(Failure, u8, &str); 6] = [
 ];
 
 #[test]
-fn each_failure_is_told_in_a_line(rt: HostRuntime) {
+fn each_failure_is_reported_in_a_line(rt: HostRuntime) {
     for (failure, status, line) in &FAILURES {
         let mut errors = Vec::new(rt.alloc());
         let reported = report(*failure, &mut Counted::new(&mut errors));

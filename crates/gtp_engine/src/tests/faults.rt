@@ -62,7 +62,7 @@ fn a_fault_that_goes_on_is_status_0(rt: HostRuntime) -> Result<(), Fail> {
 }
 
 #[test]
-fn a_bad_fault_is_told_after_a_bad_book(rt: HostRuntime) -> Result<(), Fail> {
+fn a_bad_fault_is_reported_after_a_bad_book(rt: HostRuntime) -> Result<(), Fail> {
     for fault in ["", "stop", "stop:0", "cut:1:2049", "junk:2001", "Flood:1"] {
         assert_refuses(&rt, &["--fault", fault], "gtp_engine: bad fault\n")?;
     }

@@ -108,7 +108,7 @@ fn a_mistake_in_the_arguments_is_status_2_with_the_text_of_clap(
 }
 
 #[test]
-fn a_bad_book_is_told_under_every_policy(rt: HostRuntime) -> Result<(), Fail> {
+fn a_bad_book_is_reported_under_every_policy(rt: HostRuntime) -> Result<(), Fail> {
     let lists: [&[&str]; 4] = [
         &["--book", "C3,D44"],
         &["--book", "C3,D44", "--policy", "first"],

@@ -36,11 +36,11 @@ use Rattle.gtp_match.proofs.hearing.Changes.{Heard, heard, up_there, up_in}
 use Rattle.gtp_match.proofs.scripts.WithoutLast.{same_is}
 
 -- what is no fault was said in reply to the oldest command
-pub told : (c : Controller) (s : Colour) (engine : EngineRun) (bytes : List ℕ) (used : ℕ) (reply : Reply)
+pub is_given : (c : Controller) (s : Colour) (engine : EngineRun) (bytes : List ℕ) (used : ℕ) (reply : Reply)
     → EndsReply engine bytes used reply → (o : Outcome) → IsNoFault o
     → outcome c.game s (oldest engine.unanswered) reply ≡ o
     → HearsReply engine bytes used (λ k r. Reason c.game s k r o)
-told c s engine bytes used reply ends o no_fault e =
+is_given c s engine bytes used reply ends o no_fault e =
     let r = replies_to c.game s (oldest engine.unanswered) reply o no_fault e in
     record {
       reply = reply;
@@ -160,11 +160,11 @@ moves_have_replies c new s bytes used fault hears = by_way (heard c s bytes used
     by_outcome engine reply up ends (Moves v) e fault_is new_is =
         inr (inl (made c new s engine bytes used reply v up ends e new_is))
     by_outcome engine reply up ends Refuses e fault_is new_is =
-        by_refusal engine up (told c s engine bytes used reply ends Refuses (λ f x. cc) e)
+        by_refusal engine up (is_given c s engine bytes used reply ends Refuses (λ f x. cc) e)
         (may_retake c s (heard_reply engine)) refl new_is
     by_outcome engine reply up ends TakesBack e fault_is new_is =
         inr (inr (taken_away c new s engine bytes used fault up
-        (WhyTakenBack.undone (told c s engine bytes used reply ends TakesBack (λ f x. cc) e))
+        (WhyTakenBack.undone (is_given c s engine bytes used reply ends TakesBack (λ f x. cc) e))
         (ap (λ (x : Controller). x.game) new_is)))
     by_outcome engine reply up ends Keeps e fault_is new_is = stays _ new_is refl
 
@@ -245,7 +245,7 @@ retakes_have_refusals c new s bytes used fault hears = by_way (heard c s bytes u
     by_outcome engine reply none up ends Resigns e new_is = stays _ new_is refl
     by_outcome engine reply none up ends (Moves v) e new_is = stays _ new_is refl
     by_outcome engine reply none up ends Refuses e new_is =
-        by_refusal engine none up (told c s engine bytes used reply ends Refuses (λ f x. cc) e)
+        by_refusal engine none up (is_given c s engine bytes used reply ends Refuses (λ f x. cc) e)
         (may_retake c s (heard_reply engine)) refl new_is
     by_outcome engine reply none up ends TakesBack e new_is = stays _ new_is refl
     by_outcome engine reply none up ends Keeps e new_is = stays _ new_is refl
@@ -367,12 +367,12 @@ causes_are_true c new s bytes used fault v hears none given = by_way (heard c s 
         by_down engine up new_is (subst (λ (x : Option SideFault). IsSome x) (sym fault_is) refl)
     by_outcome engine up reply ends Unfit e fault_is new_is =
         let is : Some (verdict.Unfit s) ≡ Some v = sym (ap (λ (x : Controller). x.verdict) new_is) ∙ given in
-        cause_of engine up (verdict.Unfit s) (cc) (refl, told c s engine bytes used reply ends Unfit (λ f x. cc) e)
+        cause_of engine up (verdict.Unfit s) (cc) (refl, is_given c s engine bytes used reply ends Unfit (λ f x. cc) e)
     by_outcome engine up reply ends (Forfeits cause) e fault_is new_is =
         let is : Some (verdict.Forfeit s cause) ≡ Some v = sym (ap (λ (x : Controller). x.verdict) new_is) ∙ given in
         cause_of engine up (verdict.Forfeit s cause) (cc)
         (IsForfeited.by_itself
-        (forfeited cause engine (told c s engine bytes used reply ends (Forfeits cause) (λ f x. cc) e)))
+        (forfeited cause engine (is_given c s engine bytes used reply ends (Forfeits cause) (λ f x. cc) e)))
     by_outcome engine up reply ends Confirms e fault_is new_is = unchanged (ap (λ (x : Controller). x.verdict) new_is)
     by_outcome engine up reply ends Resigns e fault_is new_is =
         let is : Some (verdict.Resign s) ≡ Some v = sym (ap (λ (x : Controller). x.verdict) new_is) ∙ given in
@@ -384,21 +384,21 @@ causes_are_true c new s bytes used fault v hears none given = by_way (heard c s 
         }
         in
         cause_of engine up (verdict.Resign s) (cc)
-        (refl, told c s engine bytes used reply ends Resigns (λ f x. cc) e, only)
+        (refl, is_given c s engine bytes used reply ends Resigns (λ f x. cc) e, only)
     by_outcome engine up reply ends (Moves w) e fault_is new_is =
         let game = with_move c.game s w in
         by_end engine up (made c new s engine bytes used reply w up ends e new_is) (holds (finished? game))
         (eqb (length game.moves) c.setup.max_moves) (score game)
         (sym (ap (λ (x : Controller). x.verdict) new_is) ∙ given)
     by_outcome engine up reply ends Refuses e fault_is new_is =
-        by_refusal engine up (told c s engine bytes used reply ends Refuses (λ f x. cc) e)
+        by_refusal engine up (is_given c s engine bytes used reply ends Refuses (λ f x. cc) e)
         (may_retake c s (heard_reply engine)) refl new_is
     by_outcome engine up reply ends TakesBack e fault_is new_is = unchanged (ap (λ (x : Controller). x.verdict) new_is)
     by_outcome engine up reply ends Keeps e fault_is new_is =
         let is : Some (verdict.Forfeit (other s) RefusedPlay) ≡ Some v =
         sym (ap (λ (x : Controller). x.verdict) new_is) ∙ given in
         cause_of engine up (verdict.Forfeit (other s) RefusedPlay) (cc)
-        (IsForfeited.by_the_other (told c s engine bytes used reply ends Keeps (λ f x. cc) e))
+        (IsForfeited.by_the_other (is_given c s engine bytes used reply ends Keeps (λ f x. cc) e))
 
     by_way : Heard c s bytes used fault new → Caused c new s bytes used fault v
     by_way (Heard.replied engine reply none2 up ends fault_is new_is) =

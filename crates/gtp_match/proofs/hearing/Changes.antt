@@ -5,10 +5,10 @@ use Rattle.std.specs.Prelude.{IsSome}
 use Rattle.go_base.specs.Colour.{other}
 use Rattle.go_base.specs.declared.colours.Colour.{Colour}
 use Rattle.go_base.specs.declared.colours.Colour.TheVariants.{Black, White}
-use Rattle.gtp_wire.specs.Replies.{IsFirst, TellsNothing}
+use Rattle.gtp_wire.specs.Replies.{IsFirst, GivesNoAnswer}
 use Rattle.gtp_wire.specs.declared.replies.Reply.{Reply}
 use Rattle.gtp_wire.specs.declared.replies.ReplyFault.{ReplyFault}
-use Rattle.gtp_wire.proofs.ReplyLaws.{one_first}
+use Rattle.gtp_wire.proofs.first_answers.OneAnswer.{one_first}
 use Rattle.gtp_match.specs.Controller.{with_side_up, downed, lost, lost_engine, verdict_when_down}
 use Rattle.gtp_match.specs.Hearing.{side_fault, MayKeep, HearsUp, HearsWhere, Hears}
 use Rattle.gtp_match.specs.ReplyTable.{outcome, after_outcome, fault_of, retaken_at, refused}
@@ -39,7 +39,7 @@ pub data Heard (c : Controller) (s : Colour) (bytes : List ℕ) (used : ℕ) (fa
       → IsFirst (engine.reader ++ bytes) (length engine.reader + used) (Err shown)
       → fault ≡ Some (side_fault shown) → new ≡ downed c s → Heard c s bytes used fault new
   quiet : (engine : EngineRun) (kept : List ℕ) → c.verdict ≡ None → (side_of c.sides s).up ≡ Some engine
-      → TellsNothing (engine.reader ++ bytes) → fault ≡ None
+      → GivesNoAnswer (engine.reader ++ bytes) → fault ≡ None
       → new ≡ with_side_up c s (record engine { reader = kept }) → Heard c s bytes used fault new
   down : (side_of c.sides s).up ≡ None → fault ≡ None → new ≡ c → Heard c s bytes used fault new
   over : (v : Verdict) → c.verdict ≡ Some v → fault ≡ None → new ≡ c → Heard c s bytes used fault new
@@ -371,8 +371,8 @@ strange_replies_put_down c new s engine reply bytes used fault hears none up end
     by_way (Heard.quiet other kept none2 up2 nothing fault_is new_is) =
         let some : Some other ≡ Some engine = sym up2 ∙ up in
         let same : other ≡ engine = cc in
-        let N : EngineRun → Type 0 = λ x. TellsNothing (x.reader ++ bytes) in
-        absurd (subst N same nothing (length engine.reader + used) (Ok reply) ends.inside ends.told)
+        let N : EngineRun → Type 0 = λ x. GivesNoAnswer (x.reader ++ bytes) in
+        absurd (subst N same nothing (length engine.reader + used) (Ok reply) ends.inside ends.is_given)
     by_way (Heard.down up2 fault_is new_is) = let no : None ≡ Some engine = sym up2 ∙ up in absurd (cc)
     by_way (Heard.over v e fault_is new_is) = let no : None ≡ Some v = sym none ∙ e in absurd (cc)
 

@@ -1,13 +1,13 @@
 -- What is heard exactly is heard, and of a piece that isn't empty a byte is used.
 use Rattle.std.proofs.Common.{◌≡◌, ℕ, ◌+◌, ◌<◌, List, ◌++◌, length, take, Option, Some, None, Result, Ok, Err, sym, ◌∙◌}
-use Rattle.std.proofs.Common.{ap, subst, arith, inl, inr, drop, eqb, true, false, []}
+use Rattle.std.proofs.Common.{ap, subst, arith, inl, inr, drop, eqb, true, false, [], is_some}
 use Rattle.std.specs.Prelude.{◌⊎◌, IfSome}
 use Rattle.std.proofs.lemmas.Bool.Decides.{nat_tests}
 use Rattle.std.proofs.lemmas.List.{nil_from_length, take-append-le, take_all}
 use Rattle.go_base.specs.declared.colours.Colour.{Colour}
 use Rattle.gtp_wire.specs.declared.replies.Reply.{Reply}
 use Rattle.gtp_wire.specs.declared.replies.ReplyFault.{ReplyFault}
-use Rattle.gtp_wire.specs.Replies.{TellsNothing, Tells, IsFirst}
+use Rattle.gtp_wire.specs.Replies.{GivesNoAnswer, GivesAnswer, IsFirst}
 use Rattle.gtp_match.specs.declared.sides.EngineRun.{EngineRun}
 use Rattle.gtp_match.specs.declared.verdicts.SideFault.{SideFault}
 use Rattle.gtp_match.specs.declared.verdicts.Verdict.{Verdict}
@@ -48,7 +48,7 @@ wider c s bytes used fault c2 h = by_state c.verdict (side_of c.sides s).up h
 take_front : (a b : List ℕ) → take (length a + 0) (a ++ b) ≡ a
 take_front a b = take-append-le (length a + 0) a b (omega arith) ∙ take_all (length a + 0) a (omega arith)
 
-first_is_new : (rest bytes : List ℕ) (used : ℕ) (answer : Result Reply ReplyFault) → TellsNothing rest
+first_is_new : (rest bytes : List ℕ) (used : ℕ) (answer : Result Reply ReplyFault) → GivesNoAnswer rest
     → IsFirst (rest ++ bytes) (length rest + used) answer → 0 < used
 first_is_new rest bytes used answer quiet first = by_used (none_or_some used)
   where
@@ -58,16 +58,16 @@ first_is_new rest bytes used answer quiet first = by_used (none_or_some used)
     by_used : (used ≡ 0) ⊎ (0 < used) → 0 < used
     by_used (inr some) = some
     by_used (inl none) =
-        let T : List ℕ → Type 0 = λ t. Tells t answer in
+        let T : List ℕ → Type 0 = λ t. GivesAnswer t answer in
         let at_zero : IsFirst (rest ++ bytes) (length rest + 0) answer =
         subst (λ n. IsFirst (rest ++ bytes) (length rest + n) answer) none first in
-        let told : Tells rest answer = subst T (take_front rest bytes) at_zero.told in
+        let is_given : GivesAnswer rest answer = subst T (take_front rest bytes) at_zero.is_given in
         absurd (quiet (length rest) answer (omega arith)
-        (subst T (sym (take_all (length rest) rest (omega arith))) told))
+        (subst T (sym (take_all (length rest) rest (omega arith))) is_given))
 
 up_uses : (c : Controller) (s : Colour) (engine : EngineRun) (bytes : List ℕ) (used : ℕ)
     (fault : Option SideFault) (c2 : Controller)
-    → TellsNothing engine.reader → 0 < length bytes → HearsUp KeepsAll c s engine bytes used fault c2 → 0 < used
+    → GivesNoAnswer engine.reader → 0 < length bytes → HearsUp KeepsAll c s engine bytes used fault c2 → 0 < used
 up_uses c s engine bytes used fault c2 quiet some (HearsUp.replied {value = reply} first) =
     first_is_new engine.reader bytes used (Ok reply) quiet first
 up_uses c s engine bytes used fault c2 quiet some (HearsUp.faulted {shown = shown} first) =
@@ -102,3 +102,20 @@ none_left left e = nil_from_length left (grind (arith, nat_tests))
 
 pub some_left : (left : List ℕ) → eqb (length left) 0 ≡ false → 0 < length left
 some_left left e = grind (arith, nat_tests)
+
+pub all_faulty : (side : Colour) (c new : Controller) (bytes : List ℕ) (used : ℕ) (fault : Option SideFault)
+    → is_some fault ≡ true → 0 < length bytes → HearsExactly c side bytes used fault new
+    → HearsAllExactly side c bytes fault new
+all_faulty side c new bytes used None e some h = absurd (cc)
+all_faulty side c new bytes used (Some shown) e some h = HearsAllBy.faulty used some h
+
+pub all_more : (side : Colour) (c mid new : Controller) (bytes left : List ℕ) (used : ℕ)
+    (fault shown : Option SideFault) → is_some fault ≡ false → 0 < length bytes
+    → HearsExactly c side bytes used fault mid → left ≡ drop used bytes
+    → HearsAllExactly side mid left shown new → HearsAllExactly side c bytes shown new
+all_more side c mid new bytes left used (Some f) shown e some h is more = absurd (cc)
+all_more side c mid new bytes left used None shown e some h is more =
+    HearsAllBy.goes_on used some h (subst (λ (t : List ℕ). HearsAllExactly side mid t shown new) is more)
+
+pub all_end : (side : Colour) (c : Controller) (left : List ℕ) → left ≡ [] → HearsAllExactly side c left None c
+all_end side c left none = subst (λ (t : List ℕ). HearsAllExactly side c t None c) (sym none) HearsAllBy.used_up

@@ -25,7 +25,7 @@ use Rattle.gtp_match.specs.declared.reply_table.Outcome.TheVariants.{Down, Unfit
 use Rattle.gtp_match.specs.declared.reply_table.Outcome.TheVariants.{Refuses, TakesBack, Keeps}
 use Rattle.gtp_match.specs.declared.verdicts.Action.TheVariants.{Start, Send}
 use Rattle.gtp_match.specs.declared.verdicts.SideFault.{SideFault}
-use Rattle.gtp_match.proofs.endings.Causes.{told, maker_is, confirmed_all}
+use Rattle.gtp_match.proofs.endings.Causes.{is_given, maker_is, confirmed_all}
 use Rattle.gtp_match.proofs.scripts.Lines.{sent_line}
 use Rattle.gtp_match.proofs.actions.NothingUnanswered.{free_next}
 use Rattle.gtp_match.proofs.hearing.Changes.{Heard, heard, up_there}
@@ -129,13 +129,13 @@ pending_has_cause c new s bytes used fault hears = by_way (heard c s bytes used 
     by_outcome engine reply up ends Resigns e fault_is new_is = stays _ new_is refl
     by_outcome engine reply up ends (Moves v) e fault_is new_is = stays _ new_is refl
     by_outcome engine reply up ends Refuses e fault_is new_is =
-        by_refusal engine up (told c s engine bytes used reply ends Refuses (λ f x. cc) e)
+        by_refusal engine up (is_given c s engine bytes used reply ends Refuses (λ f x. cc) e)
         (may_retake c s (heard_reply engine)) refl new_is
     by_outcome engine reply up ends TakesBack e fault_is new_is =
         inr (
           engine,
           up,
-          WhyPending.undone (told c s engine bytes used reply ends TakesBack (λ f x. cc) e)
+          WhyPending.undone (is_given c s engine bytes used reply ends TakesBack (λ f x. cc) e)
               (ap (λ (x : Controller). x.pending) new_is),
         )
     by_outcome engine reply up ends Keeps e fault_is new_is = stays _ new_is refl

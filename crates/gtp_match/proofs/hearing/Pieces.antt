@@ -8,9 +8,9 @@ use Rattle.go_base.specs.declared.colours.Colour.{Colour}
 use Rattle.go_base.specs.declared.colours.Colour.TheVariants.{Black, White}
 use Rattle.gtp_wire.specs.declared.replies.Reply.{Reply}
 use Rattle.gtp_wire.specs.declared.replies.ReplyFault.{ReplyFault}
-use Rattle.gtp_wire.specs.Replies.{TellsNothing, IsFirst}
-use Rattle.gtp_wire.proofs.ReplyLaws.{one_first}
-use Rattle.gtp_wire.proofs.ReplyReadingLemmas.{first_more}
+use Rattle.gtp_wire.specs.Replies.{GivesNoAnswer, IsFirst}
+use Rattle.gtp_wire.proofs.first_answers.OneAnswer.{one_first}
+use Rattle.gtp_wire.proofs.first_answers.OneByteMore.{first_more}
 use Rattle.gtp_match.specs.declared.sides.EngineRun.{EngineRun}
 use Rattle.gtp_match.specs.declared.reply_table.Outcome.{Outcome}
 use Rattle.gtp_match.specs.declared.reply_table.Outcome.TheVariants.{Down, Unfit, Forfeits, Confirms, Resigns, Moves}
@@ -52,7 +52,7 @@ one_up c s engine bytes u v f g m n (HearsUp.replied {value = x} p) (HearsUp.fau
     let e = one_first (engine.reader ++ bytes) (length engine.reader + u) (length engine.reader + v) (Ok x)
     (Err y) p q in absurd (cc)
 one_up c s engine bytes u v f g m n (HearsUp.replied {value = x} p) (HearsUp.nothing_yet nothing is) =
-    absurd (nothing (length engine.reader + u) (Ok x) p.inside p.told)
+    absurd (nothing (length engine.reader + u) (Ok x) p.inside p.is_given)
 one_up c s engine bytes u v f g m n (HearsUp.faulted {shown = x} p) (HearsUp.replied {value = y} q) =
     let e =
     one_first (engine.reader ++ bytes) (length engine.reader + u) (length engine.reader + v) (Err x) (Ok y) p q in
@@ -63,11 +63,11 @@ one_up c s engine bytes u v f g m n (HearsUp.faulted {shown = x} p) (HearsUp.fau
     let same : x ≡ y = cc in
     record { used_is = omega (arith, e.0); fault_is = ap (λ (r : ReplyFault). Some (side_fault r)) same; new_is = refl }
 one_up c s engine bytes u v f g m n (HearsUp.faulted {shown = x} p) (HearsUp.nothing_yet nothing is) =
-    absurd (nothing (length engine.reader + u) (Err x) p.inside p.told)
+    absurd (nothing (length engine.reader + u) (Err x) p.inside p.is_given)
 one_up c s engine bytes u v f g m n (HearsUp.nothing_yet nothing is) (HearsUp.replied {value = y} q) =
-    absurd (nothing (length engine.reader + v) (Ok y) q.inside q.told)
+    absurd (nothing (length engine.reader + v) (Ok y) q.inside q.is_given)
 one_up c s engine bytes u v f g m n (HearsUp.nothing_yet nothing is) (HearsUp.faulted {shown = y} q) =
-    absurd (nothing (length engine.reader + v) (Err y) q.inside q.told)
+    absurd (nothing (length engine.reader + v) (Err y) q.inside q.is_given)
 one_up c s engine bytes u v f g m n (HearsUp.nothing_yet {kept = k} nothing is)
     (HearsUp.nothing_yet {kept = l} nothing2 is2) =
     record {
@@ -235,7 +235,7 @@ absorbed c s engine kept a b u f new is (HearsUp.nothing_yet {kept = k} nothing 
     ap (λ (t : List ℕ). t ++ b) is ∙ append_assoc engine.reader a b in
     let used : length (a ++ b) ≡ length a + length b = length-append a b in
     let H : ℕ → Controller → Type 0 = λ n x. HearsUp KeepsAll c s engine (a ++ b) n None x in
-    let quiet : TellsNothing (engine.reader ++ (a ++ b)) = subst TellsNothing text nothing in
+    let quiet : GivesNoAnswer (engine.reader ++ (a ++ b)) = subst GivesNoAnswer text nothing in
     subst (λ (n : ℕ). H n new) used
     (subst (H (length (a ++ b))) (sym (up_twice c s (record engine { reader = kept }) (record engine { reader = k })))
     (HearsUp.nothing_yet quiet (same ∙ text)))

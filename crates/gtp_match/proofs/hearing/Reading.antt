@@ -10,7 +10,7 @@ use Rattle.go_base.specs.declared.vertices.Vertex.{Vertex}
 use Rattle.go_base.specs.Decide.{holds}
 use Rattle.go_board.specs.Game.{GameRecord, HasRoom, IsLegal}
 use Rattle.go_board.specs.decisions.Game.{legal?}
-use Rattle.gtp_wire.specs.Replies.{rest_after, IsFirst, TellsNothing}
+use Rattle.gtp_wire.specs.Replies.{rest_after, IsFirst, GivesNoAnswer}
 use Rattle.gtp_wire.specs.declared.commands.Command.{Command}
 use Rattle.gtp_wire.specs.declared.commands.Command.TheVariants as command
 use Rattle.gtp_wire.specs.declared.replies.Reply.{Reply}
@@ -36,7 +36,7 @@ use Rattle.gtp_match.specs.Sides.{side_of, with_side, with_engine, with_engine_o
 use Rattle.gtp_match.specs.ReplyTable.{outcome, outcome_of, script_outcome, play_outcome, undo_outcome}
 use Rattle.gtp_match.specs.ReplyTable.{genmove_outcome}
 use Rattle.gtp_match.specs.ReplyTable.{choice_outcome, has_id, after_outcome, fault_of}
-use Rattle.gtp_match.specs.ReplyWords.{choice_of_text}
+use Rattle.gtp_wire.specs.ReplyWords.{choice_of_text}
 use Rattle.gtp_match.specs.Hearing.{side_fault, KeepsAll, HearsUp, HearsWhere, HearsExactly}
 use Rattle.gtp_match.specs.private.Conditions.{MayReply, MayHear, MayBe, MayApply}
 use Rattle.gtp_match.specs.private.Feeding.{HasRead, fed_engine}
@@ -148,9 +148,9 @@ first_got c side e bytes fed new answer g =
     IfSome got (λ x. IsFirst (e.reader ++ bytes) (length e.reader + fed.used) x)) g.is g.has_fed.read.first
 
 pub nothing_got : (c : Controller) (side : Colour) (e : EngineRun) (bytes : List ℕ) (fed : ReplyFed) (new : Sides)
-    → HasGot c side e bytes fed new None → TellsNothing (e.reader ++ bytes)
+    → HasGot c side e bytes fed new None → GivesNoAnswer (e.reader ++ bytes)
 nothing_got c side e bytes fed new g =
-    subst (λ (got : Option (Result Reply ReplyFault)). IfNone got (TellsNothing (e.reader ++ bytes))) g.is
+    subst (λ (got : Option (Result Reply ReplyFault)). IfNone got (GivesNoAnswer (e.reader ++ bytes))) g.is
     g.has_fed.read.nothing
 
 -- ---- nothing was returned

@@ -4,11 +4,11 @@ use Rattle.std.proofs.Common.{refl, ◌∙◌, ap, subst, arith, length-append}
 use Rattle.std.specs.Prelude.{Result, ◌≢◌}
 use Rattle.std.proofs.lemmas.Bool.{eqb-true}
 use Rattle.go_base.specs.declared.colours.Colour.{Colour}
-use Rattle.gtp_wire.specs.Replies.{IsFirst, TellsNothing}
+use Rattle.gtp_wire.specs.Replies.{IsFirst, GivesNoAnswer}
 use Rattle.gtp_wire.specs.declared.replies.Reply.{Reply}
 use Rattle.gtp_wire.specs.declared.replies.ReplyFault.{ReplyFault}
 use Rattle.gtp_wire.specs.declared.replies.ReplyFault.TheVariants as reply_fault
-use Rattle.gtp_wire.proofs.ReplyLaws.{one_first}
+use Rattle.gtp_wire.proofs.first_answers.OneAnswer.{one_first}
 use Rattle.gtp_match.specs.Going.{ShowsFault, OnlyWrote}
 use Rattle.gtp_match.specs.Hearing.{MayKeep, side_fault, HearsUp, HearsWhere, Hears}
 use Rattle.gtp_match.specs.Replying.{EndsReply}
@@ -40,9 +40,9 @@ module _ (engine : EngineRun) (bytes : List ℕ) where
       let one = one_first (engine.reader ++ bytes) (length engine.reader + used) (length engine.reader + place) a b x y
       in (omega (arith, one.0), one.1)
 
-  not_quiet : (place : ℕ) (a : Result Reply ReplyFault) → TellsNothing (engine.reader ++ bytes)
+  not_quiet : (place : ℕ) (a : Result Reply ReplyFault) → GivesNoAnswer (engine.reader ++ bytes)
       → IsFirst (engine.reader ++ bytes) (length engine.reader + place) a → ⊥
-  not_quiet place a nothing first = nothing (length engine.reader + place) a first.inside first.told
+  not_quiet place a nothing first = nothing (length engine.reader + place) a first.inside first.is_given
 
 pub reply_is_used : (c new : Controller) (s : Colour) (engine : EngineRun) (value : Reply) (bytes : List ℕ)
     (place used : ℕ) (fault : Option SideFault) → Hears c s bytes used fault new → c.verdict ≡ None
@@ -51,8 +51,8 @@ reply_is_used c new s engine value bytes place used fault hears none up ends =
     by_way used fault new (hears_up c new s engine bytes used fault hears none up)
   where
     by_way : (n : ℕ) (f : Option SideFault) (x : Controller) → HearsUp MayKeep c s engine bytes n f x → n ≡ place
-    by_way n f x (HearsUp.replied {value = told} first) =
-        let one = place_is engine bytes n place (Ok told) (Ok value) first ends in one.0
+    by_way n f x (HearsUp.replied {value = is_given} first) =
+        let one = place_is engine bytes n place (Ok is_given) (Ok value) first ends in one.0
     by_way n f x (HearsUp.faulted {shown = shown} first) =
         let one = place_is engine bytes n place (Err shown) (Ok value) first ends in one.0
     by_way n f x (HearsUp.nothing_yet nothing is) = absurd (not_quiet engine bytes place (Ok value) nothing ends)
@@ -82,14 +82,14 @@ fault_is_shown c new s engine shown bytes place used fault hears none up why =
         → fault_of (outcome c.game s (oldest engine.unanswered) reply) ≡ Some f
         → (n : ℕ) (g : Option SideFault) (x : Controller) → HearsUp MayKeep c s engine bytes n g x
         → (n ≡ place) × (g ≡ Some f)
-    by_reply f reply ends is n g x (HearsUp.replied {value = told} first) =
-        let one = place_is engine bytes n place (Ok told) (Ok reply) first ends in
-        let oks : Ok told ≡ Ok reply = one.1 in
-        let same : told ≡ reply = cc in
+    by_reply f reply ends is n g x (HearsUp.replied {value = is_given} first) =
+        let one = place_is engine bytes n place (Ok is_given) (Ok reply) first ends in
+        let oks : Ok is_given ≡ Ok reply = one.1 in
+        let same : is_given ≡ reply = cc in
         (one.0, ap (λ (r : Reply). fault_of (outcome c.game s (oldest engine.unanswered) r)) same ∙ is)
-    by_reply f reply ends is n g x (HearsUp.faulted {shown = told} first) =
-        let one = place_is engine bytes n place (Err told) (Ok reply) first ends in
-        let no : Err told ≡ Ok reply = one.1 in absurd (cc)
+    by_reply f reply ends is n g x (HearsUp.faulted {shown = is_given} first) =
+        let one = place_is engine bytes n place (Err is_given) (Ok reply) first ends in
+        let no : Err is_given ≡ Ok reply = one.1 in absurd (cc)
     by_reply f reply ends is n g x (HearsUp.nothing_yet nothing is_kept) =
         absurd (not_quiet engine bytes place (Ok reply) nothing ends)
 
@@ -97,13 +97,13 @@ fault_is_shown c new s engine shown bytes place used fault hears none up why =
     by_reader : (f : ReplyFault) → IsFirst (engine.reader ++ bytes) (length engine.reader + place) (Err f)
         → (n : ℕ) (g : Option SideFault) (x : Controller) → HearsUp MayKeep c s engine bytes n g x
         → (n ≡ place) × (g ≡ Some (side_fault f))
-    by_reader f first_is n g x (HearsUp.replied {value = told} first) =
-        let one = place_is engine bytes n place (Ok told) (Err f) first first_is in
-        let no : Ok told ≡ Err f = one.1 in absurd (cc)
-    by_reader f first_is n g x (HearsUp.faulted {shown = told} first) =
-        let one = place_is engine bytes n place (Err told) (Err f) first first_is in
-        let errs : Err told ≡ Err f = one.1 in
-        let same : told ≡ f = cc in
+    by_reader f first_is n g x (HearsUp.replied {value = is_given} first) =
+        let one = place_is engine bytes n place (Ok is_given) (Err f) first first_is in
+        let no : Ok is_given ≡ Err f = one.1 in absurd (cc)
+    by_reader f first_is n g x (HearsUp.faulted {shown = is_given} first) =
+        let one = place_is engine bytes n place (Err is_given) (Err f) first first_is in
+        let errs : Err is_given ≡ Err f = one.1 in
+        let same : is_given ≡ f = cc in
         (one.0, ap (λ (r : ReplyFault). Some (side_fault r)) same)
     by_reader f first_is n g x (HearsUp.nothing_yet nothing is_kept) =
         absurd (not_quiet engine bytes place (Err f) nothing first_is)
@@ -123,15 +123,15 @@ fault_is_shown c new s engine shown bytes place used fault hears none up why =
 
 pub nothing_is_used : (c new : Controller) (s : Colour) (engine : EngineRun) (bytes : List ℕ) (used : ℕ)
     (fault : Option SideFault) → Hears c s bytes used fault new → c.verdict ≡ None
-    → (side_of c.sides s).up ≡ Some engine → TellsNothing (engine.reader ++ bytes)
+    → (side_of c.sides s).up ≡ Some engine → GivesNoAnswer (engine.reader ++ bytes)
     → (used ≡ length bytes) × (fault ≡ None) × OnlyWrote c new s engine bytes
 nothing_is_used c new s engine bytes used fault hears none up quiet =
     by_way used fault new (hears_up c new s engine bytes used fault hears none up)
   where
     by_way : (n : ℕ) (f : Option SideFault) (x : Controller) → HearsUp MayKeep c s engine bytes n f x
         → (n ≡ length bytes) × (f ≡ None) × OnlyWrote c x s engine bytes
-    by_way n f x (HearsUp.replied {value = told} first) = absurd (not_quiet engine bytes n (Ok told) quiet first)
-    by_way n f x (HearsUp.faulted {shown = told} first) = absurd (not_quiet engine bytes n (Err told) quiet first)
+    by_way n f x (HearsUp.replied {value = is_given} first) = absurd (not_quiet engine bytes n (Ok is_given) quiet first)
+    by_way n f x (HearsUp.faulted {shown = is_given} first) = absurd (not_quiet engine bytes n (Err is_given) quiet first)
     by_way n f x (HearsUp.nothing_yet {kept = kept} nothing is) = (
       refl,
       refl,

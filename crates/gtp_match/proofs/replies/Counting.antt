@@ -9,9 +9,9 @@ use Rattle.go_base.specs.declared.colours.Colour.{Colour}
 use Rattle.go_board.specs.Area.{score}
 use Rattle.go_board.specs.decisions.Game.{finished?}
 use Rattle.go_board.specs.Game.{GameRecord, with_move}
-use Rattle.gtp_wire.specs.Replies.{IsFirst, TellsNothing}
+use Rattle.gtp_wire.specs.Replies.{IsFirst, GivesNoAnswer}
 use Rattle.gtp_wire.specs.declared.replies.Reply.{Reply}
-use Rattle.gtp_wire.proofs.ReplyLaws.{one_first}
+use Rattle.gtp_wire.proofs.first_answers.OneAnswer.{one_first}
 use Rattle.gtp_match.specs.Going.{HasAnswered, IsEnd, IsFailure, IsCounted}
 use Rattle.gtp_match.specs.Hearing.{Hears}
 use Rattle.gtp_match.specs.Replying.{EndsReply}
@@ -87,8 +87,8 @@ heard_answer c new s engine entry later reply bytes used fault hears none up end
     by_way (Heard.quiet other_engine kept none2 up2 nothing fault_is new_is) =
         let some : Some other_engine ≡ Some engine = sym up2 ∙ up in
         let same : other_engine ≡ engine = cc in
-        let N : EngineRun → Type 0 = λ x. TellsNothing (x.reader ++ bytes) in
-        absurd (subst N same nothing (length engine.reader + used) (Ok reply) ends.inside ends.told)
+        let N : EngineRun → Type 0 = λ x. GivesNoAnswer (x.reader ++ bytes) in
+        absurd (subst N same nothing (length engine.reader + used) (Ok reply) ends.inside ends.is_given)
     by_way (Heard.down up2 fault_is new_is) = let no : None ≡ Some engine = sym up2 ∙ up in absurd (cc)
     by_way (Heard.over v e fault_is new_is) = let no : None ≡ Some v = sym none ∙ e in absurd (cc)
 

@@ -30,16 +30,16 @@ no_id : (x : Option ℕ) (id : ℕ) → has_id x id ≡ false → x ≢ Some id
 no_id None id e = λ is. cc
 no_id (Some n) id e = λ is. let same : n ≡ id = cc in grind (arith, nat_tests)
 
-none_told : (o : Outcome) (shown : SideFault) → ((f : SideFault) → o ≡ Down f → ⊥) → Some shown ≡ fault_of o → ⊥
-none_told (Down f) shown no_down told = no_down f refl
-none_told Unfit shown no_down told = cc
-none_told (Forfeits cause) shown no_down told = cc
-none_told Confirms shown no_down told = cc
-none_told Resigns shown no_down told = cc
-none_told (Moves v) shown no_down told = cc
-none_told Refuses shown no_down told = cc
-none_told TakesBack shown no_down told = cc
-none_told Keeps shown no_down told = cc
+none_given : (o : Outcome) (shown : SideFault) → ((f : SideFault) → o ≡ Down f → ⊥) → Some shown ≡ fault_of o → ⊥
+none_given (Down f) shown no_down is_given = no_down f refl
+none_given Unfit shown no_down is_given = cc
+none_given (Forfeits cause) shown no_down is_given = cc
+none_given Confirms shown no_down is_given = cc
+none_given Resigns shown no_down is_given = cc
+none_given (Moves v) shown no_down is_given = cc
+none_given Refuses shown no_down is_given = cc
+none_given TakesBack shown no_down is_given = cc
+none_given Keeps shown no_down is_given = cc
 
 pub faults_have_causes : (c new : Controller) (s : Colour) (bytes : List ℕ) (used : ℕ) (shown : SideFault)
     → Hears c s bytes used (Some shown) new
@@ -51,9 +51,9 @@ faults_have_causes c new s bytes used shown hears = by_way (heard c s bytes used
     up_so engine up why =
         subst (λ (u : Option EngineRun). MatchOption u ⊥ (λ x. ShowsFault x bytes used shown)) (sym up) why
 
-    by_reader : (engine : EngineRun) (told : ReplyFault)
-        → IsFirst (engine.reader ++ bytes) (length engine.reader + used) (Err told)
-        → ShowsFault engine bytes used (side_fault told)
+    by_reader : (engine : EngineRun) (is_given : ReplyFault)
+        → IsFirst (engine.reader ++ bytes) (length engine.reader + used) (Err is_given)
+        → ShowsFault engine bytes used (side_fault is_given)
     by_reader engine reply_fault.NoStatus first = first
     by_reader engine reply_fault.Overlong first = first
 
@@ -67,10 +67,10 @@ faults_have_causes c new s bytes used shown hears = by_way (heard c s bytes used
       where
         by_id : (same : Bool) → has_id reply.id entry.id ≡ same → ShowsFault engine bytes used shown
         by_id true same =
-            absurd (none_told (outcome_of c.game s entry.command reply) shown (never c.game s entry.command reply)
+            absurd (none_given (outcome_of c.game s entry.command reply) shown (never c.game s entry.command reply)
             (rw same at e))
         by_id false same =
-            let told : Some shown ≡ Some WrongId = rw same at e in
+            let is_given : Some shown ≡ Some WrongId = rw same at e in
             let is_wrong : WrongId ≡ shown = cc in
             subst (ShowsFault engine bytes used) is_wrong
             (reply, entry, later, ends, is, no_id reply.id entry.id same)
@@ -79,9 +79,9 @@ faults_have_causes c new s bytes used shown hears = by_way (heard c s bytes used
         → MatchOption (side_of c.sides s).up ⊥ (λ engine. ShowsFault engine bytes used shown)
     by_way (Heard.replied engine reply none up ends fault_is new_is) =
         up_so engine up (by_oldest engine reply ends engine.unanswered refl fault_is)
-    by_way (Heard.faulted engine told none up first fault_is new_is) =
-        let same : side_fault told ≡ shown = cc in
-        up_so engine up (subst (ShowsFault engine bytes used) same (by_reader engine told first))
+    by_way (Heard.faulted engine is_given none up first fault_is new_is) =
+        let same : side_fault is_given ≡ shown = cc in
+        up_so engine up (subst (ShowsFault engine bytes used) same (by_reader engine is_given first))
     by_way (Heard.quiet engine kept none up nothing fault_is new_is) = absurd (cc)
     by_way (Heard.down up fault_is new_is) = absurd (cc)
     by_way (Heard.over v e fault_is new_is) = absurd (cc)

@@ -12,7 +12,7 @@ use Rattle.gtp_wire.specs.declared.commands.Command.{Command}
 use Rattle.gtp_wire.specs.declared.commands.Command.TheVariants as command
 use Rattle.gtp_wire.specs.declared.replies.Reply.{Reply}
 use Rattle.gtp_match.specs.ReplyTable.{outcome_of, script_outcome, play_outcome, undo_outcome, choice_outcome}
-use Rattle.gtp_match.specs.ReplyWords.{choice_of_text}
+use Rattle.gtp_wire.specs.ReplyWords.{choice_of_text}
 use Rattle.gtp_match.specs.declared.reply_table.Outcome.TheVariants.{Down, Forfeits, Moves}
 use Rattle.gtp_match.specs.declared.verdicts.ForfeitCause.TheVariants.{NoMove, IllegalMove}
 use Rattle.gtp_match.specs.declared.verdicts.SideFault.{SideFault}

@@ -1,7 +1,7 @@
 -- Other points than the handicap's are unfit.
 use Rattle.std.proofs.Common.{◌≡◌, ℕ, List, ◌∷◌, Option, Some, None, Bool, true, false, ◌&&◌, refl, ◌∙◌, ap, subst}
 use Rattle.std.specs.Prelude.{IfSome}
-use Rattle.go_base.proofs.HandicapLemmas.{handicap_sound}
+use Rattle.go_base.proofs.board_points.HandicapPoints.{handicap_sound}
 use Rattle.go_base.specs.Handicap.{handicap_points}
 use Rattle.go_base.specs.declared.colours.Colour.{Colour}
 use Rattle.gtp_wire.specs.Words.{reply_words}
@@ -23,7 +23,7 @@ use Rattle.gtp_match.specs.declared.verdicts.Verdict.TheVariants.{Unfit}
 use Rattle.gtp_match.specs.private.Conditions.{MayBeAnswered}
 use Rattle.gtp_match.proofs.replies.Counting.{heard_answer}
 use Rattle.gtp_match.proofs.soundness.Heard.{oldest_fits}
-use Rattle.gtp_match.proofs.texts.Points.{named_once}
+use Rattle.gtp_wire.proofs.texts.Points.{named_once}
 use Rattle.gtp_match.proofs.hearing.Changes.{up_in, up_there}
 use Rattle.gtp_match.proofs.soundness.Calls.{my_engine}
 

@@ -11,7 +11,7 @@ use Rattle.go_board.specs.decisions.Game.{legal?}
 use Rattle.gtp_wire.specs.declared.commands.Command.{Command}
 use Rattle.gtp_wire.specs.declared.commands.Command.TheVariants as command
 use Rattle.gtp_wire.specs.declared.replies.Reply.{Reply}
-use Rattle.go_base.proofs.General.{AllByRecursion-append}
+use Rattle.go_base.proofs.general.Lists.{AllByRecursion-append}
 use Rattle.gtp_match.specs.declared.sides.EngineRun.{EngineRun}
 use Rattle.gtp_match.specs.declared.reply_table.Outcome.{Outcome}
 use Rattle.gtp_match.specs.declared.reply_table.Outcome.TheVariants.{Down, Unfit, Forfeits, Confirms, Resigns, Moves}
@@ -24,7 +24,7 @@ use Rattle.go_base.specs.declared.choices.Choice.{Choice}
 use Rattle.go_base.specs.declared.choices.Choice.TheVariants as choice
 use Rattle.gtp_match.specs.ReplyTable.{outcome, outcome_of, script_outcome, play_outcome, undo_outcome}
 use Rattle.gtp_match.specs.ReplyTable.{choice_outcome, has_id}
-use Rattle.gtp_match.specs.ReplyWords.{choice_of_text}
+use Rattle.gtp_wire.specs.ReplyWords.{choice_of_text}
 use Rattle.gtp_match.specs.Script.{script, handicap_commands}
 use Rattle.gtp_match.specs.Sound.{InScript, IsAsked, AreUndo, HasPlan, IsSetupCommand, IsPlay, IsUndo}
 use Rattle.gtp_match.specs.Unanswered.{oldest}
@@ -100,9 +100,9 @@ planned game pending s engine entry more e (inl plan) =
 planned game pending s engine entry more e (inr (inl asked)) =
     let same : entry ≡ asked.entry = first_is engine.unanswered entry more asked.entry e asked.alone in
     Planned.genmove asked (ap (λ (x : SentCommand). x.command) same ∙ asked.genmove)
-planned game pending s engine entry more e (inr (inr told)) =
-    let same : entry ≡ told.1.entry = first_is engine.unanswered entry more told.1.entry e told.1.alone in
-    Planned.undo told (ap (λ (x : SentCommand). x.command) same ∙ told.1.undo)
+planned game pending s engine entry more e (inr (inr is_given)) =
+    let same : entry ≡ is_given.1.entry = first_is engine.unanswered entry more is_given.1.entry e is_given.1.alone in
+    Planned.undo is_given (ap (λ (x : SentCommand). x.command) same ∙ is_given.1.undo)
 
 -- ---- what its outcomes are
 
@@ -129,8 +129,8 @@ module _ (game : GameRecord) (pending : Option Colour) (s : Colour) (engine : En
   play_fits move false = (move, refl)
 
   undo_fits : IsToldUndo pending s engine → (k : Command) (ok : Bool) → Fits game pending s engine k (undo_outcome ok)
-  undo_fits told k true = told
-  undo_fits told k false = told
+  undo_fits is_given k true = is_given
+  undo_fits is_given k false = is_given
 
   choice_fits : IsAsked game s engine.confirmed engine.unanswered → (k : Command) (x : Option Choice)
       → Fits game pending s engine k (choice_outcome game s x)
@@ -168,9 +168,9 @@ module _ (game : GameRecord) (pending : Option Colour) (s : Colour) (engine : En
   answer_fits k reply (Planned.genmove asked is) =
       subst (λ (x : Command). Fits game pending s engine x (outcome_of game s x reply)) (sym is)
       (genmove_fits asked (command.Genmove s) (choice_of_text reply.text.items) reply.ok)
-  answer_fits k reply (Planned.undo told is) =
+  answer_fits k reply (Planned.undo is_given is) =
       subst (λ (x : Command). Fits game pending s engine x (outcome_of game s x reply)) (sym is)
-      (undo_fits told command.Undo reply.ok)
+      (undo_fits is_given command.Undo reply.ok)
 
 -- ---- the oldest command that is unanswered, and those after it
 

@@ -10,7 +10,7 @@ use Rattle.go_base.specs.Vertex.{vertex_of}
 use Rattle.go_base.specs.Word.{IsWord, is_word}
 use Rattle.go_base.specs.declared.colours.Colour.{Colour}
 use Rattle.go_base.specs.declared.vertices.Vertex.{Vertex}
-use Rattle.go_base.proofs.VertexLemmas.{vertex_of_spelled, spells_vertex_of}
+use Rattle.go_base.proofs.spellings.SpelledVertices.{vertex_of_spelled, spells_vertex_of}
 use Rattle.go_base.specs.Decide.{holds}
 use Rattle.go_board.specs.Game.{GameRecord, IsLegal}
 use Rattle.go_board.specs.decisions.Game.{legal?}
@@ -28,11 +28,11 @@ use Rattle.go_base.specs.declared.choices.Choice.TheVariants.{Resign, Play}
 use Rattle.gtp_match.specs.ReplyTable.{outcome, outcome_of, script_outcome, play_outcome, choice_outcome, is_handicap}
 use Rattle.gtp_match.specs.ReplyTable.{undo_outcome, has_id}
 use Rattle.gtp_wire.specs.Words.{reply_words}
-use Rattle.gtp_match.specs.ReplyWords.{choice_of_words}
+use Rattle.gtp_wire.specs.ReplyWords.{choice_of_words}
 use Rattle.gtp_match.specs.Replying.{IsGenmove, ChoosesVertex, ChoosesMove, ChoosesResign, NamesOtherPoints, IsUnfit}
 use Rattle.gtp_match.specs.Replying.{ChoosesNothing, PlayFails, UndoSucceeds, UndoFails}
 use Rattle.gtp_match.specs.Sound.{IsPlay, IsUndo}
-use Rattle.gtp_match.proofs.texts.Points.{names_them}
+use Rattle.gtp_wire.proofs.texts.Points.{names_them}
 
 -- what a reply to the command has said where this is its outcome
 abbrev pub Reason : GameRecord → Colour → Command → Reply → Outcome → Type 0

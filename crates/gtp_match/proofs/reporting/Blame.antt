@@ -11,7 +11,7 @@ use Rattle.go_base.specs.declared.vertices.Vertex.{Vertex}
 use Rattle.go_board.specs.Area.{score}
 use Rattle.go_board.specs.Game.{GameRecord, IsLegal, with_move}
 use Rattle.go_board.specs.decisions.Game.{finished?, legal?}
-use Rattle.gtp_wire.proofs.ReplyLaws.{one_first}
+use Rattle.gtp_wire.proofs.first_answers.OneAnswer.{one_first}
 use Rattle.gtp_wire.specs.declared.commands.Command.{Command}
 use Rattle.gtp_wire.specs.declared.commands.Command.TheVariants as command
 use Rattle.gtp_wire.specs.declared.replies.Reply.{Reply}
@@ -21,7 +21,7 @@ use Rattle.gtp_match.specs.Losing.{HasLossCause, BreaksRule, CauseFits, loss_of,
 use Rattle.gtp_match.specs.Losing.{nothing_yet}
 use Rattle.gtp_match.specs.ReplyTable.{outcome, outcome_of, genmove_outcome, choice_outcome, script_outcome}
 use Rattle.gtp_match.specs.ReplyTable.{play_outcome, undo_outcome, has_id, after_outcome, fault_of, refused, retaken_at}
-use Rattle.gtp_match.specs.ReplyWords.{choice_of_text}
+use Rattle.gtp_wire.specs.ReplyWords.{choice_of_text}
 use Rattle.gtp_match.specs.Sides.{side_of, heard_reply}
 use Rattle.gtp_match.specs.Taking.{may_retake, has_all}
 use Rattle.gtp_match.specs.Unanswered.{oldest}
@@ -147,20 +147,20 @@ none_lost c new fault none blame (LosesBy.forfeits {loser = s} {cause = cause} b
 none_lost c new fault none blame (LosesBy.is_unfit {loser = s} before given) = (blame before).1 s given
 
 -- nothing is reported, and no side fails
-neither : {A : Type 0} (told : Option A) (c new : Controller) (fault : Option SideFault) → told ≡ None → fault ≡ None
-    → (c.verdict ≡ None → IsNoBlame new.verdict) → IsSome told ↔ LosesBy c new fault
-neither {A} told c new fault nothing none blame = (
+neither : {A : Type 0} (is_given : Option A) (c new : Controller) (fault : Option SideFault) → is_given ≡ None → fault ≡ None
+    → (c.verdict ≡ None → IsNoBlame new.verdict) → IsSome is_given ↔ LosesBy c new fault
+neither {A} is_given c new fault nothing none blame = (
   (λ some. let no : IsSome {T = A} None = subst (λ (o : Option A). IsSome o) nothing some in absurd (cc)),
   (λ lost. absurd (none_lost c new fault none blame lost)),
 )
 
 -- something is reported, and a side fails
-both : {A : Type 0} (told : Option A) (c new : Controller) (fault : Option SideFault) → IsSome told
-    → LosesBy c new fault → IsSome told ↔ LosesBy c new fault
-both told c new fault some lost = ((λ x. lost), (λ x. some))
+both : {A : Type 0} (is_given : Option A) (c new : Controller) (fault : Option SideFault) → IsSome is_given
+    → LosesBy c new fault → IsSome is_given ↔ LosesBy c new fault
+both is_given c new fault some lost = ((λ x. lost), (λ x. some))
 
-is_told : {A : Type 0} (told : Option A) (x : A) → told ≡ Some x → IsSome told
-is_told {A} told x e = subst (λ (o : Option A). IsSome o) (sym e) refl
+is_reported : {A : Type 0} (is_given : Option A) (x : A) → is_given ≡ Some x → IsSome is_given
+is_reported {A} is_given x e = subst (λ (o : Option A). IsSome o) (sym e) refl
 
 -- ---- a reply
 
@@ -172,7 +172,7 @@ refused_is : (c : Controller) (side : Colour) (engine : EngineRun) (cause : Opti
     → c.verdict ≡ None → cause ≡ cond may None (Some RefusesPlay)
     → IsSome cause ↔ LosesBy c (refused c side (heard_reply engine) may) None
 refused_is c side engine cause false none e =
-    both cause c _ None (is_told cause RefusesPlay e) (LosesBy.forfeits none refl)
+    both cause c _ None (is_reported cause RefusesPlay e) (LosesBy.forfeits none refl)
 refused_is c side engine cause true none e = by_held (has_all c.game (side_of c.sides (other side)).up)
   where
     stays : IsNoBlame c.verdict
@@ -186,15 +186,15 @@ cause_is_loss : (c : Controller) (side : Colour) (engine : EngineRun) (reply : R
     (cause : Option LossCause) → c.verdict ≡ None → outcome c.game side (oldest engine.unanswered) reply ≡ o
     → HasLossCause c side engine reply o cause → CauseIsLoss c side engine o cause
 cause_is_loss c side engine reply (Down fault) cause none e is =
-    both cause c _ (Some fault) (is_told cause _ is) (LosesBy.shows refl)
+    both cause c _ (Some fault) (is_reported cause _ is) (LosesBy.shows refl)
 cause_is_loss c side engine reply Unfit cause none e is =
-    both cause c _ None (is_told cause _ is) (LosesBy.is_unfit none refl)
+    both cause c _ None (is_reported cause _ is) (LosesBy.is_unfit none refl)
 cause_is_loss c side engine reply (Forfeits RefusedPlay) cause none e is =
-    both cause c _ None (is_told cause _ is) (LosesBy.forfeits none refl)
+    both cause c _ None (is_reported cause _ is) (LosesBy.forfeits none refl)
 cause_is_loss c side engine reply (Forfeits NoMove) cause none e is =
-    both cause c _ None (is_told cause _ is) (LosesBy.forfeits none refl)
+    both cause c _ None (is_reported cause _ is) (LosesBy.forfeits none refl)
 cause_is_loss c side engine reply (Forfeits NoVertex) cause none e is =
-    both cause c _ None (is_told cause _ is) (LosesBy.forfeits none refl)
+    both cause c _ None (is_reported cause _ is) (LosesBy.forfeits none refl)
 cause_is_loss c side engine reply (Forfeits IllegalMove) cause none e is =
     both cause c _ None
     (rule_broken c.game side (choice_of_text reply.text.items) cause
@@ -211,7 +211,7 @@ cause_is_loss c side engine reply Refuses cause none e is =
 cause_is_loss c side engine reply TakesBack cause none e is =
     neither cause c _ None is refl (λ x. subst IsNoBlame (sym none) no_verdict)
 cause_is_loss c side engine reply Keeps cause none e is =
-    both cause c _ None (is_told cause _ is) (LosesBy.forfeits none refl)
+    both cause c _ None (is_reported cause _ is) (LosesBy.forfeits none refl)
 
 -- ---- the cause of a reply fits what it leaves
 
@@ -262,21 +262,21 @@ cause_fits c side engine reply Keeps cause is = fits_one (Fits c side engine Kee
 -- ---- an engine that is up
 
 -- a cause is reported where there is one
-told_with : (engine : EngineRun) (text : List ℕ) (cause : Option LossCause) (X : Type 0) → IsSome cause ↔ X
+given_with : (engine : EngineRun) (text : List ℕ) (cause : Option LossCause) (X : Type 0) → IsSome cause ↔ X
     → IsSome (option_map (loss_of engine text) cause) ↔ X
-told_with engine text None X h = h
-told_with engine text (Some x) X h = h
+given_with engine text None X h = h
+given_with engine text (Some x) X h = h
 
 fits_with : (engine : EngineRun) (text : List ℕ) (cause : Option LossCause) (P : LossCause → Type 0)
     → IfSome cause P → IfSome (option_map (loss_of engine text) cause) (λ l. P l.cause)
 fits_with engine text None P fits = tt
 fits_with engine text (Some x) P fits = fits
 
-pub up_told : (c new : Controller) (side : Colour) (engine : EngineRun) (bytes : List ℕ) (used : ℕ)
+pub up_given : (c new : Controller) (side : Colour) (engine : EngineRun) (bytes : List ℕ) (used : ℕ)
     (fault : Option SideFault) (loss : Option Loss) → c.verdict ≡ None
     → HearsUp KeepsAll c side engine bytes used fault new → LosesUp c side engine bytes loss
     → (IsSome loss ↔ LosesBy c new fault) × IfSome loss (λ l. CauseFits new side fault l.cause)
-up_told c new side engine bytes used fault loss none (HearsUp.replied {value = x} p)
+up_given c new side engine bytes used fault loss none (HearsUp.replied {value = x} p)
     (by_reply {count = n} {value = y} cause q has) =
     let e = one_first (engine.reader ++ bytes) (length engine.reader + used) n (Ok x) (Ok y) p q in
     let same : y ≡ x = cc in
@@ -286,29 +286,29 @@ up_told c new side engine bytes used fault loss none (HearsUp.replied {value = x
     subst (λ (r : Reply). HasLossCause c side engine r (outcome c.game side (oldest engine.unanswered) r) cause) same
     has
     in (
-      told_with engine text cause (LosesBy c new fault) (cause_is_loss c side engine x o cause none refl is),
+      given_with engine text cause (LosesBy c new fault) (cause_is_loss c side engine x o cause none refl is),
       fits_with engine text cause (Fits c side engine o) (cause_fits c side engine x o cause is),
     )
-up_told c new side engine bytes used fault loss none (HearsUp.replied {value = x} p)
+up_given c new side engine bytes used fault loss none (HearsUp.replied {value = x} p)
     (by_fault {count = n} {shown = y} q) =
     let e = one_first (engine.reader ++ bytes) (length engine.reader + used) n (Ok x) (Err y) p q in absurd (cc)
-up_told c new side engine bytes used fault loss none (HearsUp.replied {value = x} p) (nothing_yet nothing) =
-    absurd (nothing (length engine.reader + used) (Ok x) p.inside p.told)
-up_told c new side engine bytes used fault loss none (HearsUp.faulted {shown = x} p)
+up_given c new side engine bytes used fault loss none (HearsUp.replied {value = x} p) (nothing_yet nothing) =
+    absurd (nothing (length engine.reader + used) (Ok x) p.inside p.is_given)
+up_given c new side engine bytes used fault loss none (HearsUp.faulted {shown = x} p)
     (by_reply {count = n} {value = y} cause q has) =
     let e = one_first (engine.reader ++ bytes) (length engine.reader + used) n (Err x) (Ok y) p q in absurd (cc)
-up_told c new side engine bytes used fault loss none (HearsUp.faulted {shown = x} p)
+up_given c new side engine bytes used fault loss none (HearsUp.faulted {shown = x} p)
     (by_fault {count = n} {shown = y} q) =
     let e = one_first (engine.reader ++ bytes) (length engine.reader + used) n (Err x) (Err y) p q in
     let same : x ≡ y = cc in
     (both loss c new fault refl (LosesBy.shows refl), ap (λ (f : ReplyFault). Some (side_fault f)) same)
-up_told c new side engine bytes used fault loss none (HearsUp.faulted {shown = x} p) (nothing_yet nothing) =
-    absurd (nothing (length engine.reader + used) (Err x) p.inside p.told)
-up_told c new side engine bytes used fault loss none (HearsUp.nothing_yet nothing is)
+up_given c new side engine bytes used fault loss none (HearsUp.faulted {shown = x} p) (nothing_yet nothing) =
+    absurd (nothing (length engine.reader + used) (Err x) p.inside p.is_given)
+up_given c new side engine bytes used fault loss none (HearsUp.nothing_yet nothing is)
     (by_reply {count = n} {value = y} cause q has) =
-    absurd (nothing n (Ok y) q.inside q.told)
-up_told c new side engine bytes used fault loss none (HearsUp.nothing_yet nothing is)
+    absurd (nothing n (Ok y) q.inside q.is_given)
+up_given c new side engine bytes used fault loss none (HearsUp.nothing_yet nothing is)
     (by_fault {count = n} {shown = y} q) =
-    absurd (nothing n (Err y) q.inside q.told)
-up_told c new side engine bytes used fault loss none (HearsUp.nothing_yet nothing is) (nothing_yet also) =
+    absurd (nothing n (Err y) q.inside q.is_given)
+up_given c new side engine bytes used fault loss none (HearsUp.nothing_yet nothing is) (nothing_yet also) =
     (neither loss c new fault refl refl (λ x. subst IsNoBlame (sym none) no_verdict), tt)

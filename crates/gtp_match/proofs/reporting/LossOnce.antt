@@ -22,7 +22,8 @@ use Rattle.gtp_match.specs.declared.sides.Sides.{Sides}
 use Rattle.gtp_match.specs.declared.verdicts.ForfeitCause.TheVariants as forfeit
 use Rattle.gtp_match.specs.declared.verdicts.Verdict.{Verdict}
 use Rattle.gtp_match.specs.Hearing.{side_fault}
-use Rattle.gtp_match.specs.Losing.{Loses, LosesUp, LosesWhere, by_reply, by_fault, nothing_yet, most_shown}
+use Rattle.gtp_match.specs.Losing.{Loses, LosesUp, LosesWhere, by_reply, by_fault, nothing_yet}
+use Rattle.gtp_wire.specs.Replies.{most_shown}
 use Rattle.gtp_match.specs.private.Feeding.{fed_engine}
 use Rattle.gtp_match.specs.private.Notices.{HasFinding, HasNotice, cause_in, held, held_by, loss_in, loss_owing}
 use Rattle.gtp_match.specs.private.Notices.{noticed}

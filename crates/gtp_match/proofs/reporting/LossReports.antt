@@ -25,15 +25,15 @@ use Rattle.gtp_match.specs.declared.reply_table.Outcome.TheVariants.{Refuses, Ta
 use Rattle.gtp_match.specs.declared.verdicts.SideFault.{SideFault}
 use Rattle.gtp_match.specs.declared.verdicts.Verdict.{Verdict}
 use Rattle.gtp_match.specs.declared.verdicts.Verdict.TheVariants as verdict
-use Rattle.gtp_match.proofs.reporting.Blame.{LosesBy, up_told}
+use Rattle.gtp_match.proofs.reporting.Blame.{LosesBy, up_given}
 use Rattle.gtp_match.proofs.replies.Refusals.{refused_all}
 use Rattle.gtp_match.proofs.hearing.Changes.{up_there, down_there}
 use Rattle.gtp_match.proofs.soundness.Calls.{mine_or_theirs}
 
 -- ---- what is reported, and what isn't
 
-none_told : (A : Type 0) → IsSome {T = A} None → ⊥
-none_told A some = cc
+none_given : (A : Type 0) → IsSome {T = A} None → ⊥
+none_given A some = cc
 
 no_some : {A : Type 0} (o : Option A) → o ≡ None → IsSome o → ⊥
 no_some None none some = cc
@@ -44,17 +44,17 @@ some_or_none None h = absurd (h refl)
 some_or_none (Some x) h = refl
 
 -- a loss that is reported first, or later
-told_first : (a b : Option Loss) → IsSome a → IsSome (first_of a b)
-told_first None b some = absurd (cc)
-told_first (Some x) b some = refl
+given_first : (a b : Option Loss) → IsSome a → IsSome (first_of a b)
+given_first None b some = absurd (cc)
+given_first (Some x) b some = refl
 
-told_later : (a b : Option Loss) → IsSome b → IsSome (first_of a b)
-told_later None b some = some
-told_later (Some x) b some = refl
+given_later : (a b : Option Loss) → IsSome b → IsSome (first_of a b)
+given_later None b some = some
+given_later (Some x) b some = refl
 
-told_by_one : (a b : Option Loss) → IsSome (first_of a b) → IsSome a ⊎ IsSome b
-told_by_one None b some = inr some
-told_by_one (Some x) b some = inl refl
+reported_by_one : (a b : Option Loss) → IsSome (first_of a b) → IsSome a ⊎ IsSome b
+reported_by_one None b some = inr some
+reported_by_one (Some x) b some = inl refl
 
 -- ---- the sides
 
@@ -141,7 +141,7 @@ down_by_fault c new side fault was (Leaves.keeps_up engine none is) = (
 lost_by : (c new : Controller) (side : Colour) (fault : Option SideFault) (loss : Option Loss)
     → IsSome fault ↔ GoesDown c new side → other_stays side c.sides new.sides → IsSome loss ↔ LosesBy c new fault
     → IsSome loss ↔ LosesSide c new
-lost_by c new side fault loss down stays told = ((λ some. to (told.0 some)), (λ lost. told.1 (from lost)))
+lost_by c new side fault loss down stays is_given = ((λ some. to (is_given.0 some)), (λ lost. is_given.1 (from lost)))
   where
     to : LosesBy c new fault → LosesSide c new
     to (LosesBy.shows some) = LosesSide.goes_down side (down.0 some)
@@ -155,7 +155,7 @@ lost_by c new side fault loss down stays told = ((λ some. to (told.0 some)), (�
 
 -- What is reported of a step, and what it leaves: a side that is down stays so, and so does a verdict.
 record Step (side : Colour) (c new : Controller) (fault : Option SideFault) (loss : Option Loss) : Type 0 where
-  told : ReportsLoss side c new fault loss
+  is_given : ReportsLoss side c new fault loss
   stays_down : (side_of c.sides side).up ≡ None → (side_of new.sides side).up ≡ None
   stays_over : (v : Verdict) → c.verdict ≡ Some v → new.verdict ≡ Some v
 
@@ -169,11 +169,11 @@ none_lost c (LosesSide.is_unfit {loser = s} none given) =
 -- where nothing changes
 no_step : (side : Colour) (c : Controller) → Step side c c None None
 no_step side c = record {
-  told = record {
-    exact = ((λ some. absurd (none_told Loss some)), (λ lost. absurd (none_lost c lost)));
+  is_given = record {
+    exact = ((λ some. absurd (none_given Loss some)), (λ lost. absurd (none_lost c lost)));
     cause = tt;
     down = (
-      (λ some. absurd (none_told SideFault some)),
+      (λ some. absurd (none_given SideFault some)),
       (λ gone. absurd (no_some (side_of c.sides side).up gone.1 gone.0)),
     );
     other_stays = refl;
@@ -198,9 +198,9 @@ up_step side c new engine bytes used fault loss none up hears loses =
     let was : IsSome (side_of c.sides side).up = subst (λ (o : Option EngineRun). IsSome o) (sym up) refl in
     let down = down_by_fault c new side fault was leaves in
     let stays = leaves_other c new side fault leaves in
-    let law = up_told c new side engine bytes used fault loss none hears loses in
+    let law = up_given c new side engine bytes used fault loss none hears loses in
     record {
-      told = record {
+      is_given = record {
         exact = lost_by c new side fault loss down stays law.0;
         cause = law.1;
         down = down;
@@ -229,12 +229,12 @@ heard_step side c new bytes used fault loss hears loses =
 two_steps : (side : Colour) (c mid new : Controller) (shown : Option SideFault) (loss later : Option Loss)
     → Step side c mid None loss → Step side mid new shown later → Step side c new shown (first_of loss later)
 two_steps side c mid new shown loss later one more = record {
-  told = record {
-    exact = ((λ some. by_one (told_by_one loss later some)), told_of);
-    cause = cause_of loss later one.told.cause more.told.cause;
+  is_given = record {
+    exact = ((λ some. by_one (reported_by_one loss later some)), said_of);
+    cause = cause_of loss later one.is_given.cause more.is_given.cause;
     down = (
-      (λ some. from_start (more.told.down.0 some)),
-      (λ gone. more.told.down.1 (from_mid gone)),
+      (λ some. from_start (more.is_given.down.0 some)),
+      (λ gone. more.is_given.down.1 (from_mid gone)),
     );
     other_stays = stays;
   };
@@ -243,7 +243,7 @@ two_steps side c mid new shown loss later one more = record {
 }
   where
     stays : other_stays side c.sides new.sides
-    stays = more.told.other_stays ∙ one.told.other_stays
+    stays = more.is_given.other_stays ∙ one.is_given.other_stays
 
     -- a cause that fits a step without a fault is of a verdict, which stays
     fits_later : (x : LossCause) → CauseFits mid side None x → CauseFits new side shown x
@@ -269,7 +269,7 @@ two_steps side c mid new shown loss later one more = record {
 
     from_mid : GoesDown c new side → GoesDown mid new side
     from_mid gone = (
-      some_or_none (side_of mid.sides side).up (λ e. none_told SideFault (one.told.down.1 (gone.0, e))),
+      some_or_none (side_of mid.sides side).up (λ e. none_given SideFault (one.is_given.down.1 (gone.0, e))),
       gone.1,
     )
 
@@ -282,7 +282,7 @@ two_steps side c mid new shown loss later one more = record {
 
     by_first : LosesSide c mid → LosesSide c new
     by_first (LosesSide.goes_down t gone) =
-        absurd (none_told SideFault (one.told.down.1 (goes_this c mid side t one.told.other_stays gone)))
+        absurd (none_given SideFault (one.is_given.down.1 (goes_this c mid side t one.is_given.other_stays gone)))
     by_first (LosesSide.forfeits {loser = s} {cause = why} none given) =
         LosesSide.forfeits none (more.stays_over (verdict.Forfeit s why) given)
     by_first (LosesSide.is_unfit {loser = s} none given) =
@@ -290,31 +290,31 @@ two_steps side c mid new shown loss later one more = record {
 
     by_later : LosesSide mid new → LosesSide c new
     by_later (LosesSide.goes_down t gone) =
-        LosesSide.goes_down side (from_start (goes_this mid new side t more.told.other_stays gone))
+        LosesSide.goes_down side (from_start (goes_this mid new side t more.is_given.other_stays gone))
     by_later (LosesSide.forfeits none given) = LosesSide.forfeits (none_before none) given
     by_later (LosesSide.is_unfit none given) = LosesSide.is_unfit (none_before none) given
 
     by_one : IsSome loss ⊎ IsSome later → LosesSide c new
-    by_one (inl some) = by_first (one.told.exact.0 some)
-    by_one (inr some) = by_later (more.told.exact.0 some)
+    by_one (inl some) = by_first (one.is_given.exact.0 some)
+    by_one (inr some) = by_later (more.is_given.exact.0 some)
 
     -- a verdict that loses a side was given by the step, or by what follows
     given_by_one : (v : Verdict)
         → ((a b : Controller) → a.verdict ≡ None → b.verdict ≡ Some v → LosesSide a b)
         → c.verdict ≡ None → new.verdict ≡ Some v → (o : Option Verdict) → mid.verdict ≡ o
         → IsSome (first_of loss later)
-    given_by_one v loses none given None is = told_later loss later (more.told.exact.1 (loses mid new is given))
+    given_by_one v loses none given None is = given_later loss later (more.is_given.exact.1 (loses mid new is given))
     given_by_one v loses none given (Some w) is =
         let same : Some w ≡ Some v = sym (more.stays_over w is) ∙ given in
-        told_first loss later (one.told.exact.1 (loses c mid none (is ∙ same)))
+        given_first loss later (one.is_given.exact.1 (loses c mid none (is ∙ same)))
 
-    told_of : LosesSide c new → IsSome (first_of loss later)
-    told_of (LosesSide.goes_down t gone) =
-        told_later loss later
-        (more.told.exact.1 (LosesSide.goes_down side (from_mid (goes_this c new side t stays gone))))
-    told_of (LosesSide.forfeits {loser = s} {cause = why} none given) =
+    said_of : LosesSide c new → IsSome (first_of loss later)
+    said_of (LosesSide.goes_down t gone) =
+        given_later loss later
+        (more.is_given.exact.1 (LosesSide.goes_down side (from_mid (goes_this c new side t stays gone))))
+    said_of (LosesSide.forfeits {loser = s} {cause = why} none given) =
         given_by_one (verdict.Forfeit s why) (λ a b x y. LosesSide.forfeits x y) none given mid.verdict refl
-    told_of (LosesSide.is_unfit {loser = s} none given) =
+    said_of (LosesSide.is_unfit {loser = s} none given) =
         given_by_one (verdict.Unfit s) (λ a b x y. LosesSide.is_unfit x y) none given mid.verdict refl
 
 all_steps : (side : Colour) (c new : Controller) (bytes : List ℕ) (fault : Option SideFault) (loss : Option Loss)
@@ -332,8 +332,8 @@ pub once_loss_reported : (c new : Controller) (side : Colour) (bytes : List ℕ)
     (loss : Option Loss) → HearsExactly c side bytes used fault new → Loses c side bytes loss
     → ReportsLoss side c new fault loss
 once_loss_reported c new side bytes used fault loss hears loses =
-    (heard_step side c new bytes used fault loss hears loses).told
+    (heard_step side c new bytes used fault loss hears loses).is_given
 
 pub all_losses_reported : (c new : Controller) (side : Colour) (bytes : List ℕ) (fault : Option SideFault)
     (loss : Option Loss) → HearsReporting side c bytes fault loss new → ReportsLoss side c new fault loss
-all_losses_reported c new side bytes fault loss hears = (all_steps side c new bytes fault loss hears).told
+all_losses_reported c new side bytes fault loss hears = (all_steps side c new bytes fault loss hears).is_given

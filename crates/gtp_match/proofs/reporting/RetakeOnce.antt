@@ -5,14 +5,15 @@ use Rattle.std.specs.Prelude.{IsSome, IfSome, option_map}
 use Rattle.std.specs.Option.{option_or, option_to_list}
 use Rattle.go_base.specs.Colour.{other}
 use Rattle.go_base.specs.declared.colours.Colour.{Colour}
-use Rattle.gtp_wire.proofs.ReplyLaws.{one_first}
+use Rattle.gtp_wire.proofs.first_answers.OneAnswer.{one_first}
 use Rattle.gtp_wire.specs.Commands.{IsWritable}
 use Rattle.gtp_wire.specs.declared.replies.Reply.{Reply}
 use Rattle.gtp_wire.specs.declared.replies.ReplyFault.{ReplyFault}
 use Rattle.gtp_wire.specs.declared.reply_reader.ReplyFed.{ReplyFed}
 use Rattle.gtp_match.specs.Controller.{with_side_up, downed}
 use Rattle.gtp_match.specs.Hearing.{KeepsAll, HearsUp, HearsWhere, HearsExactly}
-use Rattle.gtp_match.specs.Losing.{CanBeShown, most_shown}
+use Rattle.gtp_match.specs.Losing.{CanBeShown}
+use Rattle.gtp_wire.specs.Replies.{most_shown}
 use Rattle.gtp_match.specs.private.Notices.{HasNotice, count_in, held, noticed, retake_in, retake_owing}
 use Rattle.gtp_match.specs.declared.reports.Notice.{Notice}
 use Rattle.gtp_match.specs.declared.reports.Finding.{Finding}
@@ -115,7 +116,7 @@ up_reports c new side engine bytes used fault retake none up (HearsUp.replied {v
     (by_fault {count = n} {shown = y} q) =
     let e = one_first (engine.reader ++ bytes) (length engine.reader + used) n (Ok x) (Err y) p q in absurd (cc)
 up_reports c new side engine bytes used fault retake none up (HearsUp.replied {value = x} p) (nothing_yet nothing) =
-    absurd (nothing (length engine.reader + used) (Ok x) p.inside p.told)
+    absurd (nothing (length engine.reader + used) (Ok x) p.inside p.is_given)
 up_reports c new side engine bytes used fault retake none up (HearsUp.faulted {shown = x} p)
     (by_reply {count = n} {value = y} q) =
     let e = one_first (engine.reader ++ bytes) (length engine.reader + used) n (Err x) (Ok y) p q in absurd (cc)
@@ -125,7 +126,7 @@ up_reports c new side engine bytes used fault retake none up (HearsUp.faulted p)
     Reports.faulted none refl refl
 up_reports c new side engine bytes used fault retake none up (HearsUp.nothing_yet nothing is)
     (by_reply {count = n} {value = y} q) =
-    absurd (nothing n (Ok y) q.inside q.told)
+    absurd (nothing n (Ok y) q.inside q.is_given)
 up_reports c new side engine bytes used fault retake none up (HearsUp.nothing_yet {kept = text} nothing is)
     (by_fault q) =
     Reports.kept_quiet engine text none up refl refl

@@ -93,11 +93,11 @@ refused_play c side engine a (inr (inl asked)) =
     let clash : command.Play a.fits.0 ≡ command.Genmove side =
     sym a.fits.1 ∙ ap (λ (x : SentCommand). x.command) same ∙ asked.genmove in
     absurd (cc)
-refused_play c side engine a (inr (inr told)) =
-    let same : a.entry ≡ told.1.entry =
-    first_is engine.unanswered a.entry a.more told.1.entry a.entries_are told.1.alone in
+refused_play c side engine a (inr (inr is_given)) =
+    let same : a.entry ≡ is_given.1.entry =
+    first_is engine.unanswered a.entry a.more is_given.1.entry a.entries_are is_given.1.alone in
     let clash : command.Play a.fits.0 ≡ command.Undo =
-    sym a.fits.1 ∙ ap (λ (x : SentCommand). x.command) same ∙ told.1.undo in
+    sym a.fits.1 ∙ ap (λ (x : SentCommand). x.command) same ∙ is_given.1.undo in
     absurd (cc)
 
 same_some : {X : Type 0} (x y : X) → Some x ≡ Some y → x ≡ y
@@ -160,28 +160,28 @@ some_of : {X : Type 0} (o : Option X) (x : X) → o ≡ Some x → IsSome o
 some_of {X} o x e = subst (λ (p : Option X). IsSome p) (sym e) refl
 
 -- where the new match is this one
-module _ (c new : Controller) (side : Colour) (retake : Option Retake) (nothing_told : retake ≡ None) where
+module _ (c new : Controller) (side : Colour) (retake : Option Retake) (nothing_given : retake ≡ None) where
   over : (x : Controller) (v : Verdict) → new ≡ x → x.retakes ≡ c.retakes → x.verdict ≡ Some v
       → Once c new side retake
   over x v is same given =
-      Once.no_retake nothing_told (ap (λ (y : Controller). y.retakes) is ∙ same)
+      Once.no_retake nothing_given (ap (λ (y : Controller). y.retakes) is ∙ same)
       (inr (inl (some_of new.verdict v (ap (λ (y : Controller). y.verdict) is ∙ given))))
 
   idles : (x : Controller) (engine : EngineRun) → new ≡ x → x.retakes ≡ c.retakes
       → (side_of x.sides side).up ≡ Some engine → engine.unanswered ≡ [] → Once c new side retake
   idles x engine is same up idle =
-      Once.no_retake nothing_told (ap (λ (y : Controller). y.retakes) is ∙ same)
+      Once.no_retake nothing_given (ap (λ (y : Controller). y.retakes) is ∙ same)
       (inr (inr (idle_there new side engine (ap (up_in side) is ∙ up) idle)))
 
   stays : (x : Controller) → new ≡ x → x.retakes ≡ c.retakes → x.game ≡ c.game → Once c new side retake
   stays x is same game =
-      Once.no_retake nothing_told (ap (λ (y : Controller). y.retakes) is ∙ same)
+      Once.no_retake nothing_given (ap (λ (y : Controller). y.retakes) is ∙ same)
       (inl (ap (λ (y : Controller). y.game) is ∙ game))
 
   goes_down : (x : Controller) → new ≡ x → x.retakes ≡ c.retakes → (side_of x.sides side).up ≡ None
       → Once c new side retake
   goes_down x is same down =
-      Once.no_retake nothing_told (ap (λ (y : Controller). y.retakes) is ∙ same)
+      Once.no_retake nothing_given (ap (λ (y : Controller). y.retakes) is ∙ same)
       (inr (inr (subst (λ (u : Option EngineRun). IsIdle u) (sym (ap (up_in side) is ∙ down)) tt)))
 
 -- a reply that reports no retake

@@ -15,7 +15,7 @@ use Rattle.go_board.specs.Game.{GameRecord, IsGame, IsLegal, first_moves}
 use Rattle.gtp_wire.specs.declared.commands.Command.{Command}
 use Rattle.gtp_wire.specs.declared.commands.Command.TheVariants.{Play, FixedHandicap}
 use Rattle.gtp_wire.specs.Commands.{words_of, IsWritable, IsInLimits}
-use Rattle.go_base.proofs.General.{AllByRecursion-append}
+use Rattle.go_base.proofs.general.Lists.{AllByRecursion-append}
 use Rattle.gtp_match.specs.declared.sides.EngineRun.{EngineRun}
 use Rattle.gtp_match.specs.declared.controller.Controller.{Controller}
 use Rattle.gtp_match.specs.Controller.{next_command, next_text, script_or_genmove, undo_or_else}
@@ -25,7 +25,7 @@ use Rattle.gtp_match.specs.declared.verdicts.Action.TheVariants.{Send}
 use Rattle.gtp_match.specs.Calls.{IsOneLine}
 use Rattle.gtp_match.specs.Next.{next}
 use Rattle.gtp_match.specs.Sides.{side_of}
-use Rattle.gtp_wire.proofs.CommandWords.{command_is_read, command_short}
+use Rattle.gtp_wire.proofs.written.CommandWords.{command_is_read, command_short}
 use Rattle.gtp_match.proofs.soundness.Calls.{my_engine}
 use Rattle.gtp_match.proofs.scripts.Scripts.{at_number}
 

@@ -8,8 +8,8 @@ use Rattle.go_base.specs.declared.colours.Colour.TheVariants.{Black, White}
 use Rattle.go_board.specs.Game.{GameRecord, IsGame, IsFinished, first_moves}
 use Rattle.gtp_wire.specs.declared.commands.Command.{Command}
 use Rattle.gtp_wire.specs.declared.commands.Command.TheVariants as command
-use Rattle.gtp_wire.specs.Replies.{TellsNothing}
-use Rattle.gtp_wire.proofs.ReplyReadingLemmas.{read_nothing}
+use Rattle.gtp_wire.specs.Replies.{GivesNoAnswer}
+use Rattle.gtp_wire.proofs.first_answers.OneByteMore.{read_nothing}
 use Rattle.gtp_match.specs.declared.unanswered.SentCommand.{SentCommand}
 use Rattle.gtp_match.specs.declared.sides.EngineRun.{EngineRun}
 use Rattle.gtp_match.specs.declared.sides.SideState.{SideState}
@@ -253,7 +253,7 @@ goes_on_taking c s state mine theirs h = by_pending c.pending h
           engine = x.engine;
           up = x.up;
           all = x.all;
-          told = x.told;
+          undoing = x.undoing;
           lacks = theirs x.lacks;
           counted = x.counted;
         }))
@@ -269,9 +269,9 @@ pub nothing_pending : (c : Controller) (s : Colour) (engine : EngineRun) (entry 
     → engine.unanswered ≡ entry ∷ more → ¬ IsUndo entry.command → c.pending ≡ None
 nothing_pending c s engine entry more h none up entries_are no_undo = by_pending c.pending refl
   where
-    by_told : (told : List SentCommand) → told ≡ entry ∷ more → (told ≡ []) ⊎ AreUndo told → ⊥
-    by_told told is (inl empty) = let clash : [] ≡ entry ∷ more = sym empty ∙ is in cc
-    by_told told is (inr u) =
+    by_given : (is_given : List SentCommand) → is_given ≡ entry ∷ more → (is_given ≡ []) ⊎ AreUndo is_given → ⊥
+    by_given is_given is (inl empty) = let clash : [] ≡ entry ∷ more = sym empty ∙ is in cc
+    by_given is_given is (inr u) =
         let both : entry ∷ more ≡ u.entry ∷ [] = sym is ∙ u.alone in
         let same : entry ≡ u.entry = cc in
         no_undo (ap (λ (x : SentCommand). x.command) same ∙ u.undo)
@@ -281,7 +281,7 @@ nothing_pending c s engine entry more h none up entries_are no_undo = by_pending
         let x = subst (λ y. TakingBack c.game (all_retakes c) c.sides y) is t in
         let same : Some x.engine ≡ Some engine = sym x.up ∙ up in
         let e : x.engine ≡ engine = cc in
-        by_told x.engine.unanswered (ap (λ (y : EngineRun). y.unanswered) e ∙ entries_are) x.told
+        by_given x.engine.unanswered (ap (λ (y : EngineRun). y.unanswered) e ∙ entries_are) x.undoing
     by_maker m (inr is) t =
         let x = their_take_back c.game (all_retakes c) c.sides s
         (subst (λ y. TakingBack c.game (all_retakes c) c.sides y) is t) in
@@ -299,8 +299,8 @@ no_blame c verdict none = subst (Blames c) (sym none) tt
 
 -- ---- a new match
 
-pub nothing_told : TellsNothing []
-nothing_told = read_nothing.quiet
+pub nothing_given : GivesNoAnswer []
+nothing_given = read_nothing.quiet
 
 pub new_sound : (setup : SetupRecord) → IsSetup setup → IsGame (game_of setup []) → IsSound (new setup)
 new_sound setup is game = record {
@@ -353,7 +353,7 @@ started_sound c s h e =
         started = omega arith;
         engine = record {
           sent = omega arith;
-          quiet = nothing_told;
+          quiet = nothing_given;
           under_way = λ _. record {
             plan = inl (omega arith);
             few_unanswered = omega arith;
@@ -536,12 +536,12 @@ handed_undo c s says h undo =
     let counted : engine.sent + 2 ≤ engine.confirmed + length engine.unanswered + 2 * all_retakes c =
     subst (λ (x : EngineRun). x.sent + 2 ≤ x.confirmed + length x.unanswered + 2 * all_retakes c) e t.counted in
     let entry : SentCommand = record { id = engine.sent + 1; command = command.Undo } in
-    let told : AreUndo (handed command.Undo engine).unanswered =
+    let undo_is_sent : AreUndo (handed command.Undo engine).unanswered =
     record { entry = entry; undo = refl; alone = ap (λ (es : List SentCommand). es ++ entry ∷ []) undo.idle } in
     let next = handed command.Undo engine in
     subst (IsHanded c s engine) (sym command_is) (record {
       way = record {
-        plan = inr (inr (undo.pending, told));
+        plan = inr (inr (undo.pending, undo_is_sent));
         few_unanswered = omega (arith, more, says.room);
         all_sent = omega (arith, more, way.all_sent);
         counted = omega (arith, more, way.counted);
@@ -554,7 +554,7 @@ handed_undo c s says h undo =
             engine = next;
             up = refl;
             all = all;
-            told = inr told;
+            undoing = inr undo_is_sent;
             lacks = t.lacks;
             counted = omega (arith, counted, more);
           }));

@@ -198,7 +198,7 @@ down_sound c s h free =
               engine = x.engine;
               up = x.up;
               all = x.all;
-              told = x.told;
+              undoing = x.undoing;
               lacks = tt;
               counted = x.counted;
             }))

@@ -8,7 +8,7 @@ use Rattle.go_board.specs.Game.{GameRecord, IsGame}
 use Rattle.gtp_wire.specs.declared.commands.Command.{Command}
 use Rattle.gtp_wire.specs.declared.replies.Reply.{Reply}
 use Rattle.gtp_wire.specs.declared.replies.ReplyFault.{ReplyFault}
-use Rattle.gtp_wire.specs.Replies.{TellsNothing, Tells, IsFirst}
+use Rattle.gtp_wire.specs.Replies.{GivesNoAnswer, GivesAnswer, IsFirst}
 use Rattle.gtp_match.specs.declared.controller.Controller.{Controller}
 use Rattle.gtp_match.specs.declared.sides.EngineRun.{EngineRun}
 use Rattle.gtp_match.specs.declared.unanswered.SentCommand.{SentCommand}
@@ -31,34 +31,34 @@ use Rattle.gtp_match.proofs.soundness.Down.{downed_sound}
 
 -- ---- what may be kept for a text that gives no answer gives none
 
-no_first : (text kept : List ℕ) → MayKeep kept text → TellsNothing text → (n : ℕ) (answer : Result Reply ReplyFault)
+no_first : (text kept : List ℕ) → MayKeep kept text → GivesNoAnswer text → (n : ℕ) (answer : Result Reply ReplyFault)
     → IsFirst kept n answer → ⊥
 no_first text kept keep quiet n answer first =
     let F : List ℕ → Type 0 = λ t. IsFirst t n answer in
     let same : IsFirst (text ++ []) n answer = (keep.1 [] n answer).0 (subst F (sym (append-nil kept)) first) in
     let there : IsFirst text n answer = subst F (append-nil text) same in
-    quiet n answer there.inside there.told
+    quiet n answer there.inside there.is_given
 
 -- a place at which a text gives an answer is the first or after one
 none_below : (kept : List ℕ) → ((n : ℕ) (answer : Result Reply ReplyFault) → IsFirst kept n answer → ⊥)
-    → (m n : ℕ) (answer : Result Reply ReplyFault) → n < m → n ≤ length kept → Tells (take n kept) answer → ⊥
-none_below kept none zero n answer below inside told = omega (arith, below)
-none_below kept none (suc m) n answer below inside told =
+    → (m n : ℕ) (answer : Result Reply ReplyFault) → n < m → n ≤ length kept → GivesAnswer (take n kept) answer → ⊥
+none_below kept none zero n answer below inside is_given = omega (arith, below)
+none_below kept none (suc m) n answer below inside is_given =
     none n answer (record {
       inside = inside;
-      told = told;
+      is_given = is_given;
       before = λ k other less t.
           none_below kept none m k other (omega (arith, less, below)) (omega (arith, less, inside)) t;
     })
 
-pub quiet_kept : (text kept : List ℕ) → MayKeep kept text → TellsNothing text → TellsNothing kept
-quiet_kept text kept keep quiet n answer inside told =
-    none_below kept (no_first text kept keep quiet) (n + 1) n answer (omega arith) inside told
+pub quiet_kept : (text kept : List ℕ) → MayKeep kept text → GivesNoAnswer text → GivesNoAnswer kept
+quiet_kept text kept keep quiet n answer inside is_given =
+    none_below kept (no_first text kept keep quiet) (n + 1) n answer (omega arith) inside is_given
 
 -- ---- bytes that are heard
 
 pub quiet_sound : (c : Controller) (s : Colour) (engine : EngineRun) (text kept_text : List ℕ) → IsSound c
-    → c.verdict ≡ None → (side_of c.sides s).up ≡ Some engine → TellsNothing text → MayKeep kept_text text
+    → c.verdict ≡ None → (side_of c.sides s).up ≡ Some engine → GivesNoAnswer text → MayKeep kept_text text
     → IsSound (with_side_up c s (record engine { reader = kept_text }))
 quiet_sound c s engine text kept_text h none up quiet is =
     let mine = my_side c s h in
@@ -108,14 +108,14 @@ quiet_sound c s engine text kept_text h none up quiet is =
         let T : EngineRun → Type 0 = λ x. (x.confirmed ≡ length (script c.game))
         × ((x.unanswered ≡ []) ⊎ AreUndo x.unanswered)
         × (x.sent + 2 ≤ x.confirmed + length x.unanswered + 2 * all_retakes c) in
-        let now : T engine = subst T e (t.all, t.told, t.counted) in
+        let now : T engine = subst T e (t.all, t.undoing, t.counted) in
         record {
           some = t.some;
           made = t.made;
           engine = record engine { reader = kept_text };
           up = refl;
           all = now.0;
-          told = now.1;
+          undoing = now.1;
           lacks = t.lacks;
           counted = now.2;
         }

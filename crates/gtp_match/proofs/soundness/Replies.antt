@@ -15,7 +15,7 @@ use Rattle.go_board.proofs.records.Moves.{IsGame-with_move}
 use Rattle.gtp_wire.specs.declared.commands.Command.{Command}
 use Rattle.gtp_wire.specs.declared.commands.Command.TheVariants as command
 use Rattle.gtp_wire.specs.declared.replies.Reply.{Reply}
-use Rattle.gtp_wire.specs.Replies.{TellsNothing}
+use Rattle.gtp_wire.specs.Replies.{GivesNoAnswer}
 use Rattle.gtp_match.specs.declared.controller.Controller.{Controller}
 use Rattle.gtp_match.specs.declared.sides.EngineRun.{EngineRun}
 use Rattle.gtp_match.specs.declared.sides.SideState.{SideState}
@@ -48,7 +48,7 @@ use Rattle.gtp_match.proofs.scripts.WithoutLast.{turn_after}
 use Rattle.gtp_match.proofs.scripts.WithoutLast.{longer_went_on}
 use Rattle.gtp_match.proofs.scripts.Turns.{other_twice, has_stones, moved_turns}
 use Rattle.gtp_match.proofs.soundness.Calls.{no_blame, my_side, their_side, one_idle, changed, with_verdict, kept}
-use Rattle.gtp_match.proofs.soundness.Calls.{kept_game, nothing_told, my_engine, my_start, idle_plan, idle_way}
+use Rattle.gtp_match.proofs.soundness.Calls.{kept_game, nothing_given, my_engine, my_start, idle_plan, idle_way}
 use Rattle.gtp_match.proofs.soundness.Down.{downed_sound}
 use Rattle.gtp_match.proofs.soundness.Calls.{nothing_taken, taken_at, taken_theirs, nothing_pending}
 use Rattle.gtp_match.proofs.soundness.Down.{went_on_before}
@@ -196,13 +196,13 @@ kept_blames : (c : Controller) (s : Colour) (engine : EngineRun) → IsSound c �
     → Blames (with_verdict c (Some (Forfeit (other s) RefusedPlay)) (with_engine_of s (heard_reply engine) c.sides))
     (Some (Forfeit (other s) RefusedPlay))
 kept_blames c s engine h none a =
-    let told = a.fits in
-    let t = taken_at c s h none told.0 in
+    let is_given = a.fits in
+    let t = taken_at c s h none is_given.0 in
     inr (record {
       turn = t.made;
       some = t.some;
       kept = of_that_engine (OwesAnswer IsUndo) c.sides s (other (other s)) (heard_reply engine) (other_twice s)
-          (owes IsUndo (heard_reply engine) told.1.entry [] told.1.alone told.1.undo);
+          (owes IsUndo (heard_reply engine) is_given.1.entry [] is_given.1.alone is_given.1.undo);
     })
 
 unfit_blames : (c : Controller) (s : Colour) (engine : EngineRun) → Answered c.game c.pending s engine Unfit
@@ -233,7 +233,7 @@ over_sound c s engine next v h up sent_is rest_is idle ends blames =
         started = my_start c s engine h up;
         engine = record {
           sent = omega (arith, sent_is, e.sent);
-          quiet = subst TellsNothing (sym rest_is) nothing_told;
+          quiet = subst GivesNoAnswer (sym rest_is) nothing_given;
           under_way = λ x. absurd (cc);
         };
       };
@@ -264,7 +264,7 @@ confirms_sound c s engine h none up a =
         starts = mine.starts;
         start_left = λ _ x. absurd (cc);
         started = my_start c s engine h up;
-        engine = record { sent = e.sent; quiet = nothing_told; under_way = λ _. way };
+        engine = record { sent = e.sent; quiet = nothing_given; under_way = λ _. way };
       };
       one_asked = inr (other_idle c s engine Confirms h up a);
       taking_back = λ _. nothing_taken c.game (all_retakes c) (with_side s state c.sides) c.pending free;
@@ -305,7 +305,7 @@ moves_sound c s engine v h none up a legal =
         starts = mine.starts;
         start_left = λ _ x. absurd (cc);
         started = my_start c s engine h up;
-        engine = record { sent = e.sent; quiet = nothing_told; under_way = λ _. way };
+        engine = record { sent = e.sent; quiet = nothing_given; under_way = λ _. way };
       };
       theirs = moved_side (side_of c.sides (other s)) (their_side c s h) (other_idle c s engine (Moves v) h up a);
       one_asked = inl (ap (drop 1) asked.alone);
@@ -401,7 +401,7 @@ refusing_engine c new s engine h none up idle one setup_is within more =
     let way = e.under_way none in
     record {
       sent = omega (arith, e.sent, ap (λ (p : SetupRecord). p.max_moves) setup_is);
-      quiet = nothing_told;
+      quiet = nothing_given;
       under_way = λ _. idle_way new.game new.pending (all_retakes new) s (answered (heard_reply engine)) idle within
           (omega (arith, way.all_sent)) (omega (arith, way.counted, one, more));
     }
@@ -461,7 +461,7 @@ held_sound c s engine h none up a may maker maker_up all =
         engine = maker;
         up = maker_up;
         all = all;
-        told = inl maker_idle;
+        undoing = inl maker_idle;
         lacks = record { idle = idle; lacks = may.last };
         counted = omega (arith, their_way.counted, ap length maker_idle, more);
       });
@@ -528,15 +528,15 @@ shortened_sound : (c : Controller) (s : Colour) (engine : EngineRun) → IsSound
 shortened_sound c s engine h none up a =
     let mine = my_side c s h in
     let e = my_engine c s engine h up in
-    let told = a.fits in
-    let t = taken_at c s h none told.0 in
+    let is_given = a.fits in
+    let t = taken_at c s h none is_given.0 in
     let same : Some t.engine ≡ Some engine = sym t.up ∙ up in
     let is : t.engine ≡ engine = cc in
     let all : engine.confirmed ≡ length (script c.game) = sym (ap (λ (x : EngineRun). x.confirmed) is) ∙ t.all in
     let counted : engine.sent + 2 ≤ engine.confirmed + length engine.unanswered + 2 * all_retakes c =
     subst (λ (x : EngineRun). x.sent + 2 ≤ x.confirmed + length x.unanswered + 2 * all_retakes c) is t.counted in
-    let idle : drop 1 engine.unanswered ≡ [] = ap (drop 1) told.1.alone in
-    let one : length engine.unanswered ≡ 1 = ap length told.1.alone in
+    let idle : drop 1 engine.unanswered ≡ [] = ap (drop 1) is_given.1.alone in
+    let one : length engine.unanswered ≡ 1 = ap length is_given.1.alone in
     let next = taken_back (heard_reply engine) in
     let state = with_engine next (side_of c.sides s) in
     let sides = with_side s state c.sides in
@@ -557,7 +557,7 @@ shortened_sound c s engine h none up a =
         started = my_start c s engine h up;
         engine = record {
           sent = e.sent;
-          quiet = nothing_told;
+          quiet = nothing_given;
           under_way = λ _. idle_way (without_last c.game) None (all_retakes c) s next idle (omega (arith, all, shorter))
               (omega (arith, (e.under_way none).all_sent)) (omega (arith, counted, one));
         };

@@ -12,7 +12,8 @@ use Rattle.gtp_match.specs.declared.reports.Finding.{Finding}
 use Rattle.gtp_match.specs.declared.reports.Finding.TheVariants.{Retakes, Fails}
 use Rattle.gtp_match.specs.declared.reports.Retake.{Retake}
 use Rattle.gtp_match.specs.declared.sides.EngineRun.{EngineRun}
-use Rattle.gtp_match.specs.Losing.{most_shown, owed_of, HasLossCause}
+use Rattle.gtp_match.specs.Losing.{owed_of, HasLossCause}
+use Rattle.gtp_wire.specs.Replies.{most_shown}
 use Rattle.gtp_match.specs.Retaking.{retake_by}
 use Rattle.gtp_match.specs.Sides.{side_of}
 use Rattle.gtp_match.specs.Unanswered.{oldest}

@@ -58,10 +58,10 @@ pub record Leaves (given : Answer) (id : Option ℕ) (game : GameRecord) (reply 
 
 -- The policy was asked for this colour, or not at all, and what it chose is answered by this.
 abbrev pub Executes : {P : Type 0} → May P → GameRecord → P → Option Colour → (Choice → Answer) → P → Answer → Type 0
-Executes may game policy asked given policy_now told =
+Executes may game policy asked given policy_now outcome =
     MatchOption asked
-    ((policy_now ≡ policy) × ((choice : Choice) → told ≡ given choice))
-    (λ colour. (choice : Choice) × (may policy game colour choice policy_now × (told ≡ given choice)))
+    ((policy_now ≡ policy) × ((choice : Choice) → outcome ≡ given choice))
+    (λ colour. (choice : Choice) × (may policy game colour choice policy_now × (outcome ≡ given choice)))
 
 -- what is answered to a move that the game refuses
 abbrev pub refusal_text : PlayFault → List ℕ

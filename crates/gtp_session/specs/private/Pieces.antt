@@ -1,8 +1,8 @@
 -- What one read gives to the loop over the reads, and what the writer was after the answers to it.
 use Rattle.std.specs.Prelude.{◌≡◌, ℕ, ◌<◌, ◌≤◌, false, List, [], length, take, Option, Some, None, Result, Ok, Err}
 use Rattle.std.specs.Io.KnownBytes.{Consumes, Keeps, IsAtEnd}
-use Rattle.gtp_session.specs.Counts.{raised}
-use Rattle.gtp_session.specs.Streams.{Source, Sink}
+use Rattle.byte_streams.specs.Counts.{raised}
+use Rattle.byte_streams.specs.Streams.{Source, Sink}
 
 -- the reader gave these bytes, at least one, and put them at the front of the buffer
 pub record GivesBytes (gives gives_now : Option (List ℕ)) (count : ℕ) (buffer : List ℕ) : Type 0 where

@@ -7,11 +7,11 @@ use Rattle.std.proofs.lemmas.List.{drop-drop}
 use Rattle.go_base.specs.declared.colours.Colour.{Colour}
 use Rattle.go_base.specs.declared.colours.Colour.TheVariants.{Black, White}
 use Rattle.go_board.specs.Game.{GameRecord}
-use Rattle.gtp_session.proofs.Policies.{AllowsLawful}
+use Rattle.gtp_session.proofs.choosing.Policies.{AllowsLawful}
 use Rattle.gtp_session.specs.Policy.{May}
 use Rattle.gtp_session.specs.Engine.{Engine, Engages, output_of}
-use Rattle.gtp_session.proofs.EngineLemmas.{Replies-then}
-use Rattle.gtp_session.proofs.ConversationLemmas.{output_of-append}
+use Rattle.gtp_session.proofs.engines.Replying.{Replies-then}
+use Rattle.gtp_session.proofs.serving.Conversation.{output_of-append}
 use Rattle.gtp_match.specs.declared.sides.EngineRun.{EngineRun}
 use Rattle.gtp_match.specs.declared.verdicts.Action.{Action}
 use Rattle.gtp_match.specs.declared.verdicts.Action.TheVariants.{Start, Send, Wait, Done}

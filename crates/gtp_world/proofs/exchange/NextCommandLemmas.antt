@@ -16,7 +16,7 @@ use Rattle.gtp_wire.specs.declared.replies.Reply.{Reply}
 use Rattle.gtp_session.specs.CommandAnswers.{after_command}
 use Rattle.gtp_session.specs.Sent.{MayBeSent}
 use Rattle.gtp_session.specs.Engine.{fresh_game_under}
-use Rattle.gtp_session.proofs.CommandLemmas.{well_may_be_sent, vertex_of_legal}
+use Rattle.gtp_session.proofs.engines.Sent.{well_may_be_sent, vertex_of_legal}
 use Rattle.gtp_match.specs.declared.unanswered.SentCommand.{SentCommand}
 use Rattle.gtp_match.specs.declared.sides.EngineRun.{EngineRun}
 use Rattle.gtp_match.specs.declared.controller.Controller.{Controller}

@@ -18,8 +18,8 @@ use Rattle.gtp_wire.specs.declared.commands.Command.{Command}
 use Rattle.gtp_wire.specs.declared.commands.Command.TheVariants.{Genmove, Play, Undo}
 use Rattle.gtp_wire.specs.declared.replies.Reply.{Reply}
 use Rattle.gtp_wire.specs.declared.replies.ReplyFault.{ReplyFault}
-use Rattle.gtp_wire.specs.Replies.{IsFirst, TellsNothing}
-use Rattle.gtp_wire.proofs.ReplyLaws.{one_first}
+use Rattle.gtp_wire.specs.Replies.{IsFirst, GivesNoAnswer}
+use Rattle.gtp_wire.proofs.first_answers.OneAnswer.{one_first}
 use Rattle.gtp_session.specs.Policy.{IsLawful}
 use Rattle.go_base.specs.declared.choices.Choice.{Choice}
 use Rattle.go_base.specs.declared.choices.Choice.TheVariants as choice
@@ -52,7 +52,7 @@ use Rattle.gtp_match.proofs.soundness.Calls.{changed, my_engine, their_side, one
 use Rattle.gtp_match.proofs.scripts.WithoutLast.{shorter_length, script_shorter}
 use Rattle.gtp_match.proofs.soundness.Replies.{reply_sound}
 use Rattle.gtp_match.proofs.soundness.Heard.{quiet_sound}
-use Rattle.gtp_session.proofs.CommandLemmas.{vertex_of_legal}
+use Rattle.gtp_session.proofs.engines.Sent.{vertex_of_legal}
 use Rattle.gtp_world.proofs.exchange.ReplyLemmas.{outcome_of_choice}
 use Rattle.gtp_world.proofs.exchange.ScriptLemmas.{GoesWellOn, after_one_more, replayed_all, replayed_shorter}
 use Rattle.gtp_world.proofs.exchange.ScriptLemmas.{EndsWith, Place, place}
@@ -580,7 +580,7 @@ module _ (rules : Rules) (c : Controller) (s : Colour) (u : EngineRun) (e : Opti
 -- bytes that are no whole reply yet
 part_keeps : (game : GameRecord) (u : EngineRun) (e : Option EngineBody) (te x y kept : List ℕ)
     → (h : IsJoinedInPlay game u (record { engine = e; to_engine = te; to_controller = x ++ y }))
-    → TellsNothing (h.begun ++ x) → MayKeep kept (u.reader ++ x)
+    → GivesNoAnswer (h.begun ++ x) → MayKeep kept (u.reader ++ x)
     → IsJoinedInPlay game (record u { reader = kept }) (record { engine = e; to_engine = te; to_controller = y })
 part_keeps game u e te x y kept h quiet keeps = record {
   few = h.few;
@@ -645,7 +645,7 @@ module _ (rules : Rules) (c : Controller) (s : Colour) (u : EngineRun) (e : Opti
   as_reader place answer first = (mine.kept.1 (b ∷ x) place answer).1 first
 
   -- no reply ends within the bytes
-  quiet_keeps : (kept : List ℕ) → TellsNothing (mine.begun ++ b ∷ x) → MayKeep kept (u.reader ++ b ∷ x)
+  quiet_keeps : (kept : List ℕ) → GivesNoAnswer (mine.begun ++ b ∷ x) → MayKeep kept (u.reader ++ b ∷ x)
       → Keeps (length (b ∷ x)) None (with_side_up c s (record u { reader = kept }))
   quiet_keeps kept quiet keeps =
       let next : EngineRun = record u { reader = kept } in
@@ -708,7 +708,7 @@ module _ (rules : Rules) (c : Controller) (s : Colour) (u : EngineRun) (e : Opti
       mine.begun_quiet mine.arriving) h
     where
       by_bytes : (used : ℕ) (fault : Option SideFault) (c2 : Controller)
-          → TellsNothing (mine.begun ++ b ∷ x) ⊎ Brings mine.begun (b ∷ x) y mine.cut mine.replies
+          → GivesNoAnswer (mine.begun ++ b ∷ x) ⊎ Brings mine.begun (b ∷ x) y mine.cut mine.replies
           → HearsUp MayKeep c s u (b ∷ x) used fault c2 → Keeps used fault c2
       by_bytes used fault c2 (inl quiet) (HearsUp.nothing_yet {kept = kept} tells keeps) = quiet_keeps kept quiet keeps
       by_bytes used fault c2 (inl quiet) (HearsUp.replied {value = value} first) =

@@ -50,10 +50,10 @@ use Rattle.gtp_match.specs.Sound.{IsSoundEngine, IsIdle, IsSound}
 use Rattle.gtp_match.specs.Sound.{all_retakes}
 use Rattle.gtp_match.specs.Unanswered.{most_unanswered}
 use Rattle.gtp_match.proofs.scripts.Scripts.{script_longer}
-use Rattle.gtp_match.proofs.soundness.Calls.{idle_plan, nothing_told}
+use Rattle.gtp_match.proofs.soundness.Calls.{idle_plan, nothing_given}
 use Rattle.gtp_match.proofs.scripts.WithoutLast.{turn_after}
 use Rattle.gtp_match.proofs.scripts.Turns.{has_stones}
-use Rattle.gtp_session.proofs.CommandLemmas.{well_answer, genmove_answer, genmove_asks, play_refused, undo_answer}
+use Rattle.gtp_session.proofs.engines.Sent.{well_answer, genmove_answer, genmove_asks, play_refused, undo_answer}
 use Rattle.gtp_world.proofs.exchange.AnswerLemmas.{succeeds_with}
 use Rattle.gtp_world.proofs.exchange.ReplyLemmas.{well_heard, choice_heard, outcome_of_choice}
 use Rattle.gtp_world.proofs.exchange.ScriptLemmas.{GoesWellOn, replayed_longer, replayed_shorter, with_moves}
@@ -111,7 +111,7 @@ next_live game n sent us more waiting ahead e te tc cut few owes fit may arrivin
   may = may;
   begun = [];
   cut = cut;
-  begun_quiet = nothing_told;
+  begun_quiet = nothing_given;
   kept = (refl, alike []);
   arriving = arriving;
   runs = runs;

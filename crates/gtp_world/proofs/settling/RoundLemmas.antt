@@ -9,16 +9,16 @@ use Rattle.go_base.specs.Handicap.{handicap_points}
 use Rattle.go_base.specs.Point.{IsOn}
 use Rattle.go_base.specs.declared.colours.Colour.{Colour}
 use Rattle.go_base.specs.declared.colours.Colour.TheVariants.{Black, White}
-use Rattle.go_base.proofs.HandicapLemmas.{handicap_sound}
+use Rattle.go_base.proofs.board_points.HandicapPoints.{handicap_sound}
 use Rattle.go_board.specs.Game.{GameRecord, IsGame}
 use Rattle.gtp_wire.specs.declared.commands.Command.{Command}
 use Rattle.gtp_wire.specs.declared.commands.Command.TheVariants.{Boardsize, Komi, ClearBoard, FixedHandicap, Play}
 use Rattle.gtp_wire.specs.declared.commands.Command.TheVariants.{Genmove, Undo, Quit}
 use Rattle.gtp_wire.specs.declared.replies.Reply.{Reply}
 use Rattle.gtp_wire.specs.Replies.{IsReply, IsFirst}
-use Rattle.gtp_wire.proofs.ReplyLaws.{one_first, reply_is_first}
-use Rattle.gtp_session.proofs.TextLemmas.{short-vertices, few_handicap_points}
-use Rattle.gtp_session.proofs.Policies.{AllowsLawful}
+use Rattle.gtp_wire.proofs.first_answers.OneAnswer.{one_first, reply_is_first}
+use Rattle.gtp_session.proofs.reply_texts.NeatTexts.{short-vertices, few_handicap_points}
+use Rattle.gtp_session.proofs.choosing.Policies.{AllowsLawful}
 use Rattle.gtp_session.specs.Policy.{May}
 use Rattle.gtp_session.specs.Engine.{Engine, fresh_game_under}
 use Rattle.gtp_match.specs.declared.unanswered.SentCommand.{SentCommand}
@@ -41,7 +41,7 @@ use Rattle.gtp_match.specs.Sides.{side_of, with_side, with_engine, handed as han
 use Rattle.gtp_world.specs.Lane.{Lane, written_lane, EngineReads, LaneReads}
 use Rattle.gtp_world.specs.World.{lane_with_next, Sends, lane_where_up, HearsFront, HearsWhereUp, SideHears}
 use Rattle.gtp_match.specs.Controller.{next_text}
-use Rattle.gtp_session.proofs.CommandLemmas.{well_answer}
+use Rattle.gtp_session.proofs.engines.Sent.{well_answer}
 use Rattle.gtp_world.proofs.exchange.AnswerLemmas.{answered_is_reply, succeeds_with}
 use Rattle.gtp_world.proofs.exchange.ScriptLemmas.{GoesWellOn, script_well, well_at}
 use Rattle.gtp_world.proofs.joined.AgreementLemmas.{reply_length}
@@ -163,10 +163,10 @@ module _ (rules : Rules) (c : Controller) (s : Colour) (u : EngineRun) (o : Sent
 
   up_confirms : (used : ℕ) (fault : Option SideFault) (c2 : Controller) → HearsUp MayKeep c s u tc used fault c2
       → Confirmed used fault c2
-  up_confirms used fault c2 (HearsUp.replied {value = value} told) =
+  up_confirms used fault c2 (HearsUp.replied {value = value} is_given) =
       let same =
       one_first (u.reader ++ tc) (length u.reader + used) (length (reply_bytes owed.reply)) (Ok value)
-      (Ok owed.reply) told first in
+      (Ok owed.reply) is_given first in
       let value_is : value ≡ owed.reply = let both : Ok value ≡ Ok owed.reply = same.1 in cc both in
       let outcome_is : outcome c.game s (oldest u.unanswered) value ≡ Confirms =
       ap (outcome c.game s (oldest u.unanswered)) value_is ∙ confirms in (
@@ -174,10 +174,10 @@ module _ (rules : Rules) (c : Controller) (s : Colour) (u : EngineRun) (o : Sent
         ap fault_of outcome_is,
         ap (after_outcome c s (heard_reply u)) outcome_is,
       )
-  up_confirms used fault c2 (HearsUp.faulted {shown = shown} told) =
+  up_confirms used fault c2 (HearsUp.faulted {shown = shown} is_given) =
       absurd (let same = one_first (u.reader ++ tc) (length u.reader + used) (length (reply_bytes owed.reply))
       (Err shown)
-      (Ok owed.reply) told first in let bad : Err shown ≡ Ok owed.reply = same.1 in cc bad)
+      (Ok owed.reply) is_given first in let bad : Err shown ≡ Ok owed.reply = same.1 in cc bad)
   up_confirms used fault c2 (HearsUp.nothing_yet quiet keeps) =
       absurd (quiet_or_first (u.reader ++ tc) (length (reply_bytes owed.reply)) (Ok owed.reply) quiet first)
 

@@ -9,7 +9,7 @@ use Rattle.go_base.specs.declared.colours.Colour.{Colour}
 use Rattle.go_base.specs.declared.colours.Colour.TheVariants.{Black, White}
 use Rattle.go_board.specs.Game.{GameRecord, IsGame}
 use Rattle.gtp_wire.specs.declared.commands.Command.{Command}
-use Rattle.gtp_session.proofs.Policies.{AllowsLawful}
+use Rattle.gtp_session.proofs.choosing.Policies.{AllowsLawful}
 use Rattle.gtp_session.specs.Engine.{Engine, fresh_under}
 use Rattle.gtp_match.specs.declared.unanswered.SentCommand.{SentCommand}
 use Rattle.gtp_match.specs.declared.sides.EngineRun.{EngineRun}

@@ -1,7 +1,7 @@
 -- Which processes are left before any is sent `quit`.
 use Rattle.std.specs.Prelude.{◌≡◌, Bool, true, false, Option, None}
-use Rattle.twogtp.specs.declared.starter.Process.{Ghosts}
-use Rattle.twogtp.specs.Processes.{IsEnded}
+use Rattle.gtp_process.specs.declared.starter.Process.{Ghosts}
+use Rattle.gtp_process.specs.Endings.{IsEnded}
 
 -- Of a side that is up and owes nothing the process is left. Any other is ended, and none is left.
 abbrev pub IsLeft : {P : Type 0} → Ghosts P → Bool → Option P → Option P → Type 0

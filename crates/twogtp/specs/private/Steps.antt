@@ -5,7 +5,7 @@ use Rattle.gtp_match.specs.Next.{next}
 use Rattle.gtp_match.specs.Sound.{IsSound}
 use Rattle.twogtp.specs.declared.game.Step.{Step}
 use Rattle.twogtp.specs.declared.game.Step.TheVariants.{Over, Taken}
-use Rattle.twogtp.specs.declared.starter.Process.{Ghosts}
+use Rattle.gtp_process.specs.declared.starter.Process.{Ghosts}
 use Rattle.twogtp.specs.declared.task.Commands.{Commands}
 use Rattle.twogtp.specs.Turns.{GameState, IsTurn}
 use Rattle.twogtp.specs.Why.{ReportCanBeShown}

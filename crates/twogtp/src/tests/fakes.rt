@@ -1,7 +1,8 @@
 //! Engines in memory, in place of processes, and writers that fail.
 ghost use Rattle.std.specs.Prelude.{⊤, None};
 
-use crate::starter::{Ending, PipeFault, Process, StartFault, StartReason, Starter};
+use byte_streams::CallFault;
+use gtp_process::{Ending, Process, StartFault, StartReason, Starter};
 use gtp_session::book::Book;
 use gtp_session::first::First;
 use gtp_session::policy::Policy;
@@ -11,40 +12,6 @@ use std::cell::Cell;
 use std::io;
 use std::io::{ErrorKind, Read, Write};
 use std::rc::Rc;
-use std::time::{Clock, Duration};
-
-/// A clock that goes on by `step` microseconds at each reading. Where it has no step it can't be read at all.
-#[derive(Drop)]
-pub struct Ticking {
-    now: Cell<u64>,
-    step: Option<u64>,
-}
-
-impl Ticking {
-    /// A clock with this step.
-    pub fn new(step: Option<u64>) -> Self {
-        Ticking {
-            now: Cell::new(0),
-            step,
-        }
-    }
-}
-
-impl Clock for Ticking {
-    fn monotonic(&self) -> io::Result<Duration> {
-        match self.step {
-            Some(step) => {
-                self.now.set(self.now.get().saturating_add(step));
-                Ok(Duration::from_micros(self.now.get()))
-            }
-            None => Err(io::Error::from(ErrorKind::Unsupported)),
-        }
-    }
-
-    fn since_1970(&self) -> io::Result<Duration> {
-        self.monotonic()
-    }
-}
 
 /// A stream of which each write and flush fails.
 #[derive(Clone, Copy, Drop)]
@@ -133,14 +100,14 @@ impl Talk {
     }
 
     /// Interrupts a call, if it wasn't so often enough.
-    fn interrupt(&mut self) -> Result<(), PipeFault> {
+    fn interrupt(&mut self) -> Result<(), CallFault> {
         let Engine::Interrupted(_, often) = &self.engine else {
             return Ok(());
         };
         if self.interruptions < *often {
             self.interruptions = self.interruptions.saturating_add(1);
             add_one(&self.log.interrupted);
-            return Err(PipeFault::Interrupted);
+            return Err(CallFault::Interrupted);
         }
         self.interruptions = 0;
         Ok(())
@@ -216,26 +183,26 @@ impl Process for Talk {
 
     ghost flushed = { λ _. ⊤ };
 
-    fn read(&mut self, buffer: &mut [u8]) -> Result<usize, PipeFault> {
+    fn read(&mut self, buffer: &mut [u8]) -> Result<usize, CallFault> {
         if self.is_broken() || matches!(&self.engine, Engine::Mute) {
-            return Err(PipeFault::Broken);
+            return Err(CallFault::Broken);
         }
         self.interrupt()?;
         let Some(mut left) = self.written.get(self.read..) else {
-            return Err(PipeFault::Broken);
+            return Err(CallFault::Broken);
         };
         match left.read(buffer) {
             Ok(count) => {
                 self.read = self.read.saturating_add(count);
                 Ok(count)
             }
-            Err(_) => Err(PipeFault::Broken),
+            Err(_) => Err(CallFault::Broken),
         }
     }
 
-    fn write(&mut self, text: &[u8]) -> Result<usize, PipeFault> {
+    fn write(&mut self, text: &[u8]) -> Result<usize, CallFault> {
         if self.is_broken() {
-            return Err(PipeFault::Broken);
+            return Err(CallFault::Broken);
         }
         self.interrupt()?;
         let text = match &self.engine {
@@ -263,11 +230,11 @@ impl Process for Talk {
                 add_one(&self.log.writes);
                 Ok(text.len())
             }
-            Err(AllocError) => Err(PipeFault::Broken),
+            Err(AllocError) => Err(CallFault::Broken),
         }
     }
 
-    fn flush(&mut self) -> Result<(), PipeFault> {
+    fn flush(&mut self) -> Result<(), CallFault> {
         self.interrupt()
     }
 

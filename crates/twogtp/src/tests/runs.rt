@@ -1,8 +1,8 @@
 //! Runs of the program, with engines in memory.
 use super::fakes::{InMemory, Log, Narrow, new_log};
 use crate::equal::{assert_equal_for, assert_true_for};
-use crate::output::Output;
 use crate::run::run;
+use byte_streams::WriteOnce;
 use std::alloc::Global;
 use std::process::Abort;
 use std::str;
@@ -10,7 +10,7 @@ use std::test::Fail;
 
 /// Runs the program with these words and streams; this log has what is done with the engines. Memory is refused for the
 /// start of this number, if it is not 0.
-pub fn run_into<O: Output, E: Output>(
+pub fn run_into<O: WriteOnce, E: WriteOnce>(
     alloc: Global,
     words: &[&str],
     output: &mut O,

@@ -3,7 +3,6 @@ use super::fakes::{Full, Talk, new_log};
 use super::runs::{Ran, narrow, run_between, run_into};
 use crate::equal::{assert_equal, assert_equal_for, assert_true_for};
 use crate::laws::{down_sides_have_no_process, lines_are_few, losses_have_lines};
-use crate::why_text::shown_for_test;
 use std::alloc::Global;
 use std::str;
 use std::test::Fail;
@@ -171,14 +170,6 @@ fn each_line_is_flushed_before_the_next_start(rt: HostRuntime) -> Result<(), Fai
     );
     // Both are started before anything is written, Black again after the first line, and after the second one.
     assert_equal(&rt, log.flushed_by_starts.get(), len + 2 * len);
-    Ok(())
-}
-
-#[test]
-fn bytes_that_are_not_printable_are_escaped(rt: HostRuntime) -> Result<(), Fail> {
-    let shown = shown_for_test(b" A~\"\\\n\r\t\x00\x1b\x7f\xff".as_slice());
-    let text = " A~\\\"\\\\\\n\\r\\t\\x00\\x1B\\x7F\\xFF";
-    assert_equal(&rt, str::from_utf8(shown.as_slice())?, text);
     Ok(())
 }
 

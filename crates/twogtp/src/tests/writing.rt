@@ -61,7 +61,7 @@ fn what_goes_out_before_a_write_fault_is_a_beginning(rt: HostRuntime) -> Result<
 }
 
 #[test]
-fn each_game_is_flushed_before_its_engines_are_told_to_quit(rt: HostRuntime) -> Result<(), Fail> {
+fn each_game_is_flushed_before_its_engines_are_sent_quit(rt: HostRuntime) -> Result<(), Fail> {
     let (status, output) = play_into(rt.alloc(), "3", 1000)?;
     assert_equal(&rt, status, 0);
     // A line has 35 bytes.

@@ -1,5 +1,5 @@
 use Rattle.std.proofs.Common.{sym, subst, refl}
-use Rattle.go_base.proofs.HandicapLemmas.{handicap_sound, IsSound}
+use Rattle.go_base.proofs.board_points.HandicapPoints.{handicap_sound, IsSound}
 use Rattle.go_base.proofs.handicaps.handicap.Goals as goal
 
 pub returns-clause-distinct : goal.returns-clause-distinct

@@ -1,6 +1,6 @@
 use Rattle.std.proofs.Common.{ℕ, ◌-◌, ◌++◌, List, [], ◌∷◌, take, ◌∙◌, refl, ap}
 use Rattle.go_base.specs.Handicap.{handicap_points}
-use Rattle.go_base.proofs.HandicapLemmas.{handicap_bounds, points_with_centre, points_without_centre}
+use Rattle.go_base.proofs.board_points.HandicapPoints.{handicap_bounds, points_with_centre, points_without_centre}
 use Rattle.go_base.proofs.handicaps.stone_points.Goals as goal
 
 pub returns-then-has_centre : goal.returns-then-has_centre

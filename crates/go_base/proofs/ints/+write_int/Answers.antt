@@ -1,5 +1,5 @@
 use Rattle.std.proofs.Common.{ℕ, List, ◌∙◌, ap, arith, [], ◌∷◌, ◌++◌, length, ◌+◌, ◌%◌, lit<}
-use Rattle.go_base.proofs.IntLemmas.{written_one_digit, written_more_digits, written_int_room}
+use Rattle.go_base.proofs.numbers.Ints.{written_one_digit, written_more_digits, written_int_room}
 use Rattle.go_base.proofs.ints.+write_int.Goals as goal
 use Rattle.go_base.proofs.ints.+write_int.Goals.{then-number-lt10, else-number-lt10}
 

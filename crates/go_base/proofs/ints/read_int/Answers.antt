@@ -1,7 +1,7 @@
 use Rattle.std.proofs.Common.{◌+◌, arith, sym, get_or, ◌∙◌}
 use Rattle.std.proofs.lemmas.Bool.Decides.{nat_tests}
-use Rattle.go_base.proofs.IntLemmas.{int_of_spelled, int_of_unspelled, other_byte_spells_none, large_spells_none}
-use Rattle.go_base.proofs.IntLemmas.{next_digit, digit_bounds, not_digit_bounds, whole_spelled}
+use Rattle.go_base.proofs.numbers.Ints.{int_of_spelled, int_of_unspelled, other_byte_spells_none, large_spells_none}
+use Rattle.go_base.proofs.numbers.Ints.{next_digit, digit_bounds, not_digit_bounds, whole_spelled}
 use Rattle.go_base.proofs.ints.read_int.Goals as goal
 
 pub returns-then-not-is_ascii_digit-clause-unread : goal.returns-then-not-is_ascii_digit-clause-unread

@@ -2,7 +2,7 @@ use Rattle.std.proofs.Common.{length, ◌∙◌, ap, arith}
 use Rattle.std.specs.Prelude.{unwrap_or}
 use Rattle.go_base.specs.Int.{int_of}
 use Rattle.go_base.specs.Komi.{decimals_of}
-use Rattle.go_base.proofs.KomiLemmas.{unsigned_read, unsigned_read_limit}
+use Rattle.go_base.proofs.numbers.Komis.{unsigned_read, unsigned_read_limit}
 use Rattle.go_base.proofs.komis.read_unsigned.Goals as goal
 
 pub returns-clause-value : goal.returns-clause-value

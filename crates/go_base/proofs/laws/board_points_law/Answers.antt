@@ -1,4 +1,4 @@
-use Rattle.go_base.proofs.BoardPointLemmas.{within-on, on-within}
+use Rattle.go_base.proofs.board_points.OnBoard.{within-on, on-within}
 use Rattle.go_base.proofs.laws.board_points_law.Goals as goal
 
 pub returns : goal.returns

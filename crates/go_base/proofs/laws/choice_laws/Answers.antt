@@ -1,4 +1,4 @@
-use Rattle.go_base.proofs.ChoiceLemmas.{choice_of_spelled, spells_choice_of, one_choice}
+use Rattle.go_base.proofs.spellings.SpelledChoices.{choice_of_spelled, spells_choice_of, one_choice}
 use Rattle.go_base.proofs.laws.choice_laws.Goals as goal
 
 pub returns-clause-function : goal.returns-clause-function

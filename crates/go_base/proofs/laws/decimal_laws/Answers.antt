@@ -1,5 +1,5 @@
-use Rattle.go_base.proofs.DecimalLemmas.{ints_are_counted, komis_are_twice_their_value}
-use Rattle.go_base.proofs.CrossingLemmas.{spells_crossing, spells_point}
+use Rattle.go_base.proofs.numbers.Decimals.{ints_are_counted, komis_are_twice_their_value}
+use Rattle.go_base.proofs.board_points.Crossings.{spells_crossing, spells_point}
 use Rattle.go_base.proofs.laws.decimal_laws.Goals as goal
 
 pub returns-clause-ints : goal.returns-clause-ints

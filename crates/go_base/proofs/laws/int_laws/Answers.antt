@@ -1,4 +1,4 @@
-use Rattle.go_base.proofs.IntLemmas.{int_of_spelled, spells_int_of, spells_written_int, one_int}
+use Rattle.go_base.proofs.numbers.Ints.{int_of_spelled, spells_int_of, spells_written_int, one_int}
 use Rattle.go_base.proofs.laws.int_laws.Goals as goal
 
 pub returns-clause-function : goal.returns-clause-function

@@ -1,4 +1,4 @@
-use Rattle.go_base.proofs.KomiLemmas.{komi_of_spelled, spells_komi_of, spells_written_komi, one_komi}
+use Rattle.go_base.proofs.numbers.Komis.{komi_of_spelled, spells_komi_of, spells_written_komi, one_komi}
 use Rattle.go_base.proofs.laws.komi_laws.Goals as goal
 
 pub returns-clause-function : goal.returns-clause-function

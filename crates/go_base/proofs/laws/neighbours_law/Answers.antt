@@ -1,4 +1,4 @@
-use Rattle.go_base.proofs.PointLemmas.{beside_from_neighbours, neighbours_from_beside}
+use Rattle.go_base.proofs.board_points.Places.{beside_from_neighbours, neighbours_from_beside}
 use Rattle.go_base.proofs.laws.neighbours_law.Goals as goal
 
 pub returns : goal.returns

@@ -1,5 +1,5 @@
 use Rattle.std.proofs.Common.{ℕ, List, Result, Ok, Err, OnOk, OnErr, ◌⊎◌, inl, inr, subst}
-use Rattle.gtp_session.specs.Streams.{TookWhole, TookPart}
+use Rattle.byte_streams.specs.Streams.{TookWhole, TookPart}
 use Rattle.gtp_engine.proofs.failure.report.Goals as goal
 
 -- what holds where a call succeeded, or what holds where it failed

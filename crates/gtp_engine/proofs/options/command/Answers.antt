@@ -1,6 +1,6 @@
 use Rattle.std.proofs.Common.{refl}
 use Rattle.std.proofs.lemmas.Result.{IfOk-weaker}
-use Rattle.gtp_engine.proofs.OptionLemmas.{AreOptions, command_line-from_rows}
+use Rattle.gtp_engine.proofs.command_line.Matches.{AreOptions, command_line-from_rows}
 use Rattle.gtp_engine.proofs.options.command.Goals as goal
 
 pub returns : goal.returns

@@ -4,7 +4,7 @@ use Rattle.std.specs.Str.Parse.{ParsesUnsigned, ExplainsUnsignedError, HasUnsign
 use Rattle.clap.specs.Words.{found_of}
 use Rattle.clap.proofs.WalkLemmas.{first_value-rows, one_text-rows}
 use Rattle.gtp_engine.specs.Options.{policy_named, ko_rule_named}
-use Rattle.gtp_engine.proofs.OptionLemmas.{now-unwrap_or, ReadsOne-spells}
+use Rattle.gtp_engine.proofs.command_line.Matches.{now-unwrap_or, ReadsOne-spells}
 use Rattle.gtp_engine.proofs.options.options_of.Goals as goal
 
 pub returns : goal.returns

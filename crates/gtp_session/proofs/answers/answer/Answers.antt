@@ -2,10 +2,10 @@ use Rattle.std.proofs.Common.{rules, ◌≡◌, ◌∙◌, ℕ, Option, Some, No
 use Rattle.gtp_wire.specs.Replies.{written_reply}
 use Rattle.gtp_session.specs.declared.commands.CommandName.TheVariants.{Genmove}
 use Rattle.gtp_session.specs.Commands.{asked_by_named, syntax_error}
-use Rattle.gtp_session.proofs.NameLemmas.{unasked}
+use Rattle.gtp_session.proofs.table.Names.{unasked}
 use Rattle.gtp_session.specs.private.Outcome.{answer_of}
-use Rattle.gtp_session.proofs.EngineLemmas.{executed_genmove}
-use Rattle.gtp_session.proofs.SpokenLemmas.{executed_fits}
+use Rattle.gtp_session.proofs.engines.Replying.{executed_genmove}
+use Rattle.gtp_session.proofs.reply_texts.Spoken.{executed_fits}
 use Rattle.gtp_session.proofs.answers.answer.Goals as goal
 
 pub write_outcome-requires-in-Command : goal.write_outcome-requires-in-Command

@@ -1,7 +1,7 @@
 use Rattle.std.proofs.Common.{◌++◌, [], ◌∷◌, length, sym, ap, ◌∙◌, arith}
 use Rattle.arrayvec.specs.ArrayVec.{array_vec_len}
 use Rattle.gtp_session.specs.Candidates.{points_of}
-use Rattle.gtp_session.proofs.CandidatesLemmas.{not_true, among-none, among-yes, among-no, among-all}
+use Rattle.gtp_session.proofs.choosing.CandidatesOfBoards.{not_true, among-none, among-yes, among-no, among-all}
 use Rattle.gtp_session.proofs.candidates.candidates.Goals as goal
 use Rattle.gtp_session.proofs.candidates.candidates.Goals.{then-is_candidate, else-is_candidate}
 

@@ -1,7 +1,7 @@
 use Rattle.std.proofs.Common.{◌≡◌, ◌≤◌, length, take}
 use Rattle.arrayvec.specs.ArrayVec.{array_vec_len}
 use Rattle.gtp_session.specs.Candidates.{points_of}
-use Rattle.gtp_session.proofs.CandidatesLemmas.{among}
+use Rattle.gtp_session.proofs.choosing.CandidatesOfBoards.{among}
 use Rattle.gtp_session.proofs.candidates.candidates.Given as goal
 
 abbrev pub invariant-loop-point : goal.invariant-loop-point

@@ -1,6 +1,6 @@
 use Rattle.std.proofs.Common.{◌≡◌, [], take}
 use Rattle.gtp_session.specs.Candidates.{points_of}
-use Rattle.gtp_session.proofs.CandidatesLemmas.{among}
+use Rattle.gtp_session.proofs.choosing.CandidatesOfBoards.{among}
 use Rattle.gtp_session.proofs.candidates.first_candidate.Given as goal
 
 abbrev pub invariant-loop-point : goal.invariant-loop-point

@@ -1,6 +1,6 @@
 use Rattle.std.proofs.Common.{◌+◌, ◌++◌, length, arith, ap, ◌∙◌}
 use Rattle.gtp_session.specs.Candidates.{row_points}
-use Rattle.gtp_session.proofs.CandidatesLemmas.{rows_before-first, rows_before-more, rows_before-all}
+use Rattle.gtp_session.proofs.choosing.CandidatesOfBoards.{rows_before-first, rows_before-more, rows_before-all}
 use Rattle.gtp_session.proofs.candidates.points_of.Goals as goal
 
 pub loop-row-init : goal.loop-row-init

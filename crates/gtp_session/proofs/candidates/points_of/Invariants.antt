@@ -1,6 +1,6 @@
 use Rattle.std.proofs.Common.{◌≡◌, ◌+◌, ◌*◌, ◌≤◌}
 use Rattle.arrayvec.specs.ArrayVec.{array_vec_len}
-use Rattle.gtp_session.proofs.CandidatesLemmas.{rows_before}
+use Rattle.gtp_session.proofs.choosing.CandidatesOfBoards.{rows_before}
 use Rattle.gtp_session.proofs.candidates.points_of.Given as goal
 
 abbrev pub invariant-loop-row : goal.invariant-loop-row

@@ -1,6 +1,6 @@
 use Rattle.std.proofs.Common.{◌+◌, ◌++◌, [], ◌∷◌, arith, ap, ◌∙◌}
 use Rattle.go_base.specs.Point.{point}
-use Rattle.gtp_session.proofs.CandidatesLemmas.{points_before-first, points_before-more, points_before-all}
+use Rattle.gtp_session.proofs.choosing.CandidatesOfBoards.{points_before-first, points_before-more, points_before-all}
 use Rattle.gtp_session.proofs.candidates.push_row.Goals as goal
 
 pub loop-column-init : goal.loop-column-init

@@ -1,6 +1,6 @@
 use Rattle.std.proofs.Common.{◌≡◌, ◌+◌, ◌++◌}
 use Rattle.arrayvec.specs.ArrayVec.{array_vec_len}
-use Rattle.gtp_session.proofs.CandidatesLemmas.{points_before}
+use Rattle.gtp_session.proofs.choosing.CandidatesOfBoards.{points_before}
 use Rattle.gtp_session.proofs.candidates.push_row.Given as goal
 
 abbrev pub invariant-loop-column : goal.invariant-loop-column

@@ -1,5 +1,5 @@
 use Rattle.std.proofs.Common.{arith, ◌<◌, ◌∙◌, ap, refl, List, ℕ, length}
-use Rattle.go_base.proofs.JoinLemmas.{joined-take}
+use Rattle.go_base.proofs.general.Joined.{joined-take}
 use Rattle.go_base.specs.Text.{joined}
 use Rattle.gtp_session.specs.Commands.{all_commands, spelled}
 use Rattle.gtp_session.specs.declared.commands.CommandName.{CommandName}

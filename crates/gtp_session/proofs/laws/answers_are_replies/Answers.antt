@@ -1,4 +1,4 @@
-use Rattle.gtp_session.proofs.SpokenLemmas.{answer_is_reply}
+use Rattle.gtp_session.proofs.reply_texts.Spoken.{answer_is_reply}
 use Rattle.gtp_session.proofs.laws.answers_are_replies.Goals as goal
 
 pub returns : goal.returns

@@ -1,4 +1,4 @@
-use Rattle.gtp_session.proofs.SpokenLemmas.{answer_good}
+use Rattle.gtp_session.proofs.reply_texts.Spoken.{answer_good}
 use Rattle.gtp_session.proofs.laws.answers_are_reply_texts.Goals as goal
 
 pub returns : goal.returns

@@ -1,4 +1,4 @@
-use Rattle.gtp_session.proofs.AnswerLemmas.{answer-same}
+use Rattle.gtp_session.proofs.table.Asking.{answer-same}
 use Rattle.gtp_session.proofs.laws.choices_do_not_count.Goals as goal
 
 pub returns : goal.returns

@@ -1,4 +1,4 @@
-use Rattle.gtp_session.proofs.OnceLemmas.{replies_once}
+use Rattle.gtp_session.proofs.engines.OneReplyALine.{replies_once}
 use Rattle.gtp_session.proofs.laws.each_line_is_answered_once.Goals as goal
 
 pub returns : goal.returns

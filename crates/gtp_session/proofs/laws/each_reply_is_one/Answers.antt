@@ -1,7 +1,7 @@
 use Rattle.std.proofs.lemmas.List.Elements.{All-from_recursion}
 use Rattle.gtp_session.specs.Engine.{WrittenReply}
 use Rattle.gtp_session.specs.Spoken.{IsSpoken}
-use Rattle.gtp_session.proofs.SpokenLemmas.{replies_spoken}
+use Rattle.gtp_session.proofs.reply_texts.Spoken.{replies_spoken}
 use Rattle.gtp_session.proofs.laws.each_reply_is_one.Goals as goal
 
 pub returns : goal.returns

@@ -1,4 +1,4 @@
-use Rattle.gtp_session.proofs.KeepLemmas.{failures_keep}
+use Rattle.gtp_session.proofs.table.Kept.{failures_keep}
 use Rattle.gtp_session.proofs.laws.failures_keep_the_game.Goals as goal
 
 pub returns : goal.returns

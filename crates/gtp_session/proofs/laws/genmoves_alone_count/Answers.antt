@@ -1,4 +1,4 @@
-use Rattle.gtp_session.proofs.GenmoveLemmas.{genmoves_alone}
+use Rattle.gtp_session.proofs.engines.Genmoves.{genmoves_alone}
 use Rattle.gtp_session.proofs.laws.genmoves_alone_count.Goals as goal
 
 pub returns : goal.returns

@@ -1,4 +1,4 @@
-use Rattle.gtp_session.proofs.CommandLemmas.{genmove_asks, genmove_answer}
+use Rattle.gtp_session.proofs.engines.Sent.{genmove_asks, genmove_answer}
 use Rattle.gtp_session.proofs.laws.genmoves_are_answered.Goals as goal
 
 pub returns : goal.returns

@@ -1,4 +1,4 @@
-use Rattle.gtp_session.proofs.AnswerLemmas.{genmove-lawful}
+use Rattle.gtp_session.proofs.table.Asking.{genmove-lawful}
 use Rattle.gtp_session.proofs.laws.genmoves_are_lawful.Goals as goal
 
 pub returns : goal.returns

@@ -1,4 +1,4 @@
-use Rattle.gtp_session.proofs.SuccessLemmas.{legal_lines}
+use Rattle.gtp_session.proofs.table.Successes.{legal_lines}
 use Rattle.gtp_session.proofs.laws.legal_moves_are_made.Goals as goal
 
 pub returns : goal.returns

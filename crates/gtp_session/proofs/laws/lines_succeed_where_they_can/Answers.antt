@@ -1,4 +1,4 @@
-use Rattle.gtp_session.proofs.SuccessLemmas.{lines_succeed}
+use Rattle.gtp_session.proofs.table.Successes.{lines_succeed}
 use Rattle.gtp_session.proofs.laws.lines_succeed_where_they_can.Goals as goal
 
 pub returns : goal.returns

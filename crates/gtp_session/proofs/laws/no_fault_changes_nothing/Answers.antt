@@ -1,4 +1,4 @@
-use Rattle.gtp_session.proofs.FaultLemmas.{off_changes_nothing}
+use Rattle.gtp_session.proofs.faults.UnderFaults.{off_changes_nothing}
 use Rattle.gtp_session.proofs.laws.no_fault_changes_nothing.Goals as goal
 
 pub returns : goal.returns

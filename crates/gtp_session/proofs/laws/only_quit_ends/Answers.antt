@@ -1,4 +1,4 @@
-use Rattle.gtp_session.proofs.CommandLemmas.{quit_ends}
+use Rattle.gtp_session.proofs.engines.Sent.{quit_ends}
 use Rattle.gtp_session.proofs.laws.only_quit_ends.Goals as goal
 
 pub returns : goal.returns

@@ -1,4 +1,4 @@
-use Rattle.gtp_session.proofs.PartLemmas.{lines_change}
+use Rattle.gtp_session.proofs.table.ChangedParts.{lines_change}
 use Rattle.gtp_session.proofs.laws.only_their_part_changes.Goals as goal
 
 pub returns : goal.returns

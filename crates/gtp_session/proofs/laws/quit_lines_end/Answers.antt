@@ -1,4 +1,4 @@
-use Rattle.gtp_session.proofs.QuitLemmas.{quit_lines}
+use Rattle.gtp_session.proofs.engines.Quitting.{quit_lines}
 use Rattle.gtp_session.proofs.laws.quit_lines_end.Goals as goal
 
 pub returns : goal.returns

@@ -3,7 +3,7 @@ use Rattle.std.specs.Prelude.{codes}
 use Rattle.std.specs.Fmt.{digits}
 use Rattle.go_base.specs.HalfPoints.{written_points, score_text}
 use Rattle.gtp_session.specs.TableLaws.{success}
-use Rattle.gtp_session.proofs.ScoreLemmas.{writes_points}
+use Rattle.gtp_session.proofs.reply_texts.HalfPoints.{writes_points}
 use Rattle.gtp_session.proofs.laws.scores_name_the_leader.Goals as goal
 
 no_points : written_points 0 ≡ codes "0"

@@ -1,4 +1,4 @@
-use Rattle.gtp_session.proofs.CommandLemmas.{well_asks_none, well_answer}
+use Rattle.gtp_session.proofs.engines.Sent.{well_asks_none, well_answer}
 use Rattle.gtp_session.proofs.laws.script_commands_succeed.Goals as goal
 
 pub returns : goal.returns

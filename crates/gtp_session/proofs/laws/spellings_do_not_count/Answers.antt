@@ -1,4 +1,4 @@
-use Rattle.gtp_session.proofs.SpellingLemmas.{spellings}
+use Rattle.gtp_session.proofs.table.Spelling.{spellings}
 use Rattle.gtp_session.proofs.laws.spellings_do_not_count.Goals as goal
 
 pub returns : goal.returns

@@ -1,4 +1,4 @@
-use Rattle.gtp_session.proofs.StopLemmas.{stops_and_cuts_stop}
+use Rattle.gtp_session.proofs.faults.Stops.{stops_and_cuts_stop}
 use Rattle.gtp_session.proofs.laws.stops_and_cuts_stop.Goals as goal
 
 pub returns : goal.returns

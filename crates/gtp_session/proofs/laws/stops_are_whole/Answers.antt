@@ -1,4 +1,4 @@
-use Rattle.gtp_session.proofs.FaultLemmas.{stops_whole}
+use Rattle.gtp_session.proofs.faults.UnderFaults.{stops_whole}
 use Rattle.gtp_session.proofs.laws.stops_are_whole.Goals as goal
 
 pub returns : goal.returns

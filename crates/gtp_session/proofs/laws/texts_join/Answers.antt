@@ -1,7 +1,7 @@
 use Rattle.std.proofs.Common.{◌++◌, ◌∙◌, sym, ap, List, ℕ}
 use Rattle.gtp_session.specs.Engine.{output_of}
-use Rattle.gtp_session.proofs.EngineLemmas.{Replies-then}
-use Rattle.gtp_session.proofs.ConversationLemmas.{output_of-append}
+use Rattle.gtp_session.proofs.engines.Replying.{Replies-then}
+use Rattle.gtp_session.proofs.serving.Conversation.{output_of-append}
 use Rattle.gtp_session.proofs.laws.texts_join.Goals as goal
 
 pub returns-clause-replies : goal.returns-clause-replies

@@ -1,5 +1,5 @@
 use Rattle.std.proofs.Common.{rules, arith, ◌∙◌, ap, List, ℕ}
-use Rattle.go_base.proofs.JoinLemmas.{joined-take, written_vertex-some}
+use Rattle.go_base.proofs.general.Joined.{joined-take, written_vertex-some}
 use Rattle.go_base.specs.Text.{joined}
 use Rattle.go_base.specs.Vertex.{written_vertex}
 use Rattle.go_base.specs.declared.vertices.Vertex.TheVariants.{At}

@@ -1,11 +1,11 @@
 use Rattle.std.proofs.Common.{rules, ◌≡◌, ◌≢◌, ◌+◌, arith, refl, sym, ap, ◌∙◌, true, false, Ok, Err}
 use Rattle.gtp_session.specs.declared.serve.Served.TheVariants.{Quit, EndOfInput, Stopped}
 use Rattle.gtp_session.specs.declared.serve.ServeFault.TheVariants.{Read, Write, TooManyReads}
-use Rattle.gtp_session.specs.Counts.{raised}
-use Rattle.gtp_session.proofs.CountsLemmas.{raised-none, raised-then}
-use Rattle.gtp_session.proofs.ConversationLemmas.{GivesAtLeast-nothing, GivesAtLeast-both, Conversation-nothing, Conversation-both, BrokenConversation-after, ReadWhileOpen-after}
-use Rattle.gtp_session.proofs.FaultLemmas.{Conversation-off, BrokenConversation-off, off-Conversation, off-BrokenConversation, BentConversation-nothing}
-use Rattle.gtp_session.proofs.ServingLemmas.{came_out_quit, came_out_too_many}
+use Rattle.byte_streams.specs.Counts.{raised}
+use Rattle.byte_streams.proofs.CallCounts.{raised-none, raised-then}
+use Rattle.gtp_session.proofs.serving.Conversation.{GivesAtLeast-nothing, GivesAtLeast-both, Conversation-nothing, Conversation-both, BrokenConversation-after, ReadWhileOpen-after}
+use Rattle.gtp_session.proofs.faults.UnderFaults.{Conversation-off, BrokenConversation-off, off-Conversation, off-BrokenConversation, BentConversation-nothing}
+use Rattle.gtp_session.proofs.serving.Outcomes.{came_out_quit, came_out_too_many}
 use Rattle.gtp_session.specs.declared.fault.Fault.TheVariants.{Off}
 use Rattle.gtp_session.proofs.serve.serve.Goals as goal
 

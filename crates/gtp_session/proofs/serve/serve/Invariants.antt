@@ -1,5 +1,5 @@
 use Rattle.std.proofs.Common.{◌≡◌, false}
-use Rattle.gtp_session.specs.Counts.{raised}
+use Rattle.byte_streams.specs.Counts.{raised}
 use Rattle.gtp_session.specs.Conversation.{Conversation, GivesAtLeast}
 use Rattle.gtp_session.proofs.serve.serve.Given as goal
 

@@ -1,4 +1,4 @@
-use Rattle.gtp_wire.proofs.PieceLaws.{pieces_answer_alike}
+use Rattle.gtp_wire.proofs.first_answers.Pieces.{pieces_answer_alike}
 use Rattle.gtp_wire.proofs.laws.any_pieces_answer_alike.Goals as goal
 
 pub returns : goal.returns

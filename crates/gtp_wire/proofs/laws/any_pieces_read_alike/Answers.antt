@@ -1,4 +1,4 @@
-use Rattle.gtp_wire.proofs.ReadingLemmas.{Finds-lines, Finds-pieces}
+use Rattle.gtp_wire.proofs.line_reading.OneAfterOther.{Finds-lines, Finds-pieces}
 use Rattle.gtp_wire.proofs.laws.any_pieces_read_alike.Goals as goal
 
 pub returns : goal.returns

@@ -1,4 +1,4 @@
-use Rattle.gtp_wire.proofs.CommandWords.{command_front_open}
+use Rattle.gtp_wire.proofs.written.CommandWords.{command_front_open}
 use Rattle.gtp_wire.proofs.laws.command_fronts_are_open.Goals as goal
 
 pub returns : goal.returns

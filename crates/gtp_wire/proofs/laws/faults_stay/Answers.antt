@@ -1,4 +1,4 @@
-use Rattle.gtp_wire.proofs.FaultStays.{fault_stays}
+use Rattle.gtp_wire.proofs.first_answers.FaultStays.{fault_stays}
 use Rattle.gtp_wire.proofs.laws.faults_stay.Goals as goal
 
 pub returns : goal.returns

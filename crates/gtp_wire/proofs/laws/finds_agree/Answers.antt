@@ -1,5 +1,5 @@
 use Rattle.std.proofs.Common.{◌∙◌, sym}
-use Rattle.gtp_wire.proofs.ReadingLemmas.{Finds-lines, Finds-future}
+use Rattle.gtp_wire.proofs.line_reading.OneAfterOther.{Finds-lines, Finds-future}
 use Rattle.gtp_wire.proofs.laws.finds_agree.Goals as goal
 
 pub returns : goal.returns

@@ -1,4 +1,4 @@
-use Rattle.gtp_wire.proofs.ReplyLaws.{front_tells_nothing}
+use Rattle.gtp_wire.proofs.first_answers.OneAnswer.{front_tells_nothing}
 use Rattle.gtp_wire.proofs.laws.fronts_are_no_answers.Goals as goal
 
 pub returns : goal.returns

@@ -1,4 +1,4 @@
-use Rattle.gtp_wire.proofs.ReplyLaws.{no_reply_in_reply}
+use Rattle.gtp_wire.proofs.first_answers.OneAnswer.{no_reply_in_reply}
 use Rattle.gtp_wire.proofs.laws.no_reply_begins_another.Goals as goal
 
 pub returns : goal.returns

@@ -1,4 +1,4 @@
-use Rattle.gtp_wire.proofs.WrittenReplies.{reply_short}
+use Rattle.gtp_wire.proofs.written.FirstReply.{reply_short}
 use Rattle.gtp_wire.proofs.laws.replies_are_short.Goals as goal
 
 pub returns : goal.returns

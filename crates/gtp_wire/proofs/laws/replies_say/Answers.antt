@@ -1,4 +1,4 @@
-use Rattle.gtp_wire.proofs.ReplySaying.{replies_say}
+use Rattle.gtp_wire.proofs.reply_bytes.Saying.{replies_say}
 use Rattle.gtp_wire.proofs.laws.replies_say.Goals as goal
 
 pub returns : goal.returns

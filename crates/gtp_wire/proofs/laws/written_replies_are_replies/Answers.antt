@@ -1,4 +1,4 @@
-use Rattle.gtp_wire.proofs.WrittenLemmas.{written_is_read}
+use Rattle.gtp_wire.proofs.written.OneReply.{written_is_read}
 use Rattle.gtp_wire.proofs.laws.written_replies_are_replies.Goals as goal
 
 pub returns : goal.returns

@@ -1,4 +1,4 @@
-use Rattle.gtp_wire.proofs.WrittenReplies.{written_is_first}
+use Rattle.gtp_wire.proofs.written.FirstReply.{written_is_first}
 use Rattle.gtp_wire.proofs.laws.written_replies_come_first.Goals as goal
 
 pub returns : goal.returns

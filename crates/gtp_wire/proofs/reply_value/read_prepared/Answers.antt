@@ -4,8 +4,8 @@ use Rattle.std.specs.Char.{is_ascii_digit}
 use Rattle.go_base.specs.Int.{int_of}
 use Rattle.go_base.specs.Text.{front_while, skip_while}
 use Rattle.gtp_wire.specs.Replies.{trim}
-use Rattle.gtp_wire.proofs.ReplyLemmas.{reply_made}
-use Rattle.gtp_wire.proofs.ReplyReadingLemmas.{body_between}
+use Rattle.gtp_wire.proofs.reply_bytes.BytesAndValue.{reply_made}
+use Rattle.gtp_wire.proofs.first_answers.OneByteMore.{body_between}
 use Rattle.gtp_wire.proofs.reply_value.read_prepared.Goals as goal
 
 pub returns : goal.returns

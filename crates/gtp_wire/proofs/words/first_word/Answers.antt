@@ -1,9 +1,9 @@
 use Rattle.std.proofs.Common.{◌≡◌, ◌∙◌, ◌<◌, length, take, drop, arith, ap}
 use Rattle.std.proofs.lemmas.Bool.Decides.{nat_tests}
 use Rattle.std.proofs.lemmas.List.{nil_from_length, length-drop}
-use Rattle.go_base.proofs.TextLemmas.{take_prefix_len, drop_prefix_len}
+use Rattle.go_base.proofs.general.Fronts.{take_prefix_len, drop_prefix_len}
 use Rattle.gtp_wire.specs.Bytes.{is_inside}
-use Rattle.gtp_wire.proofs.ReplyWordLemmas.{no_word, word_first, some_word_bytes}
+use Rattle.gtp_wire.proofs.reply_bytes.FirstWord.{no_word, word_first, some_word_bytes}
 use Rattle.gtp_wire.proofs.words.first_word.Goals as goal
 
 pub returns-then-is_empty-clause-words : goal.returns-then-is_empty-clause-words

@@ -1,5 +1,5 @@
-use Rattle.twogtp.proofs.DownLemmas.{down_sides_have_no_process}
+use Rattle.twogtp.proofs.matches.DownSides.{down_sides_have_no_process}
 use Rattle.twogtp.proofs.laws.down_sides_have_no_process.Goals as goal
 
 pub returns : goal.returns
-returns g c = down_sides_have_no_process g.P.Process g.E.Output
+returns g c = down_sides_have_no_process g.P.Process g.E.WriteOnce

@@ -1,4 +1,4 @@
-use Rattle.twogtp.proofs.LossLemmas.{losses_have_lines}
+use Rattle.twogtp.proofs.matches.LossLines.{losses_have_lines}
 use Rattle.twogtp.proofs.laws.losses_have_lines.Goals as goal
 
 pub returns : goal.returns

@@ -2,7 +2,7 @@ use Rattle.std.proofs.Common.{◌∙◌}
 use Rattle.std.specs.Str.Parse.{ParsesUnsigned, ExplainsUnsignedError, HasUnsignedDigitsIfOk}
 use Rattle.clap.specs.Words.{found_of}
 use Rattle.clap.proofs.WalkLemmas.{one_text-rows}
-use Rattle.twogtp.proofs.OptionLemmas.{ReadsOne-spells}
+use Rattle.twogtp.proofs.command_line.Matches.{ReadsOne-spells}
 use Rattle.twogtp.proofs.options.number_at.Goals as goal
 
 pub returns : goal.returns

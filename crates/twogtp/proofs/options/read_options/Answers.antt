@@ -3,7 +3,7 @@ use Rattle.std.proofs.lemmas.Result.{err_from_is_err_and}
 use Rattle.clap.specs.Kinds.{HasKind}
 use Rattle.clap.specs.Words.{App, Row, fault_of, found_of, is_simple, is_simple_and_free, matches_of, rows_of}
 use Rattle.twogtp.specs.Options.{Ask, command_line}
-use Rattle.twogtp.proofs.OptionLemmas.{is_simple-command_line, is_simple_and_free-command_line}
+use Rattle.twogtp.proofs.command_line.Matches.{is_simple-command_line, is_simple_and_free-command_line}
 use Rattle.twogtp.proofs.options.read_options.Goals as goal
 
 pub returns-clause-asked : goal.returns-clause-asked
@@ -22,8 +22,8 @@ returns-clause-asked g c =
 pub returns-in_err-matches-clause-fault : goal.returns-in_err-matches-clause-fault
 returns-in_err-matches-clause-fault g c =
     let exit = c.from_residual-in_err-matches in
-    let told = err_from_is_err_and exit.result exit.ensures.1 in
-    rw (told.1, told.2)
+    let is_given = err_from_is_err_and exit.result exit.ensures.1 in
+    rw (is_given.1, is_given.2)
     (subst (λ (app : App). HasKind (fault_of app (map g.S.AsStr.text c.args.words.now)) c.in_err-matches.field-0.0)
     c.in_ok-command.ensures
     (c.in_err-matches.ensures.kinds (ap is_simple_and_free c.in_ok-command.ensures ∙ is_simple_and_free-command_line)))

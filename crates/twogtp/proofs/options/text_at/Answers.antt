@@ -2,7 +2,7 @@ use Rattle.std.proofs.Common.{◌∙◌, ap, refl, []}
 use Rattle.std.specs.Prelude.{unwrap_or}
 use Rattle.clap.specs.Words.{found_of}
 use Rattle.clap.proofs.WalkLemmas.{first_value-rows}
-use Rattle.twogtp.proofs.OptionLemmas.{now-unwrap_or}
+use Rattle.twogtp.proofs.command_line.Matches.{now-unwrap_or}
 use Rattle.twogtp.proofs.options.text_at.Goals as goal
 
 pub returns : goal.returns

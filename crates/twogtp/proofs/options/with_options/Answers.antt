@@ -1,5 +1,5 @@
 use Rattle.clap.specs.Words.{app_of}
-use Rattle.twogtp.proofs.OptionLemmas.{some_row, with_options-step}
+use Rattle.twogtp.proofs.command_line.Matches.{some_row, with_options-step}
 use Rattle.twogtp.proofs.options.with_options.Goals as goal
 
 pub loop-row-preserved : goal.loop-row-preserved

@@ -2,7 +2,7 @@ use Rattle.std.proofs.Common.{◌∙◌, length, lit<, rules, tests}
 use Rattle.std.specs.Prelude.{nat_lt}
 use Rattle.std.proofs.lemmas.Iterator.Consumers.{YieldsList-at, YieldsList-from_filter, map_from_collect}
 use Rattle.std.proofs.lemmas.Iterator.Splits.{YieldsList-from_str_split}
-use Rattle.twogtp.proofs.PlanLemmas.{not-empty}
+use Rattle.twogtp.proofs.command_line.CommandWords.{not-empty}
 use Rattle.twogtp.proofs.plan.words_of.Goals as goal
 
 pub returns : goal.returns

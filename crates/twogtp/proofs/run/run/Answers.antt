@@ -1,8 +1,9 @@
 use Rattle.std.proofs.Common.{◌≡◌, ◌⊎◌, ◌∙◌, ℕ, Result, Ok, Err, inl, inr, arith, refl}
 use Rattle.std.specs.Prelude.{string_bytes}
 use Rattle.std.specs.Result.{IsOkAnd}
-use Rattle.twogtp.specs.Status.{done, own_failure, some_given_up, usage_failure}
-use Rattle.twogtp.proofs.WritingLemmas.{games_are_quiet, status_range}
+use Rattle.twogtp.specs.Status.{some_given_up}
+use Rattle.programs.specs.Status.{done, own_failure, usage_failure}
+use Rattle.twogtp.proofs.matches.Statuses.{games_are_quiet, status_range}
 use Rattle.twogtp.proofs.run.run.Goals as goal
 
 -- what is returned in place of options has no status of games
@@ -100,22 +101,22 @@ returns-in-Err-clause-stopped g c = λ three.
 -- The status of games is 0 or 1.
 pub returns-in-Ok-play_games-clause-status : goal.returns-in-Ok-play_games-clause-status
 returns-in-Ok-play_games-clause-status g c =
-    elim (status_range g.S.Process.Process g.O.Output g.E.Output _ _ _ _ _ _ _ c.in-Ok-play_games.ensures)
+    elim (status_range g.S.Process.Process g.O.WriteOnce g.E.WriteOnce _ _ _ _ _ _ _ c.in-Ok-play_games.ensures)
     [ inl e ↦ inl e | inr e ↦ inr (inl e) ]
 
 pub returns-in-Ok-play_games-clause-usage : goal.returns-in-Ok-play_games-clause-usage
 returns-in-Ok-play_games-clause-usage g c = λ two. absurd
-    (elim (status_range g.S.Process.Process g.O.Output g.E.Output _ _ _ _ _ _ _ c.in-Ok-play_games.ensures)
+    (elim (status_range g.S.Process.Process g.O.WriteOnce g.E.WriteOnce _ _ _ _ _ _ _ c.in-Ok-play_games.ensures)
     [ inl e ↦ omega (arith, e, two) | inr e ↦ omega (arith, e, two) ])
 
 pub returns-in-Ok-play_games-clause-stopped : goal.returns-in-Ok-play_games-clause-stopped
 returns-in-Ok-play_games-clause-stopped g c = λ three. absurd
-    (elim (status_range g.S.Process.Process g.O.Output g.E.Output _ _ _ _ _ _ _ c.in-Ok-play_games.ensures)
+    (elim (status_range g.S.Process.Process g.O.WriteOnce g.E.WriteOnce _ _ _ _ _ _ _ c.in-Ok-play_games.ensures)
     [ inl e ↦ omega (arith, e, three) | inr e ↦ omega (arith, e, three) ])
 
 pub returns-in-Ok-play_games-clause-quiet : goal.returns-in-Ok-play_games-clause-quiet
 returns-in-Ok-play_games-clause-quiet g c = λ range none.
-    games_are_quiet g.S.Process.Process g.O.Output g.E.Output c.in-Ok-plan_of.plan
+    games_are_quiet g.S.Process.Process g.O.WriteOnce g.E.WriteOnce c.in-Ok-plan_of.plan
     (c.in-Ok-plan_of.ensures.plan.games.why_flag ∙ none c.in-Ok.options c.in-Ok.ensures.asked)
     _ _ _ _ _ _ c.in-Ok-play_games.ensures
 

@@ -1,6 +1,6 @@
 use Rattle.std.proofs.Common.{arith, refl}
 use Rattle.twogtp.specs.Speaking.{none, one_more}
-use Rattle.twogtp.proofs.SendingLemmas.{full_waits, one_more_is_sent}
+use Rattle.twogtp.proofs.streams.SentAhead.{full_waits, one_more_is_sent}
 use Rattle.twogtp.proofs.sending.take_commands.Goals as goal
 
 pub loop-number-init : goal.loop-number-init

@@ -1,7 +1,7 @@
 use Rattle.std.specs.Prelude.{◌≤◌, ◌*◌}
 use Rattle.arrayvec.specs.ArrayVec.{array_vec_len}
 use Rattle.twogtp.specs.Speaking.{TakesCommands}
-use Rattle.twogtp.proofs.SendingLemmas.{count}
+use Rattle.twogtp.proofs.streams.SentAhead.{count}
 use Rattle.twogtp.proofs.sending.take_commands.Given as goal
 
 -- This number of commands was taken, with at most 64 bytes each, and at least this number is unanswered.

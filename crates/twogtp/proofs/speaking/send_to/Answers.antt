@@ -1,6 +1,6 @@
 use Rattle.std.proofs.Common.{ℕ, List, subst}
 use Rattle.std.specs.Io.KnownBytes.{Appends}
-use Rattle.twogtp.specs.Pipes.{TakesPart}
+use Rattle.byte_streams.specs.Parts.{TakesPart}
 use Rattle.twogtp.specs.Speaking.{failed, taken}
 use Rattle.twogtp.proofs.speaking.send_to.Goals as goal
 

@@ -1,5 +1,6 @@
-use Rattle.twogtp.specs.Why.{owed_text, pipe_text, ending_text, read_text}
-use Rattle.twogtp.proofs.WhyLemmas.{joined-4}
+use Rattle.twogtp.specs.Why.{owed_text, read_text}
+use Rattle.gtp_process.specs.Shown.{ending_text, pipe_text}
+use Rattle.gtp_process.proofs.streams.ShownBytes.{joined-4}
 use Rattle.twogtp.proofs.why_text.push_loss.Goals as goal
 
 pub returns-in-CutOff-clause-bytes : goal.returns-in-CutOff-clause-bytes

@@ -1,7 +1,7 @@
 use Rattle.std.proofs.Common.{codes}
 use Rattle.std.specs.Fmt.{decimal}
 use Rattle.twogtp.specs.Why.{owed_text, wrote_text}
-use Rattle.twogtp.proofs.WhyLemmas.{joined-5}
+use Rattle.gtp_process.proofs.streams.ShownBytes.{joined-5}
 use Rattle.twogtp.proofs.why_text.push_retake.Goals as goal
 
 pub returns-clause-bytes : goal.returns-clause-bytes

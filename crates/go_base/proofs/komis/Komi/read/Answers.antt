@@ -1,7 +1,7 @@
 use Rattle.std.proofs.Common.{sym, ap, ◌∙◌, rules}
 use Rattle.go_base.specs.Komi.{unsigned_half_points_of}
-use Rattle.go_base.proofs.ReadLemmas.{IfNone-always}
-use Rattle.go_base.proofs.KomiLemmas.{no_komi, spells_komi_of}
+use Rattle.go_base.proofs.spellings.Readers.{IfNone-always}
+use Rattle.go_base.proofs.numbers.Komis.{no_komi, spells_komi_of}
 use Rattle.go_base.proofs.komis.Komi.read.Goals as goal
 
 pub returns-in_err-magnitude-clause-unread : goal.returns-in_err-magnitude-clause-unread

@@ -1,6 +1,6 @@
 use Rattle.std.proofs.Common.{◌∙◌, arith, ap, length, lit<}
 use Rattle.std.proofs.lemmas.Int.{ints}
-use Rattle.go_base.proofs.KomiLemmas.{length-written_points}
+use Rattle.go_base.proofs.numbers.Komis.{length-written_points}
 use Rattle.go_base.proofs.komis.Komi.write.Goals as goal
 
 pub push-requires-2 : goal.push-requires-2

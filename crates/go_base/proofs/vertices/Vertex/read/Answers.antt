@@ -1,6 +1,6 @@
 use Rattle.std.proofs.Common.{sym}
-use Rattle.go_base.proofs.ReadLemmas.{IfNone-always}
-use Rattle.go_base.proofs.VertexLemmas.{no_vertex, spells_point_of}
+use Rattle.go_base.proofs.spellings.Readers.{IfNone-always}
+use Rattle.go_base.proofs.spellings.SpelledVertices.{no_vertex, spells_point_of}
 use Rattle.go_base.proofs.vertices.Vertex.read.Goals as goal
 
 pub returns-in_err-point-clause-unread : goal.returns-in_err-point-clause-unread

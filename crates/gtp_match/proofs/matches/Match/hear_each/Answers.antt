@@ -54,14 +54,14 @@ loop-rest-preserved c =
     let more = some_left c.loop-rest.rest.now (sym c.is_empty.ensures ∙ c.loop-rest-test.true) in
     let no_fault = sym c.is_some.ensures ∙ c.if-is_some.false in
     rw (c.add.ensures.loss, c.add.ensures.retake, c.held-held.ensures) (record {
-      tells = λ shown later new told.
+      tells = λ shown later new is_given.
           rw (first_of_all c.loop-rest.report.loss _ later)
           (c.loop-rest.invariant.tells shown _ new
           (tells_more c.args.side c.loop-rest.self c.hear_once-once.new.self new c.loop-rest.rest.now _
           c.hear_once-once.result.used c.hear_once-once.result.fault shown _ later no_fault more
           c.hear_once-once.ensures.exact c.hear_once-once.ensures.loss
-          (take_rest c.loop-rest.rest.now c.hear_once-once.result.used) told));
-      retakes = λ shown later new told.
+          (take_rest c.loop-rest.rest.now c.hear_once-once.result.used) is_given));
+      retakes = λ shown later new is_given.
           subst (λ (rs : List Retake). HearsRetakes c.args.side c.args.self.now c.args.bytes.now shown rs new)
           (sym (listed c.loop-rest.report.retake _ later
           (none_again _ _ c.args.side c.loop-rest.report.retake _ r c.loop-rest.invariant.idle)))
@@ -69,7 +69,7 @@ loop-rest-preserved c =
           (retakes_more c.args.side c.loop-rest.self c.hear_once-once.new.self new c.loop-rest.rest.now _
           c.hear_once-once.result.used c.hear_once-once.result.fault shown _ later no_fault more
           c.hear_once-once.ensures.exact c.hear_once-once.ensures.retake
-          (take_rest c.loop-rest.rest.now c.hear_once-once.result.used) told));
+          (take_rest c.loop-rest.rest.now c.hear_once-once.result.used) is_given));
       idle = λ some.
           idle_after _ _ c.args.side c.loop-rest.report.retake _ c.hear_once-once.ensures.sound r
           c.loop-rest.invariant.idle some;

@@ -1,6 +1,6 @@
 use Rattle.std.specs.List.{slice_split}
 use Rattle.std.specs.Prelude.{◌==◌}
-use Rattle.gtp_session.proofs.BookLemmas.{HasRead}
+use Rattle.gtp_session.proofs.choosing.Books.{HasRead}
 use Rattle.gtp_session.proofs.book.Book.read.Given as goal
 
 abbrev pub invariant-loop-part : goal.invariant-loop-part

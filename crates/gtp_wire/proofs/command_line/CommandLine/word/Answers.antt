@@ -3,7 +3,7 @@ use Rattle.std.proofs.lemmas.Bool.{cases_lt}
 use Rattle.std.specs.Prelude.{slice_get}
 use Rattle.std.specs.List.{slice_split}
 use Rattle.gtp_wire.specs.Bytes.{is_space}
-use Rattle.gtp_wire.proofs.CommandLemmas.{word_without_id, word_with_id, word_past}
+use Rattle.gtp_wire.proofs.line_reading.NumberedWords.{word_without_id, word_with_id, word_past}
 use Rattle.gtp_wire.proofs.command_line.CommandLine.word.Goals as goal
 
 pub returns-then-is_none : goal.returns-then-is_none

@@ -3,7 +3,7 @@ use Rattle.gtp_wire.specs.declared.lines.Line.TheVariants.{Command}
 use Rattle.gtp_wire.specs.Lines.{lines}
 use Rattle.gtp_wire.specs.Words.{words, command_of}
 use Rattle.std.proofs.lemmas.Bool.Decides.{nat_tests}
-use Rattle.gtp_wire.proofs.StepLemmas.{end_empty, end_long, end_command}
+use Rattle.gtp_wire.proofs.line_reading.Steps.{end_empty, end_long, end_command}
 use Rattle.gtp_wire.proofs.lines.LineReader.end_line.Goals as goal
 use Rattle.gtp_wire.proofs.lines.LineReader.end_line.Goals.{then-is_short, else-is_short}
 

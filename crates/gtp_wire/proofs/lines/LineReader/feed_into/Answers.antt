@@ -1,6 +1,6 @@
 use Rattle.std.proofs.Common.{◌∙◌, refl, arith}
-use Rattle.gtp_wire.proofs.StepLemmas.{view_open}
-use Rattle.gtp_wire.proofs.FeedLemmas.{so_far_none, so_far_more, so_far_newline, line_read, none_read}
+use Rattle.gtp_wire.proofs.line_reading.Steps.{view_open}
+use Rattle.gtp_wire.proofs.line_reading.Feeding.{so_far_none, so_far_more, so_far_newline, line_read, none_read}
 use Rattle.gtp_wire.proofs.lines.LineReader.feed_into.Goals as goal
 
 pub loop-i-init : goal.loop-i-init

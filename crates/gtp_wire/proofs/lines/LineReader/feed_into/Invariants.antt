@@ -1,5 +1,5 @@
 use Rattle.std.specs.Prelude.{◌≡◌}
-use Rattle.gtp_wire.proofs.FeedLemmas.{ReadsSoFar}
+use Rattle.gtp_wire.proofs.line_reading.Feeding.{ReadsSoFar}
 use Rattle.gtp_wire.proofs.lines.LineReader.feed_into.Given as goal
 
 -- the bytes so far gave no line, what is held reads on as they do, and the line that was handed in is still there

@@ -1,7 +1,7 @@
 use Rattle.std.proofs.Common.{◌≡◌, ◌<◌, length, arith}
 use Rattle.std.proofs.lemmas.Bool.Decides.{nat_tests}
 use Rattle.gtp_wire.specs.declared.lines.Stage.TheVariants.{Gap}
-use Rattle.gtp_wire.proofs.StepLemmas.{view_open, space_byte, step_front, step_long, step_space, step_skipped}
+use Rattle.gtp_wire.proofs.line_reading.Steps.{view_open, space_byte, step_front, step_long, step_space, step_skipped}
 use Rattle.gtp_wire.proofs.lines.LineReader.take_space.Goals as goal
 
 pub returns-then-is_empty : goal.returns-then-is_empty

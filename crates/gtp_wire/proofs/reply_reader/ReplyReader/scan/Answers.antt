@@ -1,8 +1,8 @@
 use Rattle.std.proofs.Common.{◌+◌, ◌<◌, ◌≤◌, length, ap, arith}
 use Rattle.gtp_wire.specs.Replies.{most_reply_bytes}
 use Rattle.gtp_wire.specs.declared.reply_reader.Step.TheVariants.{To, End, Fault}
-use Rattle.gtp_wire.proofs.ReplyReadingLemmas.{without_fault, quiet_at, leads_nowhere, next_reaches}
-use Rattle.gtp_wire.proofs.ReplyReadingLemmas.{next_overlong}
+use Rattle.gtp_wire.proofs.first_answers.OneByteMore.{without_fault, quiet_at, leads_nowhere, next_reaches}
+use Rattle.gtp_wire.proofs.first_answers.OneByteMore.{next_overlong}
 use Rattle.gtp_wire.proofs.reply_reader.ReplyReader.scan.Goals as goal
 
 pub overflow_sub-room : goal.overflow_sub-room

@@ -1,4 +1,4 @@
-use Rattle.twogtp.proofs.ClosingLemmas.{closed_where}
+use Rattle.twogtp.proofs.matches.Closed.{closed_where}
 use Rattle.twogtp.proofs.closing.WrittenGame.close.Goals as goal
 
 pub returns-clause-closed : goal.returns-clause-closed

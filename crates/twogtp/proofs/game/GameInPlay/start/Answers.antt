@@ -2,10 +2,10 @@ use Rattle.std.proofs.Common.{◌∙◌, List, Ok, Err, Option, ap, refl, subst}
 use Rattle.clap.specs.Words.{Text}
 use Rattle.gtp_match.specs.declared.controller.Controller.{Controller}
 use Rattle.gtp_match.specs.Controller.{lost}
-use Rattle.twogtp.specs.declared.starter.StartFault.{StartFault}
-use Rattle.twogtp.specs.declared.starter.StartFault.TheVariants.{NotStarted}
-use Rattle.twogtp.specs.Processes.{IsEnded}
-use Rattle.twogtp.specs.Starts.{Tries, program_line}
+use Rattle.gtp_process.specs.declared.starter.StartFault.{StartFault}
+use Rattle.gtp_process.specs.declared.starter.StartFault.TheVariants.{NotStarted}
+use Rattle.gtp_process.specs.Endings.{IsEnded}
+use Rattle.gtp_process.specs.Starts.{Tries, program_line}
 use Rattle.twogtp.specs.Turns.{fails_to_start, starts}
 use Rattle.twogtp.proofs.game.GameInPlay.start.Goals as goal
 

@@ -1,0 +1,3 @@
+pub mod CallCounts
+pub mod Parts
+pub mod WrittenTexts

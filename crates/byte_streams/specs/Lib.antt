@@ -1,0 +1,5 @@
+pub mod Calls
+pub mod Counts
+pub mod Parts
+pub mod Streams
+pub mod Writing

@@ -1,0 +1,14 @@
+//! Bytes that come and go: single calls of readers and writers, the counts of them, and texts that are written whole.
+#![tactic(auto)]
+
+mod calls;
+#[cfg(test)]
+mod equal;
+mod streams;
+#[cfg(test)]
+mod tests;
+mod writing;
+
+pub use calls::{CallFault, ReadOnce, WriteOnce, call_fault_of};
+pub use streams::{Broken, Counted, Incoming, Outgoing, send};
+pub use writing::{write_or_break, write_text};

@@ -1,3 +1,0 @@
--- What the words of a reply's text are.
-pub mod Cuts
-pub mod Points

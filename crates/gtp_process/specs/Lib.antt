@@ -1,0 +1,5 @@
+pub mod Pipes
+pub mod Starts
+pub mod Endings
+pub mod Quitting
+pub mod Shown

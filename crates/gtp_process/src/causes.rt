@@ -1,0 +1,64 @@
+//! Why a process was not started, and how one was cut off.
+ghost use Rattle.std.specs.Prelude.{◌≡◌, take};
+ghost use Rattle.gtp_wire.specs.Replies.{most_shown};
+ghost use Rattle.gtp_process.specs.Starts.{first_word, program_line};
+ghost use Rattle.gtp_process.specs.Shown.{unstarted};
+
+use crate::starter::StartReason;
+use arrayvec::ArrayVec;
+use go_base::push;
+use gtp_wire::MOST_SHOWN;
+
+/// How a pipe cut a process off.
+#[derive(Clone, Copy, Debug, PartialEq, Eq, Drop)]
+pub enum PipeCause {
+    /// A write failed.
+    Writing,
+    /// A read failed.
+    Reading,
+    /// Its output ended.
+    Ended,
+}
+
+/// The beginning of a program's name.
+pub type ProgramName = ArrayVec<u8, MOST_SHOWN>;
+
+/// A program that was not started.
+#[derive(Drop)]
+pub struct Unstarted {
+    /// Why.
+    pub reason: StartReason,
+    /// The first 80 bytes of its name.
+    pub program: ProgramName,
+}
+
+impl Unstarted {
+    /// The program that the first of these words names was not started for this reason.
+    pub fn new(words: &[&str], reason: StartReason) -> Self
+        ensures { result ≡ unstarted (program_line words.now) reason }
+    {
+        Unstarted {
+            reason,
+            program: first_bytes(first_word(words).as_bytes()),
+        }
+    }
+}
+
+/// The first word, and none where there is no word.
+fn first_word<'a>(words: &[&'a str]) -> &'a str
+    ensures { result.now ≡ first_word (program_line words.now) }
+{
+    match words {
+        [word, ..] => *word,
+        [] => "",
+    }
+}
+
+/// The beginning of a text.
+fn first_bytes(text: &[u8]) -> ProgramName
+    ensures { result.items ≡ take most_shown text.now }
+{
+    let mut bytes = ArrayVec::new();
+    push(&mut bytes, &text[..MOST_SHOWN.min(text.len())]);
+    bytes
+}

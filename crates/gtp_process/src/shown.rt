@@ -1,0 +1,126 @@
+//! How a process and what it wrote are shown.
+ghost use Rattle.std.specs.Prelude.{◌≡◌, ◌+◌, ◌*◌, ◌<◌, ◌≤◌, ◌++◌, length};
+ghost use Rattle.arrayvec.specs.ArrayVec.{array_vec_len};
+ghost use Rattle.std.specs.Fmt.{decimal};
+ghost use Rattle.gtp_process.specs.Shown.{ending_text, hex_digit, pipe_text, quoted, reason_text, shown_byte};
+ghost use Rattle.gtp_process.specs.Shown.{shown_bytes, unstarted_text};
+
+use crate::causes::{PipeCause, Unstarted};
+use crate::starter::{Ending, StartReason};
+use arrayvec::ArrayVec;
+use go_base::{push, write_int};
+
+/// Appends why a program was not started, and its name: at most 397 bytes.
+pub fn push_unstarted<const ROOM: usize>(line: &mut ArrayVec<u8, ROOM>, start: &Unstarted)
+    requires { array_vec_len line.old + 397 ≤ ROOM }
+    ensures bytes { line.new.items ≡ line.old.items ++ unstarted_text start.now }
+    ensures len { array_vec_len line.new ≤ array_vec_len line.old + 397 }
+{
+    push(line, b"not started: ");
+    push(line, reason_text(start.reason));
+    push(line, b": ");
+    push_quoted(line, &start.program);
+}
+
+/// Why a program was not started, in words.
+fn reason_text(reason: StartReason) -> &'static [u8]
+    ensures text { result.now ≡ reason_text reason }
+    ensures few { length result.now ≤ 60 }
+{
+    match reason {
+        StartReason::NotFound => b"no such file",
+        StartReason::NotAllowed => b"not allowed",
+        StartReason::NotADirectory => b"a part of its path is no directory",
+        StartReason::Busy => b"the file is open for writing",
+        StartReason::TooLong => b"too long",
+        StartReason::NoFiles => b"too many open files",
+        StartReason::NoProcesses => b"too many processes",
+        StartReason::NoProgram => b"not a program that the system can run",
+        StartReason::Other => b"the system refused it",
+    }
+}
+
+/// How a pipe cut a process off, in words.
+pub fn pipe_text(cause: PipeCause) -> &'static [u8]
+    ensures text { result.now ≡ pipe_text cause }
+    ensures few { length result.now ≤ 16 }
+{
+    match cause {
+        PipeCause::Writing => b"writing failed",
+        PipeCause::Reading => b"reading failed",
+        PipeCause::Ended => b"its output ended",
+    }
+}
+
+/// Appends how a process ended, where that is known: at most 24 bytes.
+pub fn push_ending<const ROOM: usize>(line: &mut ArrayVec<u8, ROOM>, ending: Ending)
+    requires { array_vec_len line.old + 24 ≤ ROOM }
+    ensures bytes { line.new.items ≡ line.old.items ++ ending_text ending }
+    ensures len { array_vec_len line.new ≤ array_vec_len line.old + 24 }
+{
+    match ending {
+        Ending::Unknown => {}
+        Ending::Status(number) => {
+            push(line, b", exit status ");
+            push(line, &write_int(number));
+        }
+        Ending::Signal(number) => {
+            push(line, b", signal ");
+            push(line, &write_int(number));
+        }
+    }
+}
+
+/// Appends bytes as they are shown, in quotes: at most four bytes for each, and two.
+pub fn push_quoted<const ROOM: usize>(line: &mut ArrayVec<u8, ROOM>, bytes: &[u8])
+    requires { array_vec_len line.old + 4 * length bytes.now + 2 ≤ ROOM }
+    ensures bytes { line.new.items ≡ line.old.items ++ quoted bytes.now }
+    ensures len { array_vec_len line.new ≤ array_vec_len line.old + 4 * length bytes.now + 2 }
+{
+    push(line, b"\"");
+    push_shown(line, bytes);
+    push(line, b"\"");
+}
+
+/// Appends bytes as they are shown: at most four bytes for each.
+pub fn push_shown<const ROOM: usize>(line: &mut ArrayVec<u8, ROOM>, bytes: &[u8])
+    requires { array_vec_len line.old + 4 * length bytes.now ≤ ROOM }
+    ensures bytes { line.new.items ≡ line.old.items ++ shown_bytes bytes.now }
+    ensures len { array_vec_len line.new ≤ array_vec_len line.old + 4 * length bytes.now }
+{
+    for byte in bytes {
+        push_byte(line, *byte);
+    }
+}
+
+/// Appends a byte as it is shown.
+fn push_byte<const ROOM: usize>(line: &mut ArrayVec<u8, ROOM>, byte: u8)
+    requires { array_vec_len line.old + 4 ≤ ROOM }
+    ensures bytes { line.new.items ≡ line.old.items ++ shown_byte byte }
+    ensures len { array_vec_len line.new ≤ array_vec_len line.old + 4 }
+{
+    match byte {
+        b'"' => push(line, b"\\\""),
+        b'\\' => push(line, b"\\\\"),
+        b'\n' => push(line, b"\\n"),
+        b'\r' => push(line, b"\\r"),
+        b'\t' => push(line, b"\\t"),
+        b' '..=b'~' => push(line, &[byte]),
+        _ => {
+            push(line, b"\\x");
+            push(line, &[hex_digit(byte / 16), hex_digit(byte % 16)]);
+        }
+    }
+}
+
+/// A digit in base 16.
+fn hex_digit(number: u8) -> u8
+    requires { number < 16 }
+    ensures { result ≡ hex_digit number }
+{
+    if number >= 10 {
+        b'A' + (number - 10)
+    } else {
+        b'0' + number
+    }
+}

@@ -1,0 +1,125 @@
+//! Engines as processes: how one is started, sent to, read and ended.
+ghost use Rattle.std.specs.Prelude.{◌≡◌, ◌≤◌, ◌<◌, ℕ, List, length, Option, IfOk, IfErr, OnOk};
+ghost use Rattle.std.specs.Io.KnownBytes.{WriteAppends, Keeps};
+ghost use Rattle.gtp_process.specs.Starts.{Attempts, Tries, program_line};
+ghost use Rattle.gtp_process.specs.declared.starter.Ending.{Ending};
+ghost use Rattle.byte_streams.specs.declared.calls.CallFault.{CallFault};
+ghost use Rattle.byte_streams.specs.declared.calls.CallFault.TheVariants as call_fault;
+
+use byte_streams::CallFault;
+
+/// Why no process was started.
+#[derive(Clone, Copy, Debug, PartialEq, Eq, Drop)]
+pub enum StartFault {
+    /// Memory was refused.
+    OutOfMemory,
+    /// The system doesn't start it.
+    NotStarted(StartReason),
+}
+
+/// Why the system doesn't start a program.
+#[derive(Clone, Copy, Debug, PartialEq, Eq, Drop)]
+pub enum StartReason {
+    /// There is no such file.
+    NotFound,
+    /// It may not be executed.
+    NotAllowed,
+    /// A part of its path is no directory.
+    NotADirectory,
+    /// It is open for writing.
+    Busy,
+    /// Its name or its arguments are too long.
+    TooLong,
+    /// No file can be opened any more.
+    NoFiles,
+    /// No process can be started any more.
+    NoProcesses,
+    /// The file is no program.
+    NoProgram,
+    /// Anything else.
+    Other,
+}
+
+/// How a process ended.
+#[derive(Clone, Copy, Debug, PartialEq, Eq, Drop)]
+pub enum Ending {
+    /// It isn't known.
+    Unknown,
+    /// By itself, with this status.
+    Status(u32),
+    /// By this signal.
+    Signal(u32),
+}
+
+/// The means to start processes.
+pub trait Starter {
+    /// A process that was started. It is not `Drop`: the compiler refuses a path on which one isn't ended.
+    type Process: Process;
+
+    // All attempts to start a program that it was asked for, with what each gave, where they are known.
+    ghost asked: { Self → Attempts Self.Process };
+
+    /// Starts the program that the first word names, with the other words as its arguments.
+    fn start(&mut self, words: &[&str]) -> Result<Self::Process, StartFault>
+        ensures asked { Tries (asked self.old) (asked self.new) (program_line words.now) result };
+}
+
+/// A process that was started, with pipes to its standard input and from its standard output. `read`, `write` and
+/// `flush` are one call of a pipe each.
+pub trait Process {
+    // All bytes that it was sent, where they are known.
+    ghost taken: { Self → Option (List ℕ) };
+
+    // All bytes that it gave, where they are known.
+    ghost given: { Self → Option (List ℕ) };
+
+    // A call that failed for this cause led from the one to the other.
+    ghost fails: { Self → CallFault → Self → Type 0 };
+
+    // A call that gave or took a byte, or flushed what was sent, led from the one to the other.
+    ghost succeeds: { Self → Self → Type 0 };
+
+    // A read that met the end of its output led from the one to the other.
+    ghost runs_out: { Self → Self → Type 0 };
+
+    // It ended so.
+    ghost leaves: { Self → Ending → Type 0 };
+
+    // Nothing that it was sent waits to go out.
+    ghost flushed: { Self → Type 0 };
+
+    /// Waits for bytes, and puts them into the front of the buffer. `Ok(0)` is the end of the stream.
+    fn read(&mut self, buffer: &mut [u8]) -> Result<usize, CallFault>
+        ensures bound { IfOk result (λ n. n ≤ length buffer.new) }
+        ensures gives { WriteAppends (given self.old) (given self.new) result buffer.new }
+        ensures taken { Keeps (taken self.old) (taken self.new) }
+        ensures succeeded { IfOk result (λ n. 0 < n → succeeds self.old self.new) }
+        ensures ended { IfOk result (λ n. n ≡ 0 → 0 < length buffer.new →
+            runs_out self.old self.new) }
+        ensures failed { IfErr result (λ fault. fails self.old fault self.new) };
+
+    /// Sends bytes from the front of the text, and returns how many.
+    fn write(&mut self, text: &[u8]) -> Result<usize, CallFault>
+        ensures bound { IfOk result (λ n. n ≤ length text.now) }
+        ensures takes { WriteAppends (taken self.old) (taken self.new) result text.now }
+        ensures given { Keeps (given self.old) (given self.new) }
+        ensures succeeded { IfOk result (λ n. 0 < n → succeeds self.old self.new) }
+        ensures none { IfOk result (λ n. n ≡ 0 → 0 < length text.now →
+            fails self.old call_fault.Broken self.new) }
+        ensures failed { IfErr result (λ fault. fails self.old fault self.new) };
+
+    /// Flushes what was sent.
+    fn flush(&mut self) -> Result<(), CallFault>
+        ensures taken { Keeps (taken self.old) (taken self.new) }
+        ensures given { Keeps (given self.old) (given self.new) }
+        ensures succeeded { OnOk result (succeeds self.old self.new) }
+        ensures flushed { OnOk result (flushed self.new) }
+        ensures failed { IfErr result (λ fault. fails self.old fault self.new) };
+
+    /// Lets the process run before it is read, where that saves time. What it was sent and what it gave stay.
+    fn go_first(&self);
+
+    /// Closes the pipes, kills the process if it still runs, waits for it, and returns how it ended.
+    fn end(self) -> Ending
+        ensures { leaves self result };
+}

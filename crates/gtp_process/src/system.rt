@@ -1,0 +1,228 @@
+//! Processes of the operating system.
+ghost use Rattle.std.specs.Prelude.{◌≡◌, ◌≢◌, ⊤, length, None, IfErr, IfOk, IsErrAnd, IsErrOf, IsOkAnd};
+ghost use Rattle.std.specs.IoError.{error_kind, raw_os_error};
+ghost use Rattle.gtp_process.specs.Starts.{kind_reason, limit_of, reason_of, start_fault_of};
+
+use crate::precedence::Precedence;
+use crate::starter::{Ending, Process, StartFault, StartReason, Starter};
+use byte_streams::{CallFault, call_fault_of};
+use std::alloc::Global;
+use std::cell::Cell;
+use std::io;
+use std::io::{ErrorKind, Read, Stderr, Write};
+use std::os::unix::process::ExitStatusExt;
+use std::process::{Child, Command, ExitStatus, OpenProcess, Processes, Stdio};
+use std::time::Clock;
+
+/// The number of the system's error where no process can be started any more.
+const EAGAIN: i32 = 11;
+
+/// The number of its error where no file can be opened any more in the whole system.
+const ENFILE: i32 = 23;
+
+/// The number of its error where no file can be opened any more in this process.
+const EMFILE: i32 = 24;
+
+/// Starts processes of the operating system. Their standard error is the program's own.
+#[derive(Drop)]
+pub struct SystemStarter<'r, R> {
+    /// The memory for the command.
+    pub alloc: Global,
+    /// The right to start processes, and the clock.
+    pub system: &'r R,
+    /// The standard error that each process is given.
+    pub errors: Stderr,
+}
+
+/// A process of the operating system.
+pub struct SystemProcess<P: OpenProcess, C> {
+    child: Child<P>,
+    clock: C,
+    /// Whether it goes first before it is read.
+    precedence: Cell<Precedence>,
+}
+
+impl<'r, R: Processes + Clock> Starter for SystemStarter<'r, R> {
+    type Process = SystemProcess<R::Started, &'r R>;
+
+    ghost asked = { λ _. None };
+
+    fn start(&mut self, words: &[&str]) -> Result<SystemProcess<R::Started, &'r R>, StartFault>
+        // Without a word there is no program.
+        ensures no_word { length words.now ≡ 0 →
+            IsErrOf result (StartFault.NotStarted StartReason.NotFound) }
+    {
+        let spawned = spawn_program(self.alloc, self.system, self.errors, words);
+        process_of(spawned, self.system)
+    }
+}
+
+/// The process of a child that was started, which goes first from its second read on, or why there is none.
+fn process_of<P: OpenProcess, C: Drop>(
+    spawned: io::Result<Child<P>>,
+    clock: C,
+) -> Result<SystemProcess<P, C>, StartFault>
+    ensures started { IfOk spawned (λ child.
+        IsOkAnd result (λ process. process.child ≡ child)) }
+    ensures refused { IfErr spawned (λ error.
+        IsErrOf result (start_fault_of (raw_os_error error) (error_kind error))) }
+{
+    match spawned {
+        Ok(child) => Ok(SystemProcess {
+            child,
+            clock,
+            precedence: Cell::new(Precedence::Starting),
+        }),
+        Err(error) => Err(start_fault_of(&error)),
+    }
+}
+
+/// Starts the program that the first word names. The standard error is handed on by name: the file that holds the
+/// number of a closed one isn't inherited.
+fn spawn_program<R: Processes>(
+    alloc: Global,
+    processes: &R,
+    errors: Stderr,
+    words: &[&str],
+) -> io::Result<Child<R::Started>>
+    // Without a word there is no program.
+    ensures no_word { length words.now ≡ 0 → IsErrAnd result (λ error.
+        (error_kind error ≡ ErrorKind.NotFound) × (raw_os_error error ≡ None)) }
+{
+    let Some((program, arguments)) = words.split_first() else {
+        return Err(io::Error::new(ErrorKind::NotFound, "no word"));
+    };
+    let mut command = Command::new(alloc, *program)?;
+    command.args(arguments)?;
+    command
+        .stdin(Stdio::piped())
+        .stdout(Stdio::piped())
+        .stderr(errors);
+    command.spawn(processes)
+}
+
+/// Why no process was started: want of memory, or else a reason.
+pub fn start_fault_of(error: &io::Error) -> StartFault
+    ensures { result ≡ start_fault_of (raw_os_error error.now) (error_kind error.now) }
+{
+    match error.kind() {
+        ErrorKind::OutOfMemory => StartFault::OutOfMemory,
+        kind => StartFault::NotStarted(reason_of(error.raw_os_error(), kind)),
+    }
+}
+
+/// Why the system doesn't start a program, by the number of its error where that is a limit's, and else by its kind.
+fn reason_of(number: Option<i32>, kind: ErrorKind) -> StartReason
+    ensures { result ≡ reason_of number kind }
+{
+    match limit_of(number) {
+        Some(limit) => limit,
+        None => kind_reason(kind),
+    }
+}
+
+/// The limit that the system has come to, by the number of its error, if it is one. The kind doesn't show which: files
+/// have none of their own, and that of processes is another's too.
+fn limit_of(number: Option<i32>) -> Option<StartReason>
+    ensures { result ≡ limit_of number }
+{
+    match number {
+        Some(EAGAIN) => Some(StartReason::NoProcesses),
+        Some(ENFILE | EMFILE) => Some(StartReason::NoFiles),
+        _ => None,
+    }
+}
+
+/// Why the system doesn't start a program, by the kind of its error. What has no kind of its own is mostly that the
+/// file is no program.
+fn kind_reason(kind: ErrorKind) -> StartReason
+    ensures { result ≡ kind_reason kind }
+{
+    match kind {
+        ErrorKind::NotFound => StartReason::NotFound,
+        ErrorKind::PermissionDenied => StartReason::NotAllowed,
+        ErrorKind::NotADirectory => StartReason::NotADirectory,
+        ErrorKind::ExecutableFileBusy => StartReason::Busy,
+        ErrorKind::ArgumentListTooLong | ErrorKind::InvalidFilename => StartReason::TooLong,
+        ErrorKind::Uncategorized => StartReason::NoProgram,
+        _ => StartReason::Other,
+    }
+}
+
+impl<P: OpenProcess + Drop, C: Clock + Drop> Process for SystemProcess<P, C> {
+    ghost taken = { λ _. None };
+
+    ghost given = { λ _. None };
+
+    ghost fails = { λ _ _ _. ⊤ };
+
+    ghost succeeds = { λ _ _. ⊤ };
+
+    ghost runs_out = { λ _ _. ⊤ };
+
+    ghost leaves = { λ _ _. ⊤ };
+
+    ghost flushed = { λ _. ⊤ };
+
+    fn read(&mut self, buffer: &mut [u8]) -> Result<usize, CallFault> {
+        let Some(stdout) = &mut self.child.stdout else {
+            return Err(CallFault::Broken);
+        };
+        match stdout.read(buffer) {
+            Ok(count) => Ok(count),
+            Err(error) => Err(call_fault_of(error.kind())),
+        }
+    }
+
+    fn write(&mut self, text: &[u8]) -> Result<usize, CallFault> {
+        let Some(stdin) = &mut self.child.stdin else {
+            return Err(CallFault::Broken);
+        };
+        match stdin.write(text) {
+            Ok(count) => Ok(count),
+            Err(error) => Err(call_fault_of(error.kind())),
+        }
+    }
+
+    fn flush(&mut self) -> Result<(), CallFault> {
+        let Some(stdin) = &mut self.child.stdin else {
+            return Err(CallFault::Broken);
+        };
+        match stdin.flush() {
+            Ok(()) => Ok(()),
+            Err(error) => Err(call_fault_of(error.kind())),
+        }
+    }
+
+    fn go_first(&self) {
+        let next = self.precedence.get().go_first(&self.clock);
+        self.precedence.set(next);
+    }
+
+    fn end(self) -> Ending {
+        let SystemProcess {
+            mut child,
+            clock: _,
+            precedence: _,
+        } = self;
+        drop(child.stdin.take());
+        drop(child.stdout.take());
+        // A process that has ended can't be killed. Its status is asked for all the same.
+        let _ = child.kill();
+        match child.wait() {
+            Ok(status) => ending_of(status),
+            Err(_) => Ending::Unknown,
+        }
+    }
+}
+
+/// How a process with this exit status ended.
+fn ending_of(status: ExitStatus) -> Ending {
+    if let Some(number) = status.code() {
+        return Ending::Status(number.unsigned_abs());
+    }
+    match status.signal() {
+        Some(number) => Ending::Signal(number.unsigned_abs()),
+        None => Ending::Unknown,
+    }
+}

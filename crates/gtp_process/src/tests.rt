@@ -1,0 +1,5 @@
+//! What only tests show of starts, pipes and who goes first.
+mod asking;
+mod clocks;
+mod shown;
+mod starts;

@@ -1,0 +1,4 @@
+-- What policies choose.
+pub mod Policies
+pub mod Books
+pub mod CandidatesOfBoards

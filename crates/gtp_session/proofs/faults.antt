@@ -1,0 +1,4 @@
+-- Faults on request.
+pub mod UnderFaults
+pub mod SpelledFaults
+pub mod Stops

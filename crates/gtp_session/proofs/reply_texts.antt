@@ -1,0 +1,4 @@
+-- The texts of replies.
+pub mod NeatTexts
+pub mod Spoken
+pub mod HalfPoints

@@ -1,0 +1,6 @@
+//! What every program of this repository does alike: with the words of its command line, with the standard streams that
+//! it was started without, and with a failure that it reports.
+#![tactic(auto)]
+
+pub mod standard;
+pub mod words;

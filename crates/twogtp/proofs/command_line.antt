@@ -1,0 +1,3 @@
+-- The words of the command line.
+pub mod Matches
+pub mod CommandWords

@@ -1,0 +1,2 @@
+-- What is sent ahead, and how bytes are shown.
+pub mod SentAhead
