@@ -1,0 +1,3 @@
+-- A check over all its starts.
+pub mod Bounds
+pub mod Reader

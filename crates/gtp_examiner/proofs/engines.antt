@@ -1,0 +1,6 @@
+-- What is heard of a right engine.
+pub mod Says
+pub mod OneGame
+pub mod Wire
+pub mod Rightly
+pub mod Followed

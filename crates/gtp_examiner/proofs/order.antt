@@ -1,0 +1,3 @@
+-- Each call keeps an examiner orderly.
+pub mod Asked
+pub mod Heard

@@ -1,0 +1,3 @@
+-- Scores of an empty board.
+pub mod EmptyBoard
+pub mod ReadBack

@@ -1,0 +1,4 @@
+-- What holds of a talk, and what is found in it.
+pub mod Silence
+pub mod Findings
+pub mod Skills

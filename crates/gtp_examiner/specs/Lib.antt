@@ -1,0 +1,9 @@
+pub mod Scores
+pub mod Asking
+pub mod Setups
+pub mod Skills
+pub mod Dues
+pub mod Judging
+pub mod Exam
+pub mod Check
+pub mod Laws

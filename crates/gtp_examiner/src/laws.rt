@@ -1,0 +1,67 @@
+//! Laws of the examiner. Each is the contract of a function that does nothing.
+ghost use Rattle.gtp_examiner.specs.Laws.{SilenceSaysAllIsRight, FindingsAreJustified, RightAnswersHaveNoFinding};
+ghost use Rattle.gtp_examiner.specs.Laws.{RightAnswersLeaveOneGame, SkillsAreWhatWasSaid, AskedCommandsAreLines};
+ghost use Rattle.gtp_examiner.specs.Laws.{PlaysAreLegalOrProbes};
+ghost use Rattle.gtp_examiner.specs.Laws.{ScoresAreKomiAlone, WhoAnswersRightlyIsNotBlamed, NoRightEngineIsBlamed};
+ghost use Rattle.gtp_examiner.specs.Check.{EveryCheckIsBounded};
+
+use gtp_session::policy::Policy;
+
+/// As long as nothing was found, each answer that was heard is a right one, by the table of the engine's commands or as
+/// the refusal of what may be refused, in the game that the commands and answers before it make.
+pub fn silence_says_all_is_right()
+    ensures { SilenceSaysAllIsRight }
+{}
+
+/// A finding is the first wrong answer of its engine: all before it were right, and no right engine, whatever it
+/// chooses, gives this answer in the game that they make.
+pub fn findings_are_justified()
+    ensures { FindingsAreJustified }
+{}
+
+/// A right answer has no finding.
+pub fn right_answers_have_no_finding()
+    ensures { RightAnswersHaveNoFinding }
+{}
+
+/// Right answers leave one game, and no other.
+pub fn right_answers_leave_one_game()
+    ensures { RightAnswersLeaveOneGame }
+{}
+
+/// What is known of the commands that an engine may be without is what it said itself.
+pub fn skills_are_what_was_said()
+    ensures { SkillsAreWhatWasSaid }
+{}
+
+/// What is written of a command that is asked is one line, with the next id and the command's words.
+pub fn asked_commands_are_lines()
+    ensures { AskedCommandsAreLines }
+{}
+
+/// A move that is asked is legal in the game that a right engine has by then, or it is a probe, which it has to refuse.
+pub fn plays_are_legal_or_probes()
+    ensures { PlaysAreLegalOrProbes }
+{}
+
+/// The score that is asked for is that of komi alone.
+pub fn scores_are_komi_alone()
+    ensures { ScoresAreKomiAlone }
+{}
+
+/// Whoever wrote right answers alone isn't blamed, in whatever cuts they are heard, and however many of them.
+pub fn who_answers_rightly_is_not_blamed()
+    ensures { WhoAnswersRightlyIsNotBlamed }
+{}
+
+/// An engine that was given just the bytes that were asked is never blamed, whatever its policy chooses, in whatever
+/// cuts its output is heard, and however much of it.
+pub fn no_right_engine_is_blamed<P: Policy>()
+    ensures { NoRightEngineIsBlamed P.may }
+{}
+
+/// Over every list of calls, whatever is heard: there are no more starts than were allowed, at most eight commands are
+/// unanswered, and one engine is asked at most 2,147,483,647 of them.
+pub fn every_check_is_bounded()
+    ensures { EveryCheckIsBounded }
+{}
