@@ -1,5 +1,6 @@
 -- Texts that are written whole, and lines of them.
-use Rattle.std.proofs.Common.{◌≡◌, ◌∙◌, ℕ, ◌+◌, ◌≤◌, ◌<◌, List, [], ◌∷◌, ◌++◌, length, take, drop, Option, None, Some, sym}
+use Rattle.std.proofs.Common.{◌≡◌, ◌∙◌, ℕ, ◌+◌, ◌≤◌, ◌<◌, List, [], ◌∷◌, ◌++◌, length, take, drop, Option, None, Some}
+use Rattle.std.proofs.Common.{sym}
 use Rattle.std.proofs.Common.{arith, inl, inr, subst, Result, Ok, Err, OnOk, OnErr}
 use Rattle.std.proofs.lemmas.List.{take-append-drop, take_all, length-drop, drop-drop, drop_all, append-nil}
 use Rattle.std.proofs.KnownBytes.{Appends-kept}
@@ -111,25 +112,25 @@ module _ {W : Type 0} (known : Ghosts W) where
       later out (breaks_first lines more between after breaks)
 
   -- the same of a last call, whatever it returns: one line by itself
-  pub one_out : {T F : Type 0} (is_given : Result T F) (line : List ℕ) (before after : W)
-      → OnOk is_given (GoesOut known line before after) → OnOk is_given (LinesGoOut known (line ∷ []) before after)
+  pub one_out : {T F : Type 0} (result : Result T F) (line : List ℕ) (before after : W)
+      → OnOk result (GoesOut known line before after) → OnOk result (LinesGoOut known (line ∷ []) before after)
   one_out (Ok x) line before after out = line_out out no_line
   one_out (Err e) line before after out = tt
 
-  pub one_breaks : {T F : Type 0} (is_given : Result T F) (line : List ℕ) (before after : W)
-      → OnErr is_given (BreaksAt known line before after) → OnErr is_given (LinesBreak known (line ∷ []) before after)
+  pub one_breaks : {T F : Type 0} (result : Result T F) (line : List ℕ) (before after : W)
+      → OnErr result (BreaksAt known line before after) → OnErr result (LinesBreak known (line ∷ []) before after)
   one_breaks (Ok x) line before after breaks = tt
   one_breaks (Err e) line before after breaks = at_line breaks
 
   -- and lines after those that went out
-  pub more_out : {T F : Type 0} (is_given : Result T F) (first more : List (List ℕ)) (before mid after : W)
-      → LinesGoOut known first before mid → OnOk is_given (LinesGoOut known more mid after)
-      → OnOk is_given (LinesGoOut known (first ++ more) before after)
+  pub more_out : {T F : Type 0} (result : Result T F) (first more : List (List ℕ)) (before mid after : W)
+      → LinesGoOut known first before mid → OnOk result (LinesGoOut known more mid after)
+      → OnOk result (LinesGoOut known (first ++ more) before after)
   more_out (Ok x) first more before mid after out rest = lines_then first more before mid after out rest
   more_out (Err e) first more before mid after out rest = tt
 
-  pub more_breaks : {T F : Type 0} (is_given : Result T F) (first more : List (List ℕ)) (before mid after : W)
-      → LinesGoOut known first before mid → OnErr is_given (LinesBreak known more mid after)
-      → OnErr is_given (LinesBreak known (first ++ more) before after)
+  pub more_breaks : {T F : Type 0} (result : Result T F) (first more : List (List ℕ)) (before mid after : W)
+      → LinesGoOut known first before mid → OnErr result (LinesBreak known more mid after)
+      → OnErr result (LinesBreak known (first ++ more) before after)
   more_breaks (Ok x) first more before mid after out breaks = tt
   more_breaks (Err e) first more before mid after out breaks = breaks_later first more before mid after out breaks

@@ -4,12 +4,13 @@
 //! failed or let go out what it had. Here a reader or a writer names what its calls do, by a relation between itself
 //! before a call, the call with what it returned, and itself afterwards. So a function over it can promise which calls
 //! it makes. One of the standard library names nothing.
-ghost use Rattle.std.specs.Prelude.{ℕ, List, Option, ◌≡◌, ◌≢◌, length};
+ghost use Rattle.std.specs.Prelude.{ℕ, List, Option, ◌≡◌, ◌≢◌, length, Ok, IfOk, IfErr, IsErrOf};
+ghost use Rattle.std.specs.IoError.{error_kind};
 ghost use Rattle.std.specs.Io.{ReadsAtMost, WritesAtMost};
 ghost use Rattle.std.specs.Io.KnownBytes.{ReadConsumes, WriteAppends, Keeps};
 ghost use Rattle.byte_streams.specs.Calls.{Call, Reads, Writes, Flushes, given_bytes};
 
-use std::io::{ErrorKind, Read, Write};
+use std::io::{self, ErrorKind, Read, Write};
 use thiserror::Error;
 
 /// Why one call of a reader or a writer failed.
@@ -20,17 +21,35 @@ pub enum CallFault {
     Interrupted,
     /// Anything else.
     #[error("broken stream")]
-    Broken,
+    Other,
 }
 
 /// Why a call failed, by the kind of its error.
-pub fn call_fault_of(kind: ErrorKind) -> CallFault
+pub(crate) fn call_fault_of(kind: ErrorKind) -> CallFault
     ensures interrupted { kind ≡ ErrorKind.Interrupted → result ≡ CallFault.Interrupted }
-    ensures other { kind ≢ ErrorKind.Interrupted → result ≡ CallFault.Broken }
+    ensures other { kind ≢ ErrorKind.Interrupted → result ≡ CallFault.Other }
 {
     match kind {
         ErrorKind::Interrupted => CallFault::Interrupted,
-        _ => CallFault::Broken,
+        _ => CallFault::Other,
+    }
+}
+
+/// What a call of the standard library returned: its value, or why it failed.
+///
+/// # Errors
+///
+/// A fault where the call failed.
+pub fn outcome_of<T>(called: io::Result<T>) -> Result<T, CallFault>
+    ensures done { IfOk called (λ value. result ≡ Ok value) }
+    ensures interrupted { IfErr called (λ error. error_kind error ≡ ErrorKind.Interrupted
+        → IsErrOf result CallFault.Interrupted) }
+    ensures other { IfErr called (λ error. error_kind error ≢ ErrorKind.Interrupted
+        → IsErrOf result CallFault.Other) }
+{
+    match called {
+        Ok(value) => Ok(value),
+        Err(error) => Err(call_fault_of(error.kind())),
     }
 }
 
@@ -88,10 +107,7 @@ impl<T: Read> ReadOnce for T {
     ghost calls = { λ old call new. Unit {0} };
 
     fn read_once(&mut self, buffer: &mut [u8]) -> Result<usize, CallFault> {
-        match self.read(buffer) {
-            Ok(count) => Ok(count),
-            Err(error) => Err(call_fault_of(error.kind())),
-        }
+        outcome_of(self.read(buffer))
     }
 }
 
@@ -101,16 +117,10 @@ impl<T: Write> WriteOnce for T {
     ghost calls = { λ old call new. Unit {0} };
 
     fn write_once(&mut self, text: &[u8]) -> Result<usize, CallFault> {
-        match self.write(text) {
-            Ok(count) => Ok(count),
-            Err(error) => Err(call_fault_of(error.kind())),
-        }
+        outcome_of(self.write(text))
     }
 
     fn flush_once(&mut self) -> Result<(), CallFault> {
-        match self.flush() {
-            Ok(()) => Ok(()),
-            Err(error) => Err(call_fault_of(error.kind())),
-        }
+        outcome_of(self.flush())
     }
 }

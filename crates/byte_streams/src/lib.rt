@@ -9,6 +9,6 @@ mod streams;
 mod tests;
 mod writing;
 
-pub use calls::{CallFault, ReadOnce, WriteOnce, call_fault_of};
+pub use calls::{CallFault, ReadOnce, WriteOnce, outcome_of};
 pub use streams::{Broken, Counted, Incoming, Outgoing, send};
 pub use writing::{write_or_break, write_text};

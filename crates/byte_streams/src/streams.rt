@@ -4,7 +4,8 @@ ghost use Rattle.std.specs.Io.{ReadsAtMost, WritesAtMost};
 ghost use Rattle.std.specs.Io.KnownBytes.{ReadConsumes, WriteAppends, Keeps};
 ghost use Rattle.byte_streams.specs.Calls.{IsOneRead, IsOneWrite, IsOneFlush};
 ghost use Rattle.byte_streams.specs.Streams.{Source, Sink, TookWhole, TookPart};
-ghost use Rattle.byte_streams.specs.Counts.{raised, failures_after, ends_after, bytes_moved, moved_by_flush, waiting_after_write, waiting_after_flush};
+ghost use Rattle.byte_streams.specs.Counts.{raised, failures_after, ends_after, bytes_moved, moved_by_flush};
+ghost use Rattle.byte_streams.specs.Counts.{waiting_after_write, waiting_after_flush};
 
 use crate::calls::{ReadOnce, WriteOnce};
 use std::marker::Model;

@@ -111,5 +111,5 @@ fn an_interrupted_read_fails_and_the_next_is_made(rt: HostRuntime) {
         call_fault_of(ErrorKind::Interrupted),
         CallFault::Interrupted,
     );
-    assert_equal(&rt, call_fault_of(ErrorKind::TimedOut), CallFault::Broken);
+    assert_equal(&rt, call_fault_of(ErrorKind::TimedOut), CallFault::Other);
 }

@@ -42,8 +42,8 @@ fn read_move(rt: &impl Abort, word: &str) -> Move {
     }
 }
 
-/// Plays the moves of a text one after the other, with spaces between. The word `undo` takes one back. Each call is to be
-/// accepted.
+/// Plays the moves of a text one after the other, with spaces between. The word `undo` takes one back. Each call is
+/// to be accepted.
 fn play_all(rt: &impl Abort, game: &mut Game, moves: &str) {
     for word in moves.split_whitespace() {
         if word == "undo" {

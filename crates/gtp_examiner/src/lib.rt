@@ -2,9 +2,9 @@
 //! instead.
 //!
 //! An [`Examiner`] starts no process and reads no pipe. Its caller starts an engine and calls `started`. It asks what
-//! `has_room` allows, and writes the line that `ask` returns to the engine. What the engine writes goes to `heard`, piece
-//! by piece, until the piece is used up. `lost` says that the engine's stream ended. What is returned is the first answer
-//! that isn't a right one.
+//! `has_room` allows, and writes the line that `ask` returns to the engine. What the engine writes goes to `heard`,
+//! piece by piece, until the piece is used up. `lost` says that the engine's stream ended. What is returned is the
+//! first answer that isn't a right one.
 #![tactic(auto)]
 
 mod asking;

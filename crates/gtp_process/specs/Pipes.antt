@@ -2,7 +2,7 @@
 use Rattle.std.specs.Prelude.{◌≡◌, ℕ, ◌+◌, List, ◌++◌, Option}
 use Rattle.std.specs.Io.KnownBytes.{Appends}
 use Rattle.byte_streams.specs.declared.calls.CallFault.{CallFault}
-use Rattle.byte_streams.specs.declared.calls.CallFault.TheVariants.{Interrupted, Broken}
+use Rattle.byte_streams.specs.declared.calls.CallFault.TheVariants.{Interrupted, Other}
 
 -- how often one call is made at most, where each is interrupted
 abbrev pub most_tries : ℕ
@@ -33,7 +33,7 @@ pub data IsUnbroken {P : Type 0} (fails : Fails P) (succeeds : GoesThrough P) (b
 -- A process was cut off by calls that led from the one to the other. The last call, and none before it, broke. Or none
 -- broke, and the last `most_tries` of them were interrupted.
 pub data IsCutOff {P : Type 0} (fails : Fails P) (succeeds : GoesThrough P) (before after : P) : Type 0 where
-  broke : {mid : P} → IsUnbroken fails succeeds before mid → fails mid Broken after
+  broke : {mid : P} → IsUnbroken fails succeeds before mid → fails mid Other after
       → IsCutOff fails succeeds before after
   interrupted : {mid : P} → IsUnbroken fails succeeds before mid → AreInterrupted fails mid most_tries after
       → IsCutOff fails succeeds before after

@@ -1,4 +1,5 @@
--- How a process and what it wrote are shown: its bytes, why it was not started, which pipe cut it off, how it ended. (Own.)
+-- How a process and what it wrote are shown: its bytes, why it was not started, which pipe cut it off, how it ended.
+-- (Own.)
 use Rattle.std.specs.Prelude.{ℕ, ◌+◌, ◌/◌, ◌%◌, ◌==◌, ◌&&◌, nat_le, if◌then◌else◌, List, [], ◌∷◌, ◌++◌, codes}
 use Rattle.std.specs.Prelude.{map, take}
 use Rattle.std.specs.Fmt.{decimal}
@@ -53,7 +54,7 @@ reason_text reason.NoProcesses = codes "too many processes"
 reason_text reason.NoProgram = codes "not a program that the system can run"
 reason_text reason.Other = codes "the system refused it"
 
--- which pipe cut a side off, and how
+-- which pipe cut a process off, and how
 abbrev pub pipe_text : PipeCause → List ℕ
 pipe_text Writing = codes "writing failed"
 pipe_text Reading = codes "reading failed"

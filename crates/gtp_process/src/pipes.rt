@@ -7,7 +7,7 @@ ghost use Rattle.byte_streams.specs.Parts.{TakesPart};
 use crate::starter::Process;
 use byte_streams::CallFault;
 
-/// How many bytes are read at once at most.
+/// The room of a buffer for the replies of an engine: one read fills it at most.
 pub const READ_ROOM: usize = 4096;
 
 /// How often one call is made at most, where each is interrupted.
@@ -17,13 +17,13 @@ const MOST_TRIES: u32 = 1_000_000_000;
 #[derive(Clone, Copy, Debug, PartialEq, Eq, Drop)]
 pub struct CutOff;
 
-/// Waits for bytes, and puts them into the front of the buffer. `Ok(0)` is the end of the stream, where the buffer has
-/// room.
+/// Waits for bytes, and puts them into the front of the buffer, as many as it has room for at most. `Ok(0)` is the end
+/// of the stream, where the buffer has room.
 ///
 /// # Errors
 ///
 /// Where the read fails otherwise than by an interruption, or is interrupted 1,000,000,000 times in a row.
-pub fn read_once<P: Process>(process: &mut P, buffer: &mut [u8]) -> Result<usize, CutOff>
+pub fn read_some<P: Process>(process: &mut P, buffer: &mut [u8]) -> Result<usize, CutOff>
     ensures bound { IfOk result (λ n. n ≤ length buffer.new) }
     ensures len { length buffer.new ≡ length buffer.old }
     ensures gives { WriteAppends (P.given process.old) (P.given process.new) result buffer.new }
@@ -38,7 +38,7 @@ pub fn read_once<P: Process>(process: &mut P, buffer: &mut [u8]) -> Result<usize
         match process.read(buffer) {
             Ok(count) => return Ok(count),
             Err(CallFault::Interrupted) => {}
-            Err(CallFault::Broken) => return Err(CutOff),
+            Err(CallFault::Other) => return Err(CutOff),
         }
     }
     Err(CutOff)
@@ -61,7 +61,7 @@ pub fn write_whole<P: Process>(process: &mut P, text: &[u8]) -> Result<(), CutOf
 {
     let mut done = 0;
     while done < text.len() {
-        let count = write_once(process, &text[done..])?;
+        let count = write_some(process, &text[done..])?;
         if count == 0 {
             return Err(CutOff);
         }
@@ -71,7 +71,7 @@ pub fn write_whole<P: Process>(process: &mut P, text: &[u8]) -> Result<(), CutOf
 }
 
 /// Sends bytes from the front of the text, and returns how many.
-fn write_once<P: Process>(process: &mut P, text: &[u8]) -> Result<usize, CutOff>
+fn write_some<P: Process>(process: &mut P, text: &[u8]) -> Result<usize, CutOff>
     ensures bound { IfOk result (λ n. n ≤ length text.now) }
     ensures takes { WriteAppends (P.taken process.old) (P.taken process.new) result text.now }
     ensures given { Keeps (P.given process.old) (P.given process.new) }
@@ -85,7 +85,7 @@ fn write_once<P: Process>(process: &mut P, text: &[u8]) -> Result<usize, CutOff>
         match process.write(text) {
             Ok(count) => return Ok(count),
             Err(CallFault::Interrupted) => {}
-            Err(CallFault::Broken) => return Err(CutOff),
+            Err(CallFault::Other) => return Err(CutOff),
         }
     }
     Err(CutOff)
@@ -103,7 +103,7 @@ fn flush<P: Process>(process: &mut P) -> Result<(), CutOff>
         match process.flush() {
             Ok(()) => return Ok(()),
             Err(CallFault::Interrupted) => {}
-            Err(CallFault::Broken) => return Err(CutOff),
+            Err(CallFault::Other) => return Err(CutOff),
         }
     }
     Err(CutOff)

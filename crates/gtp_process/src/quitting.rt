@@ -1,7 +1,7 @@
 //! How a process is sent `quit`, and ended after its answer.
 ghost use Rattle.gtp_process.specs.Quitting.{IsAwaited, IsSentQuit, QuitsIfAny};
 
-use crate::pipes::{CutOff, READ_ROOM, read_once, write_whole};
+use crate::pipes::{CutOff, READ_ROOM, read_some, write_whole};
 use crate::starter::Process;
 use gtp_wire::{Command, Reply, ReplyReader, write_command};
 
@@ -9,8 +9,8 @@ use gtp_wire::{Command, Reply, ReplyReader, write_command};
 /// returned a reply or a fault: a reply has at most 8,192.
 const MOST_QUIT_READS: u32 = 8193;
 
-/// Sends a process, if there is one, `quit`, waits for its answer, and ends it. What it answers, and that it doesn't, changes
-/// nothing: a reply, a fault of the reply, the end of its output and a pipe that breaks all end the waiting.
+/// Sends a process, if there is one, `quit`, waits for its answer, and ends it. A reply, a fault of the reply, the
+/// end of its output and a pipe that breaks all end the waiting.
 pub fn quit_and_end<P: Process>(process: Option<P>, buffer: &mut [u8; READ_ROOM])
     ensures { QuitsIfAny P.Process process }
 {
@@ -38,7 +38,7 @@ fn wait_for_reply<P: Process>(process: &mut P, buffer: &mut [u8; READ_ROOM])
     let mut reader = ReplyReader::new();
     let mut reply = Reply::new();
     for _read in 0..MOST_QUIT_READS {
-        match read_once(process, buffer) {
+        match read_some(process, buffer) {
             Ok(0) => return,
             Err(CutOff) => return,
             Ok(count) => {

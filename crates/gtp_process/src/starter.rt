@@ -105,7 +105,7 @@ pub trait Process {
         ensures given { Keeps (given self.old) (given self.new) }
         ensures succeeded { IfOk result (λ n. 0 < n → succeeds self.old self.new) }
         ensures none { IfOk result (λ n. n ≡ 0 → 0 < length text.now →
-            fails self.old call_fault.Broken self.new) }
+            fails self.old call_fault.Other self.new) }
         ensures failed { IfErr result (λ fault. fails self.old fault self.new) };
 
     /// Flushes what was sent.

@@ -5,7 +5,7 @@ ghost use Rattle.gtp_process.specs.Starts.{kind_reason, limit_of, reason_of, sta
 
 use crate::precedence::Precedence;
 use crate::starter::{Ending, Process, StartFault, StartReason, Starter};
-use byte_streams::{CallFault, call_fault_of};
+use byte_streams::{CallFault, outcome_of};
 use std::alloc::Global;
 use std::cell::Cell;
 use std::io;
@@ -166,32 +166,23 @@ impl<P: OpenProcess + Drop, C: Clock + Drop> Process for SystemProcess<P, C> {
 
     fn read(&mut self, buffer: &mut [u8]) -> Result<usize, CallFault> {
         let Some(stdout) = &mut self.child.stdout else {
-            return Err(CallFault::Broken);
+            return Err(CallFault::Other);
         };
-        match stdout.read(buffer) {
-            Ok(count) => Ok(count),
-            Err(error) => Err(call_fault_of(error.kind())),
-        }
+        outcome_of(stdout.read(buffer))
     }
 
     fn write(&mut self, text: &[u8]) -> Result<usize, CallFault> {
         let Some(stdin) = &mut self.child.stdin else {
-            return Err(CallFault::Broken);
+            return Err(CallFault::Other);
         };
-        match stdin.write(text) {
-            Ok(count) => Ok(count),
-            Err(error) => Err(call_fault_of(error.kind())),
-        }
+        outcome_of(stdin.write(text))
     }
 
     fn flush(&mut self) -> Result<(), CallFault> {
         let Some(stdin) = &mut self.child.stdin else {
-            return Err(CallFault::Broken);
+            return Err(CallFault::Other);
         };
-        match stdin.flush() {
-            Ok(()) => Ok(()),
-            Err(error) => Err(call_fault_of(error.kind())),
-        }
+        outcome_of(stdin.flush())
     }
 
     fn go_first(&self) {

@@ -1,5 +1,6 @@
 -- An engine: what it holds, and how it answers a text.
-use Rattle.std.specs.Prelude.{◌≡◌, ℕ, Bool, true, false, ◌&&◌, List, [], ◌∷◌, ◌++◌, map, Option, None, Some, MatchOption, pos}
+use Rattle.std.specs.Prelude.{◌≡◌, ℕ, Bool, true, false, ◌&&◌, List, [], ◌∷◌, ◌++◌, map, Option, None, Some}
+use Rattle.std.specs.Prelude.{MatchOption, pos}
 use Rattle.std.specs.List.{concat}
 use Rattle.arrayvec.specs.ArrayVec.{ArrayVec}
 use Rattle.go_base.specs.Bytes.{newline}

@@ -1,5 +1,6 @@
 -- The texts that spell the faults. (Own.)
-use Rattle.std.specs.Prelude.{◌≡◌, ℕ, ◌≤◌, ◌==◌, ◌↔◌, ◌&&◌, List, [], ◌∷◌, ◌++◌, nat_le, codes, if◌then◌else◌, Option, Some, None, option_map, option_and_then}
+use Rattle.std.specs.Prelude.{◌≡◌, ℕ, ◌≤◌, ◌==◌, ◌↔◌, ◌&&◌, List, [], ◌∷◌, ◌++◌, nat_le, codes, if◌then◌else◌, Option}
+use Rattle.std.specs.Prelude.{Some, None, option_map, option_and_then}
 use Rattle.std.specs.Str.{bytes_eq}
 use Rattle.go_base.specs.Int.{SpellsInt, int_of}
 use Rattle.gtp_session.specs.declared.fault.Fault.{Fault}

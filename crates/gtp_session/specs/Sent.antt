@@ -4,7 +4,8 @@ use Rattle.go_base.specs.Size.{IsSize, most_size}
 use Rattle.go_base.specs.Vertex.{IsVertex}
 use Rattle.go_board.specs.Game.{GameRecord, HasRoom}
 use Rattle.gtp_wire.specs.declared.commands.Command.{Command}
-use Rattle.gtp_wire.specs.declared.commands.Command.TheVariants.{Boardsize, Komi, ClearBoard, FixedHandicap, Play, Genmove, Undo, Quit}
+use Rattle.gtp_wire.specs.declared.commands.Command.TheVariants.{Boardsize, Komi, ClearBoard, FixedHandicap, Play}
+use Rattle.gtp_wire.specs.declared.commands.Command.TheVariants.{Genmove, Undo, Quit}
 use Rattle.gtp_session.specs.CommandAnswers.{GoesWell}
 
 -- A command of a script that goes well; or a `genmove` where the record has room and the size is at most 25; or a move,

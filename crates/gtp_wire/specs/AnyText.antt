@@ -111,8 +111,8 @@ IsPassedOver b = IsControl b ⊎ (b ≡ 9) ⊎ (b ≡ 10) ⊎ (b ≡ 32)
 abbrev pub BeginsNone : ℕ → Type 0
 BeginsNone b = IsPrinted b × (b ≢ 32) × (b ≢ 61) × (b ≢ 63)
 
--- `NoStatus` comes at the first byte that begins no reply. `Overlong` comes at byte 8,193 where nothing came before, and
--- nowhere else. (Own.)
+-- `NoStatus` comes at the first byte that begins no reply. `Overlong` comes at byte 8,193 where nothing came before,
+-- and nowhere else. (Own.)
 pub record FaultsHavePlaces : Type 0 where
   pub no_status : (front : List ℕ) (b : ℕ) (later : List ℕ) → All IsPassedOver front → length front < 8192
       → BeginsNone b → IsFirst (front ++ b ∷ later) (length front + 1) (Err NoStatus)
@@ -199,49 +199,49 @@ RepliesSay = (ok : Bool) (id : Option ℕ) (body bytes : List ℕ) (value : Repl
 -- ---- what comes first in a text: how many of its bytes give it, and the reply or fault that they give
 
 -- An answer comes within the text, and stays whatever follows.
-pub record AnswersForGood (tells : List ℕ → ℕ → Result Reply ReplyFault → Type 0) : Type 0 where
+pub record AnswersForGood (answers : List ℕ → ℕ → Result Reply ReplyFault → Type 0) : Type 0 where
   pub inside : (text : List ℕ) (count : ℕ) (answer : Result Reply ReplyFault)
-      → tells text count answer → count ≤ length text
+      → answers text count answer → count ≤ length text
   pub stays : (text later : List ℕ) (count : ℕ) (answer : Result Reply ReplyFault)
-      → tells text count answer → tells (text ++ later) count answer
+      → answers text count answer → answers (text ++ later) count answer
 
 -- A reply and `NoStatus` come where the law of shapes has them, and faults where the law of faults has them.
-pub record AnswersInPlace (tells : List ℕ → ℕ → Result Reply ReplyFault → Type 0) : Type 0 where
-  pub begin : (text : List ℕ) (count : ℕ) (value : Reply) → tells text count (Ok value)
+pub record AnswersInPlace (answers : List ℕ → ℕ → Result Reply ReplyFault → Type 0) : Type 0 where
+  pub begin : (text : List ℕ) (count : ℕ) (value : Reply) → answers text count (Ok value)
       → BeginsWithStatus (take count text)
-  pub end : (text : List ℕ) (count : ℕ) (value : Reply) → tells text count (Ok value)
+  pub end : (text : List ℕ) (count : ℕ) (value : Reply) → answers text count (Ok value)
       → EndsWithTwoNewlines (take count text)
-  pub strange : (text : List ℕ) (count : ℕ) → tells text count (Err NoStatus) → EndsStrangely (take count text)
+  pub strange : (text : List ℕ) (count : ℕ) → answers text count (Err NoStatus) → EndsStrangely (take count text)
   pub no_status : (front : List ℕ) (b : ℕ) → All IsPassedOver front → length front < 8192 → BeginsNone b
-      → tells (front ++ b ∷ []) (length front + 1) (Err NoStatus)
-  pub late : (text : List ℕ) (count : ℕ) → tells text count (Err Overlong) → count ≡ 8193
+      → answers (front ++ b ∷ []) (length front + 1) (Err NoStatus)
+  pub late : (text : List ℕ) (count : ℕ) → answers text count (Err Overlong) → count ≡ 8193
   pub overlong : (text : List ℕ) (b : ℕ) → length text ≡ 8192
-      → ((count : ℕ) (answer : Result Reply ReplyFault) → tells text count answer → ⊥)
-      → tells (text ++ b ∷ []) 8193 (Err Overlong)
+      → ((count : ℕ) (answer : Result Reply ReplyFault) → answers text count answer → ⊥)
+      → answers (text ++ b ∷ []) 8193 (Err Overlong)
 
 -- What a reply says is known at its end, and the bytes that change nothing change nothing of it.
-pub record AnswersByReplies (tells : List ℕ → ℕ → Result Reply ReplyFault → Type 0) : Type 0 where
+pub record AnswersByReplies (answers : List ℕ → ℕ → Result Reply ReplyFault → Type 0) : Type 0 where
   pub says : (ok : Bool) (id : Option ℕ) (body bytes : List ℕ) (value : Reply)
       → All (λ b. (b ≡ 10) ⊎ IsPrinted b) body
       → ((a c : List ℕ) → body ++ 10 ∷ [] ≡ a ++ 10 ∷ 10 ∷ c → ⊥)
       → length body + 3 ≤ 8192
       → HasId body id bytes → IsAround value.text.items bytes → value.ok ≡ ok → value.id ≡ id
-      → tells ((if ok then 61 else 63) ∷ (body ++ 10 ∷ 10 ∷ [])) (length body + 3) (Ok value)
+      → answers ((if ok then 61 else 63) ∷ (body ++ 10 ∷ 10 ∷ [])) (length body + 3) (Ok value)
   pub control : (front : List ℕ) (b c : ℕ) (later : List ℕ) (value : Reply) → IsControl b
       → length (front ++ b ∷ c ∷ later) ≤ 8192
-      → tells (front ++ c ∷ later) (length (front ++ c ∷ later)) (Ok value)
-      → tells (front ++ b ∷ c ∷ later) (length (front ++ b ∷ c ∷ later)) (Ok value)
+      → answers (front ++ c ∷ later) (length (front ++ c ∷ later)) (Ok value)
+      → answers (front ++ b ∷ c ∷ later) (length (front ++ b ∷ c ∷ later)) (Ok value)
   pub tab : (front later : List ℕ) (value : Reply)
-      → tells (front ++ 32 ∷ later) (length (front ++ 32 ∷ later)) (Ok value)
-      → tells (front ++ 9 ∷ later) (length (front ++ 9 ∷ later)) (Ok value)
+      → answers (front ++ 32 ∷ later) (length (front ++ 32 ∷ later)) (Ok value)
+      → answers (front ++ 9 ∷ later) (length (front ++ 9 ∷ later)) (Ok value)
   pub blank : (b : ℕ) (raw : List ℕ) (value : Reply) → (b ≡ 32) ⊎ (b ≡ 10) → length raw < 8192
-      → tells raw (length raw) (Ok value) → tells (b ∷ raw) (length (b ∷ raw)) (Ok value)
+      → answers raw (length raw) (Ok value) → answers (b ∷ raw) (length (b ∷ raw)) (Ok value)
 
 -- all of this holds of a relation between texts and what comes first in them
-pub record ReadsReplies (tells : List ℕ → ℕ → Result Reply ReplyFault → Type 0) : Type 0 where
-  pub good : AnswersForGood tells
-  pub place : AnswersInPlace tells
-  pub replies : AnswersByReplies tells
+pub record ReadsReplies (answers : List ℕ → ℕ → Result Reply ReplyFault → Type 0) : Type 0 where
+  pub good : AnswersForGood answers
+  pub place : AnswersInPlace answers
+  pub replies : AnswersByReplies answers
 
 -- All of this holds of what comes first in a text, and every function of texts of which it holds returns just that.
 pub record RepliesAreTheOnlyReading : Type 0 where

@@ -197,8 +197,8 @@ pub fn texts_are_cut()
     ensures { TextsAreCut }
 {}
 
-/// The words of a reply to `fixed_handicap` name the points of the handicap, or any other distinct points, exactly where
-/// each word is a vertex on one of them, and each of them is named by one word, in any order.
+/// The words of a reply to `fixed_handicap` name the points of the handicap, or any other distinct points, exactly
+/// where each word is a vertex on one of them, and each of them is named by one word, in any order.
 pub fn handicaps_are_named_once()
     ensures { HandicapsAreNamedOnce }
 {}

@@ -130,8 +130,8 @@ impl LineReader {
 
     /// Takes the next piece up to and with the newline that ends the first line that has a word, or all of it.
     ///
-    /// Lines without a word (blank lines and comments) are passed over. A line that is too long is reported at its newline.
-    /// A line takes some 1 kB: `feed_into` puts it in place.
+    /// Lines without a word (blank lines and comments) are passed over. A line that is too long is reported at its
+    /// newline. A line takes some 1 kB: `feed_into` puts it in place.
     pub fn feed(&mut self, input: &[u8]) -> LineFed
         ensures { ReadsLine self.old input.now result.used result.line self.new }
     {

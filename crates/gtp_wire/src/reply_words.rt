@@ -22,9 +22,9 @@ pub fn read_choice(text: &[u8]) -> Option<Choice>
 
 /// Whether a reply's text has as many words as there are points, and a vertex on each point among them.
 ///
-/// Where the points are distinct, as those of a handicap are, each word is then a vertex on one of them, and each point
-/// is named by one word, in any order. It is false where a word spells no vertex, is a pass or another point, or names a
-/// point again.
+/// Where the points are distinct, as those of a handicap are, each word is then a vertex on one of them, and each
+/// point is named by one word, in any order. So it is then false where a word spells no vertex, is a pass or another
+/// point, or names a point again.
 pub fn names_points(text: &[u8], points: &[Point]) -> bool
     ensures { result ≡ names_points points.now (reply_words text.now) }
 {

@@ -1,5 +1,6 @@
 -- What is written of a turn: a line for each `play` that is retaken in it, and one where a side fails. (Own.)
-use Rattle.std.specs.Prelude.{◌≡◌, ◌≢◌, ◌↔◌, ◌≤◌, ◌+◌, ◌*◌, ℕ, Bool, true, List, [], ◌++◌, length, All, Option, None, Some}
+use Rattle.std.specs.Prelude.{◌≡◌, ◌≢◌, ◌↔◌, ◌≤◌, ◌+◌, ◌*◌, ℕ, Bool, true, List, [], ◌++◌, length, All, Option, None}
+use Rattle.std.specs.Prelude.{Some}
 use Rattle.go_base.specs.declared.colours.Colour.{Colour}
 use Rattle.gtp_match.specs.declared.controller.Controller.{Controller}
 use Rattle.gtp_match.specs.declared.reports.Retake.{Retake}

@@ -14,7 +14,7 @@ use crate::sending::take_commands;
 use crate::why::{TurnLoss, TurnReport};
 use go_base::Side;
 use gtp_match::{Match, Report, Status};
-use gtp_process::{CutOff, PipeCause, Process, READ_ROOM, read_once, write_whole};
+use gtp_process::{CutOff, PipeCause, Process, READ_ROOM, read_some, write_whole};
 
 /// Sends a side its commands: all that come next for it. A side that has no process fails. It returns why it failed,
 /// if it did.
@@ -81,7 +81,7 @@ fn hear_from<P: Process>(
     if has_several_unanswered(game, side) {
         process.go_first();
     }
-    match read_once(process, buffer) {
+    match read_some(process, buffer) {
         Ok(0) => cut_off(game, side, PipeCause::Ended),
         Ok(count) => hear_bytes(game, side, &buffer[..count]),
         Err(CutOff) => cut_off(game, side, PipeCause::Reading),

@@ -19,7 +19,8 @@ use Rattle.go_base.specs.Komi.{sign_of, without_sign, decimals_of, are_zeros, ha
 use Rattle.go_base.specs.Komi.{half_points_where, half_points_of_parts, unsigned_half_points_of, with_sign_where}
 use Rattle.go_base.specs.Komi.{komi_of}
 use Rattle.go_base.specs.Text.{front_while, skip_while}
-use Rattle.go_base.proofs.general.Fronts.{front_while-skip_while, list_all-front_while, front_while-append, skip_while-append, digits_model}
+use Rattle.go_base.proofs.general.Fronts.{front_while-skip_while, list_all-front_while, front_while-append}
+use Rattle.go_base.proofs.general.Fronts.{skip_while-append, digits_model}
 use Rattle.go_base.proofs.numbers.Ints.{digit_texts, int_of_spelled, digit_bounds, digit_value-digit}
 
 -- ---- digits

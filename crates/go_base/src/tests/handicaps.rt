@@ -122,7 +122,7 @@ static CORNERS: [(u32, &str); 19] = [
 ];
 
 #[test]
-fn the_first_two_points_stand_in_the_corners_of_each_size(rt: HostRuntime) {
+fn the_first_two_points_are_in_the_corners_of_each_size(rt: HostRuntime) {
     for (size, corners) in &CORNERS {
         assert_points(&rt, *size, 2, corners);
     }

@@ -31,8 +31,8 @@ use Rattle.gtp_match.specs.Unanswered.{oldest}
 use Rattle.gtp_match.proofs.scripts.Scripts.{NoGenmove, at_number}
 
 -- `undo` is unanswered at the side whose last move is to be taken back
-abbrev pub IsToldUndo : Option Colour → Colour → EngineRun → Type 0
-IsToldUndo pending s engine = (pending ≡ Some s) × AreUndo engine.unanswered
+abbrev pub IsAskedUndo : Option Colour → Colour → EngineRun → Type 0
+IsAskedUndo pending s engine = (pending ≡ Some s) × AreUndo engine.unanswered
 
 -- the commands whose replies have this outcome, of a side's engine
 abbrev pub Fits : GameRecord → Option Colour → Colour → EngineRun → Command → Outcome → Type 0
@@ -46,8 +46,8 @@ Fits game pending s engine k Confirms = NoGenmove k × ¬ IsUndo k
 Fits game pending s engine k Resigns = IsAsked game s engine.confirmed engine.unanswered
 Fits game pending s engine k (Moves v) = IsAsked game s engine.confirmed engine.unanswered
 Fits game pending s engine k Refuses = IsPlay k
-Fits game pending s engine k TakesBack = IsToldUndo pending s engine
-Fits game pending s engine k Keeps = IsToldUndo pending s engine
+Fits game pending s engine k TakesBack = IsAskedUndo pending s engine
+Fits game pending s engine k Keeps = IsAskedUndo pending s engine
 
 -- ---- a command of the plan
 
@@ -56,7 +56,7 @@ data Planned (game : GameRecord) (pending : Option Colour) (s : Colour) (engine 
   setup : IsSetupCommand k → Planned game pending s engine k
   play : IsPlay k → Planned game pending s engine k
   genmove : IsAsked game s engine.confirmed engine.unanswered → k ≡ command.Genmove s → Planned game pending s engine k
-  undo : IsToldUndo pending s engine → k ≡ command.Undo → Planned game pending s engine k
+  undo : IsAskedUndo pending s engine → k ≡ command.Undo → Planned game pending s engine k
 
 -- a command of the script
 abbrev OfScript : Command → Type 0
@@ -128,7 +128,7 @@ module _ (game : GameRecord) (pending : Option Colour) (s : Colour) (engine : En
   play_fits move true = ((λ t e. cc), λ e. cc)
   play_fits move false = (move, refl)
 
-  undo_fits : IsToldUndo pending s engine → (k : Command) (ok : Bool) → Fits game pending s engine k (undo_outcome ok)
+  undo_fits : IsAskedUndo pending s engine → (k : Command) (ok : Bool) → Fits game pending s engine k (undo_outcome ok)
   undo_fits is_given k true = is_given
   undo_fits is_given k false = is_given
 

@@ -110,23 +110,23 @@ telling_hears side c new bytes shown loss (faulty used some h loses) = HearsAllB
 telling_hears side c new bytes shown loss (goes_on {mid = mid} {later = later} used first some h loses more) =
     HearsAllBy.goes_on used some h (telling_hears side mid new (drop used bytes) shown later more)
 
-pub tells_faulty : (side : Colour) (c new : Controller) (bytes : List ℕ) (used : ℕ) (fault : Option SideFault)
+pub reports_fault : (side : Colour) (c new : Controller) (bytes : List ℕ) (used : ℕ) (fault : Option SideFault)
     (loss : Option Loss) → is_some fault ≡ true → 0 < length bytes
     → HearsExactly c side bytes used fault new → Loses c side bytes loss → HearsReporting side c bytes fault loss new
-tells_faulty side c new bytes used None loss e some h loses = absurd (cc)
-tells_faulty side c new bytes used (Some shown) loss e some h loses = faulty used some h loses
+reports_fault side c new bytes used None loss e some h loses = absurd (cc)
+reports_fault side c new bytes used (Some shown) loss e some h loses = faulty used some h loses
 
-pub tells_more : (side : Colour) (c mid new : Controller) (bytes left : List ℕ) (used : ℕ)
+pub reports_more : (side : Colour) (c mid new : Controller) (bytes left : List ℕ) (used : ℕ)
     (fault shown : Option SideFault) (loss later : Option Loss) → is_some fault ≡ false
     → 0 < length bytes → HearsExactly c side bytes used fault mid → Loses c side bytes loss → left ≡ drop used bytes
     → HearsReporting side mid left shown later new
     → HearsReporting side c bytes shown (first_of loss later) new
-tells_more side c mid new bytes left used (Some f) shown loss later e some h loses is more = absurd (cc)
-tells_more side c mid new bytes left used None shown loss later e some h loses is more =
+reports_more side c mid new bytes left used (Some f) shown loss later e some h loses is more = absurd (cc)
+reports_more side c mid new bytes left used None shown loss later e some h loses is more =
     goes_on used loss some h loses (subst (λ (t : List ℕ). HearsReporting side mid t shown later new) is more)
 
-pub tells_end : (side : Colour) (c : Controller) (left : List ℕ) → left ≡ [] → HearsReporting side c left None None c
-tells_end side c left none = subst (λ (t : List ℕ). HearsReporting side c t None None c) (sym none) used_up
+pub reports_end : (side : Colour) (c : Controller) (left : List ℕ) → left ≡ [] → HearsReporting side c left None None c
+reports_end side c left none = subst (λ (t : List ℕ). HearsReporting side c t None None c) (sym none) used_up
 
 -- the first of three
 pub first_of_all : (a b d : Option Loss) → first_of (first_of a b) d ≡ first_of a (first_of b d)

@@ -9,8 +9,8 @@ use Rattle.gtp_wire.specs.declared.replies.ReplyFault.TheVariants.{Overlong}
 use Rattle.gtp_wire.specs.Replies.{IsFirst, ReadsFirst, GivesNoAnswer, most_reply_bytes, with_reply}
 
 -- 8,193 bytes have a reply or a fault in them
-pub too_many_tell : (bytes : List ℕ) → GivesNoAnswer bytes → most_reply_bytes + 1 ≤ length bytes → ⊥
-too_many_tell bytes quiet many =
+pub too_many_answer : (bytes : List ℕ) → GivesNoAnswer bytes → most_reply_bytes + 1 ≤ length bytes → ⊥
+too_many_answer bytes quiet many =
     quiet (most_reply_bytes + 1) (Err Overlong) many (length-take-le (most_reply_bytes + 1) bytes many)
 
 module _ (old input new : List ℕ) (used : ℕ) (reply : Reply) where

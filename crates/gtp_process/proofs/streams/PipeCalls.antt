@@ -1,7 +1,8 @@
 -- Calls of a pipe in a row.
 use Rattle.std.proofs.Common.{ℕ, Ok, Err}
 use Rattle.std.specs.Prelude.{Result, OnOk, OnErr}
-use Rattle.gtp_process.specs.Pipes.{AreInterrupted, Fails, GoesThrough, IsCutOff, IsUnbroken, OutputEnded, RunsOut, broke}
+use Rattle.gtp_process.specs.Pipes.{AreInterrupted, Fails, GoesThrough, IsCutOff, IsUnbroken, OutputEnded, RunsOut}
+use Rattle.gtp_process.specs.Pipes.{broke}
 use Rattle.gtp_process.specs.Pipes.{interrupted, no_call, one_more, ran_out, tried, untouched, went}
 
 -- calls and then more of them

@@ -12,7 +12,8 @@ use Rattle.gtp_wire.specs.declared.lines.Line.TheVariants as line
 use Rattle.gtp_session.specs.Policy.{May}
 use Rattle.gtp_session.specs.declared.commands.CommandName.{CommandName}
 use Rattle.gtp_session.specs.declared.commands.CommandName.TheVariants.{Genmove}
-use Rattle.gtp_session.specs.Commands.{Answer, answer_choice, argument, asked, asked_by, asked_by_command, asked_by_named, asked_unless, full_refusal, id_of, named_command, row_of}
+use Rattle.gtp_session.specs.Commands.{Answer, answer_choice, argument, asked, asked_by, asked_by_command}
+use Rattle.gtp_session.specs.Commands.{asked_by_named, asked_unless, full_refusal, id_of, named_command, row_of}
 use Rattle.gtp_session.specs.Engine.{State, WrittenReply, Step}
 use Rattle.gtp_session.specs.TableLaws.{a_colour, IsArgument, TakesMove, AsksForMove, IsMade, GenmovesAloneCount}
 use Rattle.gtp_session.proofs.table.Asking.{answer-asked}

@@ -1,5 +1,6 @@
 -- Laws of an engine's replies.
-use Rattle.std.proofs.Common.{◌≡◌, ℕ, Bool, true, false, Option, Some, None, List, [], ◌∷◌, ◌++◌, refl, sym, subst, ap, ◌∙◌, append_assoc}
+use Rattle.std.proofs.Common.{◌≡◌, ℕ, Bool, true, false, Option, Some, None, List, [], ◌∷◌, ◌++◌, refl, sym, subst}
+use Rattle.std.proofs.Common.{ap, ◌∙◌, append_assoc}
 use Rattle.std.proofs.lemmas.List.{append-nil}
 use Rattle.gtp_wire.specs.declared.lines.Line.{Line}
 use Rattle.gtp_wire.specs.Lines.{lines, EndsLine, Finds}
@@ -13,7 +14,8 @@ use Rattle.go_base.specs.declared.colours.Colour.{Colour}
 use Rattle.go_board.specs.Game.{GameRecord}
 use Rattle.go_base.specs.declared.choices.Choice.TheVariants.{Resign}
 use Rattle.gtp_session.specs.Policy.{May}
-use Rattle.gtp_session.specs.Commands.{Answer, answer, answer_to, answer_to_named, asked, asked_by_named, named_command, ends, has_name, id_of, is_genmove_line, row_of}
+use Rattle.gtp_session.specs.Commands.{Answer, answer, answer_to, answer_to_named, asked, asked_by_named}
+use Rattle.gtp_session.specs.Commands.{named_command, ends, has_name, id_of, is_genmove_line, row_of}
 use Rattle.gtp_session.specs.private.Outcome.{Executes, Leaves}
 use Rattle.gtp_wire.specs.Replies.{written_reply}
 use Rattle.gtp_session.proofs.table.Names.{row_asks}

@@ -1,5 +1,6 @@
 -- What an engine answers to the commands that a controller sends.
-use Rattle.std.proofs.Common.{◌≡◌, ℕ, ◌<◌, ◌≤◌, [], length, List, Option, Some, None, false, refl, sym, ◌∙◌, ap, subst, arith}
+use Rattle.std.proofs.Common.{◌≡◌, ℕ, ◌<◌, ◌≤◌, [], length, List, Option, Some, None, false, refl, sym, ◌∙◌, ap}
+use Rattle.std.proofs.Common.{subst, arith}
 use Rattle.std.specs.Prelude.{codes, IfSome, IsTrue, ◌↔◌}
 use Rattle.go_base.specs.Size.{most_size}
 use Rattle.go_base.specs.Colour.{colour_of, written_colour}
@@ -13,16 +14,19 @@ use Rattle.go_base.proofs.board_points.HandicapPoints.{handicap_bounds}
 use Rattle.go_base.proofs.spellings.ReadBack.{size_reads, int_reads, komi_reads, colour_reads, vertex_reads}
 use Rattle.go_board.specs.Game.{GameRecord, HasRoom, IsLegal, without_last}
 use Rattle.gtp_wire.specs.declared.commands.Command.{Command}
-use Rattle.gtp_wire.specs.declared.commands.Command.TheVariants.{Boardsize, Komi, ClearBoard, FixedHandicap, Play, Genmove, Undo, Quit}
+use Rattle.gtp_wire.specs.declared.commands.Command.TheVariants.{Boardsize, Komi, ClearBoard, FixedHandicap, Play}
+use Rattle.gtp_wire.specs.declared.commands.Command.TheVariants.{Genmove, Undo, Quit}
 use Rattle.gtp_wire.specs.Commands.{IsWritable, IsInLimits}
 use Rattle.gtp_wire.specs.Replies.{IsReplyText}
 use Rattle.gtp_session.specs.declared.commands.CommandName.TheVariants as command
 use Rattle.gtp_session.specs.Policy.{IsLawful}
-use Rattle.gtp_session.specs.Commands.{Answer, answer, answer_choice, asked, asked_by, asked_unless, ends, fails, move_of, row_of, succeeds}
+use Rattle.gtp_session.specs.Commands.{Answer, answer, answer_choice, asked, asked_by, asked_unless, ends, fails}
+use Rattle.gtp_session.specs.Commands.{move_of, row_of, succeeds}
 use Rattle.gtp_session.specs.CommandAnswers.{line_of_command, after_command, success_text, GoesWell}
 use Rattle.gtp_session.specs.Sent.{MayBeSent}
 use Rattle.gtp_session.specs.Spoken.{IsLawfulAt}
-use Rattle.gtp_session.proofs.table.Causes.{unrefused, move_unrefused, move_illegal, stones_unrefused, size_settles, full_settles, move_settles, stones_settle, undo_settles}
+use Rattle.gtp_session.proofs.table.Causes.{unrefused, move_unrefused, move_illegal, stones_unrefused, size_settles}
+use Rattle.gtp_session.proofs.table.Causes.{full_settles, move_settles, stones_settle, undo_settles}
 use Rattle.gtp_session.proofs.table.LinesOfWords.{move_reads}
 use Rattle.gtp_session.proofs.table.Rows.{row_done, row_refused}
 use Rattle.gtp_session.proofs.reply_texts.Spoken.{choice_fits, empty_fits, answer_good}

@@ -1,5 +1,6 @@
 -- The two ways to say which fault a text spells.
-use Rattle.std.proofs.Common.{◌≡◌, ℕ, ◌<◌, List, [], ◌∷◌, ◌++◌, Option, Some, None, Bool, true, false, refl, sym, subst, ◌∙◌, ap, cond, Decides, arith}
+use Rattle.std.proofs.Common.{◌≡◌, ℕ, ◌<◌, List, [], ◌∷◌, ◌++◌, Option, Some, None, Bool, true, false, refl, sym}
+use Rattle.std.proofs.Common.{subst, ◌∙◌, ap, cond, Decides, arith}
 use Rattle.std.specs.Prelude.{codes, option_map, option_and_then, nat_le, ◌==◌, ◌&&◌}
 use Rattle.std.specs.Str.Parse.{AllDigits}
 use Rattle.std.specs.Char.{digit_value}
@@ -10,7 +11,9 @@ use Rattle.go_base.specs.Int.{SpellsInt, int_of}
 use Rattle.go_base.proofs.numbers.Ints.{int_of_spelled, spells_int_of}
 use Rattle.gtp_session.specs.declared.fault.Fault.{Fault}
 use Rattle.gtp_session.specs.declared.fault.Fault.TheVariants.{Off, Stop, Cut, Junk, Flood}
-use Rattle.gtp_session.specs.FaultTexts.{SpellsBetween, SpellsNumbered, SpellsFault, FaultOfAgrees, before_colon, from_colon, after_first, where_between, genmove_of, kept_of, cut_where, fault_spelled_by, fault_spelled}
+use Rattle.gtp_session.specs.FaultTexts.{SpellsBetween, SpellsNumbered, SpellsFault, FaultOfAgrees, before_colon}
+use Rattle.gtp_session.specs.FaultTexts.{from_colon, after_first, where_between, genmove_of, kept_of, cut_where}
+use Rattle.gtp_session.specs.FaultTexts.{fault_spelled_by, fault_spelled}
 
 -- ---- colons
 

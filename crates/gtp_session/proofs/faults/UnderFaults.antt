@@ -1,8 +1,10 @@
 -- Laws of the faults that an engine makes on request.
-use Rattle.std.proofs.Common.{◌≡◌, ℕ, ◌+◌, ◌-◌, ◌<◌, ◌≤◌, min, Bool, true, false, List, [], ◌∷◌, ◌++◌, length, take, Option, Some, None, refl, sym, ap, ◌∙◌, append_assoc, arith, replicate, subst}
+use Rattle.std.proofs.Common.{◌≡◌, ℕ, ◌+◌, ◌-◌, ◌<◌, ◌≤◌, min, Bool, true, false, List, [], ◌∷◌, ◌++◌, length, take}
+use Rattle.std.proofs.Common.{Option, Some, None, refl, sym, ap, ◌∙◌, append_assoc, arith, replicate, subst}
 use Rattle.std.proofs.lemmas.Bool.Decides.{nat_tests}
 use Rattle.std.specs.Prelude.{◌&&◌, ◌==◌, codes, if◌then◌else◌, Result, Ok, Err, OnOk, OnErr}
-use Rattle.std.proofs.lemmas.List.{append-nil, take-replicate, length-append, length-replicate, length-take, replicate-append-replicate}
+use Rattle.std.proofs.lemmas.List.{append-nil, take-replicate, length-append, length-replicate, length-take}
+use Rattle.std.proofs.lemmas.List.{replicate-append-replicate}
 use Rattle.std.proofs.lemmas.List.Sums.{sum_by-cons}
 use Rattle.std.proofs.KnownBytes.{Appends-nil, Appends-trans, Appends-kept, Consumes-nil, Consumes-trans}
 use Rattle.std.specs.Io.KnownBytes.{Appends, Keeps, Consumes}
@@ -24,7 +26,10 @@ use Rattle.gtp_session.specs.Engine.Answers.{none, over, more}
 use Rattle.byte_streams.specs.Parts.{TakesPart}
 use Rattle.gtp_session.specs.Conversation.{Conversation, BrokenConversation, ReadWhileOpen, GaveLine}
 use Rattle.gtp_session.specs.private.Pieces.{GivesBytes}
-use Rattle.gtp_session.specs.Faults.{number_of, stops, flood_length, in_place_of, genmoves, meets, goes_out, bent, NotYet, BentDelivered, BentUpTo, Stops, BentBreaks, BentConversation, StoppedConversation, BrokenBentConversation, count_genmoves, PutsThere, BendsThere, BendsNothingBefore, BendsNoEarlier, StopsWhole, OffChangesNothing}
+use Rattle.gtp_session.specs.Faults.{number_of, stops, flood_length, in_place_of, genmoves, meets, goes_out, bent}
+use Rattle.gtp_session.specs.Faults.{NotYet, BentDelivered, BentUpTo, Stops, BentBreaks, BentConversation}
+use Rattle.gtp_session.specs.Faults.{StoppedConversation, BrokenBentConversation, count_genmoves, PutsThere}
+use Rattle.gtp_session.specs.Faults.{BendsThere, BendsNothingBefore, BendsNoEarlier, StopsWhole, OffChangesNothing}
 use Rattle.gtp_session.proofs.engines.Replying.{Replies-nothing, Replies-then}
 
 -- ---- the flood

@@ -1,5 +1,7 @@
 -- Texts that a reply may have.
-use Rattle.std.proofs.Common.{◌≡◌, ℕ, zero, suc, ◌+◌, ◌*◌, ◌/◌, ◌%◌, ◌<◌, ◌≤◌, List, [], ◌∷◌, ◌++◌, length, map, reverse, Bool, true, false, cond, eqb, Option, Some, None, refl, ◌∙◌, ap, arith, append-nil, length-append, lit≤, lit<}
+use Rattle.std.proofs.Common.{◌≡◌, ℕ, zero, suc, ◌+◌, ◌*◌, ◌/◌, ◌%◌, ◌<◌, ◌≤◌, List, [], ◌∷◌, ◌++◌, length, map}
+use Rattle.std.proofs.Common.{reverse, Bool, true, false, cond, eqb, Option, Some, None, refl, ◌∙◌, ap, arith}
+use Rattle.std.proofs.Common.{append-nil, length-append, lit≤, lit<}
 use Rattle.std.specs.Prelude.{codes, All, ℤ, pos, negsuc}
 use Rattle.std.specs.List.{range_with_len, flat_map, join_with_byte, list_all, AllByRecursion}
 use Rattle.std.specs.Fmt.{digits, digits_onto, digit_glyph}
@@ -22,7 +24,8 @@ use Rattle.go_base.proofs.board_points.HandicapPoints.{handicap_sound}
 use Rattle.go_board.specs.Board.{stone_at}
 use Rattle.go_board.specs.Game.{GameRecord, board_of, IsLegal}
 use Rattle.go_board.specs.Taken.{taken}
-use Rattle.go_board.specs.Show.{shown_point, shown_points, shown_row, shown_letters, shown_captures, rows_down, board_text}
+use Rattle.go_board.specs.Show.{shown_point, shown_points, shown_row, shown_letters, shown_captures, rows_down}
+use Rattle.go_board.specs.Show.{board_text}
 use Rattle.gtp_wire.specs.Bytes.{is_newline, is_blank}
 use Rattle.go_base.proofs.general.Lists.{AllByRecursion-append}
 use Rattle.gtp_wire.specs.Replies.{has_two_newlines, is_shown, begins_blank, IsReplyText}

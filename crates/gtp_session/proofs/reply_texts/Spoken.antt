@@ -1,5 +1,6 @@
 -- What is answered may be the text of a reply, and so it is one reply.
-use Rattle.std.proofs.Common.{◌≡◌, ℕ, ◌≤◌, List, [], ◌∷◌, ◌++◌, length, map, Bool, true, false, cond, Option, Some, None, refl, sym, subst, lit≤}
+use Rattle.std.proofs.Common.{◌≡◌, ℕ, ◌≤◌, List, [], ◌∷◌, ◌++◌, length, map, Bool, true, false, cond, Option, Some}
+use Rattle.std.proofs.Common.{None, refl, sym, subst, lit≤}
 use Rattle.std.specs.Prelude.{codes, IfSome, is_some, ◌&&◌, nat_le, nat_lt, filter, MatchOption}
 use Rattle.std.specs.List.{filter_map, join_with_byte, AllByRecursion, slice_split, cons_option}
 use Rattle.go_base.specs.Int.{most_int, int_of}
@@ -22,7 +23,9 @@ use Rattle.gtp_wire.proofs.written.OneReply.{written_is_read}
 use Rattle.gtp_session.specs.Policy.{May, IsLawful}
 use Rattle.gtp_session.specs.declared.commands.CommandName.{CommandName}
 use Rattle.gtp_session.specs.declared.commands.CommandName.TheVariants as command
-use Rattle.gtp_session.specs.Commands.{Answer, Arguments, answer, answer_by, answer_choice, answer_of_effect, answer_to_named, answer_unless, asked, asked_by, asked_by_effect, asked_by_named, command_named, id_of, named_command, row_of, syntax_error}
+use Rattle.gtp_session.specs.Commands.{Answer, Arguments, answer, answer_by, answer_choice, answer_of_effect}
+use Rattle.gtp_session.specs.Commands.{answer_to_named, answer_unless, asked, asked_by, asked_by_effect}
+use Rattle.gtp_session.specs.Commands.{asked_by_named, command_named, id_of, named_command, row_of, syntax_error}
 use Rattle.gtp_session.specs.private.Outcome.{Executes}
 use Rattle.gtp_session.specs.Engine.{Engine, State, WrittenReply, Step, Answers, Replies}
 use Rattle.gtp_session.specs.Engine.Answers.{none, over, more}

@@ -10,7 +10,8 @@ use Rattle.std.proofs.lemmas.List.{map-append}
 use Rattle.gtp_wire.specs.Lines.{lines}
 use Rattle.gtp_session.specs.Policy.{May}
 use Rattle.gtp_session.specs.Engine.{Engine, WrittenReply, output_of}
-use Rattle.gtp_session.specs.Conversation.{Delivered, Breaks, Conversation, BrokenConversation, ReadWhileOpen, GivesAtLeast}
+use Rattle.gtp_session.specs.Conversation.{Delivered, Breaks, Conversation, BrokenConversation, ReadWhileOpen}
+use Rattle.gtp_session.specs.Conversation.{GivesAtLeast}
 use Rattle.gtp_session.specs.private.Pieces.{GivesBytes}
 use Rattle.gtp_session.proofs.engines.Replying.{Replies-nothing, Replies-then}
 

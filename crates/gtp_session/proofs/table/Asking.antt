@@ -12,7 +12,8 @@ use Rattle.gtp_session.specs.Policy.{May, IsLawful}
 use Rattle.go_base.specs.declared.choices.Choice.{Choice}
 use Rattle.go_base.specs.declared.choices.Choice.TheVariants as choice
 use Rattle.gtp_session.specs.declared.commands.CommandName.{CommandName}
-use Rattle.gtp_session.specs.Commands.{Answer, answer, asked, id_of, named_command, answer_choice, answer_to_named, asked_by_named, row_of}
+use Rattle.gtp_session.specs.Commands.{Answer, answer, asked, id_of, named_command, answer_choice, answer_to_named}
+use Rattle.gtp_session.specs.Commands.{asked_by_named, row_of}
 use Rattle.gtp_session.specs.Engine.{State, WrittenReply, Step}
 use Rattle.gtp_session.proofs.choosing.Policies.{AllowsLawful}
 use Rattle.gtp_session.proofs.table.Rows.{row_same, row_asked}

@@ -7,7 +7,8 @@ use Rattle.gtp_wire.specs.declared.lines.Line.{Line}
 use Rattle.gtp_wire.specs.declared.lines.Line.TheVariants as line
 use Rattle.gtp_session.specs.declared.commands.CommandName.{CommandName}
 use Rattle.gtp_session.specs.declared.commands.CommandName.TheVariants as command
-use Rattle.gtp_session.specs.Commands.{Arguments, answer, answer_by, answer_of_effect, answer_to_named, answer_unless, named_command, row_of}
+use Rattle.gtp_session.specs.Commands.{Arguments, answer, answer_by, answer_of_effect, answer_to_named, answer_unless}
+use Rattle.gtp_session.specs.Commands.{named_command, row_of}
 use Rattle.gtp_session.specs.TableLaws.{line_with, LineNames, LinesChangeTheirPart}
 use Rattle.gtp_session.proofs.table.LinesOfWords.{names_of}
 

@@ -18,8 +18,10 @@ use Rattle.go_base.proofs.spellings.SpelledVertices.{vertex_of_spelled, spells_v
 use Rattle.go_board.specs.Game.{GameRecord}
 use Rattle.gtp_session.specs.declared.commands.CommandName.{CommandName}
 use Rattle.gtp_session.specs.declared.commands.CommandName.TheVariants as command
-use Rattle.gtp_session.specs.Commands.{spelled, all_commands, command_named, named_command, argument, Arguments, move_of, row_of, answer_to, answer_to_named}
-use Rattle.gtp_session.specs.TableLaws.{answer_with, standard_name, Names, IsArgument, ArgumentKind, an_int, a_komi, a_colour, a_vertex, a_word, ValueOf, SpellsValue, CanBeRead}
+use Rattle.gtp_session.specs.Commands.{spelled, all_commands, command_named, named_command, argument, Arguments}
+use Rattle.gtp_session.specs.Commands.{move_of, row_of, answer_to, answer_to_named}
+use Rattle.gtp_session.specs.TableLaws.{answer_with, standard_name, Names, IsArgument, ArgumentKind, an_int, a_komi}
+use Rattle.gtp_session.specs.TableLaws.{a_colour, a_vertex, a_word, ValueOf, SpellsValue, CanBeRead}
 use Rattle.gtp_session.proofs.table.Names.{named_by_name}
 
 pub found : (cs : List CommandName) (word : List ℕ) (c : CommandName)

@@ -1,8 +1,10 @@
 -- The list of the commands, and the words that it lacks.
-use Rattle.std.proofs.Common.{[], ◌≡◌, ◌∙◌, ℕ, zero, suc, ◌<◌, List, ◌∷◌, length, Bool, true, false, cond, Option, Some, None, refl, sym, ap, arith}
+use Rattle.std.proofs.Common.{[], ◌≡◌, ◌∙◌, ℕ, zero, suc, ◌<◌, List, ◌∷◌, length, Bool, true, false, cond, Option}
+use Rattle.std.proofs.Common.{Some, None, refl, sym, ap, arith}
 use Rattle.std.proofs.lemmas.Slice.Eq.{bytes_eq-Decides}
 use Rattle.std.proofs.lemmas.Map.Made.{AllPairs-from_IsDistinct}
-use Rattle.std.specs.Prelude.{◌≢◌, ◌↔◌, map, find, slice_get, slice_index_or, is_some, AllPairs, option_and_then, Contains, codes}
+use Rattle.std.specs.Prelude.{◌≢◌, ◌↔◌, map, find, slice_get, slice_index_or, is_some, AllPairs, option_and_then}
+use Rattle.std.specs.Prelude.{Contains, codes}
 use Rattle.std.specs.Str.{bytes_eq}
 use Rattle.std.specs.List.{AllByRecursion, IsDistinct}
 use Rattle.go_base.specs.declared.choices.Choice.{Choice}

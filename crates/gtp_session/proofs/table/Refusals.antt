@@ -8,7 +8,8 @@ use Rattle.gtp_session.specs.declared.commands.CommandName.{CommandName}
 use Rattle.gtp_session.specs.declared.commands.CommandName.TheVariants as command
 use Rattle.gtp_session.specs.Commands.{Arguments, answer_by, row_of, fails}
 use Rattle.gtp_session.specs.TableLaws.{answer_with, Names, an_int, a_colour, a_vertex, CanBeRead, CanBeDone, TakesMove}
-use Rattle.gtp_session.proofs.table.Causes.{refused, move_full, move_illegal, stones_touched, stones_refused, size_settles, full_settles, move_settles, stones_settle, undo_settles}
+use Rattle.gtp_session.proofs.table.Causes.{refused, move_full, move_illegal, stones_touched, stones_refused}
+use Rattle.gtp_session.proofs.table.Causes.{size_settles, full_settles, move_settles, stones_settle, undo_settles}
 use Rattle.gtp_session.proofs.table.LinesOfWords.{of_argument, move_reads, can_be_read, named_answer}
 use Rattle.gtp_session.proofs.table.Rows.{row_refused}
 

@@ -5,7 +5,8 @@ use Rattle.go_base.specs.declared.choices.Choice.{Choice}
 use Rattle.go_base.specs.declared.choices.Choice.TheVariants as choice
 use Rattle.go_base.specs.declared.colours.Colour.{Colour}
 use Rattle.go_board.specs.Game.{GameRecord}
-use Rattle.gtp_session.specs.Commands.{Effect, leaves, asks, Row, answer_choice, answer_of_effect, answer_unless, answer_by, asked_by_effect, asked_by, fails}
+use Rattle.gtp_session.specs.Commands.{Effect, leaves, asks, Row, answer_choice, answer_of_effect, answer_unless}
+use Rattle.gtp_session.specs.Commands.{answer_by, asked_by_effect, asked_by, fails}
 
 -- whether it asks the policy
 abbrev pub asks_policy : {A : Type 0} → Effect A → Bool

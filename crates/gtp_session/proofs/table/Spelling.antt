@@ -5,7 +5,8 @@ use Rattle.go_base.specs.declared.vertices.Vertex.{Vertex}
 use Rattle.gtp_session.specs.declared.commands.CommandName.{CommandName}
 use Rattle.gtp_session.specs.declared.commands.CommandName.TheVariants as command
 use Rattle.gtp_session.specs.Commands.{Arguments, argument, answer_by, asked_by, asked_by_named, move_of, row_of}
-use Rattle.gtp_session.specs.TableLaws.{ArgumentKind, an_int, a_komi, a_colour, a_vertex, a_word, SpellsValue, SpellAlike, AskAlike, SpellingsDoNotCount}
+use Rattle.gtp_session.specs.TableLaws.{ArgumentKind, an_int, a_komi, a_colour, a_vertex, a_word, SpellsValue}
+use Rattle.gtp_session.specs.TableLaws.{SpellAlike, AskAlike, SpellingsDoNotCount}
 use Rattle.gtp_session.proofs.table.LinesOfWords.{value_of, of_argument, of_names, named_answer}
 
 -- arguments that spell one value are read alike

@@ -11,8 +11,10 @@ use Rattle.gtp_session.specs.declared.commands.CommandName.TheVariants as comman
 use Rattle.gtp_session.specs.Commands.{Answer, Arguments, argument, answer_to_named, named_command, row_of}
 use Rattle.gtp_session.specs.TableLaws.{answer_with, Names, an_int, a_komi, a_colour, a_vertex, a_word, CanBeDone}
 use Rattle.gtp_session.specs.Laws.{LegalMovesAreMade, HandicapsArePlaced}
-use Rattle.gtp_session.proofs.table.Causes.{fact, unrefused, move_fact, move_unrefused, stones_fact, stones_unrefused, size_settles, full_settles, move_settles, stones_settle, undo_settles}
-use Rattle.gtp_session.proofs.table.LinesOfWords.{argument_of, of_argument, move_reads, reads_move, can_be_read, names_of, of_names, named_answer}
+use Rattle.gtp_session.proofs.table.Causes.{fact, unrefused, move_fact, move_unrefused, stones_fact, stones_unrefused}
+use Rattle.gtp_session.proofs.table.Causes.{size_settles, full_settles, move_settles, stones_settle, undo_settles}
+use Rattle.gtp_session.proofs.table.LinesOfWords.{argument_of, of_argument, move_reads, reads_move, can_be_read}
+use Rattle.gtp_session.proofs.table.LinesOfWords.{names_of, of_names, named_answer}
 use Rattle.gtp_session.proofs.table.Rows.{effect_ok, row_done, row_succeeds}
 
 -- what is read and not refused can be done

@@ -1,5 +1,6 @@
 -- What each policy may choose is lawful, in every game.
-use Rattle.std.proofs.Common.{◌≡◌, ℕ, ◌%◌, List, [], ◌∷◌, zero, suc, length, Bool, true, false, cond, Option, Some, None, refl, subst, sym}
+use Rattle.std.proofs.Common.{◌≡◌, ℕ, ◌%◌, List, [], ◌∷◌, zero, suc, length, Bool, true, false, cond, Option, Some}
+use Rattle.std.proofs.Common.{None, refl, subst, sym}
 use Rattle.std.specs.Prelude.{slice_get}
 use Rattle.std.specs.List.{filter}
 use Rattle.go_base.specs.declared.colours.Colour.{Colour}

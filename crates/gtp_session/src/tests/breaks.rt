@@ -5,7 +5,7 @@ use crate::first::First;
 use crate::serve::{ServeFault, Served, serve, serve_with, serve_within};
 use crate::session::Session;
 use crate::streams::Counted;
-use crate::tests::memory::{Limited, Pieces, Stuck, StuckOnce, Telling, Unflushed, Waiting};
+use crate::tests::memory::{Limited, Pieces, Stuck, StuckOnce, Reporting, Unflushed, Waiting};
 use crate::tests::reader_of;
 use arrayvec::ArrayVec;
 use std::alloc::Global;
@@ -262,7 +262,7 @@ fn several_reads_of_one_call_wait_for_the_replies(rt: HostRuntime) -> Result<(),
         next: 0,
         flushed: flushed.clone()?,
     });
-    let mut writer = Counted::new(Telling {
+    let mut writer = Counted::new(Reporting {
         replies: 0,
         last: 0,
         flushed,

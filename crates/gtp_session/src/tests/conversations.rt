@@ -4,7 +4,7 @@ use crate::first::First;
 use crate::serve::{ServeFault, Served, serve, serve_within};
 use crate::session::Session;
 use crate::streams::Counted;
-use crate::tests::memory::{Strict, Telling, Waiting};
+use crate::tests::memory::{Strict, Reporting, Waiting};
 use crate::tests::{assert_serves_in_any_cuts, reader_of, writer_of};
 use arrayvec::ArrayVec;
 use go_base::{Colour, Point};
@@ -92,7 +92,7 @@ fn each_line_is_answered_and_flushed_before_the_next_is_read(rt: HostRuntime) ->
         next: 0,
         flushed: flushed.clone()?,
     });
-    let mut writer = Counted::new(Telling {
+    let mut writer = Counted::new(Reporting {
         replies: 0,
         last: 0,
         flushed,

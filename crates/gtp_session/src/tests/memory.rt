@@ -67,13 +67,13 @@ impl Write for Limited<'_> {
 
 /// Counts the replies that were taken whole, and reports their number at each flush.
 #[derive(Drop)]
-pub struct Telling {
+pub struct Reporting {
     pub replies: u32,
     pub last: u8,
     pub flushed: Rc<Cell<u32>>,
 }
 
-impl Write for Telling {
+impl Write for Reporting {
     fn write(&mut self, buf: &[u8]) -> io::Result<usize> {
         let mut last = self.last;
         let mut replies = self.replies;

@@ -112,7 +112,7 @@ fn assert_candidates(
 }
 
 #[test]
-fn candidates_stand_row_by_row_from_the_bottom(rt: HostRuntime) -> Result<(), Fail> {
+fn candidates_come_row_by_row_from_the_bottom(rt: HostRuntime) -> Result<(), Fail> {
     let game = fresh(3)?;
     let all: [&[u8]; 9] = [
         b"A1", b"B1", b"C1", b"A2", b"B2", b"C2", b"A3", b"B3", b"C3",

@@ -15,7 +15,8 @@ use Rattle.gtp_wire.specs.Replies.{is_status}
 use Rattle.gtp_wire.specs.Replies.{GivesAnswer, IsFirst}
 use Rattle.gtp_wire.specs.private.ReplyReading.{IsReading}
 use Rattle.gtp_wire.specs.AnyText.{IsPassedOver, BeginsNone, FaultsHavePlaces}
-use Rattle.gtp_wire.proofs.first_answers.OneByteMore.{read_removed, read_blank, read_no_status, read_nothing, first_overlong}
+use Rattle.gtp_wire.proofs.first_answers.OneByteMore.{read_removed, read_blank, read_no_status, read_nothing}
+use Rattle.gtp_wire.proofs.first_answers.OneByteMore.{first_overlong}
 use Rattle.gtp_wire.proofs.first_answers.OneByteMore.{first_more}
 use Rattle.gtp_wire.proofs.reply_bytes.Controls.{control_removed}
 

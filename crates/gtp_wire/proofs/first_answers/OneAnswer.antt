@@ -140,9 +140,9 @@ first_at raw value reply =
     subst P (append-nil raw) (reply_is_first raw [] value reply)
 
 -- a reply that is cut short gives no answer
-pub front_tells_nothing : (raw : List ℕ) (value : Reply) (k : ℕ) → IsReply raw value → k < length raw
+pub front_answers_nothing : (raw : List ℕ) (value : Reply) (k : ℕ) → IsReply raw value → k < length raw
     → GivesNoAnswer (take k raw)
-front_tells_nothing raw value k reply less n answer inside is_given =
+front_answers_nothing raw value k reply less n answer inside is_given =
     let first = reply_is_first raw [] value reply in
     let short : n ≤ k = omega (arith, inside, length-take-le k raw (omega arith)) in
     let T : List ℕ → Type 0 = λ t. GivesAnswer t answer in

@@ -26,17 +26,18 @@ use Rattle.gtp_wire.proofs.reply_bytes.Saying.{replies_say}
 use Rattle.gtp_wire.proofs.first_answers.Shapes.{answers_have_shapes, status_cases}
 use Rattle.gtp_wire.proofs.reply_bytes.Controls.{control_byte}
 use Rattle.gtp_wire.proofs.first_answers.EitherWay.{IsUnsaid, either_way, reply_inside}
-use Rattle.gtp_wire.proofs.reply_bytes.Parts.{SaysId, SaysText, says_id, says_text, AreLeft, are_left, left_after_blanks, left_front}
+use Rattle.gtp_wire.proofs.reply_bytes.Parts.{SaysId, SaysText, says_id, says_text, AreLeft, are_left}
+use Rattle.gtp_wire.proofs.reply_bytes.Parts.{left_after_blanks, left_front}
 
 -- what gives no answer gives none by any other way to answer
-abbrev Told : (List ℕ → Option (ℕ × Result Reply ReplyFault)) → List ℕ → ℕ → Result Reply ReplyFault → Type 0
-Told is_given text count answer = is_given text ≡ Some (count, answer)
+abbrev IsRead : (List ℕ → Option (ℕ × Result Reply ReplyFault)) → List ℕ → ℕ → Result Reply ReplyFault → Type 0
+IsRead reader text count answer = reader text ≡ Some (count, answer)
 
 quiet_front : (text : List ℕ) (n : ℕ) → n ≤ length text → GivesNoAnswer text → GivesNoAnswer (take n text)
-quiet_front text n inside quiet k answer within is_given =
+quiet_front text n inside quiet k answer within reader =
     let short : k ≤ n = omega (arith, within, length-take-le n text inside) in
     quiet k answer (omega (arith, short, inside))
-    (subst (λ (t : List ℕ). GivesAnswer t answer) (take-take k n text short) is_given)
+    (subst (λ (t : List ℕ). GivesAnswer t answer) (take-take k n text short) reader)
 
 quiet_fits : (text : List ℕ) → GivesNoAnswer text → length text ≤ 8192
 quiet_fits text quiet = elim (cases_lt 8192 (length text)) [
@@ -46,17 +47,17 @@ quiet_fits text quiet = elim (cases_lt 8192 (length text)) [
 
 unsaid_of : (text : List ℕ) → GivesNoAnswer text → IsUnsaid text
 unsaid_of text quiet = elim (either_way text) [
-  | inl is_given ↦ absurd (quiet is_given.count is_given.answer is_given.first.inside is_given.first.is_given)
+  | inl reader ↦ absurd (quiet reader.count reader.answer reader.first.inside reader.first.reader)
   | inr unsaid ↦ unsaid
 ]
 
-quiet_alike : (is_given : List ℕ → Option (ℕ × Result Reply ReplyFault)) → ReadsReplies (Told is_given) → (text : List ℕ)
-    → GivesNoAnswer text → (count : ℕ) (answer : Result Reply ReplyFault) → Told is_given text count answer → ⊥
-quiet_alike is_given reads text quiet count (Ok value) is =
+quiet_alike : (reader : List ℕ → Option (ℕ × Result Reply ReplyFault)) → ReadsReplies (IsRead reader) → (text : List ℕ)
+    → GivesNoAnswer text → (count : ℕ) (answer : Result Reply ReplyFault) → IsRead reader text count answer → ⊥
+quiet_alike reader reads text quiet count (Ok value) is =
     let inside : count ≤ length text = reads.good.inside text count (Ok value) is in
     reply_inside (take count text) (reads.place.begin text count value is) (reads.place.end text count value is)
     (unsaid_of (take count text) (quiet_front text count inside quiet))
-quiet_alike is_given reads text quiet count (Err NoStatus) is =
+quiet_alike reader reads text quiet count (Err NoStatus) is =
     let inside : count ≤ length text = reads.good.inside text count (Err NoStatus) is in
     let fits : length text ≤ 8192 = quiet_fits text quiet in
     let strange = reads.place.strange text count is in
@@ -66,8 +67,8 @@ quiet_alike is_given reads text quiet count (Err NoStatus) is =
     let first = faults_have_places.no_status strange.front strange.byte [] strange.over room strange.none in
     let P : List ℕ → Type 0 = λ t. IsFirst t (length strange.front + 1) (Err NoStatus) in
     let there : P (take count text) = subst P (sym strange.shape) first in
-    quiet_front text count inside quiet (length strange.front + 1) (Err NoStatus) there.inside there.is_given
-quiet_alike is_given reads text quiet count (Err Overlong) is =
+    quiet_front text count inside quiet (length strange.front + 1) (Err NoStatus) there.inside there.reader
+quiet_alike reader reads text quiet count (Err Overlong) is =
     omega (
       arith,
       reads.good.inside text count (Err Overlong) is,
@@ -78,17 +79,17 @@ quiet_alike is_given reads text quiet count (Err Overlong) is =
 -- ---- a reply by its bytes
 
 abbrev At : (List ℕ → Option (ℕ × Result Reply ReplyFault)) → List ℕ → Reply → Type 0
-At is_given raw value = is_given raw ≡ Some (length raw, Ok value)
+At reader raw value = reader raw ≡ Some (length raw, Ok value)
 
 -- blanks in front
-past_front : (is_given : List ℕ → Option (ℕ × Result Reply ReplyFault)) → ReadsReplies (Told is_given) → (xs : List ℕ)
-    → (value : Reply) → length xs ≤ 8192 → At is_given (skip_while is_blank xs) value → At is_given xs value
-past_front is_given reads [] value fits is = is
-past_front is_given reads (x ∷ xs) value fits is = elim (cases_Bool (is_blank x)) [
+past_front : (reader : List ℕ → Option (ℕ × Result Reply ReplyFault)) → ReadsReplies (IsRead reader) → (xs : List ℕ)
+    → (value : Reply) → length xs ≤ 8192 → At reader (skip_while is_blank xs) value → At reader xs value
+past_front reader reads [] value fits is = is
+past_front reader reads (x ∷ xs) value fits is = elim (cases_Bool (is_blank x)) [
   | inl e ↦
-      let rest : At is_given (skip_while is_blank xs) value = rw e at is in
+      let rest : At reader (skip_while is_blank xs) value = rw e at is in
       reads.replies.blank x xs value (blank_cases x e) (omega arith)
-      (past_front is_given reads xs value (omega arith) rest)
+      (past_front reader reads xs value (omega arith) rest)
   | inr e ↦ rw e at is
 ]
   where
@@ -99,24 +100,24 @@ past_front is_given reads (x ∷ xs) value fits is = elim (cases_Bool (is_blank 
     ]
 
 -- control characters and tabs
-unprepared : (is_given : List ℕ → Option (ℕ × Result Reply ReplyFault)) → ReadsReplies (Told is_given) → (rest done : List ℕ)
+unprepared : (reader : List ℕ → Option (ℕ × Result Reply ReplyFault)) → ReadsReplies (IsRead reader) → (rest done : List ℕ)
     → (value : Reply) → length (done ++ rest) ≤ 8192 → ((x : ℕ) (xs : List ℕ) → rest ≡ x ∷ xs → EndsWithNewline rest)
-    → At is_given (done ++ prepared rest) value → At is_given (done ++ rest) value
-unprepared is_given reads [] done value fits ends is = is
-unprepared is_given reads (b ∷ rest) done value fits ends is = elim (cases_Bool (is_kept b)) [
+    → At reader (done ++ prepared rest) value → At reader (done ++ rest) value
+unprepared reader reads [] done value fits ends is = is
+unprepared reader reads (b ∷ rest) done value fits ends is = elim (cases_Bool (is_kept b)) [
   | inr removed ↦
-      let left : At is_given (done ++ prepared rest) value = rw removed at is in
-      control removed (ends b rest refl) left (λ t e fits. unprepared is_given reads rest done value fits e t)
+      let left : At reader (done ++ prepared rest) value = rw removed at is in
+      control removed (ends b rest refl) left (λ t e fits. unprepared reader reads rest done value fits e t)
   | inl kept ↦ elim (cases_Bool (eqb b 9)) [
     | inl tab ↦
-        let left : At is_given (done ++ 32 ∷ prepared rest) value = rw (kept, tab) at is in
-        let more : At is_given (done ++ 32 ∷ rest) value =
-        byte 32 left (λ t e fits. unprepared is_given reads rest (done ++ 32 ∷ []) value fits e t) in
-        let P : ℕ → Type 0 = λ x. At is_given (done ++ x ∷ rest) value in
+        let left : At reader (done ++ 32 ∷ prepared rest) value = rw (kept, tab) at is in
+        let more : At reader (done ++ 32 ∷ rest) value =
+        byte 32 left (λ t e fits. unprepared reader reads rest (done ++ 32 ∷ []) value fits e t) in
+        let P : ℕ → Type 0 = λ x. At reader (done ++ x ∷ rest) value in
         subst P (sym (eqb-true b 9 tab)) (reads.replies.tab done rest value more)
     | inr no_tab ↦
-        let left : At is_given (done ++ b ∷ prepared rest) value = rw (kept, no_tab) at is in
-        byte b left (λ t e fits. unprepared is_given reads rest (done ++ b ∷ []) value fits e t)
+        let left : At reader (done ++ b ∷ prepared rest) value = rw (kept, no_tab) at is in
+        byte b left (λ t e fits. unprepared reader reads rest (done ++ b ∷ []) value fits e t)
   ]
 ]
   where
@@ -127,13 +128,13 @@ unprepared is_given reads (b ∷ rest) done value fits ends is = elim (cases_Boo
         subst P (sym same)
         (newline_last (b ∷ []) x xs end.front (ap (λ t. b ∷ t) (sym same) ∙ end.shape))
 
-    byte : (c : ℕ) → At is_given (done ++ c ∷ prepared rest) value
-        → (At is_given ((done ++ c ∷ []) ++ prepared rest) value
+    byte : (c : ℕ) → At reader (done ++ c ∷ prepared rest) value
+        → (At reader ((done ++ c ∷ []) ++ prepared rest) value
         → ((x : ℕ) (xs : List ℕ) → rest ≡ x ∷ xs → EndsWithNewline rest)
-        → length ((done ++ c ∷ []) ++ rest) ≤ 8192 → At is_given ((done ++ c ∷ []) ++ rest) value)
-        → At is_given (done ++ c ∷ rest) value
+        → length ((done ++ c ∷ []) ++ rest) ≤ 8192 → At reader ((done ++ c ∷ []) ++ rest) value)
+        → At reader (done ++ c ∷ rest) value
     byte c left more =
-        let P : List ℕ → Type 0 = λ t. At is_given t value in
+        let P : List ℕ → Type 0 = λ t. At reader t value in
         subst P (append_assoc done (c ∷ []) rest)
         (more (subst P (sym (append_assoc done (c ∷ []) (prepared rest))) left) ends_after
         (omega (
@@ -144,22 +145,22 @@ unprepared is_given reads (b ∷ rest) done value fits ends is = elim (cases_Boo
           length-append done (c ∷ []),
         )))
 
-    control : is_kept b ≡ false → EndsWithNewline (b ∷ rest) → At is_given (done ++ prepared rest) value
-        → (At is_given (done ++ prepared rest) value → ((x : ℕ) (xs : List ℕ) → rest ≡ x ∷ xs → EndsWithNewline rest)
-        → length (done ++ rest) ≤ 8192 → At is_given (done ++ rest) value)
-        → At is_given (done ++ b ∷ rest) value
+    control : is_kept b ≡ false → EndsWithNewline (b ∷ rest) → At reader (done ++ prepared rest) value
+        → (At reader (done ++ prepared rest) value → ((x : ℕ) (xs : List ℕ) → rest ≡ x ∷ xs → EndsWithNewline rest)
+        → length (done ++ rest) ≤ 8192 → At reader (done ++ rest) value)
+        → At reader (done ++ b ∷ rest) value
     control removed end left more =
         after rest refl
         (more left ends_after (omega (arith, fits, length-append done (b ∷ rest), length-append done rest)))
       where
-        after : (l : List ℕ) → rest ≡ l → At is_given (done ++ rest) value → At is_given (done ++ b ∷ rest) value
+        after : (l : List ℕ) → rest ≡ l → At reader (done ++ rest) value → At reader (done ++ b ∷ rest) value
         after [] same is =
             let last = same_from_push [] end.front b 10 (ap (λ t. b ∷ t) (sym same) ∙ end.shape) in
             let kept : is_kept b ≡ true = rw last.1 refl in
             absurd (cc)
         after (c ∷ later) same is =
-            let P : List ℕ → Type 0 = λ t. At is_given (done ++ b ∷ t) value in
-            let Q : List ℕ → Type 0 = λ t. At is_given (done ++ t) value in
+            let P : List ℕ → Type 0 = λ t. At reader (done ++ b ∷ t) value in
+            let Q : List ℕ → Type 0 = λ t. At reader (done ++ t) value in
             subst P (sym same)
             (reads.replies.control done b c later value (control_byte b removed)
             (omega (arith, fits, ap length same, length-append done (b ∷ rest), length-append done (b ∷ c ∷ later)))
@@ -170,8 +171,8 @@ record IsPlain (raw : List ℕ) (value : Reply) : Type 0 where
   ok : Bool
   body : List ℕ
   shape : past_blanks raw ≡ cond ok 61 63 ∷ (body ++ 10 ∷ 10 ∷ [])
-  says : (is_given : List ℕ → Option (ℕ × Result Reply ReplyFault)) → ReadsReplies (Told is_given)
-      → At is_given (cond ok 61 63 ∷ (body ++ 10 ∷ 10 ∷ [])) value
+  says : (reader : List ℕ → Option (ℕ × Result Reply ReplyFault)) → ReadsReplies (IsRead reader)
+      → At reader (cond ok 61 63 ∷ (body ++ 10 ∷ 10 ∷ [])) value
 
 status_of : (b : ℕ) → is_status b ≡ true → (ok : Bool) × (b ≡ cond ok 61 63)
 status_of b known = elim (status_cases b known) [ inl e ↦ (true, e) | inr e ↦ (false, e) ]
@@ -244,63 +245,63 @@ is_plain_reply raw value reply = record { ok = status.0; body = body; shape = sh
         (shape ∙ sym (status_past status.0 (body ++ 10 ∷ 10 ∷ []) (prepared_printed (body ++ 10 ∷ 10 ∷ []) left)))
         reply.whole.fits reply.whole.last reply_is) reply
 
-    says : (is_given : List ℕ → Option (ℕ × Result Reply ReplyFault)) → ReadsReplies (Told is_given) → At is_given plain value
-    says is_given reads =
+    says : (reader : List ℕ → Option (ℕ × Result Reply ReplyFault)) → ReadsReplies (IsRead reader) → At reader plain value
+    says reader reads =
         let printed = All-from_recursion _ body (left_front body (10 ∷ 10 ∷ []) left) in
-        let P : Reply → Type 0 = λ v. At is_given plain v in
-        let Q : ℕ → Type 0 = λ n. Told is_given plain n (Ok made) in
+        let P : Reply → Type 0 = λ v. At reader plain v in
+        let Q : ℕ → Type 0 = λ n. IsRead reader plain n (Ok made) in
         subst P same
         (subst Q count
         (reads.replies.says status.0 id.id body id.bytes made printed single fits id.has text.around refl refl))
 
-reply_alike_given : (is_given : List ℕ → Option (ℕ × Result Reply ReplyFault)) → ReadsReplies (Told is_given)
-    → (raw : List ℕ) (value : Reply) → IsReply raw value → At is_given raw value
-reply_alike_given is_given reads raw value reply =
+reply_alike_given : (reader : List ℕ → Option (ℕ × Result Reply ReplyFault)) → ReadsReplies (IsRead reader)
+    → (raw : List ℕ) (value : Reply) → IsReply raw value → At reader raw value
+reply_alike_given reader reads raw value reply =
     let plain = is_plain_reply raw value reply in
-    let P : List ℕ → Type 0 = λ t. At is_given t value in
+    let P : List ℕ → Type 0 = λ t. At reader t value in
     let fits : length (prepared raw) ≤ 8192 = omega (arith, prepared_short raw, reply.whole.fits) in
-    unprepared is_given reads raw [] value reply.whole.fits
+    unprepared reader reads raw [] value reply.whole.fits
     (λ x xs same. record { front = reply.whole.front; shape = reply.whole.last })
-    (past_front is_given reads (prepared raw) value fits
-    (subst P (sym plain.shape ∙ past_copy raw) (plain.says is_given reads)))
+    (past_front reader reads (prepared raw) value fits
+    (subst P (sym plain.shape ∙ past_copy raw) (plain.says reader reads)))
 
 -- ---- both give the same
 
-from_front : (is_given : List ℕ → Option (ℕ × Result Reply ReplyFault)) → ReadsReplies (Told is_given) → (text : List ℕ)
+from_front : (reader : List ℕ → Option (ℕ × Result Reply ReplyFault)) → ReadsReplies (IsRead reader) → (text : List ℕ)
     → (count n : ℕ) (answer : Result Reply ReplyFault) → n ≡ count
-    → Told is_given (take count text) n answer → Told is_given text count answer
-from_front is_given reads text count n answer same is =
-    let P : List ℕ → Type 0 = λ t. Told is_given t count answer in
-    let Q : ℕ → Type 0 = λ m. Told is_given (take count text) m answer in
+    → IsRead reader (take count text) n answer → IsRead reader text count answer
+from_front reader reads text count n answer same is =
+    let P : List ℕ → Type 0 = λ t. IsRead reader t count answer in
+    let Q : ℕ → Type 0 = λ m. IsRead reader (take count text) m answer in
     subst P (take-append-drop count text)
     (reads.good.stays (take count text) (drop count text) count answer (subst Q same is))
 
-overlong_alike : (is_given : List ℕ → Option (ℕ × Result Reply ReplyFault)) → ReadsReplies (Told is_given)
+overlong_alike : (reader : List ℕ → Option (ℕ × Result Reply ReplyFault)) → ReadsReplies (IsRead reader)
     → (text later : List ℕ) → length text ≡ 8192 → 0 < length later → GivesNoAnswer text
-    → Told is_given (text ++ later) 8193 (Err Overlong)
-overlong_alike is_given reads text [] full some quiet = absurd (omega (arith, some))
-overlong_alike is_given reads text (b ∷ later) full some quiet =
-    let P : List ℕ → Type 0 = λ t. Told is_given t 8193 (Err Overlong) in
+    → IsRead reader (text ++ later) 8193 (Err Overlong)
+overlong_alike reader reads text [] full some quiet = absurd (omega (arith, some))
+overlong_alike reader reads text (b ∷ later) full some quiet =
+    let P : List ℕ → Type 0 = λ t. IsRead reader t 8193 (Err Overlong) in
     subst P (append_assoc text (b ∷ []) later)
     (reads.good.stays (text ++ b ∷ []) later 8193 (Err Overlong)
-    (reads.place.overlong text b full (λ count answer is. quiet_alike is_given reads text quiet count answer is)))
+    (reads.place.overlong text b full (λ count answer is. quiet_alike reader reads text quiet count answer is)))
 
-given_alike : (is_given : List ℕ → Option (ℕ × Result Reply ReplyFault)) → ReadsReplies (Told is_given) → (text : List ℕ)
-    → (count : ℕ) (answer : Result Reply ReplyFault) → IsFirst text count answer → Told is_given text count answer
-given_alike is_given reads text count (Ok value) first =
-    from_front is_given reads text count (length (take count text)) (Ok value) (length-take-le count text first.inside)
-    (reply_alike_given is_given reads (take count text) value first.is_given)
-given_alike is_given reads text count (Err NoStatus) first =
+given_alike : (reader : List ℕ → Option (ℕ × Result Reply ReplyFault)) → ReadsReplies (IsRead reader) → (text : List ℕ)
+    → (count : ℕ) (answer : Result Reply ReplyFault) → IsFirst text count answer → IsRead reader text count answer
+given_alike reader reads text count (Ok value) first =
+    from_front reader reads text count (length (take count text)) (Ok value) (length-take-le count text first.inside)
+    (reply_alike_given reader reads (take count text) value first.reader)
+given_alike reader reads text count (Err NoStatus) first =
     let strange = answers_have_shapes.no_status text count first in
     let long : length (take count text) ≡ length strange.front + 1 =
     ap length strange.shape ∙ length-append strange.front (strange.byte ∷ []) in
-    let fits : length (take count text) ≤ 8192 = first.is_given.fits in
-    let P : List ℕ → Type 0 = λ t. Told is_given t (length strange.front + 1) (Err NoStatus) in
-    from_front is_given reads text count (length strange.front + 1) (Err NoStatus)
+    let fits : length (take count text) ≤ 8192 = first.reader.fits in
+    let P : List ℕ → Type 0 = λ t. IsRead reader t (length strange.front + 1) (Err NoStatus) in
+    from_front reader reads text count (length strange.front + 1) (Err NoStatus)
     (sym long ∙ length-take-le count text first.inside)
     (subst P (sym strange.shape)
     (reads.place.no_status strange.front strange.byte strange.over (omega (arith, long, fits)) strange.none))
-given_alike is_given reads text count (Err Overlong) first =
+given_alike reader reads text count (Err Overlong) first =
     let late : count ≡ 8193 = faults_have_places.place text count first in
     let room : 8193 ≤ length text = omega (arith, late, first.inside) in
     let full : length (take 8192 text) ≡ 8192 = length-take-le 8192 text (omega (arith, room)) in
@@ -309,21 +310,21 @@ given_alike is_given reads text count (Err Overlong) first =
     first.before k answer (omega (arith, short, late))
     (subst (λ (t : List ℕ). GivesAnswer t answer) (take-take k 8192 text short) is) in
     let some : 0 < length (drop 8192 text) = omega (arith, room, length-drop 8192 text) in
-    let P : List ℕ → Type 0 = λ t. Told is_given t 8193 (Err Overlong) in
-    let Q : ℕ → Type 0 = λ n. Told is_given text n (Err Overlong) in
+    let P : List ℕ → Type 0 = λ t. IsRead reader t 8193 (Err Overlong) in
+    let Q : ℕ → Type 0 = λ n. IsRead reader text n (Err Overlong) in
     subst Q (sym late)
     (subst P (take-append-drop 8192 text)
-    (overlong_alike is_given reads (take 8192 text) (drop 8192 text) full some quiet))
+    (overlong_alike reader reads (take 8192 text) (drop 8192 text) full some quiet))
 
 some_same : (p q : ℕ × Result Reply ReplyFault) → Some p ≡ Some q → p ≡ q
 some_same p q e = cc
 
-first_alike : (is_given : List ℕ → Option (ℕ × Result Reply ReplyFault)) → ReadsReplies (Told is_given) → (text : List ℕ)
-    → (count : ℕ) (answer : Result Reply ReplyFault) → Told is_given text count answer → IsFirst text count answer
-first_alike is_given reads text count answer is = elim (either_way text) [
+first_alike : (reader : List ℕ → Option (ℕ × Result Reply ReplyFault)) → ReadsReplies (IsRead reader) → (text : List ℕ)
+    → (count : ℕ) (answer : Result Reply ReplyFault) → IsRead reader text count answer → IsFirst text count answer
+first_alike reader reads text count answer is = elim (either_way text) [
   | inl known ↦
-      let other : Told is_given text known.count known.answer =
-      given_alike is_given reads text known.count known.answer known.first in
+      let other : IsRead reader text known.count known.answer =
+      given_alike reader reads text known.count known.answer known.first in
       let both = some_same (known.count, known.answer) (count, answer) (sym other ∙ is) in
       let counts : known.count ≡ count = ap (λ (p : ℕ × Result Reply ReplyFault). p.0) both in
       let answers : known.answer ≡ answer = ap (λ (p : ℕ × Result Reply ReplyFault). p.1) both in
@@ -331,7 +332,7 @@ first_alike is_given reads text count answer is = elim (either_way text) [
       let Q : Result Reply ReplyFault → Type 0 = λ a. IsFirst text known.count a in
       subst P counts (subst Q answers known.first)
   | inr unsaid ↦
-      absurd (quiet_alike is_given reads text unsaid.reading.quiet count answer is)
+      absurd (quiet_alike reader reads text unsaid.reading.quiet count answer is)
 ]
 
 -- ---- what comes first is such a way to answer
@@ -339,7 +340,7 @@ first_alike is_given reads text count answer is = elim (either_way text) [
 reply_at : (raw : List ℕ) (value : Reply) → IsFirst raw (length raw) (Ok value) → IsReply raw value
 reply_at raw value first =
     let P : List ℕ → Type 0 = λ t. IsReply t value in
-    subst P (take_all (length raw) raw (omega arith)) first.is_given
+    subst P (take_all (length raw) raw (omega arith)) first.reader
 
 quiet_of : (text : List ℕ) → ((count : ℕ) (answer : Result Reply ReplyFault) → IsFirst text count answer → ⊥)
     → GivesNoAnswer text
@@ -355,8 +356,8 @@ first_reads = record {
     stays = λ text later count answer first. first_more text later count answer first;
   };
   place = record {
-    begin = λ text count value first. answers_have_shapes.begin (take count text) value first.is_given;
-    end = λ text count value first. answers_have_shapes.reply (take count text) value first.is_given;
+    begin = λ text count value first. answers_have_shapes.begin (take count text) value first.reader;
+    end = λ text count value first. answers_have_shapes.reply (take count text) value first.reader;
     strange = λ text count first. answers_have_shapes.no_status text count first;
     no_status = λ front b over room none. faults_have_places.no_status front b [] over room none;
     late = λ text count first. faults_have_places.place text count first;
@@ -384,6 +385,6 @@ first_reads = record {
 pub replies_are_the_only_reading : RepliesAreTheOnlyReading
 replies_are_the_only_reading = record {
   holds = first_reads;
-  only = λ is_given reads text count answer.
-      (first_alike is_given reads text count answer, given_alike is_given reads text count answer);
+  only = λ reader reads text count answer.
+      (first_alike reader reads text count answer, given_alike reader reads text count answer);
 }

@@ -16,7 +16,8 @@ use Rattle.gtp_wire.specs.AnyText.{IsControl, IsPassedOver, BeginsNone, BeginsWi
 use Rattle.gtp_wire.specs.AnyText.{EndsStrangely, AnswersHaveShapes}
 use Rattle.gtp_wire.proofs.reply_bytes.BytesAndValue.{no_status_begun}
 use Rattle.gtp_wire.proofs.first_answers.OneAnswer.{one_first, prepared-append, past_blanks_more}
-use Rattle.gtp_wire.proofs.first_answers.OneByteMore.{read_nothing, no_status_blank, no_reply_blank, first_byte, past_copy}
+use Rattle.gtp_wire.proofs.first_answers.OneByteMore.{read_nothing, no_status_blank, no_reply_blank, first_byte}
+use Rattle.gtp_wire.proofs.first_answers.OneByteMore.{past_copy}
 use Rattle.gtp_wire.proofs.first_answers.Faults.{first_of_front, passed, faults_have_places}
 use Rattle.gtp_wire.proofs.reply_bytes.Controls.{control_byte}
 

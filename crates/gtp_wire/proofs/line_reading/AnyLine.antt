@@ -17,10 +17,12 @@ use Rattle.gtp_wire.specs.Lines.{lines, line_of, line_of_words}
 use Rattle.gtp_wire.specs.private.LineReading.{is_plain, HoldsWords}
 use Rattle.gtp_wire.specs.AnyText.{IsPrinted, IsLineWord, SpacesSeparate, WordsAreALine}
 use Rattle.gtp_wire.proofs.line_reading.LinesOfTexts.{NoNewline, cut_lines, cut_lines_same}
-use Rattle.gtp_wire.proofs.line_reading.LinesOfTexts.{cut_lines_newline, lines_front, lines_same, lines_newline, lines_nothing}
+use Rattle.gtp_wire.proofs.line_reading.LinesOfTexts.{cut_lines_newline, lines_front, lines_same, lines_newline}
+use Rattle.gtp_wire.proofs.line_reading.LinesOfTexts.{lines_nothing}
 use Rattle.gtp_wire.proofs.line_reading.WordsOfLines.{cleaned, words_space, words_two_spaces}
 use Rattle.gtp_wire.proofs.line_reading.Steps.{end_long, front_skips}
-use Rattle.gtp_wire.proofs.line_reading.OneAfterOther.{AllKept, tail_of, tail_is_kept, tail_is_open, no_newlines, lines_more}
+use Rattle.gtp_wire.proofs.line_reading.OneAfterOther.{AllKept, tail_of, tail_is_kept, tail_is_open, no_newlines}
+use Rattle.gtp_wire.proofs.line_reading.OneAfterOther.{lines_more}
 use Rattle.gtp_wire.proofs.written.OneLine.{IsWord, AreWords, written_line, are_joined}
 
 -- Texts that read as one line alike after whatever is on the line read alike after every text.

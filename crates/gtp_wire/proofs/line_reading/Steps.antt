@@ -15,7 +15,8 @@ use Rattle.gtp_wire.specs.Lines.{lines, line_of, line_of_words}
 use Rattle.gtp_wire.specs.private.LineReading.{is_plain, HoldsWords, HoldsLine, IsKind, ending}
 use Rattle.gtp_wire.specs.declared.lines.Kind.TheVariants.{Space}
 use Rattle.gtp_wire.proofs.line_reading.LinesOfTexts.{NoNewline, lines_same, lines_newline, lines_open}
-use Rattle.gtp_wire.proofs.line_reading.WordsOfLines.{cleaned, cleaned_plain, plain_byte, words_space, words_two_spaces, join_words}
+use Rattle.gtp_wire.proofs.line_reading.WordsOfLines.{cleaned, cleaned_plain, plain_byte, words_space}
+use Rattle.gtp_wire.proofs.line_reading.WordsOfLines.{words_two_spaces, join_words}
 use Rattle.gtp_wire.proofs.line_reading.WordsOfLines.{some_word, too_long_line, too_long_words, split_push, push_last}
 use Rattle.gtp_wire.proofs.line_reading.WordsOfLines.{weight_joined}
 

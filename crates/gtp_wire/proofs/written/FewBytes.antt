@@ -2,7 +2,8 @@
 use Rattle.go_base.proofs.general.Lists.{last_of}
 use Rattle.std.proofs.lemmas.Bool.{or_parts}
 use Rattle.std.proofs.Common.{◌≡◌, ◌≢◌, ℕ, ◌+◌, ◌≤◌, List, [], ◌∷◌, ◌++◌, length, None, true, false}
-use Rattle.std.proofs.Common.{refl, sym, ◌∙◌, ap, arith, cond, eqb, ◌⊎◌, inl, inr, append_assoc, length-append, reverse, get_or}
+use Rattle.std.proofs.Common.{refl, sym, ◌∙◌, ap, arith, cond, eqb, ◌⊎◌, inl, inr, append_assoc, length-append}
+use Rattle.std.proofs.Common.{reverse, get_or}
 use Rattle.std.proofs.Common.{zero, suc, ◌&&◌}
 use Rattle.std.proofs.lemmas.Bool.Decides.{nat_tests}
 use Rattle.std.proofs.lemmas.Fmt.{decimal_is_IsNumeral, decimal_digit, first_decimal}

@@ -24,7 +24,8 @@ use Rattle.gtp_wire.specs.Replies.{has_two_newlines, trim}
 use Rattle.gtp_wire.specs.Replies.{IsWhole, IsReply, written_reply, written_id, spaced, is_shown, begins_blank}
 use Rattle.gtp_wire.specs.Replies.{IsReplyText}
 use Rattle.gtp_wire.proofs.reply_bytes.Newlines.{has_two_newlines_front, body_more}
-use Rattle.gtp_wire.proofs.reply_bytes.BytesAndValue.{reply_made, IsReplyByte, prepared_printed, status_past, status_test, status_ok}
+use Rattle.gtp_wire.proofs.reply_bytes.BytesAndValue.{reply_made, IsReplyByte, prepared_printed, status_past}
+use Rattle.gtp_wire.proofs.reply_bytes.BytesAndValue.{status_test, status_ok}
 
 -- a newline or a byte that is shown
 abbrev IsShown : ℕ → Type 0

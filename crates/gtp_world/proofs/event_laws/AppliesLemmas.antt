@@ -16,7 +16,8 @@ use Rattle.gtp_match.specs.Controller.{started, next_text}
 use Rattle.gtp_match.specs.Next.{next}
 use Rattle.gtp_match.specs.Sides.{side_of}
 use Rattle.gtp_world.specs.declared.events.Event.TheVariants.{Act, BrokenWrite, ToEngine, ToController, Crash, End}
-use Rattle.gtp_world.specs.Lane.{Lane, SidePolicies, idle_lane, written_lane, LaneReads, ReadsWhereRunning, crashed_lane}
+use Rattle.gtp_world.specs.Lane.{Lane, SidePolicies, idle_lane, written_lane, LaneReads, ReadsWhereRunning}
+use Rattle.gtp_world.specs.Lane.{crashed_lane}
 use Rattle.gtp_world.specs.World.{World, at_side, lane_of, lane_with_next, Sends, NothingHappens, SideHears}
 use Rattle.gtp_world.specs.World.{HearsWhereUp, SideFails, FailsWhereUp, side_of_action, SideBreaksOff, policies_at}
 use Rattle.gtp_world.specs.World.{HappensAt, Happens}

@@ -48,7 +48,8 @@ use Rattle.gtp_match.specs.Sound.{VerdictFits, InScript, IsAsked, AreUndo, HasPl
 use Rattle.gtp_match.specs.Sound.{IsIdle, IsSound, all_retakes}
 use Rattle.gtp_match.specs.Unanswered.{most_unanswered}
 use Rattle.gtp_match.proofs.scripts.Scripts.{script_longer}
-use Rattle.gtp_match.proofs.soundness.Calls.{changed, my_engine, their_side, one_idle, idle_plan, taken_at, nothing_pending}
+use Rattle.gtp_match.proofs.soundness.Calls.{changed, my_engine, their_side, one_idle, idle_plan, taken_at}
+use Rattle.gtp_match.proofs.soundness.Calls.{nothing_pending}
 use Rattle.gtp_match.proofs.scripts.WithoutLast.{shorter_length, script_shorter}
 use Rattle.gtp_match.proofs.soundness.Replies.{reply_sound}
 use Rattle.gtp_match.proofs.soundness.Heard.{quiet_sound}
@@ -64,7 +65,8 @@ use Rattle.gtp_world.specs.Joined.{Rules, rule_of, ruled, IsPlayable, IsRefusal,
 use Rattle.gtp_world.specs.Joined.{WillReadWhereRunning, CutByCrash, IsJoinedInPlay}
 use Rattle.gtp_world.specs.Joined.{IsJoinedAtEnd, IsJoinedSide, AreJoined, bare_empty}
 use Rattle.std.proofs.Math.Seq.{drop-length}
-use Rattle.gtp_world.proofs.one_side.OutcomeLemmas.{kept_longer, scripted_outcome, scripted_game, simple_rule, simple_ends}
+use Rattle.gtp_world.proofs.one_side.OutcomeLemmas.{kept_longer, scripted_outcome, scripted_game, simple_rule}
+use Rattle.gtp_world.proofs.one_side.OutcomeLemmas.{simple_ends}
 use Rattle.gtp_world.proofs.one_side.OutcomeLemmas.{Chose, chose, without_with, this_or_other, made_by, has_all_is}
 use Rattle.gtp_world.proofs.one_side.OutcomeLemmas.{has_all_if, theirs_moved, theirs_shorter, theirs_longer, fair_ended}
 use Rattle.gtp_world.proofs.one_side.OutcomeLemmas.{Replied, Left, left_live, refused_heard, undone_heard}
@@ -710,13 +712,13 @@ module _ (rules : Rules) (c : Controller) (s : Colour) (u : EngineRun) (e : Opti
       by_bytes : (used : ℕ) (fault : Option SideFault) (c2 : Controller)
           → GivesNoAnswer (mine.begun ++ b ∷ x) ⊎ Brings mine.begun (b ∷ x) y mine.cut mine.replies
           → HearsUp MayKeep c s u (b ∷ x) used fault c2 → Keeps used fault c2
-      by_bytes used fault c2 (inl quiet) (HearsUp.nothing_yet {kept = kept} tells keeps) = quiet_keeps kept quiet keeps
+      by_bytes used fault c2 (inl quiet) (HearsUp.nothing_yet {kept = kept} reads keeps) = quiet_keeps kept quiet keeps
       by_bytes used fault c2 (inl quiet) (HearsUp.replied {value = value} first) =
           absurd (quiet_or_first _ _ _ quiet (as_begun (length u.reader + used) (Ok value) first))
       by_bytes used fault c2 (inl quiet) (HearsUp.faulted {shown = shown} first) =
           absurd (quiet_or_first _ _ _ quiet (as_begun (length u.reader + used) (Err shown) first))
-      by_bytes used fault c2 (inr k) (HearsUp.nothing_yet {kept = kept} tells keeps) =
-          absurd (quiet_or_first _ _ _ tells (as_reader (length (reply_bytes k.reply)) (Ok k.reply) k.first))
+      by_bytes used fault c2 (inr k) (HearsUp.nothing_yet {kept = kept} reads keeps) =
+          absurd (quiet_or_first _ _ _ reads (as_reader (length (reply_bytes k.reply)) (Ok k.reply) k.first))
       by_bytes used fault c2 (inr k) (HearsUp.faulted {shown = shown} first) =
           absurd (let same = one_first (mine.begun ++ b ∷ x) (length u.reader + used) (length (reply_bytes k.reply))
           (Err shown) (Ok k.reply) (as_begun (length u.reader + used) (Err shown) first) k.first in

@@ -185,24 +185,24 @@ impl Process for Talk {
 
     fn read(&mut self, buffer: &mut [u8]) -> Result<usize, CallFault> {
         if self.is_broken() || matches!(&self.engine, Engine::Mute) {
-            return Err(CallFault::Broken);
+            return Err(CallFault::Other);
         }
         self.interrupt()?;
         let Some(mut left) = self.written.get(self.read..) else {
-            return Err(CallFault::Broken);
+            return Err(CallFault::Other);
         };
         match left.read(buffer) {
             Ok(count) => {
                 self.read = self.read.saturating_add(count);
                 Ok(count)
             }
-            Err(_) => Err(CallFault::Broken),
+            Err(_) => Err(CallFault::Other),
         }
     }
 
     fn write(&mut self, text: &[u8]) -> Result<usize, CallFault> {
         if self.is_broken() {
-            return Err(CallFault::Broken);
+            return Err(CallFault::Other);
         }
         self.interrupt()?;
         let text = match &self.engine {
@@ -230,7 +230,7 @@ impl Process for Talk {
                 add_one(&self.log.writes);
                 Ok(text.len())
             }
-            Err(AllocError) => Err(CallFault::Broken),
+            Err(AllocError) => Err(CallFault::Other),
         }
     }
 

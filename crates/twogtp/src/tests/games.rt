@@ -27,7 +27,7 @@ fn both_pass_on_the_smallest_board(rt: HostRuntime) -> Result<(), Fail> {
 }
 
 #[test]
-fn the_record_stands_between_the_line_and_the_board(rt: HostRuntime) -> Result<(), Fail> {
+fn the_record_is_between_the_line_and_the_board(rt: HostRuntime) -> Result<(), Fail> {
     let cases: [(&[&str], &str); 4] = [
         (
             &["--size", "2", "--komi", "0", "--max-moves", "10"],

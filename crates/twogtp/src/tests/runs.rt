@@ -109,7 +109,8 @@ pub fn assert_plays<R: Abort + AllocGlobal>(
     Ok(())
 }
 
-/// This run wrote nothing to the output and started nothing, its status is 2, and what it reported begins with this text.
+/// This run wrote nothing to the output and started nothing, its status is 2, and what it reported begins with this
+/// text.
 pub fn assert_refused(rt: &impl Abort, ran: &Ran, beginning: &str) -> Result<(), Fail> {
     let reported = str::from_utf8(ran.errors.as_slice())?;
     assert_true_for(rt, reported, reported.starts_with(beginning));

@@ -1,4 +1,5 @@
-use Rattle.go_base.proofs.spellings.SpelledColours.{colour_of_spelled, spells_colour_of, spells_written_colour, one_colour}
+use Rattle.go_base.proofs.spellings.SpelledColours.{colour_of_spelled, spells_colour_of, spells_written_colour}
+use Rattle.go_base.proofs.spellings.SpelledColours.{one_colour}
 use Rattle.go_base.proofs.laws.colour_laws.Goals as goal
 
 pub returns-clause-function : goal.returns-clause-function

@@ -1,4 +1,5 @@
-use Rattle.go_base.proofs.spellings.SpelledVertices.{vertex_of_spelled, spells_vertex_of, spells_written_vertex, one_vertex}
+use Rattle.go_base.proofs.spellings.SpelledVertices.{vertex_of_spelled, spells_vertex_of, spells_written_vertex}
+use Rattle.go_base.proofs.spellings.SpelledVertices.{one_vertex}
 use Rattle.go_base.proofs.laws.vertex_laws.Goals as goal
 
 pub returns-clause-function : goal.returns-clause-function

@@ -18,10 +18,10 @@ loop-try-preserved g c =
           c.in-Err-Interrupted.field-0-is c.in-Err-Interrupted.ensures.failed);
     }
 
-pub returns-in-Err-Broken-clause-failed : goal.returns-in-Err-Broken-clause-failed
-returns-in-Err-Broken-clause-failed g c = broke (unbroken-tries c.loop-try.invariant.interrupted)
+pub returns-in-Err-Other-clause-failed : goal.returns-in-Err-Other-clause-failed
+returns-in-Err-Other-clause-failed g c = broke (unbroken-tries c.loop-try.invariant.interrupted)
     (subst (λ (fault : CallFault). g.P.Process.fails c.loop-try.process fault c.flush.new.self)
-    c.in-Err-Broken.field-0-is c.in-Err-Broken.ensures.failed)
+    c.in-Err-Other.field-0-is c.in-Err-Other.ensures.failed)
 
 pub returns-clause-failed : goal.returns-clause-failed
 returns-clause-failed g c =

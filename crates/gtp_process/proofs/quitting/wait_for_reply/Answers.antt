@@ -6,7 +6,7 @@ use Rattle.std.proofs.lemmas.Grind.{common_steps}
 use Rattle.gtp_wire.proofs.first_answers.OneByteMore.{read_nothing}
 use Rattle.gtp_process.specs.Quitting.{broke, ended, replied}
 use Rattle.gtp_process.specs.Pipes.{untouched}
-use Rattle.gtp_process.proofs.streams.Awaited.{held, quiet_still, given_there, too_many_tell}
+use Rattle.gtp_process.proofs.streams.Awaited.{held, quiet_still, given_there, too_many_answer}
 use Rattle.gtp_process.proofs.streams.PipeCalls.{cut_off-then, ended-then, unbroken-then}
 use Rattle.gtp_process.proofs.quitting.wait_for_reply.Goals as goal
 
@@ -21,7 +21,7 @@ loop-read-init g c = rw c.new-reader.ensures (record {
 
 pub returns-in-Ok-eq0 : goal.returns-in-Ok-eq0
 returns-in-Ok-eq0 g c =
-    let kept : Keeps (g.P.Process.given c.loop-read.process) (g.P.Process.given c.read_once.new.process) =
+    let kept : Keeps (g.P.Process.given c.loop-read.process) (g.P.Process.given c.read_some.new.process) =
     search rules in
     ended c.loop-read.reader (Appends-kept _ _ _ _ c.loop-read.invariant.given kept) c.loop-read.invariant.quiet
     (ended-then c.loop-read.invariant.unbroken (c.in-Ok-eq0.ensures.ended (search rules) (search rules)))
@@ -36,7 +36,7 @@ returns-then-is_some g c =
 
 pub returns-in-Err : goal.returns-in-Err
 returns-in-Err g c =
-    let kept : Keeps (g.P.Process.given c.loop-read.process) (g.P.Process.given c.read_once.new.process) =
+    let kept : Keeps (g.P.Process.given c.loop-read.process) (g.P.Process.given c.read_some.new.process) =
     search rules in
     broke c.loop-read.reader (Appends-kept _ _ _ _ c.loop-read.invariant.given kept) c.loop-read.invariant.quiet
     (cut_off-then c.loop-read.invariant.unbroken c.in-Err.ensures.failed)
@@ -57,5 +57,5 @@ loop-read-preserved g c =
 
 pub returns : goal.returns
 returns g c =
-    absurd (too_many_tell c.loop-read.reader c.loop-read.invariant.quiet
+    absurd (too_many_answer c.loop-read.reader c.loop-read.invariant.quiet
     (omega (arith, c.loop-read.invariant.many, c.loop-read.auto._read-end, c.loop-read-test.false)))

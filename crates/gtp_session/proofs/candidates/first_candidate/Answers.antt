@@ -1,6 +1,7 @@
 use Rattle.std.proofs.Common.{◌+◌, ◌++◌, [], ◌∷◌, sym, ap, ◌∙◌}
 use Rattle.gtp_session.specs.Candidates.{points_of}
-use Rattle.gtp_session.proofs.choosing.CandidatesOfBoards.{not_true, among-none, among-yes, among-no, among-first, among-no_first}
+use Rattle.gtp_session.proofs.choosing.CandidatesOfBoards.{not_true, among-none, among-yes, among-no, among-first}
+use Rattle.gtp_session.proofs.choosing.CandidatesOfBoards.{among-no_first}
 use Rattle.gtp_session.proofs.candidates.first_candidate.Goals as goal
 
 pub loop-point-init : goal.loop-point-init

@@ -1,5 +1,6 @@
 use Rattle.std.proofs.Common.{refl}
-use Rattle.gtp_session.proofs.table.Refusals.{unread_lines, size_lines, full_lines, illegal_lines, touched_lines, stones_lines, nothing_lines}
+use Rattle.gtp_session.proofs.table.Refusals.{unread_lines, size_lines, full_lines, illegal_lines, touched_lines}
+use Rattle.gtp_session.proofs.table.Refusals.{stones_lines, nothing_lines}
 use Rattle.gtp_session.proofs.laws.first_causes_are_given.Goals as goal
 
 pub returns : goal.returns

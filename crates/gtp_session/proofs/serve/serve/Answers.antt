@@ -3,8 +3,10 @@ use Rattle.gtp_session.specs.declared.serve.Served.TheVariants.{Quit, EndOfInput
 use Rattle.gtp_session.specs.declared.serve.ServeFault.TheVariants.{Read, Write, TooManyReads}
 use Rattle.byte_streams.specs.Counts.{raised}
 use Rattle.byte_streams.proofs.CallCounts.{raised-none, raised-then}
-use Rattle.gtp_session.proofs.serving.Conversation.{GivesAtLeast-nothing, GivesAtLeast-both, Conversation-nothing, Conversation-both, BrokenConversation-after, ReadWhileOpen-after}
-use Rattle.gtp_session.proofs.faults.UnderFaults.{Conversation-off, BrokenConversation-off, off-Conversation, off-BrokenConversation, BentConversation-nothing}
+use Rattle.gtp_session.proofs.serving.Conversation.{GivesAtLeast-nothing, GivesAtLeast-both, Conversation-nothing}
+use Rattle.gtp_session.proofs.serving.Conversation.{Conversation-both, BrokenConversation-after, ReadWhileOpen-after}
+use Rattle.gtp_session.proofs.faults.UnderFaults.{Conversation-off, BrokenConversation-off, off-Conversation}
+use Rattle.gtp_session.proofs.faults.UnderFaults.{off-BrokenConversation, BentConversation-nothing}
 use Rattle.gtp_session.proofs.serving.Outcomes.{came_out_quit, came_out_too_many}
 use Rattle.gtp_session.specs.declared.fault.Fault.TheVariants.{Off}
 use Rattle.gtp_session.proofs.serve.serve.Goals as goal

@@ -7,15 +7,15 @@ use Rattle.gtp_match.specs.Retaking.{HearsRetakes}
 use Rattle.gtp_match.proofs.hearing.Exactly.{none_left, some_left}
 use Rattle.gtp_match.proofs.reporting.RetakeOnce.{reports, none_again, idle_after, listed, listed_end, listed_alone}
 use Rattle.gtp_match.proofs.reporting.RetakeOnce.{shows_either, retakes_faulty, retakes_more, retakes_end, retake_shown}
-use Rattle.gtp_match.proofs.reporting.AllBytes.{tells_faulty, tells_more, tells_end, first_of_all, first_of_none}
+use Rattle.gtp_match.proofs.reporting.AllBytes.{reports_fault, reports_more, reports_end, first_of_all, first_of_none}
 use Rattle.gtp_match.proofs.reporting.AllBytes.{shows_first, loss_shown}
 use Rattle.gtp_match.proofs.matches.Match.hear_each.Goals as goal
 
 pub returns-then-is_some-clause-loss : goal.returns-then-is_some-clause-loss
 returns-then-is_some-clause-loss c =
     rw (c.add.ensures.loss, c.held-held.ensures)
-    (c.loop-rest.invariant.tells c.hear_once-once.result.fault _ c.hear_once-once.new.self
-    (tells_faulty c.args.side c.loop-rest.self c.hear_once-once.new.self c.loop-rest.rest.now
+    (c.loop-rest.invariant.reports c.hear_once-once.result.fault _ c.hear_once-once.new.self
+    (reports_fault c.args.side c.loop-rest.self c.hear_once-once.new.self c.loop-rest.rest.now
     c.hear_once-once.result.used c.hear_once-once.result.fault _ (sym c.is_some.ensures ∙ c.if-is_some.true)
     (some_left c.loop-rest.rest.now (sym c.is_empty.ensures ∙ c.loop-rest-test.true)) c.hear_once-once.ensures.exact
     c.hear_once-once.ensures.loss))
@@ -54,10 +54,10 @@ loop-rest-preserved c =
     let more = some_left c.loop-rest.rest.now (sym c.is_empty.ensures ∙ c.loop-rest-test.true) in
     let no_fault = sym c.is_some.ensures ∙ c.if-is_some.false in
     rw (c.add.ensures.loss, c.add.ensures.retake, c.held-held.ensures) (record {
-      tells = λ shown later new is_given.
+      reports = λ shown later new is_given.
           rw (first_of_all c.loop-rest.report.loss _ later)
-          (c.loop-rest.invariant.tells shown _ new
-          (tells_more c.args.side c.loop-rest.self c.hear_once-once.new.self new c.loop-rest.rest.now _
+          (c.loop-rest.invariant.reports shown _ new
+          (reports_more c.args.side c.loop-rest.self c.hear_once-once.new.self new c.loop-rest.rest.now _
           c.hear_once-once.result.used c.hear_once-once.result.fault shown _ later no_fault more
           c.hear_once-once.ensures.exact c.hear_once-once.ensures.loss
           (take_rest c.loop-rest.rest.now c.hear_once-once.result.used) is_given));
@@ -88,8 +88,8 @@ returns-clause-loss c =
     subst (λ (loss : Option Loss).
     HearsReporting c.args.side c.args.self.now c.args.bytes.now None loss c.loop-rest.self)
     (first_of_none c.loop-rest.report.loss)
-    (c.loop-rest.invariant.tells None None c.loop-rest.self
-    (tells_end c.args.side c.loop-rest.self c.loop-rest.rest.now
+    (c.loop-rest.invariant.reports None None c.loop-rest.self
+    (reports_end c.args.side c.loop-rest.self c.loop-rest.rest.now
     (none_left c.loop-rest.rest.now (sym c.is_empty.ensures ∙ c.loop-rest-test.false))))
 
 pub returns-clause-retake : goal.returns-clause-retake

@@ -15,7 +15,7 @@ use Rattle.gtp_match.proofs.matches.Match.hear_each.Given as goal
 -- retake, nothing of the side is unanswered.
 abbrev pub invariant-loop-rest : goal.invariant-loop-rest
 invariant-loop-rest l = record {
-  tells : (shown : Option SideFault) (later : Option Loss) (new : Controller)
+  reports : (shown : Option SideFault) (later : Option Loss) (new : Controller)
       → HearsReporting l.side l.self l.rest shown later new
       → HearsReporting l.side l.fn.self l.bytes shown (first_of l.report.loss later) new;
   retakes : (shown : Option SideFault) (later : List Retake) (new : Controller)

@@ -2,7 +2,8 @@ use Rattle.std.proofs.Common.{rules, ap, sym, ◌∙◌}
 use Rattle.std.specs.Prelude.{◌==◌}
 use Rattle.std.specs.Slice.Iter.{split_rest, split_done, split_callee}
 use Rattle.std.proofs.lemmas.Iterator.Splits.{YieldsList-from_slice_split}
-use Rattle.gtp_session.proofs.choosing.Books.{HasRead-none, HasRead-more, HasRead-bad, HasRead-full, HasRead-all, full, has_room}
+use Rattle.gtp_session.proofs.choosing.Books.{HasRead-none, HasRead-more, HasRead-bad, HasRead-full, HasRead-all}
+use Rattle.gtp_session.proofs.choosing.Books.{full, has_room}
 use Rattle.gtp_session.proofs.book.Book.read.Goals as goal
 
 pub loop-part-init : goal.loop-part-init

@@ -1,6 +1,7 @@
 use Rattle.std.proofs.Common.{◌<◌, length, arith}
 use Rattle.gtp_wire.specs.declared.lines.Stage.TheVariants.{Word}
-use Rattle.gtp_wire.proofs.line_reading.Steps.{view_open, step_long, step_comment, joined_push, joined_push_gap, holds_word}
+use Rattle.gtp_wire.proofs.line_reading.Steps.{view_open, step_long, step_comment, joined_push, joined_push_gap}
+use Rattle.gtp_wire.proofs.line_reading.Steps.{holds_word}
 use Rattle.gtp_wire.proofs.line_reading.Steps.{holds_word_of, step_pushed, step_pushed_gap}
 use Rattle.gtp_wire.proofs.line_reading.WordsOfLines.{plain_byte}
 use Rattle.gtp_wire.proofs.lines.LineReader.take_word_byte.Goals as goal

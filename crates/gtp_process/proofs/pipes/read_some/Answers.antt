@@ -3,7 +3,7 @@ use Rattle.std.proofs.KnownBytes.{Keeps-refl, Keeps-trans}
 use Rattle.byte_streams.specs.declared.calls.CallFault.{CallFault}
 use Rattle.gtp_process.specs.Pipes.{AreInterrupted, broke, interrupted, ran_out, no_call, one_more, untouched, went}
 use Rattle.gtp_process.proofs.streams.PipeCalls.{unbroken-tries}
-use Rattle.gtp_process.proofs.pipes.read_once.Goals as goal
+use Rattle.gtp_process.proofs.pipes.read_some.Goals as goal
 
 pub loop-try-init : goal.loop-try-init
 loop-try-init g c = record { len = refl; given = Keeps-refl _; taken = Keeps-refl _; interrupted = no_call }
@@ -23,10 +23,10 @@ pub returns-in-Ok-clause-ended : goal.returns-in-Ok-clause-ended
 returns-in-Ok-clause-ended g c = λ zero room. ran_out (unbroken-tries c.loop-try.invariant.interrupted)
     (c.in-Ok.ensures.ended zero (search (room, rules)))
 
-pub returns-in-Err-Broken-clause-failed : goal.returns-in-Err-Broken-clause-failed
-returns-in-Err-Broken-clause-failed g c = broke (unbroken-tries c.loop-try.invariant.interrupted)
+pub returns-in-Err-Other-clause-failed : goal.returns-in-Err-Other-clause-failed
+returns-in-Err-Other-clause-failed g c = broke (unbroken-tries c.loop-try.invariant.interrupted)
     (subst (λ (fault : CallFault). g.P.Process.fails c.loop-try.process fault c.read.new.self)
-    c.in-Err-Broken.field-0-is c.in-Err-Broken.ensures.failed)
+    c.in-Err-Other.field-0-is c.in-Err-Other.ensures.failed)
 
 pub returns-clause-failed : goal.returns-clause-failed
 returns-clause-failed g c =

@@ -1,6 +1,6 @@
 use Rattle.std.specs.Io.KnownBytes.{Keeps}
 use Rattle.gtp_process.specs.Pipes.{AreInterrupted}
-use Rattle.gtp_process.proofs.pipes.write_once.Given as goal
+use Rattle.gtp_process.proofs.pipes.write_some.Given as goal
 
 -- every call so far was interrupted, and took nothing
 abbrev pub invariant-loop-try : goal.invariant-loop-try

@@ -3,7 +3,7 @@ use Rattle.std.proofs.KnownBytes.{Keeps-refl, Keeps-trans}
 use Rattle.byte_streams.specs.declared.calls.CallFault.{CallFault}
 use Rattle.gtp_process.specs.Pipes.{AreInterrupted, broke, interrupted, no_call, one_more, untouched, went}
 use Rattle.gtp_process.proofs.streams.PipeCalls.{unbroken-tries}
-use Rattle.gtp_process.proofs.pipes.write_once.Goals as goal
+use Rattle.gtp_process.proofs.pipes.write_some.Goals as goal
 
 pub loop-try-init : goal.loop-try-init
 loop-try-init g c = record { given = Keeps-refl _; taken = Keeps-refl _; interrupted = no_call }
@@ -22,10 +22,10 @@ pub returns-in-Ok-clause-none : goal.returns-in-Ok-clause-none
 returns-in-Ok-clause-none g c = λ zero room. broke (unbroken-tries c.loop-try.invariant.interrupted)
     (c.in-Ok.ensures.none zero room)
 
-pub returns-in-Err-Broken-clause-failed : goal.returns-in-Err-Broken-clause-failed
-returns-in-Err-Broken-clause-failed g c = broke (unbroken-tries c.loop-try.invariant.interrupted)
+pub returns-in-Err-Other-clause-failed : goal.returns-in-Err-Other-clause-failed
+returns-in-Err-Other-clause-failed g c = broke (unbroken-tries c.loop-try.invariant.interrupted)
     (subst (λ (fault : CallFault). g.P.Process.fails c.loop-try.process fault c.write.new.self)
-    c.in-Err-Broken.field-0-is c.in-Err-Broken.ensures.failed)
+    c.in-Err-Other.field-0-is c.in-Err-Other.ensures.failed)
 
 pub returns-clause-failed : goal.returns-clause-failed
 returns-clause-failed g c =

@@ -1,7 +1,7 @@
 use Rattle.std.proofs.Common.{◌≡◌, length}
 use Rattle.std.specs.Io.KnownBytes.{Keeps}
 use Rattle.gtp_process.specs.Pipes.{AreInterrupted}
-use Rattle.gtp_process.proofs.pipes.read_once.Given as goal
+use Rattle.gtp_process.proofs.pipes.read_some.Given as goal
 
 -- every call so far was interrupted, and gave nothing
 abbrev pub invariant-loop-try : goal.invariant-loop-try
