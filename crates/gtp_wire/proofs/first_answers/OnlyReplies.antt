@@ -47,7 +47,7 @@ quiet_fits text quiet = elim (cases_lt 8192 (length text)) [
 
 unsaid_of : (text : List ℕ) → GivesNoAnswer text → IsUnsaid text
 unsaid_of text quiet = elim (either_way text) [
-  | inl reader ↦ absurd (quiet reader.count reader.answer reader.first.inside reader.first.reader)
+  | inl reader ↦ absurd (quiet reader.count reader.answer reader.first.inside reader.first.is_given)
   | inr unsaid ↦ unsaid
 ]
 
@@ -67,7 +67,7 @@ quiet_alike reader reads text quiet count (Err NoStatus) is =
     let first = faults_have_places.no_status strange.front strange.byte [] strange.over room strange.none in
     let P : List ℕ → Type 0 = λ t. IsFirst t (length strange.front + 1) (Err NoStatus) in
     let there : P (take count text) = subst P (sym strange.shape) first in
-    quiet_front text count inside quiet (length strange.front + 1) (Err NoStatus) there.inside there.reader
+    quiet_front text count inside quiet (length strange.front + 1) (Err NoStatus) there.inside there.is_given
 quiet_alike reader reads text quiet count (Err Overlong) is =
     omega (
       arith,
@@ -290,12 +290,12 @@ given_alike : (reader : List ℕ → Option (ℕ × Result Reply ReplyFault)) �
     → (count : ℕ) (answer : Result Reply ReplyFault) → IsFirst text count answer → IsRead reader text count answer
 given_alike reader reads text count (Ok value) first =
     from_front reader reads text count (length (take count text)) (Ok value) (length-take-le count text first.inside)
-    (reply_alike_given reader reads (take count text) value first.reader)
+    (reply_alike_given reader reads (take count text) value first.is_given)
 given_alike reader reads text count (Err NoStatus) first =
     let strange = answers_have_shapes.no_status text count first in
     let long : length (take count text) ≡ length strange.front + 1 =
     ap length strange.shape ∙ length-append strange.front (strange.byte ∷ []) in
-    let fits : length (take count text) ≤ 8192 = first.reader.fits in
+    let fits : length (take count text) ≤ 8192 = first.is_given.fits in
     let P : List ℕ → Type 0 = λ t. IsRead reader t (length strange.front + 1) (Err NoStatus) in
     from_front reader reads text count (length strange.front + 1) (Err NoStatus)
     (sym long ∙ length-take-le count text first.inside)
@@ -340,7 +340,7 @@ first_alike reader reads text count answer is = elim (either_way text) [
 reply_at : (raw : List ℕ) (value : Reply) → IsFirst raw (length raw) (Ok value) → IsReply raw value
 reply_at raw value first =
     let P : List ℕ → Type 0 = λ t. IsReply t value in
-    subst P (take_all (length raw) raw (omega arith)) first.reader
+    subst P (take_all (length raw) raw (omega arith)) first.is_given
 
 quiet_of : (text : List ℕ) → ((count : ℕ) (answer : Result Reply ReplyFault) → IsFirst text count answer → ⊥)
     → GivesNoAnswer text
@@ -356,8 +356,8 @@ first_reads = record {
     stays = λ text later count answer first. first_more text later count answer first;
   };
   place = record {
-    begin = λ text count value first. answers_have_shapes.begin (take count text) value first.reader;
-    end = λ text count value first. answers_have_shapes.reply (take count text) value first.reader;
+    begin = λ text count value first. answers_have_shapes.begin (take count text) value first.is_given;
+    end = λ text count value first. answers_have_shapes.reply (take count text) value first.is_given;
     strange = λ text count first. answers_have_shapes.no_status text count first;
     no_status = λ front b over room none. faults_have_places.no_status front b [] over room none;
     late = λ text count first. faults_have_places.place text count first;
