@@ -1,0 +1,53 @@
+-- What holds of every course.
+use Rattle.std.specs.Prelude.{◌≡◌, ℕ, ◌+◌, ◌*◌, ◌≤◌, List, length, Option}
+use Rattle.gtp_examiner.specs.declared.exam.Exam.{Exam}
+use Rattle.gtp_course.specs.declared.actions.Action.{Action}
+use Rattle.gtp_course.specs.declared.actions.Action.TheVariants.{Start, Restart, Ask, Wait, Skip, Done}
+use Rattle.gtp_course.specs.declared.lessons.Lesson.{Lesson}
+use Rattle.gtp_course.specs.declared.lessons.Lesson.TheVariants.{Ko, Captures, Suicide, Joining}
+use Rattle.gtp_course.specs.Course.{Course, GoesTo, IsIn, Leaves, begun}
+use Rattle.gtp_course.specs.Lessons.{parts_of}
+use Rattle.gtp_course.specs.Scenes.{scenes_of, ways}
+
+-- ---- a course is bounded
+
+abbrev pub asks : Action → ℕ
+asks (Ask command) = 1
+asks Start = 0
+asks Restart = 0
+asks Wait = 0
+asks Skip = 0
+asks Done = 0
+
+abbrev pub starts : Action → ℕ
+starts Start = 1
+starts (Ask command) = 0
+starts Restart = 0
+starts Wait = 0
+starts Skip = 0
+starts Done = 0
+
+-- The calls on a course of these lessons: how many commands were asked, how many starts there were, and the course
+-- after them. Whatever the engine has answered, each call of `next` goes on, and a part may be left at any time.
+pub data Walks (lessons : List Lesson) (scene_size : Option ℕ) : ℕ → ℕ → Course → Type 0 where
+  begins : Walks lessons scene_size 0 0 (begun lessons scene_size)
+  goes : {asked started : ℕ} {old new : Course} (exam : Exam) (action : Action)
+      → Walks lessons scene_size asked started old → GoesTo old exam action new
+      → Walks lessons scene_size (asks action + asked) (starts action + started) new
+  leaves : {asked started : ℕ} {old new : Course} → Walks lessons scene_size asked started old → Leaves old new
+      → Walks lessons scene_size asked started new
+
+-- No more commands are asked than the lessons have steps at most, and five after each start.
+abbrev pub EveryCourseIsBounded : Type 0
+EveryCourseIsBounded = (lessons : List Lesson) (scene_size : Option ℕ) (asked started : ℕ) (course : Course)
+    → Walks lessons scene_size asked started course → IsIn course.lessons course.place
+    → asked ≤ 28800000 * (length lessons + 1) + 5 * (started + 1)
+
+-- ---- each scene is asked
+
+-- The lessons of scenes have a part for each scene in each of its ways.
+pub record EachSceneIsAsked : Type 0 where
+  pub ko : parts_of Ko ≡ ways * length (scenes_of Ko)
+  pub captures : parts_of Captures ≡ ways * length (scenes_of Captures)
+  pub suicide : parts_of Suicide ≡ ways * length (scenes_of Suicide)
+  pub joining : parts_of Joining ≡ ways * length (scenes_of Joining)

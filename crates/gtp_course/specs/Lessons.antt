@@ -1,0 +1,100 @@
+-- What the lessons of a course ask: how many parts each has, and the stretches of each part.
+use Rattle.std.specs.Prelude.{ℕ, List, [], ◌∷◌}
+use Rattle.gtp_course.specs.declared.lessons.Lesson.{Lesson}
+use Rattle.gtp_course.specs.declared.lessons.Lesson.TheVariants.{Start, Sizes, Ko, Captures, Suicide, Joining}
+use Rattle.gtp_course.specs.declared.lessons.Lesson.TheVariants.{Handicaps, Komi, Drawn, Record, Genmoves, Games}
+use Rattle.gtp_course.specs.declared.lessons.Lesson.TheVariants.{Restarts}
+use Rattle.gtp_course.specs.declared.stretches.Stretch.{Stretch}
+use Rattle.gtp_course.specs.declared.stretches.Stretch.TheVariants as stretch
+
+-- the parts: each size from 5 until one is taken; each size; each scene in its sixteen ways; each size with each number
+-- of handicap stones up to 11; and so on
+abbrev pub parts_of : Lesson → ℕ
+parts_of Start = 21
+parts_of Sizes = 25
+parts_of Ko = 80
+parts_of Captures = 128
+parts_of Suicide = 80
+parts_of Joining = 64
+parts_of Handicaps = 300
+parts_of Komi = 8
+parts_of Drawn = 6
+parts_of Record = 2
+parts_of Genmoves = 8
+parts_of Games = 4
+parts_of Restarts = 4
+
+abbrev pub scene_stretches : List Stretch
+scene_stretches =
+    stretch.Size ∷ stretch.Taken ∷ stretch.Komi ∷ stretch.Clear ∷ stretch.Moves ∷ stretch.Own ∷
+    stretch.Corner ∷ stretch.Pass ∷ stretch.Own ∷ stretch.Undo ∷ stretch.Undo ∷ stretch.Own ∷ stretch.Act ∷
+    stretch.Own ∷ stretch.Elsewhere ∷ stretch.Own ∷ stretch.Undo ∷ stretch.Undo ∷ stretch.Corner ∷
+    stretch.Act ∷ stretch.Clear ∷ stretch.Own ∷ []
+
+abbrev pub start_stretches : List Stretch
+start_stretches =
+    stretch.Size ∷ stretch.Taken ∷ stretch.Komi ∷ stretch.Clear ∷ stretch.Edges ∷ stretch.Genmoves 1 ∷
+    stretch.Own ∷ stretch.Undo ∷ stretch.Undo ∷ stretch.Genmoves 2 ∷ []
+
+abbrev pub sizes_stretches : List Stretch
+sizes_stretches =
+    stretch.Size ∷ stretch.Taken ∷ stretch.Komi ∷ stretch.Clear ∷ stretch.Edges ∷ stretch.Undo ∷
+    stretch.Genmoves 2 ∷ stretch.Undo ∷ []
+
+abbrev pub handicaps_stretches : List Stretch
+handicaps_stretches =
+    stretch.Size ∷ stretch.Taken ∷ stretch.Komi ∷ stretch.Clear ∷ stretch.Handicap ∷ stretch.Stars ∷
+    stretch.Handicap ∷ stretch.Surround ∷ stretch.Stars ∷ stretch.Clear ∷ stretch.Stars ∷ stretch.Drawn 1 ∷
+    stretch.Undo ∷ stretch.Handicap ∷ stretch.Genmoves 3 ∷ stretch.Clear ∷ stretch.Stars ∷ []
+
+abbrev pub komi_stretches : List Stretch
+komi_stretches =
+    stretch.Size ∷ stretch.Taken ∷ stretch.Komi ∷ stretch.Clear ∷ stretch.Score ∷ stretch.Drawn 3 ∷
+    stretch.Clear ∷ stretch.Score ∷ stretch.Drawn 3 ∷ stretch.OtherKomi ∷ stretch.Undo ∷ stretch.Clear ∷
+    stretch.Score ∷ stretch.Size ∷ stretch.Taken ∷ stretch.Clear ∷ stretch.Score ∷ stretch.Komi ∷
+    stretch.Score ∷ []
+
+abbrev pub drawn_stretches : List Stretch
+drawn_stretches =
+    stretch.Size ∷ stretch.Taken ∷ stretch.Komi ∷ stretch.Clear ∷ stretch.Probed 1500 ∷ stretch.Back 40 ∷ []
+
+abbrev pub record_stretches : List Stretch
+record_stretches =
+    stretch.Size ∷ stretch.Taken ∷ stretch.Komi ∷ stretch.Clear ∷ stretch.Drawn 1030 ∷ stretch.Back 12 ∷
+    stretch.Drawn 970 ∷ stretch.Back 30 ∷ stretch.Probed 60 ∷ stretch.Back 20 ∷ stretch.Clear ∷
+    stretch.Passes 1010 ∷ stretch.Moves ∷ stretch.Own ∷ stretch.Back 20 ∷ []
+
+abbrev pub genmoves_stretches : List Stretch
+genmoves_stretches =
+    stretch.Size ∷ stretch.Taken ∷ stretch.Komi ∷ stretch.Clear ∷ stretch.Genmoves 240 ∷ stretch.Clear ∷
+    stretch.Handicap ∷ stretch.Genmoves 20 ∷ []
+
+abbrev pub games_stretches : List Stretch
+games_stretches =
+    stretch.Size ∷ stretch.Taken ∷ stretch.Komi ∷ stretch.Clear ∷ stretch.Genmoves 6 ∷ stretch.Probed 60 ∷
+    stretch.Clear ∷ stretch.OtherKomi ∷ stretch.Genmoves 6 ∷ stretch.Probed 60 ∷ stretch.Back 10 ∷
+    stretch.OtherSize ∷ stretch.OtherTaken ∷ stretch.Komi ∷ stretch.Clear ∷ stretch.Score ∷ stretch.Handicap ∷
+    stretch.Probed 60 ∷ stretch.Size ∷ stretch.Clear ∷ stretch.Genmoves 6 ∷ []
+
+abbrev pub restarts_stretches : List Stretch
+restarts_stretches =
+    stretch.Size ∷ stretch.Taken ∷ stretch.Komi ∷ stretch.Clear ∷ stretch.Handicap ∷ stretch.Drawn 60 ∷
+    stretch.Genmoves 2 ∷ stretch.Restart ∷ stretch.Size ∷ stretch.Taken ∷ stretch.Komi ∷ stretch.Clear ∷
+    stretch.Handicap ∷ stretch.Drawn 60 ∷ stretch.Probed 60 ∷ stretch.Back 30 ∷ stretch.Genmoves 4 ∷
+    stretch.Clear ∷ stretch.Moves ∷ stretch.Own ∷ stretch.Restart ∷ []
+
+-- the stretches of each part, one after the other
+abbrev pub stretches_of : Lesson → List Stretch
+stretches_of Start = start_stretches
+stretches_of Sizes = sizes_stretches
+stretches_of Ko = scene_stretches
+stretches_of Captures = scene_stretches
+stretches_of Suicide = scene_stretches
+stretches_of Joining = scene_stretches
+stretches_of Handicaps = handicaps_stretches
+stretches_of Komi = komi_stretches
+stretches_of Drawn = drawn_stretches
+stretches_of Record = record_stretches
+stretches_of Genmoves = genmoves_stretches
+stretches_of Games = games_stretches
+stretches_of Restarts = restarts_stretches

@@ -1,0 +1,10 @@
+pub mod Places
+pub mod Openings
+pub mod Scenes
+pub mod Boards
+pub mod Stretches
+pub mod Lessons
+pub mod Questions
+pub mod Course
+pub mod Asking
+pub mod Laws

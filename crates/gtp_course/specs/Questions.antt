@@ -1,0 +1,162 @@
+-- What a step of a lesson asks.
+use Rattle.std.specs.Prelude.{◌≡◌, ◌≢◌, ℕ, ◌+◌, ◌-◌, ◌/◌, ◌%◌, ◌==◌, nat_le, nat_lt, ◌||◌, ◌&&◌, if◌then◌else◌}
+use Rattle.std.specs.Prelude.{List, [], length, slice_get, Option, None, Some}
+use Rattle.go_base.specs.Colour.{other}
+use Rattle.go_base.specs.Handicap.{handicap_points}
+use Rattle.go_base.specs.Point.{column_of, row_of}
+use Rattle.go_base.specs.declared.colours.Colour.{Colour}
+use Rattle.go_base.specs.declared.colours.Colour.TheVariants.{Black, White}
+use Rattle.go_base.specs.declared.vertices.Vertex.{Vertex}
+use Rattle.go_base.specs.declared.vertices.Vertex.TheVariants.{Pass, At}
+use Rattle.go_board.specs.Game.{GameRecord, IsLegal}
+use Rattle.gtp_wire.specs.declared.commands.Command.{Command}
+use Rattle.gtp_wire.specs.declared.commands.Command.TheVariants as command
+use Rattle.gtp_examiner.specs.declared.asking.CheckCommand.TheVariants.{Match, FinalScore}
+use Rattle.gtp_course.specs.declared.actions.Question.{Question}
+use Rattle.gtp_course.specs.declared.actions.Question.TheVariants.{Ask, Probe, Size, Restart, Nothing}
+use Rattle.gtp_course.specs.declared.boards.Board.{Board}
+use Rattle.gtp_course.specs.declared.stretches.Stretch.{Stretch}
+use Rattle.gtp_course.specs.declared.stretches.Stretch.TheVariants as stretch
+use Rattle.gtp_course.specs.Scenes.{Acts, crossing, turned, turned_act}
+
+-- a command of a match
+abbrev pub asks : Command → Question
+asks now = Ask (Match now)
+
+abbrev pub plays : Colour → Vertex → Question
+plays colour vertex = asks (command.Play (record { colour = colour; vertex = vertex }))
+
+-- a move on a point, which is taken back where it is legal; nothing where there is no point
+abbrev pub probes : Colour → Vertex → Question
+probes colour Pass = Nothing
+probes colour (At p) = Probe (record { colour = colour; vertex = At p })
+
+-- Black for an even number, and White for an odd one
+abbrev pub colour_of : ℕ → Colour
+colour_of number = if number % 2 == 0 then Black else White
+
+-- ---- scenes
+
+abbrev pub last_of : Acts → Option (Colour × ℕ × ℕ)
+last_of acts = slice_get acts (length acts - 1)
+
+-- the move of an act, if there is one
+abbrev pub act_asked : Board → Option (Colour × ℕ × ℕ) → Question
+act_asked board None = Nothing
+act_asked board (Some act) = asks (command.Play (turned_act board.way act board.size))
+
+-- a pass after the act, of the other colour
+abbrev pub pass_asked : Board → Option (Colour × ℕ × ℕ) → Question
+pass_asked board None = Nothing
+pass_asked board (Some act) = plays (other (turned_act board.way act board.size).colour) Pass
+
+-- a move of the other colour in the far corner
+abbrev pub elsewhere_asked : Board → Option (Colour × ℕ × ℕ) → Question
+elsewhere_asked board None = Nothing
+elsewhere_asked board (Some act) =
+    plays (other (turned_act board.way act board.size).colour) (turned board.way board.size board.size board.size)
+
+-- a probe of the point of an act, if there is one
+abbrev pub own_asked : Board → ℕ → Option (Colour × ℕ × ℕ) → Question
+own_asked board step None = Nothing
+own_asked board step (Some act) = probes (colour_of step) (turned board.way act.1 act.2 board.size)
+
+-- ---- points
+
+-- how many lines of the corner are asked each way
+abbrev pub lines : ℕ
+lines = 6
+
+-- a probe of a point of the scene's corner, row by row, in both colours; nothing past the edge
+abbrev pub corner_asked : Board → ℕ → Question
+corner_asked board step =
+    if nat_lt board.size (step / 2 % lines + 1) || nat_lt board.size (step / 2 / lines + 1) then Nothing
+    else probes (colour_of step) (turned board.way (step / 2 % lines + 1) (step / 2 / lines + 1) board.size)
+
+-- the corners, and the points next to two of them that the board doesn't have
+abbrev pub edge_point : ℕ → ℕ → Vertex
+edge_point step size =
+    if step == 0 then crossing size size
+    else if step == 1 then crossing (size + 1) 1
+    else if step == 2 then crossing 1 (size + 1)
+    else if step == 3 then crossing size 1
+    else if step == 4 then crossing 1 size
+    else crossing 1 1
+
+-- the points of the most handicap stones that a size has
+abbrev pub star_points : ℕ → List ℕ
+star_points size =
+    if nat_le 9 size && size % 2 == 1 then handicap_points size 9
+    else if nat_le 7 size then handicap_points size 4
+    else []
+
+abbrev pub star_asked : ℕ → Option ℕ → Question
+star_asked step None = Nothing
+star_asked step (Some p) = probes (colour_of step) (At p)
+
+-- White's move next to a point, if there is one: on its left, on its right, below it and above it
+abbrev pub next_to : ℕ → ℕ → Vertex
+next_to step p =
+    if step == 0 then crossing (column_of p - 1) (row_of p)
+    else if step == 1 then crossing (column_of p + 1) (row_of p)
+    else if step == 2 then crossing (column_of p) (row_of p - 1)
+    else crossing (column_of p) (row_of p + 1)
+
+abbrev pub surround_asked : ℕ → Option ℕ → Question
+surround_asked step None = Nothing
+surround_asked step (Some p) = plays White (next_to step p)
+
+-- ---- the engine's own moves
+
+-- By the number of moves it is Black's turn or White's. Of five steps the third asks for a move of the other colour, and
+-- the last takes a move back.
+abbrev pub genmove_asked : ℕ → ℕ → Question
+genmove_asked step moves =
+    if step % 5 == 4 then asks command.Undo
+    else if step % 5 == 2 then asks (command.Genmove (other (colour_of moves)))
+    else asks (command.Genmove (colour_of moves))
+
+-- ---- drawn moves
+
+-- a move that is legal
+abbrev pub IsLegalMove : GameRecord → Question → Type 0
+IsLegalMove game question =
+    (colour : Colour) × (vertex : Vertex) × IsLegal game colour vertex × (question ≡ plays colour vertex)
+
+-- a probe of any point, or nothing
+abbrev pub IsProbe : Question → Type 0
+IsProbe question = (colour : Colour) × (vertex : Vertex) × (question ≡ probes colour vertex)
+
+-- ---- all stretches
+
+-- What a step of a stretch asks on this board, where the game is this one. What is drawn is any legal move, or a probe
+-- of any point.
+abbrev pub IsQuestion : Stretch → ℕ → Board → GameRecord → Question → Type 0
+IsQuestion stretch.Size step board game question = question ≡ asks (command.Boardsize board.size)
+IsQuestion stretch.Taken step board game question = question ≡ Size board.size
+IsQuestion stretch.OtherSize step board game question = question ≡ asks (command.Boardsize board.other_size)
+IsQuestion stretch.OtherTaken step board game question = question ≡ Size board.other_size
+IsQuestion stretch.Komi step board game question = question ≡ asks (command.Komi board.komi)
+IsQuestion stretch.OtherKomi step board game question = question ≡ asks (command.Komi board.other_komi)
+IsQuestion stretch.Clear step board game question = question ≡ asks command.ClearBoard
+IsQuestion stretch.Moves step board game question = question ≡ act_asked board (slice_get board.scene.now step)
+IsQuestion stretch.Own step board game question = question ≡ own_asked board step (slice_get board.scene.now (step / 2))
+IsQuestion stretch.Corner step board game question = question ≡ corner_asked board step
+IsQuestion stretch.Pass step board game question = question ≡ pass_asked board (last_of board.scene.now)
+IsQuestion stretch.Act step board game question = question ≡ act_asked board (last_of board.scene.now)
+IsQuestion stretch.Elsewhere step board game question = question ≡ elsewhere_asked board (last_of board.scene.now)
+IsQuestion stretch.Undo step board game question = question ≡ asks command.Undo
+IsQuestion stretch.Edges step board game question = question ≡ probes (colour_of step) (edge_point step board.size)
+IsQuestion stretch.Handicap step board game question = question ≡ asks (command.FixedHandicap board.stones)
+IsQuestion stretch.Stars step board game question =
+    question ≡ star_asked step (slice_get (star_points game.size) (step / 2))
+IsQuestion stretch.Score step board game question = question ≡ Ask FinalScore
+IsQuestion stretch.Surround step board game question =
+    question ≡ surround_asked step (slice_get (star_points game.size) 0)
+IsQuestion (stretch.Passes steps) step board game question = question ≡ plays (colour_of step) Pass
+IsQuestion (stretch.Drawn steps) step board game question = IsLegalMove game question
+IsQuestion (stretch.Probed steps) step board game question =
+    (step % 3 ≡ 0 → IsLegalMove game question) × (step % 3 ≢ 0 → IsProbe question)
+IsQuestion (stretch.Back steps) step board game question = question ≡ asks command.Undo
+IsQuestion (stretch.Genmoves steps) step board game question = question ≡ genmove_asked step (length game.moves)
+IsQuestion stretch.Restart step board game question = question ≡ Restart

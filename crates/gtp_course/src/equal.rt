@@ -1,0 +1,18 @@
+//! What tests assert. What an assertion of std writes is proved anew at each place, and a call isn't: so tests call
+//! these.
+ghost use Rattle.std.specs.Prelude.{◌≡◌, true};
+
+use std::fmt::Debug;
+use std::process::Abort;
+
+/// Both are equal.
+pub fn assert_equal<T: PartialEq + Debug + Drop>(rt: &impl Abort, left: T, right: T) {
+    assert_eq!(rt; left, right);
+}
+
+/// It holds.
+pub fn assert_true(rt: &impl Abort, holds: bool)
+    ensures { holds ≡ true }
+{
+    assert!(rt; holds);
+}

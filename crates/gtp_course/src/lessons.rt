@@ -1,0 +1,326 @@
+//! The lessons of a course.
+ghost use Rattle.std.specs.Prelude.{◌≡◌, ◌≤◌, length, map};
+ghost use Rattle.gtp_course.specs.Places.{most_parts, most_stretches};
+ghost use Rattle.gtp_course.specs.Lessons.{parts_of, stretches_of};
+ghost use Rattle.gtp_course.specs.Scenes.{scenes_of};
+
+use crate::scenes::{CAPTURES, JOINING, KO, SUICIDE, Scene, WAYS};
+use crate::stretches::Stretch;
+use arrayvec::ArrayVec;
+
+/// How many lessons there are.
+const ALL: usize = 13;
+
+/// The lessons of a course, in their order.
+pub type Lessons = ArrayVec<Lesson, ALL>;
+
+/// A lesson: what is asked about.
+#[derive(Clone, Copy, Debug, PartialEq, Eq)]
+pub enum Lesson {
+    /// The name, the version, and one move on the smallest board from 5x5 on that the engine takes.
+    Start,
+    /// Each size from 1 to 25: which it takes, its corners, and the points next to them that it doesn't have.
+    Sizes,
+    /// Kos, and what looks like one: who may retake, and when.
+    Ko,
+    /// Captures, of one stone and of several, of one chain and of several.
+    Captures,
+    /// Moves that leave their own chain without a liberty.
+    Suicide,
+    /// Moves that join chains, and captures of chains that were joined.
+    Joining,
+    /// Each number of handicap stones on each size.
+    Handicaps,
+    /// Komis, and the score of an empty board.
+    Komi,
+    /// Drawn games on several sizes, with probes.
+    Drawn,
+    /// A record of 1,990 moves.
+    Record,
+    /// Moves of the engine's own, up to a full board, with `undo` between.
+    Genmoves,
+    /// Three games in one process.
+    Games,
+    /// The same after a new start.
+    Restarts,
+}
+
+impl Default for Lesson {
+    ghost use Rattle.gtp_course.specs.declared.lessons.Lesson.{Lesson};
+
+    ghost is_default = { λ lesson. lesson ≡ Lesson.Start };
+
+    /// The first lesson.
+    fn default() -> Lesson {
+        Lesson::Start
+    }
+}
+
+/// All lessons, in the order of a course.
+pub const LESSONS: [Lesson; ALL] = [
+    Lesson::Start,
+    Lesson::Sizes,
+    Lesson::Ko,
+    Lesson::Captures,
+    Lesson::Suicide,
+    Lesson::Joining,
+    Lesson::Handicaps,
+    Lesson::Komi,
+    Lesson::Drawn,
+    Lesson::Record,
+    Lesson::Genmoves,
+    Lesson::Games,
+    Lesson::Restarts,
+];
+
+/// What a lesson of a scene asks: the scene; the points of its moves, and those of the corner, after the act, after a
+/// pass, after both were taken back, after the act again, after a move elsewhere, and on a board that was cleared after
+/// the act.
+static SCENE: [Stretch; 22] = [
+    Stretch::Size,
+    Stretch::Taken,
+    Stretch::Komi,
+    Stretch::Clear,
+    Stretch::Moves,
+    Stretch::Own,
+    Stretch::Corner,
+    Stretch::Pass,
+    Stretch::Own,
+    Stretch::Undo,
+    Stretch::Undo,
+    Stretch::Own,
+    Stretch::Act,
+    Stretch::Own,
+    Stretch::Elsewhere,
+    Stretch::Own,
+    Stretch::Undo,
+    Stretch::Undo,
+    Stretch::Corner,
+    Stretch::Act,
+    Stretch::Clear,
+    Stretch::Own,
+];
+
+static START: [Stretch; 10] = [
+    Stretch::Size,
+    Stretch::Taken,
+    Stretch::Komi,
+    Stretch::Clear,
+    Stretch::Edges,
+    Stretch::Genmoves(1),
+    Stretch::Own,
+    Stretch::Undo,
+    Stretch::Undo,
+    Stretch::Genmoves(2),
+];
+
+static SIZES: [Stretch; 8] = [
+    Stretch::Size,
+    Stretch::Taken,
+    Stretch::Komi,
+    Stretch::Clear,
+    Stretch::Edges,
+    Stretch::Undo,
+    Stretch::Genmoves(2),
+    Stretch::Undo,
+];
+
+static HANDICAPS: [Stretch; 17] = [
+    Stretch::Size,
+    Stretch::Taken,
+    Stretch::Komi,
+    Stretch::Clear,
+    Stretch::Handicap,
+    Stretch::Stars,
+    Stretch::Handicap,
+    Stretch::Surround,
+    Stretch::Stars,
+    Stretch::Clear,
+    Stretch::Stars,
+    Stretch::Drawn(1),
+    Stretch::Undo,
+    Stretch::Handicap,
+    Stretch::Genmoves(3),
+    Stretch::Clear,
+    Stretch::Stars,
+];
+
+static KOMI: [Stretch; 19] = [
+    Stretch::Size,
+    Stretch::Taken,
+    Stretch::Komi,
+    Stretch::Clear,
+    Stretch::Score,
+    Stretch::Drawn(3),
+    Stretch::Clear,
+    Stretch::Score,
+    Stretch::Drawn(3),
+    Stretch::OtherKomi,
+    Stretch::Undo,
+    Stretch::Clear,
+    Stretch::Score,
+    Stretch::Size,
+    Stretch::Taken,
+    Stretch::Clear,
+    Stretch::Score,
+    Stretch::Komi,
+    Stretch::Score,
+];
+
+static DRAWN: [Stretch; 6] = [
+    Stretch::Size,
+    Stretch::Taken,
+    Stretch::Komi,
+    Stretch::Clear,
+    Stretch::Probed(1500),
+    Stretch::Back(40),
+];
+
+static RECORD: [Stretch; 15] = [
+    Stretch::Size,
+    Stretch::Taken,
+    Stretch::Komi,
+    Stretch::Clear,
+    Stretch::Drawn(1030),
+    Stretch::Back(12),
+    Stretch::Drawn(970),
+    Stretch::Back(30),
+    Stretch::Probed(60),
+    Stretch::Back(20),
+    Stretch::Clear,
+    Stretch::Passes(1010),
+    Stretch::Moves,
+    Stretch::Own,
+    Stretch::Back(20),
+];
+
+static GENMOVES: [Stretch; 8] = [
+    Stretch::Size,
+    Stretch::Taken,
+    Stretch::Komi,
+    Stretch::Clear,
+    Stretch::Genmoves(240),
+    Stretch::Clear,
+    Stretch::Handicap,
+    Stretch::Genmoves(20),
+];
+
+static GAMES: [Stretch; 21] = [
+    Stretch::Size,
+    Stretch::Taken,
+    Stretch::Komi,
+    Stretch::Clear,
+    Stretch::Genmoves(6),
+    Stretch::Probed(60),
+    Stretch::Clear,
+    Stretch::OtherKomi,
+    Stretch::Genmoves(6),
+    Stretch::Probed(60),
+    Stretch::Back(10),
+    Stretch::OtherSize,
+    Stretch::OtherTaken,
+    Stretch::Komi,
+    Stretch::Clear,
+    Stretch::Score,
+    Stretch::Handicap,
+    Stretch::Probed(60),
+    Stretch::Size,
+    Stretch::Clear,
+    Stretch::Genmoves(6),
+];
+
+static RESTARTS: [Stretch; 21] = [
+    Stretch::Size,
+    Stretch::Taken,
+    Stretch::Komi,
+    Stretch::Clear,
+    Stretch::Handicap,
+    Stretch::Drawn(60),
+    Stretch::Genmoves(2),
+    Stretch::Restart,
+    Stretch::Size,
+    Stretch::Taken,
+    Stretch::Komi,
+    Stretch::Clear,
+    Stretch::Handicap,
+    Stretch::Drawn(60),
+    Stretch::Probed(60),
+    Stretch::Back(30),
+    Stretch::Genmoves(4),
+    Stretch::Clear,
+    Stretch::Moves,
+    Stretch::Own,
+    Stretch::Restart,
+];
+
+impl Lesson {
+    /// The name, by which a user names it.
+    pub fn name(self) -> &'static str {
+        match self {
+            Lesson::Start => "start",
+            Lesson::Sizes => "sizes",
+            Lesson::Ko => "ko",
+            Lesson::Captures => "captures",
+            Lesson::Suicide => "suicide",
+            Lesson::Joining => "joining",
+            Lesson::Handicaps => "handicaps",
+            Lesson::Komi => "komi",
+            Lesson::Drawn => "drawn",
+            Lesson::Record => "record",
+            Lesson::Genmoves => "genmoves",
+            Lesson::Games => "games",
+            Lesson::Restarts => "restarts",
+        }
+    }
+
+    /// How many parts it has.
+    pub(crate) fn parts(self) -> u32
+        ensures parts { result ≡ parts_of self }
+        ensures few { result ≤ most_parts }
+    {
+        match self {
+            Lesson::Start => 21,
+            Lesson::Sizes => 25,
+            Lesson::Ko | Lesson::Suicide => 5 * WAYS,
+            Lesson::Captures => 8 * WAYS,
+            Lesson::Joining => 4 * WAYS,
+            Lesson::Handicaps => 300,
+            Lesson::Komi => 8,
+            Lesson::Drawn => 6,
+            Lesson::Record => 2,
+            Lesson::Genmoves => 8,
+            Lesson::Games | Lesson::Restarts => 4,
+        }
+    }
+
+    /// What is asked in each of its parts.
+    pub(crate) fn stretches(self) -> &'static [Stretch]
+        ensures stretches { result.now ≡ stretches_of self }
+        ensures few { length result.now ≤ most_stretches }
+    {
+        match self {
+            Lesson::Start => &START,
+            Lesson::Sizes => &SIZES,
+            Lesson::Ko | Lesson::Captures | Lesson::Suicide | Lesson::Joining => &SCENE,
+            Lesson::Handicaps => &HANDICAPS,
+            Lesson::Komi => &KOMI,
+            Lesson::Drawn => &DRAWN,
+            Lesson::Record => &RECORD,
+            Lesson::Genmoves => &GENMOVES,
+            Lesson::Games => &GAMES,
+            Lesson::Restarts => &RESTARTS,
+        }
+    }
+
+    /// Its scenes. A lesson without scenes of its own has those of kos.
+    pub(crate) fn scenes(self) -> &'static [Scene]
+        ensures { map (λ scene. scene.now) result.now ≡ scenes_of self }
+    {
+        match self {
+            Lesson::Captures => &CAPTURES,
+            Lesson::Suicide => &SUICIDE,
+            Lesson::Joining => &JOINING,
+            _ => &KO,
+        }
+    }
+}

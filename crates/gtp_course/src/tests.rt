@@ -1,0 +1,3 @@
+//! The course, asked of engines in memory.
+mod courses;
+mod scenes;
