@@ -36,8 +36,8 @@ def on(size, moves, *commands):
 class Bug(Engine):
     """What a wrong engine has: its family, how it shows, and more for a few.
 
-    `options` are the options that both engines are started with. `plain` says that the engine answers the opening of
-    an ordinary game rightly. `waits` says that it owes the end of a reply and reads on: who waits for that waits for ever.
+    `options` are the options that both engines are started with. `plain` says that the engine answers the opening of an
+    ordinary game rightly. `waits` says that it owes the end of a reply and reads on. Who waits for that waits for ever.
     """
 
     family = ""

@@ -4,9 +4,9 @@ import re
 from talks import Bug
 
 from . import captures, genmove, handicap, ids, ko, komi, later_games, lines
-from . import records, replies, restarts, sizes, suicide, undo
+from . import records, replies, restarts, sizes, suicide, turns, undo
 
-FIRST = (replies, ids, lines, sizes, komi, captures, ko, suicide)
+FIRST = (replies, ids, lines, sizes, komi, captures, ko, suicide, turns)
 FAMILIES = (*FIRST, undo, handicap, genmove, records, later_games, restarts)
 
 

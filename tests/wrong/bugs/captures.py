@@ -206,6 +206,6 @@ class TakenStonesGiveNoLiberty(Counted):
     """Where stones are taken, the numbers of liberties of the chains beside them don't go up."""
 
     family = "captures"
-    shows = on(5, "w A1 b A2 b B1 w A3 w B2", "play b A2")
-    right = "?"
+    shows = on(5, "w A1 b B1 w A3 w B2", "play b A2")
+    right = "="
     gained = 0

@@ -237,3 +237,22 @@ class LettersHaveI(Bug):
     def do_fixed_handicap(self, arguments):
         words = super().do_fixed_handicap(arguments).split()
         return " ".join(chr(ord(word[0]) - (word[0] > "I")) + word[1:] for word in words)
+
+
+class HandicapStonesLive(Bug):
+    """The stones of a handicap can't be captured: their chains aren't in the list of chains."""
+
+    family = "handicap"
+    shows = [*placed(9, 2), *plays("w B3 w D3 w C2 w C4 w C3")]
+    right = "="
+
+    def begin(self, size):
+        super().begin(size)
+        self.placed = set()
+
+    def place_handicap(self, points):
+        super().place_handicap(points)
+        self.placed = set(points)
+
+    def captures(self, board, colour, point):
+        return super().captures(board, colour, point) - self.placed

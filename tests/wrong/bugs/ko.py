@@ -120,7 +120,7 @@ class KoOfEqualCounts(Bug):
     """Boards are compared by their numbers of stones, so once a stone was taken none may be taken at another place."""
 
     family = "ko"
-    shows = on(5, "b A2 w C1 b B1 w B2 w E5 b D5 w A1", "play b E4")
+    shows = on(5, "w C1 b B1 w B2 w E5 b D5 w A1", "play b E4")
     right = "="
 
     def is_ko(self, board, colour, point):
@@ -161,7 +161,7 @@ class EveryBoardIsKo(Bug):
     """Under simple ko no board of the game may come back."""
 
     family = "ko"
-    shows = on(2, "b A1 w B1 b A2 w B2 b A1 w A2", "play b A1")
+    shows = on(2, "b A1 w B1 w B2 w A2", "play b A1")
     right = "="
 
     def is_ko(self, board, colour, point):

@@ -145,7 +145,7 @@ class UndoTakesKomiBack(Bug):
     """`undo` takes komi back too: it is kept with the board of each move."""
 
     family = "komi"
-    shows = on(5, "", "komi 6.5", "play b C3", "komi 0.5", "undo", "final_score")
+    shows = on(5, "b C3", "komi 0.5", "undo", "final_score")
     right = "= W+0.5"
 
     def __init__(self, *options):
@@ -205,3 +205,16 @@ class KomiIsBlacks(Bug):
 
     def score(self):
         return super().score() + 2 * self.komi
+
+
+class ScoreIsNoted(Bug):
+    """`final_score` is counted once in a process, and answered again whatever komi is by then."""
+
+    family = "komi"
+    shows = on(5, "", "final_score", "komi 0.5", "final_score")
+    right = "= W+0.5"
+    noted = None
+
+    def do_final_score(self, arguments):
+        self.noted = self.noted or super().do_final_score(arguments)
+        return self.noted

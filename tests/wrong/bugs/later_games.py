@@ -90,7 +90,7 @@ class EdgesOfALargerBoard(Bug):
     """The table of edges is made anew only for a larger board, so a smaller one has liberties outside."""
 
     family = "later"
-    shows = [*on(5, ""), *on(3, "b C1 w B1 w C2", "play w C1")]
+    shows = ["boardsize 5", *on(3, "b C1 w B1 w C2", "play w C1")]
     right = "="
     edge = 0
 
@@ -171,16 +171,3 @@ class StonesOfTheGameBefore(Bug):
         kept = self.board[-self.size :] if self.size > 1 else b"\0"
         super().do_clear_board(arguments)
         self.board = self.board[: -self.size] + kept
-
-
-class ScoreOfTheGameBefore(Bug):
-    """`final_score` is noted when it is asked, and answered again in the next game."""
-
-    family = "later"
-    shows = [*on(5, "", "komi 6.5", "final_score"), "clear_board", "komi 0.5", "final_score"]
-    right = "= W+0.5"
-    noted = None
-
-    def do_final_score(self, arguments):
-        self.noted = self.noted or super().do_final_score(arguments)
-        return self.noted

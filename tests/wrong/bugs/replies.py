@@ -142,7 +142,7 @@ class NoReplyToAnUnknownCommand(Bug):
     """A command that isn't known has no reply."""
 
     family = "form"
-    shows = ["known_command time_left", "1 time_left b 10 0"]
+    shows = ["1 no_such_command"]
     right = "?"
     waits = True
 

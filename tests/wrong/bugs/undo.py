@@ -3,6 +3,8 @@ from rules import BLACK, EMPTY, PASS
 from right import Failure
 from talks import KO, Bug, on
 
+from .captures import Counted
+
 
 class NothingIsTakenBack(Bug):
     """`undo` succeeds and does nothing."""
@@ -145,8 +147,8 @@ class PassesAreNoMoves(Bug):
     """A pass isn't in the record, so `undo` takes back the move before."""
 
     family = "undo"
-    shows = on(5, "b A1 w pass", "undo", "play b A1")
-    right = "?"
+    shows = on(5, "b pass", "undo")
+    right = "="
 
     def move(self, colour, point):
         if point != PASS:
@@ -202,8 +204,8 @@ class GenmovesStay(Bug):
     """The moves of `genmove` aren't in the record, so `undo` takes back the move before."""
 
     family = "undo"
-    shows = on(5, "b C3", "genmove w", "undo", "play b C3")
-    right = "?"
+    shows = on(5, "", "genmove b", "undo")
+    right = "="
 
     def do_genmove(self, arguments):
         text = super().do_genmove(arguments)
@@ -216,7 +218,7 @@ class RefusedPlayIsUndone(Bug):
     """An illegal play is refused, and is a move of the record that `undo` takes back."""
 
     family = "undo"
-    shows = on(5, "b A1 w B1", "! play b B1", "undo", "play w B1")
+    shows = on(5, "w B1", "! play b B1", "undo", "play w B1")
     right = "="
 
     def do_play(self, arguments):
@@ -240,3 +242,34 @@ class LastPassStays(Bug):
         if [point for _, point in self.record[-2:]] == [PASS, PASS]:
             raise Failure("the game is over")
         super().do_undo(arguments)
+
+
+class PassBringsStonesBack(Bug):
+    """`undo` of a pass brings back the stones of the last capture, whose list a pass doesn't empty."""
+
+    family = "undo"
+    shows = on(5, "b A1 w A2 w B1 b pass", "undo", "play w A1")
+    right = "="
+
+    def undo(self):
+        number = len(self.record) - 1
+        passed = self.record[number][1] == PASS
+        super().undo()
+        while passed and number > 0 and self.record[number - 1][1] == PASS:
+            number -= 1
+        if passed and number > 0:
+            pairs = zip(self.boards[number - 1], self.board)
+            self.board = bytes(now or before for before, now in pairs)
+
+
+class LibertiesStayAtUndo(Counted):
+    """`undo` mends the board, and not the numbers of liberties that the engine keeps."""
+
+    family = "undo"
+    shows = on(5, "b A1 w A2", "undo", "play w B1", "play b A1")
+    right = "?"
+
+    def undo(self):
+        heads, free = self.heads, self.free
+        super().undo()
+        self.free.update((head, free[heads[point]]) for point, head in self.heads.items() if point in heads)
