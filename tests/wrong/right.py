@@ -6,7 +6,7 @@ import os
 import re
 from random import Random
 
-from rules import BLACK, EMPTY, MOST_MOVES, PASS, SIMPLE, WHITE, Rules
+from rules import BLACK, MOST_MOVES, PASS, SIMPLE, WHITE, Rules
 
 COLUMNS = "ABCDEFGHJKLMNOPQRSTUVWXYZ"
 COLOURS = {"b": BLACK, "black": BLACK, "w": WHITE, "white": WHITE}
@@ -222,13 +222,21 @@ class Engine(Rules):
 
     def do_fixed_handicap(self, arguments):
         stones = self.argument(arguments, 0, self.read_int)
-        if self.record or any(stone != EMPTY for stone in self.board):
+        if not self.is_untouched():
             raise Failure("board not empty")
-        if not 2 <= stones <= self.most_stones():
+        if not self.allows(stones):
             raise Failure("invalid number of stones")
         points = [row * self.size + column for column, row in self.handicap(stones)]
         self.place_handicap(points)
         return " ".join(self.write_point(point) for point in points)
+
+    def is_untouched(self):
+        """Is there no move, and no stone of a handicap?"""
+        return not self.record and not any(self.board)
+
+    def allows(self, stones):
+        """May so many stones be placed?"""
+        return 2 <= stones <= self.most_stones()
 
     def most_stones(self):
         """How many handicap stones the size allows."""

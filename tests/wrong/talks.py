@@ -46,3 +46,8 @@ class Bug(Engine):
     options = ()
     plain = True
     waits = False
+
+    def command_of(self, line):
+        """The name of a line's command, or an empty text."""
+        words = self.words(line)
+        return (self.split_id(words)[1] + [""])[0] if words else ""

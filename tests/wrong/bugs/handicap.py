@@ -1,6 +1,5 @@
 """Handicap stones."""
 from rules import WHITE
-from right import Failure
 from talks import Bug, on, plays
 
 
@@ -140,14 +139,11 @@ class OneStoneIsPlaced(Bug):
     shows = placed(9, 1)
     right = "?"
 
+    def allows(self, stones):
+        return stones == 1 and self.size >= 7 or super().allows(stones)
+
     def handicap(self, stones):
         return super().handicap(2)[:1] if stones == 1 else super().handicap(stones)
-
-    def do_fixed_handicap(self, arguments):
-        if arguments[:1] == ["1"] and self.size >= 7 and not self.record and not any(self.board):
-            self.place_handicap([self.low_line() * (self.size + 1)])
-            return self.write_point(self.low_line() * (self.size + 1))
-        return super().do_fixed_handicap(arguments)
 
 
 class TenStonesAreNine(Bug):
@@ -194,15 +190,8 @@ class HandicapOnABoardInUse(Bug):
     shows = on(9, "b A1", "fixed_handicap 2")
     right = "?"
 
-    def do_fixed_handicap(self, arguments):
-        record, board = self.record, self.board
-        self.record, self.board = [], bytes(len(board))
-        try:
-            text = super().do_fixed_handicap(arguments)
-        finally:
-            self.record, placed_board = record, self.board
-            self.board = bytes(stone or new for stone, new in zip(board, placed_board))
-        return text
+    def is_untouched(self):
+        return True
 
 
 class NoHandicapAfterUndo(Bug):
@@ -221,10 +210,8 @@ class NoHandicapAfterUndo(Bug):
         super().move(colour, point)
         self.used = True
 
-    def do_fixed_handicap(self, arguments):
-        if self.used:
-            raise Failure("board not empty")
-        return super().do_fixed_handicap(arguments)
+    def is_untouched(self):
+        return not self.used and super().is_untouched()
 
 
 class LettersHaveI(Bug):

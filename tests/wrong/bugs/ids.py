@@ -38,7 +38,8 @@ class NoIdAtAGenmove(Bug):
 
     def answer(self, line):
         whole = super().answer(line)
-        return "=" + whole.lstrip("=0123456789") if "genmove" in line and whole.startswith("=") else whole
+        chosen = whole.startswith("=") and self.command_of(line) == "genmove"
+        return "=" + whole.lstrip("=0123456789") if chosen else whole
 
 
 class NoIdWithoutAText(Bug):

@@ -1,4 +1,5 @@
 """Ko."""
+from right import Failure
 from rules import EMPTY, PASS, POSITIONAL, other
 from talks import KO, Bug, on
 
@@ -138,7 +139,7 @@ class KoForgottenAtARefusal(Bug):
     def do_play(self, arguments):
         try:
             super().do_play(arguments)
-        except Exception:
+        except Failure:
             self.forgotten = len(self.record)
             raise
 

@@ -58,10 +58,8 @@ class SecondHandicapFails(Bug):
     right = "points C3 G7"
     placed = False
 
-    def do_fixed_handicap(self, arguments):
-        if self.placed:
-            raise Failure("board not empty")
-        return super().do_fixed_handicap(arguments)
+    def is_untouched(self):
+        return not self.placed and super().is_untouched()
 
     def place_handicap(self, points):
         super().place_handicap(points)
@@ -129,9 +127,12 @@ class EndsAtTheThirdGame(Bug):
     right = "="
     games = 0
 
+    def do_clear_board(self, arguments):
+        self.games += bool(self.record)
+        super().do_clear_board(arguments)
+
     def move(self, colour, point):
-        self.games += not self.record
-        if self.games > 2:
+        if self.games >= 2:
             raise SystemExit(1)
         super().move(colour, point)
 

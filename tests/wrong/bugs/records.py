@@ -32,14 +32,12 @@ class RecordOf1000(RecordOf361):
             raise SystemExit(1)
 
 
-class PointsTwice(RecordOf361):
+class PointsTwice(Bug):
     """A game has at most twice as many moves as the board has points, and `genmove` fails then."""
 
+    family = "records"
     shows = on(5, passes(49) + "b C3", "genmove w")
     right = "but C3"
-
-    def need_room(self):
-        pass
 
     def do_genmove(self, arguments):
         if len(self.record) >= 2 * len(self.board):
@@ -145,6 +143,7 @@ class MovesOfAllGames(Bug):
         self.made += 1
 
     def need_room(self):
+        super().need_room()
         if self.made >= 600:
             raise Failure("record full")
 

@@ -2,6 +2,7 @@
 import sys
 
 from rules import EMPTY, PASS
+from right import Failure
 from talks import Bug, on
 
 
@@ -63,7 +64,8 @@ class TwoRepliesForARefusedPlay(Bug):
 
     def answer(self, line):
         whole = super().answer(line)
-        return whole + self.reply(True, None, "") if whole.startswith("?") and "play" in line else whole
+        twice = whole.startswith("?") and self.command_of(line) == "play"
+        return whole + self.reply(True, self.split_id(self.words(line))[0], "") if twice else whole
 
 
 class NoteBeforeAGenmove(Bug):
@@ -75,7 +77,7 @@ class NoteBeforeAGenmove(Bug):
     plain = False
 
     def answer(self, line):
-        return ("playouts: 1000\n" if "genmove" in line else "") + super().answer(line)
+        return ("playouts: 1000\n" if self.command_of(line) == "genmove" else "") + super().answer(line)
 
 
 class NoteAtACapture(Bug):
@@ -124,7 +126,7 @@ class VersionWithoutAMark(Bug):
     right = "= 1"
 
     def answer(self, line):
-        return "1\n\n" if "version" in line and "protocol" not in line else super().answer(line)
+        return "1\n\n" if self.command_of(line) == "version" else super().answer(line)
 
 
 class BlankLineInAReply(Bug):
@@ -161,8 +163,10 @@ class EndsAtARefusedPlay(Bug):
     def do_play(self, arguments):
         try:
             super().do_play(arguments)
-        except Exception:
-            sys.exit(1)
+        except Failure as failure:
+            if str(failure) == "illegal move":
+                sys.exit(1)
+            raise
 
 
 class KnownIsYes(Bug):

@@ -153,12 +153,12 @@ class OldHandicapStays(Kept):
     shows = [*on(9, "", "fixed_handicap 2"), AGAIN, *on(9, "", "fixed_handicap 2")]
     right = "points C3 G7"
 
-    def do_fixed_handicap(self, arguments):
-        if self.old:
-            raise Failure("board not empty")
-        text = super().do_fixed_handicap(arguments)
+    def is_untouched(self):
+        return not self.old and super().is_untouched()
+
+    def place_handicap(self, points):
+        super().place_handicap(points)
         self.keep("placed")
-        return text
 
 
 class TrialIsOver(Kept):

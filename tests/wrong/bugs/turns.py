@@ -85,6 +85,6 @@ class ColoursByTurn(Bug):
     right = "="
 
     def do_play(self, arguments):
-        colour = self.argument(arguments, 0, self.read_colour)
+        self.argument(arguments, 0, self.read_colour)
         turn = other(self.record[-1][0]) if self.record else BLACK
-        super().do_play(["?bw"[turn] if colour else "", *arguments[1:]])
+        super().do_play(["?bw"[turn], *arguments[1:]])
