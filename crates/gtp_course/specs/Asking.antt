@@ -82,13 +82,13 @@ abbrev pub Probes : Lesson → Course → Exam → Move → Action → Course �
 Probes lesson old exam made (Ask asked) new =
     (asked ≡ Match (command.Play made)) × HasRoomFor exam asked
     × (IsLegal exam.game made.colour made.vertex
-        → (exam.skills.undo ≡ Has) × (new ≡ record old { place = undo_place old.place }))
+    → (exam.skills.undo ≡ Has) × (new ≡ record old { place = undo_place old.place }))
     × ((IsLegal exam.game made.colour made.vertex → ⊥) → new ≡ step_over lesson old)
 Probes lesson old exam made Wait new = (0 < length exam.unanswered) × (new ≡ old)
 Probes lesson old exam made Skip new =
     (exam.unanswered ≡ []) × (new ≡ step_over lesson old)
     × (HasRoomFor exam (Match (command.Play made))
-        → IsLegal exam.game made.colour made.vertex × (exam.skills.undo ≢ Has))
+    → IsLegal exam.game made.colour made.vertex × (exam.skills.undo ≢ Has))
 Probes lesson old exam made Start new = ⊥
 Probes lesson old exam made Restart new = ⊥
 Probes lesson old exam made Done new = ⊥

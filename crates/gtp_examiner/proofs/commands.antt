@@ -1,3 +1,4 @@
 -- What is asked.
 pub mod Plays
 pub mod Lines
+pub mod Handicaps

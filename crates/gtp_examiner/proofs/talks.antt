@@ -2,3 +2,4 @@
 pub mod Silence
 pub mod Findings
 pub mod Skills
+pub mod Found

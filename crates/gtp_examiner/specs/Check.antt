@@ -1,5 +1,5 @@
 -- A check of one engine over all its starts.
-use Rattle.std.specs.Prelude.{◌≡◌, ℕ, ◌+◌, ◌<◌, ◌≤◌, true, false, List, Option, Result, length}
+use Rattle.std.specs.Prelude.{◌≡◌, ℕ, ◌+◌, ◌<◌, ◌≤◌, true, false, List, Option, Some, Result, length}
 use Rattle.go_base.specs.Int.{most_int}
 use Rattle.go_board.specs.declared.rules.KoRule.{KoRule}
 use Rattle.gtp_wire.specs.declared.replies.Reply.{Reply}
@@ -63,3 +63,15 @@ pub record IsBounded (most count : ℕ) (check : Check) : Type 0 where
 abbrev pub EveryCheckIsBounded : Type 0
 EveryCheckIsBounded = (rule : KoRule) (most count : ℕ) (check : Check)
     → Calls rule most count check → IsBounded most count check
+
+-- ---- which engine is up
+
+-- No engine is up before the first start, nor after it is lost or was found wrong. After a start it is, and only one
+-- that is up is asked.
+pub record UpIsBetween : Type 0 where
+  pub opened : (rule : KoRule) (most : ℕ) → (opening rule most).exam.up ≡ false
+  pub begins : (check : Check) → (started check).exam.up ≡ true
+  pub ends : (exam : Exam) → (downed exam).up ≡ false
+  pub found : (old new : Exam) (bytes : List ℕ) (used : ℕ) (read : Option (Result Reply ReplyFault))
+      (finding : Finding) → Hears old bytes used read (Some finding) new → new.up ≡ false
+  pub asked : (exam : Exam) (command : CheckCommand) → HasRoomFor exam command → exam.up ≡ true

@@ -344,3 +344,12 @@ NoRightEngineIsBlamed {P} may = (rule : KoRule) (policy : P) (engine : Engine P)
     → Talks rule sent came said old → Hears old bytes used read finding new
     → Engages may (fresh_under rule policy) sent engine out → out ≡ came ++ (bytes ++ later)
     → finding ≡ None
+
+-- ---- what is no answer is found
+
+-- Whatever is read is found wrong, or it is a reply to the oldest unanswered command (a right one then:
+-- SilenceSaysAllIsRight). So no fault in the form of replies is passed over, nor a reply where nothing was unanswered.
+abbrev pub WhatIsReadIsAnswerOrFound : Type 0
+WhatIsReadIsAnswerOrFound = (old new : Exam) (bytes : List ℕ) (used : ℕ) (read : Result Reply ReplyFault)
+    → Hears old bytes used (Some read) None new
+    → (entry : Asked) × (reply : Reply) × (oldest old.unanswered ≡ Some entry) × (read ≡ Ok reply)

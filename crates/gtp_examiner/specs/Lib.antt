@@ -7,3 +7,4 @@ pub mod Judging
 pub mod Exam
 pub mod Check
 pub mod Laws
+pub mod StepLaws

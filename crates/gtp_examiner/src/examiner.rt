@@ -1,5 +1,5 @@
 //! The examiner of one engine.
-ghost use Rattle.std.specs.Prelude.{◌≡◌, ◌<◌, ◌≤◌, true, false, length, option_map};
+ghost use Rattle.std.specs.Prelude.{◌≡◌, ◌<◌, ◌≤◌, true, false, length, option_map, None};
 ghost use Rattle.gtp_wire.specs.Replies.{with_reply};
 ghost use Rattle.gtp_examiner.specs.Asking.{written_check};
 
@@ -102,6 +102,8 @@ impl Examiner {
             (option_map (with_reply reply.new) result.read) result.finding self.new.exam }
         ensures down { self.old.exam.up ≡ false
             → HearsDown self.old.exam bytes.now result.used result.finding self.new.exam }
+        ensures still { self.old.exam.up ≡ false
+            → (result.read ≡ None) × (result.answered ≡ None) × (result.refused ≡ None) }
         ensures starts { self.new ≡ with_exam self.old self.new.exam }
         ensures answered { self.old.exam.up ≡ true → result.answered
             ≡ answered_by (oldest self.old.exam.unanswered)

@@ -3,7 +3,9 @@ ghost use Rattle.gtp_examiner.specs.Laws.{SilenceSaysAllIsRight, FindingsAreJust
 ghost use Rattle.gtp_examiner.specs.Laws.{RightAnswersLeaveOneGame, SkillsAreWhatWasSaid, AskedCommandsAreLines};
 ghost use Rattle.gtp_examiner.specs.Laws.{PlaysAreLegalOrProbes};
 ghost use Rattle.gtp_examiner.specs.Laws.{ScoresAreKomiAlone, WhoAnswersRightlyIsNotBlamed, NoRightEngineIsBlamed};
-ghost use Rattle.gtp_examiner.specs.Check.{EveryCheckIsBounded};
+ghost use Rattle.gtp_examiner.specs.Laws.{WhatIsReadIsAnswerOrFound};
+ghost use Rattle.gtp_examiner.specs.Check.{EveryCheckIsBounded, UpIsBetween};
+ghost use Rattle.gtp_examiner.specs.StepLaws.{NoneAfterTheEnd, HandicapsArePlacedOrProbes, RightAnswersAreReported};
 
 use gtp_session::policy::Policy;
 
@@ -64,4 +66,29 @@ pub fn no_right_engine_is_blamed<P: Policy>()
 /// unanswered, and one engine is asked at most 2,147,483,647 of them.
 pub fn every_check_is_bounded()
     ensures { EveryCheckIsBounded }
+{}
+
+/// Whatever is read is found wrong, or is a reply to the oldest unanswered command.
+pub fn what_is_read_is_answer_or_found()
+    ensures { WhatIsReadIsAnswerOrFound }
+{}
+
+/// An engine is up from its start until it is lost or found wrong, and only then it is asked.
+pub fn up_is_between()
+    ensures { UpIsBetween }
+{}
+
+/// No `genmove` is asked after two passes, and no `quit`.
+pub fn none_after_the_end()
+    ensures { NoneAfterTheEnd }
+{}
+
+/// A handicap that is asked has its points due where it may be placed, and is a probe where it may not.
+pub fn handicaps_are_placed_or_probes()
+    ensures { HandicapsArePlacedOrProbes }
+{}
+
+/// The command to which a right answer was heard is the oldest one, and it is reported.
+pub fn right_answers_are_reported()
+    ensures { RightAnswersAreReported }
 {}

@@ -5,7 +5,7 @@ use crate::first::First;
 use crate::serve::{ServeFault, Served, serve, serve_with, serve_within};
 use crate::session::Session;
 use crate::streams::Counted;
-use crate::tests::memory::{Limited, Pieces, Stuck, StuckOnce, Reporting, Unflushed, Waiting};
+use crate::tests::memory::{Limited, Pieces, Reporting, Stuck, StuckOnce, Unflushed, Waiting};
 use crate::tests::reader_of;
 use arrayvec::ArrayVec;
 use std::alloc::Global;

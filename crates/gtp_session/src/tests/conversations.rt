@@ -4,7 +4,7 @@ use crate::first::First;
 use crate::serve::{ServeFault, Served, serve, serve_within};
 use crate::session::Session;
 use crate::streams::Counted;
-use crate::tests::memory::{Strict, Reporting, Waiting};
+use crate::tests::memory::{Reporting, Strict, Waiting};
 use crate::tests::{assert_serves_in_any_cuts, reader_of, writer_of};
 use arrayvec::ArrayVec;
 use go_base::{Colour, Point};

@@ -1,0 +1,62 @@
+-- What is read is found wrong, or answers; and which engine is up.
+use Rattle.std.proofs.Common.{◌≡◌, ℕ, Bool, true, false, List, [], ◌∷◌, Option, Some, None, refl, ap, ◌∙◌}
+use Rattle.std.specs.Prelude.{Result, Ok, Err}
+use Rattle.gtp_wire.specs.declared.replies.Reply.{Reply}
+use Rattle.gtp_wire.specs.declared.replies.ReplyFault.{ReplyFault}
+use Rattle.gtp_examiner.specs.declared.judging.Judgement.{Judgement}
+use Rattle.gtp_examiner.specs.declared.judging.Judgement.TheVariants.{Right, Plays, Resized, Wrong}
+use Rattle.gtp_examiner.specs.declared.unanswered.Asked.{Asked}
+use Rattle.gtp_examiner.specs.declared.exam.Exam.{Exam}
+use Rattle.gtp_examiner.specs.declared.exam.Finding.{Finding}
+use Rattle.gtp_examiner.specs.Judging.{oldest, has_id}
+use Rattle.gtp_examiner.specs.Exam.{Hears, Leaves, ReplyLeaves, IdLeaves, after_judged, finding_of, with_learned, with_rest}
+use Rattle.gtp_examiner.specs.Check.{UpIsBetween}
+
+-- ---- what is read
+
+reply_answers : (exam : Exam) (o : Option Asked) (reply : Reply) (new : Exam) → ReplyLeaves exam o reply None new
+    → (entry : Asked) × (o ≡ Some entry)
+reply_answers exam None reply new h = absurd (cc (h.0))
+reply_answers exam (Some entry) reply new h = (entry, refl)
+
+pub answer_or_found : (old new : Exam) (bytes : List ℕ) (used : ℕ) (read : Result Reply ReplyFault)
+    → Hears old bytes used (Some read) None new
+    → (entry : Asked) × (reply : Reply) × (oldest old.unanswered ≡ Some entry) × (read ≡ Ok reply)
+answer_or_found old new bytes used (Err shown) h = absurd (cc (h.2.0))
+answer_or_found old new bytes used (Ok reply) h =
+    let one = reply_answers (with_rest old h.0) (oldest old.unanswered) reply new h.2 in (one.0, reply, one.1, refl)
+
+-- ---- who is up
+
+judged_down : (exam : Exam) (entry : Asked) (got : Judgement) (finding : Finding) (new : Exam)
+    → Some finding ≡ finding_of entry got → new ≡ after_judged exam got → new.up ≡ false
+judged_down exam entry Right finding new e is = absurd (cc e)
+judged_down exam entry (Plays colour v) finding new e is = absurd (cc e)
+judged_down exam entry (Resized size) finding new e is = absurd (cc e)
+judged_down exam entry (Wrong kind) finding new e is = ap (λ (x : Exam). x.up) is
+
+id_down : (exam : Exam) (entry : Asked) (reply : Reply) (b : Bool) (finding : Finding) (new : Exam)
+    → IdLeaves exam entry reply b (Some finding) new → new.up ≡ false
+id_down exam entry reply false finding new h = ap (λ (x : Exam). x.up) h.1
+id_down exam entry reply true finding new h =
+    judged_down (with_learned exam entry.command reply) entry h.0 finding new h.2 h.3
+
+reply_down : (exam : Exam) (o : Option Asked) (reply : Reply) (finding : Finding) (new : Exam)
+    → ReplyLeaves exam o reply (Some finding) new → new.up ≡ false
+reply_down exam None reply finding new h = ap (λ (x : Exam). x.up) h.1
+reply_down exam (Some entry) reply finding new h = id_down exam entry reply (has_id reply.id entry.id) finding new h
+
+leaves_down : (exam : Exam) (read : Option (Result Reply ReplyFault)) (finding : Finding) (new : Exam)
+    → Leaves exam read (Some finding) new → new.up ≡ false
+leaves_down exam None finding new h = absurd (cc (h.0))
+leaves_down exam (Some (Err shown)) finding new h = ap (λ (x : Exam). x.up) h.1
+leaves_down exam (Some (Ok reply)) finding new h = reply_down exam (oldest exam.unanswered) reply finding new h
+
+pub up_between : UpIsBetween
+up_between = record {
+  opened = λ rule most. refl;
+  begins = λ check. refl;
+  ends = λ exam. refl;
+  found = λ old new bytes used read finding h. leaves_down (with_rest old h.0) read finding new h.2;
+  asked = λ exam command room. room.up;
+}
