@@ -7,7 +7,7 @@ use Rattle.gtp_course.specs.declared.lessons.Lesson.{Lesson}
 use Rattle.gtp_course.specs.declared.openings.Opening.{Opening}
 use Rattle.gtp_course.specs.declared.openings.Opening.TheVariants as opening
 use Rattle.gtp_course.specs.Course.{Course, GoesOn, GoesTo, IsIn, Leaves, progress}
-use Rattle.gtp_course.specs.Laws.{Walks, asks, starts}
+use Rattle.gtp_course.specs.Laws.{Walks, counted, starts}
 use Rattle.gtp_course.specs.Openings.{opened}
 use Rattle.gtp_course.specs.Places.{half}
 use Rattle.std.proofs.Common.{Bool, true, false}
@@ -47,7 +47,7 @@ begun_again lessons asked started old new held is =
 
 step : (lessons : List Lesson) (asked started : ℕ) (old new : Course) (exam : Exam) (action : Action)
     → Holds lessons asked started old → GoesTo old exam action new
-    → Holds lessons (asks action + asked) (starts action + started) new
+    → Holds lessons (counted action + asked) (starts action + started) new
 step lessons asked started old new exam Start held goes =
     let h : Holds lessons asked (1 + started) new = begun_again lessons asked started old new held goes.1 in
     record { same = h.same; few = omega (arith, h.few) }

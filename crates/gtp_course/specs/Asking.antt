@@ -7,6 +7,7 @@ use Rattle.gtp_wire.specs.declared.commands.Command.TheVariants as command
 use Rattle.gtp_examiner.specs.declared.asking.CheckCommand.{CheckCommand}
 use Rattle.gtp_examiner.specs.declared.asking.CheckCommand.TheVariants.{Match}
 use Rattle.gtp_examiner.specs.declared.exam.Exam.{Exam}
+use Rattle.gtp_examiner.specs.declared.setups.Board.TheVariants.{Unknown}
 use Rattle.gtp_examiner.specs.declared.skills.Skill.TheVariants.{Has}
 use Rattle.gtp_examiner.specs.Exam.{HasRoomFor}
 use Rattle.gtp_course.specs.declared.actions.Action.{Action}
@@ -28,7 +29,7 @@ use Rattle.gtp_course.specs.Course.{Course, scene_size_of, step_over, part_over,
 abbrev pub IsStepOf : Lesson → Course → GameRecord → Option Stretch → Question → Type 0
 IsStepOf lesson course game None question = question ≡ asked.Nothing
 IsStepOf lesson course game (Some stretch) question =
-    (board : Board) × IsBoard lesson course.place.part (scene_size_of course) board
+    (board : Board) × IsBoard lesson course.place.part (scene_size_of lesson course) board
     × IsQuestion stretch course.place.step board game question
 
 -- what the step is in which the course is
@@ -54,18 +55,20 @@ Renews lesson old exam (Ask command) new = ⊥
 Renews lesson old exam Skip new = ⊥
 Renews lesson old exam Done new = ⊥
 
--- A command of the opening is asked, and the place stays.
+-- A command of the opening is asked, and the place stays. It can't be asked only where no more ids are left.
 abbrev pub Opens : Lesson → Course → Exam → CheckCommand → Opening → Action → Course → Type 0
 Opens lesson old exam command after (Ask asked) new =
     (asked ≡ command) × HasRoomFor exam command × (new ≡ record old { opening = after })
-Opens lesson old exam command after Wait new = (0 < length exam.unanswered) × (new ≡ old)
-Opens lesson old exam command after Restart new = (exam.unanswered ≡ []) × (new ≡ step_over lesson old)
+Opens lesson old exam command after Wait new =
+    (0 < length exam.unanswered) × (HasRoomFor exam command → ⊥) × (new ≡ old)
+Opens lesson old exam command after Restart new =
+    (exam.unanswered ≡ []) × (HasRoomFor exam command → ⊥) × (new ≡ step_over lesson old)
 Opens lesson old exam command after Start new = ⊥
 Opens lesson old exam command after Skip new = ⊥
 Opens lesson old exam command after Done new = ⊥
 
 -- A command is asked, and the step is over. Where it may not be asked, what the engine owes is waited for. Where it owes
--- nothing, the command can't be asked any more, and the step is passed over.
+-- nothing, the command may not be asked in this game, and the step is passed over.
 abbrev pub Poses : Lesson → Course → Exam → CheckCommand → Action → Course → Type 0
 Poses lesson old exam command (Ask asked) new =
     (asked ≡ command) × HasRoomFor exam command × (new ≡ step_over lesson old)
@@ -84,7 +87,10 @@ Probes lesson old exam made (Ask asked) new =
     × (IsLegal exam.game made.colour made.vertex
     → (exam.skills.undo ≡ Has) × (new ≡ record old { place = undo_place old.place }))
     × ((IsLegal exam.game made.colour made.vertex → ⊥) → new ≡ step_over lesson old)
-Probes lesson old exam made Wait new = (0 < length exam.unanswered) × (new ≡ old)
+Probes lesson old exam made Wait new =
+    (0 < length exam.unanswered) × (new ≡ old)
+    × (HasRoomFor exam (Match (command.Play made))
+    → IsLegal exam.game made.colour made.vertex × (exam.skills.undo ≢ Has))
 Probes lesson old exam made Skip new =
     (exam.unanswered ≡ []) × (new ≡ step_over lesson old)
     × (HasRoomFor exam (Match (command.Play made))
@@ -98,10 +104,12 @@ abbrev pub with_size : Lesson → Course → ℕ → Course
 with_size lesson course size =
     if finds_size lesson && is_none course.scene_size then record course { scene_size = Some size } else course
 
--- Whether the engine took a size is seen. Where it refused it, the part is over.
+-- Whether the engine took a size is seen: its board has that size, and it took one since it was started. Where it
+-- refused it, the part is over.
 abbrev pub Sees : Lesson → Course → Exam → ℕ → Action → Course → Type 0
 Sees lesson old exam size Skip new =
-    (exam.game.size ≡ size → new ≡ step_over lesson (with_size lesson old size))
+    (exam.board ≢ Unknown → exam.game.size ≡ size → new ≡ step_over lesson (with_size lesson old size))
+    × (exam.board ≡ Unknown → new ≡ part_over lesson old)
     × (exam.game.size ≢ size → new ≡ part_over lesson old)
 Sees lesson old exam size (Ask command) new = ⊥
 Sees lesson old exam size Wait new = ⊥

@@ -47,14 +47,6 @@ IsOver course = length course.lessons ≤ course.place.lesson
 abbrev pub IsRunning : Course → Type 0
 IsRunning course = course.place.lesson < length course.lessons
 
--- the size of the boards of scenes: the one that is known, and until then each from 5 on in a part of its own
-abbrev pub size_in : Option ℕ → ℕ → ℕ
-size_in None part = min (5 + part) most_size
-size_in (Some size) part = size
-
-abbrev pub scene_size_of : Course → ℕ
-scene_size_of course = size_in course.scene_size course.place.part
-
 -- ---- what comes next
 
 -- after so many findings in a lesson the next one begins
@@ -65,7 +57,7 @@ most_findings = 10
 abbrev pub with_finding : Course → Course
 with_finding course = record course { findings = min (course.findings + 1) most_findings }
 
--- the lessons of a course begin with one that is over once it has found the size of scenes
+-- The start finds the size of scenes, and is over then.
 abbrev pub finds_size : Lesson → Bool
 finds_size lesson.Start = true
 finds_size lesson.Sizes = false
@@ -80,6 +72,18 @@ finds_size lesson.Record = false
 finds_size lesson.Genmoves = false
 finds_size lesson.Games = false
 finds_size lesson.Restarts = false
+
+-- the size that a part of the start asks for: each from 5 on; other lessons have the smallest
+abbrev pub sought_size : Lesson → ℕ → ℕ
+sought_size lesson part = if finds_size lesson then min (5 + part) most_size else 5
+
+abbrev pub size_in : Lesson → Option ℕ → ℕ → ℕ
+size_in lesson None part = sought_size lesson part
+size_in lesson (Some size) part = size
+
+-- the size of the boards of scenes: the one that is known, or the one that is asked for
+abbrev pub scene_size_of : Lesson → Course → ℕ
+scene_size_of lesson course = size_in lesson course.scene_size course.place.part
 
 -- whether another part of the lesson comes
 abbrev pub has_next_part : Lesson → Course → Bool

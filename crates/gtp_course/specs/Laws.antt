@@ -11,13 +11,14 @@ use Rattle.gtp_course.specs.Scenes.{scenes_of, ways}
 
 -- ---- a course is bounded
 
-abbrev pub asks : Action → ℕ
-asks (Ask command) = 1
-asks Start = 0
-asks Restart = 0
-asks Wait = 0
-asks Skip = 0
-asks Done = 0
+-- a command that is asked, a step that asks nothing, and the end of an engine each count as one
+abbrev pub counted : Action → ℕ
+counted (Ask command) = 1
+counted Restart = 1
+counted Skip = 1
+counted Start = 0
+counted Wait = 0
+counted Done = 0
 
 abbrev pub starts : Action → ℕ
 starts Start = 1
@@ -27,17 +28,18 @@ starts Wait = 0
 starts Skip = 0
 starts Done = 0
 
--- The calls on a course of these lessons: how many commands were asked, how many starts there were, and the course
--- after them. Whatever the engine has answered, each call of `next` goes on, and a part may be left at any time.
+-- The calls on a course of these lessons: how many of them asked a command, asked nothing or ended an engine, how many
+-- starts there were, and the course after them. Whatever the engine has answered, each call of `next` goes on, and a part may be left at any time.
 pub data Walks (lessons : List Lesson) (scene_size : Option ℕ) : ℕ → ℕ → Course → Type 0 where
   begins : Walks lessons scene_size 0 0 (begun lessons scene_size)
   goes : {asked started : ℕ} {old new : Course} (exam : Exam) (action : Action)
       → Walks lessons scene_size asked started old → GoesTo old exam action new
-      → Walks lessons scene_size (asks action + asked) (starts action + started) new
+      → Walks lessons scene_size (counted action + asked) (starts action + started) new
   leaves : {asked started : ℕ} {old new : Course} → Walks lessons scene_size asked started old → Leaves old new
       → Walks lessons scene_size asked started new
 
--- No more commands are asked than the lessons have steps at most, and five after each start.
+-- No more commands are asked, steps passed over and engines ended, all together, than the lessons have steps at most, and
+-- five after each start.
 abbrev pub EveryCourseIsBounded : Type 0
 EveryCourseIsBounded = (lessons : List Lesson) (scene_size : Option ℕ) (asked started : ℕ) (course : Course)
     → Walks lessons scene_size asked started course → IsIn course.lessons course.place
@@ -45,7 +47,7 @@ EveryCourseIsBounded = (lessons : List Lesson) (scene_size : Option ℕ) (asked 
 
 -- ---- each scene is asked
 
--- The lessons of scenes have a part for each scene in each of its ways.
+-- The lessons of scenes have as many parts as they have scenes in sixteen ways.
 pub record EachSceneIsAsked : Type 0 where
   pub ko : parts_of Ko ≡ ways * length (scenes_of Ko)
   pub captures : parts_of Captures ≡ ways * length (scenes_of Captures)

@@ -27,9 +27,16 @@ parts_of Restarts = 4
 abbrev pub scene_stretches : List Stretch
 scene_stretches =
     stretch.Size ∷ stretch.Taken ∷ stretch.Komi ∷ stretch.Clear ∷ stretch.Moves ∷ stretch.Own ∷
-    stretch.Corner ∷ stretch.Pass ∷ stretch.Own ∷ stretch.Undo ∷ stretch.Undo ∷ stretch.Own ∷ stretch.Act ∷
-    stretch.Own ∷ stretch.Elsewhere ∷ stretch.Own ∷ stretch.Undo ∷ stretch.Undo ∷ stretch.Corner ∷
-    stretch.Act ∷ stretch.Clear ∷ stretch.Own ∷ []
+    stretch.Corner ∷ stretch.Pass ∷ stretch.Own ∷ stretch.Undo ∷ stretch.Own ∷ stretch.Undo ∷ stretch.Own ∷
+    stretch.Act ∷ stretch.Own ∷ stretch.Elsewhere ∷ stretch.Own ∷ stretch.Undo ∷ stretch.Own ∷ stretch.Undo ∷
+    stretch.Corner ∷ stretch.Act ∷ stretch.Clear ∷ stretch.Own ∷ []
+
+abbrev pub refused_stretches : List Stretch
+refused_stretches =
+    stretch.Size ∷ stretch.Taken ∷ stretch.Komi ∷ stretch.Clear ∷ stretch.Moves ∷ stretch.Own ∷
+    stretch.Corner ∷ stretch.Pass ∷ stretch.Own ∷ stretch.Undo ∷ stretch.Own ∷ stretch.Act ∷ stretch.Own ∷
+    stretch.Elsewhere ∷ stretch.Own ∷ stretch.Undo ∷ stretch.Own ∷ stretch.Act ∷ stretch.Corner ∷
+    stretch.Clear ∷ stretch.Own ∷ []
 
 abbrev pub start_stretches : List Stretch
 start_stretches =
@@ -89,7 +96,7 @@ stretches_of Start = start_stretches
 stretches_of Sizes = sizes_stretches
 stretches_of Ko = scene_stretches
 stretches_of Captures = scene_stretches
-stretches_of Suicide = scene_stretches
+stretches_of Suicide = refused_stretches
 stretches_of Joining = scene_stretches
 stretches_of Handicaps = handicaps_stretches
 stretches_of Komi = komi_stretches

@@ -3,7 +3,7 @@ use Rattle.std.specs.Prelude.{◌≡◌, ◌≢◌, ℕ, ◌+◌, ◌-◌, ◌/�
 use Rattle.std.specs.Prelude.{List, [], length, slice_get, Option, None, Some}
 use Rattle.go_base.specs.Colour.{other}
 use Rattle.go_base.specs.Handicap.{handicap_points}
-use Rattle.go_base.specs.Point.{column_of, row_of}
+use Rattle.go_base.specs.Point.{IsOn, column_of, row_of}
 use Rattle.go_base.specs.declared.colours.Colour.{Colour}
 use Rattle.go_base.specs.declared.colours.Colour.TheVariants.{Black, White}
 use Rattle.go_base.specs.declared.vertices.Vertex.{Vertex}
@@ -118,14 +118,15 @@ genmove_asked step moves =
 
 -- ---- drawn moves
 
--- a move that is legal
+-- a move that is legal; it may be a pass
 abbrev pub IsLegalMove : GameRecord → Question → Type 0
 IsLegalMove game question =
     (colour : Colour) × (vertex : Vertex) × IsLegal game colour vertex × (question ≡ plays colour vertex)
 
--- a probe of any point, or nothing
-abbrev pub IsProbe : Question → Type 0
-IsProbe question = (colour : Colour) × (vertex : Vertex) × (question ≡ probes colour vertex)
+-- a probe of a point of the board
+abbrev pub IsProbe : GameRecord → Question → Type 0
+IsProbe game question =
+    (colour : Colour) × (p : ℕ) × IsOn game.size p × (question ≡ probes colour (At p))
 
 -- ---- all stretches
 
@@ -156,7 +157,7 @@ IsQuestion stretch.Surround step board game question =
 IsQuestion (stretch.Passes steps) step board game question = question ≡ plays (colour_of step) Pass
 IsQuestion (stretch.Drawn steps) step board game question = IsLegalMove game question
 IsQuestion (stretch.Probed steps) step board game question =
-    (step % 3 ≡ 0 → IsLegalMove game question) × (step % 3 ≢ 0 → IsProbe question)
+    (step % 3 ≡ 0 → IsLegalMove game question) × (step % 3 ≢ 0 → IsProbe game question)
 IsQuestion (stretch.Back steps) step board game question = question ≡ asks command.Undo
 IsQuestion (stretch.Genmoves steps) step board game question = question ≡ genmove_asked step (length game.moves)
 IsQuestion stretch.Restart step board game question = question ≡ Restart

@@ -25,7 +25,7 @@ crossing column row =
 abbrev pub mirrored : ℕ → ℕ → Bool → ℕ
 mirrored line size is_mirrored = if is_mirrored then size + 1 - line else line
 
--- the ways, of which the first four kinds of turning are the binary digits
+-- the ways: their binary digits are the three kinds of turning, and whether the colours change places
 abbrev pub way_of : ℕ → Way
 way_of number = record {
   sideways = number % 2 == 1;
@@ -71,7 +71,7 @@ ko_scenes =
 -- and of three at once; and of three stones by a stone that had no liberty before
 abbrev pub captures_scenes : List Acts
 captures_scenes =
-    ((White, 1, 1) ∷ (Black, 1, 2) ∷ (White, 5, 5) ∷ (Black, 2, 1) ∷ []) ∷
+    ((White, 1, 1) ∷ (Black, 1, 2) ∷ (White, 4, 5) ∷ (Black, 2, 1) ∷ []) ∷
     ((White, 3, 1) ∷ (Black, 2, 1) ∷ (Black, 4, 1) ∷ (Black, 3, 2) ∷ []) ∷
     ((White, 3, 3) ∷ (Black, 2, 3) ∷ (Black, 4, 3) ∷ (Black, 3, 2) ∷ (Black, 3, 4) ∷ []) ∷
     ((White, 1, 1) ∷ (White, 2, 1) ∷ (Black, 1, 2) ∷ (Black, 2, 2) ∷ (Black, 3, 1) ∷ []) ∷
@@ -80,7 +80,7 @@ captures_scenes =
     ((White, 2, 2) ∷ (White, 3, 1) ∷ (White, 4, 2) ∷ (Black, 1, 2) ∷ (Black, 2, 3) ∷ (Black, 2, 1) ∷
     (Black, 4, 1) ∷ (Black, 4, 3) ∷ (Black, 5, 2) ∷ (Black, 3, 3) ∷ (Black, 3, 2) ∷ []) ∷
     ((Black, 1, 1) ∷ (Black, 2, 1) ∷ (Black, 3, 1) ∷ (White, 1, 2) ∷ (White, 2, 2) ∷ (White, 3, 2) ∷
-    (White, 4, 1) ∷ []) ∷
+    (Black, 5, 1) ∷ (Black, 4, 2) ∷ (White, 4, 1) ∷ []) ∷
     []
 
 -- suicide of one stone in the corner, at the edge and in the middle; of two; and of three, by a stone that joins two
@@ -98,7 +98,7 @@ abbrev pub joining_scenes : List Acts
 joining_scenes =
     ((Black, 1, 2) ∷ (White, 2, 2) ∷ (Black, 2, 1) ∷ (White, 3, 1) ∷ (Black, 1, 3) ∷ (White, 2, 3) ∷
     (Black, 1, 1) ∷ []) ∷
-    ((Black, 2, 3) ∷ (White, 3, 4) ∷ (Black, 3, 2) ∷ (White, 5, 5) ∷ (Black, 4, 3) ∷ (White, 1, 5) ∷
+    ((Black, 2, 3) ∷ (White, 3, 4) ∷ (Black, 3, 2) ∷ (White, 4, 5) ∷ (Black, 4, 3) ∷ (White, 1, 5) ∷
     (Black, 3, 3) ∷ []) ∷
     ((Black, 1, 2) ∷ (Black, 2, 1) ∷ (Black, 1, 1) ∷ (White, 1, 3) ∷ (White, 2, 2) ∷ (White, 3, 1) ∷ []) ∷
     ((Black, 1, 1) ∷ (Black, 2, 2) ∷ (Black, 1, 2) ∷ (Black, 2, 1) ∷ (White, 1, 3) ∷ (White, 2, 3) ∷

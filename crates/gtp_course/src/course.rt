@@ -11,7 +11,7 @@ use crate::places::Place;
 use crate::stretches::Stretch;
 use go_base::{Move, Size};
 use go_board::Game;
-use gtp_examiner::{CheckCommand, Examiner, Skill};
+use gtp_examiner::{Board as Known, CheckCommand, Examiner, Skill};
 use gtp_wire::Command;
 use rand_core::SeedableRng;
 use rand_pcg::Pcg64;
@@ -33,7 +33,7 @@ const WORDS: u128 = 128;
 
 /// A course of questions, which are asked of one engine after each other.
 ///
-/// Which question comes next hangs on the lesson, the place in it, the game and the seed alone.
+/// Which question comes next hangs on the lesson, the place in it, the size of scenes, the game and the seed alone.
 #[derive(Drop)]
 pub struct Course {
     lessons: Lessons,
@@ -68,11 +68,12 @@ impl Course {
     ghost use Rattle.gtp_examiner.specs.Exam.{HasRoomFor};
     ghost use Rattle.gtp_course.specs.Asking.{IsStep, IsTurn, Renews, Opens, Poses, Probes, Sees, lesson_of};
     ghost use Rattle.gtp_course.specs.Openings.{opened};
-    ghost use Rattle.gtp_course.specs.Course.{scene_size_of};
+    ghost use Rattle.gtp_course.specs.Course.{scene_size_of, sought_size};
     ghost use Rattle.gtp_course.specs.Course.{begun, GoesTo, GoesOn, IsOver, IsRunning, Leaves, step_over, part_over, with_finding};
 
-    /// A course of these lessons, with this seed for what is drawn. Where a size is given, scenes are asked on boards of
-    /// that size, and else on the smallest from 5 that the engine takes.
+    /// A course of these lessons, with this seed for what is drawn. Where a size is given, which is 5 at least, scenes are
+    /// asked on boards of that size. Else the start finds the smallest from 5 that the engine takes, and without a start
+    /// it is 5.
     pub fn new(lessons: Lessons, scene_size: Option<Size>, seed: u32) -> Course
         ensures { result ≡ begun lessons.items scene_size }
     {
@@ -157,7 +158,7 @@ impl Course {
         match self.stretch(lesson) {
             Some(stretch) => {
                 let board = self.board(lesson);
-                let mut draws = self.draws();
+                let mut draws = self.draws(lesson);
                 stretch.question(self.place.step, &board, game, &mut draws)
             }
             None => Question::Nothing,
@@ -184,28 +185,44 @@ impl Course {
 
     /// What this part is asked on.
     fn board(&self, lesson: Lesson) -> Board
-        ensures { IsBoard lesson self.now.place.part (scene_size_of self.now) result }
+        ensures { IsBoard lesson self.now.place.part (scene_size_of lesson self.now) result }
     {
-        board_of(lesson, self.place.part, self.scene_size())
+        board_of(lesson, self.place.part, self.scene_size(lesson))
     }
 
     /// The size of the boards of scenes. The first parts find it, one after the other.
-    fn scene_size(&self) -> Size
-        ensures { result ≡ scene_size_of self.now }
+    fn scene_size(&self, lesson: Lesson) -> Size
+        ensures { result ≡ scene_size_of lesson self.now }
     {
         match self.scene_size {
             Some(size) => size,
-            None => match Size::new((SCENE_SIZE + self.place.part).min(MOST_SIZE)) {
-                Some(size) => size,
-                None => unreachable!(),
-            },
+            None => self.sought_size(lesson),
         }
     }
 
-    /// The generator of what this step draws. Each step has words of its own.
-    fn draws(&self) -> Pcg64 {
+    /// The size that a part of the start asks for, one more in each. Other lessons have the smallest.
+    fn sought_size(&self, lesson: Lesson) -> Size
+        ensures { result ≡ sought_size lesson self.now.place.part }
+    {
+        let lines = if lesson == Lesson::Start {
+            (SCENE_SIZE + self.place.part).min(MOST_SIZE)
+        } else {
+            SCENE_SIZE
+        };
+        match Size::new(lines) {
+            Some(size) => size,
+            None => unreachable!(),
+        }
+    }
+
+    /// The generator of what this step draws. Each step has words of its own, whatever other lessons the course has.
+    fn draws(&self, lesson: Lesson) -> Pcg64 {
         let mut draws = Pcg64::seed_from_u64(u64::from(self.seed));
-        draws.advance(u128::from(self.place.number()) * WORDS);
+        let place = Place {
+            lesson: lesson.number(),
+            ..self.place
+        };
+        draws.advance(u128::from(place.number()) * WORDS);
         draws
     }
 
@@ -229,7 +246,7 @@ impl Course {
         Action::Ask(command)
     }
 
-    /// The engine is asked this, where it may be. Where it never may be, the step is passed over.
+    /// The engine is asked this, where it may be. Where it may not be in this game, the step is passed over.
     fn ask(&mut self, command: CheckCommand, lesson: Lesson, examiner: &Examiner) -> Action
         requires { IsRunning self.old }
         ensures goes { GoesTo self.old examiner.now.exam result self.new }
@@ -274,7 +291,7 @@ impl Course {
         ensures goes_on { GoesOn self.old self.new }
         ensures sees { Sees lesson self.old examiner.now.exam size result self.new }
     {
-        if examiner.game().size() != size {
+        if examiner.board() == Known::Unknown || examiner.game().size() != size {
             self.end_part(lesson);
             return Action::Skip;
         }

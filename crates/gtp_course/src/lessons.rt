@@ -17,9 +17,9 @@ pub type Lessons = ArrayVec<Lesson, ALL>;
 /// A lesson: what is asked about.
 #[derive(Clone, Copy, Debug, PartialEq, Eq)]
 pub enum Lesson {
-    /// The name, the version, and one move on the smallest board from 5x5 on that the engine takes.
+    /// Some moves of the engine's own on the smallest board from 5x5 on that it takes.
     Start,
-    /// Each size from 1 to 25: which it takes, its corners, and the points next to them that it doesn't have.
+    /// Each size from 1 to 25: whether it is taken, its corners, and two points next to them that it doesn't have.
     Sizes,
     /// Kos, and what looks like one: who may retake, and when.
     Ko,
@@ -35,13 +35,13 @@ pub enum Lesson {
     Komi,
     /// Drawn games on several sizes, with probes.
     Drawn,
-    /// A record of 1,990 moves.
+    /// Records of nearly 2,000 moves, and a ko after 1,010 passes.
     Record,
-    /// Moves of the engine's own, up to a full board, with `undo` between.
+    /// Moves of the engine's own, on small boards up to a full one, with `undo` between.
     Genmoves,
-    /// Three games in one process.
+    /// Four games in one process.
     Games,
-    /// The same after a new start.
+    /// Games after a new start.
     Restarts,
 }
 
@@ -73,10 +73,10 @@ pub const LESSONS: [Lesson; ALL] = [
     Lesson::Restarts,
 ];
 
-/// What a lesson of a scene asks: the scene; the points of its moves, and those of the corner, after the act, after a
-/// pass, after both were taken back, after the act again, after a move elsewhere, and on a board that was cleared after
-/// the act.
-static SCENE: [Stretch; 22] = [
+/// What a lesson of scenes asks: the scene, and the points of its moves and of its corner. Then the points of its moves
+/// after a pass, after that is taken back, after the act is, after the act again, after a move elsewhere, after that is
+/// taken back and the act too, and on a board that was cleared after the act.
+static SCENE: [Stretch; 24] = [
     Stretch::Size,
     Stretch::Taken,
     Stretch::Komi,
@@ -87,6 +87,7 @@ static SCENE: [Stretch; 22] = [
     Stretch::Pass,
     Stretch::Own,
     Stretch::Undo,
+    Stretch::Own,
     Stretch::Undo,
     Stretch::Own,
     Stretch::Act,
@@ -94,9 +95,35 @@ static SCENE: [Stretch; 22] = [
     Stretch::Elsewhere,
     Stretch::Own,
     Stretch::Undo,
+    Stretch::Own,
     Stretch::Undo,
     Stretch::Corner,
     Stretch::Act,
+    Stretch::Clear,
+    Stretch::Own,
+];
+
+/// The same where the act is refused: it is no move, so one `undo` takes back what came after it.
+static REFUSED: [Stretch; 21] = [
+    Stretch::Size,
+    Stretch::Taken,
+    Stretch::Komi,
+    Stretch::Clear,
+    Stretch::Moves,
+    Stretch::Own,
+    Stretch::Corner,
+    Stretch::Pass,
+    Stretch::Own,
+    Stretch::Undo,
+    Stretch::Own,
+    Stretch::Act,
+    Stretch::Own,
+    Stretch::Elsewhere,
+    Stretch::Own,
+    Stretch::Undo,
+    Stretch::Own,
+    Stretch::Act,
+    Stretch::Corner,
     Stretch::Clear,
     Stretch::Own,
 ];
@@ -273,6 +300,27 @@ impl Lesson {
         }
     }
 
+    /// Its number among all lessons, counted from 0.
+    pub(crate) fn number(self) -> usize
+        ensures few { result ≤ 12 }
+    {
+        match self {
+            Lesson::Start => 0,
+            Lesson::Sizes => 1,
+            Lesson::Ko => 2,
+            Lesson::Captures => 3,
+            Lesson::Suicide => 4,
+            Lesson::Joining => 5,
+            Lesson::Handicaps => 6,
+            Lesson::Komi => 7,
+            Lesson::Drawn => 8,
+            Lesson::Record => 9,
+            Lesson::Genmoves => 10,
+            Lesson::Games => 11,
+            Lesson::Restarts => 12,
+        }
+    }
+
     /// How many parts it has.
     pub(crate) fn parts(self) -> u32
         ensures parts { result ≡ parts_of self }
@@ -301,7 +349,8 @@ impl Lesson {
         match self {
             Lesson::Start => &START,
             Lesson::Sizes => &SIZES,
-            Lesson::Ko | Lesson::Captures | Lesson::Suicide | Lesson::Joining => &SCENE,
+            Lesson::Ko | Lesson::Captures | Lesson::Joining => &SCENE,
+            Lesson::Suicide => &REFUSED,
             Lesson::Handicaps => &HANDICAPS,
             Lesson::Komi => &KOMI,
             Lesson::Drawn => &DRAWN,

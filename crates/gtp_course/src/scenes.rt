@@ -63,7 +63,7 @@ pub(crate) static KO: [Scene; 5] = [
 /// Captures: one stone in the corner, at the edge and in the middle; two, and three around a corner; two chains and
 /// three at once; and three stones by a stone that had no liberty before.
 pub(crate) static CAPTURES: [Scene; 8] = [
-    &[(White, 1, 1), (Black, 1, 2), (White, 5, 5), (Black, 2, 1)],
+    &[(White, 1, 1), (Black, 1, 2), (White, 4, 5), (Black, 2, 1)],
     &[(White, 3, 1), (Black, 2, 1), (Black, 4, 1), (Black, 3, 2)],
     &[
         (White, 3, 3),
@@ -115,6 +115,8 @@ pub(crate) static CAPTURES: [Scene; 8] = [
         (White, 1, 2),
         (White, 2, 2),
         (White, 3, 2),
+        (Black, 5, 1),
+        (Black, 4, 2),
         (White, 4, 1),
     ],
 ];
@@ -163,7 +165,7 @@ pub(crate) static JOINING: [Scene; 4] = [
         (Black, 2, 3),
         (White, 3, 4),
         (Black, 3, 2),
-        (White, 5, 5),
+        (White, 4, 5),
         (Black, 4, 3),
         (White, 1, 5),
         (Black, 3, 3),

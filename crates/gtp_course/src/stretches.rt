@@ -1,5 +1,5 @@
 //! Stretches of a lesson: what is asked in a step.
-ghost use Rattle.std.specs.Prelude.{◌≡◌, ◌≢◌, ◌≤◌, ◌/◌, ◌%◌, ◌==◌, length, slice_get, if◌then◌else◌};
+ghost use Rattle.std.specs.Prelude.{◌≡◌, ◌≢◌, ◌<◌, ◌≤◌, ◌/◌, ◌%◌, ◌==◌, length, slice_get, if◌then◌else◌};
 ghost use Rattle.go_board.specs.Game.{IsLegal};
 ghost use Rattle.gtp_wire.specs.declared.commands.Command.TheVariants as command;
 ghost use Rattle.gtp_course.specs.Questions.{asks, plays, probes, colour_of, act_asked, last_of, pass_asked};
@@ -57,7 +57,7 @@ pub(crate) enum Stretch {
     Elsewhere,
     /// `undo`.
     Undo,
-    /// Probes of the corners, and of the points next to them that the board doesn't have.
+    /// Probes of the corners, and of two points next to them that the board doesn't have.
     Edges,
     /// `fixed_handicap`.
     Handicap,
@@ -340,7 +340,7 @@ fn genmove(step: u32, game: &Game) -> Question
 /// A drawn move, or a probe of a drawn point.
 fn probed(step: u32, game: &Game, draws: &mut Pcg64) -> Question
     ensures moves { step % 3 ≡ 0 → IsLegalMove game.now result }
-    ensures probes { step % 3 ≢ 0 → IsProbe result }
+    ensures probes { step % 3 ≢ 0 → IsProbe game.now result }
 {
     if step % 3 == 0 {
         return drawn_move(game, draws);
@@ -376,6 +376,7 @@ fn legal_vertex(game: &Game, colour: Colour, draws: &mut Pcg64) -> Vertex
 
 /// A drawn number below this one, of at most 25.
 fn draw(draws: &mut Pcg64, limit: u32) -> u32
+    ensures below { 0 < limit → limit ≤ 25 → result < limit }
     ensures few { result ≤ 25 }
 {
     if limit == 0 || limit > 25 {

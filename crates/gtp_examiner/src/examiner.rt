@@ -5,6 +5,7 @@ ghost use Rattle.gtp_examiner.specs.Asking.{written_check};
 
 use crate::asking::CheckCommand;
 use crate::exam::{Exam, Heard};
+use crate::setups::Board;
 use crate::skills::Skills;
 use go_board::{Game, KoRule};
 use gtp_wire::{CommandText, Reply};
@@ -145,6 +146,13 @@ impl Examiner {
         ensures { result ≡ self.now.exam.up }
     {
         self.exam.up
+    }
+
+    /// What is known of the engine's board.
+    pub fn board(&self) -> Board
+        ensures { result ≡ self.now.exam.board }
+    {
+        self.exam.board
     }
 
     /// How many commands are unanswered.

@@ -3,18 +3,20 @@ use crate::equal::{assert_equal, assert_true};
 use crate::{Action, Course, LESSONS, Lesson, Lessons};
 use arrayvec::ArrayVec;
 use go_board::KoRule;
-use gtp_examiner::Examiner;
+use gtp_examiner::{CheckCommand, Examiner, Known};
 use gtp_session::first::First;
 use gtp_session::session::Session;
-use gtp_wire::{Reply, ReplyText};
+use gtp_wire::{Command, Reply, ReplyText};
 use std::process::Abort;
 
 /// What an engine wrote that isn't heard yet: eight replies at most.
 type Written = ArrayVec<u8, 65536>;
 
-/// A check of our engine, in memory.
+/// A check of our engine, in memory. It may refuse all sizes but one, and say that it has no `undo`.
 #[derive(Drop)]
 struct Talk {
+    only_size: Option<u32>,
+    has_undo: bool,
     examiner: Examiner,
     session: Session<First>,
     written: Written,
@@ -23,8 +25,10 @@ struct Talk {
 }
 
 impl Talk {
-    fn new() -> Talk {
+    fn new(only_size: Option<u32>, has_undo: bool) -> Talk {
         Talk {
+            only_size,
+            has_undo,
             examiner: Examiner::new(KoRule::Simple, 100),
             session: Session::new(First),
             written: Written::new(),
@@ -57,12 +61,40 @@ impl Talk {
         self.written.clear();
     }
 
+    /// What the engine answers in place of the session, if anything.
+    fn own_answer(&self, command: &CheckCommand) -> Option<(u8, &'static [u8])> {
+        match (command, self.only_size) {
+            (CheckCommand::Match(Command::Boardsize(size)), Some(only)) if size.get() != only => {
+                Some((b'?', b" unacceptable size\n\n"))
+            }
+            (CheckCommand::KnownCommand(Known::Undo), _) if !self.has_undo => {
+                Some((b'=', b" false\n\n"))
+            }
+            _ => None,
+        }
+    }
+
     /// The engine is asked a command, and answers it.
-    fn ask(&mut self, rt: &impl Abort, command: gtp_examiner::CheckCommand) {
+    fn ask(&mut self, rt: &impl Abort, command: CheckCommand) {
         assert_true(rt, self.examiner.has_room(&command));
+        assert_true(
+            rt,
+            self.has_undo || command != CheckCommand::Match(Command::Undo),
+        );
+        let own = self.own_answer(&command);
         let line = self.examiner.ask(command);
         let mut text = ReplyText::new();
-        let _ = self.session.feed_into(&line, &mut text);
+        match own {
+            Some((status, words)) => {
+                let _ = text.try_push(status);
+                let id = line.iter().position(|byte| *byte == b' ').unwrap_or(0);
+                let _ = text.try_extend_from_slice(line.get(..id).unwrap_or_default());
+                let _ = text.try_extend_from_slice(words);
+            }
+            None => {
+                let _ = self.session.feed_into(&line, &mut text);
+            }
+        }
         for byte in text.iter() {
             let _ = self.written.try_push(*byte);
         }
@@ -97,10 +129,52 @@ fn all() -> Lessons {
 
 #[test]
 fn nothing_is_found_of_our_engine(rt: HostRuntime) {
-    let mut talk = Talk::new();
+    let mut talk = Talk::new(None, true);
     let mut course = Course::new(all(), None, 1);
     talk.hold(&rt, &mut course);
     let _ = println!(rt; "{} commands, {} starts", talk.asked, talk.starts);
     assert_true(&rt, talk.asked > 100_000);
     assert_equal(&rt, talk.starts, 8);
+}
+
+#[test]
+fn an_engine_of_one_size_is_asked_on_that_size(rt: HostRuntime) {
+    let mut talk = Talk::new(Some(19), true);
+    let mut course = Course::new(all(), None, 1);
+    talk.hold(&rt, &mut course);
+    let _ = println!(rt; "{} commands", talk.asked);
+    assert_true(&rt, talk.asked > 50_000);
+}
+
+#[test]
+fn an_engine_without_undo_is_not_asked_for_it(rt: HostRuntime) {
+    let mut talk = Talk::new(None, false);
+    let mut course = Course::new(all(), None, 1);
+    talk.hold(&rt, &mut course);
+    let _ = println!(rt; "{} commands", talk.asked);
+    assert_true(&rt, talk.asked > 20_000);
+}
+
+#[test]
+fn a_part_is_left_after_a_finding_and_a_lesson_after_ten(rt: HostRuntime) {
+    let mut lessons = Lessons::new();
+    let _ = lessons.try_push(Lesson::Handicaps);
+    let _ = lessons.try_push(Lesson::Komi);
+    let mut course = Course::new(lessons, None, 1);
+    for part in 0..10 {
+        assert_equal(&rt, course.lesson(), Some(Lesson::Handicaps));
+        assert_equal(&rt, course.place().part, part);
+        course.leave();
+    }
+    assert_equal(&rt, course.lesson(), Some(Lesson::Komi));
+    assert_equal(&rt, course.place().part, 0);
+}
+
+#[test]
+fn each_lesson_has_a_name_of_its_own(rt: HostRuntime) {
+    for (number, lesson) in LESSONS.iter().enumerate() {
+        for (other, another) in LESSONS.iter().enumerate() {
+            assert_equal(&rt, lesson.name() == another.name(), number == other);
+        }
+    }
 }

@@ -1,4 +1,4 @@
-//! Scenes are what they are said to be, however they are turned, and on every size from 5.
+//! Scenes are what they are said to be, however they are turned, on sizes 5, 6 and 19.
 use crate::equal::{assert_equal, assert_true};
 use crate::scenes::{CAPTURES, JOINING, KO, SUICIDE, Scene, WAYS, Way};
 use go_base::Colour::{Black, White};
