@@ -1,5 +1,5 @@
 -- What is read is found wrong, or answers; and which engine is up.
-use Rattle.std.proofs.Common.{◌≡◌, ℕ, Bool, true, false, List, [], ◌∷◌, Option, Some, None, refl, ap, ◌∙◌}
+use Rattle.std.proofs.Common.{◌≡◌, ℕ, Bool, true, false, List, Option, Some, None, refl, ap}
 use Rattle.std.specs.Prelude.{Result, Ok, Err}
 use Rattle.gtp_wire.specs.declared.replies.Reply.{Reply}
 use Rattle.gtp_wire.specs.declared.replies.ReplyFault.{ReplyFault}
@@ -56,7 +56,8 @@ pub up_between : UpIsBetween
 up_between = record {
   opened = λ rule most. refl;
   begins = λ check. refl;
-  ends = λ exam. refl;
+  ends = λ check. refl;
+  keeps = λ check. refl;
   found = λ old new bytes used read finding h. leaves_down (with_rest old h.0) read finding new h.2;
   asked = λ exam command room. room.up;
 }

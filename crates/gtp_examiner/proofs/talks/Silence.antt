@@ -209,7 +209,7 @@ reply_so_far rule said exam [] reply new s o list h = absurd (cc (h.0))
 reply_so_far rule said exam (entry ∷ later) reply new s o list h =
     id_so_far rule said exam entry later reply (has_id reply.id entry.id) new s o list refl h
 
-nothing_exchanged : (o : Option Asked) → exchanged o None ≡ []
+pub nothing_exchanged : (o : Option Asked) → exchanged o None ≡ []
 nothing_exchanged None = refl
 nothing_exchanged (Some entry) = refl
 

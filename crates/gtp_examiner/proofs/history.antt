@@ -1,0 +1,8 @@
+-- What was asked and answered before a command may be asked.
+pub mod Heard
+pub mod Known
+pub mod Boards
+pub mod Komis
+pub mod Idle
+pub mod Anew
+pub mod Refusals
