@@ -6,3 +6,5 @@ pub mod Komis
 pub mod Idle
 pub mod Anew
 pub mod Refusals
+pub mod Lasts
+pub mod Enough

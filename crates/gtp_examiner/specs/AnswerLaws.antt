@@ -1,5 +1,6 @@
 -- Laws of single answers: which text is a score, and which size is reported as refused.
-use Rattle.std.specs.Prelude.{◌≡◌, ℕ, ℤ, pos, neg_ℤ, ◌↔◌, false, List, [], ◌∷◌, ◌++◌, Option, None, Some, Result, Ok, codes}
+use Rattle.std.specs.Prelude.{◌≡◌, ℕ, ℤ, pos, neg_ℤ, ◌↔◌, false, List, [], ◌∷◌, ◌++◌, Option, None, Some, Result, Ok}
+use Rattle.std.specs.Prelude.{codes}
 use Rattle.go_base.specs.Komi.{SpellsKomi, no_sign}
 use Rattle.go_board.specs.declared.rules.KoRule.{KoRule}
 use Rattle.gtp_wire.specs.declared.commands.Command.TheVariants.{Boardsize}

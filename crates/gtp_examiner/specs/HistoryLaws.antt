@@ -1,7 +1,8 @@
 -- Laws of what an engine was asked and answered before a command may be asked.
-use Rattle.std.specs.Prelude.{◌≡◌, ℕ, ℤ, ◌<◌, ◌⊎◌, true, List, [], ◌∷◌, ◌++◌, codes}
+use Rattle.std.specs.Prelude.{◌≡◌, ℕ, ℤ, ◌<◌, ◌≤◌, ◌⊎◌, true, List, [], ◌∷◌, ◌++◌, codes}
 use Rattle.go_base.specs.declared.colours.Colour.{Colour}
 use Rattle.go_base.specs.declared.moves.Move.{Move}
+use Rattle.go_board.specs.Game.{HasRoom, IsFinished}
 use Rattle.go_board.specs.declared.rules.KoRule.{KoRule}
 use Rattle.gtp_wire.specs.declared.commands.Command.TheVariants.{Boardsize, Komi, ClearBoard, FixedHandicap, Play}
 use Rattle.gtp_wire.specs.declared.commands.Command.TheVariants.{Genmove, Undo}
@@ -117,6 +118,25 @@ pub record TheseMayBeAsked (exam : Exam) : Type 0 where
 
 abbrev pub IdleEnginesMayBeAsked : Type 0
 IdleEnginesMayBeAsked = (exam : Exam) → IsIdle exam → TheseMayBeAsked exam
+
+-- And these may be asked of such an engine whose board is known: a `fixed_handicap`, an `undo` and a `final_score` where
+-- its last answer says that it knows them; a `play` and a `genmove` where the record has room, but no `genmove` after
+-- two passes. A `final_score` also needs a `komi` that was asked, and that nothing was played or placed. The number of
+-- stones is an int.
+pub record TheseMayBeAskedToo (said : List Exchange) (exam : Exam) : Type 0 where
+  pub handicaps : (stones : ℕ) → stones ≤ 2147483647 → IsKnown said known.FixedHandicap
+      → HasRoomFor exam (Match (FixedHandicap stones))
+  pub plays : (move : Move) → HasRoom exam.game → HasRoomFor exam (Match (Play move))
+  pub genmoves : (colour : Colour) → HasRoom exam.game → ¬ IsFinished exam.game
+      → HasRoomFor exam (Match (Genmove colour))
+  pub undos : IsKnown said known.Undo → HasRoomFor exam (Match Undo)
+  pub scores : (komi : ℤ) → IsKnown said known.FinalScore
+      → SomeAsked (λ command. command ≡ Match (Komi komi)) (commands_of said)
+      → exam.game.moves ≡ [] → exam.game.handicap ≡ 0 → HasRoomFor exam FinalScore
+
+abbrev pub KnownEnginesMayBeAsked : Type 0
+KnownEnginesMayBeAsked = (rule : KoRule) (sent came : List ℕ) (said : List Exchange) (exam : Exam)
+    → Talks rule sent came said exam → IsIdle exam → IsBoardKnown said [] → TheseMayBeAskedToo said exam
 
 -- ---- each start begins anew
 

@@ -6,7 +6,8 @@ ghost use Rattle.gtp_examiner.specs.Laws.{ScoresAreKomiAlone, WhoAnswersRightlyI
 ghost use Rattle.gtp_examiner.specs.Laws.{WhatIsReadIsAnswerOrFound};
 ghost use Rattle.gtp_examiner.specs.Check.{EveryCheckIsBounded, UpIsBetween};
 ghost use Rattle.gtp_examiner.specs.HistoryLaws.{WhatIsAskedIsKnown, BoardsAreKnown, KomisAreSet};
-ghost use Rattle.gtp_examiner.specs.HistoryLaws.{IdleEnginesMayBeAsked, EachStartBeginsAnew};
+ghost use Rattle.gtp_examiner.specs.HistoryLaws.{IdleEnginesMayBeAsked, KnownEnginesMayBeAsked};
+ghost use Rattle.gtp_examiner.specs.HistoryLaws.{EachStartBeginsAnew};
 ghost use Rattle.gtp_examiner.specs.AnswerLaws.{ScoresAreRead, RefusedSizesAreReported};
 ghost use Rattle.gtp_examiner.specs.StepLaws.{NoneAfterTheEnd, HandicapsArePlacedOrProbes, RightAnswersAreReported};
 
@@ -60,6 +61,12 @@ pub fn komis_are_set()
 /// `known_command` may be asked, as long as there are ids.
 pub fn idle_engines_may_be_asked()
     ensures { IdleEnginesMayBeAsked }
+{}
+
+/// Of an engine that is up and owes nothing and whose board is known, also what hangs on the board may be asked: a
+/// `fixed_handicap`, an `undo` and a `final_score` where it is known to know them, a score where a `komi` was asked.
+pub fn known_engines_may_be_asked()
+    ensures { KnownEnginesMayBeAsked }
 {}
 
 /// An engine that is up is in a talk since its own start, so nothing is kept of one before it.

@@ -98,15 +98,16 @@ abbrev IsInTalk : KoRule → Exam → Type 0
 IsInTalk rule exam = (sent came : List ℕ) × (said : List Exchange) × Talks rule sent came said exam
 
 heard_talk : (rule : KoRule) (old : Exam) (bytes : List ℕ) (used : ℕ) (read : Option (Result Reply ReplyFault))
-    (finding : Option Finding) (new : Exam) → (old.up ≡ true → IsInTalk rule old) → Hears old bytes used read finding new
+    (finding : Option Finding) (new : Exam) → (old.up ≡ true → IsInTalk rule old)
+    → Hears old bytes used read finding new
     → new.up ≡ true → IsInTalk rule new
 heard_talk rule old bytes used read (Some finding) new talk hears up =
     absurd (let e : true ≡ false = sym up ∙ up_between.found old new bytes used read finding hears in cc e)
 heard_talk rule old bytes used read None new talk hears up =
-    let stays : new.up ≡ old.up =
+    let was : old.up ≡ true =
     leaving_up old [] new ([] ++ exchanged (oldest old.unanswered) read)
-    (heard_leaving old bytes used read new [] hears) in
-    let t : IsInTalk rule old = talk (sym stays ∙ up) in (
+    (heard_leaving old bytes used read new [] hears) up in
+    let t : IsInTalk rule old = talk was in (
       t.0,
       t.1 ++ take used bytes,
       t.2 ++ exchanged (oldest old.unanswered) read,

@@ -41,7 +41,7 @@ pub some_last : (IsOne : CheckCommand → Type 0) (list : List Asked) (last : As
 some_last IsOne [] last h = inl h
 some_last IsOne (x ∷ xs) last h = inr (some_last IsOne xs last h)
 
-abbrev IsClear : CheckCommand → Type 0
+abbrev pub IsClear : CheckCommand → Type 0
 IsClear command = command ≡ Match ClearBoard
 
 clear_is : (command : CheckCommand) → is_clear_board command ≡ true → IsClear command
@@ -143,7 +143,7 @@ resized_by game due size reply got is ok j =
     sized : Judged game (Resizes size) reply got → got ≡ Resized size
     sized h = h ∙ ap (size_judged size) ok
 
-takes_none : (before ahead : GameRecord) (entry : Asked) (reply : Reply) (got : Judgement) → IsAsked before entry
+pub takes_none : (before ahead : GameRecord) (entry : Asked) (reply : Reply) (got : Judgement) → IsAsked before entry
     → Judged ahead entry.due reply got → ((size : ℕ) → got ≡ Resized size → ⊥)
     → TakesSize (record { entry = entry; reply = reply }) → ⊥
 takes_none before ahead entry reply got asked j other takes =
@@ -151,7 +151,7 @@ takes_none before ahead entry reply got asked j other takes =
     (resized_by ahead entry.due takes.size reply got
     (size_due before entry.command entry.due takes.size asked.is_due takes.asks) takes.succeeds j)
 
-takes_one : (before ahead : GameRecord) (entry : Asked) (reply : Reply) (size : ℕ) → IsAsked before entry
+pub takes_one : (before ahead : GameRecord) (entry : Asked) (reply : Reply) (size : ℕ) → IsAsked before entry
     → Judged ahead entry.due reply (Resized size) → TakesSize (record { entry = entry; reply = reply })
 takes_one before ahead entry reply size asked j =
     let due = resized_due ahead entry.due reply size j in
@@ -193,7 +193,9 @@ judged_board before old said entry later reply (Wrong kind) new asked list so j 
 
 heard_board : (before : GameRecord) (old : Exam) (said : List Exchange) (new : Exam) (all : List Exchange)
     → IfSome (oldest old.unanswered) (IsAsked before) → BoardOf said old → Leaving old said new all → BoardOf all new
-heard_board before old said new all asked so (Leaving.nothing rest is) = subst (BoardOf said) (sym is) so
+heard_board before old said new all asked so (Leaving.nothing kept) =
+    subst (BoardSo said new.unanswered) (sym kept.board)
+    (subst (λ (l : List Asked). BoardSo said l old.board) (sym kept.unanswered) so)
 heard_board before old said new all asked so (Leaving.answered rest entry later reply got list j none is) =
     judged_board before old said entry later reply got new
     (subst (λ (l : List Asked). IfSome (oldest l) (IsAsked before)) list asked) list

@@ -127,8 +127,8 @@ same_skills old new known is h = subst (λ (s : Skills). said_of s known ≡ Has
 
 heard_known : (old : Exam) (said : List Exchange) (new : Exam) (all : List Exchange) → KnownSo said old.skills
     → Leaving old said new all → KnownSo all new.skills
-heard_known old said new all so (Leaving.nothing rest is) =
-    λ known h. so known (same_skills old.skills new.skills known (ap (λ (e : Exam). e.skills) is) h)
+heard_known old said new all so (Leaving.nothing kept) =
+    λ known h. so known (same_skills old.skills new.skills known kept.skills h)
 heard_known old said new all so (Leaving.answered rest entry later reply got list j none is) =
     λ known h. by_command said old.skills entry reply entry.command known refl so
     (same_skills (learned old.skills entry.command reply) new.skills known

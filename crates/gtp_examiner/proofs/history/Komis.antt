@@ -42,24 +42,28 @@ komi_is (KnownCommand known) e = absurd (cc e)
 
 asked_komi : (said : List Exchange) (unanswered : List Asked) (entry : Asked) (set : Bool)
     → KomiSo said unanswered set → KomiSo said (unanswered ++ entry ∷ []) (set || is_komi entry.command)
-asked_komi said unanswered entry true so e =
-    let h : SetsKomi (commands_of said ++ unanswered) = so refl in (
-      h.0,
-      subst (SomeAsked (λ (command : CheckCommand). command ≡ Match (Komi h.0)))
+asked_komi said unanswered entry true so e = first (so refl)
+  where
+    first : SetsKomi (commands_of said ++ unanswered) → SetsKomi (commands_of said ++ (unanswered ++ entry ∷ []))
+    first (komi, some) = (
+      komi,
+      subst (SomeAsked (λ (command : CheckCommand). command ≡ Match (Komi komi)))
           (append_assoc (commands_of said) unanswered (entry ∷ []))
-          (some_front (λ (command : CheckCommand). command ≡ Match (Komi h.0)) (commands_of said ++ unanswered) (entry ∷ [])
-          h.1),
+          (some_front (λ command. command ≡ Match (Komi komi)) (commands_of said ++ unanswered) (entry ∷ []) some),
     )
-asked_komi said unanswered entry false so e =
-    let is = komi_is entry.command e in (
-      is.0,
-      subst (SomeAsked (λ (command : CheckCommand). command ≡ Match (Komi is.0)))
+asked_komi said unanswered entry false so e = last (komi_is entry.command e)
+  where
+    last : (komi : ℤ) × (entry.command ≡ Match (Komi komi))
+        → SetsKomi (commands_of said ++ (unanswered ++ entry ∷ []))
+    last (komi, is) = (
+      komi,
+      subst (SomeAsked (λ (command : CheckCommand). command ≡ Match (Komi komi)))
           (append_assoc (commands_of said) unanswered (entry ∷ []))
-          (some_last (λ (command : CheckCommand). command ≡ Match (Komi is.0)) (commands_of said ++ unanswered) entry is.1),
+          (some_last (λ command. command ≡ Match (Komi komi)) (commands_of said ++ unanswered) entry is),
     )
 
 -- an answer takes no command away
-commands_more : (said : List Exchange) (entry : Asked) (reply : Reply) (later : List Asked)
+pub commands_more : (said : List Exchange) (entry : Asked) (reply : Reply) (later : List Asked)
     → commands_of (said ++ record { entry = entry; reply = reply } ∷ []) ++ later
     ≡ commands_of said ++ entry ∷ later
 commands_more [] entry reply later = refl
@@ -95,7 +99,9 @@ judged_komi old said entry later reply (Wrong kind) new list so none rest is = a
 
 heard_komi : (old : Exam) (said : List Exchange) (new : Exam) (all : List Exchange) → KomiOf said old
     → Leaving old said new all → KomiOf all new
-heard_komi old said new all so (Leaving.nothing rest is) = subst (KomiOf said) (sym is) so
+heard_komi old said new all so (Leaving.nothing kept) =
+    subst (KomiSo said new.unanswered) (sym kept.komi)
+    (subst (λ (l : List Asked). KomiSo said l old.komi_set) (sym kept.unanswered) so)
 heard_komi old said new all so (Leaving.answered rest entry later reply got list j none is) =
     judged_komi old said entry later reply got new list so none rest is
 

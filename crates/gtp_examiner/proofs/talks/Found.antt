@@ -9,7 +9,8 @@ use Rattle.gtp_examiner.specs.declared.unanswered.Asked.{Asked}
 use Rattle.gtp_examiner.specs.declared.exam.Exam.{Exam}
 use Rattle.gtp_examiner.specs.declared.exam.Finding.{Finding}
 use Rattle.gtp_examiner.specs.Judging.{oldest, has_id}
-use Rattle.gtp_examiner.specs.Exam.{Hears, Leaves, ReplyLeaves, IdLeaves, after_judged, finding_of, with_learned, with_rest}
+use Rattle.gtp_examiner.specs.Exam.{Hears, Leaves, ReplyLeaves, IdLeaves, after_judged, finding_of}
+use Rattle.gtp_examiner.specs.Exam.{with_learned, with_rest}
 use Rattle.gtp_examiner.specs.Check.{UpIsBetween}
 
 -- ---- what is read

@@ -62,7 +62,7 @@ id_has id wanted e = rw e (same wanted)
 
 -- ---- what is awaited is judged in the game before it
 
-none_later : (entry : Asked) (later : List Asked) → is_awaited entry.command ≡ true
+pub none_later : (entry : Asked) (later : List Asked) → is_awaited entry.command ≡ true
     → (awaits (entry ∷ later) ≡ true → length (entry ∷ later) ≡ 1) → later ≡ []
 none_later entry [] is alone = refl
 none_later entry (x ∷ xs) is alone = absurd (let e = alone (rw is refl) in omega arith)
