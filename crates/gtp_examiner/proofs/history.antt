@@ -1,5 +1,6 @@
 -- What was asked and answered before a command may be asked.
 pub mod Heard
+pub mod Dues
 pub mod Known
 pub mod Boards
 pub mod Komis

@@ -21,12 +21,12 @@ use Rattle.gtp_examiner.specs.Setups.{is_clear_board, board_after}
 use Rattle.gtp_examiner.specs.Dues.{IsDue, HandicapDue, PlayDue, UndoDue}
 use Rattle.gtp_examiner.specs.Judging.{oldest, awaits, is_awaited, Judged, size_judged}
 use Rattle.gtp_examiner.specs.Exam.{HasRoomFor, after_judged, finding_of, with_learned, with_rest}
-use Rattle.gtp_examiner.specs.Laws.{Exchange, Talks, IsAsked}
+use Rattle.gtp_examiner.specs.Laws.{Exchange, Talks}
 use Rattle.gtp_examiner.specs.HistoryLaws.{SomeAsked, TakesSize, SinceSize, IsBoardKnown, HangsOnBoard, BoardsAreKnown}
+use Rattle.gtp_examiner.proofs.history.Dues.{IsDueOnce, oldest_due}
 use Rattle.gtp_examiner.proofs.history.Heard.{Leaving, heard_leaving}
 use Rattle.gtp_examiner.proofs.order.Asked.{or_left, or_right}
 use Rattle.gtp_examiner.proofs.order.Heard.{resized_due}
-use Rattle.gtp_examiner.proofs.talks.Silence.{oldest_asked, right_so_far}
 
 -- ---- some of the commands
 
@@ -143,21 +143,21 @@ resized_by game due size reply got is ok j =
     sized : Judged game (Resizes size) reply got → got ≡ Resized size
     sized h = h ∙ ap (size_judged size) ok
 
-pub takes_none : (before ahead : GameRecord) (entry : Asked) (reply : Reply) (got : Judgement) → IsAsked before entry
+pub takes_none : (ahead : GameRecord) (entry : Asked) (reply : Reply) (got : Judgement) → IsDueOnce entry
     → Judged ahead entry.due reply got → ((size : ℕ) → got ≡ Resized size → ⊥)
     → TakesSize (record { entry = entry; reply = reply }) → ⊥
-takes_none before ahead entry reply got asked j other takes =
+takes_none ahead entry reply got asked j other takes =
     other takes.size
     (resized_by ahead entry.due takes.size reply got
-    (size_due before entry.command entry.due takes.size asked.is_due takes.asks) takes.succeeds j)
+    (size_due asked.game entry.command entry.due takes.size asked.is_due takes.asks) takes.succeeds j)
 
-pub takes_one : (before ahead : GameRecord) (entry : Asked) (reply : Reply) (size : ℕ) → IsAsked before entry
+pub takes_one : (ahead : GameRecord) (entry : Asked) (reply : Reply) (size : ℕ) → IsDueOnce entry
     → Judged ahead entry.due reply (Resized size) → TakesSize (record { entry = entry; reply = reply })
-takes_one before ahead entry reply size asked j =
+takes_one ahead entry reply size asked j =
     let due = resized_due ahead entry.due reply size j in
     record {
       size = size;
-      asks = due_size before entry.command entry.due size asked.is_due due.0;
+      asks = due_size asked.game entry.command entry.due size asked.is_due due.0;
       succeeds = due.1;
     }
 
@@ -166,39 +166,39 @@ takes_one before ahead entry reply size asked j =
 abbrev BoardOf : List Exchange → Exam → Type 0
 BoardOf said exam = BoardSo said exam.unanswered exam.board
 
-judged_board : (before : GameRecord) (old : Exam) (said : List Exchange) (entry : Asked) (later : List Asked)
-    (reply : Reply) (got : Judgement) (new : Exam) → IsAsked before entry → old.unanswered ≡ entry ∷ later
+judged_board : (old : Exam) (said : List Exchange) (entry : Asked) (later : List Asked)
+    (reply : Reply) (got : Judgement) (new : Exam) → IsDueOnce entry → old.unanswered ≡ entry ∷ later
     → BoardSo said (entry ∷ later) old.board → Judged old.game entry.due reply got → None ≡ finding_of entry got
     → (rest : List ℕ) → new ≡ after_judged (with_learned (with_rest old rest) entry.command reply) got
     → BoardOf (said ++ record { entry = entry; reply = reply } ∷ []) new
-judged_board before old said entry later reply Right new asked list so j none rest is =
+judged_board old said entry later reply Right new asked list so j none rest is =
     subst (BoardOf (said ++ record { entry = entry; reply = reply } ∷ [])) (sym is)
     (subst (λ (l : List Asked). BoardSo (said ++ record { entry = entry; reply = reply } ∷ []) (drop 1 l) old.board)
     (sym list)
     (answered_board said entry later reply old.board
-    (takes_none before old.game entry reply Right asked j (λ size e. cc e)) so))
-judged_board before old said entry later reply (Plays colour v) new asked list so j none rest is =
+    (takes_none old.game entry reply Right asked j (λ size e. cc e)) so))
+judged_board old said entry later reply (Plays colour v) new asked list so j none rest is =
     subst (BoardOf (said ++ record { entry = entry; reply = reply } ∷ [])) (sym is)
     (subst (λ (l : List Asked). BoardSo (said ++ record { entry = entry; reply = reply } ∷ []) (drop 1 l) old.board)
     (sym list)
     (answered_board said entry later reply old.board
-    (takes_none before old.game entry reply (Plays colour v) asked j (λ size e. cc e)) so))
-judged_board before old said entry later reply (Resized size) new asked list so j none rest is =
+    (takes_none old.game entry reply (Plays colour v) asked j (λ size e. cc e)) so))
+judged_board old said entry later reply (Resized size) new asked list so j none rest is =
     subst (BoardOf (said ++ record { entry = entry; reply = reply } ∷ [])) (sym is) (
       [],
       SinceSize.taken said (record { entry = entry; reply = reply })
-          (takes_one before old.game entry reply size asked j),
+          (takes_one old.game entry reply size asked j),
     )
-judged_board before old said entry later reply (Wrong kind) new asked list so j none rest is = absurd (cc none)
+judged_board old said entry later reply (Wrong kind) new asked list so j none rest is = absurd (cc none)
 
-heard_board : (before : GameRecord) (old : Exam) (said : List Exchange) (new : Exam) (all : List Exchange)
-    → IfSome (oldest old.unanswered) (IsAsked before) → BoardOf said old → Leaving old said new all → BoardOf all new
-heard_board before old said new all asked so (Leaving.nothing kept) =
+heard_board : (old : Exam) (said : List Exchange) (new : Exam) (all : List Exchange)
+    → IfSome (oldest old.unanswered) IsDueOnce → BoardOf said old → Leaving old said new all → BoardOf all new
+heard_board old said new all asked so (Leaving.nothing kept) =
     subst (BoardSo said new.unanswered) (sym kept.board)
     (subst (λ (l : List Asked). BoardSo said l old.board) (sym kept.unanswered) so)
-heard_board before old said new all asked so (Leaving.answered rest entry later reply got list j none is) =
-    judged_board before old said entry later reply got new
-    (subst (λ (l : List Asked). IfSome (oldest l) (IsAsked before)) list asked) list
+heard_board old said new all asked so (Leaving.answered rest entry later reply got list j none is) =
+    judged_board old said entry later reply got new
+    (subst (λ (l : List Asked). IfSome (oldest l) IsDueOnce) list asked) list
     (subst (λ (l : List Asked). BoardSo said l old.board) list so) j none rest is
 
 board_so : (rule : KoRule) (sent came : List ℕ) (said : List Exchange) (exam : Exam)
@@ -211,9 +211,8 @@ board_so rule sent came said exam (Talks.ask {sent = s} {came = c} {said = x} {o
     (board_so rule s came said old talk))
 board_so rule sent came said exam (Talks.hear {sent = s} {came = c} {said = x} {old = old} {new = new} bytes used
     read talk hears) =
-    let s = right_so_far rule sent c x old talk in
-    heard_board s.before old x exam said (oldest_asked s.before old.unanswered old.game s.expects)
-    (board_so rule sent c x old talk) (heard_leaving old bytes used read exam x hears)
+    heard_board old x exam said (oldest_due rule sent c x old talk) (board_so rule sent c x old talk)
+    (heard_leaving old bytes used read exam x hears)
 
 -- ---- where a command may be asked
 

@@ -5,7 +5,6 @@ use Rattle.std.proofs.lemmas.List.{append-nil}
 use Rattle.std.specs.Prelude.{◌⊎◌, ◌||◌, ℤ, IfSome, codes, drop, if◌then◌else◌}
 use Rattle.std.specs.Str.{bytes_eq}
 use Rattle.std.proofs.lemmas.Slice.Eq.{bytes_eq-Decides}
-use Rattle.go_board.specs.Game.{GameRecord}
 use Rattle.go_board.specs.declared.rules.KoRule.{KoRule}
 use Rattle.gtp_wire.specs.declared.commands.Command.TheVariants.{Komi, FixedHandicap, Play}
 use Rattle.gtp_wire.specs.declared.commands.Command.TheVariants.{Genmove, Undo}
@@ -29,16 +28,17 @@ use Rattle.gtp_examiner.specs.Dues.{MayBeAsked}
 use Rattle.gtp_examiner.specs.Judging.{oldest, awaits, Judged, most_unanswered}
 use Rattle.gtp_examiner.specs.Exam.{HasRoomFor, after_judged, finding_of, with_learned, with_rest}
 use Rattle.gtp_examiner.specs.Exam.{AreOrderly, IsOrderly}
-use Rattle.gtp_examiner.specs.Laws.{Exchange, Talks, IsAsked, commands_of}
+use Rattle.gtp_examiner.specs.Laws.{Exchange, Talks, commands_of}
 use Rattle.gtp_examiner.specs.HistoryLaws.{SaysFalse, IsLast, IsKnown, SomeAsked, TakesSize, SinceSize}
 use Rattle.gtp_examiner.specs.HistoryLaws.{IsIdle, KnownEnginesMayBeAsked}
 use Rattle.gtp_examiner.proofs.history.Boards.{IsClear, takes_none, takes_one}
+use Rattle.gtp_examiner.proofs.history.Dues.{IsDueOnce, oldest_due, talk_orderly}
 use Rattle.gtp_examiner.proofs.history.Heard.{Leaving, heard_leaving}
 use Rattle.gtp_examiner.proofs.history.Komis.{commands_more}
 use Rattle.gtp_examiner.proofs.history.Lasts.{no_last, last_cases, no_since, since_cases}
 use Rattle.gtp_examiner.proofs.order.Asked.{or_true}
 use Rattle.gtp_examiner.proofs.order.Heard.{resized_awaited, resized_due}
-use Rattle.gtp_examiner.proofs.talks.Silence.{none_later, oldest_asked, right_so_far}
+use Rattle.gtp_examiner.proofs.talks.Silence.{none_later}
 use Rattle.gtp_examiner.proofs.talks.Skills.{judged_skills}
 
 -- ---- what an engine knows
@@ -219,43 +219,43 @@ sized_enough said entry later reply board takes last known since s =
 abbrev EnoughOf : List Exchange → Exam → Type 0
 EnoughOf said exam = EnoughSo said exam.unanswered exam.board
 
-judged_enough : (before : GameRecord) (old : Exam) (said : List Exchange) (entry : Asked) (later : List Asked)
-    (reply : Reply) (got : Judgement) (new : Exam) → IsAsked before entry → old.unanswered ≡ entry ∷ later
+judged_enough : (old : Exam) (said : List Exchange) (entry : Asked) (later : List Asked)
+    (reply : Reply) (got : Judgement) (new : Exam) → IsDueOnce entry → old.unanswered ≡ entry ∷ later
     → AreOrderly old.game old.sent (entry ∷ later)
     → EnoughSo said (entry ∷ later) old.board → Judged old.game entry.due reply got → None ≡ finding_of entry got
     → (rest : List ℕ) → new ≡ after_judged (with_learned (with_rest old rest) entry.command reply) got
     → EnoughOf (said ++ record { entry = entry; reply = reply } ∷ []) new
-judged_enough before old said entry later reply Right new asked list o so j none rest is =
+judged_enough old said entry later reply Right new asked list o so j none rest is =
     subst (EnoughOf (said ++ record { entry = entry; reply = reply } ∷ [])) (sym is)
     (subst (λ (l : List Asked). EnoughSo (said ++ record { entry = entry; reply = reply } ∷ []) (drop 1 l) old.board)
     (sym list)
     (answered_enough said entry later reply old.board
-    (takes_none before old.game entry reply Right asked j (λ size e. cc e)) so))
-judged_enough before old said entry later reply (Plays colour v) new asked list o so j none rest is =
+    (takes_none old.game entry reply Right asked j (λ size e. cc e)) so))
+judged_enough old said entry later reply (Plays colour v) new asked list o so j none rest is =
     subst (EnoughOf (said ++ record { entry = entry; reply = reply } ∷ [])) (sym is)
     (subst (λ (l : List Asked). EnoughSo (said ++ record { entry = entry; reply = reply } ∷ []) (drop 1 l) old.board)
     (sym list)
     (answered_enough said entry later reply old.board
-    (takes_none before old.game entry reply (Plays colour v) asked j (λ size e. cc e)) so))
-judged_enough before old said entry later reply (Resized size) new asked list o so j none rest is =
+    (takes_none old.game entry reply (Plays colour v) asked j (λ size e. cc e)) so))
+judged_enough old said entry later reply (Resized size) new asked list o so j none rest is =
     let due = resized_due old.game entry.due reply size j in
     subst (EnoughOf (said ++ record { entry = entry; reply = reply } ∷ [])) (sym is)
     (subst (λ (l : List Asked). EnoughSo (said ++ record { entry = entry; reply = reply } ∷ []) (drop 1 l) Sized)
     (sym list)
-    (sized_enough said entry later reply Sized (takes_one before old.game entry reply size asked j)
+    (sized_enough said entry later reply Sized (takes_one old.game entry reply size asked j)
     (none_later entry later (resized_awaited old.game entry.command entry.due size due.0 o.judged.0) o.alone)
     (λ e. cc e)))
-judged_enough before old said entry later reply (Wrong kind) new asked list o so j none rest is = absurd (cc none)
+judged_enough old said entry later reply (Wrong kind) new asked list o so j none rest is = absurd (cc none)
 
-heard_enough : (before : GameRecord) (old : Exam) (said : List Exchange) (new : Exam) (all : List Exchange)
-    → IfSome (oldest old.unanswered) (IsAsked before) → IsOrderly old → EnoughOf said old → Leaving old said new all
+heard_enough : (old : Exam) (said : List Exchange) (new : Exam) (all : List Exchange)
+    → IfSome (oldest old.unanswered) IsDueOnce → IsOrderly old → EnoughOf said old → Leaving old said new all
     → EnoughOf all new
-heard_enough before old said new all asked o so (Leaving.nothing kept) =
+heard_enough old said new all asked o so (Leaving.nothing kept) =
     subst (EnoughSo said new.unanswered) (sym kept.board)
     (subst (λ (l : List Asked). EnoughSo said l old.board) (sym kept.unanswered) so)
-heard_enough before old said new all asked o so (Leaving.answered rest entry later reply got list j none is) =
-    judged_enough before old said entry later reply got new
-    (subst (λ (l : List Asked). IfSome (oldest l) (IsAsked before)) list asked) list
+heard_enough old said new all asked o so (Leaving.answered rest entry later reply got list j none is) =
+    judged_enough old said entry later reply got new
+    (subst (λ (l : List Asked). IfSome (oldest l) IsDueOnce) list asked) list
     (subst (λ (l : List Asked). AreOrderly old.game old.sent l) list o)
     (subst (λ (l : List Asked). EnoughSo said l old.board) list so) j none rest is
 
@@ -272,8 +272,7 @@ enough_so rule sent came said exam (Talks.ask {sent = s} {came = c} {said = x} {
     }) old.board (enough_so rule s came said old talk since taken))
 enough_so rule sent came said exam (Talks.hear {sent = s} {came = c} {said = x} {old = old} {new = new} bytes used
     read talk hears) =
-    let s = right_so_far rule sent c x old talk in
-    heard_enough s.before old x exam said (oldest_asked s.before old.unanswered old.game s.expects) s.orderly
+    heard_enough old x exam said (oldest_due rule sent c x old talk) (talk_orderly rule sent c x old talk)
     (enough_so rule sent c x old talk) (heard_leaving old bytes used read exam x hears)
 
 -- ---- komi

@@ -1,7 +1,6 @@
 -- Which size is reported as refused.
 use Rattle.std.proofs.Common.{◌≡◌, ℕ, Bool, true, false, List, [], ◌∷◌, Option, Some, None, refl, ◌∙◌, ap, subst}
 use Rattle.std.specs.Prelude.{IfSome, Result, Ok, Err}
-use Rattle.go_board.specs.Game.{GameRecord}
 use Rattle.gtp_wire.specs.declared.commands.Command.TheVariants.{Boardsize}
 use Rattle.gtp_wire.specs.declared.replies.Reply.{Reply}
 use Rattle.gtp_wire.specs.declared.replies.ReplyFault.{ReplyFault}
@@ -13,10 +12,9 @@ use Rattle.gtp_examiner.specs.declared.unanswered.Asked.{Asked}
 use Rattle.gtp_examiner.specs.declared.exam.Finding.{Finding}
 use Rattle.gtp_examiner.specs.Judging.{oldest, refused_by}
 use Rattle.gtp_examiner.specs.Exam.{refused_size}
-use Rattle.gtp_examiner.specs.Laws.{IsAsked}
 use Rattle.gtp_examiner.specs.AnswerLaws.{RefusedSizesAreReported}
 use Rattle.gtp_examiner.proofs.history.Boards.{due_size, size_due}
-use Rattle.gtp_examiner.proofs.talks.Silence.{oldest_asked, right_so_far}
+use Rattle.gtp_examiner.proofs.history.Dues.{IsDueOnce, oldest_due}
 
 refused_due : (due : Due) (ok : Bool) (size : ℕ) → refused_by due ok ≡ Some size
     → (due ≡ Resizes size) × (ok ≡ false)
@@ -34,14 +32,14 @@ IsRefusal list read finding size =
     (entry : Asked) × (later : List Asked) × (reply : Reply) × (list ≡ entry ∷ later)
     × (read ≡ Some (Ok reply)) × (finding ≡ None) × (entry.command ≡ Match (Boardsize size)) × (reply.ok ≡ false)
 
-reported : (before : GameRecord) (list : List Asked) (read : Option (Result Reply ReplyFault))
-    (finding : Option Finding) (size : ℕ) → IfSome (oldest list) (IsAsked before)
+reported : (list : List Asked) (read : Option (Result Reply ReplyFault))
+    (finding : Option Finding) (size : ℕ) → IfSome (oldest list) IsDueOnce
     → refused_size (oldest list) read finding ≡ Some size → IsRefusal list read finding size
-reported before [] read finding size asked e = absurd (cc e)
-reported before (entry ∷ later) None finding size asked e = absurd (cc e)
-reported before (entry ∷ later) (Some (Err shown)) finding size asked e = absurd (cc e)
-reported before (entry ∷ later) (Some (Ok reply)) (Some finding) size asked e = absurd (cc e)
-reported before (entry ∷ later) (Some (Ok reply)) None size asked e =
+reported [] read finding size asked e = absurd (cc e)
+reported (entry ∷ later) None finding size asked e = absurd (cc e)
+reported (entry ∷ later) (Some (Err shown)) finding size asked e = absurd (cc e)
+reported (entry ∷ later) (Some (Ok reply)) (Some finding) size asked e = absurd (cc e)
+reported (entry ∷ later) (Some (Ok reply)) None size asked e =
     let due = refused_due entry.due reply.ok size e in (
       entry,
       later,
@@ -49,7 +47,7 @@ reported before (entry ∷ later) (Some (Ok reply)) None size asked e =
       refl,
       refl,
       refl,
-      due_size before entry.command entry.due size asked.is_due due.0,
+      due_size asked.game entry.command entry.due size asked.is_due due.0,
       due.1,
     )
 
@@ -58,20 +56,19 @@ refused_of : (entry : Asked) (reply : Reply) (size : ℕ) → entry.due ≡ Resi
 refused_of entry reply size due failed =
     ap (λ (d : Due). refused_by d reply.ok) due ∙ ap (refused_by (Resizes size)) failed
 
-only_these : (before : GameRecord) (list : List Asked) (read : Option (Result Reply ReplyFault))
-    (finding : Option Finding) (size : ℕ) → IfSome (oldest list) (IsAsked before)
+only_these : (list : List Asked) (read : Option (Result Reply ReplyFault))
+    (finding : Option Finding) (size : ℕ) → IfSome (oldest list) IsDueOnce
     → IsRefusal list read finding size → refused_size (oldest list) read finding ≡ Some size
-only_these before list read finding size asked (entry, later, reply, is, got, none, command, failed) =
-    let here : IsAsked before entry = subst (λ (l : List Asked). IfSome (oldest l) (IsAsked before)) is asked in
+only_these list read finding size asked (entry, later, reply, is, got, none, command, failed) =
+    let here : IsDueOnce entry = subst (λ (l : List Asked). IfSome (oldest l) IsDueOnce) is asked in
     ap (λ (l : List Asked). refused_size (oldest l) read finding) is
     ∙ (ap (λ (r : Option (Result Reply ReplyFault)). refused_size (Some entry) r finding) got
     ∙ (ap (λ (f : Option Finding). refused_size (Some entry) (Some (Ok reply)) f) none
-    ∙ refused_of entry reply size (size_due before entry.command entry.due size here.is_due command) failed))
+    ∙ refused_of entry reply size (size_due here.game entry.command entry.due size here.is_due command) failed))
 
 pub refused_reported : RefusedSizesAreReported
 refused_reported rule sent came said exam read finding size talk =
-    let s = right_so_far rule sent came said exam talk in
-    let asked = oldest_asked s.before exam.unanswered exam.game s.expects in (
-      reported s.before exam.unanswered read finding size asked,
-      only_these s.before exam.unanswered read finding size asked,
+    let asked = oldest_due rule sent came said exam talk in (
+      reported exam.unanswered read finding size asked,
+      only_these exam.unanswered read finding size asked,
     )
