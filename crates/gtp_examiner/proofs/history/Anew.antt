@@ -28,7 +28,7 @@ use Rattle.gtp_examiner.specs.Check.{Check, Calls}
 use Rattle.gtp_examiner.specs.Laws.{Exchange, exchanged, Talks}
 use Rattle.gtp_examiner.specs.HistoryLaws.{EachStartBeginsAnew}
 use Rattle.gtp_examiner.proofs.history.Heard.{heard_leaving, leaving_up}
-use Rattle.gtp_examiner.proofs.talks.Found.{up_between}
+use Rattle.gtp_examiner.proofs.talks.Found.{leaves_down}
 
 -- ---- the ko rule is the same from the first start on
 
@@ -102,7 +102,7 @@ heard_talk : (rule : KoRule) (old : Exam) (bytes : List ℕ) (used : ℕ) (read 
     → Hears old bytes used read finding new
     → new.up ≡ true → IsInTalk rule new
 heard_talk rule old bytes used read (Some finding) new talk hears up =
-    absurd (let e : true ≡ false = sym up ∙ up_between.found old new bytes used read finding hears in cc e)
+    absurd (let e : true ≡ false = sym up ∙ leaves_down (with_rest old hears.0) read finding new hears.2 in cc e)
 heard_talk rule old bytes used read None new talk hears up =
     let was : old.up ≡ true =
     leaving_up old [] new ([] ++ exchanged (oldest old.unanswered) read)

@@ -47,7 +47,7 @@ reply_down : (exam : Exam) (o : Option Asked) (reply : Reply) (finding : Finding
 reply_down exam None reply finding new h = ap (λ (x : Exam). x.up) h.1
 reply_down exam (Some entry) reply finding new h = id_down exam entry reply (has_id reply.id entry.id) finding new h
 
-leaves_down : (exam : Exam) (read : Option (Result Reply ReplyFault)) (finding : Finding) (new : Exam)
+pub leaves_down : (exam : Exam) (read : Option (Result Reply ReplyFault)) (finding : Finding) (new : Exam)
     → Leaves exam read (Some finding) new → new.up ≡ false
 leaves_down exam None finding new h = absurd (cc (h.0))
 leaves_down exam (Some (Err shown)) finding new h = ap (λ (x : Exam). x.up) h.1
