@@ -5,3 +5,4 @@ pub mod answers
 pub mod talks
 pub mod engines
 pub mod checks
+pub mod history

@@ -1,3 +1,4 @@
 -- Scores of an empty board.
 pub mod EmptyBoard
 pub mod ReadBack
+pub mod Texts

@@ -1,6 +1,5 @@
 -- A check of one engine over all its starts.
 use Rattle.std.specs.Prelude.{◌≡◌, ℕ, ◌+◌, ◌<◌, ◌≤◌, true, false, List, Option, Some, Result, length}
-use Rattle.go_base.specs.Int.{most_int}
 use Rattle.go_board.specs.declared.rules.KoRule.{KoRule}
 use Rattle.gtp_wire.specs.declared.replies.Reply.{Reply}
 use Rattle.gtp_wire.specs.declared.replies.ReplyFault.{ReplyFault}
@@ -8,7 +7,6 @@ use Rattle.gtp_wire.specs.Replies.{GivesNoAnswer}
 use Rattle.gtp_examiner.specs.declared.asking.CheckCommand.{CheckCommand}
 use Rattle.gtp_examiner.specs.declared.exam.Exam.{Exam}
 use Rattle.gtp_examiner.specs.declared.exam.Finding.{Finding}
-use Rattle.gtp_examiner.specs.Judging.{most_unanswered}
 use Rattle.gtp_examiner.specs.Exam.{begun, downed, Asks, Hears, HasRoomFor, IsOrderly}
 
 -- The exam of the engine that was started last, how many starts there were, and how many there may be.
@@ -28,6 +26,10 @@ started check = record check { exam = begun check.exam.game.rule true; starts = 
 -- the same starts, with this exam
 abbrev pub with_exam : Check → Exam → Check
 with_exam check exam = record check { exam = exam }
+
+-- after the engine was lost: it is down
+abbrev pub after_loss : Check → Check
+after_loss check = with_exam check (downed check.exam)
 
 -- The exam is orderly, there were no more starts than there may be, and of an engine that is up no whole reply is held
 -- back, and no fault.
@@ -50,15 +52,15 @@ pub data Calls (rule : KoRule) (most : ℕ) : ℕ → Check → Type 0 where
       (read : Option (Result Reply ReplyFault)) (finding : Option Finding) → Calls rule most count old
       → Hears old.exam bytes used read finding new → Calls rule most count (with_exam old new)
   lost : {count : ℕ} {old : Check} → Calls rule most count old
-      → Calls rule most count (with_exam old (downed old.exam))
+      → Calls rule most count (after_loss old)
 
 -- The starts are counted, and there are no more than were allowed. At most eight commands are unanswered. One engine
 -- is asked no more commands than there are ids.
 pub record IsBounded (most count : ℕ) (check : Check) : Type 0 where
   pub counted : count ≡ check.starts
   pub few_starts : count ≤ most
-  pub few_unanswered : length check.exam.unanswered ≤ most_unanswered
-  pub few_asked : check.exam.sent ≤ most_int
+  pub few_unanswered : length check.exam.unanswered ≤ 8
+  pub few_asked : check.exam.sent ≤ 2147483647
 
 abbrev pub EveryCheckIsBounded : Type 0
 EveryCheckIsBounded = (rule : KoRule) (most count : ℕ) (check : Check)
@@ -67,11 +69,12 @@ EveryCheckIsBounded = (rule : KoRule) (most count : ℕ) (check : Check)
 -- ---- which engine is up
 
 -- No engine is up before the first start, nor after it is lost or was found wrong. After a start it is, and only one
--- that is up is asked.
+-- that is up is asked. Where it is lost nothing else changes.
 pub record UpIsBetween : Type 0 where
   pub opened : (rule : KoRule) (most : ℕ) → (opening rule most).exam.up ≡ false
   pub begins : (check : Check) → (started check).exam.up ≡ true
-  pub ends : (exam : Exam) → (downed exam).up ≡ false
+  pub ends : (check : Check) → (after_loss check).exam.up ≡ false
+  pub keeps : (check : Check) → after_loss check ≡ record check { exam = record check.exam { up = false } }
   pub found : (old new : Exam) (bytes : List ℕ) (used : ℕ) (read : Option (Result Reply ReplyFault))
       (finding : Finding) → Hears old bytes used read (Some finding) new → new.up ≡ false
   pub asked : (exam : Exam) (command : CheckCommand) → HasRoomFor exam command → exam.up ≡ true

@@ -18,6 +18,7 @@ use Rattle.gtp_wire.specs.Replies.{IsReply}
 use Rattle.gtp_wire.specs.declared.lines.Line.{Line}
 use Rattle.gtp_wire.specs.declared.replies.Reply.{Reply}
 use Rattle.gtp_wire.specs.declared.replies.ReplyFault.{ReplyFault}
+use Rattle.gtp_wire.specs.declared.replies.ReplyFault.TheVariants as fault
 use Rattle.gtp_examiner.specs.Asking.{written_check, line_of_check, IsCheckWritable, IsCheckInLimits}
 use Rattle.gtp_examiner.specs.Scores.{score_of_text}
 use Rattle.go_board.specs.Area.{score}
@@ -44,7 +45,7 @@ use Rattle.gtp_examiner.specs.declared.skills.Skills.{Skills}
 use Rattle.gtp_examiner.specs.Skills.{learned, none_asked}
 use Rattle.gtp_examiner.specs.Dues.{IsDue, after_due}
 use Rattle.gtp_examiner.specs.Judging.{oldest}
-use Rattle.gtp_examiner.specs.Exam.{begun, kind_of, Asks, Hears, HasRoomFor, IsOrderly}
+use Rattle.gtp_examiner.specs.Exam.{begun, Asks, Hears, HasRoomFor, IsOrderly}
 
 -- ---- right answers, by the table of the engine's commands
 
@@ -223,12 +224,17 @@ KindIsTrue before entry reply Unasked = ⊥
 KindIsTrue before entry reply NoStatus = ⊥
 KindIsTrue before entry reply Overlong = ⊥
 
+-- a fault of the reader is named: bytes that begin no reply, or more of them than a reply may have
+abbrev pub FaultIsNamed : ReplyFault → Kind → Type 0
+FaultIsNamed fault.NoStatus kind = kind ≡ NoStatus
+FaultIsNamed fault.Overlong kind = kind ≡ Overlong
+
 -- the same of what was read: a fault of the reader is named, and so is a reply where nothing was unanswered
 abbrev pub GivesKind : GameRecord → Option Asked → Option (Result Reply ReplyFault) → Kind → Type 0
 GivesKind before (Some entry) (Some (Ok reply)) kind = KindIsTrue before entry reply kind
 GivesKind before None (Some (Ok reply)) kind = kind ≡ Unasked
-GivesKind before (Some entry) (Some (Err shown)) kind = kind ≡ kind_of shown
-GivesKind before None (Some (Err shown)) kind = kind ≡ kind_of shown
+GivesKind before (Some entry) (Some (Err shown)) kind = FaultIsNamed shown kind
+GivesKind before None (Some (Err shown)) kind = FaultIsNamed shown kind
 GivesKind before (Some entry) None kind = ⊥
 GivesKind before None None kind = ⊥
 

@@ -8,3 +8,5 @@ pub mod Exam
 pub mod Check
 pub mod Laws
 pub mod StepLaws
+pub mod AnswerLaws
+pub mod HistoryLaws

@@ -33,8 +33,8 @@ impl Model for Examiner {
 }
 
 impl Examiner {
-    ghost use Rattle.gtp_examiner.specs.Check.{opening, started, with_exam};
-    ghost use Rattle.gtp_examiner.specs.Exam.{downed, Asks, Hears, HearsDown, HasRoomFor, IsOrderly};
+    ghost use Rattle.gtp_examiner.specs.Check.{opening, started, with_exam, after_loss};
+    ghost use Rattle.gtp_examiner.specs.Exam.{Asks, Hears, HearsDown, HasRoomFor, IsOrderly};
     ghost use Rattle.gtp_examiner.specs.Exam.{answered_by, refused_size};
     ghost use Rattle.gtp_examiner.specs.Judging.{oldest};
 
@@ -128,7 +128,7 @@ impl Examiner {
 
     /// The engine's stream ended, or a read or a write failed: it is down.
     pub fn lost(&mut self)
-        ensures { self.new ≡ with_exam self.old (downed self.old.exam) }
+        ensures { self.new ≡ after_loss self.old }
     {
         self.exam.up = false;
     }

@@ -5,6 +5,10 @@ ghost use Rattle.gtp_examiner.specs.Laws.{PlaysAreLegalOrProbes};
 ghost use Rattle.gtp_examiner.specs.Laws.{ScoresAreKomiAlone, WhoAnswersRightlyIsNotBlamed, NoRightEngineIsBlamed};
 ghost use Rattle.gtp_examiner.specs.Laws.{WhatIsReadIsAnswerOrFound};
 ghost use Rattle.gtp_examiner.specs.Check.{EveryCheckIsBounded, UpIsBetween};
+ghost use Rattle.gtp_examiner.specs.HistoryLaws.{WhatIsAskedIsKnown, BoardsAreKnown, KomisAreSet};
+ghost use Rattle.gtp_examiner.specs.HistoryLaws.{IdleEnginesMayBeAsked, KnownEnginesMayBeAsked};
+ghost use Rattle.gtp_examiner.specs.HistoryLaws.{EachStartBeginsAnew};
+ghost use Rattle.gtp_examiner.specs.AnswerLaws.{ScoresAreRead, RefusedSizesAreReported};
 ghost use Rattle.gtp_examiner.specs.StepLaws.{NoneAfterTheEnd, HandicapsArePlacedOrProbes, RightAnswersAreReported};
 
 use gtp_session::policy::Policy;
@@ -36,6 +40,40 @@ pub fn skills_are_what_was_said()
     ensures { SkillsAreWhatWasSaid }
 {}
 
+/// A `fixed_handicap`, an `undo` or a `final_score` may be asked only of an engine that was asked whether it knows it,
+/// and whose last answer to that wasn't `false`.
+pub fn what_is_asked_is_known()
+    ensures { WhatIsAskedIsKnown }
+{}
+
+/// A command whose answer hangs on the board may be asked only of an engine that took a size, was asked to clear the
+/// board after the last that it took, and owes no answer to a `boardsize`.
+pub fn boards_are_known()
+    ensures { BoardsAreKnown }
+{}
+
+/// A `final_score` may be asked only once a `komi` was asked since the engine's start.
+pub fn komis_are_set()
+    ensures { KomisAreSet }
+{}
+
+/// Of an engine that is up and owes nothing a `boardsize`, a `komi`, a `clear_board`, a `name`, a `version` and a
+/// `known_command` may be asked, as long as there are ids.
+pub fn idle_engines_may_be_asked()
+    ensures { IdleEnginesMayBeAsked }
+{}
+
+/// Of an engine that is up and owes nothing and whose board is known, also what hangs on the board may be asked: a
+/// `fixed_handicap`, an `undo` and a `final_score` where it is known to know them, a score where a `komi` was asked.
+pub fn known_engines_may_be_asked()
+    ensures { KnownEnginesMayBeAsked }
+{}
+
+/// An engine that is up is in a talk since its own start, so nothing is kept of one before it.
+pub fn each_start_begins_anew()
+    ensures { EachStartBeginsAnew }
+{}
+
 /// What is written of a command that is asked is one line, with the next id and the command's words.
 pub fn asked_commands_are_lines()
     ensures { AskedCommandsAreLines }
@@ -49,6 +87,17 @@ pub fn plays_are_legal_or_probes()
 /// The score that is asked for is that of komi alone.
 pub fn scores_are_komi_alone()
     ensures { ScoresAreKomiAlone }
+{}
+
+/// A text is read as a score exactly where it is one word: `B+` or `W+` and a number of points without a sign, or a
+/// zero.
+pub fn scores_are_read()
+    ensures { ScoresAreRead }
+{}
+
+/// A size is reported as refused exactly where a failure to its `boardsize` was heard.
+pub fn refused_sizes_are_reported()
+    ensures { RefusedSizesAreReported }
 {}
 
 /// Whoever wrote right answers alone isn't blamed, in whatever cuts they are heard, and however many of them.

@@ -1,5 +1,5 @@
 -- What is due to a handicap that is asked.
-use Rattle.std.proofs.Common.{◌≡◌, ℕ, ◌+◌, List, [], ◌∷◌, ◌++◌, refl, ap, ◌∙◌}
+use Rattle.std.proofs.Common.{◌≡◌, ℕ, ◌+◌, refl, ap, ◌∙◌}
 use Rattle.go_board.specs.Game.{GameRecord}
 use Rattle.gtp_wire.specs.declared.commands.Command.TheVariants.{FixedHandicap}
 use Rattle.gtp_examiner.specs.declared.asking.CheckCommand.TheVariants.{Match}
@@ -10,7 +10,6 @@ use Rattle.gtp_examiner.specs.declared.dues.Cause.TheVariants.{BadMove, BadHandi
 use Rattle.gtp_examiner.specs.declared.unanswered.Asked.{Asked}
 use Rattle.gtp_examiner.specs.declared.exam.Exam.{Exam}
 use Rattle.gtp_examiner.specs.Dues.{HandicapDue}
-use Rattle.gtp_examiner.specs.Exam.{Asks}
 use Rattle.gtp_examiner.specs.StepLaws.{HandicapIsDue, HandicapsArePlacedOrProbes}
 
 due_of : (game : GameRecord) (stones : ℕ) (due : Due) (asked : Asked) → asked.due ≡ due

@@ -6,6 +6,7 @@ use Rattle.go_board.specs.Game.{GameRecord}
 use Rattle.go_board.specs.declared.rules.KoRule.{KoRule}
 use Rattle.gtp_wire.specs.declared.replies.Reply.{Reply}
 use Rattle.gtp_wire.specs.declared.replies.ReplyFault.{ReplyFault}
+use Rattle.gtp_wire.specs.declared.replies.ReplyFault.TheVariants as fault
 use Rattle.gtp_session.specs.Engine.{fresh_game_under}
 use Rattle.gtp_examiner.specs.declared.judging.Judgement.{Judgement}
 use Rattle.gtp_examiner.specs.declared.judging.Judgement.TheVariants.{Right, Plays, Resized, Wrong}
@@ -18,7 +19,7 @@ use Rattle.gtp_examiner.specs.Judging.{oldest, has_id}
 use Rattle.gtp_examiner.specs.Exam.{Hears, Leaves, ReplyLeaves, IdLeaves, finding_of}
 use Rattle.gtp_examiner.specs.Exam.{kind_of, with_rest, AreOrderly}
 use Rattle.gtp_examiner.specs.Laws.{IsRight, Exchange, AllRight, Talks, IsAsked, Expects}
-use Rattle.gtp_examiner.specs.Laws.{IsRightSoFar, NoRightAnswer, GivesKind, IsJustified}
+use Rattle.gtp_examiner.specs.Laws.{IsRightSoFar, NoRightAnswer, FaultIsNamed, GivesKind, IsJustified}
 use Rattle.gtp_examiner.proofs.answers.Statuses.{HoldsOf}
 use Rattle.gtp_examiner.proofs.talks.Silence.{holds, id_has, oldest_asked, right_so_far}
 
@@ -27,10 +28,14 @@ no_fault_right : (before : GameRecord) (o : Option Asked) (shown : ReplyFault)
 no_fault_right before None shown = tt
 no_fault_right before (Some entry) shown = tt
 
+fault_named : (shown : ReplyFault) → FaultIsNamed shown (kind_of shown)
+fault_named fault.NoStatus = refl
+fault_named fault.Overlong = refl
+
 fault_kind : (before : GameRecord) (o : Option Asked) (shown : ReplyFault)
     → GivesKind before o (Some (Err shown)) (kind_of shown)
-fault_kind before None shown = refl
-fault_kind before (Some entry) shown = refl
+fault_kind before None shown = fault_named shown
+fault_kind before (Some entry) shown = fault_named shown
 
 justified_of : (rule : KoRule) (said : List Exchange) (exam : Exam) (read : Option (Result Reply ReplyFault))
     (finding : Finding) (asked : Option Asked) (kind : Kind) → (s : IsRightSoFar rule said exam)

@@ -1,5 +1,5 @@
 -- What is read is found wrong, or answers; and which engine is up.
-use Rattle.std.proofs.Common.{◌≡◌, ℕ, Bool, true, false, List, [], ◌∷◌, Option, Some, None, refl, ap, ◌∙◌}
+use Rattle.std.proofs.Common.{◌≡◌, ℕ, Bool, true, false, List, Option, Some, None, refl, ap}
 use Rattle.std.specs.Prelude.{Result, Ok, Err}
 use Rattle.gtp_wire.specs.declared.replies.Reply.{Reply}
 use Rattle.gtp_wire.specs.declared.replies.ReplyFault.{ReplyFault}
@@ -9,7 +9,8 @@ use Rattle.gtp_examiner.specs.declared.unanswered.Asked.{Asked}
 use Rattle.gtp_examiner.specs.declared.exam.Exam.{Exam}
 use Rattle.gtp_examiner.specs.declared.exam.Finding.{Finding}
 use Rattle.gtp_examiner.specs.Judging.{oldest, has_id}
-use Rattle.gtp_examiner.specs.Exam.{Hears, Leaves, ReplyLeaves, IdLeaves, after_judged, finding_of, with_learned, with_rest}
+use Rattle.gtp_examiner.specs.Exam.{Hears, Leaves, ReplyLeaves, IdLeaves, after_judged, finding_of}
+use Rattle.gtp_examiner.specs.Exam.{with_learned, with_rest}
 use Rattle.gtp_examiner.specs.Check.{UpIsBetween}
 
 -- ---- what is read
@@ -46,7 +47,7 @@ reply_down : (exam : Exam) (o : Option Asked) (reply : Reply) (finding : Finding
 reply_down exam None reply finding new h = ap (λ (x : Exam). x.up) h.1
 reply_down exam (Some entry) reply finding new h = id_down exam entry reply (has_id reply.id entry.id) finding new h
 
-leaves_down : (exam : Exam) (read : Option (Result Reply ReplyFault)) (finding : Finding) (new : Exam)
+pub leaves_down : (exam : Exam) (read : Option (Result Reply ReplyFault)) (finding : Finding) (new : Exam)
     → Leaves exam read (Some finding) new → new.up ≡ false
 leaves_down exam None finding new h = absurd (cc (h.0))
 leaves_down exam (Some (Err shown)) finding new h = ap (λ (x : Exam). x.up) h.1
@@ -56,7 +57,8 @@ pub up_between : UpIsBetween
 up_between = record {
   opened = λ rule most. refl;
   begins = λ check. refl;
-  ends = λ exam. refl;
+  ends = λ check. refl;
+  keeps = λ check. refl;
   found = λ old new bytes used read finding h. leaves_down (with_rest old h.0) read finding new h.2;
   asked = λ exam command room. room.up;
 }

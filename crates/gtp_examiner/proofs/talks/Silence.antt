@@ -62,7 +62,7 @@ id_has id wanted e = rw e (same wanted)
 
 -- ---- what is awaited is judged in the game before it
 
-none_later : (entry : Asked) (later : List Asked) → is_awaited entry.command ≡ true
+pub none_later : (entry : Asked) (later : List Asked) → is_awaited entry.command ≡ true
     → (awaits (entry ∷ later) ≡ true → length (entry ∷ later) ≡ 1) → later ≡ []
 none_later entry [] is alone = refl
 none_later entry (x ∷ xs) is alone = absurd (let e = alone (rw is refl) in omega arith)
@@ -209,7 +209,7 @@ reply_so_far rule said exam [] reply new s o list h = absurd (cc (h.0))
 reply_so_far rule said exam (entry ∷ later) reply new s o list h =
     id_so_far rule said exam entry later reply (has_id reply.id entry.id) new s o list refl h
 
-nothing_exchanged : (o : Option Asked) → exchanged o None ≡ []
+pub nothing_exchanged : (o : Option Asked) → exchanged o None ≡ []
 nothing_exchanged None = refl
 nothing_exchanged (Some entry) = refl
 

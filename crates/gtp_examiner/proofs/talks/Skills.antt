@@ -21,7 +21,7 @@ skills_more : (skills : Skills) (said : List Exchange) (entry : Asked) (reply : 
 skills_more skills [] entry reply = refl
 skills_more skills (x ∷ xs) entry reply = skills_more (learned skills x.entry.command x.reply) xs entry reply
 
-judged_skills : (exam : Exam) (entry : Asked) (got : Judgement) (new : Exam) → None ≡ finding_of entry got
+pub judged_skills : (exam : Exam) (entry : Asked) (got : Judgement) (new : Exam) → None ≡ finding_of entry got
     → new ≡ after_judged exam got → new.skills ≡ exam.skills
 judged_skills exam entry Right new none is = ap (λ (e : Exam). e.skills) is
 judged_skills exam entry (Plays colour v) new none is = ap (λ (e : Exam). e.skills) is

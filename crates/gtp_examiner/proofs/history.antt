@@ -1,0 +1,11 @@
+-- What was asked and answered before a command may be asked.
+pub mod Heard
+pub mod Dues
+pub mod Known
+pub mod Boards
+pub mod Komis
+pub mod Idle
+pub mod Anew
+pub mod Refusals
+pub mod Lasts
+pub mod Enough
