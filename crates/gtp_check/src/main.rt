@@ -1,0 +1,57 @@
+//! Checks one engine that speaks the Go Text Protocol, version 2.
+#![tactic(auto)]
+
+mod check;
+mod complaint;
+mod engine;
+mod failure;
+mod flat;
+mod kinds;
+mod listing;
+mod notes;
+mod options;
+mod plan;
+mod rules;
+pub mod run;
+mod summary;
+mod superko;
+mod talk;
+mod tally;
+mod trial;
+
+use failure::{Failure, PlanError};
+use gtp_process::SystemStarter;
+use programs::standard::hold_closed;
+use programs::words::arguments;
+use run::run;
+use std::io::IsTerminal;
+use std::process::ExitCode;
+
+/// Holds the standard streams that are closed, checks, and ends with the status.
+fn main(rt: HostRuntime) -> ExitCode {
+    let status = match hold_closed(&rt, rt.stdin(), rt.stdout(), rt.stderr()) {
+        // They are held until all is asked and written.
+        Ok(_held) => check_by(&rt),
+        Err(_) => Failure::NoNullDevice.report(&mut rt.stderr()),
+    };
+    ExitCode::from(status)
+}
+
+/// Checks as the arguments say, and returns the status.
+fn check_by(rt: &HostRuntime) -> u8 {
+    match arguments(rt) {
+        Ok(words) => run(
+            rt.alloc(),
+            words.as_slice(),
+            rt.stderr().is_terminal(),
+            &mut rt.stdout(),
+            &mut rt.stderr(),
+            &mut SystemStarter {
+                alloc: rt.alloc(),
+                system: rt,
+                errors: rt.stderr(),
+            },
+        ),
+        Err(error) => PlanError::of_arguments(error.kind()).report(&mut rt.stderr()),
+    }
+}

@@ -1,0 +1,144 @@
+//! A shorter conversation is tried on a new engine.
+ghost use Rattle.std.specs.Prelude.{◌<◌};
+
+use crate::engine::{Ended, Engine, Fault, LINES_ROOM, Lines, Room};
+use crate::notes::Notes;
+use crate::talk::{Purpose, Said};
+use arrayvec::ArrayVec;
+use gtp_course::Lesson;
+use gtp_examiner::{CheckCommand, Examiner};
+use gtp_process::{Process, StartFault, Starter};
+use gtp_wire::MOST_COMMAND_BYTES;
+use std::alloc::{AllocError, Global};
+
+/// How many exchanges a trial has at most for each command.
+const MOST_EXCHANGES: usize = 1_000_000_000;
+
+/// A conversation that ended with something wrong.
+#[derive(Drop)]
+pub struct Tried {
+    /// What is wrong.
+    pub fault: Fault,
+    /// How many commands were answered.
+    pub answered: usize,
+    /// What was said.
+    pub said: Ended,
+}
+
+impl Tried {
+    /// What was asked up to the command that was answered wrongly.
+    pub fn conversation(&self) -> &[Said] {
+        let count = self.answered.saturating_add(1).min(self.said.talk.len());
+        &self.said.talk[..count]
+    }
+
+    /// The command that was answered wrongly.
+    fn command(&self) -> Option<CheckCommand> {
+        match self.said.talk.get(self.answered) {
+            Some(said) => Some(said.command),
+            None => None,
+        }
+    }
+
+    /// What that was asked for.
+    pub fn purpose(&self) -> Purpose {
+        match self.said.talk.get(self.answered) {
+            Some(said) => said.purpose,
+            None => Purpose {
+                lesson: Lesson::Start,
+                part: 0,
+            },
+        }
+    }
+
+    /// Whether another conversation ended with the same command and the same fault.
+    pub fn ends_like(&self, other: &Tried) -> bool {
+        self.fault == other.fault && self.command() == other.command()
+    }
+}
+
+/// A new engine is started, asked these commands and ended. Returns what is wrong with it, if anything is. One that
+/// can't be started gives nothing.
+///
+/// # Errors
+///
+/// Where memory is refused.
+pub fn try_commands<S: Starter>(
+    alloc: Global,
+    starter: &mut S,
+    words: &[&str],
+    examiner: &mut Examiner,
+    commands: &[CheckCommand],
+    purpose: Purpose,
+    room: &mut Room,
+    notes: &mut Notes,
+) -> Result<Option<Tried>, AllocError> {
+    if !examiner.may_start() {
+        return Ok(None);
+    }
+    let process = match starter.start(words) {
+        Ok(process) => process,
+        Err(StartFault::OutOfMemory) => return Err(AllocError),
+        Err(StartFault::NotStarted(_)) => return Ok(None),
+    };
+    examiner.started();
+    let mut engine = Engine::new(alloc, process);
+    let found = ask_all(&mut engine, examiner, commands, purpose, room, notes);
+    let answered = engine.answered(examiner);
+    examiner.lost();
+    let said = engine.end();
+    match found? {
+        Some(fault) => Ok(Some(Tried {
+            fault,
+            answered,
+            said,
+        })),
+        None => Ok(None),
+    }
+}
+
+/// The engine is asked these commands, one after the other, until something is wrong.
+fn ask_all<P: Process>(
+    engine: &mut Engine<P>,
+    examiner: &mut Examiner,
+    commands: &[CheckCommand],
+    purpose: Purpose,
+    room: &mut Room,
+    notes: &mut Notes,
+) -> Result<Option<Fault>, AllocError> {
+    let mut next: usize = 0;
+    for _exchange in 0..MOST_EXCHANGES {
+        let mut lines = ArrayVec::new();
+        let rest = &commands[next.min(commands.len())..];
+        next = next.saturating_add(ask_some(engine, examiner, rest, purpose, &mut lines, notes)?);
+        if examiner.unanswered() == 0 {
+            // All was answered, or the next command may not be asked in this game.
+            return Ok(None);
+        }
+        if let Some(fault) = engine.exchange(examiner, lines.as_slice(), room, notes) {
+            return Ok(Some(fault));
+        }
+    }
+    Ok(None)
+}
+
+/// The engine is asked the first of these commands, as many as may be asked at once. Returns how many.
+fn ask_some<P: Process>(
+    engine: &mut Engine<P>,
+    examiner: &mut Examiner,
+    commands: &[CheckCommand],
+    purpose: Purpose,
+    lines: &mut Lines,
+    notes: &mut Notes,
+) -> Result<usize, AllocError> {
+    let mut asked: usize = 0;
+    for command in commands {
+        if lines.len() + MOST_COMMAND_BYTES > LINES_ROOM || !examiner.has_room(command) {
+            break;
+        }
+        engine.ask(examiner, *command, purpose, lines)?;
+        notes.count();
+        asked = asked.saturating_add(1);
+    }
+    Ok(asked)
+}
