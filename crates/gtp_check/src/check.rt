@@ -16,9 +16,9 @@ use crate::tally::Tally;
 use crate::trial::{Tried, try_commands};
 use arrayvec::ArrayVec;
 use byte_streams::{WriteOnce, write_text};
+use go_board::KoRule;
 use gtp_course::{Action, Course, Lesson};
 use gtp_examiner::{CheckCommand, Examiner, Kind};
-use go_board::KoRule;
 use gtp_process::{Process, StartFault, Starter, Unstarted, quit_and_end};
 use gtp_wire::MOST_COMMAND_BYTES;
 use std::alloc::{AllocError, Global};
@@ -219,7 +219,11 @@ impl<S: Starter> Check<S> {
     }
 
     /// The first line is written, once the version is known.
-    fn write_first<O: WriteOnce>(&mut self, plan: &Plan<'_>, output: &mut O) -> Result<(), Failure> {
+    fn write_first<O: WriteOnce>(
+        &mut self,
+        plan: &Plan<'_>,
+        output: &mut O,
+    ) -> Result<(), Failure> {
         if self.tally.has_first_line || self.notes.version.is_none() {
             return Ok(());
         }
@@ -347,7 +351,15 @@ impl<S: Starter> Check<S> {
 
     /// The engine is ended at once.
     pub fn end_at_once(self) {
-        let Check { alloc: _, examiner: _, course: _, engine, notes: _, tally: _, room: _ } = self;
+        let Check {
+            alloc: _,
+            examiner: _,
+            course: _,
+            engine,
+            notes: _,
+            tally: _,
+            room: _,
+        } = self;
         end_now(engine);
     }
 

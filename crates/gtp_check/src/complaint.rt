@@ -44,7 +44,11 @@ pub fn complaint_text(alloc: Global, complaint: &Complaint<'_>) -> Result<Vec<u8
     let end = end_of(complaint, complaint.answered.saturating_add(1));
     let start = end_of(complaint, complaint.answered).min(end);
     let mut text = Vec::new(alloc);
-    add_head(&mut text, complaint, without_newline(&complaint.sent[start..end]))?;
+    add_head(
+        &mut text,
+        complaint,
+        without_newline(&complaint.sent[start..end]),
+    )?;
     text.extend_from_slice(&complaint.sent[..end])?;
     add_wrote(&mut text, complaint)?;
     add_rule(&mut text, complaint)?;
@@ -105,7 +109,10 @@ fn add_head(
 /// The line of what the engine wrote.
 fn add_wrote(text: &mut Vec<u8>, complaint: &Complaint<'_>) -> Result<(), AllocError> {
     let mut shown: ArrayVec<u8, 322> = ArrayVec::new();
-    push_quoted(&mut shown, &complaint.wrote[..MOST_SHOWN.min(complaint.wrote.len())]);
+    push_quoted(
+        &mut shown,
+        &complaint.wrote[..MOST_SHOWN.min(complaint.wrote.len())],
+    );
     text.extend_from_slice(b"# it wrote: ")?;
     text.extend_from_slice(&shown)?;
     text.extend_from_slice(b"\n")
@@ -128,7 +135,10 @@ fn rule_of(complaint: &Complaint<'_>) -> &'static [u8] {
 
 /// The lines of what else there is to know.
 fn add_hints(text: &mut Vec<u8>, complaint: &Complaint<'_>) -> Result<(), AllocError> {
-    let more = complaint.talk.len().saturating_sub(complaint.answered.saturating_add(1));
+    let more = complaint
+        .talk
+        .len()
+        .saturating_sub(complaint.answered.saturating_add(1));
     if more > 0 && more <= 8 {
         text.extend_from_slice(b"# so many commands were sent after it, before the answer: ")?;
         text.extend_from_slice(&write_int(more as u32))?;

@@ -141,7 +141,11 @@ fn add_missed(text: &mut Vec<u8>, ending: &Ending<'_>) -> Result<(), AllocError>
             text.extend_from_slice(b"check: the engine was ")?;
             text.extend_from_slice(&line)?;
             text.extend_from_slice(b"\n")?;
-            add_lessons(text, ending.missed, b"not asked, or not to their end, for that:")
+            add_lessons(
+                text,
+                ending.missed,
+                b"not asked, or not to their end, for that:",
+            )
         }
     }
 }
