@@ -4,3 +4,4 @@ pub mod OneGame
 pub mod Wire
 pub mod Rightly
 pub mod Followed
+pub mod Shown

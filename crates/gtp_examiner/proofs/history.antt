@@ -4,7 +4,8 @@ pub mod Dues
 pub mod Known
 pub mod Boards
 pub mod Komis
-pub mod Idle
+pub mod Alone
+pub mod Ready
 pub mod Anew
 pub mod Refusals
 pub mod Lasts

@@ -1,5 +1,5 @@
 -- Laws of what an engine was asked and answered before a command may be asked.
-use Rattle.std.specs.Prelude.{◌≡◌, ℕ, ℤ, ◌<◌, ◌≤◌, ◌⊎◌, true, List, [], ◌∷◌, ◌++◌, codes}
+use Rattle.std.specs.Prelude.{◌≡◌, ℕ, ℤ, ◌<◌, ◌≤◌, ◌⊎◌, ◌↔◌, true, List, [], ◌∷◌, ◌++◌, length, codes}
 use Rattle.go_base.specs.declared.colours.Colour.{Colour}
 use Rattle.go_base.specs.declared.moves.Move.{Move}
 use Rattle.go_board.specs.Game.{HasRoom, IsFinished}
@@ -12,10 +12,14 @@ use Rattle.gtp_examiner.specs.declared.asking.Known.{Known}
 use Rattle.gtp_examiner.specs.declared.asking.Known.TheVariants as known
 use Rattle.gtp_examiner.specs.declared.asking.CheckCommand.{CheckCommand}
 use Rattle.gtp_examiner.specs.declared.asking.CheckCommand.TheVariants.{Match, FinalScore, Name, Version, KnownCommand}
+use Rattle.gtp_examiner.specs.declared.setups.Board.{Board}
+use Rattle.gtp_examiner.specs.declared.setups.Board.TheVariants.{Unknown, Cleared}
+use Rattle.gtp_examiner.specs.declared.skills.Skill.{Skill}
+use Rattle.gtp_examiner.specs.declared.skills.Skill.TheVariants.{Has, Lacks}
+use Rattle.gtp_examiner.specs.declared.skills.Skills.{Skills}
 use Rattle.gtp_examiner.specs.declared.unanswered.Asked.{Asked}
 use Rattle.gtp_examiner.specs.declared.exam.Exam.{Exam}
 use Rattle.gtp_examiner.specs.Exam.{HasRoomFor}
-use Rattle.gtp_examiner.specs.Check.{Check, Calls}
 use Rattle.gtp_examiner.specs.Laws.{Exchange, Talks, commands_of}
 
 -- ---- what an engine said that it knows
@@ -37,6 +41,28 @@ pub record IsKnown (said : List Exchange) (known : Known) : Type 0 where
   pub exchange : Exchange
   pub last : IsLast (λ one. one.entry.command ≡ KnownCommand known) exchange said
   pub says : ¬ SaysFalse exchange.reply
+
+-- The engine was asked by `known_command` whether it knows the command, and its last answer to that was `false`.
+pub record IsLacked (said : List Exchange) (known : Known) : Type 0 where
+  pub exchange : Exchange
+  pub last : IsLast (λ one. one.entry.command ≡ KnownCommand known) exchange said
+  pub says : SaysFalse exchange.reply
+
+-- The engine counts as one that has the command where it is known to know it, and as one that lacks it where it said
+-- so. Else it counts as not asked yet.
+pub record SkillIsSaid (said : List Exchange) (known : Known) (skill : Skill) : Type 0 where
+  pub has : (skill ≡ Has) ↔ IsKnown said known
+  pub lacks : (skill ≡ Lacks) ↔ IsLacked said known
+
+pub record AllSkillsAreSaid (said : List Exchange) (skills : Skills) : Type 0 where
+  pub handicaps : SkillIsSaid said known.FixedHandicap skills.fixed_handicap
+  pub undos : SkillIsSaid said known.Undo skills.undo
+  pub scores : SkillIsSaid said known.FinalScore skills.final_score
+
+-- What is known of the commands that an engine may be without is what it answered to each `known_command` last.
+abbrev pub SkillsAreWhatWasSaid : Type 0
+SkillsAreWhatWasSaid = (rule : KoRule) (sent came : List ℕ) (said : List Exchange) (exam : Exam)
+    → Talks rule sent came said exam → AllSkillsAreSaid said exam.skills
 
 -- what may be asked then only of an engine that knows it
 pub record OnlyKnownAreAsked (said : List Exchange) (exam : Exam) : Type 0 where
@@ -93,55 +119,75 @@ BoardsAreKnown = (rule : KoRule) (sent came : List ℕ) (said : List Exchange) (
     → Talks rule sent came said exam → HangsOnBoard command → HasRoomFor exam command
     → IsBoardKnown said exam.unanswered
 
+-- What is known of the board: nothing where the engine took no size, and all where it was asked to clear the board
+-- after the last size that it took. Else it is its size.
+pub record IsSaidOfBoard (said : List Exchange) (unanswered : List Asked) (board : Board) : Type 0 where
+  pub nothing : (board ≡ Unknown) ↔ ((since : List Asked) → ¬ SinceSize said since)
+  pub all : (board ≡ Cleared) ↔ ((since : List Asked) × SinceSize said since
+      × SomeAsked (λ command. command ≡ Match ClearBoard) (since ++ unanswered))
+
+abbrev pub BoardsAreWhatWasSaid : Type 0
+BoardsAreWhatWasSaid = (rule : KoRule) (sent came : List ℕ) (said : List Exchange) (exam : Exam)
+    → Talks rule sent came said exam → IsSaidOfBoard said exam.unanswered exam.board
+
 -- Wherever a `final_score` may be asked, a `komi` was asked since the engine's start.
 abbrev pub KomisAreSet : Type 0
 KomisAreSet = (rule : KoRule) (sent came : List ℕ) (said : List Exchange) (exam : Exam)
     → Talks rule sent came said exam → HasRoomFor exam FinalScore
     → (komi : ℤ) × SomeAsked (λ command. command ≡ Match (Komi komi)) (commands_of said ++ exam.unanswered)
 
+-- ---- what is asked alone
+
+-- what a `genmove` or a `boardsize` does to the game is the engine's to say
+pub data ChangesFreely : CheckCommand → Type 0 where
+  genmoves : (colour : Colour) → ChangesFreely (Match (Genmove colour))
+  sizes : (size : ℕ) → ChangesFreely (Match (Boardsize size))
+
+-- Such a command is asked only where nothing is unanswered, and nothing is asked before its answer.
+pub record SomeAreAskedAlone : Type 0 where
+  pub first : (exam : Exam) (command : CheckCommand) → ChangesFreely command → HasRoomFor exam command
+      → exam.unanswered ≡ []
+  pub later : (exam : Exam) (command : CheckCommand) → HasRoomFor exam command
+      → ¬ SomeAsked ChangesFreely exam.unanswered
+
 -- ---- what may always be asked
 
--- the engine is up, owes no answer, and there are ids left
-pub record IsIdle (exam : Exam) : Type 0 where
+-- The engine is up, owes fewer than eight answers, and none of them to a `genmove` or a `boardsize`; and there are ids
+-- left.
+pub record IsReady (exam : Exam) : Type 0 where
   pub up : exam.up ≡ true
-  pub owes : exam.unanswered ≡ []
+  pub few : length exam.unanswered < 8
+  pub settled : ¬ SomeAsked ChangesFreely exam.unanswered
   pub ids : exam.sent < 2147483647
 
--- These may be asked of every engine that is up and owes nothing, whatever was asked before.
+-- These may be asked of every engine that is ready, whatever was asked before. A `boardsize` where it owes nothing.
 pub record TheseMayBeAsked (exam : Exam) : Type 0 where
-  pub sizes : (size : ℕ) → HasRoomFor exam (Match (Boardsize size))
+  pub sizes : (size : ℕ) → exam.unanswered ≡ [] → HasRoomFor exam (Match (Boardsize size))
   pub komis : (komi : ℤ) → HasRoomFor exam (Match (Komi komi))
   pub clears : HasRoomFor exam (Match ClearBoard)
   pub names : HasRoomFor exam Name
   pub versions : HasRoomFor exam Version
   pub knows : (known : Known) → HasRoomFor exam (KnownCommand known)
 
-abbrev pub IdleEnginesMayBeAsked : Type 0
-IdleEnginesMayBeAsked = (exam : Exam) → IsIdle exam → TheseMayBeAsked exam
+abbrev pub ReadyEnginesMayBeAsked : Type 0
+ReadyEnginesMayBeAsked = (exam : Exam) → IsReady exam → TheseMayBeAsked exam
 
 -- And these may be asked of such an engine whose board is known. A `fixed_handicap`, an `undo` and a `final_score`
--- where its last answer says that it knows them; a `play` and a `genmove` where the record has room, but no `genmove`
--- after two passes. A `final_score` also needs a `komi` that was asked, and that nothing was played or placed. The
+-- where its last answer says that it knows them; a `play` and a `genmove` where the record has room, but a `genmove`
+-- only where the engine owes nothing, and not after two passes. A `final_score` also needs a `komi` that was asked, and that nothing was played or placed. The
 -- number of stones is an int.
 pub record TheseMayBeAskedToo (said : List Exchange) (exam : Exam) : Type 0 where
   pub handicaps : (stones : ℕ) → stones ≤ 2147483647 → IsKnown said known.FixedHandicap
       → HasRoomFor exam (Match (FixedHandicap stones))
   pub plays : (move : Move) → HasRoom exam.game → HasRoomFor exam (Match (Play move))
-  pub genmoves : (colour : Colour) → HasRoom exam.game → ¬ IsFinished exam.game
+  pub genmoves : (colour : Colour) → exam.unanswered ≡ [] → HasRoom exam.game → ¬ IsFinished exam.game
       → HasRoomFor exam (Match (Genmove colour))
   pub undos : IsKnown said known.Undo → HasRoomFor exam (Match Undo)
   pub scores : (komi : ℤ) → IsKnown said known.FinalScore
-      → SomeAsked (λ command. command ≡ Match (Komi komi)) (commands_of said)
+      → SomeAsked (λ command. command ≡ Match (Komi komi)) (commands_of said ++ exam.unanswered)
       → exam.game.moves ≡ [] → exam.game.handicap ≡ 0 → HasRoomFor exam FinalScore
 
 abbrev pub KnownEnginesMayBeAsked : Type 0
 KnownEnginesMayBeAsked = (rule : KoRule) (sent came : List ℕ) (said : List Exchange) (exam : Exam)
-    → Talks rule sent came said exam → IsIdle exam → IsBoardKnown said [] → TheseMayBeAskedToo said exam
-
--- ---- each start begins anew
-
--- An engine that is up is in a talk since its own start: nothing is kept of one before it.
-abbrev pub EachStartBeginsAnew : Type 0
-EachStartBeginsAnew = (rule : KoRule) (most count : ℕ) (check : Check)
-    → Calls rule most count check → check.exam.up ≡ true
-    → (sent came : List ℕ) × (said : List Exchange) × Talks rule sent came said check.exam
+    → Talks rule sent came said exam → IsReady exam → IsBoardKnown said exam.unanswered
+    → TheseMayBeAskedToo said exam

@@ -4,7 +4,7 @@ use Rattle.std.specs.Prelude.{IfSome, Result, Ok, Err, ◌+◌, ◌⊎◌}
 use Rattle.go_base.specs.Size.{IsSize}
 use Rattle.go_base.specs.Handicap.{handicap_points}
 use Rattle.go_base.specs.declared.choices.Choice.{Choice}
-use Rattle.go_board.specs.Game.{GameRecord, HasRoom, IsLegal}
+use Rattle.go_board.specs.Game.{GameRecord, HasRoom, IsLegal, with_move}
 use Rattle.go_board.specs.declared.faults.PlayFault.{PlayFault}
 use Rattle.go_base.specs.declared.moves.Move.{Move}
 use Rattle.gtp_wire.specs.Lines.{lines}
@@ -29,7 +29,7 @@ use Rattle.gtp_session.specs.Engine.{Engine, Engages, fresh_under, fresh_game_un
 use Rattle.gtp_examiner.specs.declared.unanswered.Asked.{Asked}
 use Rattle.gtp_examiner.specs.declared.dues.Due.{Due}
 use Rattle.gtp_examiner.specs.declared.dues.Cause.TheVariants.{BadMove}
-use Rattle.gtp_examiner.specs.declared.dues.Due.TheVariants.{Fails, Places, Scores, Chooses}
+use Rattle.gtp_examiner.specs.declared.dues.Due.TheVariants.{Succeeds, Fails, Places, Scores, Chooses}
 use Rattle.gtp_examiner.specs.declared.judging.Kind.{Kind}
 use Rattle.gtp_examiner.specs.declared.judging.Kind.TheVariants.{Refused, Took, OtherPoints, NoMove, NoVertex}
 use Rattle.gtp_examiner.specs.declared.judging.Kind.TheVariants.{Unlawful, NoScore, OtherScore, WrongId, Unasked}
@@ -41,8 +41,6 @@ use Rattle.go_board.specs.Refusals.{RefusesVertex}
 use Rattle.gtp_examiner.specs.declared.exam.Exam.{Exam}
 use Rattle.gtp_examiner.specs.declared.exam.Finding.{Finding}
 use Rattle.gtp_wire.specs.ReplyWords.{choice_of_text, names_points}
-use Rattle.gtp_examiner.specs.declared.skills.Skills.{Skills}
-use Rattle.gtp_examiner.specs.Skills.{learned, none_asked}
 use Rattle.gtp_examiner.specs.Dues.{IsDue, after_due}
 use Rattle.gtp_examiner.specs.Judging.{oldest}
 use Rattle.gtp_examiner.specs.Exam.{begun, Asks, Hears, HasRoomFor, IsOrderly}
@@ -229,9 +227,11 @@ abbrev pub FaultIsNamed : ReplyFault → Kind → Type 0
 FaultIsNamed fault.NoStatus kind = kind ≡ NoStatus
 FaultIsNamed fault.Overlong kind = kind ≡ Overlong
 
--- the same of what was read: a fault of the reader is named, and so is a reply where nothing was unanswered
+-- The same of what was read: a fault of the reader is named, and so is a reply where nothing was unanswered. Of a reply
+-- with a missing or another id nothing else is said: it is no reply to the command.
 abbrev pub GivesKind : GameRecord → Option Asked → Option (Result Reply ReplyFault) → Kind → Type 0
-GivesKind before (Some entry) (Some (Ok reply)) kind = KindIsTrue before entry reply kind
+GivesKind before (Some entry) (Some (Ok reply)) kind =
+    KindIsTrue before entry reply kind × (kind ≢ WrongId → reply.id ≡ Some entry.id)
 GivesKind before None (Some (Ok reply)) kind = kind ≡ Unasked
 GivesKind before (Some entry) (Some (Err shown)) kind = FaultIsNamed shown kind
 GivesKind before None (Some (Err shown)) kind = FaultIsNamed shown kind
@@ -270,19 +270,6 @@ RightAnswersLeaveOneGame = (rule : KoRule) (sent came : List ℕ) (said : List E
     (one other : GameRecord) → Talks rule sent came said exam
     → AllRight (fresh_game_under rule) said one → AllRight (fresh_game_under rule) said other → one ≡ other
 
--- ---- what an engine said of itself
-
--- what is known once these commands were answered so
-abbrev pub skills_after : Skills → List Exchange → Skills
-skills_after skills [] = skills
-skills_after skills (exchange ∷ later) =
-    skills_after (learned skills exchange.entry.command exchange.reply) later
-
--- What is known of the commands that an engine may be without is what it answered to each `known_command` last.
-abbrev pub SkillsAreWhatWasSaid : Type 0
-SkillsAreWhatWasSaid = (rule : KoRule) (sent came : List ℕ) (said : List Exchange) (exam : Exam)
-    → Talks rule sent came said exam → exam.skills ≡ skills_after none_asked said
-
 -- ---- what is asked
 
 -- What is written of a command that is asked is one line, with its id and its words, whatever follows it.
@@ -290,6 +277,13 @@ abbrev pub AskedCommandsAreLines : Type 0
 AskedCommandsAreLines = (old new : Exam) (command : CheckCommand) (later : List ℕ)
     → HasRoomFor old command → Asks old command new
     → lines (written_check new.sent command ++ later) ≡ line_of_check new.sent command ∷ lines later
+
+-- The move is legal in the game. Its success is due, and a right engine has made it by then.
+pub record IsPlayed (old : Exam) (move : Move) (new : Exam) : Type 0 where
+  pub legal : IsLegal old.game move.colour move.vertex
+  pub asked : new.unanswered ≡ old.unanswered
+      ++ record { id = old.sent + 1; command = Match (Play move); due = Succeeds } ∷ []
+  pub goes_on : new.game ≡ with_move old.game move.colour move.vertex
 
 -- A probe: the move breaks this rule in the game, so that a right engine has to refuse it. Its failure is due, for
 -- that rule, and the game stays.
@@ -300,12 +294,12 @@ pub record IsProbe (old : Exam) (move : Move) (new : Exam) : Type 0 where
       ++ record { id = old.sent + 1; command = Match (Play move); due = Fails (BadMove fault) } ∷ []
   pub stays : new.game ≡ old.game
 
--- A `play` is asked only where the record has room. It is legal in the game that a right engine has by then, and a
--- success is due; or it is a probe.
+-- A `play` is asked only where the record has room. It is legal in the game that a right engine has by then, or it is a
+-- probe.
 abbrev pub PlaysAreLegalOrProbes : Type 0
 PlaysAreLegalOrProbes = (old new : Exam) (move : Move)
     → HasRoomFor old (Match (Play move)) → Asks old (Match (Play move)) new
-    → HasRoom old.game × (IsLegal old.game move.colour move.vertex ⊎ IsProbe old move new)
+    → HasRoom old.game × (IsPlayed old move new ⊎ IsProbe old move new)
 
 -- ---- no right engine is blamed
 

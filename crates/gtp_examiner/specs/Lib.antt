@@ -10,3 +10,4 @@ pub mod Laws
 pub mod StepLaws
 pub mod AnswerLaws
 pub mod HistoryLaws
+pub mod ConversationLaws

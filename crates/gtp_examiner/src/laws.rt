@@ -1,13 +1,15 @@
 //! Laws of the examiner. Each is the contract of a function that does nothing.
 ghost use Rattle.gtp_examiner.specs.Laws.{SilenceSaysAllIsRight, FindingsAreJustified, RightAnswersHaveNoFinding};
-ghost use Rattle.gtp_examiner.specs.Laws.{RightAnswersLeaveOneGame, SkillsAreWhatWasSaid, AskedCommandsAreLines};
+ghost use Rattle.gtp_examiner.specs.Laws.{RightAnswersLeaveOneGame, AskedCommandsAreLines};
 ghost use Rattle.gtp_examiner.specs.Laws.{PlaysAreLegalOrProbes};
 ghost use Rattle.gtp_examiner.specs.Laws.{ScoresAreKomiAlone, WhoAnswersRightlyIsNotBlamed, NoRightEngineIsBlamed};
 ghost use Rattle.gtp_examiner.specs.Laws.{WhatIsReadIsAnswerOrFound};
 ghost use Rattle.gtp_examiner.specs.Check.{EveryCheckIsBounded, UpIsBetween};
-ghost use Rattle.gtp_examiner.specs.HistoryLaws.{WhatIsAskedIsKnown, BoardsAreKnown, KomisAreSet};
-ghost use Rattle.gtp_examiner.specs.HistoryLaws.{IdleEnginesMayBeAsked, KnownEnginesMayBeAsked};
-ghost use Rattle.gtp_examiner.specs.HistoryLaws.{EachStartBeginsAnew};
+ghost use Rattle.gtp_examiner.specs.HistoryLaws.{SkillsAreWhatWasSaid, WhatIsAskedIsKnown, BoardsAreWhatWasSaid};
+ghost use Rattle.gtp_examiner.specs.HistoryLaws.{BoardsAreKnown, KomisAreSet, SomeAreAskedAlone};
+ghost use Rattle.gtp_examiner.specs.HistoryLaws.{ReadyEnginesMayBeAsked, KnownEnginesMayBeAsked};
+ghost use Rattle.gtp_examiner.specs.ConversationLaws.{EachStartBeginsAnew, ConversationsShowFindings};
+ghost use Rattle.gtp_examiner.specs.ConversationLaws.{NoRightEngineWroteIt};
 ghost use Rattle.gtp_examiner.specs.AnswerLaws.{ScoresAreRead, RefusedSizesAreReported};
 ghost use Rattle.gtp_examiner.specs.StepLaws.{NoneAfterTheEnd, HandicapsArePlacedOrProbes, RightAnswersAreReported};
 
@@ -25,6 +27,16 @@ pub fn findings_are_justified()
     ensures { FindingsAreJustified }
 {}
 
+/// The bytes that were asked and heard show a finding: whoever was asked them and answers rightly writes something else.
+pub fn conversations_show_findings()
+    ensures { ConversationsShowFindings }
+{}
+
+/// No engine that is given the bytes that were asked writes what was found wrong, whatever its policy chooses.
+pub fn no_right_engine_wrote_it<P: Policy>()
+    ensures { NoRightEngineWroteIt P.may }
+{}
+
 /// A right answer has no finding.
 pub fn right_answers_have_no_finding()
     ensures { RightAnswersHaveNoFinding }
@@ -35,7 +47,8 @@ pub fn right_answers_leave_one_game()
     ensures { RightAnswersLeaveOneGame }
 {}
 
-/// What is known of the commands that an engine may be without is what it said itself.
+/// What is known of the commands that an engine may be without is what it said itself, last: it has a command, or it
+/// lacks it.
 pub fn skills_are_what_was_said()
     ensures { SkillsAreWhatWasSaid }
 {}
@@ -44,6 +57,11 @@ pub fn skills_are_what_was_said()
 /// and whose last answer to that wasn't `false`.
 pub fn what_is_asked_is_known()
     ensures { WhatIsAskedIsKnown }
+{}
+
+/// What is known of an engine's board is what it was asked and took.
+pub fn boards_are_what_was_said()
+    ensures { BoardsAreWhatWasSaid }
 {}
 
 /// A command whose answer hangs on the board may be asked only of an engine that took a size, was asked to clear the
@@ -57,19 +75,26 @@ pub fn komis_are_set()
     ensures { KomisAreSet }
 {}
 
-/// Of an engine that is up and owes nothing a `boardsize`, a `komi`, a `clear_board`, a `name`, a `version` and a
-/// `known_command` may be asked, as long as there are ids.
-pub fn idle_engines_may_be_asked()
-    ensures { IdleEnginesMayBeAsked }
+/// A `genmove` and a `boardsize` are asked alone: only where nothing is unanswered, and nothing before their answer.
+pub fn some_are_asked_alone()
+    ensures { SomeAreAskedAlone }
 {}
 
-/// Of an engine that is up and owes nothing and whose board is known, also what hangs on the board may be asked: a
-/// `fixed_handicap`, an `undo` and a `final_score` where it is known to know them, a score where a `komi` was asked.
+/// Of an engine that is up, owes fewer than eight answers and none to a `genmove` or a `boardsize`, a `komi`, a
+/// `clear_board`, a `name`, a `version` and a `known_command` may be asked, as long as there are ids; and a `boardsize`
+/// where it owes nothing.
+pub fn ready_engines_may_be_asked()
+    ensures { ReadyEnginesMayBeAsked }
+{}
+
+/// Where the board of such an engine is known, also what hangs on it may be asked: a `fixed_handicap`, an `undo` and a
+/// `final_score` where it is known to know them, a score where a `komi` was asked.
 pub fn known_engines_may_be_asked()
     ensures { KnownEnginesMayBeAsked }
 {}
 
-/// An engine that is up is in a talk since its own start, so nothing is kept of one before it.
+/// An engine that is up is in the talk of what was asked and heard since its own start, so nothing is kept of one before
+/// it.
 pub fn each_start_begins_anew()
     ensures { EachStartBeginsAnew }
 {}

@@ -45,7 +45,7 @@ pub nothing_first : (n : ℕ) (read : Result Reply ReplyFault) → IsFirst [] n 
 nothing_first n read first =
     nothing_given read (subst (λ (t : List ℕ). GivesAnswer t read) (none_taken n) first.is_given)
 
-entries_are : (said : List Exchange) → commands_of said ≡ map entry_of said
+pub entries_are : (said : List Exchange) → commands_of said ≡ map entry_of said
 entries_are [] = refl
 entries_are (x ∷ xs) = ap (λ (l : List Asked). x.entry ∷ l) (entries_are xs)
 

@@ -54,7 +54,7 @@ goes game id (Match (Genmove colour)) may = refl
 goes game id (Match Undo) may = refl
 goes game id (Match Quit) may = absurd may
 
-abbrev bytes_of : List Asked → List ℕ
+abbrev pub bytes_of : List Asked → List ℕ
 bytes_of [] = []
 bytes_of (entry ∷ later) = written_check entry.id entry.command ++ bytes_of later
 

@@ -1,5 +1,5 @@
 -- An engine that is up is in a talk since its start.
-use Rattle.std.proofs.Common.{◌≡◌, ℕ, Bool, true, false, List, [], ◌++◌, take, Option, Some, None, refl, sym, ◌∙◌}
+use Rattle.std.proofs.Common.{◌≡◌, ℕ, Bool, true, false, List, [], Option, Some, None, refl, sym, ◌∙◌}
 use Rattle.std.proofs.Common.{ap, subst}
 use Rattle.std.specs.Prelude.{Result, Ok, Err}
 use Rattle.go_board.specs.Game.{GameRecord}
@@ -20,14 +20,12 @@ use Rattle.gtp_examiner.specs.declared.judging.Judgement.TheVariants.{Right, Pla
 use Rattle.gtp_examiner.specs.declared.unanswered.Asked.{Asked}
 use Rattle.gtp_examiner.specs.declared.exam.Exam.{Exam}
 use Rattle.gtp_examiner.specs.declared.exam.Finding.{Finding}
-use Rattle.gtp_examiner.specs.Asking.{written_check}
 use Rattle.gtp_examiner.specs.Dues.{after_check, after_due}
 use Rattle.gtp_examiner.specs.Judging.{oldest, has_id}
-use Rattle.gtp_examiner.specs.Exam.{begun, Hears, Leaves, ReplyLeaves, IdLeaves, after_judged, with_learned, with_rest}
-use Rattle.gtp_examiner.specs.Check.{Check, Calls}
-use Rattle.gtp_examiner.specs.Laws.{Exchange, exchanged, Talks}
-use Rattle.gtp_examiner.specs.HistoryLaws.{EachStartBeginsAnew}
-use Rattle.gtp_examiner.proofs.history.Heard.{heard_leaving, leaving_up}
+use Rattle.gtp_examiner.specs.Exam.{begun, Leaves, ReplyLeaves, IdLeaves, after_judged, with_learned, with_rest}
+use Rattle.gtp_examiner.specs.Check.{Check}
+use Rattle.gtp_examiner.specs.Laws.{Exchange, Talks}
+use Rattle.gtp_examiner.specs.ConversationLaws.{Histories, EachStartBeginsAnew}
 use Rattle.gtp_examiner.proofs.talks.Found.{leaves_down}
 
 -- ---- the ko rule is the same from the first start on
@@ -81,51 +79,40 @@ leaves_rule exam None finding new h = ap (λ (e : Exam). e.game.rule) h.1
 leaves_rule exam (Some (Err shown)) finding new h = ap (λ (e : Exam). e.game.rule) h.1
 leaves_rule exam (Some (Ok reply)) finding new h = reply_rule exam (oldest exam.unanswered) reply finding new h
 
-one_rule : (rule : KoRule) (most count : ℕ) (check : Check) → Calls rule most count check
-    → check.exam.game.rule ≡ rule
-one_rule rule most count check Calls.opened = refl
-one_rule rule most count check (Calls.start {count = n} {old = old} calls room) = one_rule rule most n old calls
-one_rule rule most count check (Calls.ask {count = n} {old = old} {new = new} command calls room asks) =
+one_rule : (rule : KoRule) (most : ℕ) (sent came : List ℕ) (said : List Exchange) (check : Check)
+    → Histories rule most sent came said check → check.exam.game.rule ≡ rule
+one_rule rule most sent came said check Histories.opened = refl
+one_rule rule most sent came said check (Histories.start {sent = s} {came = c} {said = x} {old = old} calls room) =
+    one_rule rule most s c x old calls
+one_rule rule most sent came said check
+    (Histories.ask {sent = s} {came = c} {said = x} {old = old} {new = new} command calls room asks) =
     ap (λ (e : Exam). e.game.rule) asks.new_is ∙ due_rule old.exam.game command asks.due
-    ∙ one_rule rule most n old calls
-one_rule rule most count check (Calls.hear {count = n} {old = old} {new = new} bytes used read finding calls hears) =
-    leaves_rule (with_rest old.exam hears.0) read finding new hears.2 ∙ one_rule rule most n old calls
-one_rule rule most count check (Calls.lost {count = n} {old = old} calls) = one_rule rule most n old calls
+    ∙ one_rule rule most s c x old calls
+one_rule rule most sent came said check
+    (Histories.hear {sent = s} {came = c} {said = x} {old = old} {new = new} bytes used read calls up hears) =
+    leaves_rule (with_rest old.exam hears.0) read None new hears.2 ∙ one_rule rule most s c x old calls
+one_rule rule most sent came said check
+    (Histories.find {sent = s} {came = c} {said = x} {old = old} {new = new} bytes used read finding calls up hears) =
+    leaves_rule (with_rest old.exam hears.0) read (Some finding) new hears.2 ∙ one_rule rule most s c x old calls
+one_rule rule most sent came said check (Histories.lost {sent = s} {came = c} {said = x} {old = old} calls) =
+    one_rule rule most s c x old calls
 
 -- ---- talks
 
-abbrev IsInTalk : KoRule → Exam → Type 0
-IsInTalk rule exam = (sent came : List ℕ) × (said : List Exchange) × Talks rule sent came said exam
-
-heard_talk : (rule : KoRule) (old : Exam) (bytes : List ℕ) (used : ℕ) (read : Option (Result Reply ReplyFault))
-    (finding : Option Finding) (new : Exam) → (old.up ≡ true → IsInTalk rule old)
-    → Hears old bytes used read finding new
-    → new.up ≡ true → IsInTalk rule new
-heard_talk rule old bytes used read (Some finding) new talk hears up =
-    absurd (let e : true ≡ false = sym up ∙ leaves_down (with_rest old hears.0) read finding new hears.2 in cc e)
-heard_talk rule old bytes used read None new talk hears up =
-    let was : old.up ≡ true =
-    leaving_up old [] new ([] ++ exchanged (oldest old.unanswered) read)
-    (heard_leaving old bytes used read new [] hears) up in
-    let t : IsInTalk rule old = talk was in (
-      t.0,
-      t.1 ++ take used bytes,
-      t.2 ++ exchanged (oldest old.unanswered) read,
-      Talks.hear bytes used read t.3 hears,
-    )
-
 pub begins_anew : EachStartBeginsAnew
-begins_anew rule most count check Calls.opened up = absurd (cc up)
-begins_anew rule most count check (Calls.start {count = n} {old = old} calls room) up = (
-  [],
-  [],
-  [],
-  subst (λ (r : KoRule). Talks rule [] [] [] (begun r true)) (sym (one_rule rule most n old calls)) Talks.start,
-)
-begins_anew rule most count check (Calls.ask {count = n} {old = old} {new = new} command calls room asks) up =
-    let t : IsInTalk rule old.exam = begins_anew rule most n old calls room.up in
-    (t.0 ++ written_check new.sent command, t.1, t.2, Talks.ask command t.3 room asks)
-begins_anew rule most count check (Calls.hear {count = n} {old = old} {new = new} bytes used read finding calls
-    hears) up =
-    heard_talk rule old.exam bytes used read finding new (begins_anew rule most n old calls) hears up
-begins_anew rule most count check (Calls.lost {count = n} {old = old} calls) up = absurd (cc up)
+begins_anew rule most sent came said check Histories.opened up = absurd (cc up)
+begins_anew rule most sent came said check
+    (Histories.start {sent = s} {came = c} {said = x} {old = old} calls room) up =
+    subst (λ (r : KoRule). Talks rule [] [] [] (begun r true)) (sym (one_rule rule most s c x old calls)) Talks.start
+begins_anew rule most sent came said check
+    (Histories.ask {sent = s} {came = c} {said = x} {old = old} {new = new} command calls room asks) up =
+    Talks.ask command (begins_anew rule most s c x old calls room.up) room asks
+begins_anew rule most sent came said check
+    (Histories.hear {sent = s} {came = c} {said = x} {old = old} {new = new} bytes used read calls was hears) up =
+    Talks.hear bytes used read (begins_anew rule most s c x old calls was) hears
+begins_anew rule most sent came said check
+    (Histories.find {sent = s} {came = c} {said = x} {old = old} {new = new} bytes used read finding calls was hears)
+    up =
+    absurd (let e : true ≡ false = sym up ∙ leaves_down (with_rest old.exam hears.0) read finding new hears.2 in cc e)
+begins_anew rule most sent came said check (Histories.lost {sent = s} {came = c} {said = x} {old = old} calls) up =
+    absurd (cc up)

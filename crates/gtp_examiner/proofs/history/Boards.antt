@@ -60,7 +60,7 @@ clear_is (KnownCommand known) e = absurd (cc e)
 
 -- ---- what is known of the board
 
-abbrev BoardSo : List Exchange → List Asked → Board → Type 0
+abbrev pub BoardSo : List Exchange → List Asked → Board → Type 0
 BoardSo said unanswered Unknown = Unit {0}
 BoardSo said unanswered Sized = (since : List Asked) × SinceSize said since
 BoardSo said unanswered Cleared =
@@ -163,7 +163,7 @@ takes_one ahead entry reply size asked j =
 
 -- ---- talks
 
-abbrev BoardOf : List Exchange → Exam → Type 0
+abbrev pub BoardOf : List Exchange → Exam → Type 0
 BoardOf said exam = BoardSo said exam.unanswered exam.board
 
 judged_board : (old : Exam) (said : List Exchange) (entry : Asked) (later : List Asked)
@@ -201,7 +201,7 @@ heard_board old said new all asked so (Leaving.answered rest entry later reply g
     (subst (λ (l : List Asked). IfSome (oldest l) IsDueOnce) list asked) list
     (subst (λ (l : List Asked). BoardSo said l old.board) list so) j none rest is
 
-board_so : (rule : KoRule) (sent came : List ℕ) (said : List Exchange) (exam : Exam)
+pub board_so : (rule : KoRule) (sent came : List ℕ) (said : List Exchange) (exam : Exam)
     → Talks rule sent came said exam → BoardOf said exam
 board_so rule sent came said exam Talks.start = tt
 board_so rule sent came said exam (Talks.ask {sent = s} {came = c} {said = x} {old = old} {new = new} command talk

@@ -1,135 +1,36 @@
 -- Where what has to be known is known a command may be asked.
-use Rattle.std.proofs.Common.{◌≡◌, ℕ, ◌+◌, Bool, true, false, List, [], ◌∷◌, ◌++◌, None, length, refl, sym}
-use Rattle.std.proofs.Common.{◌<◌, ◌∙◌, ap, subst, arith, append_assoc, inl, inr}
-use Rattle.std.proofs.lemmas.List.{append-nil}
-use Rattle.std.specs.Prelude.{◌⊎◌, ◌||◌, ℤ, IfSome, codes, drop, if◌then◌else◌}
-use Rattle.std.specs.Str.{bytes_eq}
-use Rattle.std.proofs.lemmas.Slice.Eq.{bytes_eq-Decides}
+use Rattle.std.proofs.Common.{◌≡◌, ℕ, ◌+◌, Bool, true, false, List, [], ◌∷◌, ◌++◌, None, refl, sym}
+use Rattle.std.proofs.Common.{◌∙◌, ap, subst, append_assoc, inl, inr}
+use Rattle.std.specs.Prelude.{◌⊎◌, ◌||◌, ℤ, IfSome, drop}
 use Rattle.go_board.specs.declared.rules.KoRule.{KoRule}
 use Rattle.gtp_wire.specs.declared.commands.Command.TheVariants.{Komi, FixedHandicap, Play}
 use Rattle.gtp_wire.specs.declared.commands.Command.TheVariants.{Genmove, Undo}
 use Rattle.gtp_wire.specs.declared.replies.Reply.{Reply}
-use Rattle.gtp_wire.specs.Words.{reply_words}
-use Rattle.gtp_examiner.specs.declared.asking.Known.{Known}
-use Rattle.gtp_examiner.specs.declared.asking.Known.TheVariants as known
 use Rattle.gtp_examiner.specs.declared.asking.CheckCommand.{CheckCommand}
-use Rattle.gtp_examiner.specs.declared.asking.CheckCommand.TheVariants.{Match, FinalScore, Name, Version, KnownCommand}
+use Rattle.gtp_examiner.specs.declared.asking.CheckCommand.TheVariants.{Match, FinalScore}
 use Rattle.gtp_examiner.specs.declared.judging.Judgement.{Judgement}
 use Rattle.gtp_examiner.specs.declared.judging.Judgement.TheVariants.{Right, Plays, Resized, Wrong}
 use Rattle.gtp_examiner.specs.declared.setups.Board.{Board}
 use Rattle.gtp_examiner.specs.declared.setups.Board.TheVariants.{Unknown, Sized, Cleared}
-use Rattle.gtp_examiner.specs.declared.skills.Skill.TheVariants.{Has, Lacks}
-use Rattle.gtp_examiner.specs.declared.skills.Skills.{Skills}
 use Rattle.gtp_examiner.specs.declared.unanswered.Asked.{Asked}
 use Rattle.gtp_examiner.specs.declared.exam.Exam.{Exam}
-use Rattle.gtp_examiner.specs.Setups.{is_clear_board, board_after, is_komi, needs_board, is_final_score}
-use Rattle.gtp_examiner.specs.Skills.{learned, needed_skill, said_of, said_skill, are_false}
-use Rattle.gtp_examiner.specs.Dues.{MayBeAsked}
-use Rattle.gtp_examiner.specs.Judging.{oldest, awaits, Judged, most_unanswered}
-use Rattle.gtp_examiner.specs.Exam.{HasRoomFor, after_judged, finding_of, with_learned, with_rest}
+use Rattle.gtp_examiner.specs.Setups.{is_clear_board, board_after, is_komi}
+use Rattle.gtp_examiner.specs.Judging.{oldest, Judged}
+use Rattle.gtp_examiner.specs.Exam.{after_judged, finding_of, with_learned, with_rest}
 use Rattle.gtp_examiner.specs.Exam.{AreOrderly, IsOrderly}
 use Rattle.gtp_examiner.specs.Laws.{Exchange, Talks, commands_of}
-use Rattle.gtp_examiner.specs.HistoryLaws.{SaysFalse, IsLast, IsKnown, SomeAsked, TakesSize, SinceSize}
-use Rattle.gtp_examiner.specs.HistoryLaws.{IsIdle, KnownEnginesMayBeAsked}
-use Rattle.gtp_examiner.proofs.history.Boards.{IsClear, takes_none, takes_one}
+use Rattle.gtp_examiner.specs.HistoryLaws.{SomeAsked, TakesSize, SinceSize, BoardsAreWhatWasSaid}
+use Rattle.gtp_examiner.specs.HistoryLaws.{KnownEnginesMayBeAsked}
+use Rattle.gtp_examiner.proofs.history.Boards.{IsClear, BoardSo, BoardOf, board_so, takes_none, takes_one}
 use Rattle.gtp_examiner.proofs.history.Dues.{IsDueOnce, oldest_due, talk_orderly}
 use Rattle.gtp_examiner.proofs.history.Heard.{Leaving, heard_leaving}
 use Rattle.gtp_examiner.proofs.history.Komis.{commands_more}
-use Rattle.gtp_examiner.proofs.history.Lasts.{no_last, last_cases, no_since, since_cases}
+use Rattle.gtp_examiner.proofs.history.Known.{skills_said}
+use Rattle.gtp_examiner.proofs.history.Lasts.{no_since, since_cases}
+use Rattle.gtp_examiner.proofs.history.Ready.{room_of}
 use Rattle.gtp_examiner.proofs.order.Asked.{or_true}
 use Rattle.gtp_examiner.proofs.order.Heard.{resized_awaited, resized_due}
 use Rattle.gtp_examiner.proofs.talks.Silence.{none_later}
-use Rattle.gtp_examiner.proofs.talks.Skills.{judged_skills}
-
--- ---- what an engine knows
-
-abbrev HadSo : List Exchange → Skills → Type 0
-HadSo said skills = (known : Known) → IsKnown said known → said_of skills known ≡ Has
-
-not_false : (words : List (List ℕ)) → (words ≡ codes "false" ∷ [] → ⊥) → are_false words ≡ false
-not_false [] other = refl
-not_false (word ∷ []) other = is (bytes_eq word (codes "false")) refl
-  where
-    is : (b : Bool) → bytes_eq word (codes "false") ≡ b → bytes_eq word (codes "false") ≡ false
-    is false e = e
-    is true e =
-        absurd (other (ap (λ (w : List ℕ). w ∷ []) (let same : word ≡ codes "false" =
-        (bytes_eq-Decides word (codes "false")).0 e in same)))
-not_false (word ∷ more ∷ words) other = refl
-
-had_by : (words : List (List ℕ)) → (words ≡ codes "false" ∷ [] → ⊥)
-    → (if are_false words then Lacks else Has) ≡ Has
-had_by words other = rw (not_false words other) refl
-
-said_had : (ok : Bool) (text : List ℕ) → (ok ≡ true → reply_words text ≡ codes "false" ∷ [] → ⊥)
-    → said_skill ok text ≡ Has
-said_had false text other = refl
-said_had true text other = had_by (reply_words text) (other refl)
-
-new_had : (skills : Skills) (reply : Reply) (known : Known) → said_skill reply.ok reply.text.items ≡ Has
-    → said_of (learned skills (KnownCommand known) reply) known ≡ Has
-new_had skills reply known.FixedHandicap h = h
-new_had skills reply known.Undo h = h
-new_had skills reply known.FinalScore h = h
-
-other_had : (skills : Skills) (reply : Reply) (asked known : Known) → (KnownCommand asked ≡ KnownCommand known → ⊥)
-    → said_of (learned skills (KnownCommand asked) reply) known ≡ said_of skills known
-other_had skills reply known.FixedHandicap known.FixedHandicap other = absurd (other refl)
-other_had skills reply known.Undo known.Undo other = absurd (other refl)
-other_had skills reply known.FinalScore known.FinalScore other = absurd (other refl)
-other_had skills reply known.FixedHandicap known.Undo other = refl
-other_had skills reply known.FixedHandicap known.FinalScore other = refl
-other_had skills reply known.Undo known.FixedHandicap other = refl
-other_had skills reply known.Undo known.FinalScore other = refl
-other_had skills reply known.FinalScore known.FixedHandicap other = refl
-other_had skills reply known.FinalScore known.Undo other = refl
-
-same_had : (skills : Skills) (command : CheckCommand) (reply : Reply) (known : Known)
-    → (command ≡ KnownCommand known → ⊥) → said_of (learned skills command reply) known ≡ said_of skills known
-same_had skills (KnownCommand asked) reply known other = other_had skills reply asked known other
-same_had skills (Match command) reply known other = refl
-same_had skills FinalScore reply known other = refl
-same_had skills Name reply known other = refl
-same_had skills Version reply known other = refl
-
-learned_had : (said : List Exchange) (skills : Skills) (entry : Asked) (reply : Reply) → HadSo said skills
-    → HadSo (said ++ record { entry = entry; reply = reply } ∷ []) (learned skills entry.command reply)
-learned_had said skills entry reply so known k =
-    by (last_cases (λ (one : Exchange). one.entry.command ≡ KnownCommand known) k.exchange
-    (said ++ record { entry = entry; reply = reply } ∷ []) said (record { entry = entry; reply = reply }) k.last refl)
-  where
-    by : ((k.exchange ≡ record { entry = entry; reply = reply }) × (entry.command ≡ KnownCommand known))
-        ⊎ ((entry.command ≡ KnownCommand known → ⊥)
-        × IsLast (λ (one : Exchange). one.entry.command ≡ KnownCommand known) k.exchange said)
-        → said_of (learned skills entry.command reply) known ≡ Has
-    by (inl (same, is)) =
-        ap (λ (c : CheckCommand). said_of (learned skills c reply) known) is
-        ∙ new_had skills reply known
-        (said_had reply.ok reply.text.items
-        (λ ok word. subst (λ (x : Exchange). SaysFalse x.reply → ⊥) same k.says
-        (record { succeeds = ok; word = word })))
-    by (inr (other, last)) =
-        same_had skills entry.command reply known other
-        ∙ so known (record { exchange = k.exchange; last = last; says = k.says })
-
-heard_had : (old : Exam) (said : List Exchange) (new : Exam) (all : List Exchange) → HadSo said old.skills
-    → Leaving old said new all → HadSo all new.skills
-heard_had old said new all so (Leaving.nothing kept) = subst (HadSo said) (sym kept.skills) so
-heard_had old said new all so (Leaving.answered rest entry later reply got list j none is) =
-    subst (HadSo (said ++ record { entry = entry; reply = reply } ∷ []))
-    (sym (judged_skills (with_learned (with_rest old rest) entry.command reply) entry got new none is))
-    (learned_had said old.skills entry reply so)
-
-had_so : (rule : KoRule) (sent came : List ℕ) (said : List Exchange) (exam : Exam)
-    → Talks rule sent came said exam → HadSo said exam.skills
-had_so rule sent came said exam Talks.start =
-    λ known k. absurd (no_last (λ (one : Exchange). one.entry.command ≡ KnownCommand known) k.exchange [] k.last refl)
-had_so rule sent came said exam (Talks.ask {sent = s} {came = c} {said = x} {old = old} {new = new} command talk room
-    asks) =
-    subst (HadSo said) (sym (ap (λ (e : Exam). e.skills) asks.new_is)) (had_so rule s came said old talk)
-had_so rule sent came said exam (Talks.hear {sent = s} {came = c} {said = x} {old = old} {new = new} bytes used read
-    talk hears) =
-    heard_had old x exam said (had_so rule sent c x old talk) (heard_leaving old bytes used read exam x hears)
 
 -- ---- the board
 
@@ -343,45 +244,47 @@ set_so rule sent came said exam (Talks.hear {sent = s} {came = c} {said = x} {ol
     talk hears) =
     heard_set old x exam said (set_so rule sent c x old talk) (heard_leaving old bytes used read exam x hears)
 
+-- ---- what is known of the board
+
+size_known : (said : List Exchange) (unanswered : List Asked) (board : Board) → BoardSo said unanswered board
+    → ((since : List Asked) → SinceSize said since → ⊥) → board ≡ Unknown
+size_known said unanswered Unknown so none = refl
+size_known said unanswered Sized so none = absurd (none so.0 so.1)
+size_known said unanswered Cleared so none = absurd (none so.0 so.1)
+
+pub boards_said : BoardsAreWhatWasSaid
+boards_said rule sent came said exam talk =
+    let so : BoardOf said exam = board_so rule sent came said exam talk in
+    let enough : EnoughOf said exam = enough_so rule sent came said exam talk in
+    record {
+      nothing = (λ e since s. (enough since s).0 e, size_known said exam.unanswered exam.board so);
+      all = (
+        λ e. subst (BoardSo said exam.unanswered) e so,
+        λ known. (enough known.0 known.1).1 known.2,
+      );
+    }
+
 -- ---- where a command may be asked
 
-room_of : (exam : Exam) (command : CheckCommand) → IsIdle exam → (needs_board command ≡ true → exam.board ≡ Cleared)
-    → (is_final_score command ≡ true → exam.komi_set ≡ true)
-    → IfSome (needed_skill command) (λ known. said_of exam.skills known ≡ Has) → MayBeAsked exam.game command
-    → HasRoomFor exam command
-room_of exam command idle board komi skill may = record {
-  up = idle.up;
-  few = subst (λ (l : List Asked). length l < most_unanswered) (sym idle.owes) (omega arith);
-  none_awaits = ap awaits idle.owes;
-  alone = λ e. idle.owes;
-  id = idle.ids;
-  board = board;
-  komi = komi;
-  skill = skill;
-  may = may;
-}
-
 pub known_asked : KnownEnginesMayBeAsked
-known_asked rule sent came said exam talk idle board =
-    let had : HadSo said exam.skills = had_so rule sent came said exam talk in
-    let enough : EnoughSo said [] exam.board =
-    subst (λ (l : List Asked). EnoughSo said l exam.board) idle.owes (enough_so rule sent came said exam talk) in
+known_asked rule sent came said exam talk ready board =
+    let s = skills_said rule sent came said exam talk in
+    let enough : EnoughOf said exam = enough_so rule sent came said exam talk in
     let cleared : exam.board ≡ Cleared = (enough board.since board.taken).1 board.cleared in
-    let set : SetSo (commands_of said) exam.komi_set =
-    subst (λ (l : List Asked). SetSo l exam.komi_set)
-    (ap (λ (l : List Asked). commands_of said ++ l) idle.owes ∙ append-nil (commands_of said))
-    (set_so rule sent came said exam talk) in
     record {
       handicaps =
-          λ stones int knows. room_of exam (Match (FixedHandicap stones)) idle (λ e. cleared) (λ e. absurd (cc e))
-          (had known.FixedHandicap knows) int;
-      plays = λ move room. room_of exam (Match (Play move)) idle (λ e. cleared) (λ e. absurd (cc e)) tt room;
+          λ stones int knows. room_of exam (Match (FixedHandicap stones)) ready (λ e. absurd (cc e)) (λ e. cleared)
+          (λ e. absurd (cc e)) (s.handicaps.has.1 knows) int;
+      plays = λ move room. room_of exam (Match (Play move)) ready (λ e. absurd (cc e)) (λ e. cleared)
+          (λ e. absurd (cc e)) tt room;
       genmoves =
-          λ colour room going. room_of exam (Match (Genmove colour)) idle (λ e. cleared) (λ e. absurd (cc e)) tt
-          (room, going);
+          λ colour owes room going. room_of exam (Match (Genmove colour)) ready (λ e. owes) (λ e. cleared)
+          (λ e. absurd (cc e)) tt (room, going);
       undos =
-          λ knows. room_of exam (Match Undo) idle (λ e. cleared) (λ e. absurd (cc e)) (had known.Undo knows) tt;
+          λ knows. room_of exam (Match Undo) ready (λ e. absurd (cc e)) (λ e. cleared) (λ e. absurd (cc e))
+          (s.undos.has.1 knows) tt;
       scores =
-          λ komi knows asked moves stones. room_of exam FinalScore idle (λ e. cleared) (λ e. set komi asked)
-          (had known.FinalScore knows) (record { no_moves = moves; no_handicap = stones });
+          λ komi knows asked moves stones. room_of exam FinalScore ready (λ e. absurd (cc e)) (λ e. cleared)
+          (λ e. set_so rule sent came said exam talk komi asked) (s.scores.has.1 knows)
+          (record { no_moves = moves; no_handicap = stones });
     }

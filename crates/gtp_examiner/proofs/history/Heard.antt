@@ -13,15 +13,17 @@ use Rattle.gtp_examiner.specs.Judging.{oldest, has_id, Judged}
 use Rattle.gtp_examiner.specs.Exam.{Hears, Leaves, ReplyLeaves, IdLeaves, after_judged, finding_of}
 use Rattle.gtp_examiner.specs.Exam.{with_learned, with_rest}
 use Rattle.gtp_examiner.specs.Laws.{Exchange, exchanged}
+use Rattle.gtp_examiner.specs.Check.{UpIsBetween}
+use Rattle.gtp_examiner.proofs.talks.Found.{leaves_down}
 use Rattle.gtp_examiner.proofs.talks.Silence.{nothing_exchanged}
 
--- What is known of the engine is the same, and what is unanswered. It isn't up where it wasn't.
+-- What is known of the engine is the same, and what is unanswered, and it is up where it was.
 pub record IsKept (old new : Exam) : Type 0 where
   pub skills : new.skills ≡ old.skills
   pub board : new.board ≡ old.board
   pub komi : new.komi_set ≡ old.komi_set
   pub unanswered : new.unanswered ≡ old.unanswered
-  pub up : new.up ≡ true → old.up ≡ true
+  pub up : new.up ≡ old.up
 
 -- the exam is left so, with these exchanges in all
 pub data Leaving (old : Exam) (said : List Exchange) (new : Exam) : List Exchange → Type 0 where
@@ -37,7 +39,7 @@ kept old rest new is = record {
   board = ap (λ (e : Exam). e.board) is;
   komi = ap (λ (e : Exam). e.komi_set) is;
   unanswered = ap (λ (e : Exam). e.unanswered) is;
-  up = λ up. sym (ap (λ (e : Exam). e.up) is) ∙ up;
+  up = ap (λ (e : Exam). e.up) is;
 }
 
 -- without an exchange
@@ -75,7 +77,8 @@ pub heard_leaving : (old : Exam) (bytes : List ℕ) (used : ℕ) (read : Option 
     → Leaving old said new (said ++ exchanged (oldest old.unanswered) read)
 heard_leaving old bytes used read new said h = leaving old h.0 read new said h.2
 
--- an engine that is up then was up before
+-- ---- who is up
+
 judged_up : (exam : Exam) (entry : Asked) (got : Judgement) → None ≡ finding_of entry got
     → (after_judged exam got).up ≡ exam.up
 judged_up exam entry Right none = refl
@@ -83,9 +86,27 @@ judged_up exam entry (Plays colour v) none = refl
 judged_up exam entry (Resized size) none = refl
 judged_up exam entry (Wrong kind) none = absurd (cc none)
 
-pub leaving_up : (old : Exam) (said : List Exchange) (new : Exam) (all : List Exchange) → Leaving old said new all
-    → new.up ≡ true → old.up ≡ true
-leaving_up old said new all (Leaving.nothing k) up = k.up up
-leaving_up old said new all (Leaving.answered rest entry later reply got list j none is) up =
-    sym (judged_up (with_learned (with_rest old rest) entry.command reply) entry got none)
-    ∙ (sym (ap (λ (e : Exam). e.up) is) ∙ up)
+leaving_up : (old : Exam) (said : List Exchange) (new : Exam) (all : List Exchange) → Leaving old said new all
+    → new.up ≡ old.up
+leaving_up old said new all (Leaving.nothing k) = k.up
+leaving_up old said new all (Leaving.answered rest entry later reply got list j none is) =
+    ap (λ (e : Exam). e.up) is
+    ∙ judged_up (with_learned (with_rest old rest) entry.command reply) entry got none
+
+-- what is heard without a finding leaves it as it is
+pub heard_up : (old new : Exam) (bytes : List ℕ) (used : ℕ) (read : Option (Result Reply ReplyFault))
+    → Hears old bytes used read None new → new.up ≡ old.up
+heard_up old new bytes used read h =
+    leaving_up old [] new ([] ++ exchanged (oldest old.unanswered) read) (heard_leaving old bytes used read new [] h)
+
+pub up_between : UpIsBetween
+up_between = record {
+  opened = λ rule most. refl;
+  begins = λ check. refl;
+  ends = λ check. refl;
+  keeps = λ check. refl;
+  found = λ old new bytes used read finding h. leaves_down (with_rest old h.0) read finding new h.2;
+  asked = λ exam command room. room.up;
+  asks = λ old new command a. ap (λ (e : Exam). e.up) a.new_is;
+  stays = heard_up;
+}

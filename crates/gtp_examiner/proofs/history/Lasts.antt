@@ -1,5 +1,5 @@
 -- The last of a list, and what it is of talks.
-use Rattle.std.proofs.Common.{◌≡◌, List, [], ◌∷◌, ◌++◌, refl, ◌∙◌, ap, subst, inl, inr}
+use Rattle.std.proofs.Common.{◌≡◌, List, [], ◌∷◌, ◌++◌, refl, sym, ◌∙◌, ap, subst, inl, inr}
 use Rattle.std.specs.Prelude.{◌⊎◌}
 use Rattle.gtp_examiner.specs.declared.unanswered.Asked.{Asked}
 use Rattle.gtp_examiner.specs.Laws.{Exchange}
@@ -36,6 +36,24 @@ last_cases IsOne last all said x (IsLast.newest earlier one) e =
 last_cases IsOne last all said x (IsLast.passed {said = before} other l isnt) e =
     let same = last_same before said other x e in
     inr (subst (λ (y : Exchange). IsOne y → ⊥) same.1 isnt, subst (IsLast IsOne last) same.0 l)
+
+-- there is one last
+pub one_last : (IsOne : Exchange → Type 0) (one other : Exchange) (all : List Exchange) → IsLast IsOne one all
+    → IsLast IsOne other all → one ≡ other
+one_last IsOne one other all (IsLast.newest earlier is) l =
+    by (last_cases IsOne other (earlier ++ one ∷ []) earlier one l refl)
+  where
+    by : ((other ≡ one) × IsOne one) ⊎ ((IsOne one → ⊥) × IsLast IsOne other earlier) → one ≡ other
+    by (inl h) = sym h.0
+    by (inr h) = absurd (h.0 is)
+one_last IsOne one other all (IsLast.passed {said = before} newest last isnt) l =
+    by (λ l. one_last IsOne one other before last l)
+    (last_cases IsOne other (before ++ newest ∷ []) before newest l refl)
+  where
+    by : (IsLast IsOne other before → one ≡ other)
+        → ((other ≡ newest) × IsOne newest) ⊎ ((IsOne newest → ⊥) × IsLast IsOne other before) → one ≡ other
+    by same (inl h) = absurd (isnt h.1)
+    by same (inr h) = same h.1
 
 pub no_since : (all : List Exchange) (since : List Asked) → SinceSize all since → all ≡ [] → ⊥
 no_since all since (SinceSize.taken earlier x takes) e = never_empty earlier x e

@@ -21,7 +21,7 @@ use Rattle.gtp_examiner.specs.Exam.{kind_of, with_rest, AreOrderly}
 use Rattle.gtp_examiner.specs.Laws.{IsRight, Exchange, AllRight, Talks, IsAsked, Expects}
 use Rattle.gtp_examiner.specs.Laws.{IsRightSoFar, NoRightAnswer, FaultIsNamed, GivesKind, IsJustified}
 use Rattle.gtp_examiner.proofs.answers.Statuses.{HoldsOf}
-use Rattle.gtp_examiner.proofs.talks.Silence.{holds, id_has, oldest_asked, right_so_far}
+use Rattle.gtp_examiner.proofs.talks.Silence.{holds, id_has, id_is, oldest_asked, right_so_far}
 
 no_fault_right : (before : GameRecord) (o : Option Asked) (shown : ReplyFault)
     → NoRightAnswer before o (Some (Err shown))
@@ -77,7 +77,7 @@ id_justified : (rule : KoRule) (said : List Exchange) (exam : Exam) (entry : Ask
     → IsJustified rule said exam (Some (Ok reply)) finding
 id_justified rule said exam entry later reply false finding new s list id h =
     justified_of rule said exam (Some (Ok reply)) finding (Some entry) WrongId s h.0 (sym (ap oldest list))
-    (λ after right. other_id (right_id s.before entry reply after right)) other_id
+    (λ after right. other_id (right_id s.before entry reply after right)) (other_id, λ isnt. absurd (isnt refl))
   where
     other_id : reply.id ≡ Some entry.id → ⊥
     other_id is = let e : true ≡ false = sym (id_has reply.id entry.id is) ∙ id in cc e
@@ -89,7 +89,7 @@ id_justified rule said exam entry later reply true finding new s list id h =
     (subst (λ (l : List Asked). AreOrderly exam.game exam.sent l) list s.orderly)
     (subst (λ (l : List Asked). Expects s.before l exam.game) list s.expects) id h.1) in
     justified_of rule said exam (Some (Ok reply)) finding (Some entry) found.0 s found.2 (sym (ap oldest list))
-    held.0 held.1
+    held.0 (held.1, λ isnt. id_is reply.id entry.id id)
 
 reply_justified : (rule : KoRule) (said : List Exchange) (exam : Exam) (list : List Asked) (reply : Reply)
     (finding : Finding) (new : Exam) → IsRightSoFar rule said exam → exam.unanswered ≡ list

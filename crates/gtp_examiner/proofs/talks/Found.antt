@@ -1,4 +1,4 @@
--- What is read is found wrong, or answers; and which engine is up.
+-- What is read is found wrong, or answers; and an engine that was found wrong is down.
 use Rattle.std.proofs.Common.{◌≡◌, ℕ, Bool, true, false, List, Option, Some, None, refl, ap}
 use Rattle.std.specs.Prelude.{Result, Ok, Err}
 use Rattle.gtp_wire.specs.declared.replies.Reply.{Reply}
@@ -11,7 +11,6 @@ use Rattle.gtp_examiner.specs.declared.exam.Finding.{Finding}
 use Rattle.gtp_examiner.specs.Judging.{oldest, has_id}
 use Rattle.gtp_examiner.specs.Exam.{Hears, Leaves, ReplyLeaves, IdLeaves, after_judged, finding_of}
 use Rattle.gtp_examiner.specs.Exam.{with_learned, with_rest}
-use Rattle.gtp_examiner.specs.Check.{UpIsBetween}
 
 -- ---- what is read
 
@@ -27,7 +26,7 @@ answer_or_found old new bytes used (Err shown) h = absurd (cc (h.2.0))
 answer_or_found old new bytes used (Ok reply) h =
     let one = reply_answers (with_rest old h.0) (oldest old.unanswered) reply new h.2 in (one.0, reply, one.1, refl)
 
--- ---- who is up
+-- ---- who is down
 
 judged_down : (exam : Exam) (entry : Asked) (got : Judgement) (finding : Finding) (new : Exam)
     → Some finding ≡ finding_of entry got → new ≡ after_judged exam got → new.up ≡ false
@@ -52,13 +51,3 @@ pub leaves_down : (exam : Exam) (read : Option (Result Reply ReplyFault)) (findi
 leaves_down exam None finding new h = absurd (cc (h.0))
 leaves_down exam (Some (Err shown)) finding new h = ap (λ (x : Exam). x.up) h.1
 leaves_down exam (Some (Ok reply)) finding new h = reply_down exam (oldest exam.unanswered) reply finding new h
-
-pub up_between : UpIsBetween
-up_between = record {
-  opened = λ rule most. refl;
-  begins = λ check. refl;
-  ends = λ check. refl;
-  keeps = λ check. refl;
-  found = λ old new bytes used read finding h. leaves_down (with_rest old h.0) read finding new h.2;
-  asked = λ exam command room. room.up;
-}
