@@ -56,6 +56,6 @@ bounded rule most count check calls =
     record {
       counted = h.counted;
       few_starts = omega (arith, h.few, h.counted, h.allowed);
-      few_unanswered = h.orderly.few;
+      few_unanswered = omega (arith, h.orderly.few);
       few_asked = h.orderly.ints;
     }

@@ -205,20 +205,21 @@ said_so said known skill so = record {
   lacks = (λ e. subst (SkillSo said known) e so, lacked said known skill so);
 }
 
+pub skill_said : (rule : KoRule) (sent came : List ℕ) (said : List Exchange) (exam : Exam) (known : Known)
+    → Talks rule sent came said exam → SkillIsSaid said known (said_of exam.skills known)
+skill_said rule sent came said exam known talk =
+    said_so said known (said_of exam.skills known) (skills_so rule sent came said exam talk known)
+
 pub skills_said : SkillsAreWhatWasSaid
-skills_said rule sent came said exam talk =
-    let so : SkillsSo said exam.skills = skills_so rule sent came said exam talk in
-    record {
-      handicaps = said_so said known.FixedHandicap exam.skills.fixed_handicap (so known.FixedHandicap);
-      undos = said_so said known.Undo exam.skills.undo (so known.Undo);
-      scores = said_so said known.FinalScore exam.skills.final_score (so known.FinalScore);
-    }
+skills_said rule sent came said exam talk = record {
+  handicaps = skill_said rule sent came said exam known.FixedHandicap talk;
+  undos = skill_said rule sent came said exam known.Undo talk;
+  scores = skill_said rule sent came said exam known.FinalScore talk;
+}
 
 pub only_known : WhatIsAskedIsKnown
-only_known rule sent came said exam talk =
-    let s = skills_said rule sent came said exam talk in
-    record {
-      handicaps = λ stones room. s.handicaps.has.0 room.skill;
-      undos = λ room. s.undos.has.0 room.skill;
-      scores = λ room. s.scores.has.0 room.skill;
-    }
+only_known rule sent came said exam talk = record {
+  handicaps = λ stones room. (skill_said rule sent came said exam known.FixedHandicap talk).has.0 room.skill;
+  undos = λ room. (skill_said rule sent came said exam known.Undo talk).has.0 room.skill;
+  scores = λ room. (skill_said rule sent came said exam known.FinalScore talk).has.0 room.skill;
+}
