@@ -1,29 +1,25 @@
 -- What is heard without a finding: nothing yet, or a right answer to the oldest command.
 use Rattle.std.proofs.Common.{◌≡◌, ℕ, Bool, true, false, List, [], ◌∷◌, ◌++◌, Option, Some, None, refl, sym, ap}
-use Rattle.std.proofs.Common.{subst, ◌∙◌}
+use Rattle.std.proofs.Common.{subst}
 use Rattle.std.specs.Prelude.{Result, Ok, Err}
 use Rattle.std.proofs.lemmas.List.{append-nil}
 use Rattle.gtp_wire.specs.declared.replies.Reply.{Reply}
 use Rattle.gtp_wire.specs.declared.replies.ReplyFault.{ReplyFault}
 use Rattle.gtp_examiner.specs.declared.judging.Judgement.{Judgement}
-use Rattle.gtp_examiner.specs.declared.judging.Judgement.TheVariants.{Right, Plays, Resized, Wrong}
 use Rattle.gtp_examiner.specs.declared.unanswered.Asked.{Asked}
 use Rattle.gtp_examiner.specs.declared.exam.Exam.{Exam}
 use Rattle.gtp_examiner.specs.Judging.{oldest, has_id, Judged}
 use Rattle.gtp_examiner.specs.Exam.{Hears, Leaves, ReplyLeaves, IdLeaves, after_judged, finding_of}
 use Rattle.gtp_examiner.specs.Exam.{with_learned, with_rest}
 use Rattle.gtp_examiner.specs.Laws.{Exchange, exchanged}
-use Rattle.gtp_examiner.specs.Check.{UpIsBetween}
-use Rattle.gtp_examiner.proofs.talks.Found.{leaves_down}
 use Rattle.gtp_examiner.proofs.talks.Silence.{nothing_exchanged}
 
--- What is known of the engine is the same, and what is unanswered, and it is up where it was.
+-- What is known of the engine is the same, and what is unanswered.
 pub record IsKept (old new : Exam) : Type 0 where
   pub skills : new.skills ≡ old.skills
   pub board : new.board ≡ old.board
   pub komi : new.komi_set ≡ old.komi_set
   pub unanswered : new.unanswered ≡ old.unanswered
-  pub up : new.up ≡ old.up
 
 -- the exam is left so, with these exchanges in all
 pub data Leaving (old : Exam) (said : List Exchange) (new : Exam) : List Exchange → Type 0 where
@@ -39,7 +35,6 @@ kept old rest new is = record {
   board = ap (λ (e : Exam). e.board) is;
   komi = ap (λ (e : Exam). e.komi_set) is;
   unanswered = ap (λ (e : Exam). e.unanswered) is;
-  up = ap (λ (e : Exam). e.up) is;
 }
 
 -- without an exchange
@@ -76,37 +71,3 @@ pub heard_leaving : (old : Exam) (bytes : List ℕ) (used : ℕ) (read : Option 
     (said : List Exchange) → Hears old bytes used read None new
     → Leaving old said new (said ++ exchanged (oldest old.unanswered) read)
 heard_leaving old bytes used read new said h = leaving old h.0 read new said h.2
-
--- ---- who is up
-
-judged_up : (exam : Exam) (entry : Asked) (got : Judgement) → None ≡ finding_of entry got
-    → (after_judged exam got).up ≡ exam.up
-judged_up exam entry Right none = refl
-judged_up exam entry (Plays colour v) none = refl
-judged_up exam entry (Resized size) none = refl
-judged_up exam entry (Wrong kind) none = absurd (cc none)
-
-leaving_up : (old : Exam) (said : List Exchange) (new : Exam) (all : List Exchange) → Leaving old said new all
-    → new.up ≡ old.up
-leaving_up old said new all (Leaving.nothing k) = k.up
-leaving_up old said new all (Leaving.answered rest entry later reply got list j none is) =
-    ap (λ (e : Exam). e.up) is
-    ∙ judged_up (with_learned (with_rest old rest) entry.command reply) entry got none
-
--- what is heard without a finding leaves it as it is
-pub heard_up : (old new : Exam) (bytes : List ℕ) (used : ℕ) (read : Option (Result Reply ReplyFault))
-    → Hears old bytes used read None new → new.up ≡ old.up
-heard_up old new bytes used read h =
-    leaving_up old [] new ([] ++ exchanged (oldest old.unanswered) read) (heard_leaving old bytes used read new [] h)
-
-pub up_between : UpIsBetween
-up_between = record {
-  opened = λ rule most. refl;
-  begins = λ check. refl;
-  ends = λ check. refl;
-  keeps = λ check. refl;
-  found = λ old new bytes used read finding h. leaves_down (with_rest old h.0) read finding new h.2;
-  asked = λ exam command room. room.up;
-  asks = λ old new command a. ap (λ (e : Exam). e.up) a.new_is;
-  stays = heard_up;
-}

@@ -1,4 +1,4 @@
--- What is read is found wrong, or answers; and an engine that was found wrong is down.
+-- What is read is found wrong, or answers; and which engine is up.
 use Rattle.std.proofs.Common.{◌≡◌, ℕ, Bool, true, false, List, Option, Some, None, refl, ap}
 use Rattle.std.specs.Prelude.{Result, Ok, Err}
 use Rattle.gtp_wire.specs.declared.replies.Reply.{Reply}
@@ -11,6 +11,7 @@ use Rattle.gtp_examiner.specs.declared.exam.Finding.{Finding}
 use Rattle.gtp_examiner.specs.Judging.{oldest, has_id}
 use Rattle.gtp_examiner.specs.Exam.{Hears, Leaves, ReplyLeaves, IdLeaves, after_judged, finding_of}
 use Rattle.gtp_examiner.specs.Exam.{with_learned, with_rest}
+use Rattle.gtp_examiner.specs.Check.{UpIsBetween}
 
 -- ---- what is read
 
@@ -51,3 +52,40 @@ pub leaves_down : (exam : Exam) (read : Option (Result Reply ReplyFault)) (findi
 leaves_down exam None finding new h = absurd (cc (h.0))
 leaves_down exam (Some (Err shown)) finding new h = ap (λ (x : Exam). x.up) h.1
 leaves_down exam (Some (Ok reply)) finding new h = reply_down exam (oldest exam.unanswered) reply finding new h
+
+-- ---- who stays up
+
+judged_up : (exam : Exam) (entry : Asked) (got : Judgement) (new : Exam) → None ≡ finding_of entry got
+    → new ≡ after_judged exam got → new.up ≡ exam.up
+judged_up exam entry Right new none is = ap (λ (x : Exam). x.up) is
+judged_up exam entry (Plays colour v) new none is = ap (λ (x : Exam). x.up) is
+judged_up exam entry (Resized size) new none is = ap (λ (x : Exam). x.up) is
+judged_up exam entry (Wrong kind) new none is = absurd (cc none)
+
+id_up : (exam : Exam) (entry : Asked) (reply : Reply) (b : Bool) (new : Exam)
+    → IdLeaves exam entry reply b None new → new.up ≡ exam.up
+id_up exam entry reply false new h = absurd (cc (h.0))
+id_up exam entry reply true new h = judged_up (with_learned exam entry.command reply) entry h.0 new h.2 h.3
+
+reply_up : (exam : Exam) (o : Option Asked) (reply : Reply) (new : Exam) → ReplyLeaves exam o reply None new
+    → new.up ≡ exam.up
+reply_up exam None reply new h = absurd (cc (h.0))
+reply_up exam (Some entry) reply new h = id_up exam entry reply (has_id reply.id entry.id) new h
+
+leaves_up : (exam : Exam) (read : Option (Result Reply ReplyFault)) (new : Exam) → Leaves exam read None new
+    → new.up ≡ exam.up
+leaves_up exam None new h = ap (λ (x : Exam). x.up) h.1
+leaves_up exam (Some (Err shown)) new h = absurd (cc (h.0))
+leaves_up exam (Some (Ok reply)) new h = reply_up exam (oldest exam.unanswered) reply new h
+
+pub up_between : UpIsBetween
+up_between = record {
+  opened = λ rule most. refl;
+  begins = λ check. refl;
+  ends = λ check. refl;
+  keeps = λ check. refl;
+  found = λ old new bytes used read finding h. leaves_down (with_rest old h.0) read finding new h.2;
+  asked = λ exam command room. room.up;
+  asks = λ old new command a. ap (λ (e : Exam). e.up) a.new_is;
+  stays = λ old new bytes used read h. leaves_up (with_rest old h.0) read new h.2;
+}
