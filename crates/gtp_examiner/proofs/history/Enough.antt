@@ -25,7 +25,7 @@ use Rattle.gtp_examiner.proofs.history.Boards.{IsClear, BoardSo, BoardOf, board_
 use Rattle.gtp_examiner.proofs.history.Dues.{IsDueOnce, oldest_due, talk_orderly}
 use Rattle.gtp_examiner.proofs.history.Heard.{Leaving, heard_leaving}
 use Rattle.gtp_examiner.proofs.history.Komis.{commands_more}
-use Rattle.gtp_examiner.proofs.history.Known.{skill_said}
+use Rattle.gtp_examiner.proofs.history.Known.{skill_had}
 use Rattle.gtp_examiner.specs.declared.asking.Known.TheVariants as known
 use Rattle.gtp_examiner.proofs.history.Lasts.{no_since, since_cases}
 use Rattle.gtp_examiner.proofs.history.Ready.{room_of}
@@ -274,7 +274,7 @@ known_asked rule sent came said exam talk ready board =
     record {
       handicaps =
           λ stones int knows. room_of exam (Match (FixedHandicap stones)) ready (λ e. absurd (cc e)) (λ e. cleared)
-          (λ e. absurd (cc e)) ((skill_said rule sent came said exam known.FixedHandicap talk).has.1 knows) int;
+          (λ e. absurd (cc e)) ((skill_had rule sent came said exam known.FixedHandicap talk).1 knows) int;
       plays = λ move room. room_of exam (Match (Play move)) ready (λ e. absurd (cc e)) (λ e. cleared)
           (λ e. absurd (cc e)) tt room;
       genmoves =
@@ -282,10 +282,10 @@ known_asked rule sent came said exam talk ready board =
           (λ e. absurd (cc e)) tt (room, going);
       undos =
           λ knows. room_of exam (Match Undo) ready (λ e. absurd (cc e)) (λ e. cleared) (λ e. absurd (cc e))
-          ((skill_said rule sent came said exam known.Undo talk).has.1 knows) tt;
+          ((skill_had rule sent came said exam known.Undo talk).1 knows) tt;
       scores =
           λ komi knows asked moves stones. room_of exam FinalScore ready (λ e. absurd (cc e)) (λ e. cleared)
           (λ e. set_so rule sent came said exam talk komi asked)
-          ((skill_said rule sent came said exam known.FinalScore talk).has.1 knows)
+          ((skill_had rule sent came said exam known.FinalScore talk).1 knows)
           (record { no_moves = moves; no_handicap = stones });
     }

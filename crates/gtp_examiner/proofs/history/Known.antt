@@ -1,6 +1,6 @@
 -- What is known of the commands that an engine may be without is what it said last.
 use Rattle.std.proofs.Common.{◌≡◌, ℕ, Bool, true, false, List, [], ◌∷◌, ◌++◌, refl, sym, ap, subst, ◌∙◌, inl, inr}
-use Rattle.std.specs.Prelude.{◌⊎◌, codes, if◌then◌else◌}
+use Rattle.std.specs.Prelude.{◌⊎◌, ◌↔◌, codes, if◌then◌else◌}
 use Rattle.std.proofs.lemmas.Slice.Eq.{bytes_eq-Decides}
 use Rattle.go_board.specs.declared.rules.KoRule.{KoRule}
 use Rattle.gtp_wire.specs.declared.replies.Reply.{Reply}
@@ -198,17 +198,20 @@ lacked said known Has so k =
     absurd (so.says (subst (λ (x : Exchange). SaysFalse x.reply)
     (one_last (Asking known) k.exchange so.exchange said k.last so.last) k.says))
 
-said_so : (said : List Exchange) (known : Known) (skill : Skill) → SkillSo said known skill
-    → SkillIsSaid said known skill
-said_so said known skill so = record {
-  has = (λ e. subst (SkillSo said known) e so, had said known skill so);
-  lacks = (λ e. subst (SkillSo said known) e so, lacked said known skill so);
-}
+pub skill_had : (rule : KoRule) (sent came : List ℕ) (said : List Exchange) (exam : Exam) (known : Known)
+    → Talks rule sent came said exam → (said_of exam.skills known ≡ Has) ↔ IsKnown said known
+skill_had rule sent came said exam known talk =
+    let so : SkillSo said known (said_of exam.skills known) = skills_so rule sent came said exam talk known in
+    (λ e. subst (SkillSo said known) e so, had said known (said_of exam.skills known) so)
 
-pub skill_said : (rule : KoRule) (sent came : List ℕ) (said : List Exchange) (exam : Exam) (known : Known)
+skill_said : (rule : KoRule) (sent came : List ℕ) (said : List Exchange) (exam : Exam) (known : Known)
     → Talks rule sent came said exam → SkillIsSaid said known (said_of exam.skills known)
 skill_said rule sent came said exam known talk =
-    said_so said known (said_of exam.skills known) (skills_so rule sent came said exam talk known)
+    let so : SkillSo said known (said_of exam.skills known) = skills_so rule sent came said exam talk known in
+    record {
+      has = skill_had rule sent came said exam known talk;
+      lacks = (λ e. subst (SkillSo said known) e so, lacked said known (said_of exam.skills known) so);
+    }
 
 pub skills_said : SkillsAreWhatWasSaid
 skills_said rule sent came said exam talk = record {
@@ -219,7 +222,7 @@ skills_said rule sent came said exam talk = record {
 
 pub only_known : WhatIsAskedIsKnown
 only_known rule sent came said exam talk = record {
-  handicaps = λ stones room. (skill_said rule sent came said exam known.FixedHandicap talk).has.0 room.skill;
-  undos = λ room. (skill_said rule sent came said exam known.Undo talk).has.0 room.skill;
-  scores = λ room. (skill_said rule sent came said exam known.FinalScore talk).has.0 room.skill;
+  handicaps = λ stones room. (skill_had rule sent came said exam known.FixedHandicap talk).0 room.skill;
+  undos = λ room. (skill_had rule sent came said exam known.Undo talk).0 room.skill;
+  scores = λ room. (skill_had rule sent came said exam known.FinalScore talk).0 room.skill;
 }
