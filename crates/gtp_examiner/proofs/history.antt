@@ -3,6 +3,7 @@ pub mod Heard
 pub mod Dues
 pub mod Known
 pub mod Boards
+pub mod Listed
 pub mod Komis
 pub mod Alone
 pub mod Ready

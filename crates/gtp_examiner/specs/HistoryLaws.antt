@@ -1,5 +1,5 @@
 -- Laws of what an engine was asked and answered before a command may be asked.
-use Rattle.std.specs.Prelude.{◌≡◌, ℕ, ℤ, ◌<◌, ◌≤◌, ◌⊎◌, ◌↔◌, true, List, [], ◌∷◌, ◌++◌, length, codes}
+use Rattle.std.specs.Prelude.{◌≡◌, ℕ, ℤ, ◌+◌, ◌<◌, ◌≤◌, ◌⊎◌, ◌↔◌, true, List, [], ◌∷◌, ◌++◌, length, codes}
 use Rattle.go_base.specs.declared.colours.Colour.{Colour}
 use Rattle.go_base.specs.declared.moves.Move.{Move}
 use Rattle.go_board.specs.Game.{HasRoom, IsFinished}
@@ -135,6 +135,19 @@ abbrev pub KomisAreSet : Type 0
 KomisAreSet = (rule : KoRule) (sent came : List ℕ) (said : List Exchange) (exam : Exam)
     → Talks rule sent came said exam → HasRoomFor exam FinalScore
     → (komi : ℤ) × SomeAsked (λ command. command ≡ Match (Komi komi)) (commands_of said ++ exam.unanswered)
+
+-- ---- numbers
+
+-- the commands are numbered one after the other, the first after the one number, up to the other
+abbrev pub AreCounted : ℕ → List Asked → ℕ → Type 0
+AreCounted before [] last = last ≡ before
+AreCounted before (entry ∷ later) last = (entry.id ≡ before + 1) × AreCounted (before + 1) later last
+
+-- All commands of a talk are numbered 1, 2, 3 and so on, in the order in which they were asked. The last number is that
+-- of the commands.
+abbrev pub CommandsAreNumbered : Type 0
+CommandsAreNumbered = (rule : KoRule) (sent came : List ℕ) (said : List Exchange) (exam : Exam)
+    → Talks rule sent came said exam → AreCounted 0 (commands_of said ++ exam.unanswered) exam.sent
 
 -- ---- what is asked alone
 

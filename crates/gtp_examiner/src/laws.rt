@@ -6,7 +6,7 @@ ghost use Rattle.gtp_examiner.specs.Laws.{ScoresAreKomiAlone, WhoAnswersRightlyI
 ghost use Rattle.gtp_examiner.specs.Laws.{WhatIsReadIsAnswerOrFound};
 ghost use Rattle.gtp_examiner.specs.Check.{EveryCheckIsBounded, UpIsBetween};
 ghost use Rattle.gtp_examiner.specs.HistoryLaws.{SkillsAreWhatWasSaid, WhatIsAskedIsKnown, BoardsAreWhatWasSaid};
-ghost use Rattle.gtp_examiner.specs.HistoryLaws.{BoardsAreKnown, KomisAreSet, SomeAreAskedAlone};
+ghost use Rattle.gtp_examiner.specs.HistoryLaws.{BoardsAreKnown, KomisAreSet, CommandsAreNumbered, SomeAreAskedAlone};
 ghost use Rattle.gtp_examiner.specs.HistoryLaws.{ReadyEnginesMayBeAsked, KnownEnginesMayBeAsked};
 ghost use Rattle.gtp_examiner.specs.ConversationLaws.{EachStartBeginsAnew, ConversationsShowFindings};
 ghost use Rattle.gtp_examiner.specs.ConversationLaws.{NoRightEngineWroteIt};
@@ -73,6 +73,11 @@ pub fn boards_are_known()
 /// A `final_score` may be asked only once a `komi` was asked since the engine's start.
 pub fn komis_are_set()
     ensures { KomisAreSet }
+{}
+
+/// The commands that an engine is asked are numbered 1, 2, 3 and so on. So their number is bounded too.
+pub fn commands_are_numbered()
+    ensures { CommandsAreNumbered }
 {}
 
 /// A `genmove` and a `boardsize` are asked alone: only where nothing is unanswered, and nothing before their answer.

@@ -1,7 +1,7 @@
 -- What hangs on the board is asked only where it is known.
 use Rattle.std.proofs.Common.{◌≡◌, ℕ, ◌+◌, Bool, true, false, List, [], ◌∷◌, ◌++◌, None, refl, sym, ◌∙◌, ap}
 use Rattle.std.proofs.Common.{subst, append_assoc, inl, inr}
-use Rattle.std.specs.Prelude.{IfSome, drop}
+use Rattle.std.specs.Prelude.{◌⊎◌, IfSome, drop}
 use Rattle.go_board.specs.Game.{GameRecord}
 use Rattle.go_board.specs.declared.rules.KoRule.{KoRule}
 use Rattle.gtp_wire.specs.declared.commands.Command.TheVariants.{Boardsize, Komi, ClearBoard, FixedHandicap, Play}
@@ -40,6 +40,16 @@ pub some_last : (IsOne : CheckCommand → Type 0) (list : List Asked) (last : As
     → SomeAsked IsOne (list ++ last ∷ [])
 some_last IsOne [] last h = inl h
 some_last IsOne (x ∷ xs) last h = inr (some_last IsOne xs last h)
+
+pub some_split : (IsOne : CheckCommand → Type 0) (list more : List Asked) → SomeAsked IsOne (list ++ more)
+    → SomeAsked IsOne list ⊎ SomeAsked IsOne more
+some_split IsOne [] more h = inr h
+some_split IsOne (x ∷ xs) more (inl h) = inl (inl h)
+some_split IsOne (x ∷ xs) more (inr h) = by (some_split IsOne xs more h)
+  where
+    by : SomeAsked IsOne xs ⊎ SomeAsked IsOne more → SomeAsked IsOne (x ∷ xs) ⊎ SomeAsked IsOne more
+    by (inl h) = inl (inr h)
+    by (inr h) = inr h
 
 abbrev pub IsClear : CheckCommand → Type 0
 IsClear command = command ≡ Match ClearBoard

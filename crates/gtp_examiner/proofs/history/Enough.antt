@@ -1,12 +1,11 @@
 -- Where what has to be known is known a command may be asked.
 use Rattle.std.proofs.Common.{◌≡◌, ℕ, ◌+◌, Bool, true, false, List, [], ◌∷◌, ◌++◌, None, refl, sym}
 use Rattle.std.proofs.Common.{◌∙◌, ap, subst, append_assoc, inl, inr}
-use Rattle.std.specs.Prelude.{◌⊎◌, ◌||◌, ℤ, IfSome, drop}
+use Rattle.std.specs.Prelude.{◌⊎◌, IfSome, drop}
 use Rattle.go_board.specs.declared.rules.KoRule.{KoRule}
-use Rattle.gtp_wire.specs.declared.commands.Command.TheVariants.{Komi, FixedHandicap, Play}
+use Rattle.gtp_wire.specs.declared.commands.Command.TheVariants.{FixedHandicap, Play}
 use Rattle.gtp_wire.specs.declared.commands.Command.TheVariants.{Genmove, Undo}
 use Rattle.gtp_wire.specs.declared.replies.Reply.{Reply}
-use Rattle.gtp_examiner.specs.declared.asking.CheckCommand.{CheckCommand}
 use Rattle.gtp_examiner.specs.declared.asking.CheckCommand.TheVariants.{Match, FinalScore}
 use Rattle.gtp_examiner.specs.declared.judging.Judgement.{Judgement}
 use Rattle.gtp_examiner.specs.declared.judging.Judgement.TheVariants.{Right, Plays, Resized, Wrong}
@@ -14,36 +13,26 @@ use Rattle.gtp_examiner.specs.declared.setups.Board.{Board}
 use Rattle.gtp_examiner.specs.declared.setups.Board.TheVariants.{Unknown, Sized, Cleared}
 use Rattle.gtp_examiner.specs.declared.unanswered.Asked.{Asked}
 use Rattle.gtp_examiner.specs.declared.exam.Exam.{Exam}
-use Rattle.gtp_examiner.specs.Setups.{is_clear_board, board_after, is_komi}
+use Rattle.gtp_examiner.specs.Setups.{is_clear_board, board_after}
 use Rattle.gtp_examiner.specs.Judging.{oldest, Judged}
 use Rattle.gtp_examiner.specs.Exam.{after_judged, finding_of, with_learned, with_rest}
 use Rattle.gtp_examiner.specs.Exam.{AreOrderly, IsOrderly}
-use Rattle.gtp_examiner.specs.Laws.{Exchange, Talks, commands_of}
+use Rattle.gtp_examiner.specs.Laws.{Exchange, Talks}
 use Rattle.gtp_examiner.specs.HistoryLaws.{SomeAsked, TakesSize, SinceSize, BoardsAreWhatWasSaid}
 use Rattle.gtp_examiner.specs.HistoryLaws.{KnownEnginesMayBeAsked}
-use Rattle.gtp_examiner.proofs.history.Boards.{IsClear, BoardSo, BoardOf, board_so, takes_none, takes_one}
+use Rattle.gtp_examiner.proofs.history.Boards.{IsClear, BoardSo, BoardOf, board_so, some_split, takes_none}
+use Rattle.gtp_examiner.proofs.history.Boards.{takes_one}
 use Rattle.gtp_examiner.proofs.history.Dues.{IsDueOnce, oldest_due, talk_orderly}
 use Rattle.gtp_examiner.proofs.history.Heard.{Leaving, heard_leaving}
-use Rattle.gtp_examiner.proofs.history.Komis.{commands_more}
+use Rattle.gtp_examiner.proofs.history.Komis.{set_so}
 use Rattle.gtp_examiner.proofs.history.Known.{skill_had}
 use Rattle.gtp_examiner.specs.declared.asking.Known.TheVariants as known
 use Rattle.gtp_examiner.proofs.history.Lasts.{no_since, since_cases}
 use Rattle.gtp_examiner.proofs.history.Ready.{room_of}
-use Rattle.gtp_examiner.proofs.order.Asked.{or_true}
 use Rattle.gtp_examiner.proofs.order.Heard.{resized_awaited, resized_due}
 use Rattle.gtp_examiner.proofs.talks.Silence.{none_later}
 
 -- ---- the board
-
-some_split : (IsOne : CheckCommand → Type 0) (list more : List Asked) → SomeAsked IsOne (list ++ more)
-    → SomeAsked IsOne list ⊎ SomeAsked IsOne more
-some_split IsOne [] more h = inr h
-some_split IsOne (x ∷ xs) more (inl h) = inl (inl h)
-some_split IsOne (x ∷ xs) more (inr h) = by (some_split IsOne xs more h)
-  where
-    by : SomeAsked IsOne xs ⊎ SomeAsked IsOne more → SomeAsked IsOne (x ∷ xs) ⊎ SomeAsked IsOne more
-    by (inl h) = inl (inr h)
-    by (inr h) = inr h
 
 abbrev EnoughAt : List Asked → List Asked → Board → Type 0
 EnoughAt since unanswered board =
@@ -176,74 +165,6 @@ enough_so rule sent came said exam (Talks.hear {sent = s} {came = c} {said = x} 
     read talk hears) =
     heard_enough old x exam said (oldest_due rule sent c x old talk) (talk_orderly rule sent c x old talk)
     (enough_so rule sent c x old talk) (heard_leaving old bytes used read exam x hears)
-
--- ---- komi
-
-abbrev SetSo : List Asked → Bool → Type 0
-SetSo asked set = (komi : ℤ) → SomeAsked (λ command. command ≡ Match (Komi komi)) asked → set ≡ true
-
-or_first : (a b : Bool) → a ≡ true → (a || b) ≡ true
-or_first a b e = ap (λ (c : Bool). c || b) e
-
-asked_set : (list : List Asked) (entry : Asked) (set : Bool) → SetSo list set
-    → SetSo (list ++ entry ∷ []) (set || is_komi entry.command)
-asked_set list entry set so komi h = by (some_split (λ command. command ≡ Match (Komi komi)) list (entry ∷ []) h)
-  where
-    by : SomeAsked (λ command. command ≡ Match (Komi komi)) list
-        ⊎ SomeAsked (λ command. command ≡ Match (Komi komi)) (entry ∷ [])
-        → (set || is_komi entry.command) ≡ true
-    by (inl h) = or_first set (is_komi entry.command) (so komi h)
-    by (inr (inl is)) = or_true set (is_komi entry.command) (ap is_komi is)
-    by (inr (inr h)) = absurd h
-
-abbrev SetOf : List Exchange → Exam → Type 0
-SetOf said exam = SetSo (commands_of said ++ exam.unanswered) exam.komi_set
-
-judged_set : (old : Exam) (said : List Exchange) (entry : Asked) (later : List Asked) (reply : Reply)
-    (got : Judgement) (new : Exam) → old.unanswered ≡ entry ∷ later → SetOf said old → None ≡ finding_of entry got
-    → (rest : List ℕ) → new ≡ after_judged (with_learned (with_rest old rest) entry.command reply) got
-    → SetOf (said ++ record { entry = entry; reply = reply } ∷ []) new
-judged_set old said entry later reply got new list so none rest is =
-    subst (SetOf (said ++ record { entry = entry; reply = reply } ∷ [])) (sym is) (by got none)
-  where
-    same : commands_of said ++ old.unanswered
-        ≡ commands_of (said ++ record { entry = entry; reply = reply } ∷ []) ++ drop 1 old.unanswered
-    same =
-        ap (λ (l : List Asked). commands_of said ++ l) list
-        ∙ sym (commands_more said entry reply later)
-        ∙ ap (λ (l : List Asked). commands_of (said ++ record { entry = entry; reply = reply } ∷ []) ++ drop 1 l)
-        (sym list)
-
-    by : (got : Judgement) → None ≡ finding_of entry got
-        → SetOf (said ++ record { entry = entry; reply = reply } ∷ [])
-        (after_judged (with_learned (with_rest old rest) entry.command reply) got)
-    by Right none = subst (λ (l : List Asked). SetSo l old.komi_set) same so
-    by (Plays colour v) none = subst (λ (l : List Asked). SetSo l old.komi_set) same so
-    by (Resized size) none = subst (λ (l : List Asked). SetSo l old.komi_set) same so
-    by (Wrong kind) none = absurd (cc none)
-
-heard_set : (old : Exam) (said : List Exchange) (new : Exam) (all : List Exchange) → SetOf said old
-    → Leaving old said new all → SetOf all new
-heard_set old said new all so (Leaving.nothing kept) =
-    subst (SetSo (commands_of said ++ new.unanswered)) (sym kept.komi)
-    (subst (λ (l : List Asked). SetSo (commands_of said ++ l) old.komi_set) (sym kept.unanswered) so)
-heard_set old said new all so (Leaving.answered rest entry later reply got list j none is) =
-    judged_set old said entry later reply got new list so none rest is
-
-set_so : (rule : KoRule) (sent came : List ℕ) (said : List Exchange) (exam : Exam)
-    → Talks rule sent came said exam → SetOf said exam
-set_so rule sent came said exam Talks.start = λ komi h. absurd h
-set_so rule sent came said exam (Talks.ask {sent = s} {came = c} {said = x} {old = old} {new = new} command talk room
-    asks) =
-    subst (SetOf said) (sym asks.new_is)
-    (subst (λ (l : List Asked). SetSo l (old.komi_set || is_komi command))
-    (append_assoc (commands_of said) old.unanswered
-    (record { id = old.sent + 1; command = command; due = asks.due } ∷ []))
-    (asked_set (commands_of said ++ old.unanswered)
-    (record { id = old.sent + 1; command = command; due = asks.due }) old.komi_set (set_so rule s came said old talk)))
-set_so rule sent came said exam (Talks.hear {sent = s} {came = c} {said = x} {old = old} {new = new} bytes used read
-    talk hears) =
-    heard_set old x exam said (set_so rule sent c x old talk) (heard_leaving old bytes used read exam x hears)
 
 -- ---- what is known of the board
 

@@ -14,12 +14,13 @@ use Rattle.gtp_examiner.specs.Exam.{with_learned, with_rest}
 use Rattle.gtp_examiner.specs.Laws.{Exchange, exchanged}
 use Rattle.gtp_examiner.proofs.talks.Silence.{nothing_exchanged}
 
--- What is known of the engine is the same, and what is unanswered.
+-- What is known of the engine is the same, and what it was asked and hasn't answered.
 pub record IsKept (old new : Exam) : Type 0 where
   pub skills : new.skills ≡ old.skills
   pub board : new.board ≡ old.board
   pub komi : new.komi_set ≡ old.komi_set
   pub unanswered : new.unanswered ≡ old.unanswered
+  pub sent : new.sent ≡ old.sent
 
 -- the exam is left so, with these exchanges in all
 pub data Leaving (old : Exam) (said : List Exchange) (new : Exam) : List Exchange → Type 0 where
@@ -35,6 +36,7 @@ kept old rest new is = record {
   board = ap (λ (e : Exam). e.board) is;
   komi = ap (λ (e : Exam). e.komi_set) is;
   unanswered = ap (λ (e : Exam). e.unanswered) is;
+  sent = ap (λ (e : Exam). e.sent) is;
 }
 
 -- without an exchange

@@ -1,30 +1,22 @@
--- A score is asked only once a komi was.
-use Rattle.std.proofs.Common.{◌≡◌, ℕ, ◌+◌, Bool, true, false, List, [], ◌∷◌, ◌++◌, None, refl, sym, ap}
-use Rattle.std.proofs.Common.{subst, append_assoc}
-use Rattle.std.specs.Prelude.{◌||◌, ℤ, drop}
+-- A score is asked only once a komi was, and may be asked then.
+use Rattle.std.proofs.Common.{◌≡◌, ℕ, Bool, true, false, List, [], ◌∷◌, ◌++◌, refl, ap, inl, inr}
+use Rattle.std.specs.Prelude.{◌⊎◌, ◌||◌, ℤ}
 use Rattle.go_board.specs.declared.rules.KoRule.{KoRule}
 use Rattle.gtp_wire.specs.declared.commands.Command.TheVariants.{Boardsize, Komi, ClearBoard, FixedHandicap, Play}
 use Rattle.gtp_wire.specs.declared.commands.Command.TheVariants.{Genmove, Undo, Quit}
-use Rattle.gtp_wire.specs.declared.replies.Reply.{Reply}
 use Rattle.gtp_examiner.specs.declared.asking.CheckCommand.{CheckCommand}
 use Rattle.gtp_examiner.specs.declared.asking.CheckCommand.TheVariants.{Match, FinalScore, Name, Version, KnownCommand}
-use Rattle.gtp_examiner.specs.declared.judging.Judgement.{Judgement}
-use Rattle.gtp_examiner.specs.declared.judging.Judgement.TheVariants.{Right, Plays, Resized, Wrong}
 use Rattle.gtp_examiner.specs.declared.unanswered.Asked.{Asked}
 use Rattle.gtp_examiner.specs.declared.exam.Exam.{Exam}
 use Rattle.gtp_examiner.specs.Setups.{is_komi}
-use Rattle.gtp_examiner.specs.Exam.{after_judged, finding_of, with_learned, with_rest}
 use Rattle.gtp_examiner.specs.Laws.{Exchange, Talks, commands_of}
 use Rattle.gtp_examiner.specs.HistoryLaws.{SomeAsked, KomisAreSet}
-use Rattle.gtp_examiner.proofs.history.Boards.{some_front, some_last}
-use Rattle.gtp_examiner.proofs.history.Heard.{Leaving, heard_leaving}
+use Rattle.gtp_examiner.proofs.history.Boards.{some_front, some_last, some_split}
+use Rattle.gtp_examiner.proofs.history.Listed.{in_talks}
+use Rattle.gtp_examiner.proofs.order.Asked.{or_true}
 
--- a `komi` is among the commands
-abbrev SetsKomi : List Asked → Type 0
-SetsKomi list = (komi : ℤ) × SomeAsked (λ command. command ≡ Match (Komi komi)) list
-
-abbrev KomiSo : List Exchange → List Asked → Bool → Type 0
-KomiSo said unanswered set = set ≡ true → SetsKomi (commands_of said ++ unanswered)
+abbrev IsSetting : ℤ → CheckCommand → Type 0
+IsSetting komi command = command ≡ Match (Komi komi)
 
 komi_is : (command : CheckCommand) → is_komi command ≡ true → (komi : ℤ) × (command ≡ Match (Komi komi))
 komi_is (Match (Komi komi)) e = (komi, refl)
@@ -40,82 +32,42 @@ komi_is Name e = absurd (cc e)
 komi_is Version e = absurd (cc e)
 komi_is (KnownCommand known) e = absurd (cc e)
 
-asked_komi : (said : List Exchange) (unanswered : List Asked) (entry : Asked) (set : Bool)
-    → KomiSo said unanswered set → KomiSo said (unanswered ++ entry ∷ []) (set || is_komi entry.command)
-asked_komi said unanswered entry true so e = first (so refl)
+-- ---- where a komi counts as set one was asked
+
+abbrev IsAskedWhereSet : List Asked → Bool → Type 0
+IsAskedWhereSet list set = set ≡ true → (komi : ℤ) × SomeAsked (IsSetting komi) list
+
+asked_komi : (list : List Asked) (set : Bool) (entry : Asked) → IsAskedWhereSet list set
+    → IsAskedWhereSet (list ++ entry ∷ []) (set || is_komi entry.command)
+asked_komi list true entry so = λ e. first (so refl)
   where
-    first : SetsKomi (commands_of said ++ unanswered) → SetsKomi (commands_of said ++ (unanswered ++ entry ∷ []))
-    first (komi, some) = (
-      komi,
-      subst (SomeAsked (λ (command : CheckCommand). command ≡ Match (Komi komi)))
-          (append_assoc (commands_of said) unanswered (entry ∷ []))
-          (some_front (λ command. command ≡ Match (Komi komi)) (commands_of said ++ unanswered) (entry ∷ []) some),
-    )
-asked_komi said unanswered entry false so e = last (komi_is entry.command e)
+    first : (komi : ℤ) × SomeAsked (IsSetting komi) list → (komi : ℤ) × SomeAsked (IsSetting komi) (list ++ entry ∷ [])
+    first (komi, some) = (komi, some_front (IsSetting komi) list (entry ∷ []) some)
+asked_komi list false entry so = λ e. last (komi_is entry.command e)
   where
-    last : (komi : ℤ) × (entry.command ≡ Match (Komi komi))
-        → SetsKomi (commands_of said ++ (unanswered ++ entry ∷ []))
-    last (komi, is) = (
-      komi,
-      subst (SomeAsked (λ (command : CheckCommand). command ≡ Match (Komi komi)))
-          (append_assoc (commands_of said) unanswered (entry ∷ []))
-          (some_last (λ command. command ≡ Match (Komi komi)) (commands_of said ++ unanswered) entry is),
-    )
-
--- an answer takes no command away
-pub commands_more : (said : List Exchange) (entry : Asked) (reply : Reply) (later : List Asked)
-    → commands_of (said ++ record { entry = entry; reply = reply } ∷ []) ++ later
-    ≡ commands_of said ++ entry ∷ later
-commands_more [] entry reply later = refl
-commands_more (x ∷ xs) entry reply later =
-    ap (λ (l : List Asked). x.entry ∷ l) (commands_more xs entry reply later)
-
-abbrev KomiOf : List Exchange → Exam → Type 0
-KomiOf said exam = KomiSo said exam.unanswered exam.komi_set
-
-dropped_komi : (old : Exam) (said : List Exchange) (entry : Asked) (later : List Asked) (reply : Reply)
-    → old.unanswered ≡ entry ∷ later → KomiOf said old
-    → KomiSo (said ++ record { entry = entry; reply = reply } ∷ []) (drop 1 old.unanswered) old.komi_set
-dropped_komi old said entry later reply list so set =
-    subst (λ (l : List Asked). SetsKomi
-    (commands_of (said ++ record { entry = entry; reply = reply } ∷ []) ++ drop 1 l)) (sym list)
-    (subst SetsKomi (sym (commands_more said entry reply later))
-    (subst (λ (l : List Asked). SetsKomi (commands_of said ++ l)) list (so set)))
-
-judged_komi : (old : Exam) (said : List Exchange) (entry : Asked) (later : List Asked) (reply : Reply)
-    (got : Judgement) (new : Exam) → old.unanswered ≡ entry ∷ later → KomiOf said old → None ≡ finding_of entry got
-    → (rest : List ℕ) → new ≡ after_judged (with_learned (with_rest old rest) entry.command reply) got
-    → KomiOf (said ++ record { entry = entry; reply = reply } ∷ []) new
-judged_komi old said entry later reply Right new list so none rest is =
-    subst (KomiOf (said ++ record { entry = entry; reply = reply } ∷ [])) (sym is)
-    (dropped_komi old said entry later reply list so)
-judged_komi old said entry later reply (Plays colour v) new list so none rest is =
-    subst (KomiOf (said ++ record { entry = entry; reply = reply } ∷ [])) (sym is)
-    (dropped_komi old said entry later reply list so)
-judged_komi old said entry later reply (Resized size) new list so none rest is =
-    subst (KomiOf (said ++ record { entry = entry; reply = reply } ∷ [])) (sym is)
-    (dropped_komi old said entry later reply list so)
-judged_komi old said entry later reply (Wrong kind) new list so none rest is = absurd (cc none)
-
-heard_komi : (old : Exam) (said : List Exchange) (new : Exam) (all : List Exchange) → KomiOf said old
-    → Leaving old said new all → KomiOf all new
-heard_komi old said new all so (Leaving.nothing kept) =
-    subst (KomiSo said new.unanswered) (sym kept.komi)
-    (subst (λ (l : List Asked). KomiSo said l old.komi_set) (sym kept.unanswered) so)
-heard_komi old said new all so (Leaving.answered rest entry later reply got list j none is) =
-    judged_komi old said entry later reply got new list so none rest is
-
-komi_so : (rule : KoRule) (sent came : List ℕ) (said : List Exchange) (exam : Exam)
-    → Talks rule sent came said exam → KomiOf said exam
-komi_so rule sent came said exam Talks.start = λ e. absurd (cc e)
-komi_so rule sent came said exam (Talks.ask {sent = s} {came = c} {said = x} {old = old} {new = new} command talk
-    room asks) =
-    subst (KomiOf said) (sym asks.new_is)
-    (asked_komi said old.unanswered (record { id = old.sent + 1; command = command; due = asks.due }) old.komi_set
-    (komi_so rule s came said old talk))
-komi_so rule sent came said exam (Talks.hear {sent = s} {came = c} {said = x} {old = old} {new = new} bytes used
-    read talk hears) =
-    heard_komi old x exam said (komi_so rule sent c x old talk) (heard_leaving old bytes used read exam x hears)
+    last : (komi : ℤ) × IsSetting komi entry.command → (komi : ℤ) × SomeAsked (IsSetting komi) (list ++ entry ∷ [])
+    last (komi, is) = (komi, some_last (IsSetting komi) list entry is)
 
 pub komis_set : KomisAreSet
-komis_set rule sent came said exam talk room = komi_so rule sent came said exam talk (room.komi refl)
+komis_set rule sent came said exam talk room =
+    in_talks IsAskedWhereSet (λ e. absurd (cc e)) asked_komi rule sent came said exam talk (room.komi refl)
+
+-- ---- where one was asked it counts as set
+
+abbrev IsSetWhereAsked : List Asked → Bool → Type 0
+IsSetWhereAsked list set = (komi : ℤ) → SomeAsked (IsSetting komi) list → set ≡ true
+
+asked_set : (list : List Asked) (set : Bool) (entry : Asked) → IsSetWhereAsked list set
+    → IsSetWhereAsked (list ++ entry ∷ []) (set || is_komi entry.command)
+asked_set list set entry so = λ komi h. by komi (some_split (IsSetting komi) list (entry ∷ []) h)
+  where
+    by : (komi : ℤ) → SomeAsked (IsSetting komi) list ⊎ SomeAsked (IsSetting komi) (entry ∷ [])
+        → (set || is_komi entry.command) ≡ true
+    by komi (inl h) = ap (λ (c : Bool). c || is_komi entry.command) (so komi h)
+    by komi (inr (inl is)) = or_true set (is_komi entry.command) (ap is_komi is)
+    by komi (inr (inr h)) = absurd h
+
+pub set_so : (rule : KoRule) (sent came : List ℕ) (said : List Exchange) (exam : Exam)
+    → Talks rule sent came said exam → IsSetWhereAsked (commands_of said ++ exam.unanswered) exam.komi_set
+set_so rule sent came said exam talk =
+    in_talks IsSetWhereAsked (λ komi h. absurd h) asked_set rule sent came said exam talk
