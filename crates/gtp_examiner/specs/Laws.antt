@@ -14,7 +14,7 @@ use Rattle.gtp_examiner.specs.declared.asking.CheckCommand.{CheckCommand}
 use Rattle.gtp_examiner.specs.declared.asking.CheckCommand.TheVariants.{Match, FinalScore, Name, Version, KnownCommand}
 use Rattle.gtp_wire.specs.declared.commands.Command.TheVariants.{Boardsize, Komi, ClearBoard, FixedHandicap, Play}
 use Rattle.gtp_wire.specs.declared.commands.Command.TheVariants.{Genmove, Undo, Quit}
-use Rattle.gtp_wire.specs.Replies.{IsReply}
+use Rattle.gtp_wire.specs.Replies.{IsReply, GivesNoAnswer}
 use Rattle.gtp_wire.specs.declared.lines.Line.{Line}
 use Rattle.gtp_wire.specs.declared.replies.Reply.{Reply}
 use Rattle.gtp_wire.specs.declared.replies.ReplyFault.{ReplyFault}
@@ -313,9 +313,11 @@ RightAnswersHaveNoFinding = (rule : KoRule) (sent came : List ℕ) (said : List 
     → finding ≡ None
 
 -- What may be written by whoever was asked these commands and answers rightly, from this game on: replies, one after
--- the other, each a right answer in the game that those before it leave. The last commands may have no answer yet.
+-- the other, each a right answer in the game that those before it leave. The last commands may have no answer yet. What
+-- is after the answers is none: it may be blank, or the front of a reply.
 pub data AnswersRightly : GameRecord → List Asked → List ℕ → Type 0 where
-  no_more : (game : GameRecord) (unread : List Asked) → AnswersRightly game unread []
+  no_more : (game : GameRecord) (unread : List Asked) (rest : List ℕ) → GivesNoAnswer rest
+      → AnswersRightly game unread rest
   answers : {game after : GameRecord} {unread : List Asked} {out : List ℕ} (entry : Asked) (reply : Reply)
       (text : List ℕ) → IsReply text reply → IsRight game entry reply after → AnswersRightly after unread out
       → AnswersRightly game (entry ∷ unread) (text ++ out)

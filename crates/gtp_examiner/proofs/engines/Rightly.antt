@@ -9,7 +9,7 @@ use Rattle.go_board.specs.declared.rules.KoRule.{KoRule}
 use Rattle.gtp_wire.specs.declared.replies.Reply.{Reply}
 use Rattle.gtp_wire.specs.declared.replies.ReplyFault.{ReplyFault}
 use Rattle.gtp_wire.specs.declared.replies.ReplyFault.TheVariants.{NoStatus, Overlong}
-use Rattle.gtp_wire.specs.Replies.{IsFirst, GivesAnswer, past_blanks}
+use Rattle.gtp_wire.specs.Replies.{IsFirst, GivesAnswer, GivesNoAnswer, past_blanks}
 use Rattle.gtp_wire.proofs.first_answers.OneAnswer.{one_first, reply_is_first}
 use Rattle.gtp_wire.proofs.first_answers.OneByteMore.{first_more}
 use Rattle.gtp_session.specs.Engine.{fresh_game_under}
@@ -45,6 +45,13 @@ pub nothing_first : (n : ℕ) (read : Result Reply ReplyFault) → IsFirst [] n 
 nothing_first n read first =
     nothing_given read (subst (λ (t : List ℕ). GivesAnswer t read) (none_taken n) first.is_given)
 
+-- where no front is an answer none comes first
+none_first : (text all : List ℕ) (n : ℕ) (read : Result Reply ReplyFault) → GivesNoAnswer text → text ≡ all
+    → IsFirst all n read → ⊥
+none_first text all n read none is first =
+    let here : IsFirst text n read = subst (λ (t : List ℕ). IsFirst t n read) (sym is) first in
+    none n read here.inside here.is_given
+
 pub entries_are : (said : List Exchange) → commands_of said ≡ map entry_of said
 entries_are [] = refl
 entries_are (x ∷ xs) = ap (λ (l : List Asked). x.entry ∷ l) (entries_are xs)
@@ -66,12 +73,11 @@ remains [] unanswered raw rest out game all rightly e sent raws is = record {
       (subst (λ (l : List Asked). AnswersRightly game l out) e rightly);
   game_is = λ after h. h;
 }
-remains (x ∷ xs) unanswered raw rest out game all (AnswersRightly.no_more g l) e sent raws is =
-    let texts : [] ≡ raws.0 ++ (raws.1 ++ rest) =
+remains (x ∷ xs) unanswered raw rest out game all (AnswersRightly.no_more g l last none) e sent raws is =
+    let texts : out ≡ raws.0 ++ (raws.1 ++ rest) =
     is ∙ ap (λ (t : List ℕ). t ++ rest) raws.2 ∙ append_assoc raws.0 raws.1 rest in
-    absurd (nothing_first (length raws.0) (Ok x.reply)
-    (subst (λ (t : List ℕ). IsFirst t (length raws.0) (Ok x.reply)) (sym texts)
-    (reply_is_first raws.0 (raws.1 ++ rest) x.reply raws.3)))
+    absurd (none_first out (raws.0 ++ (raws.1 ++ rest)) (length raws.0) (Ok x.reply) none texts
+    (reply_is_first raws.0 (raws.1 ++ rest) x.reply raws.3))
 remains (x ∷ xs) unanswered raw rest out game all
     (AnswersRightly.answers {after = after} {unread = unread} {out = more} entry reply text read right later)
     e sent raws is =
@@ -110,8 +116,8 @@ record NextRight (game : GameRecord) (unanswered : List Asked) (said : Result Re
 next_right : (game : GameRecord) (unanswered : List Asked) (out text : List ℕ) (n : ℕ)
     (read : Result Reply ReplyFault) → AnswersRightly game unanswered out → out ≡ text → IsFirst text n read
     → NextRight game unanswered read
-next_right game unanswered out text n read (AnswersRightly.no_more g l) is first =
-    absurd (nothing_first n read (subst (λ (t : List ℕ). IsFirst t n read) (sym is) first))
+next_right game unanswered out text n read (AnswersRightly.no_more g l last none) is first =
+    absurd (none_first out text n read none is first)
 next_right game unanswered out text n read
     (AnswersRightly.answers {after = after} {unread = unread} {out = more} entry reply bytes reads right later)
     is first =
