@@ -187,8 +187,8 @@ ReadyEnginesMayBeAsked = (exam : Exam) → IsReady exam → TheseMayBeAsked exam
 
 -- And these may be asked of such an engine whose board is known. A `fixed_handicap`, an `undo` and a `final_score`
 -- where its last answer says that it knows them; a `play` and a `genmove` where the record has room, but a `genmove`
--- only where the engine owes nothing, and not after two passes. A `final_score` also needs a `komi` that was asked, and that nothing was played or placed. The
--- number of stones is an int.
+-- only where the engine owes nothing, and not after two passes. A `final_score` also needs a `komi` that was asked, and
+-- that nothing was played or placed. The number of stones is an int.
 pub record TheseMayBeAskedToo (said : List Exchange) (exam : Exam) : Type 0 where
   pub handicaps : (stones : ℕ) → stones ≤ 2147483647 → IsKnown said known.FixedHandicap
       → HasRoomFor exam (Match (FixedHandicap stones))

@@ -27,7 +27,7 @@ pub fn findings_are_justified()
     ensures { FindingsAreJustified }
 {}
 
-/// The bytes that were asked and heard show a finding: whoever was asked them and answers rightly writes something else.
+/// The bytes that were asked and heard show a finding: who was asked them and answers rightly writes something else.
 pub fn conversations_show_findings()
     ensures { ConversationsShowFindings }
 {}
@@ -98,8 +98,8 @@ pub fn known_engines_may_be_asked()
     ensures { KnownEnginesMayBeAsked }
 {}
 
-/// An engine that is up is in the talk of what was asked and heard since its own start, so nothing is kept of one before
-/// it.
+/// An engine that is up is in the talk of what was asked and heard since its own start, so nothing is kept of one
+/// before it.
 pub fn each_start_begins_anew()
     ensures { EachStartBeginsAnew }
 {}
