@@ -77,11 +77,11 @@ record_stretches =
 -- The board is filled for the choices of both colours, and again for the capture of all that fills it.
 abbrev pub genmoves_stretches : List Stretch
 genmoves_stretches =
-    stretch.Size ∷ stretch.Taken ∷ stretch.Komi ∷ stretch.Clear ∷ stretch.Genmoves 240 ∷ stretch.Clear ∷
-    stretch.Filled ∷ stretch.Chosen Black ∷ stretch.Undo ∷ stretch.Chosen White ∷ stretch.Undo ∷
-    stretch.Chosen Black ∷ stretch.Undo ∷ stretch.Clear ∷ stretch.Gaps ∷ stretch.Chosen Black ∷ stretch.Clear ∷
-    stretch.Filled ∷ stretch.Swept ∷ stretch.Corner ∷ stretch.Undo ∷ stretch.Corner ∷ stretch.Clear ∷
-    stretch.Handicap ∷ stretch.Genmoves 20 ∷ []
+    stretch.Size ∷ stretch.Taken ∷ stretch.Komi ∷ stretch.Clear ∷ stretch.Genmoves 240 ∷ stretch.Size ∷
+    stretch.Taken ∷ stretch.Clear ∷ stretch.Filled ∷ stretch.Chosen Black ∷ stretch.Undo ∷ stretch.Chosen White ∷
+    stretch.Undo ∷ stretch.Chosen Black ∷ stretch.Undo ∷ stretch.Clear ∷ stretch.Gaps ∷ stretch.Chosen Black ∷
+    stretch.Clear ∷ stretch.Filled ∷ stretch.Swept ∷ stretch.Corner ∷ stretch.Undo ∷ stretch.Corner ∷
+    stretch.Clear ∷ stretch.Handicap ∷ stretch.Genmoves 20 ∷ []
 
 abbrev pub games_stretches : List Stretch
 games_stretches =

@@ -235,12 +235,14 @@ static RECORD: [Stretch; 16] = [
     Stretch::Own,
 ];
 
-static GENMOVES: [Stretch; 25] = [
+static GENMOVES: [Stretch; 27] = [
     Stretch::Size,
     Stretch::Taken,
     Stretch::Komi,
     Stretch::Clear,
     Stretch::Genmoves(240),
+    Stretch::Size,
+    Stretch::Taken,
     Stretch::Clear,
     Stretch::Filled,
     Stretch::Chosen(Colour::Black),
