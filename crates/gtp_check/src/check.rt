@@ -150,7 +150,7 @@ impl<S: Starter> Check<S> {
                 Action::Wait => return Ok(Next::Exchange),
                 Action::Skip => {}
                 Action::Done => {
-                    let owes = self.examiner.unanswered() > 0;
+                    let owes = self.examiner.is_up() && self.examiner.unanswered() > 0;
                     return Ok(if owes { Next::Exchange } else { Next::Over });
                 }
             }
