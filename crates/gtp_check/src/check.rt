@@ -54,8 +54,10 @@ pub struct Check<S: Starter> {
 enum Next {
     /// An engine is started.
     Start,
-    /// The engine is ended, and a new one is started.
+    /// The engine is sent `quit` and ended, and a new one is started.
     Restart,
+    /// The engine is ended at once, and a new one is started.
+    Kill,
     /// What was asked is sent, and the engine is heard.
     Exchange,
     /// Each lesson was asked.
@@ -113,6 +115,10 @@ impl<S: Starter> Check<S> {
                 self.restart();
                 Ok(None)
             }
+            Next::Kill => {
+                self.kill();
+                Ok(None)
+            }
             Next::Over => Ok(Some(Over::Done)),
             Next::Exchange => {
                 let fault = self.exchange(lines.as_slice());
@@ -139,11 +145,12 @@ impl<S: Starter> Check<S> {
             match self.course.next(&self.examiner) {
                 Action::Start => return Ok(Next::Start),
                 Action::Restart => return Ok(Next::Restart),
+                Action::Kill => return Ok(Next::Kill),
                 Action::Ask(command) => self.ask(command, purpose, lines)?,
                 Action::Wait => return Ok(Next::Exchange),
                 Action::Skip => {}
                 Action::Done => {
-                    let owes = self.examiner.unanswered() > 0;
+                    let owes = self.examiner.is_up() && self.examiner.unanswered() > 0;
                     return Ok(if owes { Next::Exchange } else { Next::Over });
                 }
             }
@@ -216,6 +223,12 @@ impl<S: Starter> Check<S> {
     fn restart(&mut self) {
         self.examiner.lost();
         quit(self.engine.take(), &mut self.room);
+    }
+
+    /// The engine, which owes nothing, is ended without `quit`.
+    fn kill(&mut self) {
+        self.examiner.lost();
+        end_now(self.engine.take());
     }
 
     /// The first line is written, once the version is known.

@@ -2,7 +2,7 @@
 use Rattle.std.proofs.Common.{◌≡◌, ℕ, ◌+◌, ◌*◌, ◌≤◌, refl, sym, ◌∙◌, subst, arith, List, length, Option, inl, inr}
 use Rattle.gtp_examiner.specs.declared.exam.Exam.{Exam}
 use Rattle.gtp_course.specs.declared.actions.Action.{Action}
-use Rattle.gtp_course.specs.declared.actions.Action.TheVariants.{Start, Restart, Ask, Wait, Skip, Done}
+use Rattle.gtp_course.specs.declared.actions.Action.TheVariants.{Start, Restart, Kill, Ask, Wait, Skip, Done}
 use Rattle.gtp_course.specs.declared.lessons.Lesson.{Lesson}
 use Rattle.gtp_course.specs.declared.openings.Opening.{Opening}
 use Rattle.gtp_course.specs.declared.openings.Opening.TheVariants as opening
@@ -54,6 +54,9 @@ step lessons asked started old new exam Start held goes =
 step lessons asked started old new exam Restart held goes =
     let h : Holds lessons (1 + asked) started new = goes_on lessons asked started old new held goes.1 in
     record { same = h.same; few = omega (arith, h.few) }
+step lessons asked started old new exam Kill held goes =
+    let h : Holds lessons (1 + asked) started new = goes_on lessons asked started old new held goes.1 in
+    record { same = h.same; few = omega (arith, h.few) }
 step lessons asked started old new exam (Ask command) held goes =
     let h : Holds lessons (1 + asked) started new = goes_on lessons asked started old new held goes.1 in
     record { same = h.same; few = omega (arith, h.few) }
@@ -87,7 +90,7 @@ few_half false = omega arith
 
 pub bounded : (lessons : List Lesson) (scene_size : Option ℕ) (asked started : ℕ) (course : Course)
     → Walks lessons scene_size asked started course → IsIn course.lessons course.place
-    → asked ≤ 28800000 * (length lessons + 1) + 5 * (started + 1)
+    → asked ≤ 57600000 * (length lessons + 1) + 5 * (started + 1)
 bounded lessons scene_size asked started course walks inside =
     let held : Holds lessons asked started course = holds lessons scene_size asked started course walks in
     let within : course.place.lesson ≤ length lessons =

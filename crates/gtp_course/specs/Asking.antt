@@ -11,7 +11,7 @@ use Rattle.gtp_examiner.specs.declared.setups.Board.TheVariants.{Unknown}
 use Rattle.gtp_examiner.specs.declared.skills.Skill.TheVariants.{Has}
 use Rattle.gtp_examiner.specs.Exam.{HasRoomFor}
 use Rattle.gtp_course.specs.declared.actions.Action.{Action}
-use Rattle.gtp_course.specs.declared.actions.Action.TheVariants.{Start, Restart, Ask, Wait, Skip, Done}
+use Rattle.gtp_course.specs.declared.actions.Action.TheVariants.{Start, Restart, Kill, Ask, Wait, Skip, Done}
 use Rattle.gtp_course.specs.declared.actions.Question.{Question}
 use Rattle.gtp_course.specs.declared.actions.Question.TheVariants as asked
 use Rattle.gtp_course.specs.declared.boards.Board.{Board}
@@ -50,10 +50,21 @@ lesson_of course = slice_get course.lessons course.place.lesson
 abbrev pub Renews : Lesson → Course → Exam → Action → Course → Type 0
 Renews lesson old exam Wait new = (0 < length exam.unanswered) × (new ≡ old)
 Renews lesson old exam Restart new = (exam.unanswered ≡ []) × (new ≡ step_over lesson old)
+Renews lesson old exam Kill new = ⊥
 Renews lesson old exam Start new = ⊥
 Renews lesson old exam (Ask command) new = ⊥
 Renews lesson old exam Skip new = ⊥
 Renews lesson old exam Done new = ⊥
+
+-- The same without a `quit`.
+abbrev pub Kills : Lesson → Course → Exam → Action → Course → Type 0
+Kills lesson old exam Wait new = (0 < length exam.unanswered) × (new ≡ old)
+Kills lesson old exam Kill new = (exam.unanswered ≡ []) × (new ≡ step_over lesson old)
+Kills lesson old exam Restart new = ⊥
+Kills lesson old exam Start new = ⊥
+Kills lesson old exam (Ask command) new = ⊥
+Kills lesson old exam Skip new = ⊥
+Kills lesson old exam Done new = ⊥
 
 -- A command of the opening is asked, and the place stays. It can't be asked only where no more ids are left.
 abbrev pub Opens : Lesson → Course → Exam → CheckCommand → Opening → Action → Course → Type 0
@@ -63,6 +74,7 @@ Opens lesson old exam command after Wait new =
     (0 < length exam.unanswered) × (HasRoomFor exam command → ⊥) × (new ≡ old)
 Opens lesson old exam command after Restart new =
     (exam.unanswered ≡ []) × (HasRoomFor exam command → ⊥) × (new ≡ step_over lesson old)
+Opens lesson old exam command after Kill new = ⊥
 Opens lesson old exam command after Start new = ⊥
 Opens lesson old exam command after Skip new = ⊥
 Opens lesson old exam command after Done new = ⊥
@@ -78,6 +90,7 @@ Poses lesson old exam command Skip new =
     (exam.unanswered ≡ []) × (HasRoomFor exam command → ⊥) × (new ≡ step_over lesson old)
 Poses lesson old exam command Start new = ⊥
 Poses lesson old exam command Restart new = ⊥
+Poses lesson old exam command Kill new = ⊥
 Poses lesson old exam command Done new = ⊥
 
 -- A move on any point is asked. Where it is legal, the engine must be able to take it back, and is asked to do so next.
@@ -97,6 +110,7 @@ Probes lesson old exam made Skip new =
     → IsLegal exam.game made.colour made.vertex × (exam.skills.undo ≢ Has))
 Probes lesson old exam made Start new = ⊥
 Probes lesson old exam made Restart new = ⊥
+Probes lesson old exam made Kill new = ⊥
 Probes lesson old exam made Done new = ⊥
 
 -- the course knows the size of scenes: the start has found it
@@ -115,6 +129,7 @@ Sees lesson old exam size (Ask command) new = ⊥
 Sees lesson old exam size Wait new = ⊥
 Sees lesson old exam size Start new = ⊥
 Sees lesson old exam size Restart new = ⊥
+Sees lesson old exam size Kill new = ⊥
 Sees lesson old exam size Done new = ⊥
 
 -- what comes of a question
@@ -123,6 +138,7 @@ Takes lesson old exam (asked.Ask command) action new = Poses lesson old exam com
 Takes lesson old exam (asked.Probe made) action new = Probes lesson old exam made action new
 Takes lesson old exam (asked.Size size) action new = Sees lesson old exam size action new
 Takes lesson old exam asked.Restart action new = Renews lesson old exam action new
+Takes lesson old exam asked.Kill action new = Kills lesson old exam action new
 Takes lesson old exam asked.Nothing action new = (action ≡ Skip) × (new ≡ step_over lesson old)
 
 -- What comes next in a lesson, of an engine that may be asked something: first the opening, then the `undo` of a move

@@ -9,10 +9,10 @@ use Rattle.gtp_course.specs.declared.lessons.Lesson.TheVariants.{Restarts}
 use Rattle.gtp_course.specs.declared.boards.Board.{Board}
 use Rattle.gtp_course.specs.Scenes.{way_of, ways, scene_of}
 
--- the sizes of the drawn games, of the long records, of those with moves of the engine's own, and of the games in one
--- process
+-- The sizes of the drawn games, of the long records, of those with moves of the engine's own, and of the games in one
+-- process. After them comes the size of scenes, which the engine takes.
 abbrev pub drawn_sizes : List ℕ
-drawn_sizes = 9 ∷ 5 ∷ 3 ∷ 13 ∷ 19 ∷ 7 ∷ []
+drawn_sizes = 9 ∷ 5 ∷ 3 ∷ 13 ∷ 19 ∷ 7 ∷ 25 ∷ 2 ∷ []
 
 abbrev pub record_sizes : List ℕ
 record_sizes = 9 ∷ 19 ∷ []
@@ -33,11 +33,11 @@ lines_of Suicide part scene_size = scene_size
 lines_of Joining part scene_size = scene_size
 lines_of Handicaps part scene_size = part / 12 + 1
 lines_of Komi part scene_size = scene_size
-lines_of Drawn part scene_size = slice_index_or drawn_sizes (part % 6) 9
-lines_of Record part scene_size = slice_index_or record_sizes (part % 2) 9
-lines_of Genmoves part scene_size = slice_index_or genmove_sizes (part % 8) 9
-lines_of Games part scene_size = slice_index_or game_sizes (part % 4) 9
-lines_of Restarts part scene_size = slice_index_or game_sizes (part % 4) 9
+lines_of Drawn part scene_size = slice_index_or drawn_sizes part scene_size
+lines_of Record part scene_size = slice_index_or record_sizes part scene_size
+lines_of Genmoves part scene_size = slice_index_or genmove_sizes part scene_size
+lines_of Games part scene_size = slice_index_or game_sizes part scene_size
+lines_of Restarts part scene_size = slice_index_or game_sizes part scene_size
 
 -- this size, or the other where it is none
 abbrev pub size_or : ℕ → ℕ → ℕ

@@ -10,7 +10,7 @@ use Rattle.gtp_course.specs.declared.places.Place.{Place}
 use Rattle.gtp_course.specs.declared.openings.Opening.{Opening}
 use Rattle.gtp_course.specs.declared.openings.Opening.TheVariants as opening
 use Rattle.gtp_course.specs.declared.actions.Action.{Action}
-use Rattle.gtp_course.specs.declared.actions.Action.TheVariants.{Start, Restart, Ask, Wait, Skip, Done}
+use Rattle.gtp_course.specs.declared.actions.Action.TheVariants.{Start, Restart, Kill, Ask, Wait, Skip, Done}
 use Rattle.gtp_course.specs.Places.{IsPlace, number, first_place, next_step, next_stretch, next_part, next_lesson}
 use Rattle.gtp_course.specs.Openings.{opened}
 use Rattle.gtp_course.specs.Stretches.{steps_if}
@@ -128,6 +128,7 @@ pub record GoesOn (old new : Course) : Type 0 where
 abbrev pub GoesTo : Course → Exam → Action → Course → Type 0
 GoesTo old exam Start new = (exam.up ≡ false) × (new ≡ record old { opening = opening.Name })
 GoesTo old exam Restart new = (exam.unanswered ≡ []) × GoesOn old new
+GoesTo old exam Kill new = (exam.unanswered ≡ []) × GoesOn old new
 GoesTo old exam (Ask command) new = HasRoomFor exam command × GoesOn old new
 GoesTo old exam Wait new = (0 < length exam.unanswered) × (new ≡ old)
 GoesTo old exam Skip new = GoesOn old new

@@ -2,7 +2,7 @@
 use Rattle.std.specs.Prelude.{◌≡◌, ℕ, ◌+◌, ◌*◌, ◌≤◌, List, length, Option}
 use Rattle.gtp_examiner.specs.declared.exam.Exam.{Exam}
 use Rattle.gtp_course.specs.declared.actions.Action.{Action}
-use Rattle.gtp_course.specs.declared.actions.Action.TheVariants.{Start, Restart, Ask, Wait, Skip, Done}
+use Rattle.gtp_course.specs.declared.actions.Action.TheVariants.{Start, Restart, Kill, Ask, Wait, Skip, Done}
 use Rattle.gtp_course.specs.declared.lessons.Lesson.{Lesson}
 use Rattle.gtp_course.specs.declared.lessons.Lesson.TheVariants.{Ko, Captures, Suicide, Joining}
 use Rattle.gtp_course.specs.Course.{Course, GoesTo, IsIn, Leaves, begun}
@@ -15,6 +15,7 @@ use Rattle.gtp_course.specs.Scenes.{scenes_of, ways}
 abbrev pub counted : Action → ℕ
 counted (Ask command) = 1
 counted Restart = 1
+counted Kill = 1
 counted Skip = 1
 counted Start = 0
 counted Wait = 0
@@ -24,6 +25,7 @@ abbrev pub starts : Action → ℕ
 starts Start = 1
 starts (Ask command) = 0
 starts Restart = 0
+starts Kill = 0
 starts Wait = 0
 starts Skip = 0
 starts Done = 0
@@ -43,7 +45,7 @@ pub data Walks (lessons : List Lesson) (scene_size : Option ℕ) : ℕ → ℕ �
 abbrev pub EveryCourseIsBounded : Type 0
 EveryCourseIsBounded = (lessons : List Lesson) (scene_size : Option ℕ) (asked started : ℕ) (course : Course)
     → Walks lessons scene_size asked started course → IsIn course.lessons course.place
-    → asked ≤ 28800000 * (length lessons + 1) + 5 * (started + 1)
+    → asked ≤ 57600000 * (length lessons + 1) + 5 * (started + 1)
 
 -- ---- each scene is asked
 

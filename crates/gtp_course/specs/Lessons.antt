@@ -1,5 +1,6 @@
 -- What the lessons of a course ask: how many parts each has, and the stretches of each part.
 use Rattle.std.specs.Prelude.{ℕ, List, [], ◌∷◌}
+use Rattle.go_base.specs.declared.colours.Colour.TheVariants.{Black, White}
 use Rattle.gtp_course.specs.declared.lessons.Lesson.{Lesson}
 use Rattle.gtp_course.specs.declared.lessons.Lesson.TheVariants.{Start, Sizes, Ko, Captures, Suicide, Joining}
 use Rattle.gtp_course.specs.declared.lessons.Lesson.TheVariants.{Handicaps, Komi, Drawn, Record, Genmoves, Games}
@@ -12,17 +13,17 @@ use Rattle.gtp_course.specs.declared.stretches.Stretch.TheVariants as stretch
 abbrev pub parts_of : Lesson → ℕ
 parts_of Start = 21
 parts_of Sizes = 25
-parts_of Ko = 80
+parts_of Ko = 96
 parts_of Captures = 128
 parts_of Suicide = 80
 parts_of Joining = 64
 parts_of Handicaps = 300
 parts_of Komi = 8
-parts_of Drawn = 6
-parts_of Record = 2
-parts_of Genmoves = 8
-parts_of Games = 4
-parts_of Restarts = 4
+parts_of Drawn = 9
+parts_of Record = 3
+parts_of Genmoves = 9
+parts_of Games = 5
+parts_of Restarts = 5
 
 abbrev pub scene_stretches : List Stretch
 scene_stretches =
@@ -41,7 +42,8 @@ refused_stretches =
 abbrev pub start_stretches : List Stretch
 start_stretches =
     stretch.Size ∷ stretch.Taken ∷ stretch.Komi ∷ stretch.Clear ∷ stretch.Edges ∷ stretch.Genmoves 1 ∷
-    stretch.Own ∷ stretch.Undo ∷ stretch.Undo ∷ stretch.Genmoves 2 ∷ []
+    stretch.Own ∷ stretch.Undo ∷ stretch.Undo ∷ stretch.Genmoves 2 ∷ stretch.Clear ∷ stretch.Moves ∷
+    stretch.Restart ∷ stretch.Size ∷ stretch.Taken ∷ stretch.Komi ∷ stretch.Clear ∷ stretch.Undo ∷ stretch.Own ∷ []
 
 abbrev pub sizes_stretches : List Stretch
 sizes_stretches =
@@ -51,8 +53,9 @@ sizes_stretches =
 abbrev pub handicaps_stretches : List Stretch
 handicaps_stretches =
     stretch.Size ∷ stretch.Taken ∷ stretch.Komi ∷ stretch.Clear ∷ stretch.Handicap ∷ stretch.Stars ∷
-    stretch.Handicap ∷ stretch.Surround ∷ stretch.Stars ∷ stretch.Clear ∷ stretch.Stars ∷ stretch.Drawn 1 ∷
-    stretch.Undo ∷ stretch.Handicap ∷ stretch.Genmoves 3 ∷ stretch.Clear ∷ stretch.Stars ∷ []
+    stretch.Handicap ∷ stretch.Surround ∷ stretch.Stars ∷ stretch.Clear ∷ stretch.Score ∷ stretch.Stars ∷
+    stretch.Drawn 1 ∷ stretch.Undo ∷ stretch.Handicap ∷ stretch.Genmoves 3 ∷ stretch.Clear ∷ stretch.Score ∷
+    stretch.Stars ∷ []
 
 abbrev pub komi_stretches : List Stretch
 komi_stretches =
@@ -68,13 +71,17 @@ drawn_stretches =
 abbrev pub record_stretches : List Stretch
 record_stretches =
     stretch.Size ∷ stretch.Taken ∷ stretch.Komi ∷ stretch.Clear ∷ stretch.Drawn 1030 ∷ stretch.Back 12 ∷
-    stretch.Drawn 970 ∷ stretch.Back 30 ∷ stretch.Probed 60 ∷ stretch.Back 20 ∷ stretch.Clear ∷
-    stretch.Passes 1010 ∷ stretch.Moves ∷ stretch.Own ∷ stretch.Back 20 ∷ []
+    stretch.Drawn 970 ∷ stretch.Back 300 ∷ stretch.Probed 60 ∷ stretch.Back 20 ∷ stretch.Clear ∷
+    stretch.Passes 1010 ∷ stretch.Moves ∷ stretch.Own ∷ stretch.Back 1020 ∷ stretch.Own ∷ []
 
+-- The board is filled for the choices of both colours, and again for the capture of all that fills it.
 abbrev pub genmoves_stretches : List Stretch
 genmoves_stretches =
-    stretch.Size ∷ stretch.Taken ∷ stretch.Komi ∷ stretch.Clear ∷ stretch.Genmoves 240 ∷ stretch.Clear ∷
-    stretch.Handicap ∷ stretch.Genmoves 20 ∷ []
+    stretch.Size ∷ stretch.Taken ∷ stretch.Komi ∷ stretch.Clear ∷ stretch.Genmoves 240 ∷ stretch.Size ∷
+    stretch.Taken ∷ stretch.Clear ∷ stretch.Filled ∷ stretch.Chosen Black ∷ stretch.Undo ∷ stretch.Chosen White ∷
+    stretch.Undo ∷ stretch.Chosen Black ∷ stretch.Undo ∷ stretch.Clear ∷ stretch.Gaps ∷ stretch.Chosen Black ∷
+    stretch.Clear ∷ stretch.Filled ∷ stretch.Swept ∷ stretch.Corner ∷ stretch.Undo ∷ stretch.Corner ∷
+    stretch.Clear ∷ stretch.Handicap ∷ stretch.Genmoves 20 ∷ []
 
 abbrev pub games_stretches : List Stretch
 games_stretches =
@@ -83,12 +90,15 @@ games_stretches =
     stretch.OtherSize ∷ stretch.OtherTaken ∷ stretch.Komi ∷ stretch.Clear ∷ stretch.Score ∷ stretch.Handicap ∷
     stretch.Probed 60 ∷ stretch.Size ∷ stretch.Clear ∷ stretch.Genmoves 6 ∷ []
 
+-- an engine that is started again after its `quit`, and one that is started after another was ended without it
 abbrev pub restarts_stretches : List Stretch
 restarts_stretches =
     stretch.Size ∷ stretch.Taken ∷ stretch.Komi ∷ stretch.Clear ∷ stretch.Handicap ∷ stretch.Drawn 60 ∷
-    stretch.Genmoves 2 ∷ stretch.Restart ∷ stretch.Size ∷ stretch.Taken ∷ stretch.Komi ∷ stretch.Clear ∷
-    stretch.Handicap ∷ stretch.Drawn 60 ∷ stretch.Probed 60 ∷ stretch.Back 30 ∷ stretch.Genmoves 4 ∷
-    stretch.Clear ∷ stretch.Moves ∷ stretch.Own ∷ stretch.Restart ∷ []
+    stretch.Genmoves 2 ∷ stretch.Clear ∷ stretch.Filled ∷ stretch.Chosen Black ∷ stretch.Restart ∷
+    stretch.Size ∷ stretch.Taken ∷ stretch.OtherKomi ∷ stretch.Clear ∷ stretch.Score ∷ stretch.Undo ∷
+    stretch.Filled ∷ stretch.Chosen White ∷ stretch.Clear ∷ stretch.Handicap ∷ stretch.Drawn 60 ∷
+    stretch.Probed 60 ∷ stretch.Back 30 ∷ stretch.Genmoves 4 ∷ stretch.Clear ∷ stretch.Moves ∷ stretch.Own ∷
+    stretch.Kill ∷ stretch.Size ∷ stretch.Taken ∷ stretch.Komi ∷ stretch.Clear ∷ stretch.Undo ∷ stretch.Own ∷ []
 
 -- the stretches of each part, one after the other
 abbrev pub stretches_of : Lesson → List Stretch

@@ -1,5 +1,5 @@
 -- What a step of a lesson asks.
-use Rattle.std.specs.Prelude.{◌≡◌, ◌≢◌, ℕ, ◌+◌, ◌-◌, ◌/◌, ◌%◌, ◌==◌, nat_le, nat_lt, ◌||◌, ◌&&◌, if◌then◌else◌}
+use Rattle.std.specs.Prelude.{◌≡◌, ◌≢◌, ℕ, ◌+◌, ◌-◌, ◌/◌, ◌%◌, ◌==◌, nat_le, nat_lt, ◌||◌, ◌&&◌, if◌then◌else◌, Bool}
 use Rattle.std.specs.Prelude.{List, [], length, slice_get, Option, None, Some}
 use Rattle.go_base.specs.Colour.{other}
 use Rattle.go_base.specs.Handicap.{handicap_points}
@@ -13,11 +13,11 @@ use Rattle.gtp_wire.specs.declared.commands.Command.{Command}
 use Rattle.gtp_wire.specs.declared.commands.Command.TheVariants as command
 use Rattle.gtp_examiner.specs.declared.asking.CheckCommand.TheVariants.{Match, FinalScore}
 use Rattle.gtp_course.specs.declared.actions.Question.{Question}
-use Rattle.gtp_course.specs.declared.actions.Question.TheVariants.{Ask, Probe, Size, Restart, Nothing}
+use Rattle.gtp_course.specs.declared.actions.Question.TheVariants.{Ask, Probe, Size, Restart, Kill, Nothing}
 use Rattle.gtp_course.specs.declared.boards.Board.{Board}
 use Rattle.gtp_course.specs.declared.stretches.Stretch.{Stretch}
 use Rattle.gtp_course.specs.declared.stretches.Stretch.TheVariants as stretch
-use Rattle.gtp_course.specs.Scenes.{Acts, crossing, turned, turned_act}
+use Rattle.gtp_course.specs.Scenes.{Acts, crossing, turned, turned_act, turned_colour}
 
 -- a command of a match
 abbrev pub asks : Command → Question
@@ -116,12 +116,50 @@ genmove_asked step moves =
     else if step % 5 == 2 then asks (command.Genmove (other (colour_of moves)))
     else asks (command.Genmove (colour_of moves))
 
+-- a move of the engine's own, of the colour that plays this one's moves
+abbrev pub choice_asked : Board → Colour → Question
+choice_asked board colour = asks (command.Genmove (turned_colour board.way colour))
+
+-- ---- full boards
+
+-- One stone of White is in the corner, and Black has all points but three: the point beside it, and two corners. Beside
+-- it Black takes the stone. White has no legal point.
+abbrev pub is_gap : ℕ → ℕ → ℕ → Bool
+is_gap column row size =
+    column == 2 && row == 1 || column == size && row == size || column == 1 && row == size
+
+-- the move of a step, row by row, if it has one
+abbrev pub filled_act : ℕ → ℕ → Option (Colour × ℕ × ℕ)
+filled_act step size =
+    if nat_le size (step / size) || is_gap (step % size + 1) (step / size + 1) size then None
+    else if step == 0 then Some (White, 1, 1)
+    else Some (Black, step % size + 1, step / size + 1)
+
+-- Black plays the three points.
+abbrev pub gap_act : ℕ → ℕ → Colour × ℕ × ℕ
+gap_act step size =
+    if step == 0 then (Black, 2, 1)
+    else if step == 1 then (Black, size, size)
+    else (Black, 1, size)
+
+-- Black takes White's stone, and fills all but the last corner. Then White takes all stones of Black by that one.
+abbrev pub swept_act : ℕ → ℕ → Colour × ℕ × ℕ
+swept_act step size =
+    if step == 0 then (Black, 2, 1)
+    else if step == 1 then (Black, 1, 1)
+    else if step == 2 then (Black, size, size)
+    else (White, 1, size)
+
 -- ---- drawn moves
 
--- a move that is legal; it may be a pass
-abbrev pub IsLegalMove : GameRecord → Question → Type 0
-IsLegalMove game question =
-    (colour : Colour) × (vertex : Vertex) × IsLegal game colour vertex × (question ≡ plays colour vertex)
+-- A move that is legal: on a point, or a pass, where no point is legal for the colour.
+pub record IsDrawn (game : GameRecord) (colour : Colour) (vertex : Vertex) : Type 0 where
+  pub legal : IsLegal game colour vertex
+  pub passes_last : vertex ≡ Pass → (p : ℕ) → IsOn game.size p → IsLegal game colour (At p) → ⊥
+
+abbrev pub IsDrawnMove : GameRecord → Question → Type 0
+IsDrawnMove game question =
+    (colour : Colour) × (vertex : Vertex) × IsDrawn game colour vertex × (question ≡ plays colour vertex)
 
 -- a probe of a point of the board
 abbrev pub IsProbe : GameRecord → Question → Type 0
@@ -130,8 +168,8 @@ IsProbe game question =
 
 -- ---- all stretches
 
--- What a step of a stretch asks on this board, where the game is this one. What is drawn is any legal move, or a probe
--- of any point.
+-- What a step of a stretch asks on this board, where the game is this one. What is drawn is a move on any legal point,
+-- or a probe of any point.
 abbrev pub IsQuestion : Stretch → ℕ → Board → GameRecord → Question → Type 0
 IsQuestion stretch.Size step board game question = question ≡ asks (command.Boardsize board.size)
 IsQuestion stretch.Taken step board game question = question ≡ Size board.size
@@ -155,9 +193,14 @@ IsQuestion stretch.Score step board game question = question ≡ Ask FinalScore
 IsQuestion stretch.Surround step board game question =
     question ≡ surround_asked step (slice_get (star_points game.size) 0)
 IsQuestion (stretch.Passes steps) step board game question = question ≡ plays (colour_of step) Pass
-IsQuestion (stretch.Drawn steps) step board game question = IsLegalMove game question
+IsQuestion (stretch.Drawn steps) step board game question = IsDrawnMove game question
 IsQuestion (stretch.Probed steps) step board game question =
-    (step % 3 ≡ 0 → IsLegalMove game question) × (step % 3 ≢ 0 → IsProbe game question)
+    (step % 3 ≡ 0 → IsDrawnMove game question) × (step % 3 ≢ 0 → IsProbe game question)
 IsQuestion (stretch.Back steps) step board game question = question ≡ asks command.Undo
 IsQuestion (stretch.Genmoves steps) step board game question = question ≡ genmove_asked step (length game.moves)
+IsQuestion stretch.Filled step board game question = question ≡ act_asked board (filled_act step board.size)
+IsQuestion stretch.Gaps step board game question = question ≡ act_asked board (Some (gap_act step board.size))
+IsQuestion stretch.Swept step board game question = question ≡ act_asked board (Some (swept_act step board.size))
+IsQuestion (stretch.Chosen colour) step board game question = question ≡ choice_asked board colour
 IsQuestion stretch.Restart step board game question = question ≡ Restart
+IsQuestion stretch.Kill step board game question = question ≡ Kill

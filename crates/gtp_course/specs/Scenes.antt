@@ -54,10 +54,12 @@ turned_act way act size = record { colour = turned_colour way act.0; vertex = tu
 abbrev pub Acts : Type 0
 Acts = List (Colour × ℕ × ℕ)
 
--- kos in the corner, at the edge and in the middle; two stones that one takes, and one that a chain takes
+-- kos in the corner, whose stones are taken there and beside it, at the edge and in the middle; two stones that one takes,
+-- and one that a chain takes
 abbrev pub ko_scenes : List Acts
 ko_scenes =
     ((Black, 1, 2) ∷ (White, 3, 1) ∷ (Black, 2, 1) ∷ (White, 2, 2) ∷ (White, 1, 1) ∷ []) ∷
+    ((Black, 1, 1) ∷ (White, 1, 2) ∷ (Black, 2, 2) ∷ (White, 4, 4) ∷ (Black, 3, 1) ∷ (White, 2, 1) ∷ []) ∷
     ((Black, 2, 1) ∷ (White, 4, 2) ∷ (Black, 3, 2) ∷ (White, 5, 1) ∷ (Black, 4, 1) ∷ (White, 3, 1) ∷ []) ∷
     ((Black, 2, 3) ∷ (White, 4, 4) ∷ (Black, 3, 4) ∷ (White, 5, 3) ∷ (Black, 3, 2) ∷ (White, 4, 2) ∷
     (Black, 4, 3) ∷ (White, 3, 3) ∷ []) ∷

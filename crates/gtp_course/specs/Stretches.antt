@@ -30,7 +30,12 @@ steps_of (stretch.Drawn steps) = min steps most_steps
 steps_of (stretch.Probed steps) = min steps most_steps
 steps_of (stretch.Back steps) = min steps most_steps
 steps_of (stretch.Genmoves steps) = min steps most_steps
+steps_of stretch.Filled = 625
+steps_of stretch.Swept = 4
+steps_of stretch.Gaps = 3
+steps_of (stretch.Chosen colour) = 1
 steps_of stretch.Restart = 1
+steps_of stretch.Kill = 1
 
 -- where there is a stretch
 abbrev pub steps_if : Option Stretch → ℕ

@@ -8,8 +8,10 @@ use gtp_examiner::CheckCommand;
 pub enum Action {
     /// The engine is started: none is up.
     Start,
-    /// The engine is ended. The next call is for a new one.
+    /// The engine is sent `quit` and ended. The next call is for a new one.
     Restart,
+    /// The engine is ended without `quit`. The next call is for a new one.
+    Kill,
     /// The engine is asked this.
     Ask(CheckCommand),
     /// The engine has to answer first.
@@ -29,8 +31,10 @@ pub(crate) enum Question {
     Probe(Move),
     /// Whether the engine has taken the size that it was asked to take.
     Size(Size),
-    /// A new start of the engine.
+    /// A new start of the engine, after its `quit`.
     Restart,
+    /// A new start of the engine, without its `quit`.
+    Kill,
     /// Nothing.
     Nothing,
 }

@@ -1,5 +1,5 @@
 //! What each part of a lesson is asked on.
-ghost use Rattle.std.specs.Prelude.{◌≡◌, ◌+◌, ◌%◌, ◌<◌, length, slice_index_or};
+ghost use Rattle.std.specs.Prelude.{◌≡◌, ◌+◌, ◌<◌, slice_index_or};
 ghost use Rattle.go_base.specs.Komi.{IsKomi};
 ghost use Rattle.gtp_course.specs.Places.{most_parts};
 ghost use Rattle.gtp_course.specs.Boards.{IsBoard, lines_of, size_or, komi_of, stones_of};
@@ -10,8 +10,8 @@ use crate::scenes::{Scene, WAYS, Way};
 use go_base::{Komi, Size};
 
 /// The sizes of the drawn games, of those with moves of the engine's own, of the long records, and of the games in one
-/// process.
-const DRAWN: [u32; 6] = [9, 5, 3, 13, 19, 7];
+/// process. After them comes the size of scenes, which the engine takes.
+const DRAWN: [u32; 8] = [9, 5, 3, 13, 19, 7, 25, 2];
 
 const GENMOVES: [u32; 8] = [5, 9, 1, 2, 3, 7, 13, 19];
 
@@ -68,21 +68,20 @@ fn lines_of(lesson: Lesson, part: u32, scene_size: Size) -> u32
         | Lesson::Komi => scene_size.get(),
         Lesson::Sizes => part + 1,
         Lesson::Handicaps => part / 12 + 1,
-        Lesson::Drawn => entry(&DRAWN, part),
-        Lesson::Record => entry(&RECORD, part),
-        Lesson::Genmoves => entry(&GENMOVES, part),
-        Lesson::Games | Lesson::Restarts => entry(&GAMES, part),
+        Lesson::Drawn => entry_or(&DRAWN, part, scene_size),
+        Lesson::Record => entry_or(&RECORD, part, scene_size),
+        Lesson::Genmoves => entry_or(&GENMOVES, part, scene_size),
+        Lesson::Games | Lesson::Restarts => entry_or(&GAMES, part, scene_size),
     }
 }
 
-/// The entry of this number, and after the last one the first again.
-fn entry(entries: &[u32], number: u32) -> u32
-    requires { 0 < length entries.now }
-    ensures { result ≡ slice_index_or entries.now (number % length entries.now) 9 }
+/// The entry of this number, and after the last one this size.
+fn entry_or(entries: &[u32], number: u32, size: Size) -> u32
+    ensures { result ≡ slice_index_or entries.now number size }
 {
-    match entries.get(number as usize % entries.len()) {
+    match entries.get(number as usize) {
         Some(entry) => *entry,
-        None => 9,
+        None => size.get(),
     }
 }
 

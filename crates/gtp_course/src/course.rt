@@ -66,7 +66,7 @@ impl Course {
     ghost use Rattle.gtp_course.specs.Places.{most_steps};
     ghost use Rattle.gtp_course.specs.Boards.{IsBoard};
     ghost use Rattle.gtp_examiner.specs.Exam.{HasRoomFor};
-    ghost use Rattle.gtp_course.specs.Asking.{IsStep, IsTurn, Renews, Opens, Poses, Probes, Sees, lesson_of};
+    ghost use Rattle.gtp_course.specs.Asking.{IsStep, IsTurn, Renews, Kills, Opens, Poses, Probes, Sees, lesson_of};
     ghost use Rattle.gtp_course.specs.Openings.{opened};
     ghost use Rattle.gtp_course.specs.Course.{scene_size_of, sought_size};
     ghost use Rattle.gtp_course.specs.Course.{begun, GoesTo, GoesOn, IsOver, IsRunning, Leaves, step_over, part_over, with_finding};
@@ -120,6 +120,7 @@ impl Course {
             Question::Probe(made) => self.probe(made, lesson, examiner),
             Question::Size(size) => self.note_size(size, lesson, examiner),
             Question::Restart => self.renew(lesson, examiner),
+            Question::Kill => self.kill(lesson, examiner),
             Question::Nothing => self.skip(lesson),
         }
     }
@@ -312,6 +313,19 @@ impl Course {
         }
         self.go_on(lesson);
         Action::Restart
+    }
+
+    /// The engine is ended without `quit`, once it owes no answer, and started anew.
+    fn kill(&mut self, lesson: Lesson, examiner: &Examiner) -> Action
+        requires { IsRunning self.old }
+        ensures goes { GoesTo self.old examiner.now.exam result self.new }
+        ensures kills { Kills lesson self.old examiner.now.exam result self.new }
+    {
+        if examiner.unanswered() > 0 {
+            return Action::Wait;
+        }
+        self.go_on(lesson);
+        Action::Kill
     }
 
     /// The step asks nothing.

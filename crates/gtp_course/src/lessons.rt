@@ -7,6 +7,7 @@ ghost use Rattle.gtp_course.specs.Scenes.{scenes_of};
 use crate::scenes::{CAPTURES, JOINING, KO, SUICIDE, Scene, WAYS};
 use crate::stretches::Stretch;
 use arrayvec::ArrayVec;
+use go_base::Colour;
 
 /// How many lessons there are.
 const ALL: usize = 13;
@@ -17,7 +18,7 @@ pub type Lessons = ArrayVec<Lesson, ALL>;
 /// A lesson: what is asked about.
 #[derive(Clone, Copy, Debug, PartialEq, Eq)]
 pub enum Lesson {
-    /// Some moves of the engine's own on the smallest board from 5x5 on that it takes.
+    /// Some moves of the engine's own on the smallest board from 5x5 on that it takes, and that board after a new start.
     Start,
     /// Each size from 1 to 25: whether it is taken, its corners, and two points next to them that it doesn't have.
     Sizes,
@@ -35,13 +36,14 @@ pub enum Lesson {
     Komi,
     /// Drawn games on several sizes, with probes.
     Drawn,
-    /// Records of nearly 2,000 moves, and a ko after 1,010 passes.
+    /// Records of nearly 2,000 moves, and a ko after 1,010 passes, which are all taken back.
     Record,
-    /// Moves of the engine's own, on small boards up to a full one, with `undo` between.
+    /// Moves of the engine's own, on small boards up to a full one, with `undo` between. Then those on a board where White
+    /// has no legal point, and the capture of all stones.
     Genmoves,
-    /// Four games in one process.
+    /// Games in one process.
     Games,
-    /// Games after a new start.
+    /// Games after a new start, after a `quit` and without it.
     Restarts,
 }
 
@@ -128,7 +130,7 @@ static REFUSED: [Stretch; 21] = [
     Stretch::Own,
 ];
 
-static START: [Stretch; 10] = [
+static START: [Stretch; 19] = [
     Stretch::Size,
     Stretch::Taken,
     Stretch::Komi,
@@ -139,6 +141,15 @@ static START: [Stretch; 10] = [
     Stretch::Undo,
     Stretch::Undo,
     Stretch::Genmoves(2),
+    Stretch::Clear,
+    Stretch::Moves,
+    Stretch::Restart,
+    Stretch::Size,
+    Stretch::Taken,
+    Stretch::Komi,
+    Stretch::Clear,
+    Stretch::Undo,
+    Stretch::Own,
 ];
 
 static SIZES: [Stretch; 8] = [
@@ -152,7 +163,7 @@ static SIZES: [Stretch; 8] = [
     Stretch::Undo,
 ];
 
-static HANDICAPS: [Stretch; 17] = [
+static HANDICAPS: [Stretch; 19] = [
     Stretch::Size,
     Stretch::Taken,
     Stretch::Komi,
@@ -163,12 +174,14 @@ static HANDICAPS: [Stretch; 17] = [
     Stretch::Surround,
     Stretch::Stars,
     Stretch::Clear,
+    Stretch::Score,
     Stretch::Stars,
     Stretch::Drawn(1),
     Stretch::Undo,
     Stretch::Handicap,
     Stretch::Genmoves(3),
     Stretch::Clear,
+    Stretch::Score,
     Stretch::Stars,
 ];
 
@@ -203,7 +216,7 @@ static DRAWN: [Stretch; 6] = [
     Stretch::Back(40),
 ];
 
-static RECORD: [Stretch; 15] = [
+static RECORD: [Stretch; 16] = [
     Stretch::Size,
     Stretch::Taken,
     Stretch::Komi,
@@ -211,22 +224,42 @@ static RECORD: [Stretch; 15] = [
     Stretch::Drawn(1030),
     Stretch::Back(12),
     Stretch::Drawn(970),
-    Stretch::Back(30),
+    Stretch::Back(300),
     Stretch::Probed(60),
     Stretch::Back(20),
     Stretch::Clear,
     Stretch::Passes(1010),
     Stretch::Moves,
     Stretch::Own,
-    Stretch::Back(20),
+    Stretch::Back(1020),
+    Stretch::Own,
 ];
 
-static GENMOVES: [Stretch; 8] = [
+static GENMOVES: [Stretch; 27] = [
     Stretch::Size,
     Stretch::Taken,
     Stretch::Komi,
     Stretch::Clear,
     Stretch::Genmoves(240),
+    Stretch::Size,
+    Stretch::Taken,
+    Stretch::Clear,
+    Stretch::Filled,
+    Stretch::Chosen(Colour::Black),
+    Stretch::Undo,
+    Stretch::Chosen(Colour::White),
+    Stretch::Undo,
+    Stretch::Chosen(Colour::Black),
+    Stretch::Undo,
+    Stretch::Clear,
+    Stretch::Gaps,
+    Stretch::Chosen(Colour::Black),
+    Stretch::Clear,
+    Stretch::Filled,
+    Stretch::Swept,
+    Stretch::Corner,
+    Stretch::Undo,
+    Stretch::Corner,
     Stretch::Clear,
     Stretch::Handicap,
     Stretch::Genmoves(20),
@@ -256,7 +289,7 @@ static GAMES: [Stretch; 21] = [
     Stretch::Genmoves(6),
 ];
 
-static RESTARTS: [Stretch; 21] = [
+static RESTARTS: [Stretch; 35] = [
     Stretch::Size,
     Stretch::Taken,
     Stretch::Komi,
@@ -264,10 +297,18 @@ static RESTARTS: [Stretch; 21] = [
     Stretch::Handicap,
     Stretch::Drawn(60),
     Stretch::Genmoves(2),
+    Stretch::Clear,
+    Stretch::Filled,
+    Stretch::Chosen(Colour::Black),
     Stretch::Restart,
     Stretch::Size,
     Stretch::Taken,
-    Stretch::Komi,
+    Stretch::OtherKomi,
+    Stretch::Clear,
+    Stretch::Score,
+    Stretch::Undo,
+    Stretch::Filled,
+    Stretch::Chosen(Colour::White),
     Stretch::Clear,
     Stretch::Handicap,
     Stretch::Drawn(60),
@@ -277,7 +318,13 @@ static RESTARTS: [Stretch; 21] = [
     Stretch::Clear,
     Stretch::Moves,
     Stretch::Own,
-    Stretch::Restart,
+    Stretch::Kill,
+    Stretch::Size,
+    Stretch::Taken,
+    Stretch::Komi,
+    Stretch::Clear,
+    Stretch::Undo,
+    Stretch::Own,
 ];
 
 impl Lesson {
@@ -329,15 +376,15 @@ impl Lesson {
         match self {
             Lesson::Start => 21,
             Lesson::Sizes => 25,
-            Lesson::Ko | Lesson::Suicide => 5 * WAYS,
+            Lesson::Ko => 6 * WAYS,
             Lesson::Captures => 8 * WAYS,
+            Lesson::Suicide => 5 * WAYS,
             Lesson::Joining => 4 * WAYS,
             Lesson::Handicaps => 300,
             Lesson::Komi => 8,
-            Lesson::Drawn => 6,
-            Lesson::Record => 2,
-            Lesson::Genmoves => 8,
-            Lesson::Games | Lesson::Restarts => 4,
+            Lesson::Drawn | Lesson::Genmoves => 9,
+            Lesson::Record => 3,
+            Lesson::Games | Lesson::Restarts => 5,
         }
     }
 

@@ -39,8 +39,8 @@ impl Place {
         requires lesson { self.lesson ≤ 13 }
         ensures { result ≡ number self }
     {
-        28_800_000 * self.lesson as u32
-            + 96_000 * self.part
+        57_600_000 * self.lesson as u32
+            + 192_000 * self.part
             + 4_000 * self.stretch as u32
             + 2 * self.step
             + u32::from(self.undoing)

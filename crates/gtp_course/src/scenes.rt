@@ -11,15 +11,23 @@ pub(crate) const WAYS: u32 = 16;
 /// The moves of a scene: the colour, the column and the row of each. The last is the act.
 pub(crate) type Scene = &'static [(Colour, u32, u32)];
 
-/// Kos in the corner, at the edge and in the middle. Then two stones that one takes, and one that a chain takes: the
-/// stone that took may be retaken at once.
-pub(crate) static KO: [Scene; 5] = [
+/// Kos in the corner, whose stones are taken beside it and there, at the edge and in the middle. Then two stones that one
+/// takes, and one that a chain takes: the stone that took may be retaken at once.
+pub(crate) static KO: [Scene; 6] = [
     &[
         (Black, 1, 2),
         (White, 3, 1),
         (Black, 2, 1),
         (White, 2, 2),
         (White, 1, 1),
+    ],
+    &[
+        (Black, 1, 1),
+        (White, 1, 2),
+        (Black, 2, 2),
+        (White, 4, 4),
+        (Black, 3, 1),
+        (White, 2, 1),
     ],
     &[
         (Black, 2, 1),

@@ -1,11 +1,14 @@
 //! Stretches of a lesson: what is asked in a step.
 ghost use Rattle.std.specs.Prelude.{◌≡◌, ◌≢◌, ◌<◌, ◌≤◌, ◌/◌, ◌%◌, ◌==◌, length, slice_get, if◌then◌else◌};
+ghost use Rattle.go_base.specs.Point.{IsOn};
+ghost use Rattle.go_base.specs.declared.vertices.Vertex.TheVariants.{Pass, At};
 ghost use Rattle.go_board.specs.Game.{IsLegal};
 ghost use Rattle.gtp_wire.specs.declared.commands.Command.TheVariants as command;
 ghost use Rattle.gtp_course.specs.Questions.{asks, plays, probes, colour_of, act_asked, last_of, pass_asked};
 ghost use Rattle.gtp_course.specs.Questions.{elsewhere_asked, own_asked, corner_asked, edge_point};
-ghost use Rattle.gtp_course.specs.Questions.{surround_asked, genmove_asked};
-ghost use Rattle.gtp_course.specs.Questions.{star_points, star_asked, IsLegalMove, IsProbe, IsQuestion};
+ghost use Rattle.gtp_course.specs.Questions.{surround_asked, genmove_asked, choice_asked};
+ghost use Rattle.gtp_course.specs.Questions.{is_gap, filled_act, gap_act, swept_act};
+ghost use Rattle.gtp_course.specs.Questions.{star_points, star_asked, IsDrawn, IsDrawnMove, IsProbe, IsQuestion};
 ghost use Rattle.gtp_course.specs.Places.{most_steps};
 ghost use Rattle.gtp_course.specs.Stretches.{steps_of};
 
@@ -20,8 +23,11 @@ use gtp_wire::Command;
 use rand_core::utils::NextWord;
 use rand_pcg::Pcg64;
 
-/// How often a legal point is drawn before a pass is played.
+/// How often a point is drawn before the first legal one is taken.
 const TRIES: u32 = 30;
+
+/// The places of a mailbox board's row.
+const ROW: u32 = 26;
 
 /// The lines of a scene's corner.
 const LINES: u32 = 6;
@@ -78,8 +84,18 @@ pub(crate) enum Stretch {
     /// So many steps, of which each fifth is an `undo`, and the others are moves of the engine's own. Of four, three are
     /// of the colour whose turn it is.
     Genmoves(u32),
-    /// A new start.
+    /// A stone of White in the corner, and Black's on all points but three.
+    Filled,
+    /// Black's moves on those three points.
+    Gaps,
+    /// Moves after which White takes all stones of Black by one.
+    Swept,
+    /// A move of the engine's own, of the colour that plays this one's moves.
+    Chosen(Colour),
+    /// A new start, after a `quit`.
     Restart,
+    /// A new start, without a `quit`.
+    Kill,
 }
 
 impl Stretch {
@@ -102,13 +118,17 @@ impl Stretch {
             | Stretch::Undo
             | Stretch::Handicap
             | Stretch::Score
-            | Stretch::Restart => 1,
+            | Stretch::Chosen(_)
+            | Stretch::Restart
+            | Stretch::Kill => 1,
             Stretch::Moves => 12,
             Stretch::Own => 24,
             Stretch::Corner => 2 * LINES * LINES,
             Stretch::Edges => 6,
             Stretch::Stars => 18,
-            Stretch::Surround => 4,
+            Stretch::Surround | Stretch::Swept => 4,
+            Stretch::Filled => 625,
+            Stretch::Gaps => 3,
             Stretch::Passes(steps)
             | Stretch::Drawn(steps)
             | Stretch::Probed(steps)
@@ -133,8 +153,13 @@ impl Stretch {
             Stretch::Handicap => ask(Command::FixedHandicap(board.stones)),
             Stretch::Score => Question::Ask(CheckCommand::FinalScore),
             Stretch::Restart => Question::Restart,
+            Stretch::Kill => Question::Kill,
+            Stretch::Chosen(colour) => ask(Command::Genmove(board.way.colour(colour))),
             Stretch::Moves => play_act(act_of(step as usize, board), board),
             Stretch::Act => play_act(last_of(board), board),
+            Stretch::Filled => play_act(filled_act(step, board.size.get()), board),
+            Stretch::Gaps => play_act(Some(gap_act(step, board.size.get())), board),
+            Stretch::Swept => play_act(Some(swept_act(step, board.size.get())), board),
             Stretch::Pass => pass_after(last_of(board), board),
             Stretch::Elsewhere => elsewhere(last_of(board), board),
             Stretch::Own => own_point(step, board),
@@ -337,9 +362,56 @@ fn genmove(step: u32, game: &Game) -> Question
     }
 }
 
+/// The move of this number on a board that is filled, if it has one.
+fn filled_act(step: u32, size: u32) -> Option<(Colour, u32, u32)>
+    requires { 0 < size }
+    ensures { result ≡ filled_act step size }
+{
+    let column = step % size + 1;
+    let row = step / size;
+    if row >= size || is_gap(column, row + 1, size) {
+        return None;
+    }
+    if step == 0 {
+        Some((Colour::White, 1, 1))
+    } else {
+        Some((Colour::Black, column, row + 1))
+    }
+}
+
+/// Whether a point is left empty where the others are filled.
+fn is_gap(column: u32, row: u32, size: u32) -> bool
+    ensures { result ≡ is_gap column row size }
+{
+    (column == 2 && row == 1) || (column == size && row == size) || (column == 1 && row == size)
+}
+
+/// Black's move on one of the points that are left empty.
+fn gap_act(step: u32, size: u32) -> (Colour, u32, u32)
+    ensures { result ≡ gap_act step size }
+{
+    match step {
+        0 => (Colour::Black, 2, 1),
+        1 => (Colour::Black, size, size),
+        _ => (Colour::Black, 1, size),
+    }
+}
+
+/// One of the moves after which White takes all stones of Black.
+fn swept_act(step: u32, size: u32) -> (Colour, u32, u32)
+    ensures { result ≡ swept_act step size }
+{
+    match step {
+        0 => (Colour::Black, 2, 1),
+        1 => (Colour::Black, 1, 1),
+        2 => (Colour::Black, size, size),
+        _ => (Colour::White, 1, size),
+    }
+}
+
 /// A drawn move, or a probe of a drawn point.
 fn probed(step: u32, game: &Game, draws: &mut Pcg64) -> Question
-    ensures moves { step % 3 ≡ 0 → IsLegalMove game.now result }
+    ensures moves { step % 3 ≡ 0 → IsDrawnMove game.now result }
     ensures probes { step % 3 ≢ 0 → IsProbe game.now result }
 {
     if step % 3 == 0 {
@@ -351,17 +423,17 @@ fn probed(step: u32, game: &Game, draws: &mut Pcg64) -> Question
     probe(colour, crossing(column, draw(draws, size) + 1))
 }
 
-/// A legal move that is drawn, or a pass where some tries find none.
+/// A legal move that is drawn, or a pass where the colour has no legal point.
 fn drawn_move(game: &Game, draws: &mut Pcg64) -> Question
-    ensures { IsLegalMove game.now result }
+    ensures { IsDrawnMove game.now result }
 {
     let colour = colour_of(draw(draws, 2));
     play(colour, legal_vertex(game, colour, draws))
 }
 
-/// A point that is drawn and legal for the colour, or a pass where some tries find none.
+/// A point that is drawn and legal for the colour. Where some tries find none, it is the first that is legal.
 fn legal_vertex(game: &Game, colour: Colour, draws: &mut Pcg64) -> Vertex
-    ensures { IsLegal game.now colour result }
+    ensures { IsDrawn game.now colour result }
 {
     let size = game.size().get();
     for _try in 0..TRIES {
@@ -369,6 +441,20 @@ fn legal_vertex(game: &Game, colour: Colour, draws: &mut Pcg64) -> Vertex
         let row = draw(draws, size) + 1;
         if game.legal(colour, crossing(column, row)) {
             return crossing(column, row);
+        }
+    }
+    first_legal(game, colour)
+}
+
+/// The first point that is legal for the colour, or a pass where there is none.
+fn first_legal(game: &Game, colour: Colour) -> Vertex
+    ensures { IsDrawn game.now colour result }
+{
+    let rows = game.size().get() + 1;
+    for place in 0..rows * ROW {
+        let vertex = crossing(place % ROW, place / ROW);
+        if vertex != Vertex::Pass && game.legal(colour, vertex) {
+            return vertex;
         }
     }
     Vertex::Pass

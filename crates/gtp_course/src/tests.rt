@@ -1,3 +1,4 @@
 //! The course, asked of engines in memory.
 mod courses;
+mod full_boards;
 mod scenes;

@@ -21,7 +21,10 @@ struct Talk {
     session: Session<First>,
     written: Written,
     starts: u32,
+    kills: u32,
     asked: u32,
+    /// How many moves were asked in the lesson of each number.
+    moves: [u32; 13],
 }
 
 impl Talk {
@@ -33,7 +36,9 @@ impl Talk {
             session: Session::new(First),
             written: Written::new(),
             starts: 0,
+            kills: 0,
             asked: 0,
+            moves: [0; 13],
         }
     }
 
@@ -101,13 +106,39 @@ impl Talk {
         self.asked = self.asked.saturating_add(1);
     }
 
+    /// The engine is ended without `quit`.
+    fn kill(&mut self) {
+        self.kills = self.kills.saturating_add(1);
+        self.examiner.lost();
+    }
+
+    /// A move that is asked in a lesson is counted.
+    fn count(&mut self, lesson: Option<Lesson>, command: &CheckCommand) {
+        let is_move = matches!(
+            command,
+            CheckCommand::Match(Command::Play(_) | Command::Genmove(_))
+        );
+        if let (Some(lesson), true) = (lesson, is_move) {
+            let number = lesson.number();
+            self.moves[number] = self.moves[number].saturating_add(1);
+        }
+    }
+
+    /// The engine is asked a command of a lesson.
+    fn ask_in(&mut self, rt: &impl Abort, lesson: Option<Lesson>, command: CheckCommand) {
+        self.count(lesson, &command);
+        self.ask(rt, command);
+    }
+
     /// Does what a course says, until it is over.
     fn hold(&mut self, rt: &impl Abort, course: &mut Course) {
         for _call in 0..1_000_000u32 {
+            let lesson = course.lesson();
             match course.next(&self.examiner) {
                 Action::Start => self.start(rt),
                 Action::Restart => self.examiner.lost(),
-                Action::Ask(command) => self.ask(rt, command),
+                Action::Kill => self.kill(),
+                Action::Ask(command) => self.ask_in(rt, lesson, command),
                 Action::Wait => self.hear(rt),
                 Action::Skip => {}
                 Action::Done => break,
@@ -134,7 +165,19 @@ fn nothing_is_found_of_our_engine(rt: HostRuntime) {
     talk.hold(&rt, &mut course);
     let _ = println!(rt; "{} commands, {} starts", talk.asked, talk.starts);
     assert_true(&rt, talk.asked > 100_000);
-    assert_equal(&rt, talk.starts, 8);
+    assert_equal(&rt, talk.starts, 12);
+    assert_equal(&rt, talk.kills, 5);
+}
+
+#[test]
+fn an_engine_of_a_size_that_no_list_has_is_asked_all_lessons(rt: HostRuntime) {
+    let mut talk = Talk::new(Some(6), true);
+    let mut course = Course::new(all(), None, 1);
+    talk.hold(&rt, &mut course);
+    for moves in talk.moves {
+        assert_true(&rt, moves >= 8);
+    }
+    assert_equal(&rt, talk.kills, 1);
 }
 
 #[test]

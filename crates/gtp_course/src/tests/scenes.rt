@@ -57,7 +57,7 @@ fn assert_taken(rt: &impl Abort, scenes: &[Scene], taken: &[Option<u32>]) {
 #[test]
 fn acts_take_the_stones_that_they_are_to_take(rt: HostRuntime) {
     let one = Some(1);
-    assert_taken(&rt, &KO, &[one, one, one, Some(2), one]);
+    assert_taken(&rt, &KO, &[one, one, one, one, Some(2), one]);
     let captures = [one, one, one, Some(2), Some(3), Some(2), Some(3), Some(3)];
     assert_taken(&rt, &CAPTURES, &captures);
     assert_taken(&rt, &JOINING, &[Some(0), Some(0), Some(3), Some(4)]);
@@ -72,6 +72,7 @@ fn suicides_are_refused(rt: HostRuntime) {
 fn kos_may_not_be_retaken_and_what_looks_like_one_may(rt: HostRuntime) {
     let retakes = [
         ((Black, 2, 1), false),
+        ((Black, 1, 1), false),
         ((Black, 4, 1), false),
         ((Black, 4, 3), false),
         ((White, 2, 1), true),
