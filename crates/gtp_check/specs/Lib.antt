@@ -4,5 +4,6 @@ pub mod Listing
 pub mod Notes
 pub mod Rules
 pub mod Status
+pub mod Summary
 pub mod Tally
 pub mod Texts
