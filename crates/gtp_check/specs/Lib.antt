@@ -1,1 +1,12 @@
+pub mod Complaints
+pub mod Kinds
+pub mod Listing
+pub mod Notes
+pub mod Options
+pub mod Plans
+pub mod Rules
 pub mod Status
+pub mod Summary
+pub mod Tally
+pub mod Texts
+pub mod private

@@ -4,6 +4,8 @@
 mod check;
 mod complaint;
 mod engine;
+#[cfg(test)]
+mod equal;
 mod failure;
 mod flat;
 mod kinds;
@@ -17,6 +19,9 @@ mod summary;
 mod superko;
 mod talk;
 mod tally;
+#[cfg(test)]
+mod tests;
+mod texts;
 mod trial;
 
 use failure::{Failure, PlanError};

@@ -1,0 +1,4 @@
+mod CommandLine
+mod CommandWords
+mod Joining
+mod LessonLoops

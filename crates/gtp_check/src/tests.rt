@@ -1,0 +1,4 @@
+//! Texts of a check, its options and its counts, as they are written by hand.
+mod counts;
+mod texts;
+mod words;
