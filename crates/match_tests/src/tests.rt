@@ -1,6 +1,7 @@
-//! Tests of values, of lines and replies, of the controller and of worlds.
+//! Tests of values, of lines and replies, of processes, of the controller and of worlds.
 
 mod base;
 mod controller;
+mod processes;
 mod wire;
 mod worlds;

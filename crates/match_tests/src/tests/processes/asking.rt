@@ -2,9 +2,8 @@
 ghost use Rattle.std.specs.Prelude.{⊤, None};
 
 use crate::equal::assert_equal;
-use crate::starter::{Ending, Process};
-use crate::{READ_ROOM, quit_and_end, read_some, write_whole};
 use byte_streams::CallFault;
+use gtp_process::{Ending, Process, READ_ROOM, quit_and_end, read_some, write_whole};
 use gtp_wire::{Reply, ReplyReader};
 
 /// Sends `name`, and reads until the reply is whole. `None` where none comes, or what comes is no reply.

@@ -1,10 +1,10 @@
 //! What a process wrote, how it ended and why it was not started, as they are shown.
 use crate::equal::assert_equal;
-use crate::{
+use arrayvec::ArrayVec;
+use gtp_process::{
     Ending, PipeCause, StartReason, Unstarted, pipe_text, push_ending, push_quoted, push_shown,
     push_unstarted,
 };
-use arrayvec::ArrayVec;
 use std::test::Fail;
 
 #[test]

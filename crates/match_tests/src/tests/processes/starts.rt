@@ -1,9 +1,7 @@
 //! Why no process is started, and which program goes first.
 use super::clocks::Ticking;
 use crate::equal::assert_equal;
-use crate::precedence::Precedence;
-use crate::starter::{StartFault, StartReason};
-use crate::system::start_fault_of;
+use gtp_process::{Precedence, StartFault, StartReason, start_fault_of};
 use std::io;
 use std::io::ErrorKind;
 use std::test::Fail;
