@@ -3,8 +3,6 @@
 
 mod choices;
 mod colours;
-#[cfg(test)]
-mod equal;
 mod handicaps;
 mod ints;
 mod komis;
@@ -27,6 +25,3 @@ pub use scores::{write_half_points, write_score};
 pub use sizes::Size;
 pub use texts::{push, push_vertex, push_word};
 pub use vertices::Vertex;
-
-#[cfg(test)]
-mod tests;

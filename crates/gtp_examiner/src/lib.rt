@@ -9,8 +9,6 @@
 
 mod asking;
 mod dues;
-#[cfg(test)]
-mod equal;
 mod exam;
 mod examiner;
 mod judging;
@@ -18,8 +16,6 @@ pub mod laws;
 mod scores;
 mod setups;
 mod skills;
-#[cfg(test)]
-mod tests;
 mod unanswered;
 
 pub use asking::{CheckCommand, Known};

@@ -8,21 +8,18 @@
 
 mod causes;
 mod ending;
-#[cfg(test)]
-mod equal;
 mod pipes;
 mod precedence;
 mod quitting;
 mod shown;
 mod starter;
 mod system;
-#[cfg(test)]
-mod tests;
 
 pub use causes::{PipeCause, ProgramName, Unstarted};
 pub use ending::{end, end_known};
 pub use pipes::{CutOff, READ_ROOM, read_some, write_whole};
+pub use precedence::Precedence;
 pub use quitting::quit_and_end;
 pub use shown::{pipe_text, push_ending, push_quoted, push_shown, push_unstarted};
 pub use starter::{Ending, Process, StartFault, StartReason, Starter};
-pub use system::{SystemProcess, SystemStarter};
+pub use system::{SystemProcess, SystemStarter, start_fault_of};

@@ -19,7 +19,7 @@ pub(crate) const MOST_POINTS: usize = 625;
 pub(crate) type Points = ArrayVec<Point, MOST_POINTS>;
 
 /// The candidates for a colour, in the order A1, B1, .., A2, B2, ...
-pub(crate) fn candidates(game: &Game, colour: Colour) -> Points
+pub fn candidates(game: &Game, colour: Colour) -> Points
     ensures { result.items ≡ candidates game.now colour }
 {
     let points = points_of(game.size());

@@ -21,7 +21,7 @@ fn handicap_stones_stay(rt: HostRuntime) -> Result<(), Fail> {
     play_all(&rt, &mut game, "wK10 undo");
     assert_equal(&rt, game.undo(), Err(NothingToUndo));
     assert_equal(&rt, game.handicap(), 2);
-    for (point, name) in points.iter().zip(["D4", "Q16"]) {
+    for (point, name) in points.iter().zip(&["D4", "Q16"]) {
         assert_equal(&rt, Vertex::read(name.as_bytes()), Some(Vertex::At(*point)));
         assert_equal(&rt, game.at(*point), Some(Colour::Black));
     }

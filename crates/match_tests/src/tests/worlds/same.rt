@@ -1,0 +1,54 @@
+//! Games and worlds that are the same.
+use super::SIDES;
+use crate::equal::{assert_equal, some};
+use go_base::Point;
+use go_board::Game;
+use gtp_world::{Maker, World};
+use std::process::Abort;
+
+/// Two games are the same: size, komi, handicap and moves, the board at each point, captures and score.
+pub fn assert_same_game(rt: &impl Abort, one: &Game, two: &Game) {
+    assert_equal(rt, one.size(), two.size());
+    assert_equal(rt, one.komi(), two.komi());
+    assert_equal(rt, one.handicap(), two.handicap());
+    assert_equal(rt, one.moves(), two.moves());
+    let lines = one.size().get();
+    for row in 1..=lines {
+        for column in 1..=lines {
+            let point = some(rt, Point::new(column, row));
+            assert_equal(rt, one.at(point), two.at(point));
+        }
+    }
+    for side in SIDES {
+        assert_equal(rt, one.captured(side), two.captured(side));
+    }
+    assert_equal(rt, one.score(), two.score());
+}
+
+/// Two worlds show the same.
+pub fn assert_same_world<B: Maker, W: Maker>(
+    rt: &impl Abort,
+    one: &World<B, W>,
+    two: &World<B, W>,
+) {
+    assert_equal(rt, one.controller().next(), two.controller().next());
+    assert_same_game(rt, one.controller().game(), two.controller().game());
+    for side in SIDES {
+        assert_equal(
+            rt,
+            one.controller().status(side),
+            two.controller().status(side),
+        );
+        assert_equal(
+            rt,
+            one.controller().restarts(side),
+            two.controller().restarts(side),
+        );
+        assert_equal(rt, one.to_engine(side), two.to_engine(side));
+        assert_equal(rt, one.to_controller(side), two.to_controller(side));
+        assert_equal(rt, one.running(side).is_some(), two.running(side).is_some());
+        if let Some(first) = one.running(side) {
+            assert_same_game(rt, first, some(rt, two.running(side)));
+        }
+    }
+}
