@@ -19,7 +19,7 @@ FIRST = re.compile(r'check: (?:".*"|an engine without a name), version (?:".*"|u
 HEAD = re.compile(r'# (\d+) (\w+): "(.*)": (.*)')
 LAST = re.compile(r"check: (\d+) commands?, (\d+) starts?, (\d+) complaints?")
 HIDDEN = re.compile(r"check: \w+: more of kinds that are shown three times: (\d+)")
-AHEAD = "# so many commands were sent after it, before the answer: "
+AHEAD = re.compile(r"# .*\bcommands?\b.* sent .*\n")  # how many commands were on their way already
 
 
 @dataclass(frozen=True)
