@@ -63,7 +63,9 @@ SHOWN = {
     "chosen_move_is_not_made": ("start",),
     # The engine's own moves are turned alike, so they are legal until there are others on the board.
     "columns_for_rows": ("games",),
-    "no_colour_is_read": ("games",),
+    "rows_from_the_top": ("handicaps",),
+    # it shows only where what is drawn meets a stone of the wrong colour
+    "no_colour_is_read": ("games", "genmoves"),
     # a genmove after 60 drawn moves on 5x5
     "points_twice": ("restarts",),
     "ko_stays": ("ko",),
@@ -149,7 +151,8 @@ WAITING = {"one_newline", "one_newline_where_there_is_no_text", "second_line_of_
 
 # What they answer hangs on how the commands are cut, or on what earlier processes have left: pasted into one more process their
 # conversation may have right answers. Those that wait have answered more commands than the conversation has.
-ANEW = {*WAITING, "reads_of_sixty_four", "trial_is_over", "old_game_is_a_book", "old_game_comes_back"}
+ANEW = {*WAITING, "reads_of_sixty_four", "trial_is_over"}
+ANEW |= {"old_game_is_a_book", "old_game_comes_back", "old_board_comes_back_at_undo"}
 
 
 def lessons_of(name, family):
