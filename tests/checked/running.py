@@ -10,7 +10,7 @@ from pathlib import Path
 
 TOP = Path(__file__).resolve().parent.parent.parent
 PROGRAM = TOP / "bin/gtp_check"
-LIMIT = 20  # seconds that a check may take, on a machine with other work
+LIMIT = 60  # seconds that a check may take, on a machine with other work
 MARK = f"CHECKED_BY_{os.getpid()}"  # what every process that is started here has in its environment
 COMPILED = tempfile.TemporaryDirectory()  # what Python compiles for the engines, once
 PYTHON = f"{sys.executable} -S"  # -S leaves out what a machine adds to each start of Python

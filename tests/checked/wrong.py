@@ -96,7 +96,8 @@ def noticed(name):
 def unnoticed(name, options):
     """What is odd about the check of a wrong engine that isn't noticed."""
     bug = BUGS[name]
-    result = checked([*rule_of(bug), *options], " ".join([ENGINE, *bug.options, "--bug", name]))
+    # some of them write a file at each move
+    result = checked([*rule_of(bug), *options], " ".join([ENGINE, *bug.options, "--bug", name]), limit=5 * LIMIT)
     report = read(result.output)
     if isinstance(report, str):
         return f"{report}: {result}"

@@ -143,7 +143,7 @@ def matches():
     yield "the engine's end at a fault", ["bin/gtp_engine", "--fault", "cut:2:3"], "genmove b\ngenmove w\nname\n"
     yield "a bad book", ["bin/gtp_engine", "--book", "x"], "name\n"
     yield "a check", ["bin/gtp_check", "--quick", "bin/gtp_engine"], ""
-    yield "a check that finds something", ["bin/gtp_check", "--only", "ko", "bin/gtp_engine --ko positional"], ""
+    yield "a check that finds something", ["bin/gtp_check", "--singly", "--only", "ko", "bin/gtp_engine --ko positional"], ""
     yield "a check of an engine that isn't there", ["bin/gtp_check", "bin/mygo"], ""
     for program in PROGRAMS:
         yield f"the help of {program}", [f"bin/{program}", "--help"], ""
