@@ -102,6 +102,16 @@ SHOWN = {
     "taken_stones_of_the_game_before": ("ko",),
     "colour_of_the_first_genmove": ("games",),
     "old_board_comes_back_at_undo": ("restarts",),
+    "handicap_sets_komi": ("handicaps",),
+    "ko_after_a_genmove": ("genmoves",),
+    "choice_of_the_game_before": ("genmoves",),
+    "point_zero_is_no_ko": ("ko",),
+    "moves_taken_back_fill_a_list": ("record",),
+    "lock_stays": ("restarts",),
+    "note_after_a_crash": ("restarts",),
+    "old_komi_stays": ("restarts",),
+    "old_moves_are_undone": ("start",),
+    "choice_is_kept_by_its_board": ("restarts",),
 }
 
 NOT_SENT = "no command is written in that form"
@@ -133,17 +143,7 @@ UNNOTICED = {
     "refused_size_counts": "it takes each size that is asked",
     "even_score_has_a_colour": "`B+0` is the number 0",
     "handicap_is_undone": "no `undo` is asked where there is a handicap and no move",
-    "handicap_sets_komi": "no score is asked after a handicap without a `komi` between them",
-    "ko_after_a_genmove": "no ko that the engine's own move made is retaken",
-    "choice_of_the_game_before": "what was chosen for another board is legal on the empty one",
-    "point_zero_is_no_ko": "no scene takes a stone at A1 in a ko and asks for it",
-    "moves_taken_back_fill_a_list": "no more than 40 moves in a row are taken back",
-    "lock_stays": "a process that answers rightly is ended by `quit`",
-    "note_after_a_crash": "a process that answers rightly is ended by `quit`",
-    "old_komi_stays": "no score is asked after a new start",
-    "old_moves_are_undone": "after a new start no `undo` is asked before a move",
     "old_ko_stays": "after a new start no ko of an earlier process is retaken",
-    "choice_is_kept_by_its_board": "no board is asked again for the other colour after a new start",
 }
 
 # They wait for more input before they answer, so `timeout` has to end them.
