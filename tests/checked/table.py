@@ -103,7 +103,9 @@ SHOWN = {
     "colour_of_the_first_genmove": ("games",),
     "old_board_comes_back_at_undo": ("restarts",),
     "handicap_sets_komi": ("handicaps",),
-    "ko_after_a_genmove": ("genmoves",),
+    # it shows only where the engine happens to take in a ko
+    "ko_after_a_genmove": ("genmoves", "sizes"),
+    "old_ko_stays": ("start",),
     "choice_of_the_game_before": ("genmoves",),
     "point_zero_is_no_ko": ("ko",),
     "moves_taken_back_fill_a_list": ("record",),
@@ -143,7 +145,6 @@ UNNOTICED = {
     "refused_size_counts": "it takes each size that is asked",
     "even_score_has_a_colour": "`B+0` is the number 0",
     "handicap_is_undone": "no `undo` is asked where there is a handicap and no move",
-    "old_ko_stays": "after a new start no ko of an earlier process is retaken",
 }
 
 # They wait for more input before they answer, so `timeout` has to end them.
