@@ -1,4 +1,19 @@
-# Matches of twogtp between our engine, GNU Go and Leela Zero. `interop/run` reads this file; its README says more.
+# Matches of twogtp between our engine, GNU Go and Leela Zero. `interop/run` reads this file.
+#
+# Between our engine, GNU Go 3.8 and Leela Zero 0.17, on 9x9 and 19x19, each on either side, also with handicap. Of each match it
+# checks:
+#
+# - it ends with status 0 and a line with a score and no restart (or with limit, where there is one);
+# - our engine, GNU Go and on 19x19 Leela Zero take each move of its record;
+# - GNU Go then has the same stones on the board and the same captures as the board of --show;
+# - each of them gives the position the score of the line; with handicap, GNU Go and Leela Zero give White a point more for each
+#   stone.
+#
+# What can't be played has its line and status.
+#
+# Then engines are killed: GNU Go on one side or both, twice each, by kill -9 after a random number of commands. But for the
+# restarts the line, the record and the board have to stay the same, and no engine may be left. Leela Zero plays otherwise after
+# a restart, so there all three engines check the record.
 
 # play BLACK WHITE ARGUMENT..: one run of twogtp, with the size, komi and handicap of that moment. Sets `status`, and of the
 # last game `line`, `verdict`, `record` and `board`.

@@ -1,4 +1,15 @@
-# The games by the match scripts that come with GNU Go's source. `interop/run` reads this file; its README says more.
+# The games by the match scripts that come with GNU Go's source. `interop/run` reads this file.
+#
+# On 9x9 by twogtp and twogtp-a (Perl) and twogtp.pike (Pike) of GNU Go's source, between two of our engines, and between ours
+# and GNU Go:
+#
+# - the script ends, with status 0 and a result for each game;
+# - no side refuses a move, which the scripts themselves don't look at;
+# - both sides' final_score is the same; with handicap, GNU Go's is higher for White by the number of stones;
+# - what our engine refuses is exactly what the page on the scripts says.
+#
+# Our engine also has to take each move of GNU Go's games against itself, and to give the same score. The points of
+# fixed_handicap are compared on sizes 1 to 19.
 # shellcheck disable=SC2154 # `interop/run` makes the folder `work`
 
 # Fetches GNU Go's source as Debian keeps it, by apt-get with folders of its own: the machine's settings stay as they are.

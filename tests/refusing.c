@@ -1,4 +1,4 @@
-/* Loaded before the C library (LD_PRELOAD) into `twogtp` or `gtp_engine`: refuses the request for memory whose number
+/* Loaded before the C library (LD_PRELOAD) into a program: refuses the request for memory whose number
    REFUSED says, counted from 1, and leaves a file COUNTED with the number of requests that came. Other programs that are
    started with it are left alone: the variables are taken out of the environment as soon as they are read. */
 #define _GNU_SOURCE

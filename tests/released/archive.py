@@ -27,7 +27,7 @@ def check_tree(what, tree, copies):
     check(f"{what}: no file has a path of whoever built it", [], [str(it) for it in files if any(path in it.read_bytes() for path in paths)])
     check(f"{what}: the notices are there", True, {"README", "clap-LICENSE-MIT", "libc6-dev-copyright"} <= {it.name for it in files})
     programs = [it for it in files if it.name in PROGRAMS]
-    check(f"{what}: both programs ask for no interpreter", [True, True], [starts_without_help(it) for it in programs])
+    check(f"{what}: no program asks for an interpreter", [True] * len(PROGRAMS), [starts_without_help(it) for it in programs])
 
 
 def check_scripts(what, folder, copy):
@@ -142,6 +142,9 @@ def matches():
     yield "a mistake in the options", ["bin/twogtp", "--black", "x"], ""
     yield "the engine's end at a fault", ["bin/gtp_engine", "--fault", "cut:2:3"], "genmove b\ngenmove w\nname\n"
     yield "a bad book", ["bin/gtp_engine", "--book", "x"], "name\n"
+    yield "a check", ["bin/gtp_check", "--quick", "bin/gtp_engine"], ""
+    yield "a check that finds something", ["bin/gtp_check", "--singly", "--only", "ko", "bin/gtp_engine --ko positional"], ""
+    yield "a check of an engine that isn't there", ["bin/gtp_check", "bin/mygo"], ""
     for program in PROGRAMS:
         yield f"the help of {program}", [f"bin/{program}", "--help"], ""
         yield f"the version of {program}", [f"bin/{program}", "--version"], ""
@@ -155,7 +158,7 @@ def check_empty_root(tree, room):
     if into is None:
         skip("the programs run in an empty root", "neither chroot nor unshare may make one here")
         return
-    check("the empty root has the two programs alone", sorted(["bin", "bin/gtp_engine", "bin/twogtp"]), sorted(str(it.relative_to(root)) for it in root.rglob("*")))
+    check("the empty root has the programs alone", sorted(["bin", *(f"bin/{it}" for it in PROGRAMS)]), sorted(str(it.relative_to(root)) for it in root.rglob("*")))
     engine, lines, shown = first_conversation()
     check("README's first conversation, in an empty root", (0, shown, ""), run([*into, *engine], input=lines))
     for what, words, lines in matches():
@@ -192,12 +195,13 @@ def check_archive_readme(tree, room):
     check_tournament("the archive", tree / SCRIPTS["archive"], tree / "bin/gtp_engine", room / "of-archive")
     readme = (tree / "README.md").read_text()
     manuals = re.findall(r"`man -l ([^`]*)`", readme)
-    check("the archive: its README names both manual pages", ["share/man/man1/twogtp.1", "share/man/man6/gtp_engine.6"], manuals)
+    wanted = ["share/man/man1/twogtp.1", "share/man/man1/gtp_check.1", "share/man/man6/gtp_engine.6"]
+    check("the archive: its README names the manual pages", wanted, manuals)
     command = re.search(r"`(cp -r [^`]*) /usr/local/`", readme)
     prefix = room / "local"
     prefix.mkdir()
     check("the archive is installed as its README says", (0, "", ""), run(["bash", "-c", f'{command[1]} "$0"' if command else "exit 1", prefix], cwd=tree))
-    wanted = ["bin/gtp_engine", "bin/twogtp", "share/man/man1/twogtp.1", "share/man/man6/gtp_engine.6"]
+    wanted += [f"bin/{it}" for it in PROGRAMS]
     check("its files lie where programs look for them", [], [it for it in wanted if not (prefix / it).is_file()])
     check_tournament("the archive, installed so", prefix / SCRIPTS["archive"], prefix / "bin/gtp_engine", room / "of-installed")
 

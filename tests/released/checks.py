@@ -6,7 +6,7 @@ import subprocess
 from pathlib import Path
 
 TOP = Path(__file__).resolve().parent.parent.parent
-PROGRAMS = ["twogtp", "gtp_engine"]
+PROGRAMS = ["twogtp", "gtp_engine", "gtp_check"]
 LIMIT = 120  # seconds that a command may take
 results = []
 

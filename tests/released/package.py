@@ -35,7 +35,7 @@ def check_package_pages(folder):
     docs = folder / DOCS
     check_pages("the package", docs, folder, ["/usr/bin"])
     found = pages.pages_of(docs)
-    named = [f"{page.name}: {it}" for page in found for it in re.findall(r"(?<![\w/])(?:\./)?(?:bin/twogtp|bin/gtp_engine|interop/\w*|/home/me/vintsaky)", page.read_text())]
+    named = [f"{page.name}: {it}" for page in found for it in re.findall(r"(?<![\w/])(?:\./)?(?:bin/twogtp|bin/gtp_check|bin/gtp_engine|interop/\w*|/home/me/vintsaky)", page.read_text())]
     check("the package: no page names programs as they lie in a clone", [], named)
     lost = [f"{page.name}: {it}" for page in found for it in pages.installed_files(page) if not (folder / it[1:]).exists()]
     check("the package: what its pages name below /usr/share is there", [], lost)
@@ -45,11 +45,11 @@ def check_package_pages(folder):
 
 def check_package_manuals(folder):
     """The examples of its manual pages name the programs as they lie on a machine that has it, root's too."""
-    for name in ("man1/twogtp.1.gz", "man6/gtp_engine.6.gz"):
+    for name in ("man1/twogtp.1.gz", "man1/gtp_check.1.gz", "man6/gtp_engine.6.gz"):
         text = run(["zcat", folder / "usr/share/man" / name])[1]
         examples = text[text.index("\n.Sh EXAMPLES\n") : text.index("\n.Sh DIAGNOSTICS\n")]
         check(f"the package: {name} has examples for root too", True, "/usr/games/gtp_engine" in examples)
-        lost = re.findall(r"bin/twogtp|(?<!/usr/games/)\bgtp_engine", examples)
+        lost = re.findall(r"bin/twogtp|bin/gtp_check|(?<!/usr/games/)\bgtp_engine", examples)
         check(f"the package: {name} names the programs as they lie on a machine that has it", [], lost)
 
 
@@ -74,12 +74,13 @@ def check_package(package, tree, room, copies):
     docs = folder / DOCS
     check_tree("the package", folder / "usr", copies)
     check_scripts("the package", folder / SCRIPTS["package"], copies[0])
-    files = {"usr/bin/twogtp": 0o755, "usr/games/gtp_engine": 0o755, "usr/share/man/man1/twogtp.1.gz": 0o644}
-    files.update({"usr/share/man/man6/gtp_engine.6.gz": 0o644, "usr/share/doc/vintsaky/copyright": 0o644})
+    programs = ("usr/bin/twogtp", "usr/bin/gtp_check", "usr/games/gtp_engine")
+    others = [f"usr/share/man/{it}.gz" for it in ("man1/twogtp.1", "man1/gtp_check.1", "man6/gtp_engine.6")]
+    files = {**dict.fromkeys(programs, 0o755), **dict.fromkeys([*others, f"{DOCS}/copyright"], 0o644)}
     check("the package has its files where they are promised", files, {it: (folder / it).stat().st_mode & 0o777 for it in files if (folder / it).is_file()})
     for name in ("PROVENANCE", "docs/rules.md", "notices/README"):
         check(f"the package has the archive's {name}", sum_of(tree / name), sum_of(docs / name) if (docs / name).is_file() else None)
-    for name in ("usr/bin/twogtp", "usr/games/gtp_engine"):
+    for name in programs:
         check(f"{name} is the archive's program", sum_of(tree / "bin" / Path(name).name), sum_of(folder / name))
     environment = {**os.environ, "PATH": f"{folder / 'usr/bin'}:{os.environ['PATH']}"}
     check_tournament("the package", folder / SCRIPTS["package"], folder / "usr/games/gtp_engine", room / "of-package", env=environment)

@@ -164,7 +164,8 @@ static OPTIONS: [OptionRow<'static>; 9] = [
     OptionRow {
         name: "restarts",
         takes: Takes::Number(0, 1000, "200"),
-        help: "Starts after something was found, 0 to 1000",
+        help: "Starts after something was found,\n\
+            0 to 1000",
     },
 ];
 

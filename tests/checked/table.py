@@ -1,0 +1,161 @@
+"""Which lessons show the bugs of the wrong engines, and which bugs nothing shows.
+
+A lesson was named here for what it asks, by the tables of crates/gtp_course/specs, before its check was run. To change it: a bug that the
+course notices has the lessons that show it in SHOWN, where those of its family don't; a bug that it doesn't notice has the reason in
+UNNOTICED. No bug may be in both.
+"""
+
+# the lesson that is about what the family is about
+FAMILIES = {
+    "form": ("start",),
+    "ids": ("start",),
+    "lines": ("start",),
+    "sizes": ("sizes",),
+    "komi": ("komi",),
+    "captures": ("captures",),
+    "ko": ("ko",),
+    "suicide": ("suicide",),
+    "turns": ("start",),
+    "undo": ("ko",),
+    "handicap": ("handicaps",),
+    "genmove": ("genmoves",),
+    "records": ("record",),
+    "later": ("handicaps",),
+    "restarts": ("restarts",),
+    "unseen": ("drawn",),
+}
+
+# bugs that another lesson shows
+SHOWN = {
+    "note_at_a_capture": ("captures",),
+    # ids of three and more digits: so many commands has one engine in these lessons
+    "ids_are_bytes": ("sizes",),
+    "ids_have_three_digits": ("ko",),
+    "ids_have_commas": ("ko",),
+    # a chain of more than 16 stones, two boards with equal counts, more than eight boards: in games that are drawn
+    "sixteen_stones_at_most": ("drawn",),
+    "joined_chain_counts_twice": ("joining",),
+    "ko_of_equal_counts": ("drawn",),
+    "eight_boards_alone": ("drawn",),
+    # refused as suicide, and legal
+    "capture_is_suicide": ("captures",),
+    "joining_is_suicide": ("joining",),
+    "far_liberties_are_forgotten": ("joining",),
+    "one_liberty_is_suicide": ("ko",),
+    "eye_is_suicide": ("joining",),
+    # the third of five genmoves is of the colour that moved last
+    "genmove_out_of_turn": ("genmoves",),
+    "white_begins_with_a_handicap": ("handicaps",),
+    "two_passes_end_the_game": ("record",),
+    "colours_by_turn": ("ko",),
+    # what every probe takes back
+    "nothing_is_taken_back": ("start",),
+    "two_moves_are_taken_back": ("start",),
+    "empty_record_is_undone": ("start",),
+    "genmoves_stay": ("start",),
+    "refused_play_is_undone": ("start",),
+    # twelve moves taken back in a row, passes too
+    "eight_moves_are_kept": ("record",),
+    "last_pass_stays": ("record",),
+    # on 1x1 the middle is no move, and there is nothing to draw from
+    "first_move_is_the_middle": ("sizes",),
+    "first_move_is_the_middle_of_a_handicap": ("handicaps",),
+    "chosen_move_is_not_made": ("start",),
+    # The engine's own moves are turned alike, so they are legal until there are others on the board.
+    "columns_for_rows": ("games",),
+    "rows_from_the_top": ("handicaps",),
+    # it shows only where what is drawn meets a stone of the wrong colour
+    "no_colour_is_read": ("games", "genmoves"),
+    # a genmove after 60 drawn moves on 5x5
+    "points_twice": ("restarts",),
+    "ko_stays": ("ko",),
+    "stones_of_the_game_before": ("ko",),
+    "boards_of_earlier_games": ("ko",),
+    "ends_at_the_third_game": ("games",),
+    "game_over_stays": ("record",),
+    # of the sizes of drawn games the second is smaller than the first
+    "edges_of_a_larger_board": ("drawn",),
+    "byte_order_mark": ("start",),
+    "greeting": ("start",),
+    "first_read_is_lost": ("start",),
+    "first_genmove_is_of_19": ("start",),
+    "undo_needs_a_genmove": ("start",),
+    # a score after the first `clear_board` of a process
+    "first_komi_is_lost": ("komi",),
+    "score_runs_into_the_id": ("komi",),
+    "rows_are_one_character": ("handicaps",),
+    "rows_are_sixteen_apart": ("handicaps",),
+    "edges_wrap_round": ("captures",),
+    "captures_end_at_an_empty_point": ("captures",),
+    "both_chains_die": ("ko",),
+    "refused_retake_is_made": ("ko",),
+    "refused_suicide_takes_its_chain": ("suicide",),
+    "joined_chains_may_die": ("suicide",),
+    "undo_forgets_the_handicap": ("handicaps",),
+    "one_list_of_taken_stones": ("ko",),
+    "taken_back_moves_stay_listed": ("ko",),
+    "no_handicap_below_nine": ("handicaps",),
+    "refused_handicap_is_placed": ("handicaps",),
+    "saves_a_chain_by_suicide": ("genmoves",),
+    "tried_captures_stay": ("genmoves",),
+    "handicap_points_of_the_first_size": ("handicaps",),
+    "taken_stones_of_the_game_before": ("ko",),
+    "colour_of_the_first_genmove": ("games",),
+    "old_board_comes_back_at_undo": ("restarts",),
+    "handicap_sets_komi": ("handicaps",),
+    # it shows only where the engine happens to take in a ko
+    "ko_after_a_genmove": ("genmoves", "sizes"),
+    "old_ko_stays": ("start",),
+    "choice_of_the_game_before": ("genmoves",),
+    "point_zero_is_no_ko": ("ko",),
+    "moves_taken_back_fill_a_list": ("record",),
+    "lock_stays": ("restarts",),
+    "note_after_a_crash": ("restarts",),
+    "old_komi_stays": ("restarts",),
+    "old_moves_are_undone": ("start",),
+    "choice_is_kept_by_its_board": ("restarts",),
+}
+
+NOT_SENT = "no command is written in that form"
+NOT_ASKED = "this command isn't asked"
+# bugs that the course doesn't notice, and why
+UNNOTICED = {
+    "blank_line_in_a_reply": NOT_ASKED,
+    "no_reply_to_an_unknown_command": NOT_ASKED,
+    "id_at_multiple_lines": NOT_ASKED,
+    "quit_has_no_reply": "the answer to `quit` isn't judged",
+    "known_is_yes": "any answer to `known_command` is right",
+    "unknown_is_a_failure": "any answer to `known_command` is right",
+    "letters_of_any_case": NOT_SENT,
+    "id_of_zero_is_none": "ids begin with 1",
+    "ids_are_its_own_count": "ids go up by one from 1, so that is right here",
+    "id_stays": "each command has an id",
+    "comment_is_a_word": NOT_SENT,
+    "comment_has_a_reply": NOT_SENT,
+    "blank_line_has_a_reply": NOT_SENT,
+    "cr_stays": NOT_SENT,
+    "control_characters_stay": NOT_SENT,
+    "tab_is_no_space": NOT_SENT,
+    "spaces_before_a_line": NOT_SENT,
+    "lines_of_thirty_one": "the longest line has 30 characters",
+    "colours_are_letters": NOT_SENT,
+    "capital_colours_are_unread": NOT_SENT,
+    "small_vertices_are_unread": NOT_SENT,
+    "capital_pass_is_unread": NOT_SENT,
+    "refused_size_counts": "it takes each size that is asked",
+    "even_score_has_a_colour": "`B+0` is the number 0",
+    "handicap_is_undone": "no `undo` is asked where there is a handicap and no move",
+}
+
+# They wait for more input before they answer, so `timeout` has to end them.
+WAITING = {"one_newline", "one_newline_where_there_is_no_text", "second_line_of_a_read_is_lost", "first_read_is_lost"}
+
+# What they answer hangs on how the commands are cut, or on what earlier processes have left: pasted into one more process their
+# conversation may have right answers. Those that wait have answered more commands than the conversation has.
+ANEW = {*WAITING, "reads_of_sixty_four", "trial_is_over"}
+ANEW |= {"old_game_is_a_book", "old_game_comes_back", "old_board_comes_back_at_undo"}
+
+
+def lessons_of(name, family):
+    """The lessons that show a bug."""
+    return SHOWN.get(name, FAMILIES[family])
