@@ -1,10 +1,10 @@
 //! A check: the course of questions is asked of an engine, and what is found is written.
-ghost use Rattle.std.specs.Prelude.{◌+◌, ◌≤◌};
+ghost use Rattle.std.specs.Prelude.{◌+◌, ◌<◌, ◌≤◌, IfSome};
 ghost use Rattle.arrayvec.specs.ArrayVec.{array_vec_len};
 ghost use Rattle.gtp_examiner.specs.Exam.{HasRoomFor};
 
 use crate::complaint::{Complaint, complaint_text};
-use crate::engine::{Engine, Fault, LINES_ROOM, Lines, Room};
+use crate::engine::{Engine, Fault, Room};
 use crate::failure::Failure;
 use crate::flat::{Shortening, shortened};
 use crate::notes::Notes;
@@ -20,7 +20,6 @@ use go_board::KoRule;
 use gtp_course::{Action, Course, Lesson};
 use gtp_examiner::{CheckCommand, Examiner, Kind};
 use gtp_process::{Process, StartFault, Starter, Unstarted, quit_and_end};
-use gtp_wire::MOST_COMMAND_BYTES;
 use std::alloc::{AllocError, Global};
 
 /// How many turns a check has at most. No check within the limits has this number.
@@ -106,8 +105,7 @@ impl<S: Starter> Check<S> {
         output: &mut O,
         starter: &mut S,
     ) -> Result<Option<Over>, Failure> {
-        let mut lines = ArrayVec::new();
-        match self.gather(plan.singly, &mut lines)? {
+        match self.gather(plan.singly)? {
             Next::Start => self.start(plan, starter),
             Next::Restart => {
                 self.restart();
@@ -115,11 +113,10 @@ impl<S: Starter> Check<S> {
             }
             Next::Over => Ok(Some(Over::Done)),
             Next::Exchange => {
-                let fault = self.exchange(lines.as_slice());
-                self.write_first(plan, output)?;
-                match fault {
-                    Some(fault) => self.complain(fault, plan, output, starter)?,
-                    None => {}
+                let fault = self.exchange();
+                self.write_first(fault.is_some(), plan, output)?;
+                if let Some(fault) = fault {
+                    self.complain(fault, plan, output, starter)?;
                 }
                 Ok(None)
             }
@@ -127,28 +124,41 @@ impl<S: Starter> Check<S> {
     }
 
     /// The engine is asked what comes next, as much as may be asked before it answers.
-    fn gather(&mut self, singly: bool, lines: &mut Lines) -> Result<Next, AllocError> {
+    fn gather(&mut self, singly: bool) -> Result<Next, AllocError> {
         for _step in 0..MOST_STEPS {
-            if lines.len() + MOST_COMMAND_BYTES > LINES_ROOM {
-                return Ok(Next::Exchange);
-            }
-            if singly && self.examiner.unanswered() > 0 {
+            if !self.has_room(singly) {
                 return Ok(Next::Exchange);
             }
             let purpose = self.purpose();
             match self.course.next(&self.examiner) {
                 Action::Start => return Ok(Next::Start),
                 Action::Restart => return Ok(Next::Restart),
-                Action::Ask(command) => self.ask(command, purpose, lines)?,
+                Action::Ask(command) => self.ask(command, purpose)?,
                 Action::Wait => return Ok(Next::Exchange),
                 Action::Skip => {}
                 Action::Done => {
-                    let owes = self.examiner.unanswered() > 0;
-                    return Ok(if owes { Next::Exchange } else { Next::Over });
+                    return Ok(if self.is_owed() {
+                        Next::Exchange
+                    } else {
+                        Next::Over
+                    });
                 }
             }
         }
         Ok(Next::Exchange)
+    }
+
+    /// Whether another command may be asked before the engine is heard.
+    fn has_room(&self, singly: bool) -> bool {
+        match &self.engine {
+            Some(engine) => engine.has_room() && !(singly && self.examiner.unanswered() > 0),
+            None => true,
+        }
+    }
+
+    /// Whether an answer of an engine that is up is waited for.
+    fn is_owed(&self) -> bool {
+        self.examiner.is_up() && self.examiner.unanswered() > 0
     }
 
     /// What the next command is asked for.
@@ -160,28 +170,23 @@ impl<S: Starter> Check<S> {
     }
 
     /// The engine is asked a command.
-    fn ask(
-        &mut self,
-        command: CheckCommand,
-        purpose: Purpose,
-        lines: &mut Lines,
-    ) -> Result<(), AllocError>
+    fn ask(&mut self, command: CheckCommand, purpose: Purpose) -> Result<(), AllocError>
         requires may { HasRoomFor self.old.examiner.exam command }
-        requires room { array_vec_len lines.old + 64 ≤ LINES_ROOM }
+        requires room { IfSome self.old.engine (λ engine. array_vec_len engine.waiting + 64 ≤ LINES_ROOM) }
     {
-        self.notes.count();
         match &mut self.engine {
-            Some(engine) => engine.ask(&mut self.examiner, command, purpose, lines),
+            Some(engine) => {
+                self.notes.count();
+                engine.ask(&mut self.examiner, command, purpose)
+            }
             None => Ok(()),
         }
     }
 
     /// What was asked is sent, and the engine is heard.
-    fn exchange(&mut self, lines: &[u8]) -> Option<Fault> {
+    fn exchange(&mut self) -> Option<Fault> {
         match &mut self.engine {
-            Some(engine) => {
-                engine.exchange(&mut self.examiner, lines, &mut self.room, &mut self.notes)
-            }
+            Some(engine) => { engine.exchange(&mut self.examiner, &mut self.room, &mut self.notes) }
             None => None,
         }
     }
@@ -191,15 +196,14 @@ impl<S: Starter> Check<S> {
         if self.notes.fruitless >= MOST_FRUITLESS {
             return Ok(Some(Over::NoRightAnswer));
         }
-        let is_free = !self.tally.is_after_fault;
-        self.tally.is_after_fault = false;
-        if !self.examiner.may_start() || !(is_free || self.tally.take_start()) {
+        if !self.examiner.may_start() || !self.tally.may_start() {
             return Ok(Some(Over::NoMoreStarts));
         }
         match starter.start(plan.words.as_slice()) {
             Ok(process) => {
                 self.examiner.started();
                 self.notes.start();
+                self.tally.start();
                 let engine = Engine::new(self.alloc, process);
                 quit(self.engine.replace(engine), &mut self.room);
                 Ok(None)
@@ -218,29 +222,18 @@ impl<S: Starter> Check<S> {
         quit(self.engine.take(), &mut self.room);
     }
 
-    /// The first line is written, once the version is known.
+    /// The first line is written once the version is known, or something is wrong.
     fn write_first<O: WriteOnce>(
         &mut self,
+        is_wrong: bool,
         plan: &Plan<'_>,
         output: &mut O,
     ) -> Result<(), Failure> {
-        if self.tally.has_first_line || self.notes.version.is_none() {
+        if self.tally.has_first_line || !(is_wrong || self.notes.version.is_some()) {
             return Ok(());
         }
-        self.write_first_now(plan, output)
-    }
-
-    /// The first line is written, unless it is.
-    fn write_first_now<O: WriteOnce>(
-        &mut self,
-        plan: &Plan<'_>,
-        output: &mut O,
-    ) -> Result<(), Failure> {
-        if self.tally.has_first_line {
-            return Ok(());
-        }
-        self.tally.has_first_line = true;
         let line = first_line(self.alloc, plan, &self.notes)?;
+        self.tally.has_first_line = true;
         write_text(output, line.as_slice())?;
         Ok(())
     }
@@ -254,9 +247,22 @@ impl<S: Starter> Check<S> {
         output: &mut O,
         starter: &mut S,
     ) -> Result<(), Failure> {
-        let Some(engine) = self.engine.take() else {
+        let Some(found) = self.close(fault) else {
             return Ok(());
         };
+        let lesson = found.purpose().lesson;
+        if !self.tally.find(lesson, fault) {
+            return Ok(());
+        }
+        match self.shorter(&found, plan, starter)? {
+            Some(tried) => self.write(&tried, lesson, plan, output),
+            None => self.write(&found, lesson, plan, output),
+        }
+    }
+
+    /// The engine, in which this is wrong, is ended, and the part in which it is wrong is left.
+    fn close(&mut self, fault: Fault) -> Option<Tried> {
+        let engine = self.engine.take()?;
         let answered = engine.answered(&self.examiner);
         self.examiner.lost();
         let found = Tried {
@@ -264,31 +270,23 @@ impl<S: Starter> Check<S> {
             answered,
             said: engine.end(),
         };
-        self.write_first_now(plan, output)?;
-        let purpose = found.purpose();
-        if purpose == self.purpose() {
+        if found.purpose() == self.purpose() {
             self.course.leave();
         }
-        if !self.tally.find(purpose.lesson, fault) {
-            return Ok(());
-        }
-        match self.shorter(&found, plan, starter)? {
-            Some(tried) => self.write(&tried, purpose, plan, output),
-            None => self.write(&found, purpose, plan, output),
-        }
+        Some(found)
     }
 
     /// The complaint is written.
     fn write<O: WriteOnce>(
         &mut self,
         found: &Tried,
-        purpose: Purpose,
+        lesson: Lesson,
         plan: &Plan<'_>,
         output: &mut O,
     ) -> Result<(), Failure> {
         let complaint = Complaint {
             number: self.tally.complaints,
-            lesson: purpose.lesson,
+            lesson,
             fault: found.fault,
             sent: found.said.sent.as_slice(),
             talk: found.said.talk.as_slice(),
@@ -317,7 +315,10 @@ impl<S: Starter> Check<S> {
         }
         for shortening in [Shortening::LastGame, Shortening::LastBoard] {
             let commands = shortened(self.alloc, talk, shortening)?;
-            if commands.len() >= talk.len() || !self.tally.take_start() {
+            if commands.len() >= talk.len()
+                || !self.examiner.may_start()
+                || !self.tally.take_start()
+            {
                 continue;
             }
             let tried = try_commands(
@@ -398,6 +399,7 @@ fn quit<P: Process>(engine: Option<Engine<P>>, room: &mut Room) {
             process,
             sent: _,
             talk: _,
+            waiting: _,
             held: _,
             wrote: _,
         } = engine;

@@ -71,6 +71,19 @@ impl Tally {
         }
     }
 
+    /// Whether the engine may be started: after something was found only where a start is left.
+    pub fn may_start(&self) -> bool {
+        !self.is_after_fault || self.starts_left > 0
+    }
+
+    /// The engine was started. After something was found that takes one of the starts that are left.
+    pub fn start(&mut self) {
+        if self.is_after_fault {
+            self.starts_left = self.starts_left.saturating_sub(1);
+        }
+        self.is_after_fault = false;
+    }
+
     /// Takes one of the starts that are left, if there is one.
     pub fn take_start(&mut self) -> bool {
         if self.starts_left == 0 {

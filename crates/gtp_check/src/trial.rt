@@ -1,14 +1,12 @@
 //! A shorter conversation is tried on a new engine.
 ghost use Rattle.std.specs.Prelude.{◌<◌};
 
-use crate::engine::{Ended, Engine, Fault, LINES_ROOM, Lines, Room};
+use crate::engine::{Ended, Engine, Fault, Room};
 use crate::notes::Notes;
 use crate::talk::{Purpose, Said};
-use arrayvec::ArrayVec;
 use gtp_course::Lesson;
 use gtp_examiner::{CheckCommand, Examiner};
 use gtp_process::{Process, StartFault, Starter};
-use gtp_wire::MOST_COMMAND_BYTES;
 use std::alloc::{AllocError, Global};
 
 /// How many exchanges a trial has at most for each command.
@@ -72,10 +70,9 @@ pub fn try_commands<S: Starter>(
     purpose: Purpose,
     room: &mut Room,
     notes: &mut Notes,
-) -> Result<Option<Tried>, AllocError> {
-    if !examiner.may_start() {
-        return Ok(None);
-    }
+) -> Result<Option<Tried>, AllocError>
+    requires { examiner.old.starts < examiner.old.most_starts }
+{
     let process = match starter.start(words) {
         Ok(process) => process,
         Err(StartFault::OutOfMemory) => return Err(AllocError),
@@ -108,14 +105,13 @@ fn ask_all<P: Process>(
 ) -> Result<Option<Fault>, AllocError> {
     let mut next: usize = 0;
     for _exchange in 0..MOST_EXCHANGES {
-        let mut lines = ArrayVec::new();
         let rest = &commands[next.min(commands.len())..];
-        next = next.saturating_add(ask_some(engine, examiner, rest, purpose, &mut lines, notes)?);
+        next = next.saturating_add(ask_some(engine, examiner, rest, purpose, notes)?);
         if examiner.unanswered() == 0 {
             // All was answered, or the next command may not be asked in this game.
             return Ok(None);
         }
-        if let Some(fault) = engine.exchange(examiner, lines.as_slice(), room, notes) {
+        if let Some(fault) = engine.exchange(examiner, room, notes) {
             return Ok(Some(fault));
         }
     }
@@ -128,15 +124,14 @@ fn ask_some<P: Process>(
     examiner: &mut Examiner,
     commands: &[CheckCommand],
     purpose: Purpose,
-    lines: &mut Lines,
     notes: &mut Notes,
 ) -> Result<usize, AllocError> {
     let mut asked: usize = 0;
     for command in commands {
-        if lines.len() + MOST_COMMAND_BYTES > LINES_ROOM || !examiner.has_room(command) {
+        if !engine.has_room() || !examiner.has_room(command) {
             break;
         }
-        engine.ask(examiner, *command, purpose, lines)?;
+        engine.ask(examiner, *command, purpose)?;
         notes.count();
         asked = asked.saturating_add(1);
     }
