@@ -1,6 +1,6 @@
 -- What is said with an engine since it was started: what it is asked, what it writes, and what is found. (Own.)
 use Rattle.std.specs.Prelude.{◌≡◌, ◌⊎◌, ℕ, ◌+◌, ◌<◌, ◌≤◌, Bool, true, false, List, [], ◌∷◌, ◌++◌, length, take, drop}
-use Rattle.std.specs.Prelude.{Option, None, Some, is_some, if◌then◌else◌, Result}
+use Rattle.std.specs.Prelude.{◌-◌, slice_get, Option, None, Some, is_some, option_map, if◌then◌else◌, Result, Ok, Err}
 use Rattle.std.specs.Io.KnownBytes.{Appends, Keeps}
 use Rattle.byte_streams.specs.Parts.{TakesPart}
 use Rattle.gtp_wire.specs.Replies.{most_shown}
@@ -9,17 +9,25 @@ use Rattle.gtp_wire.specs.declared.replies.ReplyFault.{ReplyFault}
 use Rattle.gtp_process.specs.declared.causes.PipeCause.{PipeCause}
 use Rattle.gtp_process.specs.declared.causes.PipeCause.TheVariants.{Ended, Reading}
 use Rattle.gtp_process.specs.declared.starter.Process.{Ghosts}
+use Rattle.gtp_process.specs.declared.starter.Ending.{Ending}
+use Rattle.gtp_process.specs.declared.starter.StartFault.{StartFault}
+use Rattle.gtp_process.specs.declared.starter.StartFault.TheVariants as start_fault
+use Rattle.gtp_process.specs.declared.starter.StartReason.{StartReason}
+use Rattle.gtp_process.specs.Starts.{Attempts, Text, Tries}
 use Rattle.gtp_process.specs.Pipes.{IsCutOff, IsUnbroken, OutputEnded}
 use Rattle.gtp_examiner.specs.declared.asking.CheckCommand.{CheckCommand}
 use Rattle.gtp_examiner.specs.declared.exam.Exam.{Exam}
 use Rattle.gtp_examiner.specs.declared.exam.Finding.{Finding}
 use Rattle.gtp_examiner.specs.Asking.{written_check}
+use Rattle.gtp_examiner.specs.Check.{Check, after_loss, started, with_exam}
+use Rattle.gtp_course.specs.declared.lessons.Lesson.TheVariants as lesson
 use Rattle.gtp_examiner.specs.Exam.{Asks, HasRoomFor, Hears, HearsDown}
 use Rattle.gtp_check.specs.declared.engine.Engine.{Engine}
 use Rattle.gtp_check.specs.declared.engine.Fault.{Fault}
 use Rattle.gtp_check.specs.declared.engine.Fault.TheVariants.{CutOff, Wrote}
 use Rattle.gtp_check.specs.declared.talk.Purpose.{Purpose}
 use Rattle.gtp_check.specs.declared.talk.Said.{Said}
+use Rattle.gtp_check.specs.declared.trial.Tried.{Tried}
 
 -- ---- an engine that was started
 
@@ -175,21 +183,102 @@ pub record IsExchanged {P : Type 0} (known : Ghosts P) (old : Exam) (before : Di
 
 -- ---- a conversation
 
--- A conversation with an engine since it was started: commands were asked, whose lines are sent with the next exchange,
+-- A conversation with an engine, from this point on: commands were asked, whose lines are sent with the next exchange,
 -- and nothing was found.
-pub data Converses {P : Type 0} (known : Ghosts P) (first : Exam) (process : P) : Exam → Dialogue P → Type 0 where
-  begins : Converses known first process first (begun_with process)
+pub data Converses {P : Type 0} (known : Ghosts P) (first : Exam) (start : Dialogue P) : Exam → Dialogue P → Type 0 where
+  begins : Converses known first start first start
   asks : {old new : Exam} {before after : Dialogue P} (purpose : Purpose) (command : CheckCommand)
-      → Converses known first process old before → IsAsked purpose old before command new after
-      → Converses known first process new after
+      → Converses known first start old before → IsAsked purpose old before command new after
+      → Converses known first start new after
   exchanges : {old new : Exam} {before after : Dialogue P}
-      → Converses known first process old before → IsExchanged known old before None new after
-      → Converses known first process new after
+      → Converses known first start old before → IsExchanged known old before None new after
+      → Converses known first start new after
 
 -- it ended with something wrong
-pub record EndsWrong {P : Type 0} (known : Ghosts P) (first : Exam) (process : P) (fault : Fault) (new : Exam)
+pub record EndsWrong {P : Type 0} (known : Ghosts P) (first : Exam) (start : Dialogue P) (fault : Fault) (new : Exam)
     (after : Dialogue P) : Type 0 where
   pub old : Exam
   pub before : Dialogue P
-  pub converses : Converses known first process old before
+  pub converses : Converses known first start old before
   pub exchanged : IsExchanged known old before (Some fault) new after
+
+-- so a conversation ended: with something wrong, or without
+abbrev pub EndsSo : {P : Type 0} → Ghosts P → Exam → Dialogue P → Option Fault → Exam → Dialogue P → Type 0
+EndsSo known first start None new after = Converses known first start new after
+EndsSo known first start (Some fault) new after = EndsWrong known first start fault new after
+
+-- ---- a conversation that ended with something wrong
+
+-- What is wrong, how many commands were answered before, all that was sent, the commands, what the engine wrote since
+-- its last whole reply, and how its process ended.
+pub record Wrong : Type 0 where
+  pub fault : Fault
+  pub answered : ℕ
+  pub sent : List ℕ
+  pub talk : List Said
+  pub wrote : List ℕ
+  pub ending : Ending
+
+abbrev pub wrong_of : Tried → Wrong
+wrong_of tried = record {
+  fault = tried.fault;
+  answered = tried.answered;
+  sent = tried.said.sent.items;
+  talk = tried.said.talk.items;
+  wrote = tried.said.wrote.items;
+  ending = tried.said.ending;
+}
+
+-- what is wrong with this engine, whose process ended so
+abbrev pub wrong_with : {P : Type 0} → Fault → Exam → Dialogue P → Ending → Wrong
+wrong_with fault exam engine ending = record {
+  fault = fault;
+  answered = length engine.talk - length exam.unanswered;
+  sent = engine.sent;
+  talk = engine.talk;
+  wrote = engine.wrote;
+  ending = ending;
+}
+
+-- what the command that was answered wrongly was asked for, if there is one
+abbrev pub purpose_of : Option Said → Purpose
+purpose_of None = record { lesson = lesson.Start; part = 0 }
+purpose_of (Some said) = said.purpose
+
+abbrev pub wrong_purpose : Wrong → Purpose
+wrong_purpose wrong = purpose_of (slice_get wrong.talk wrong.answered)
+
+-- the command that was answered wrongly
+abbrev pub wrong_command : Wrong → Option CheckCommand
+wrong_command wrong = option_map (λ said. said.command) (slice_get wrong.talk wrong.answered)
+
+-- it ended with the same answer to the same command
+pub record EndsLike (one other : Wrong) : Type 0 where
+  pub fault : one.fault ≡ other.fault
+  pub command : wrong_command one ≡ wrong_command other
+
+-- ---- a trial
+
+-- Programs were asked for, each by this command line.
+pub data AsksForMore {P : Type 0} (line : List Text) (before : Attempts P) : Attempts P → Type 0 where
+  none : AsksForMore line before before
+  one_more : {mid after : Attempts P} (answer : Result P StartFault) → AsksForMore line before mid
+      → Tries mid after line answer → AsksForMore line before after
+
+-- A conversation was tried on an engine that was asked for by this command line. It wasn't started. Or it was, and asked
+-- commands, and then nothing was wrong, or this was; and its process ended.
+pub data IsTrial {P : Type 0} (known : Ghosts P) (line : List Text) (old : Check) (had : Attempts P)
+    : Option Wrong → Check → Attempts P → Type 0 where
+  unstarted : {has : Attempts P} (reason : StartReason) → Tries had has line (Err (start_fault.NotStarted reason))
+      → IsTrial known line old had None old has
+  right : {has : Attempts P} {exam : Exam} {engine : Dialogue P} (process : P) (ending : Ending)
+      → Tries had has line (Ok process)
+      → Converses known (started old).exam (begun_with process) exam engine
+      → known.leaves engine.process ending
+      → IsTrial known line old had None (after_loss (with_exam (started old) exam)) has
+  wrong : {has : Attempts P} {exam : Exam} {engine : Dialogue P} (process : P) (ending : Ending) (fault : Fault)
+      → Tries had has line (Ok process)
+      → EndsWrong known (started old).exam (begun_with process) fault exam engine
+      → known.leaves engine.process ending
+      → IsTrial known line old had (Some (wrong_with fault exam engine ending))
+      (after_loss (with_exam (started old) exam)) has

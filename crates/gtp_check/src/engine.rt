@@ -1,5 +1,5 @@
 //! An engine that was started: what it is asked, and what it writes.
-ghost use Rattle.std.specs.Prelude.{◌≡◌, ◌+◌, ◌++◌, ◌≤◌, ◌<◌, true, [], length, take, OnOk, if◌then◌else◌};
+ghost use Rattle.std.specs.Prelude.{◌≡◌, ◌+◌, ◌-◌, ◌++◌, ◌≤◌, ◌<◌, true, [], length, take, OnOk, if◌then◌else◌};
 ghost use Rattle.arrayvec.specs.ArrayVec.{array_vec_len};
 ghost use Rattle.gtp_wire.specs.Replies.{most_shown};
 ghost use Rattle.gtp_examiner.specs.Asking.{written_check};
@@ -242,12 +242,19 @@ impl<P: Process> Engine<P> {
     }
 
     /// How many commands the engine has answered.
-    pub fn answered(&self, examiner: &Examiner) -> usize {
+    pub fn answered(&self, examiner: &Examiner) -> usize
+        ensures { result ≡ length (dialogue self.now).talk - length examiner.now.exam.unanswered }
+    {
         self.talk.len().saturating_sub(examiner.unanswered())
     }
 
     /// The process is ended, and what was said stays.
-    pub fn end(self) -> Ended {
+    pub fn end(self) -> Ended
+        ensures said { (result.sent.items ≡ (dialogue self).sent)
+            × (result.talk.items ≡ (dialogue self).talk)
+            × (result.wrote.items ≡ (dialogue self).wrote) }
+        ensures ended { P.leaves self.process result.ending }
+    {
         let Engine {
             process,
             sent,
