@@ -7,6 +7,7 @@ mod engine;
 mod failure;
 mod flat;
 mod kinds;
+pub mod laws;
 mod listing;
 mod notes;
 mod options;
