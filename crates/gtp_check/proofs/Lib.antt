@@ -1,2 +1,3 @@
 mod Conversations
+mod Joining
 mod Talks

@@ -21,6 +21,7 @@ use Rattle.gtp_examiner.specs.Exam.{with_learned, with_rest}
 use Rattle.gtp_examiner.specs.Laws.{Exchange, FindingsAreJustified, Talks, exchanged}
 use Rattle.gtp_check.specs.declared.engine.Fault.{Fault}
 use Rattle.gtp_check.specs.declared.engine.Fault.TheVariants.{Wrote}
+use Rattle.gtp_check.specs.declared.notes.Notes.{Notes}
 use Rattle.gtp_check.specs.Dialogues.{Answers, AreHeard, Converses, Dialogue, EndsWrong, IsAsked, IsExchanged, IsHeardTo}
 use Rattle.gtp_check.specs.Dialogues.{IsSent, Listener, begun_with, listener}
 use Rattle.gtp_check.specs.Laws.{ComplaintsAreJustified, IsWronglyWritten}
@@ -94,7 +95,7 @@ pub record IsTalk {P : Type 0} (known : Ghosts P) (rule : KoRule) (process : P) 
   pub goes : GoesOn rule now.sent came exam
   pub gave : Appends (known.given process) (known.given now.process) (came ++ now.held)
 
-module _ {P : Type 0} (known : Ghosts P) (rule : KoRule) (process : P) where
+module _ {P : Type 0} (known : Ghosts P) (rule : KoRule) (process : P) (first : Notes) where
   -- it was sent what waits, and gave nothing
   sent_gave : (lines : List ℕ) (before after : P) → IsSent known lines before after
       → Keeps (known.given before) (known.given after)
@@ -109,8 +110,8 @@ module _ {P : Type 0} (known : Ghosts P) (rule : KoRule) (process : P) where
       → Appends (known.given process) (known.given before.process) (came ++ bytes)
       → AreHeard bytes old before None new after → IsTalk known rule process new after
   quiet_talk bytes old before new after came goes gave heard =
-      let to = heard_to rule before.sent came bytes (listener old before.wrote) goes heard.0.done
-          (listener new after.wrote) heard.0.heard in
+      let to = heard_to rule before.sent came bytes (listener old before.wrote before.notes) goes heard.0.done
+          (listener new after.wrote after.notes) heard.0.heard in
       subst (IsTalk known rule process new) (sym heard.1)
       (record {
         came = came ++ take heard.0.done bytes;
@@ -148,7 +149,7 @@ module _ {P : Type 0} (known : Ghosts P) (rule : KoRule) (process : P) where
         (talk.came ++ before.held) talk.gave (sent_gave before.waiting before.process next sent);
   }
 
-  converses_talk : {exam : Exam} {now : Dialogue P} → Converses known (begun rule true) (begun_with process) exam now
+  converses_talk : {exam : Exam} {now : Dialogue P} → Converses known (begun rule true) (begun_with process first) exam now
       → IsTalk known rule process exam now
   converses_talk Converses.begins = record {
     came = [];
@@ -181,7 +182,7 @@ module _ {P : Type 0} (known : Ghosts P) (rule : KoRule) (process : P) where
       → IsWronglyWritten known rule process kind after
   found_talk justify bytes old before kind new after came goes gave heard =
       let found = heard.0 in
-      let to = heard_to rule before.sent came bytes (listener old before.wrote) goes found.done found.mid found.heard in
+      let to = heard_to rule before.sent came bytes (listener old before.wrote before.notes) goes found.done found.mid found.heard in
       let hears = found.found.up to.up in
       subst (IsWronglyWritten known rule process kind) (sym heard.1)
       (record {
@@ -226,7 +227,7 @@ module _ {P : Type 0} (known : Ghosts P) (rule : KoRule) (process : P) where
       absurd (cc is)
 
   pub found_in : FindingsAreJustified → (kind : Kind) (new : Exam) (after : Dialogue P)
-      → EndsWrong known (begun rule true) (begun_with process) (Wrote kind) new after
+      → EndsWrong known (begun rule true) (begun_with process first) (Wrote kind) new after
       → IsWronglyWritten known rule process kind after
   found_in justify kind new after ends =
       answers_found justify ends.old

@@ -18,21 +18,27 @@ use Rattle.gtp_process.specs.Pipes.{IsCutOff, IsUnbroken, OutputEnded}
 use Rattle.gtp_examiner.specs.declared.asking.CheckCommand.{CheckCommand}
 use Rattle.gtp_examiner.specs.declared.exam.Exam.{Exam}
 use Rattle.gtp_examiner.specs.declared.exam.Finding.{Finding}
+use Rattle.gtp_examiner.specs.declared.skills.Skills.{Skills}
+use Rattle.gtp_examiner.specs.declared.unanswered.Asked.{Asked}
 use Rattle.gtp_examiner.specs.Asking.{written_check}
+use Rattle.gtp_examiner.specs.Judging.{oldest, refused_by}
 use Rattle.gtp_examiner.specs.Check.{Check, after_loss, started, with_exam}
 use Rattle.gtp_course.specs.declared.lessons.Lesson.TheVariants as lesson
 use Rattle.gtp_examiner.specs.Exam.{Asks, HasRoomFor, Hears, HearsDown}
 use Rattle.gtp_check.specs.declared.engine.Engine.{Engine}
 use Rattle.gtp_check.specs.declared.engine.Fault.{Fault}
 use Rattle.gtp_check.specs.declared.engine.Fault.TheVariants.{CutOff, Wrote}
+use Rattle.gtp_check.specs.declared.notes.Notes.{Notes}
 use Rattle.gtp_check.specs.declared.talk.Purpose.{Purpose}
 use Rattle.gtp_check.specs.declared.talk.Said.{Said}
 use Rattle.gtp_check.specs.declared.trial.Tried.{Tried}
+use Rattle.gtp_check.specs.Notes.{counted, noted}
 
 -- ---- an engine that was started
 
 -- An engine that was started: its process, the bytes of all lines that it was asked, the commands, those bytes that
--- aren't sent yet, what it wrote that wasn't heard yet, and the beginning of what it wrote since its last whole reply.
+-- aren't sent yet, what it wrote that wasn't heard yet, and the beginning of what it wrote since its last whole reply. And
+-- what is noted of it so far.
 pub record Dialogue (P : Type 0) : Type 0 where
   pub process : P
   pub sent : List ℕ
@@ -40,25 +46,35 @@ pub record Dialogue (P : Type 0) : Type 0 where
   pub waiting : List ℕ
   pub held : List ℕ
   pub wrote : List ℕ
+  pub notes : Notes
 
-abbrev pub dialogue : {P : Type 0} → Engine P → Dialogue P
-dialogue engine = record {
+abbrev pub dialogue : {P : Type 0} → Engine P → Notes → Dialogue P
+dialogue engine notes = record {
   process = engine.process;
   sent = engine.sent.items;
   talk = engine.talk.items;
   waiting = engine.waiting.items;
   held = engine.held.items;
   wrote = engine.wrote.items;
+  notes = notes;
 }
 
 -- one that was asked nothing
-abbrev pub begun_with : {P : Type 0} → P → Dialogue P
-begun_with process = record { process = process; sent = []; talk = []; waiting = []; held = []; wrote = [] }
+abbrev pub begun_with : {P : Type 0} → P → Notes → Dialogue P
+begun_with process notes = record {
+  process = process;
+  sent = [];
+  talk = [];
+  waiting = [];
+  held = [];
+  wrote = [];
+  notes = notes;
+}
 
 -- ---- a command
 
 -- A command is asked, for this purpose: it may be asked, and its line is joined to what the engine was asked and to what
--- is sent next.
+-- is sent next. It is counted.
 pub record IsAsked {P : Type 0} (purpose : Purpose) (old : Exam) (before : Dialogue P) (command : CheckCommand)
     (new : Exam) (after : Dialogue P) : Type 0 where
   pub may : HasRoomFor old command
@@ -73,17 +89,27 @@ pub record IsAsked {P : Type 0} (purpose : Purpose) (old : Exam) (before : Dialo
       end = length (before.sent ++ written_check new.sent command);
     } ∷ [];
     waiting = before.waiting ++ written_check new.sent command;
+    notes = counted before.notes;
   }
 
 -- ---- what it wrote
 
--- who hears an engine: its exam, and the beginning of what it wrote since its last whole reply
+-- who hears an engine: its exam, the beginning of what it wrote since its last whole reply, and what is noted
 pub record Listener : Type 0 where
   pub exam : Exam
   pub wrote : List ℕ
+  pub notes : Notes
 
-abbrev pub listener : Exam → List ℕ → Listener
-listener exam wrote = record { exam = exam; wrote = wrote }
+abbrev pub listener : Exam → List ℕ → Notes → Listener
+listener exam wrote notes = record { exam = exam; wrote = wrote; notes = notes }
+
+-- what is noted of what was read, where this is the oldest command, if any, and nothing was found
+abbrev pub noted_of_read : Notes → Option Asked → Option (Result Reply ReplyFault) → Skills → Notes
+noted_of_read notes (Some asked) (Some (Ok reply)) skills =
+    noted notes (Some asked) (refused_by asked.due reply.ok) reply skills
+noted_of_read notes (Some asked) (Some (Err shown)) skills = notes
+noted_of_read notes (Some asked) None skills = notes
+noted_of_read notes None read skills = notes
 
 -- bytes are heard by the exam, be the engine up or not
 pub record IsHeard (old : Exam) (bytes : List ℕ) (used : ℕ) (read : Option (Result Reply ReplyFault))
@@ -101,7 +127,9 @@ pub data IsHeardTo (bytes : List ℕ) (first : Listener) : ℕ → Listener → 
   piece : {done used : ℕ} {mid : Listener} {read : Option (Result Reply ReplyFault)} {new : Exam}
       → IsHeardTo bytes first done mid → 0 < length mid.exam.unanswered
       → IsHeard mid.exam (drop done bytes) used read None new
-      → IsHeardTo bytes first (done + used) (listener new (kept_after mid.wrote (take used (drop done bytes)) (is_some read)))
+      → IsHeardTo bytes first (done + used) (listener new
+      (kept_after mid.wrote (take used (drop done bytes)) (is_some read))
+      (noted_of_read mid.notes (oldest mid.exam.unanswered) read new.skills))
 
 -- The bytes were heard until the engine owed nothing, or to their end. This end of them is left.
 pub record IsHeardQuietly (bytes : List ℕ) (first last : Listener) (left : List ℕ) : Type 0 where
@@ -121,16 +149,17 @@ pub record IsFoundIn (bytes : List ℕ) (first last : Listener) (fault : Fault) 
   pub finding : Finding
   pub found : IsHeard mid.exam (drop done bytes) used read (Some finding) last.exam
   pub wrote : last.wrote ≡ take most_shown (mid.wrote ++ take used (drop done bytes))
+  pub notes : last.notes ≡ mid.notes
   pub kind : fault ≡ Wrote finding.kind
 
 -- the bytes were heard, and this is what is wrong with them, if anything; what is left is held
 abbrev pub AreHeard : {P : Type 0} → List ℕ → Exam → Dialogue P → Option Fault → Exam → Dialogue P → Type 0
 AreHeard bytes old before None new after =
-    IsHeardQuietly bytes (listener old before.wrote) (listener new after.wrote) after.held
-    × (after ≡ record before { held = after.held; wrote = after.wrote })
+    IsHeardQuietly bytes (listener old before.wrote before.notes) (listener new after.wrote after.notes) after.held
+    × (after ≡ record before { held = after.held; wrote = after.wrote; notes = after.notes })
 AreHeard bytes old before (Some fault) new after =
-    IsFoundIn bytes (listener old before.wrote) (listener new after.wrote) fault
-    × (after ≡ record before { wrote = after.wrote })
+    IsFoundIn bytes (listener old before.wrote before.notes) (listener new after.wrote after.notes) fault
+    × (after ≡ record before { wrote = after.wrote; notes = after.notes })
 
 -- ---- an exchange
 
@@ -268,17 +297,17 @@ pub data AsksForMore {P : Type 0} (line : List Text) (before : Attempts P) : Att
 -- A conversation was tried on an engine that was asked for by this command line. It wasn't started. Or it was, and asked
 -- commands, and then nothing was wrong, or this was; and its process ended.
 pub data IsTrial {P : Type 0} (known : Ghosts P) (line : List Text) (old : Check) (had : Attempts P)
-    : Option Wrong → Check → Attempts P → Type 0 where
+    (first : Notes) : Option Wrong → Check → Attempts P → Notes → Type 0 where
   unstarted : {has : Attempts P} (reason : StartReason) → Tries had has line (Err (start_fault.NotStarted reason))
-      → IsTrial known line old had None old has
+      → IsTrial known line old had first None old has first
   right : {has : Attempts P} {exam : Exam} {engine : Dialogue P} (process : P) (ending : Ending)
       → Tries had has line (Ok process)
-      → Converses known (started old).exam (begun_with process) exam engine
+      → Converses known (started old).exam (begun_with process first) exam engine
       → known.leaves engine.process ending
-      → IsTrial known line old had None (after_loss (with_exam (started old) exam)) has
+      → IsTrial known line old had first None (after_loss (with_exam (started old) exam)) has engine.notes
   wrong : {has : Attempts P} {exam : Exam} {engine : Dialogue P} (process : P) (ending : Ending) (fault : Fault)
       → Tries had has line (Ok process)
-      → EndsWrong known (started old).exam (begun_with process) fault exam engine
+      → EndsWrong known (started old).exam (begun_with process first) fault exam engine
       → known.leaves engine.process ending
-      → IsTrial known line old had (Some (wrong_with fault exam engine ending))
-      (after_loss (with_exam (started old) exam)) has
+      → IsTrial known line old had first (Some (wrong_with fault exam engine ending))
+      (after_loss (with_exam (started old) exam)) has engine.notes

@@ -13,6 +13,7 @@ use Rattle.gtp_examiner.specs.declared.judging.Kind.{Kind}
 use Rattle.gtp_examiner.specs.Exam.{Hears, begun}
 use Rattle.gtp_examiner.specs.Laws.{Exchange, IsJustified, Talks}
 use Rattle.gtp_check.specs.declared.engine.Fault.TheVariants.{Wrote}
+use Rattle.gtp_check.specs.declared.notes.Notes.{Notes}
 use Rattle.gtp_check.specs.Dialogues.{Dialogue, EndsWrong, begun_with}
 
 -- What was found in what an engine wrote. What it was asked and what was heard are a talk in which all answers were
@@ -36,8 +37,8 @@ pub record IsWronglyWritten {P : Type 0} (known : Ghosts P) (rule : KoRule) (pro
 
 -- Whatever the engine is, what is found in what it wrote is justified.
 abbrev pub ComplaintsAreJustified : {P : Type 0} → Ghosts P → Type 0
-ComplaintsAreJustified {P} known = (rule : KoRule) (process : P) (kind : Kind) (new : Exam) (after : Dialogue P)
-    → EndsWrong known (begun rule true) (begun_with process) (Wrote kind) new after
+ComplaintsAreJustified {P} known = (rule : KoRule) (process : P) (first : Notes) (kind : Kind) (new : Exam)
+    (after : Dialogue P) → EndsWrong known (begun rule true) (begun_with process first) (Wrote kind) new after
     → IsWronglyWritten known rule process kind after
 
 -- A right engine under this ko rule, whatever it chose among what its policy may, was given just the bytes that were
@@ -45,8 +46,8 @@ ComplaintsAreJustified {P} known = (rule : KoRule) (process : P) (kind : Kind) (
 -- found in it.
 abbrev pub NoRightEngineIsComplainedOf : {P Q : Type 0} → Ghosts P → May Q → Type 0
 NoRightEngineIsComplainedOf {P} {Q} known may = (rule : KoRule) (policy : Q) (engine : Engine Q) (out later : List ℕ)
-    (process : P) (kind : Kind) (new : Exam) (after : Dialogue P) (before gave : List ℕ)
-    → EndsWrong known (begun rule true) (begun_with process) (Wrote kind) new after
+    (process : P) (first : Notes) (kind : Kind) (new : Exam) (after : Dialogue P) (before gave : List ℕ)
+    → EndsWrong known (begun rule true) (begun_with process first) (Wrote kind) new after
     → known.given process ≡ Some before → known.given after.process ≡ Some (before ++ gave)
     → Engages may (fresh_under rule policy) after.sent engine out → out ≡ gave ++ later
     → ⊥

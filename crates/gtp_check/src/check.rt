@@ -1,7 +1,22 @@
 //! A check: the course of questions is asked of an engine, and what is found is written.
-ghost use Rattle.std.specs.Prelude.{◌+◌, ◌<◌, ◌≤◌, IfSome};
+ghost use Rattle.std.specs.Prelude.{◌≡◌, ◌+◌, ◌<◌, ◌≤◌, ◌⊎◌, true, false, None, IfOk, IfErr, IfSome, IsSome, OnErr};
+ghost use Rattle.std.specs.Prelude.{length, option_map, OnOk};
 ghost use Rattle.arrayvec.specs.ArrayVec.{array_vec_len};
+ghost use Rattle.byte_streams.specs.Writing.{BreaksAt, GoesOut};
+ghost use Rattle.gtp_process.specs.Endings.{IsEnded};
+ghost use Rattle.gtp_process.specs.Quitting.{QuitsIfAny};
+ghost use Rattle.gtp_process.specs.Starts.{program_line};
+ghost use Rattle.gtp_examiner.specs.Check.{after_loss};
 ghost use Rattle.gtp_examiner.specs.Exam.{HasRoomFor};
+ghost use Rattle.gtp_check.specs.Complaints.{complaint_lines};
+ghost use Rattle.gtp_check.specs.Dialogues.{AsksForMore, wrong_of, wrong_purpose};
+ghost use Rattle.gtp_check.specs.Turns.{AsksEngine, Closes, HasStopped, IsComplaint, IsHeardOut, Shortens, StopsIn};
+ghost use Rattle.gtp_check.specs.Turns.{TurnsAreOver, before_all, process_of, purpose_in, state};
+ghost use Rattle.gtp_check.specs.private.Steps.{Begins, ComplaintGoesOut, ComplaintStops, FirstGoesOut};
+ghost use Rattle.gtp_check.specs.private.Steps.{EndsTurn, FirstStops, Gathers, IsPaired, IsRefused};
+ghost use Rattle.gtp_check.specs.declared.engine.TheConstants.{LINES_ROOM};
+ghost use Rattle.gtp_check.specs.declared.complaint.Complaint.{Complaint};
+ghost use Rattle.gtp_check.specs.declared.failure.Failure.TheVariants as failure;
 
 use crate::complaint::{Complaint, complaint_text};
 use crate::engine::{Engine, Fault, Room};
@@ -14,10 +29,9 @@ use crate::superko::is_positional;
 use crate::talk::Purpose;
 use crate::tally::Tally;
 use crate::trial::{Tried, try_commands};
-use arrayvec::ArrayVec;
 use byte_streams::{WriteOnce, write_text};
 use go_board::KoRule;
-use gtp_course::{Action, Course, Lesson};
+use gtp_course::{Action, Course, Lesson, Lessons};
 use gtp_examiner::{CheckCommand, Examiner, Kind};
 use gtp_process::{Process, StartFault, Starter, Unstarted, quit_and_end};
 use std::alloc::{AllocError, Global};
@@ -63,15 +77,14 @@ enum Next {
 
 impl<S: Starter> Check<S> {
     /// Before the first start.
-    pub fn new(alloc: Global, plan: &Plan<'_>) -> Self {
-        let mut lessons = ArrayVec::new();
-        for lesson in &plan.lessons {
-            let _ = lessons.try_push(*lesson);
-        }
+    pub fn new(alloc: Global, plan: &Plan<'_>) -> Self
+        ensures { state result.examiner result.course result.engine result.tally result.notes
+            ≡ before_all plan.now }
+    {
         Check {
             alloc,
             examiner: Examiner::new(plan.rule, plan.restarts.saturating_add(ORDINARY_STARTS)),
-            course: Course::new(lessons, plan.scene_size, plan.seed),
+            course: Course::new(copied(&plan.lessons), plan.scene_size, plan.seed),
             engine: None,
             notes: Notes::new(),
             tally: Tally::new(plan.restarts),
@@ -89,7 +102,18 @@ impl<S: Starter> Check<S> {
         plan: &Plan<'_>,
         output: &mut O,
         starter: &mut S,
-    ) -> Result<Over, Failure> {
+    ) -> Result<Over, Failure>
+        requires { IsPaired (state self.old.examiner self.old.course self.old.engine self.old.tally self.old.notes) }
+        ensures over { let before = state self.old.examiner self.old.course self.old.engine self.old.tally self.old.notes in
+            let after = state self.new.examiner self.new.course self.new.engine self.new.tally self.new.notes in
+            IfOk result (λ over. TurnsAreOver S.Process.Process plan.now O.WriteOnce
+            before (S.asked starter.old) output.old over after (S.asked starter.new) output.new) }
+        ensures stopped { let before = state self.old.examiner self.old.course self.old.engine self.old.tally self.old.notes in
+            let after = state self.new.examiner self.new.course self.new.engine self.new.tally self.new.notes in
+            IfErr result (λ why. HasStopped S.Process.Process plan.now
+            O.WriteOnce before (S.asked starter.old) output.old (process_of self.new.engine)
+            (S.asked starter.new) output.new why) }
+    {
         for _turn in 0..MOST_TURNS {
             if let Some(over) = self.take_turn(plan, output, starter)? {
                 return Ok(over);
@@ -104,7 +128,19 @@ impl<S: Starter> Check<S> {
         plan: &Plan<'_>,
         output: &mut O,
         starter: &mut S,
-    ) -> Result<Option<Over>, Failure> {
+    ) -> Result<Option<Over>, Failure>
+        requires { IsPaired (state self.old.examiner self.old.course self.old.engine self.old.tally self.old.notes) }
+        ensures turn { let before = state self.old.examiner self.old.course self.old.engine self.old.tally self.old.notes in
+            let after = state self.new.examiner self.new.course self.new.engine self.new.tally self.new.notes in
+            IfOk result (λ over. EndsTurn S.Process.Process plan.now O.WriteOnce
+            before (S.asked starter.old) output.old over after (S.asked starter.new) output.new) }
+        ensures stops { let before = state self.old.examiner self.old.course self.old.engine self.old.tally self.old.notes in
+            let after = state self.new.examiner self.new.course self.new.engine self.new.tally self.new.notes in
+            IfErr result (λ why. StopsIn S.Process.Process plan.now O.WriteOnce
+            before (S.asked starter.old) output.old (process_of self.new.engine)
+            (S.asked starter.new) output.new why) }
+        ensures paired { OnOk result (IsPaired (state self.new.examiner self.new.course self.new.engine self.new.tally self.new.notes)) }
+    {
         match self.gather(plan.singly)? {
             Next::Start => self.start(plan, starter),
             Next::Restart => {
@@ -124,7 +160,14 @@ impl<S: Starter> Check<S> {
     }
 
     /// The engine is asked what comes next, as much as may be asked before it answers.
-    fn gather(&mut self, singly: bool) -> Result<Next, AllocError> {
+    fn gather(&mut self, singly: bool) -> Result<Next, AllocError>
+        requires paired { IsPaired (state self.old.examiner self.old.course self.old.engine self.old.tally self.old.notes) }
+        ensures gathers { let before = state self.old.examiner self.old.course self.old.engine self.old.tally self.old.notes in
+            let after = state self.new.examiner self.new.course self.new.engine self.new.tally self.new.notes in
+            IfOk result (λ next. Gathers singly before next after) }
+        ensures paired { IsPaired (state self.new.examiner self.new.course self.new.engine self.new.tally self.new.notes) }
+        ensures process { process_of self.new.engine ≡ process_of self.old.engine }
+    {
         for _step in 0..MOST_STEPS {
             if !self.has_room(singly) {
                 return Ok(Next::Exchange);
@@ -149,7 +192,13 @@ impl<S: Starter> Check<S> {
     }
 
     /// Whether another command may be asked before the engine is heard.
-    fn has_room(&self, singly: bool) -> bool {
+    fn has_room(&self, singly: bool) -> bool
+        ensures room { result ≡ true → IfSome self.now.engine (λ engine.
+            array_vec_len engine.waiting + 64 ≤ LINES_ROOM) }
+        ensures alone { result ≡ true → IsSome self.now.engine → singly ≡ true
+            → length self.now.examiner.exam.unanswered ≡ 0 }
+        ensures full { result ≡ false → IsSome self.now.engine }
+    {
         match &self.engine {
             Some(engine) => engine.has_room() && !(singly && self.examiner.unanswered() > 0),
             None => true,
@@ -157,12 +206,18 @@ impl<S: Starter> Check<S> {
     }
 
     /// Whether an answer of an engine that is up is waited for.
-    fn is_owed(&self) -> bool {
+    fn is_owed(&self) -> bool
+        ensures owed { result ≡ true → self.now.examiner.exam.up ≡ true }
+        ensures not_owed { result ≡ false → (self.now.examiner.exam.up ≡ false)
+            ⊎ (length self.now.examiner.exam.unanswered ≡ 0) }
+    {
         self.examiner.is_up() && self.examiner.unanswered() > 0
     }
 
     /// What the next command is asked for.
-    fn purpose(&self) -> Purpose {
+    fn purpose(&self) -> Purpose
+        ensures { result ≡ purpose_in self.now.course }
+    {
         Purpose {
             lesson: self.course.lesson().unwrap_or(Lesson::Restarts),
             part: self.course.place().part,
@@ -172,19 +227,29 @@ impl<S: Starter> Check<S> {
     /// The engine is asked a command.
     fn ask(&mut self, command: CheckCommand, purpose: Purpose) -> Result<(), AllocError>
         requires may { HasRoomFor self.old.examiner.exam command }
-        requires room { IfSome self.old.engine (λ engine. array_vec_len engine.waiting + 64 ≤ LINES_ROOM) }
+        requires there { IsSome self.old.engine }
+        requires room { IfSome self.old.engine (λ engine.
+            array_vec_len engine.waiting + 64 ≤ LINES_ROOM) }
+        ensures asks { let before = state self.old.examiner self.old.course self.old.engine self.old.tally self.old.notes in
+            let after = state self.new.examiner self.new.course self.new.engine self.new.tally self.new.notes in
+            OnOk result (AsksEngine purpose before command after) }
+        ensures there { IsSome self.new.engine }
+        ensures process { process_of self.new.engine ≡ process_of self.old.engine }
     {
         match &mut self.engine {
-            Some(engine) => {
-                self.notes.count();
-                engine.ask(&mut self.examiner, command, purpose)
-            }
+            Some(engine) => engine.ask(&mut self.examiner, command, purpose, &mut self.notes),
             None => Ok(()),
         }
     }
 
     /// What was asked is sent, and the engine is heard.
-    fn exchange(&mut self) -> Option<Fault> {
+    fn exchange(&mut self) -> Option<Fault>
+        requires { IsSome self.old.engine }
+        ensures heard { let before = state self.old.examiner self.old.course self.old.engine self.old.tally self.old.notes in
+            let after = state self.new.examiner self.new.course self.new.engine self.new.tally self.new.notes in
+            IsHeardOut S.Process.Process before result after }
+        ensures there { IsSome self.new.engine }
+    {
         match &mut self.engine {
             Some(engine) => { engine.exchange(&mut self.examiner, &mut self.room, &mut self.notes) }
             None => None,
@@ -192,7 +257,16 @@ impl<S: Starter> Check<S> {
     }
 
     /// An engine is started, where one may be.
-    fn start(&mut self, plan: &Plan<'_>, starter: &mut S) -> Result<Option<Over>, Failure> {
+    fn start(&mut self, plan: &Plan<'_>, starter: &mut S) -> Result<Option<Over>, Failure>
+        ensures begins { let before = state self.old.examiner self.old.course self.old.engine self.old.tally self.old.notes in
+            let after = state self.new.examiner self.new.course self.new.engine self.new.tally self.new.notes in
+            IfOk result (λ over. Begins S.Process.Process plan.now
+            before (S.asked starter.old) over after (S.asked starter.new)) }
+        ensures refused { let before = state self.old.examiner self.old.course self.old.engine self.old.tally self.old.notes in
+            let after = state self.new.examiner self.new.course self.new.engine self.new.tally self.new.notes in
+            IfErr result (λ why. IsRefused plan.now
+            before (S.asked starter.old) why after (S.asked starter.new)) }
+    {
         if self.notes.fruitless >= MOST_FRUITLESS {
             return Ok(Some(Over::NoRightAnswer));
         }
@@ -217,7 +291,12 @@ impl<S: Starter> Check<S> {
     }
 
     /// The engine, which owes nothing, is sent `quit` and ended.
-    fn restart(&mut self) {
+    fn restart(&mut self)
+        ensures quits { QuitsIfAny S.Process.Process (process_of self.old.engine) }
+        ensures leads { let before = state self.old.examiner self.old.course self.old.engine self.old.tally self.old.notes in
+            let after = state self.new.examiner self.new.course self.new.engine self.new.tally self.new.notes in
+            after ≡ record before { check = after_loss before.check; engine = None } }
+    {
         self.examiner.lost();
         quit(self.engine.take(), &mut self.room);
     }
@@ -228,7 +307,16 @@ impl<S: Starter> Check<S> {
         is_wrong: bool,
         plan: &Plan<'_>,
         output: &mut O,
-    ) -> Result<(), Failure> {
+    ) -> Result<(), Failure>
+        ensures goes_out { let before = state self.old.examiner self.old.course self.old.engine self.old.tally self.old.notes in
+            let after = state self.new.examiner self.new.course self.new.engine self.new.tally self.new.notes in
+            OnOk result (FirstGoesOut S.Process.Process plan.now O.WriteOnce
+            before is_wrong after output.old output.new) }
+        ensures stops { let before = state self.old.examiner self.old.course self.old.engine self.old.tally self.old.notes in
+            let after = state self.new.examiner self.new.course self.new.engine self.new.tally self.new.notes in
+            IfErr result (λ why. FirstStops S.Process.Process plan.now O.WriteOnce
+            before is_wrong after output.old output.new why) }
+    {
         if self.tally.has_first_line || !(is_wrong || self.notes.version.is_some()) {
             return Ok(());
         }
@@ -246,7 +334,19 @@ impl<S: Starter> Check<S> {
         plan: &Plan<'_>,
         output: &mut O,
         starter: &mut S,
-    ) -> Result<(), Failure> {
+    ) -> Result<(), Failure>
+        requires { IsSome self.old.engine }
+        ensures goes_out { let before = state self.old.examiner self.old.course self.old.engine self.old.tally self.old.notes in
+            let after = state self.new.examiner self.new.course self.new.engine self.new.tally self.new.notes in
+            OnOk result (ComplaintGoesOut S.Process.Process plan.now O.WriteOnce
+            before (S.asked starter.old) fault after (S.asked starter.new) output.old output.new) }
+        ensures stops { let before = state self.old.examiner self.old.course self.old.engine self.old.tally self.old.notes in
+            let after = state self.new.examiner self.new.course self.new.engine self.new.tally self.new.notes in
+            IfErr result (λ why. ComplaintStops S.Process.Process plan.now
+            O.WriteOnce before (S.asked starter.old) fault after (S.asked starter.new)
+            output.old output.new why) }
+        ensures gone { self.new.engine ≡ None }
+    {
         let Some(found) = self.close(fault) else {
             return Ok(());
         };
@@ -261,7 +361,15 @@ impl<S: Starter> Check<S> {
     }
 
     /// The engine, in which this is wrong, is ended, and the part in which it is wrong is left.
-    fn close(&mut self, fault: Fault) -> Option<Tried> {
+    fn close(&mut self, fault: Fault) -> Option<Tried>
+        requires { IsSome self.old.engine }
+        ensures found { IsSome result }
+        ensures closes { let before = state self.old.examiner self.old.course self.old.engine self.old.tally self.old.notes in
+            let after = state self.new.examiner self.new.course self.new.engine self.new.tally self.new.notes in
+            IfSome result (λ found. Closes S.Process.Process fault
+            before (wrong_of found) after) }
+        ensures gone { self.new.engine ≡ None }
+    {
         let engine = self.engine.take()?;
         let answered = engine.answered(&self.examiner);
         self.examiner.lost();
@@ -283,7 +391,19 @@ impl<S: Starter> Check<S> {
         lesson: Lesson,
         plan: &Plan<'_>,
         output: &mut O,
-    ) -> Result<(), Failure> {
+    ) -> Result<(), Failure>
+        ensures goes_out { OnOk result ((complaint : Complaint)
+            × IsComplaint plan.now.rule self.old.tally.complaints lesson (wrong_of found.now) complaint
+            × GoesOut O.WriteOnce (complaint_lines complaint) output.old output.new) }
+        ensures broke { IfErr result (λ why. why ≡ failure.Write → (complaint : Complaint)
+            × IsComplaint plan.now.rule self.old.tally.complaints lesson (wrong_of found.now) complaint
+            × BreaksAt O.WriteOnce (complaint_lines complaint) output.old output.new) }
+        ensures refused { IfErr result (λ why. (why ≡ failure.Write)
+            ⊎ ((why ≡ failure.OutOfMemory) × (output.new ≡ output.old))) }
+        ensures same { let before = state self.old.examiner self.old.course self.old.engine self.old.tally self.old.notes in
+            let after = state self.new.examiner self.new.course self.new.engine self.new.tally self.new.notes in
+            after ≡ before }
+    {
         let complaint = Complaint {
             number: self.tally.complaints,
             lesson,
@@ -308,7 +428,17 @@ impl<S: Starter> Check<S> {
         found: &Tried,
         plan: &Plan<'_>,
         starter: &mut S,
-    ) -> Result<Option<Tried>, Failure> {
+    ) -> Result<Option<Tried>, Failure>
+        ensures shortens { let before = state self.old.examiner self.old.course self.old.engine self.old.tally self.old.notes in
+            let after = state self.new.examiner self.new.course self.new.engine self.new.tally self.new.notes in
+            IfOk result (λ shorter. Shortens S.Process.Process plan.now
+            (wrong_of found.now) before (S.asked starter.old) (option_map wrong_of shorter)
+            after (S.asked starter.new)) }
+        ensures refused { IfErr result (λ why. (why ≡ failure.OutOfMemory)
+            × AsksForMore (program_line plan.now.words.items)
+            (S.asked starter.old) (S.asked starter.new)) }
+        ensures engine { self.new.engine ≡ self.old.engine }
+    {
         let talk = found.conversation();
         if talk.len() <= SHORT {
             return Ok(None);
@@ -351,7 +481,9 @@ impl<S: Starter> Check<S> {
     }
 
     /// The engine is ended at once.
-    pub fn end_at_once(self) {
+    pub fn end_at_once(self)
+        ensures { IsEnded S.Process.Process (process_of self.engine) }
+    {
         let Check {
             alloc: _,
             examiner: _,
@@ -392,8 +524,20 @@ impl<S: Starter> Check<S> {
     }
 }
 
+/// The same lessons.
+fn copied(lessons: &Lessons) -> Lessons
+    ensures { result.items ≡ lessons.now.items }
+{
+    let mut copy = Lessons::new();
+    // All fit.
+    let _ = copy.try_extend_from_slice(lessons);
+    copy
+}
+
 /// An engine, if there is one, is sent `quit` and ended.
-fn quit<P: Process>(engine: Option<Engine<P>>, room: &mut Room) {
+fn quit<P: Process>(engine: Option<Engine<P>>, room: &mut Room)
+    ensures { QuitsIfAny P.Process (process_of engine) }
+{
     if let Some(engine) = engine {
         let Engine {
             process,
@@ -408,7 +552,9 @@ fn quit<P: Process>(engine: Option<Engine<P>>, room: &mut Room) {
 }
 
 /// An engine, if there is one, is ended at once.
-fn end_now<P: Process>(engine: Option<Engine<P>>) {
+fn end_now<P: Process>(engine: Option<Engine<P>>)
+    ensures { IsEnded P.Process (process_of engine) }
+{
     if let Some(engine) = engine {
         let _ = engine.end();
     }

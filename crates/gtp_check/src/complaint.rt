@@ -1,10 +1,18 @@
 //! The block of a complaint.
-ghost use Rattle.std.specs.Prelude.{◌≤◌, length};
+ghost use Rattle.std.specs.Prelude.{◌≡◌, ◌≤◌, ◌++◌, length, take, IfOk, OnOk};
+ghost use Rattle.go_base.specs.Bytes.{newline};
+ghost use Rattle.std.specs.Io.BufRead.{strip_last};
+ghost use Rattle.gtp_process.specs.Shown.{quoted};
+ghost use Rattle.gtp_wire.specs.Replies.{most_shown};
+ghost use Rattle.gtp_check.specs.Complaints.{ahead_line, commands_after, complaint_lines, conversation, ended_text};
+ghost use Rattle.gtp_check.specs.Complaints.{faulty_line, head_line, ko_line, line_end, line_start, rule_line};
+ghost use Rattle.gtp_check.specs.Complaints.{wrote_line};
 
 use crate::engine::Fault;
 use crate::kinds::fault_text;
 use crate::rules::rule_text;
 use crate::talk::Said;
+use crate::texts::add_all;
 use arrayvec::ArrayVec;
 use go_base::write_int;
 use gtp_course::Lesson;
@@ -40,44 +48,70 @@ pub struct Complaint<'t> {
 /// # Errors
 ///
 /// Where memory is refused.
-pub fn complaint_text(alloc: Global, complaint: &Complaint<'_>) -> Result<Vec<u8>, AllocError> {
-    let end = end_of(complaint, complaint.answered.saturating_add(1));
-    let start = end_of(complaint, complaint.answered).min(end);
+pub fn complaint_text(alloc: Global, complaint: &Complaint<'_>) -> Result<Vec<u8>, AllocError>
+    ensures { IfOk result (λ text. text.items ≡ complaint_lines complaint.now) }
+{
     let mut text = Vec::new(alloc);
-    add_head(
-        &mut text,
-        complaint,
-        without_newline(&complaint.sent[start..end]),
-    )?;
-    text.extend_from_slice(&complaint.sent[..end])?;
-    add_wrote(&mut text, complaint)?;
+    add_head(&mut text, complaint)?;
+    text.extend_from_slice(complaint.conversation())?;
+    add_wrote(&mut text, complaint.wrote)?;
     add_rule(&mut text, complaint)?;
-    add_hints(&mut text, complaint)?;
+    add_ahead(&mut text, complaint.commands_after())?;
+    add_ko(&mut text, complaint.is_positional)?;
     text.extend_from_slice(b"\n")?;
     Ok(text)
 }
 
-/// Where the lines of the first commands end, so many of them.
-fn end_of(complaint: &Complaint<'_>, count: usize) -> usize
-    ensures { result ≤ length complaint.now.sent.now }
-{
-    let end = match count.checked_sub(1) {
-        Some(index) => end_at(complaint, index),
-        None => 0,
-    };
-    end.min(complaint.sent.len())
-}
+impl<'t> Complaint<'t> {
+    /// Where the line of the command with this number, counted from 0, ends.
+    fn line_end(&self, number: usize) -> usize
+        ensures { result ≡ line_end self.now number }
+    {
+        match self.talk.get(number) {
+            Some(said) => said.end,
+            None => self.sent.len(),
+        }
+    }
 
-/// Where the line of a command ends.
-fn end_at(complaint: &Complaint<'_>, index: usize) -> usize {
-    match complaint.talk.get(index) {
-        Some(said) => said.end,
-        None => complaint.sent.len(),
+    /// Where it begins.
+    fn line_start(&self, number: usize) -> usize
+        ensures { result ≡ line_start self.now number }
+    {
+        match number.checked_sub(1) {
+            Some(before) => self.line_end(before),
+            None => 0,
+        }
+    }
+
+    /// The lines that were sent, up to that of the faulty command.
+    fn conversation(&self) -> &'t [u8]
+        ensures { result.now ≡ conversation self.now }
+    {
+        let end = self.line_end(self.answered);
+        &self.sent[..end.min(self.sent.len())]
+    }
+
+    /// The faulty command as it was sent, without its newline.
+    fn faulty_line(&self) -> &'t [u8]
+        ensures { result.now ≡ faulty_line self.now }
+    {
+        let lines = self.conversation();
+        let start = self.line_start(self.answered);
+        without_newline(&lines[start.min(lines.len())..])
+    }
+
+    /// How many commands were sent after it.
+    fn commands_after(&self) -> usize
+        ensures { result ≡ commands_after self.now }
+    {
+        self.talk.len().saturating_sub(self.answered).saturating_sub(1)
     }
 }
 
 /// A line without its newline.
-fn without_newline(line: &[u8]) -> &[u8] {
+fn without_newline(line: &[u8]) -> &[u8]
+    ensures { result.now ≡ strip_last newline line.entry.now }
+{
     match line {
         [text @ .., b'\n'] => text,
         _ => line,
@@ -85,67 +119,102 @@ fn without_newline(line: &[u8]) -> &[u8] {
 }
 
 /// The first line: the number, the lesson, the command and what was wrong.
-fn add_head(
-    text: &mut Vec<u8>,
-    complaint: &Complaint<'_>,
-    command: &[u8],
-) -> Result<(), AllocError> {
-    text.extend_from_slice(b"# ")?;
-    text.extend_from_slice(&write_int(complaint.number))?;
-    text.extend_from_slice(b" ")?;
-    text.extend_from_slice(complaint.lesson.name().as_bytes())?;
-    text.extend_from_slice(b": \"")?;
-    text.extend_from_slice(command)?;
-    text.extend_from_slice(b"\": ")?;
-    text.extend_from_slice(fault_text(complaint.fault))?;
-    if let Fault::CutOff(_) = complaint.fault {
-        let mut ending: ArrayVec<u8, 24> = ArrayVec::new();
-        push_ending(&mut ending, complaint.ending);
-        text.extend_from_slice(&ending)?;
+fn add_head(text: &mut Vec<u8>, complaint: &Complaint<'_>) -> Result<(), AllocError>
+    ensures { OnOk result (text.new.items ≡ text.old.items ++ head_line complaint.now) }
+{
+    add_all(
+        text,
+        &[
+            b"# ",
+            &write_int(complaint.number),
+            b" ",
+            complaint.lesson.name().as_bytes(),
+            b": \"",
+        ],
+    )?;
+    text.extend_from_slice(complaint.faulty_line())?;
+    add_all(
+        text,
+        &[
+            b"\": ",
+            fault_text(complaint.fault),
+            &ended_text(complaint.fault, complaint.ending),
+            b"\n",
+        ],
+    )
+}
+
+/// How the process ended, where that is what was wrong.
+fn ended_text(fault: Fault, ending: Ending) -> ArrayVec<u8, 24>
+    ensures { result.items ≡ ended_text fault ending }
+{
+    let mut text = ArrayVec::new();
+    match fault {
+        Fault::Wrote(_) => {}
+        Fault::CutOff(_) => push_ending(&mut text, ending),
     }
-    text.extend_from_slice(b"\n")
+    text
 }
 
 /// The line of what the engine wrote.
-fn add_wrote(text: &mut Vec<u8>, complaint: &Complaint<'_>) -> Result<(), AllocError> {
-    let mut shown: ArrayVec<u8, 322> = ArrayVec::new();
-    push_quoted(
-        &mut shown,
-        &complaint.wrote[..MOST_SHOWN.min(complaint.wrote.len())],
-    );
-    text.extend_from_slice(b"# it wrote: ")?;
-    text.extend_from_slice(&shown)?;
-    text.extend_from_slice(b"\n")
+fn add_wrote(text: &mut Vec<u8>, wrote: &[u8]) -> Result<(), AllocError>
+    ensures { OnOk result (text.new.items ≡ text.old.items ++ wrote_line wrote.now) }
+{
+    add_all(text, &[b"# it wrote: ", &shown(wrote), b"\n"])
+}
+
+/// The beginning of what the engine wrote, as it is shown.
+fn shown(wrote: &[u8]) -> ArrayVec<u8, 322>
+    ensures { result.items ≡ quoted (take most_shown wrote.now) }
+{
+    let mut text = ArrayVec::new();
+    push_quoted(&mut text, beginning(wrote));
+    text
+}
+
+/// The beginning of what the engine wrote.
+fn beginning(wrote: &[u8]) -> &[u8]
+    ensures beginning { result.now ≡ take most_shown wrote.entry.now }
+    ensures few { length result.now ≤ 80 }
+{
+    &wrote[..MOST_SHOWN.min(wrote.len())]
 }
 
 /// The line of what is right.
-fn add_rule(text: &mut Vec<u8>, complaint: &Complaint<'_>) -> Result<(), AllocError> {
-    text.extend_from_slice(b"# right: ")?;
-    text.extend_from_slice(rule_of(complaint))?;
-    text.extend_from_slice(b"\n")
+fn add_rule(text: &mut Vec<u8>, complaint: &Complaint<'_>) -> Result<(), AllocError>
+    ensures { OnOk result (text.new.items ≡ text.old.items ++ rule_line complaint.now) }
+{
+    let command = complaint.talk.get(complaint.answered).map(|said| said.command);
+    add_all(
+        text,
+        &[b"# right: ", rule_text(complaint.fault, command), b"\n"],
+    )
 }
 
-/// The rule that says what is right.
-fn rule_of(complaint: &Complaint<'_>) -> &'static [u8] {
-    match complaint.talk.get(complaint.answered) {
-        Some(said) => rule_text(complaint.fault, Some(said.command)),
-        None => rule_text(complaint.fault, None),
+/// The line of how many commands were sent after the faulty one, where there are any.
+fn add_ahead(text: &mut Vec<u8>, commands: usize) -> Result<(), AllocError>
+    ensures { OnOk result (text.new.items ≡ text.old.items ++ ahead_line commands) }
+{
+    match commands {
+        0 => Ok(()),
+        1 => text.extend_from_slice(b"# the command after it was sent before its answer came\n"),
+        _ => add_all(
+            text,
+            &[
+                b"# the ",
+                &write_int(commands.min(4294967295) as u32),
+                b" commands after it were sent before its answer came\n",
+            ],
+        ),
     }
 }
 
-/// The lines of what else there is to know.
-fn add_hints(text: &mut Vec<u8>, complaint: &Complaint<'_>) -> Result<(), AllocError> {
-    let more = complaint
-        .talk
-        .len()
-        .saturating_sub(complaint.answered.saturating_add(1));
-    if more > 0 && more <= 8 {
-        text.extend_from_slice(b"# so many commands were sent after it, before the answer: ")?;
-        text.extend_from_slice(&write_int(more as u32))?;
-        text.extend_from_slice(b"\n")?;
-    }
-    if complaint.is_positional {
-        text.extend_from_slice(b"# under positional ko it is right: try --ko positional\n")?;
+/// The line of the other ko rule, where that explains the refusal.
+fn add_ko(text: &mut Vec<u8>, is_positional: bool) -> Result<(), AllocError>
+    ensures { OnOk result (text.new.items ≡ text.old.items ++ ko_line is_positional) }
+{
+    if is_positional {
+        text.extend_from_slice(b"# under positional ko the refusal is right: try --ko positional\n")?;
     }
     Ok(())
 }

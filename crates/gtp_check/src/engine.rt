@@ -5,6 +5,7 @@ ghost use Rattle.gtp_wire.specs.Replies.{most_shown};
 ghost use Rattle.gtp_examiner.specs.Asking.{written_check};
 ghost use Rattle.gtp_examiner.specs.Check.{with_exam};
 ghost use Rattle.gtp_examiner.specs.Exam.{HasRoomFor};
+ghost use Rattle.gtp_check.specs.declared.notes.Notes.{Notes};
 ghost use Rattle.gtp_check.specs.Dialogues.{Answers, AreHeard, IsAsked, IsExchanged, IsSent, begun_with, dialogue};
 
 use crate::notes::{Beginning, Notes};
@@ -81,7 +82,7 @@ pub struct Engine<P> {
 impl<P: Process> Engine<P> {
     /// An engine that was asked nothing.
     pub fn new(alloc: Global, process: P) -> Self
-        ensures { dialogue result ≡ begun_with process }
+        ensures { (notes : Notes) → dialogue result notes ≡ begun_with process notes }
     {
         Engine {
             process,
@@ -110,11 +111,12 @@ impl<P: Process> Engine<P> {
         examiner: &mut Examiner,
         command: CheckCommand,
         purpose: Purpose,
+        notes: &mut Notes,
     ) -> Result<(), AllocError>
         requires may { HasRoomFor examiner.old.exam command }
         requires room { array_vec_len self.old.waiting + 64 ≤ LINES_ROOM }
-        ensures asked { OnOk result (IsAsked purpose examiner.old.exam (dialogue self.old) command
-            examiner.new.exam (dialogue self.new)) }
+        ensures asked { OnOk result (IsAsked purpose examiner.old.exam
+            (dialogue self.old notes.old) command examiner.new.exam (dialogue self.new notes.new)) }
         ensures process { self.new.process ≡ self.old.process }
         ensures check { examiner.new ≡ with_exam examiner.old examiner.new.exam }
     {
@@ -128,6 +130,7 @@ impl<P: Process> Engine<P> {
             end: self.sent.len(),
         }])?;
         push(&mut self.waiting, line.as_slice());
+        notes.count();
         Ok(())
     }
 
@@ -139,8 +142,8 @@ impl<P: Process> Engine<P> {
         room: &mut Room,
         notes: &mut Notes,
     ) -> Option<Fault>
-        ensures exchanged { IsExchanged P.Process examiner.old.exam (dialogue self.old)
-            result examiner.new.exam (dialogue self.new) }
+        ensures exchanged { IsExchanged P.Process examiner.old.exam
+            (dialogue self.old notes.old) result examiner.new.exam (dialogue self.new notes.new) }
         ensures check { examiner.new ≡ with_exam examiner.old examiner.new.exam }
     {
         let waiting = std::mem::replace(&mut self.waiting, ArrayVec::new());
@@ -155,8 +158,8 @@ impl<P: Process> Engine<P> {
         room: &mut Room,
         notes: &mut Notes,
     ) -> Option<Fault>
-        ensures answers { Answers P.Process examiner.old.exam (dialogue self.old)
-            result examiner.new.exam (dialogue self.new) }
+        ensures answers { Answers P.Process examiner.old.exam
+            (dialogue self.old notes.old) result examiner.new.exam (dialogue self.new notes.new) }
         ensures check { examiner.new ≡ with_exam examiner.old examiner.new.exam }
     {
         if examiner.unanswered() == 0 {
@@ -183,7 +186,8 @@ impl<P: Process> Engine<P> {
         notes: &mut Notes,
     ) -> Option<Fault>
         ensures heard { AreHeard self.old.held.items examiner.old.exam
-            (record (dialogue self.old) { held = [] }) result examiner.new.exam (dialogue self.new) }
+            (record (dialogue self.old notes.old) { held = [] }) result
+            examiner.new.exam (dialogue self.new notes.new) }
         ensures check { examiner.new ≡ with_exam examiner.old examiner.new.exam }
     {
         let held = std::mem::replace(&mut self.held, ArrayVec::new());
@@ -199,8 +203,8 @@ impl<P: Process> Engine<P> {
         notes: &mut Notes,
     ) -> Option<Fault>
         requires { length bytes.now ≤ READ_ROOM }
-        ensures heard { AreHeard bytes.now examiner.old.exam (dialogue self.old) result
-            examiner.new.exam (dialogue self.new) }
+        ensures heard { AreHeard bytes.now examiner.old.exam (dialogue self.old notes.old) result
+            examiner.new.exam (dialogue self.new notes.new) }
         ensures check { examiner.new ≡ with_exam examiner.old examiner.new.exam }
     {
         let mut done = 0;
@@ -223,8 +227,8 @@ impl<P: Process> Engine<P> {
     /// The beginning of what it wrote since its last whole reply is kept.
     fn keep(&mut self, bytes: &[u8])
         ensures kept { self.new.wrote.items ≡ take most_shown (self.old.wrote.items ++ bytes.now) }
-        ensures rest { dialogue self.new
-            ≡ record (dialogue self.old) { wrote = self.new.wrote.items } }
+        ensures rest { (notes : Notes) → dialogue self.new notes
+            ≡ record (dialogue self.old notes) { wrote = self.new.wrote.items } }
     {
         let room = MOST_SHOWN - self.wrote.len();
         push(&mut self.wrote, &bytes[..room.min(bytes.len())]);
@@ -233,8 +237,8 @@ impl<P: Process> Engine<P> {
     /// A whole reply isn't kept.
     fn forget_reply(&mut self, is_read: bool)
         ensures kept { self.new.wrote.items ≡ if is_read then [] else self.old.wrote.items }
-        ensures rest { dialogue self.new
-            ≡ record (dialogue self.old) { wrote = self.new.wrote.items } }
+        ensures rest { (notes : Notes) → dialogue self.new notes
+            ≡ record (dialogue self.old notes) { wrote = self.new.wrote.items } }
     {
         if is_read {
             self.wrote = ArrayVec::new();
@@ -243,16 +247,15 @@ impl<P: Process> Engine<P> {
 
     /// How many commands the engine has answered.
     pub fn answered(&self, examiner: &Examiner) -> usize
-        ensures { result ≡ length (dialogue self.now).talk - length examiner.now.exam.unanswered }
+        ensures { result ≡ length self.now.talk.items - length examiner.now.exam.unanswered }
     {
         self.talk.len().saturating_sub(examiner.unanswered())
     }
 
     /// The process is ended, and what was said stays.
     pub fn end(self) -> Ended
-        ensures said { (result.sent.items ≡ (dialogue self).sent)
-            × (result.talk.items ≡ (dialogue self).talk)
-            × (result.wrote.items ≡ (dialogue self).wrote) }
+        ensures said { (result.sent.items ≡ self.sent.items)
+            × (result.talk.items ≡ self.talk.items) × (result.wrote.items ≡ self.wrote.items) }
         ensures ended { P.leaves self.process result.ending }
     {
         let Engine {

@@ -1,11 +1,16 @@
 //! What is wrong with an engine, in words.
+ghost use Rattle.std.specs.Prelude.{◌≡◌};
+ghost use Rattle.gtp_check.specs.Kinds.{cause_text, fault_text, kind_text, play_text};
+
 use crate::engine::Fault;
 use go_board::{HandicapFault, PlayFault};
 use gtp_examiner::{Cause, Kind};
 use gtp_process::{PipeCause, pipe_text};
 
 /// What was wrong, after the command.
-pub fn fault_text(fault: Fault) -> &'static [u8] {
+pub fn fault_text(fault: Fault) -> &'static [u8]
+    ensures { result.now ≡ fault_text fault }
+{
     match fault {
         Fault::Wrote(kind) => kind_text(kind),
         Fault::CutOff(cause) => pipe_text(cause),
@@ -13,7 +18,9 @@ pub fn fault_text(fault: Fault) -> &'static [u8] {
 }
 
 /// What was wrong with what it wrote.
-fn kind_text(kind: Kind) -> &'static [u8] {
+fn kind_text(kind: Kind) -> &'static [u8]
+    ensures { result.now ≡ kind_text kind }
+{
     match kind {
         Kind::Refused => b"it was refused",
         Kind::Took(_) => b"it was taken",
@@ -31,7 +38,9 @@ fn kind_text(kind: Kind) -> &'static [u8] {
 }
 
 /// Why a right engine refuses a command.
-pub fn cause_text(cause: Cause) -> &'static [u8] {
+pub fn cause_text(cause: Cause) -> &'static [u8]
+    ensures { result.now ≡ cause_text cause }
+{
     match cause {
         Cause::BadMove(fault) => play_text(fault),
         Cause::BadHandicap(HandicapFault::NotEmpty) => {
@@ -45,7 +54,9 @@ pub fn cause_text(cause: Cause) -> &'static [u8] {
 }
 
 /// Why a move isn't legal.
-pub fn play_text(fault: PlayFault) -> &'static [u8] {
+pub fn play_text(fault: PlayFault) -> &'static [u8]
+    ensures { result.now ≡ play_text fault }
+{
     match fault {
         PlayFault::Full => b"the record is full",
         PlayFault::OffBoard => b"the point is off the board",

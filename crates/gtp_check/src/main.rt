@@ -18,6 +18,7 @@ mod summary;
 mod superko;
 mod talk;
 mod tally;
+mod texts;
 mod trial;
 
 use failure::{Failure, PlanError};

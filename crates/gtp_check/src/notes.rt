@@ -1,7 +1,11 @@
 //! What is noted of right answers.
+ghost use Rattle.std.specs.Prelude.{◌≡◌};
+ghost use Rattle.gtp_check.specs.Notes.{beginning_of, counted, is_refused, lacks, noted, nothing_noted, started, with_lacks};
+ghost use Rattle.gtp_check.specs.Notes.{noted_of, with_answer, with_size};
+
 use arrayvec::ArrayVec;
 use go_base::{Size, push};
-use gtp_examiner::{CheckCommand, Examiner, Heard, Skill};
+use gtp_examiner::{CheckCommand, Examiner, Heard, Skill, Skills};
 use gtp_wire::{MOST_SHOWN, Reply};
 
 /// The beginning of what an engine wrote: 80 bytes at most.
@@ -32,7 +36,9 @@ pub struct Notes {
 
 impl Notes {
     /// Before the first start.
-    pub fn new() -> Notes {
+    pub fn new() -> Notes
+        ensures { result ≡ nothing_noted }
+    {
         Notes {
             name: None,
             version: None,
@@ -47,54 +53,90 @@ impl Notes {
     }
 
     /// The engine was started.
-    pub fn start(&mut self) {
+    pub fn start(&mut self)
+        ensures { self.new ≡ started self.old }
+    {
         self.has_answered = false;
         self.fruitless = self.fruitless.saturating_add(1);
     }
 
     /// A command was asked.
-    pub fn count(&mut self) {
+    pub fn count(&mut self)
+        ensures { self.new ≡ counted self.old }
+    {
         self.commands = self.commands.saturating_add(1);
     }
 
-    /// What was heard without a finding.
-    pub fn take(&mut self, heard: &Heard, reply: &Reply, examiner: &Examiner) {
+    /// What was heard without a finding. The reply is read only where a command was answered.
+    pub fn take(&mut self, heard: &Heard, reply: &Reply, examiner: &Examiner)
+        ensures { self.new
+            ≡ noted self.old heard.now.answered heard.now.refused reply.now examiner.now.exam.skills }
+    {
         let Some(asked) = heard.answered else {
             return;
         };
-        self.has_answered = true;
-        self.fruitless = 0;
-        match asked.command {
-            CheckCommand::Name => self.name = Some(beginning_of(reply)),
-            CheckCommand::Version => self.version = Some(beginning_of(reply)),
-            CheckCommand::KnownCommand(_) => self.take_skills(examiner),
-            CheckCommand::Match(_) | CheckCommand::FinalScore => {}
-        }
+        self.answer(&asked.command, reply, examiner.skills());
         if let Some(size) = heard.refused {
             self.refuse(size);
         }
     }
 
+    /// A right answer to a command.
+    fn answer(&mut self, command: &CheckCommand, reply: &Reply, skills: Skills)
+        ensures { self.new ≡ noted_of command.now reply.now skills (with_answer self.old) }
+    {
+        self.has_answered = true;
+        self.fruitless = 0;
+        match command {
+            CheckCommand::Name => self.name = Some(beginning_of(reply)),
+            CheckCommand::Version => self.version = Some(beginning_of(reply)),
+            CheckCommand::KnownCommand(_) => self.take_skills(skills),
+            CheckCommand::Match(_) | CheckCommand::FinalScore => {}
+        }
+    }
+
     /// What the engine said that it lacks.
-    fn take_skills(&mut self, examiner: &Examiner) {
-        let skills = examiner.skills();
-        self.lacks_handicap = self.lacks_handicap || skills.fixed_handicap == Skill::Lacks;
-        self.lacks_undo = self.lacks_undo || skills.undo == Skill::Lacks;
-        self.lacks_score = self.lacks_score || skills.final_score == Skill::Lacks;
+    fn take_skills(&mut self, skills: Skills)
+        ensures { self.new ≡ with_lacks self.old skills }
+    {
+        self.lacks_handicap = self.lacks_handicap || lacks(skills.fixed_handicap);
+        self.lacks_undo = self.lacks_undo || lacks(skills.undo);
+        self.lacks_score = self.lacks_score || lacks(skills.final_score);
     }
 
     /// It refused a size.
-    fn refuse(&mut self, size: Size) {
+    fn refuse(&mut self, size: Size)
+        ensures { self.new ≡ with_size self.old size }
+    {
         let lines = size.get();
-        if !self.refused.iter().any(|known| *known == lines) {
+        if !self.is_refused(lines) {
             // There are 25 sizes.
             let _ = self.refused.try_push(lines);
         }
     }
+
+    /// Whether it refused a size before.
+    fn is_refused(&self, lines: u32) -> bool
+        ensures { result ≡ is_refused self.now lines }
+    {
+        self.refused.iter().any(|known| *known == lines)
+    }
+}
+
+/// Whether an engine said that it lacks a command.
+fn lacks(skill: Skill) -> bool
+    ensures { result ≡ lacks skill }
+{
+    match skill {
+        Skill::Lacks => true,
+        Skill::Unasked | Skill::Has => false,
+    }
 }
 
 /// The beginning of the text of a reply, and nothing of a failure.
-fn beginning_of(reply: &Reply) -> Beginning {
+fn beginning_of(reply: &Reply) -> Beginning
+    ensures { result.items ≡ beginning_of reply.now }
+{
     let mut text = ArrayVec::new();
     if reply.ok {
         push(&mut text, &reply.text[..MOST_SHOWN.min(reply.text.len())]);

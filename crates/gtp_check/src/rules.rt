@@ -1,11 +1,16 @@
 //! What is right, and the rule that says so.
+ghost use Rattle.std.specs.Prelude.{◌≡◌};
+ghost use Rattle.gtp_check.specs.Rules.{kind_rule, match_rule, refused_rule, rule_text};
+
 use crate::engine::Fault;
 use crate::kinds::{cause_text, play_text};
 use gtp_examiner::{CheckCommand, Kind};
 use gtp_wire::Command;
 
 /// What a right engine answers to the command, and the rule that says so.
-pub fn rule_text(fault: Fault, command: Option<CheckCommand>) -> &'static [u8] {
+pub fn rule_text(fault: Fault, command: Option<CheckCommand>) -> &'static [u8]
+    ensures { result.now ≡ rule_text fault command }
+{
     match fault {
         Fault::CutOff(_) => b"an engine answers each command, and reads on until quit",
         Fault::Wrote(kind) => kind_rule(kind, command),
@@ -13,7 +18,9 @@ pub fn rule_text(fault: Fault, command: Option<CheckCommand>) -> &'static [u8] {
 }
 
 /// The same of what it wrote.
-fn kind_rule(kind: Kind, command: Option<CheckCommand>) -> &'static [u8] {
+fn kind_rule(kind: Kind, command: Option<CheckCommand>) -> &'static [u8]
+    ensures { result.now ≡ kind_rule kind command }
+{
     match kind {
         Kind::Refused => refused_rule(command),
         Kind::Took(cause) => cause_text(cause),
@@ -31,7 +38,9 @@ fn kind_rule(kind: Kind, command: Option<CheckCommand>) -> &'static [u8] {
 }
 
 /// Why a right engine takes a command.
-fn refused_rule(command: Option<CheckCommand>) -> &'static [u8] {
+fn refused_rule(command: Option<CheckCommand>) -> &'static [u8]
+    ensures { result.now ≡ refused_rule command }
+{
     match command {
         Some(CheckCommand::Match(command)) => match_rule(&command),
         _ => b"the command succeeds",
@@ -39,7 +48,9 @@ fn refused_rule(command: Option<CheckCommand>) -> &'static [u8] {
 }
 
 /// The same of a command of a match.
-fn match_rule(command: &Command) -> &'static [u8] {
+fn match_rule(command: &Command) -> &'static [u8]
+    ensures { result.now ≡ match_rule command.now }
+{
     match command {
         Command::Play(_) => {
             b"legal: the point is empty, the stone's chain has a liberty then, and no ko forbids it"

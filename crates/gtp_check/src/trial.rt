@@ -83,8 +83,8 @@ pub fn try_commands<S: Starter>(
 ) -> Result<Option<Tried>, AllocError>
     requires { examiner.old.starts < examiner.old.most_starts }
     ensures tried { IfOk result (λ tried. IsTrial S.Process.Process (program_line words.now)
-        examiner.old (S.asked starter.old) (option_map wrong_of tried)
-        examiner.new (S.asked starter.new)) }
+        examiner.old (S.asked starter.old) notes.old (option_map wrong_of tried)
+        examiner.new (S.asked starter.new) notes.new) }
     ensures refused { OnErr result (AsksForMore (program_line words.now)
         (S.asked starter.old) (S.asked starter.new)) }
 {
@@ -118,8 +118,8 @@ fn ask_all<P: Process>(
     room: &mut Room,
     notes: &mut Notes,
 ) -> Result<Option<Fault>, AllocError>
-    ensures ends { IfOk result (λ fault. EndsSo P.Process examiner.old.exam (dialogue engine.old) fault
-        examiner.new.exam (dialogue engine.new)) }
+    ensures ends { IfOk result (λ fault. EndsSo P.Process examiner.old.exam
+        (dialogue engine.old notes.old) fault examiner.new.exam (dialogue engine.new notes.new)) }
     ensures check { examiner.new ≡ with_exam examiner.old examiner.new.exam }
 {
     let mut next: usize = 0;
@@ -145,8 +145,8 @@ fn ask_some<P: Process>(
     purpose: Purpose,
     notes: &mut Notes,
 ) -> Result<usize, AllocError>
-    ensures asks { OnOk result (Converses P.Process examiner.old.exam (dialogue engine.old)
-        examiner.new.exam (dialogue engine.new)) }
+    ensures asks { OnOk result (Converses P.Process examiner.old.exam
+        (dialogue engine.old notes.old) examiner.new.exam (dialogue engine.new notes.new)) }
     ensures check { examiner.new ≡ with_exam examiner.old examiner.new.exam }
 {
     let mut asked: usize = 0;
@@ -154,8 +154,7 @@ fn ask_some<P: Process>(
         if !engine.has_room() || !examiner.has_room(command) {
             break;
         }
-        engine.ask(examiner, *command, purpose)?;
-        notes.count();
+        engine.ask(examiner, *command, purpose, notes)?;
         asked = asked.saturating_add(1);
     }
     Ok(asked)

@@ -1,11 +1,49 @@
--- What the lessons of a course ask: how many parts each has, and the stretches of each part.
-use Rattle.std.specs.Prelude.{ℕ, List, [], ◌∷◌}
+-- What the lessons of a course ask: how many parts each has, and the stretches of each part. How a user names them.
+use Rattle.std.specs.Prelude.{ℕ, List, [], ◌∷◌, codes}
 use Rattle.gtp_course.specs.declared.lessons.Lesson.{Lesson}
 use Rattle.gtp_course.specs.declared.lessons.Lesson.TheVariants.{Start, Sizes, Ko, Captures, Suicide, Joining}
 use Rattle.gtp_course.specs.declared.lessons.Lesson.TheVariants.{Handicaps, Komi, Drawn, Record, Genmoves, Games}
 use Rattle.gtp_course.specs.declared.lessons.Lesson.TheVariants.{Restarts}
 use Rattle.gtp_course.specs.declared.stretches.Stretch.{Stretch}
 use Rattle.gtp_course.specs.declared.stretches.Stretch.TheVariants as stretch
+
+-- all lessons, in the order of a course
+abbrev pub all_lessons : List Lesson
+all_lessons =
+    Start ∷ Sizes ∷ Ko ∷ Captures ∷ Suicide ∷ Joining ∷ Handicaps ∷ Komi ∷ Drawn ∷ Record ∷ Genmoves ∷ Games ∷
+    Restarts ∷ []
+
+-- the name of a lesson
+abbrev pub name_of : Lesson → List ℕ
+name_of Start = codes "start"
+name_of Sizes = codes "sizes"
+name_of Ko = codes "ko"
+name_of Captures = codes "captures"
+name_of Suicide = codes "suicide"
+name_of Joining = codes "joining"
+name_of Handicaps = codes "handicaps"
+name_of Komi = codes "komi"
+name_of Drawn = codes "drawn"
+name_of Record = codes "record"
+name_of Genmoves = codes "genmoves"
+name_of Games = codes "games"
+name_of Restarts = codes "restarts"
+
+-- its number among all lessons, counted from 0
+abbrev pub number_of : Lesson → ℕ
+number_of Start = 0
+number_of Sizes = 1
+number_of Ko = 2
+number_of Captures = 3
+number_of Suicide = 4
+number_of Joining = 5
+number_of Handicaps = 6
+number_of Komi = 7
+number_of Drawn = 8
+number_of Record = 9
+number_of Genmoves = 10
+number_of Games = 11
+number_of Restarts = 12
 
 -- the parts: each size from 5 until one is taken; each size; each scene in its sixteen ways; each size with each number
 -- of handicap stones up to 11; and so on

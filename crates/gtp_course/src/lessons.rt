@@ -1,7 +1,7 @@
 //! The lessons of a course.
 ghost use Rattle.std.specs.Prelude.{◌≡◌, ◌≤◌, length, map};
 ghost use Rattle.gtp_course.specs.Places.{most_parts, most_stretches};
-ghost use Rattle.gtp_course.specs.Lessons.{parts_of, stretches_of};
+ghost use Rattle.gtp_course.specs.Lessons.{name_of, number_of, parts_of, stretches_of};
 ghost use Rattle.gtp_course.specs.Scenes.{scenes_of};
 
 use crate::scenes::{CAPTURES, JOINING, KO, SUICIDE, Scene, WAYS};
@@ -282,7 +282,9 @@ static RESTARTS: [Stretch; 21] = [
 
 impl Lesson {
     /// The name, by which a user names it.
-    pub fn name(self) -> &'static str {
+    pub fn name(self) -> &'static str
+        ensures { result.now ≡ name_of self }
+    {
         match self {
             Lesson::Start => "start",
             Lesson::Sizes => "sizes",
@@ -301,7 +303,8 @@ impl Lesson {
     }
 
     /// Its number among all lessons, counted from 0.
-    pub(crate) fn number(self) -> usize
+    pub fn number(self) -> usize
+        ensures number { result ≡ number_of self }
         ensures few { result ≤ 12 }
     {
         match self {

@@ -6,6 +6,7 @@ use Rattle.gtp_check.proofs.trial.ask_all.Given as goal
 -- nothing was wrong so far
 abbrev pub invariant-loop-exchange : goal.invariant-loop-exchange
 invariant-loop-exchange g l = record {
-  converses : Converses g.P.Process l.fn.examiner.exam (dialogue l.fn.engine) l.examiner.exam (dialogue l.engine);
+  converses : Converses g.P.Process l.fn.examiner.exam (dialogue l.fn.engine l.fn.notes) l.examiner.exam
+      (dialogue l.engine l.notes);
   check : l.examiner ≡ with_exam l.fn.examiner l.examiner.exam;
 }

@@ -6,6 +6,7 @@ use Rattle.gtp_check.proofs.trial.ask_some.Given as goal
 -- some commands were asked so far
 abbrev pub invariant-loop-command : goal.invariant-loop-command
 invariant-loop-command g l = record {
-  converses : Converses g.P.Process l.fn.examiner.exam (dialogue l.fn.engine) l.examiner.exam (dialogue l.engine);
+  converses : Converses g.P.Process l.fn.examiner.exam (dialogue l.fn.engine l.fn.notes) l.examiner.exam
+      (dialogue l.engine l.notes);
   check : l.examiner ≡ with_exam l.fn.examiner l.examiner.exam;
 }

@@ -1,0 +1,22 @@
+-- Texts that are appended one after the other.
+use Rattle.std.proofs.Common.{◌≡◌, ◌∙◌, ◌++◌, ◌∷◌, ◌+◌, ◌<◌, ℕ, List, [], ap, sym, append_assoc, length, map, take}
+use Rattle.std.proofs.Common.{slice_index_or}
+use Rattle.std.proofs.lemmas.List.{append-nil, take_more}
+use Rattle.std.specs.List.{concat}
+
+-- the texts of a list, and of one element more
+pub concat-push : {A : Type 0} (f : A → List ℕ) (xs : List A) (last : A)
+    → concat (map f (xs ++ last ∷ [])) ≡ concat (map f xs) ++ f last
+concat-push f [] last = append-nil (f last)
+concat-push f (x ∷ xs) last =
+    ap (λ (t : List ℕ). f x ++ t) (concat-push f xs last) ∙ sym (append_assoc (f x) (concat (map f xs)) (f last))
+
+-- a loop over a list appends the text of one element more
+pub appended-step : {A : Type 0} (f : A → List ℕ) (xs : List A) (k : ℕ) (d : A) (before text : List ℕ) → k < length xs
+    → text ≡ before ++ concat (map f (take k xs))
+    → text ++ f (slice_index_or xs k d) ≡ before ++ concat (map f (take (k + 1) xs))
+appended-step f xs k d before text inside is =
+    ap (λ (t : List ℕ). t ++ f (slice_index_or xs k d)) is
+    ∙ append_assoc before (concat (map f (take k xs))) (f (slice_index_or xs k d))
+    ∙ ap (λ (t : List ℕ). before ++ t) (sym (concat-push f (take k xs) (slice_index_or xs k d))
+      ∙ ap (λ part. concat (map f part)) (sym (take_more xs k d inside)))

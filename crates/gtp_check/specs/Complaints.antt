@@ -1,0 +1,89 @@
+-- The text of a complaint. (Own.)
+use Rattle.std.specs.Prelude.{ℕ, ◌-◌, zero, suc, Bool, true, false, List, [], ◌∷◌, ◌++◌, codes, length, take, drop}
+use Rattle.std.specs.Prelude.{slice_get, min}
+use Rattle.std.specs.Fmt.{decimal}
+use Rattle.std.specs.Io.BufRead.{strip_last}
+use Rattle.std.specs.List.{concat}
+use Rattle.std.specs.Option.{option_map_or}
+use Rattle.std.specs.Prelude.{Option, option_map}
+use Rattle.go_base.specs.Bytes.{newline}
+use Rattle.gtp_course.specs.Lessons.{name_of}
+use Rattle.gtp_examiner.specs.declared.asking.CheckCommand.{CheckCommand}
+use Rattle.gtp_process.specs.Shown.{ending_text, quoted}
+use Rattle.gtp_process.specs.declared.starter.Ending.{Ending}
+use Rattle.gtp_wire.specs.Replies.{most_shown}
+use Rattle.gtp_check.specs.Kinds.{fault_text}
+use Rattle.gtp_check.specs.Rules.{rule_text}
+use Rattle.gtp_check.specs.declared.complaint.Complaint.{Complaint}
+use Rattle.gtp_check.specs.declared.engine.Fault.{Fault}
+use Rattle.gtp_check.specs.declared.engine.Fault.TheVariants.{Wrote, CutOff}
+
+-- ---- the conversation
+
+-- where the line of the command with this number, counted from 0, ends in all that was sent
+abbrev pub line_end : Complaint → ℕ → ℕ
+line_end complaint number =
+    option_map_or (λ said. said.end) (slice_get complaint.talk.now number) (length complaint.sent.now)
+
+-- where it begins: where the line before it ends
+abbrev pub line_start : Complaint → ℕ → ℕ
+line_start complaint zero = 0
+line_start complaint (suc before) = line_end complaint before
+
+-- the lines that were sent, up to that of the faulty command: the first one that wasn't answered before
+abbrev pub conversation : Complaint → List ℕ
+conversation complaint = take (line_end complaint complaint.answered) complaint.sent.now
+
+-- the faulty command as it was sent, without its newline
+abbrev pub faulty_line : Complaint → List ℕ
+faulty_line complaint = strip_last newline (drop (line_start complaint complaint.answered) (conversation complaint))
+
+-- how many commands were sent after it
+abbrev pub commands_after : Complaint → ℕ
+commands_after complaint = length complaint.talk.now - complaint.answered - 1
+
+-- ---- the lines
+
+-- how the process ended, where that is what was wrong
+abbrev pub ended_text : Fault → Ending → List ℕ
+ended_text (Wrote kind) ending = []
+ended_text (CutOff cause) ending = ending_text ending
+
+-- the number, the lesson, the faulty command and what was wrong
+abbrev pub head_line : Complaint → List ℕ
+head_line complaint = concat (
+    codes "# " ∷ decimal complaint.number ∷ codes " " ∷ name_of complaint.lesson ∷
+    codes ": \"" ∷ faulty_line complaint ∷ codes "\": " ∷
+    fault_text complaint.fault ∷ ended_text complaint.fault complaint.ending ∷ codes "\n" ∷ [])
+
+-- the beginning of what the engine wrote
+abbrev pub wrote_line : List ℕ → List ℕ
+wrote_line bytes = concat (codes "# it wrote: " ∷ quoted (take most_shown bytes) ∷ codes "\n" ∷ [])
+
+-- what a right engine answers, and the rule that says so
+abbrev pub rule_line : Complaint → List ℕ
+rule_line complaint = concat (
+    codes "# right: " ∷
+    rule_text complaint.fault (option_map (λ said. said.command) (slice_get complaint.talk.now complaint.answered)) ∷
+    codes "\n" ∷ [])
+
+-- That so many commands were sent after the faulty one, before it was answered. One that was sent later isn't at fault.
+-- (No more than 2 ^ 32 - 1 are counted.)
+abbrev pub ahead_line : ℕ → List ℕ
+ahead_line zero = []
+ahead_line (suc zero) = codes "# the command after it was sent before its answer came\n"
+ahead_line (suc (suc more)) = concat (
+    codes "# the " ∷ decimal (min (suc (suc more)) 4294967295) ∷
+    codes " commands after it were sent before its answer came\n" ∷ [])
+
+-- that the refusal is right under the other ko rule
+abbrev pub ko_line : Bool → List ℕ
+ko_line true = codes "# under positional ko the refusal is right: try --ko positional\n"
+ko_line false = []
+
+-- The block of a complaint: its head, the conversation as it was sent up to and with the faulty command, what the
+-- engine wrote then, the rule, hints, and an empty line.
+abbrev pub complaint_lines : Complaint → List ℕ
+complaint_lines complaint = concat (
+    head_line complaint ∷ conversation complaint ∷ wrote_line complaint.wrote.now ∷ rule_line complaint ∷
+    ahead_line (commands_after complaint) ∷ ko_line complaint.is_positional ∷ codes "\n" ∷ [])
