@@ -19,4 +19,17 @@ appended-step f xs k d before text inside is =
     ap (λ (t : List ℕ). t ++ f (slice_index_or xs k d)) is
     ∙ append_assoc before (concat (map f (take k xs))) (f (slice_index_or xs k d))
     ∙ ap (λ (t : List ℕ). before ++ t) (sym (concat-push f (take k xs) (slice_index_or xs k d))
-      ∙ ap (λ part. concat (map f part)) (sym (take_more xs k d inside)))
+    ∙ ap (λ part. concat (map f part)) (sym (take_more xs k d inside)))
+
+-- several texts, and one more
+concat-end : (parts : List (List ℕ)) (last : List ℕ) → concat (parts ++ last ∷ []) ≡ concat parts ++ last
+concat-end [] last = append-nil last
+concat-end (part ∷ parts) last =
+    ap (λ (t : List ℕ). part ++ t) (concat-end parts last) ∙ sym (append_assoc part (concat parts) last)
+
+-- a text is appended after others
+pub one_more : (old text next part : List ℕ) (parts : List (List ℕ)) → text ≡ old ++ concat parts
+    → next ≡ text ++ part → next ≡ old ++ concat (parts ++ part ∷ [])
+one_more old text next part parts is more =
+    more ∙ ap (λ (t : List ℕ). t ++ part) is ∙ append_assoc old (concat parts) part
+    ∙ ap (λ (t : List ℕ). old ++ t) (sym (concat-end parts part))

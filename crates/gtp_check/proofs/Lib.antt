@@ -1,3 +1,1 @@
-mod Conversations
 mod Joining
-mod Talks

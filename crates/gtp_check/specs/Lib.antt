@@ -1,12 +1,9 @@
 pub mod Complaints
-pub mod Dialogues
 pub mod Kinds
-pub mod Laws
+pub mod Listing
 pub mod Notes
 pub mod Rules
 pub mod Status
 pub mod Summary
 pub mod Tally
 pub mod Texts
-pub mod Turns
-pub mod private

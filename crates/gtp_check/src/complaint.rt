@@ -104,7 +104,10 @@ impl<'t> Complaint<'t> {
     fn commands_after(&self) -> usize
         ensures { result ≡ commands_after self.now }
     {
-        self.talk.len().saturating_sub(self.answered).saturating_sub(1)
+        self.talk
+            .len()
+            .saturating_sub(self.answered)
+            .saturating_sub(1)
     }
 }
 
@@ -184,7 +187,10 @@ fn beginning(wrote: &[u8]) -> &[u8]
 fn add_rule(text: &mut Vec<u8>, complaint: &Complaint<'_>) -> Result<(), AllocError>
     ensures { OnOk result (text.new.items ≡ text.old.items ++ rule_line complaint.now) }
 {
-    let command = complaint.talk.get(complaint.answered).map(|said| said.command);
+    let command = complaint
+        .talk
+        .get(complaint.answered)
+        .map(|said| said.command);
     add_all(
         text,
         &[b"# right: ", rule_text(complaint.fault, command), b"\n"],
@@ -214,7 +220,9 @@ fn add_ko(text: &mut Vec<u8>, is_positional: bool) -> Result<(), AllocError>
     ensures { OnOk result (text.new.items ≡ text.old.items ++ ko_line is_positional) }
 {
     if is_positional {
-        text.extend_from_slice(b"# under positional ko the refusal is right: try --ko positional\n")?;
+        text.extend_from_slice(
+            b"# under positional ko the refusal is right: try --ko positional\n",
+        )?;
     }
     Ok(())
 }

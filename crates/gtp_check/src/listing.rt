@@ -1,4 +1,8 @@
 //! The list of lessons.
+ghost use Rattle.std.specs.Prelude.{◌≡◌, ◌++◌, length, IfOk, OnOk};
+ghost use Rattle.gtp_check.specs.Listing.{asked_text, lesson_line, list_lines, spaces_after};
+
+use crate::texts::add_all;
 use gtp_course::{LESSONS, Lesson};
 use std::alloc::{AllocError, Global};
 
@@ -7,20 +11,35 @@ use std::alloc::{AllocError, Global};
 /// # Errors
 ///
 /// Where memory is refused.
-pub fn list_text(alloc: Global) -> Result<Vec<u8>, AllocError> {
+pub fn list_text(alloc: Global) -> Result<Vec<u8>, AllocError>
+    ensures { IfOk result (λ text. text.items ≡ list_lines) }
+{
     let mut text = Vec::new(alloc);
     for lesson in LESSONS {
-        let name = lesson.name().as_bytes();
-        text.extend_from_slice(name)?;
-        text.extend_from_slice(&b"             "[name.len().min(12)..])?;
-        text.extend_from_slice(asked_text(lesson))?;
-        text.extend_from_slice(b"\n")?;
+        add_line(&mut text, lesson)?;
     }
     Ok(text)
 }
 
+/// Appends the line of a lesson.
+fn add_line(text: &mut Vec<u8>, lesson: Lesson) -> Result<(), AllocError>
+    ensures { OnOk result (text.new.items ≡ text.old.items ++ lesson_line lesson) }
+{
+    let name = lesson.name().as_bytes();
+    add_all(text, &[name, spaces_after(name), asked_text(lesson), b"\n"])
+}
+
+/// The spaces after a name: up to thirteen bytes together.
+fn spaces_after(name: &[u8]) -> &'static [u8]
+    ensures { result.now ≡ spaces_after (length name.now) }
+{
+    &b"             "[name.len().min(12)..]
+}
+
 /// What a lesson asks.
-fn asked_text(lesson: Lesson) -> &'static [u8] {
+fn asked_text(lesson: Lesson) -> &'static [u8]
+    ensures { result.now ≡ asked_text lesson }
+{
     match lesson {
         Lesson::Start => b"the first moves, on the smallest board from 5x5 on",
         Lesson::Sizes => b"each size, its corners, and points that it doesn't have",

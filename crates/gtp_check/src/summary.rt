@@ -1,10 +1,19 @@
 //! The first line and the last lines of a check.
+ghost use Rattle.std.specs.Prelude.{◌≡◌, ◌≤◌, ◌++◌, length, map, IfOk, OnOk};
+ghost use Rattle.std.specs.List.{concat};
+ghost use Rattle.gtp_process.specs.Shown.{unstarted_text};
+ghost use Rattle.gtp_check.specs.Summary.{counted_text, counts_line, first_line, hidden_line, hidden_lines};
+ghost use Rattle.gtp_check.specs.Summary.{hidden_of, ko_text};
+ghost use Rattle.gtp_check.specs.Summary.{lack_line, lack_lines, last_lines, lessons_line, missed_lines, plural};
+ghost use Rattle.gtp_check.specs.Summary.{refused_line, shown_or, sizes_line, spaced_name, spaced_size, unstarted_line};
+
 use crate::notes::{Beginning, Notes};
 use crate::plan::Plan;
+use crate::texts::add_all;
 use arrayvec::ArrayVec;
-use go_base::write_int;
+use go_base::{push, write_int};
 use go_board::KoRule;
-use gtp_course::{LESSONS, Lesson, Lessons};
+use gtp_course::{LESSONS, Lesson};
 use gtp_process::{Unstarted, push_quoted, push_unstarted};
 use std::alloc::{AllocError, Global};
 
@@ -26,34 +35,45 @@ pub enum Over {
 /// # Errors
 ///
 /// Where memory is refused.
-pub fn first_line(alloc: Global, plan: &Plan<'_>, notes: &Notes) -> Result<Vec<u8>, AllocError> {
+pub fn first_line(alloc: Global, plan: &Plan<'_>, notes: &Notes) -> Result<Vec<u8>, AllocError>
+    ensures { IfOk result (λ text. text.items ≡ first_line plan.now notes.now) }
+{
     let mut text = Vec::new(alloc);
-    text.extend_from_slice(b"check: ")?;
-    add_shown(&mut text, &notes.name, b"an engine without a name")?;
-    text.extend_from_slice(b", version ")?;
-    add_shown(&mut text, &notes.version, b"unknown")?;
-    text.extend_from_slice(b", seed ")?;
-    text.extend_from_slice(&write_int(plan.seed))?;
-    text.extend_from_slice(match plan.rule {
-        KoRule::Simple => b", simple ko\n".as_slice(),
-        KoRule::Positional => b", positional ko\n".as_slice(),
-    })?;
+    add_all(
+        &mut text,
+        &[
+            b"check: ",
+            &shown_or(&notes.name, b"an engine without a name"),
+            b", version ",
+            &shown_or(&notes.version, b"unknown"),
+            b", seed ",
+            &write_int(plan.seed),
+            ko_text(plan.rule),
+        ],
+    )?;
     Ok(text)
 }
 
 /// What the engine answered, or what is said in its place.
-fn add_shown(
-    text: &mut Vec<u8>,
-    beginning: &Option<Beginning>,
-    other: &[u8],
-) -> Result<(), AllocError> {
+fn shown_or(beginning: &Option<Beginning>, other: &[u8]) -> ArrayVec<u8, 322>
+    requires { length other.now ≤ 322 }
+    ensures { result.items ≡ shown_or beginning.now other.now }
+{
+    let mut shown = ArrayVec::new();
     match beginning {
-        Some(beginning) => {
-            let mut shown: ArrayVec<u8, 322> = ArrayVec::new();
-            push_quoted(&mut shown, beginning);
-            text.extend_from_slice(&shown)
-        }
-        None => text.extend_from_slice(other),
+        Some(beginning) => push_quoted(&mut shown, beginning),
+        None => push(&mut shown, other),
+    }
+    shown
+}
+
+/// The ko rule, at the end of the first line.
+fn ko_text(rule: KoRule) -> &'static [u8]
+    ensures { result.now ≡ ko_text rule }
+{
+    match rule {
+        KoRule::Simple => b", simple ko\n",
+        KoRule::Positional => b", positional ko\n",
     }
 }
 
@@ -82,125 +102,236 @@ pub fn last_lines(
     plan: &Plan<'_>,
     notes: &Notes,
     ending: &Ending<'_>,
-) -> Result<Vec<u8>, AllocError> {
+) -> Result<Vec<u8>, AllocError>
+    ensures { IfOk result (λ text. text.items ≡ last_lines plan.now notes.now ending.now) }
+{
     let mut text = Vec::new(alloc);
     add_hidden(&mut text, ending.hidden)?;
     add_lessons(&mut text, &plan.left_out, b"not asked, as the options say:")?;
-    add_missed(&mut text, ending)?;
+    add_missed(&mut text, ending.over, ending.missed)?;
     add_lacks(&mut text, notes)?;
-    add_refused(&mut text, notes)?;
-    add_counts(&mut text, notes, ending)?;
+    add_refused(&mut text, &notes.refused)?;
+    add_counts(&mut text, notes.commands, ending.starts, ending.complaints)?;
     Ok(text)
 }
 
 /// How many complaints of the lessons aren't shown.
-fn add_hidden(text: &mut Vec<u8>, hidden: &[u32]) -> Result<(), AllocError> {
-    for (lesson, count) in LESSONS.iter().zip(hidden.iter()) {
-        if *count > 0 {
-            text.extend_from_slice(b"check: ")?;
-            text.extend_from_slice(lesson.name().as_bytes())?;
-            text.extend_from_slice(b": more of kinds that are shown three times: ")?;
-            text.extend_from_slice(&write_int(*count))?;
-            text.extend_from_slice(b"\n")?;
-        }
+fn add_hidden(text: &mut Vec<u8>, hidden: &[u32]) -> Result<(), AllocError>
+    ensures { OnOk result (text.new.items ≡ text.old.items ++ hidden_lines hidden.now) }
+{
+    for lesson in LESSONS {
+        add_hidden_of(text, hidden, lesson)?;
     }
     Ok(())
 }
 
+/// The same of a lesson.
+fn add_hidden_of(text: &mut Vec<u8>, hidden: &[u32], lesson: Lesson) -> Result<(), AllocError>
+    ensures { OnOk result (text.new.items ≡ text.old.items ++ hidden_line hidden.now lesson) }
+{
+    let count = hidden_of(hidden, lesson);
+    if count == 0 {
+        return Ok(());
+    }
+    add_all(
+        text,
+        &[
+            b"check: ",
+            lesson.name().as_bytes(),
+            b": more of kinds that are shown three times: ",
+            &write_int(count),
+            b"\n",
+        ],
+    )
+}
+
+/// How many complaints of a lesson aren't shown.
+fn hidden_of(hidden: &[u32], lesson: Lesson) -> u32
+    ensures { result ≡ hidden_of hidden.now lesson }
+{
+    hidden.get(lesson.number()).copied().unwrap_or(0)
+}
+
 /// A line that names lessons, where there are any.
-fn add_lessons(text: &mut Vec<u8>, lessons: &[Lesson], what: &[u8]) -> Result<(), AllocError> {
+fn add_lessons(text: &mut Vec<u8>, lessons: &[Lesson], what: &[u8]) -> Result<(), AllocError>
+    ensures { OnOk result (text.new.items ≡ text.old.items ++ lessons_line what.now lessons.now) }
+{
     if lessons.is_empty() {
         return Ok(());
     }
     text.extend_from_slice(b"check: ")?;
     text.extend_from_slice(what)?;
+    add_names(text, lessons)?;
+    text.extend_from_slice(b"\n")?;
+    Ok(())
+}
+
+/// The names of lessons, each after a space.
+fn add_names(text: &mut Vec<u8>, lessons: &[Lesson]) -> Result<(), AllocError>
+    ensures { OnOk result (text.new.items ≡
+        text.old.items ++ concat (map spaced_name lessons.now)) }
+{
     for lesson in lessons {
-        text.extend_from_slice(b" ")?;
-        text.extend_from_slice(lesson.name().as_bytes())?;
+        add_name(text, *lesson)?;
     }
-    text.extend_from_slice(b"\n")
+    Ok(())
+}
+
+/// The name of a lesson, after a space.
+fn add_name(text: &mut Vec<u8>, lesson: Lesson) -> Result<(), AllocError>
+    ensures { OnOk result (text.new.items ≡ text.old.items ++ spaced_name lesson) }
+{
+    text.extend_from_slice(b" ")?;
+    text.extend_from_slice(lesson.name().as_bytes())?;
+    Ok(())
 }
 
 /// The lessons that were to be asked and were not, and why.
-fn add_missed(text: &mut Vec<u8>, ending: &Ending<'_>) -> Result<(), AllocError> {
-    match ending.over {
+fn add_missed(text: &mut Vec<u8>, over: &Over, missed: &[Lesson]) -> Result<(), AllocError>
+    ensures { OnOk result (text.new.items ≡ text.old.items ++ missed_lines over.now missed.now) }
+{
+    match over {
         Over::Done => Ok(()),
         Over::NoMoreStarts => add_lessons(
             text,
-            ending.missed,
+            missed,
             b"not asked, or not to their end, since no start was left:",
         ),
         Over::NoRightAnswer => add_lessons(
             text,
-            ending.missed,
+            missed,
             b"not asked, or not to their end, after three starts without a right answer:",
         ),
         Over::NotStarted(unstarted) => {
-            let mut line: ArrayVec<u8, 397> = ArrayVec::new();
-            push_unstarted(&mut line, unstarted);
-            text.extend_from_slice(b"check: the engine was ")?;
-            text.extend_from_slice(&line)?;
-            text.extend_from_slice(b"\n")?;
-            add_lessons(
-                text,
-                ending.missed,
-                b"not asked, or not to their end, for that:",
-            )
+            add_unstarted(text, unstarted)?;
+            add_lessons(text, missed, b"not asked, or not to their end, for that:")
         }
     }
 }
 
+/// The line of a program that was not started.
+fn add_unstarted(text: &mut Vec<u8>, unstarted: &Unstarted) -> Result<(), AllocError>
+    ensures { OnOk result (text.new.items ≡ text.old.items ++ unstarted_line unstarted.now) }
+{
+    add_all(
+        text,
+        &[b"check: the engine was ", &unstarted_text(unstarted), b"\n"],
+    )
+}
+
+/// Why a program was not started.
+fn unstarted_text(unstarted: &Unstarted) -> ArrayVec<u8, 397>
+    ensures { result.items ≡ unstarted_text unstarted.now }
+{
+    let mut text = ArrayVec::new();
+    push_unstarted(&mut text, unstarted);
+    text
+}
+
 /// The commands that the engine said it lacks.
-fn add_lacks(text: &mut Vec<u8>, notes: &Notes) -> Result<(), AllocError> {
-    if notes.lacks_handicap {
-        add_lack(text, b"fixed_handicap")?;
+fn add_lacks(text: &mut Vec<u8>, notes: &Notes) -> Result<(), AllocError>
+    ensures { OnOk result (text.new.items ≡ text.old.items ++ lack_lines notes.now) }
+{
+    add_lack(text, notes.lacks_handicap, b"fixed_handicap")?;
+    add_lack(text, notes.lacks_undo, b"undo")?;
+    add_lack(text, notes.lacks_score, b"final_score")?;
+    Ok(())
+}
+
+/// A command that the engine said it lacks, if it did.
+fn add_lack(text: &mut Vec<u8>, lacks: bool, name: &[u8]) -> Result<(), AllocError>
+    ensures { OnOk result (text.new.items ≡ text.old.items ++ lack_line lacks name.now) }
+{
+    if !lacks {
+        return Ok(());
     }
-    if notes.lacks_undo {
-        add_lack(text, b"undo")?;
+    add_all(
+        text,
+        &[
+            b"check: it lacks ",
+            name,
+            b"; nothing was asked that needs it\n",
+        ],
+    )
+}
+
+/// The sizes that the engine refused, where there are any.
+fn add_refused(text: &mut Vec<u8>, sizes: &[u32]) -> Result<(), AllocError>
+    ensures { OnOk result (text.new.items ≡ text.old.items ++ refused_line sizes.now) }
+{
+    if sizes.is_empty() {
+        return Ok(());
     }
-    if notes.lacks_score {
-        add_lack(text, b"final_score")?;
+    add_refusals(text, sizes)?;
+    Ok(())
+}
+
+/// A line of these sizes.
+fn add_refusals(text: &mut Vec<u8>, sizes: &[u32]) -> Result<(), AllocError>
+    ensures { OnOk result (text.new.items ≡ text.old.items ++ sizes_line sizes.now) }
+{
+    text.extend_from_slice(b"check: it refuses the sizes")?;
+    add_sizes(text, sizes)?;
+    text.extend_from_slice(b"\n")?;
+    Ok(())
+}
+
+/// Sizes, each after a space.
+fn add_sizes(text: &mut Vec<u8>, sizes: &[u32]) -> Result<(), AllocError>
+    ensures { OnOk result (text.new.items ≡
+        text.old.items ++ concat (map spaced_size sizes.now)) }
+{
+    for size in sizes {
+        add_size(text, *size)?;
     }
     Ok(())
 }
 
-/// A command that the engine said it lacks.
-fn add_lack(text: &mut Vec<u8>, name: &[u8]) -> Result<(), AllocError> {
-    text.extend_from_slice(b"check: it lacks ")?;
-    text.extend_from_slice(name)?;
-    text.extend_from_slice(b"; nothing was asked that needs it\n")
-}
-
-/// The sizes that the engine refused.
-fn add_refused(text: &mut Vec<u8>, notes: &Notes) -> Result<(), AllocError> {
-    if notes.refused.is_empty() {
-        return Ok(());
-    }
-    text.extend_from_slice(b"check: it refuses the sizes")?;
-    for size in &notes.refused {
-        text.extend_from_slice(b" ")?;
-        text.extend_from_slice(&write_int(*size))?;
-    }
-    text.extend_from_slice(b"\n")
+/// A size, after a space.
+fn add_size(text: &mut Vec<u8>, size: u32) -> Result<(), AllocError>
+    ensures { OnOk result (text.new.items ≡ text.old.items ++ spaced_size size) }
+{
+    text.extend_from_slice(b" ")?;
+    text.extend_from_slice(&write_int(size))?;
+    Ok(())
 }
 
 /// The last line.
-fn add_counts(text: &mut Vec<u8>, notes: &Notes, ending: &Ending<'_>) -> Result<(), AllocError> {
+fn add_counts(
+    text: &mut Vec<u8>,
+    commands: u32,
+    starts: u32,
+    complaints: u32,
+) -> Result<(), AllocError>
+    ensures { OnOk result (text.new.items ≡
+        text.old.items ++ counts_line commands starts complaints) }
+{
     text.extend_from_slice(b"check: ")?;
-    add_count(text, notes.commands, b" command")?;
+    add_count(text, commands, b" command")?;
     text.extend_from_slice(b", ")?;
-    add_count(text, ending.starts, b" start")?;
+    add_count(text, starts, b" start")?;
     text.extend_from_slice(b", ")?;
-    add_count(text, ending.complaints, b" complaint")?;
-    text.extend_from_slice(b"\n")
+    add_count(text, complaints, b" complaint")?;
+    text.extend_from_slice(b"\n")?;
+    Ok(())
 }
 
 /// A number and what it counts.
-fn add_count(text: &mut Vec<u8>, number: u32, what: &[u8]) -> Result<(), AllocError> {
+fn add_count(text: &mut Vec<u8>, number: u32, what: &[u8]) -> Result<(), AllocError>
+    ensures { OnOk result (text.new.items ≡ text.old.items ++ counted_text number what.now) }
+{
     text.extend_from_slice(&write_int(number))?;
     text.extend_from_slice(what)?;
-    if number != 1 {
-        text.extend_from_slice(b"s")?;
-    }
+    text.extend_from_slice(plural(number))?;
     Ok(())
+}
+
+/// The ending of what is counted.
+fn plural(number: u32) -> &'static [u8]
+    ensures { result.now ≡ plural number }
+{
+    match number {
+        1 => b"",
+        _ => b"s",
+    }
 }
