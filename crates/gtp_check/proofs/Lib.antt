@@ -1,1 +1,4 @@
+mod Conversations
+mod Gathering
 mod Joining
+mod Talks

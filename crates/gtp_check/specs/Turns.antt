@@ -1,6 +1,6 @@
 -- A check, turn by turn: what the engine is asked, when it is started and ended, and what is written. (Own.)
 use Rattle.std.specs.Prelude.{min, ◌^◌, ◌-◌}
-use Rattle.std.specs.Prelude.{◌≡◌, ◌≢◌, ◌⊎◌, ℕ, ◌+◌, ◌<◌, ◌≤◌, Bool, true, false, ◌||◌, List, [], ◌∷◌, ◌++◌, length}
+use Rattle.std.specs.Prelude.{◌≡◌, ◌≢◌, ◌⊎◌, ℕ, ◌+◌, ◌<◌, ◌≤◌, Bool, true, false, not, ◌&&◌, ◌||◌, List, [], ◌∷◌, ◌++◌, length}
 use Rattle.std.specs.Prelude.{Option, None, Some, IfSome, IsSome, is_some, option_map, unwrap_or, Result, Ok, Err}
 use Rattle.go_board.specs.declared.rules.KoRule.{KoRule}
 use Rattle.byte_streams.specs.declared.calls.WriteOnce.{Ghosts as WriterGhosts}
@@ -40,7 +40,7 @@ use Rattle.gtp_check.specs.Dialogues.{AsksForMore, Dialogue, EndsLike, IsAsked, 
 use Rattle.gtp_check.specs.Dialogues.{dialogue, wrong_purpose, wrong_with}
 use Rattle.gtp_check.specs.Notes.{nothing_noted}
 use Rattle.gtp_check.specs.Notes.{started as noted_start}
-use Rattle.gtp_check.specs.Summary.{first_line_of}
+use Rattle.gtp_check.specs.Summary.{first_line}
 use Rattle.gtp_check.specs.Tally.{found, is_shown, nothing_found, started_again, without_start}
 
 -- how many turns a check has at most; no check within the limits has this number
@@ -137,6 +137,10 @@ pub record MayStart (check : Check) (tally : Tally) : Type 0 where
   pub few : check.starts < check.most_starts
   pub left : tally.is_after_fault ≡ true → 0 < tally.starts_left
 
+-- The first line is due once the version is known, or something is wrong, and it isn't written.
+abbrev pub is_first_due : Tally → Notes → Bool → Bool
+is_first_due tally notes is_wrong = not tally.has_first_line && (is_wrong || is_some notes.version)
+
 -- ---- the text of a complaint
 
 -- A complaint with this number is of this lesson and of a conversation that ended so. It names positional ko only under
@@ -226,14 +230,12 @@ module _ {P : Type 0} (known : Ghosts P) (plan : Plan) where
         → IsComplaint plan.rule after.tally.complaints (wrong_purpose wrong).lesson (unwrap_or shorter wrong) complaint
         → Complains before had (Some fault) after has (complaint_lines complaint ∷ [])
 
-  -- The first line is due once the version is known, or something is wrong. It is written once.
+  -- The first line is written where it is due.
   pub data WritesFirst (before : State P) (is_wrong : Bool) : State P → List (List ℕ) → Type 0 where
-    not_due : before.tally.has_first_line || (is_wrong || is_some before.notes.version) ≡ false
-        → WritesFirst before is_wrong before []
-    is_written : before.tally.has_first_line ≡ true → WritesFirst before is_wrong before []
-    due : before.tally.has_first_line ≡ false → is_wrong || is_some before.notes.version ≡ true
+    not_due : is_first_due before.tally before.notes is_wrong ≡ false → WritesFirst before is_wrong before []
+    due : is_first_due before.tally before.notes is_wrong ≡ true
         → WritesFirst before is_wrong (record before { tally = record before.tally { has_first_line = true } })
-        (first_line_of plan before.notes ∷ [])
+        (first_line plan before.notes ∷ [])
 
   -- ---- a turn
 

@@ -11,7 +11,7 @@ ghost use Rattle.gtp_examiner.specs.Exam.{HasRoomFor};
 ghost use Rattle.gtp_check.specs.Complaints.{complaint_lines};
 ghost use Rattle.gtp_check.specs.Dialogues.{AsksForMore, wrong_of, wrong_purpose};
 ghost use Rattle.gtp_check.specs.Turns.{AsksEngine, Closes, HasStopped, IsComplaint, IsHeardOut, Shortens, StopsIn};
-ghost use Rattle.gtp_check.specs.Turns.{TurnsAreOver, before_all, process_of, purpose_in, state};
+ghost use Rattle.gtp_check.specs.Turns.{MayStart, TurnsAreOver, before_all, is_first_due, process_of, purpose_in, state};
 ghost use Rattle.gtp_check.specs.private.Steps.{Begins, ComplaintGoesOut, ComplaintStops, FirstGoesOut};
 ghost use Rattle.gtp_check.specs.private.Steps.{EndsTurn, FirstStops, Gathers, IsPaired, IsRefused};
 ghost use Rattle.gtp_check.specs.declared.engine.TheConstants.{LINES_ROOM};
@@ -256,6 +256,14 @@ impl<S: Starter> Check<S> {
         }
     }
 
+    /// Whether the engine may be started once more.
+    fn may_start(&self) -> bool
+        ensures yes { result ≡ true → MayStart self.now.examiner self.now.tally }
+        ensures no { result ≡ false → MayStart self.now.examiner self.now.tally → ⊥ }
+    {
+        self.examiner.may_start() && self.tally.may_start()
+    }
+
     /// An engine is started, where one may be.
     fn start(&mut self, plan: &Plan<'_>, starter: &mut S) -> Result<Option<Over>, Failure>
         ensures begins { let before = state self.old.examiner self.old.course self.old.engine self.old.tally self.old.notes in
@@ -270,7 +278,7 @@ impl<S: Starter> Check<S> {
         if self.notes.fruitless >= MOST_FRUITLESS {
             return Ok(Some(Over::NoRightAnswer));
         }
-        if !self.examiner.may_start() || !self.tally.may_start() {
+        if !self.may_start() {
             return Ok(Some(Over::NoMoreStarts));
         }
         match starter.start(plan.words.as_slice()) {
@@ -301,6 +309,13 @@ impl<S: Starter> Check<S> {
         quit(self.engine.take(), &mut self.room);
     }
 
+    /// Whether the first line is due: once the version is known, or something is wrong.
+    fn is_first_due(&self, is_wrong: bool) -> bool
+        ensures { result ≡ is_first_due self.now.tally self.now.notes is_wrong }
+    {
+        !self.tally.has_first_line && (is_wrong || self.notes.version.is_some())
+    }
+
     /// The first line is written once the version is known, or something is wrong.
     fn write_first<O: WriteOnce>(
         &mut self,
@@ -317,7 +332,7 @@ impl<S: Starter> Check<S> {
             IfErr result (λ why. FirstStops S.Process.Process plan.now O.WriteOnce
             before is_wrong after output.old output.new why) }
     {
-        if self.tally.has_first_line || !(is_wrong || self.notes.version.is_some()) {
+        if !self.is_first_due(is_wrong) {
             return Ok(());
         }
         let line = first_line(self.alloc, plan, &self.notes)?;

@@ -78,10 +78,10 @@ module _ {P : Type 0} (known : Ghosts P) (plan : Plan) where
     -- it wasn't: the output broke at it, or memory was refused
     pub data FirstStops (before : State P) (is_wrong : Bool) (after : State P) (out written : O)
         : Failure → Type 0 where
-      broke : {next : State P} {line : List ℕ} → WritesFirst known plan before is_wrong next (line ∷ [])
+      first_broke : {next : State P} {line : List ℕ} → WritesFirst known plan before is_wrong next (line ∷ [])
           → BreaksAt outs line out written → process_of after.engine ≡ process_of before.engine
           → FirstStops before is_wrong after out written Write
-      refused : written ≡ out → process_of after.engine ≡ process_of before.engine
+      first_refused : written ≡ out → process_of after.engine ≡ process_of before.engine
           → FirstStops before is_wrong after out written OutOfMemory
 
     -- what is due of a complaint was written
@@ -94,10 +94,10 @@ module _ {P : Type 0} (known : Ghosts P) (plan : Plan) where
     -- it wasn't: the output broke at it, or memory was refused
     pub data ComplaintStops (before : State P) (had : Attempts P) (fault : Fault) (after : State P) (has : Attempts P)
         (out written : O) : Failure → Type 0 where
-      broke : {next : State P} {text : List ℕ} → Complains known plan before had (Some fault) next has (text ∷ [])
+      complaint_broke : {next : State P} {text : List ℕ} → Complains known plan before had (Some fault) next has (text ∷ [])
           → BreaksAt outs text out written → after.engine ≡ None
           → ComplaintStops before had fault after has out written Write
-      refused : {closed : State P} {wrong : Wrong} → Closes known fault before wrong closed
+      complaint_refused : {closed : State P} {wrong : Wrong} → Closes known fault before wrong closed
           → AsksForMore (program_line plan.words.items) had has → written ≡ out → after.engine ≡ None
           → ComplaintStops before had fault after has out written OutOfMemory
 
