@@ -1,4 +1,4 @@
-mod Conversations
-mod Gathering
+mod CommandLine
+mod CommandWords
 mod Joining
-mod Talks
+mod LessonLoops

@@ -4,10 +4,11 @@ pub mod Kinds
 pub mod Laws
 pub mod Listing
 pub mod Notes
+pub mod Options
+pub mod Plans
 pub mod Rules
 pub mod Status
 pub mod Summary
 pub mod Tally
 pub mod Texts
-pub mod Turns
 pub mod private

@@ -1,8 +1,21 @@
 //! The options of the command line.
+ghost use Rattle.std.specs.Prelude.{◌≡◌, ◌⊎◌, ◌<◌, ◌+◌, ◌≤◌, [], ◌∷◌, ◌++◌, codes, length, map, unwrap_or};
+ghost use Rattle.std.specs.Prelude.{false, if◌then◌else◌, option_map, IfOk, IfErr};
+ghost use Rattle.std.specs.List.{list_any};
+ghost use Rattle.std.specs.Str.{bytes_eq};
+ghost use Rattle.arrayvec.specs.ArrayVec.{array_vec_len};
+ghost use Rattle.clap.specs.Words.{all_of, app_of, first_of, first_value, found_of, kind_of, rows_of, rule_of};
+ghost use Rattle.clap.specs.declared.error.kind.ErrorKind.TheVariants.{OutOfMemory};
+ghost use Rattle.clap.specs.declared.builder.value_parser.ValueParser.TheVariants as the_parser;
+ghost use Rattle.gtp_check.specs.Options.{Ask, AsksFor, HasFault, HasFlag, HasNumber, default_rule, flag_rule};
+ghost use Rattle.gtp_check.specs.Options.{is_named, ko_rule_named, lessons_named, lessons_of, list_rule, program};
+ghost use Rattle.gtp_check.specs.Options.{value_rule};
+ghost use Rattle.gtp_check.specs.private.CommandLine.{IsCommandLine, rule_of_row, with_options};
+
 use clap::builder::ValueParser;
 use clap::{Arg, ArgAction, ArgMatches, Command, Error};
 use go_board::{KoRule, VERSION};
-use gtp_course::{LESSONS, Lessons};
+use gtp_course::{LESSONS, Lesson, Lessons};
 use std::alloc::{AllocError, Global};
 use std::convert::AsStr;
 
@@ -24,23 +37,6 @@ Example:
   gtp_check 'gnugo --mode gtp --chinese-rules'
 
 More: man gtp_check";
-
-/// The names of the lessons.
-static LESSON_NAMES: [&'static str; 13] = [
-    "start",
-    "sizes",
-    "ko",
-    "captures",
-    "suicide",
-    "joining",
-    "handicaps",
-    "komi",
-    "drawn",
-    "record",
-    "genmoves",
-    "games",
-    "restarts",
-];
 
 /// What the command line asks for.
 #[derive(Drop)]
@@ -81,16 +77,16 @@ struct OptionRow<'a> {
 /// What an option takes.
 #[derive(Clone, Copy)]
 enum Takes<'a> {
+    /// No value.
+    Nothing,
     /// A whole number, from the first to the second; what the text spells where the words don't say.
     Number(i64, i64, &'a str),
     /// A whole number, from the first to the second, or none.
     MaybeNumber(i64, i64),
-    /// A ko rule.
-    Rule,
-    /// The name of a lesson, any number of times.
-    Lessons,
-    /// No value.
-    Nothing,
+    /// One of these names; the second where the words don't say.
+    Name(&'a [&'a str], &'a str),
+    /// One of these names, any number of times.
+    Names(&'a [&'a str]),
 }
 
 /// The options, in the order of the help.
@@ -103,7 +99,7 @@ static OPTIONS: [OptionRow<'static>; 9] = [
     },
     OptionRow {
         name: "ko",
-        takes: Takes::Rule,
+        takes: Takes::Name(&["simple", "positional"], "simple"),
         help: "Rule of ko: simple or positional",
     },
     OptionRow {
@@ -118,13 +114,41 @@ static OPTIONS: [OptionRow<'static>; 9] = [
     },
     OptionRow {
         name: "only",
-        takes: Takes::Lessons,
+        takes: Takes::Names(&[
+            "start",
+            "sizes",
+            "ko",
+            "captures",
+            "suicide",
+            "joining",
+            "handicaps",
+            "komi",
+            "drawn",
+            "record",
+            "genmoves",
+            "games",
+            "restarts",
+        ]),
         help: "Ask this lesson, and no others but those that are\n\
             named so too",
     },
     OptionRow {
         name: "skip",
-        takes: Takes::Lessons,
+        takes: Takes::Names(&[
+            "start",
+            "sizes",
+            "ko",
+            "captures",
+            "suicide",
+            "joining",
+            "handicaps",
+            "komi",
+            "drawn",
+            "record",
+            "genmoves",
+            "games",
+            "restarts",
+        ]),
         help: "Leave this lesson out",
     },
     OptionRow {
@@ -146,34 +170,58 @@ static OPTIONS: [OptionRow<'static>; 9] = [
 
 /// Reads the words of a command line, of which the first is the program's name. The error is a mistake in the words, a
 /// request for help or the version, or want of memory; its `Display` is the text for the user.
-pub fn read_options<'a, S: AsStr>(alloc: Global, words: &'a [S]) -> Result<Options<'a>, Error> {
+pub fn read_options<'a, S: AsStr>(alloc: Global, words: &'a [S]) -> Result<Options<'a>, Error>
+    ensures asked { IfOk result (AsksFor (map S.text words.entry.now)) }
+    ensures fault { IfErr result (λ error. (kind_of error ≡ OutOfMemory)
+        ⊎ HasFault (map S.text words.entry.now) (kind_of error)) }
+{
     let matches = command(alloc)?.try_get_matches_from(words)?;
     Ok(options_of(&matches))
 }
 
 /// The options of a command line. The defaults here aren't met, since the command line has its own.
-fn options_of<'a>(matches: &ArgMatches<'a>) -> Options<'a> {
+fn options_of<'a>(matches: &ArgMatches<'a>) -> Options<'a>
+    ensures { Ask (rows_of (found_of matches.now)) result }
+{
     Options {
-        command: matches.get_str("CMD").unwrap_or(""),
+        command: text_at(matches, "CMD"),
         size: number_at(matches, "size"),
         rule: ko_rule_of(matches),
         seed: number_at(matches, "seed"),
-        quick: matches.get_flag("quick"),
+        quick: flag_at(matches, "quick"),
         only: lessons_at(matches, "only"),
         skip: lessons_at(matches, "skip"),
-        list: matches.get_flag("list"),
-        singly: matches.get_flag("singly"),
+        list: flag_at(matches, "list"),
+        singly: flag_at(matches, "singly"),
         restarts: number_at(matches, "restarts"),
     }
 }
 
+/// The text of an option, and none where it has none.
+fn text_at<'a>(matches: &ArgMatches<'a>, name: &str) -> &'a str
+    ensures { result.now ≡ unwrap_or (first_of name.now (rows_of (found_of matches.now))) [] }
+{
+    matches.get_str(name).unwrap_or("")
+}
+
 /// The number of an option, and 0 where it has none.
-fn number_at(matches: &ArgMatches<'_>, name: &str) -> u32 {
+fn number_at(matches: &ArgMatches<'_>, name: &str) -> u32
+    ensures { HasNumber name.now (rows_of (found_of matches.now)) result }
+{
     matches.get_one::<u32>(name).unwrap_or(0)
 }
 
+/// Whether a flag is used.
+fn flag_at(matches: &ArgMatches<'_>, name: &str) -> bool
+    ensures { HasFlag name.now (rows_of (found_of matches.now)) result }
+{
+    matches.get_flag(name)
+}
+
 /// The ko rule that the matches name.
-fn ko_rule_of(matches: &ArgMatches<'_>) -> KoRule {
+fn ko_rule_of(matches: &ArgMatches<'_>) -> KoRule
+    ensures { result ≡ ko_rule_named (first_value (found_of matches.now) (codes "ko")) }
+{
     match matches.get_str("ko") {
         Some("positional") => KoRule::Positional,
         _ => KoRule::Simple,
@@ -181,27 +229,63 @@ fn ko_rule_of(matches: &ArgMatches<'_>) -> KoRule {
 }
 
 /// The lessons that an option names, in the order of a course.
-fn lessons_at(matches: &ArgMatches<'_>, name: &str) -> Lessons {
+fn lessons_at(matches: &ArgMatches<'_>, name: &str) -> Lessons
+    ensures { result.items ≡ lessons_of name.now (rows_of (found_of matches.now)) }
+{
+    match matches.get_strs(name) {
+        Some(names) => lessons_named(names),
+        None => Lessons::new(),
+    }
+}
+
+/// The lessons of these names.
+fn lessons_named(names: &[&str]) -> Lessons
+    ensures { result.items ≡ lessons_named (map (λ name. name.now) names.now) }
+{
     let mut lessons = Lessons::new();
-    let Some(names) = matches.get_strs(name) else {
-        return lessons;
-    };
     for lesson in LESSONS {
-        if names.iter().any(|name| *name == lesson.name()) {
-            // There are as many places as lessons.
-            let _ = lessons.try_push(lesson);
-        }
+        add_if(&mut lessons, lesson, is_named(names, lesson));
     }
     lessons
 }
 
+/// Whether a lesson is named.
+fn is_named(names: &[&str], lesson: Lesson) -> bool
+    ensures { result ≡ is_named (map (λ name. name.now) names.now) lesson }
+{
+    contains(names, lesson.name())
+}
+
+/// Whether a text is among these.
+fn contains(texts: &[&str], wanted: &str) -> bool
+    ensures { result ≡ list_any (λ text. bytes_eq text.now wanted.now) texts.now }
+{
+    texts.iter().any(|text| *text == wanted)
+}
+
+/// Appends a lesson where this is so.
+pub fn add_if(lessons: &mut Lessons, lesson: Lesson, is_so: bool)
+    requires { array_vec_len lessons.old < 13 }
+    ensures items { lessons.new.items
+        ≡ lessons.old.items ++ (if is_so then lesson ∷ [] else []) }
+    ensures few { array_vec_len lessons.new ≤ array_vec_len lessons.old + 1 }
+{
+    if is_so {
+        lessons.push(lesson);
+    }
+}
+
 /// The command line, with its help and its version.
-fn command<'a>(alloc: Global) -> Result<Command<'a>, AllocError> {
+fn command<'a>(alloc: Global) -> Result<Command<'a>, AllocError>
+    ensures { IfOk result (λ command. IsCommandLine (app_of command)) }
+{
     with_options(alloc, program(alloc)?, OPTIONS.as_slice())
 }
 
 /// The command line with the engine's command alone.
-fn program<'a>(alloc: Global) -> Result<Command<'a>, AllocError> {
+fn program<'a>(alloc: Global) -> Result<Command<'a>, AllocError>
+    ensures { IfOk result (λ command. app_of command ≡ program) }
+{
     let engine = Arg::new(alloc, "CMD")
         .value_name("CMD")
         .help("Command of the engine, split at spaces");
@@ -218,7 +302,9 @@ fn with_options<'a>(
     alloc: Global,
     mut command: Command<'a>,
     rows: &[OptionRow<'a>],
-) -> Result<Command<'a>, AllocError> {
+) -> Result<Command<'a>, AllocError>
+    ensures { IfOk result (λ with. app_of with ≡ with_options (app_of command.entry) rows.now) }
+{
     for row in rows {
         command = command.arg(option(alloc, *row))?;
     }
@@ -226,26 +312,75 @@ fn with_options<'a>(
 }
 
 /// The option of a row.
-fn option<'a>(alloc: Global, row: OptionRow<'a>) -> Arg<'a> {
-    let option = Arg::new(alloc, row.name).long(row.name).help(row.help);
+fn option<'a>(alloc: Global, row: OptionRow<'a>) -> Arg<'a>
+    ensures rule { rule_of result ≡ rule_of_row row.entry }
+    ensures local { result.global ≡ false }
+{
     match row.takes {
-        Takes::Number(least, most, default) => option
-            .value_name("N")
-            .value_parser(ValueParser::Signed(least, most))
-            .default_value(default),
-        Takes::MaybeNumber(least, most) => option
-            .value_name("N")
-            .value_parser(ValueParser::Signed(least, most)),
-        Takes::Rule => option
-            .value_name("RULE")
-            .value_parser(ValueParser::Names(&["simple", "positional"]))
-            .default_value("simple")
-            .hide_possible_values(true),
-        Takes::Lessons => option
-            .value_name("LESSON")
-            .value_parser(ValueParser::Names(&LESSON_NAMES))
+        Takes::Number(least, most, default) => {
+            value(
+                alloc,
+                row.name,
+                ValueParser::Signed(least, most),
+                "N",
+                row.help,
+            )
+            .default_value(default)
+        }
+        Takes::MaybeNumber(least, most) => {
+            value(
+                alloc,
+                row.name,
+                ValueParser::Signed(least, most),
+                "N",
+                row.help,
+            )
+        }
+        Takes::Name(names, default) => {
+            value(alloc, row.name, ValueParser::Names(names), "RULE", row.help)
+                .default_value(default)
+                .hide_possible_values(true)
+        }
+        Takes::Names(names) => {
+            value(
+                alloc,
+                row.name,
+                ValueParser::Names(names),
+                "LESSON",
+                row.help,
+            )
             .action(ArgAction::Append)
-            .hide_possible_values(true),
-        Takes::Nothing => option.action(ArgAction::SetTrue),
+            .hide_possible_values(true)
+        }
+        Takes::Nothing => flag(alloc, row.name, row.help),
     }
+}
+
+/// An option that takes a value.
+fn value<'a>(
+    alloc: Global,
+    name: &'a str,
+    parser: ValueParser<'a>,
+    value_name: &'a str,
+    help: &'a str,
+) -> Arg<'a>
+    ensures rule { rule_of result ≡ value_rule name.entry.now parser.entry }
+    ensures local { result.global ≡ false }
+{
+    Arg::new(alloc, name)
+        .long(name)
+        .value_name(value_name)
+        .value_parser(parser)
+        .help(help)
+}
+
+/// An option that takes no value.
+fn flag<'a>(alloc: Global, name: &'a str, help: &'a str) -> Arg<'a>
+    ensures rule { rule_of result ≡ flag_rule name.entry.now }
+    ensures local { result.global ≡ false }
+{
+    Arg::new(alloc, name)
+        .long(name)
+        .action(ArgAction::SetTrue)
+        .help(help)
 }

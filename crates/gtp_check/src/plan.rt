@@ -1,6 +1,10 @@
 //! From the options of a run to what is checked.
+ghost use Rattle.std.specs.Prelude.{◌≡◌, IfOk, IfErr, filter, not};
+ghost use Rattle.gtp_course.specs.Lessons.{all_lessons};
+ghost use Rattle.gtp_check.specs.Plans.{HasNoPlan, IsCommand, IsPlanOf, IsSceneSize, is_among, is_chosen, is_quick};
+
 use crate::failure::{Mistake, PlanError};
-use crate::options::Options;
+use crate::options::{Options, add_if};
 use go_base::Size;
 use go_board::KoRule;
 use gtp_course::{LESSONS, Lesson, Lessons};
@@ -32,52 +36,75 @@ pub struct Plan<'a> {
 /// # Errors
 ///
 /// `OutOfMemory`, or the mistake that the command has no word.
-pub fn plan_of<'a>(alloc: Global, options: &Options<'a>) -> Result<Plan<'a>, PlanError> {
+pub fn plan_of<'a>(alloc: Global, options: &Options<'a>) -> Result<Plan<'a>, PlanError>
+    ensures plan { IfOk result (IsPlanOf options.now) }
+    ensures no_plan { IfErr result (HasNoPlan options.now) }
+{
     let words = words_of(alloc, options.command)?;
     if words.is_empty() {
         return Err(PlanError::BadWords(Mistake::NoCommand));
     }
-    let (lessons, left_out) = chosen(options);
     Ok(Plan {
         words,
-        scene_size: Size::new(options.size),
+        scene_size: scene_size_of(options.size),
         rule: options.rule,
         seed: options.seed,
-        lessons,
-        left_out,
+        lessons: chosen(options),
+        left_out: left_out(options),
         singly: options.singly,
         restarts: options.restarts,
     })
 }
 
-/// The lessons that the options ask for, and the others.
-fn chosen(options: &Options<'_>) -> (Lessons, Lessons) {
+/// The size of the boards of scenes, where the number is one.
+fn scene_size_of(number: u32) -> Option<Size>
+    ensures { IsSceneSize number result }
+{
+    Size::new(number)
+}
+
+/// The lessons that the options ask for.
+fn chosen(options: &Options<'_>) -> Lessons
+    ensures { result.items ≡ filter (is_chosen options.now) all_lessons }
+{
     let mut lessons = Lessons::new();
-    let mut left_out = Lessons::new();
     for lesson in LESSONS {
-        if is_chosen(options, lesson) {
-            let _ = lessons.try_push(lesson);
-        } else {
-            let _ = left_out.try_push(lesson);
-        }
+        add_if(&mut lessons, lesson, is_chosen(options, lesson));
     }
-    (lessons, left_out)
+    lessons
+}
+
+/// The others.
+fn left_out(options: &Options<'_>) -> Lessons
+    ensures { result.items ≡ filter (λ lesson. not (is_chosen options.now lesson)) all_lessons }
+{
+    let mut lessons = Lessons::new();
+    for lesson in LESSONS {
+        add_if(&mut lessons, lesson, !is_chosen(options, lesson));
+    }
+    lessons
 }
 
 /// Whether the options ask for a lesson.
-fn is_chosen(options: &Options<'_>, lesson: Lesson) -> bool {
+fn is_chosen(options: &Options<'_>, lesson: Lesson) -> bool
+    ensures { result ≡ is_chosen options.now lesson }
+{
     (options.only.is_empty() || is_among(&options.only, lesson))
         && !is_among(&options.skip, lesson)
         && (!options.quick || is_quick(lesson))
 }
 
 /// Whether a lesson is among these.
-fn is_among(lessons: &Lessons, lesson: Lesson) -> bool {
-    lessons.iter().any(|one| *one == lesson)
+fn is_among(lessons: &Lessons, lesson: Lesson) -> bool
+    ensures { result ≡ is_among lessons.now.items lesson }
+{
+    lessons.iter().any(|one| one.number() == lesson.number())
 }
 
 /// Whether a lesson is one of those of `--quick`: all up to the scenes.
-fn is_quick(lesson: Lesson) -> bool {
+fn is_quick(lesson: Lesson) -> bool
+    ensures { result ≡ is_quick lesson }
+{
     match lesson {
         Lesson::Start
         | Lesson::Sizes
@@ -96,7 +123,9 @@ fn is_quick(lesson: Lesson) -> bool {
 }
 
 /// The words of a command, which is split at runs of spaces.
-fn words_of<'a>(alloc: Global, command: &'a str) -> Result<Vec<&'a str>, AllocError> {
+fn words_of<'a>(alloc: Global, command: &'a str) -> Result<Vec<&'a str>, AllocError>
+    ensures { IfOk result (λ found. IsCommand command.entry.now found.items) }
+{
     command
         .split(' ')
         .filter(|word| !word.is_empty())
