@@ -1,6 +1,6 @@
 -- What is said with an engine since it was started: what it is asked, what it writes, and what is found. (Own.)
 use Rattle.std.specs.Prelude.{◌≡◌, ◌⊎◌, ℕ, ◌+◌, ◌<◌, ◌≤◌, Bool, true, false, List, [], ◌∷◌, ◌++◌, length, take, drop}
-use Rattle.std.specs.Prelude.{◌-◌, slice_get, Option, None, Some, is_some, option_map, if◌then◌else◌, Result, Ok, Err}
+use Rattle.std.specs.Prelude.{◌-◌, ◌==◌, ◌&&◌, slice_get, Option, None, Some, is_some, option_map, if◌then◌else◌, Result, Ok, Err}
 use Rattle.std.specs.Io.KnownBytes.{Appends, Keeps}
 use Rattle.byte_streams.specs.Parts.{TakesPart}
 use Rattle.gtp_wire.specs.Replies.{most_shown}
@@ -24,6 +24,7 @@ use Rattle.gtp_examiner.specs.Asking.{written_check}
 use Rattle.gtp_examiner.specs.Judging.{oldest, refused_by}
 use Rattle.gtp_examiner.specs.Check.{Check, after_loss, started, with_exam}
 use Rattle.gtp_course.specs.declared.lessons.Lesson.TheVariants as lesson
+use Rattle.gtp_course.specs.Lessons.{number_of}
 use Rattle.gtp_examiner.specs.Exam.{Asks, HasRoomFor, Hears, HearsDown}
 use Rattle.gtp_check.specs.declared.engine.Engine.{Engine}
 use Rattle.gtp_check.specs.declared.engine.Fault.{Fault}
@@ -276,6 +277,10 @@ purpose_of (Some said) = said.purpose
 
 abbrev pub wrong_purpose : Wrong → Purpose
 wrong_purpose wrong = purpose_of (slice_get wrong.talk wrong.answered)
+
+-- whether it is the same lesson, and the same part of it
+abbrev pub is_same_purpose : Purpose → Purpose → Bool
+is_same_purpose one other = (number_of one.lesson == number_of other.lesson) && (one.part == other.part)
 
 -- the command that was answered wrongly
 abbrev pub wrong_command : Wrong → Option CheckCommand

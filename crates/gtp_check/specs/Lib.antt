@@ -11,4 +11,5 @@ pub mod Status
 pub mod Summary
 pub mod Tally
 pub mod Texts
+pub mod Turns
 pub mod private

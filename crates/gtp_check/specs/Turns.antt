@@ -2,7 +2,6 @@
 use Rattle.std.specs.Prelude.{min, ◌^◌, ◌-◌}
 use Rattle.std.specs.Prelude.{◌≡◌, ◌≢◌, ◌⊎◌, ℕ, ◌+◌, ◌<◌, ◌≤◌, Bool, true, false, not, ◌&&◌, ◌||◌, List, [], ◌∷◌, ◌++◌, length}
 use Rattle.std.specs.Prelude.{Option, None, Some, IfSome, IsSome, is_some, option_map, unwrap_or, Result, Ok, Err}
-use Rattle.go_board.specs.declared.rules.KoRule.{KoRule}
 use Rattle.byte_streams.specs.declared.calls.WriteOnce.{Ghosts as WriterGhosts}
 use Rattle.byte_streams.specs.Writing.{BreaksAt, LinesGoOut}
 use Rattle.gtp_process.specs.declared.starter.Process.{Ghosts}
@@ -37,7 +36,7 @@ use Rattle.gtp_check.specs.declared.talk.Purpose.{Purpose}
 use Rattle.gtp_check.specs.declared.tally.Tally.{Tally}
 use Rattle.gtp_check.specs.Complaints.{complaint_lines}
 use Rattle.gtp_check.specs.Dialogues.{AsksForMore, Dialogue, EndsLike, IsAsked, IsExchanged, IsTrial, Wrong, begun_with}
-use Rattle.gtp_check.specs.Dialogues.{dialogue, wrong_purpose, wrong_with}
+use Rattle.gtp_check.specs.Dialogues.{dialogue, is_same_purpose, wrong_purpose, wrong_with}
 use Rattle.gtp_check.specs.Notes.{nothing_noted}
 use Rattle.gtp_check.specs.Notes.{started as noted_start}
 use Rattle.gtp_check.specs.Summary.{first_line}
@@ -143,9 +142,8 @@ is_first_due tally notes is_wrong = not tally.has_first_line && (is_wrong || is_
 
 -- ---- the text of a complaint
 
--- A complaint with this number is of this lesson and of a conversation that ended so. It names positional ko only under
--- simple ko.
-pub record IsComplaint (rule : KoRule) (number : ℕ) (lesson : Lesson) (wrong : Wrong) (complaint : Complaint)
+-- A complaint with this number is of this lesson and of a conversation that ended so.
+pub record IsComplaint (number : ℕ) (lesson : Lesson) (wrong : Wrong) (complaint : Complaint)
     : Type 0 where
   pub number_is : complaint.number ≡ number
   pub lesson_is : complaint.lesson ≡ lesson
@@ -181,8 +179,8 @@ module _ {P : Type 0} (known : Ghosts P) where
     pub ended : known.leaves engine.process ending
     pub is : wrong ≡ wrong_with fault before.check.exam (dialogue engine before.notes) ending
     pub course : Course
-    pub leaves : wrong_purpose wrong ≡ purpose_in before.course → HasLeft before.course course
-    pub stays : wrong_purpose wrong ≢ purpose_in before.course → course ≡ before.course
+    pub leaves : is_same_purpose (wrong_purpose wrong) (purpose_in before.course) ≡ true → HasLeft before.course course
+    pub stays : is_same_purpose (wrong_purpose wrong) (purpose_in before.course) ≡ false → course ≡ before.course
     pub leads : after ≡ record before { check = after_loss before.check; course = course; engine = None }
 
 module _ {P : Type 0} (known : Ghosts P) (plan : Plan) where
@@ -227,7 +225,7 @@ module _ {P : Type 0} (known : Ghosts P) (plan : Plan) where
         (complaint : Complaint) → Closes known fault before wrong mid
         → is_shown mid.tally (wrong_purpose wrong).lesson fault ≡ true
         → Shortens wrong (found_in mid wrong fault) had shorter after has
-        → IsComplaint plan.rule after.tally.complaints (wrong_purpose wrong).lesson (unwrap_or shorter wrong) complaint
+        → IsComplaint after.tally.complaints (wrong_purpose wrong).lesson (unwrap_or shorter wrong) complaint
         → Complains before had (Some fault) after has (complaint_lines complaint ∷ [])
 
   -- The first line is written where it is due.
@@ -289,7 +287,7 @@ module _ {P : Type 0} (known : Ghosts P) (plan : Plan) where
     pub action : Action
     pub course : Course
     pub next : IsNext mid.course mid.check.exam action course
-    pub over : IsOverBy mid had action why has
+    pub over : IsOverBy after had action why has
     pub leads : after ≡ record mid { course = course }
 
   -- ---- turns, one after another

@@ -13,7 +13,7 @@ ghost use Rattle.gtp_check.specs.Dialogues.{AsksForMore, wrong_of, wrong_purpose
 ghost use Rattle.gtp_check.specs.Turns.{AsksEngine, Closes, HasStopped, IsComplaint, IsHeardOut, Shortens, StopsIn};
 ghost use Rattle.gtp_check.specs.Turns.{MayStart, TurnsAreOver, before_all, is_first_due, process_of, purpose_in, state};
 ghost use Rattle.gtp_check.specs.private.Steps.{Begins, ComplaintGoesOut, ComplaintStops, FirstGoesOut};
-ghost use Rattle.gtp_check.specs.private.Steps.{EndsTurn, FirstStops, Gathers, IsPaired, IsRefused};
+ghost use Rattle.gtp_check.specs.private.Steps.{EndsTurn, FirstStops, Gathers, IsPaired, IsRefused, Settles, StopsAfter};
 ghost use Rattle.gtp_check.specs.declared.engine.TheConstants.{LINES_ROOM};
 ghost use Rattle.gtp_check.specs.declared.complaint.Complaint.{Complaint};
 ghost use Rattle.gtp_check.specs.declared.failure.Failure.TheVariants as failure;
@@ -150,10 +150,7 @@ impl<S: Starter> Check<S> {
             Next::Over => Ok(Some(Over::Done)),
             Next::Exchange => {
                 let fault = self.exchange();
-                self.write_first(fault.is_some(), plan, output)?;
-                if let Some(fault) = fault {
-                    self.complain(fault, plan, output, starter)?;
-                }
+                self.settle(fault, plan, output, starter)?;
                 Ok(None)
             }
         }
@@ -264,6 +261,32 @@ impl<S: Starter> Check<S> {
         self.examiner.may_start() && self.tally.may_start()
     }
 
+    /// What is due after an exchange is written: the first line, and what is wrong.
+    fn settle<O: WriteOnce>(
+        &mut self,
+        fault: Option<Fault>,
+        plan: &Plan<'_>,
+        output: &mut O,
+        starter: &mut S,
+    ) -> Result<(), Failure>
+        requires { IsSome self.old.engine }
+        ensures goes_out { let before = state self.old.examiner self.old.course self.old.engine self.old.tally self.old.notes in
+            let after = state self.new.examiner self.new.course self.new.engine self.new.tally self.new.notes in
+            OnOk result (Settles S.Process.Process plan.now O.WriteOnce
+            before (S.asked starter.old) fault after (S.asked starter.new) output.old output.new) }
+        ensures stops { let before = state self.old.examiner self.old.course self.old.engine self.old.tally self.old.notes in
+            IfErr result (λ why. StopsAfter S.Process.Process plan.now O.WriteOnce
+            before (S.asked starter.old) fault (process_of self.new.engine)
+            (S.asked starter.new) output.old output.new why) }
+        ensures paired { OnOk result (IsPaired (state self.new.examiner self.new.course self.new.engine self.new.tally self.new.notes)) }
+    {
+        self.write_first(fault.is_some(), plan, output)?;
+        match fault {
+            Some(fault) => self.complain(fault, plan, output, starter),
+            None => Ok(()),
+        }
+    }
+
     /// An engine is started, where one may be.
     fn start(&mut self, plan: &Plan<'_>, starter: &mut S) -> Result<Option<Over>, Failure>
         ensures begins { let before = state self.old.examiner self.old.course self.old.engine self.old.tally self.old.notes in
@@ -331,6 +354,7 @@ impl<S: Starter> Check<S> {
             let after = state self.new.examiner self.new.course self.new.engine self.new.tally self.new.notes in
             IfErr result (λ why. FirstStops S.Process.Process plan.now O.WriteOnce
             before is_wrong after output.old output.new why) }
+        ensures engine { self.new.engine ≡ self.old.engine }
     {
         if !self.is_first_due(is_wrong) {
             return Ok(());
@@ -370,7 +394,7 @@ impl<S: Starter> Check<S> {
             return Ok(());
         }
         match self.shorter(&found, plan, starter)? {
-            Some(tried) => self.write(&tried, lesson, plan, output),
+            Some(shorter) => self.write(&shorter, lesson, plan, output),
             None => self.write(&found, lesson, plan, output),
         }
     }
@@ -393,7 +417,7 @@ impl<S: Starter> Check<S> {
             answered,
             said: engine.end(),
         };
-        if found.purpose() == self.purpose() {
+        if found.purpose().is_same(self.purpose()) {
             self.course.leave();
         }
         Some(found)
@@ -408,10 +432,10 @@ impl<S: Starter> Check<S> {
         output: &mut O,
     ) -> Result<(), Failure>
         ensures goes_out { OnOk result ((complaint : Complaint)
-            × IsComplaint plan.now.rule self.old.tally.complaints lesson (wrong_of found.now) complaint
+            × IsComplaint self.old.tally.complaints lesson (wrong_of found.now) complaint
             × GoesOut O.WriteOnce (complaint_lines complaint) output.old output.new) }
         ensures broke { IfErr result (λ why. why ≡ failure.Write → (complaint : Complaint)
-            × IsComplaint plan.now.rule self.old.tally.complaints lesson (wrong_of found.now) complaint
+            × IsComplaint self.old.tally.complaints lesson (wrong_of found.now) complaint
             × BreaksAt O.WriteOnce (complaint_lines complaint) output.old output.new) }
         ensures refused { IfErr result (λ why. (why ≡ failure.Write)
             ⊎ ((why ≡ failure.OutOfMemory) × (output.new ≡ output.old))) }
@@ -419,19 +443,7 @@ impl<S: Starter> Check<S> {
             let after = state self.new.examiner self.new.course self.new.engine self.new.tally self.new.notes in
             after ≡ before }
     {
-        let complaint = Complaint {
-            number: self.tally.complaints,
-            lesson,
-            fault: found.fault,
-            sent: found.said.sent.as_slice(),
-            talk: found.said.talk.as_slice(),
-            answered: found.answered,
-            wrote: found.said.wrote.as_slice(),
-            ending: found.said.ending,
-            is_positional: plan.rule == KoRule::Simple
-                && found.fault == Fault::Wrote(Kind::Refused)
-                && is_positional(found.conversation()),
-        };
+        let complaint = complaint_of(self.tally.complaints, lesson, found, plan.rule);
         let text = complaint_text(self.alloc, &complaint)?;
         write_text(output, text.as_slice())?;
         Ok(())
@@ -536,6 +548,26 @@ impl<S: Starter> Check<S> {
             complaints: tally.complaints,
         };
         last_lines(alloc, plan, &notes, &ending)
+    }
+}
+
+/// The complaint of this number about a conversation that ended with something wrong in a lesson. Only where a right
+/// engine is under simple ko positional ko can explain a refusal.
+fn complaint_of(number: u32, lesson: Lesson, found: &Tried, rule: KoRule) -> Complaint<'_>
+    ensures { IsComplaint number lesson (wrong_of found.now) result }
+{
+    Complaint {
+        number,
+        lesson,
+        fault: found.fault,
+        sent: found.said.sent.as_slice(),
+        talk: found.said.talk.as_slice(),
+        answered: found.answered,
+        wrote: found.said.wrote.as_slice(),
+        ending: found.said.ending,
+        is_positional: rule == KoRule::Simple
+            && found.fault == Fault::Wrote(Kind::Refused)
+            && is_positional(found.conversation()),
     }
 }
 

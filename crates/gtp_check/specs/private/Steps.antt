@@ -1,5 +1,5 @@
 -- What the functions of one turn do.
-use Rattle.std.specs.Prelude.{◌≡◌, ◌⊎◌, ℕ, ◌<◌, Bool, true, false, List, [], ◌∷◌, length, Option, None, Some, IsSome}
+use Rattle.std.specs.Prelude.{◌≡◌, ◌⊎◌, ℕ, ◌<◌, Bool, true, false, List, [], ◌∷◌, ◌++◌, length, Option, None, Some, IsSome}
 use Rattle.std.specs.Prelude.{Result, Ok, Err, is_some}
 use Rattle.byte_streams.specs.declared.calls.WriteOnce.{Ghosts as WriterGhosts}
 use Rattle.byte_streams.specs.Writing.{BreaksAt, LinesGoOut}
@@ -24,7 +24,7 @@ use Rattle.gtp_check.specs.Dialogues.{AsksForMore, Wrong, begun_with, dialogue}
 use Rattle.gtp_check.specs.Notes.{started as noted_start}
 use Rattle.gtp_check.specs.Tally.{started_again}
 use Rattle.gtp_check.specs.Turns.{Asks, Closes, Complains, IsNext, IsOverBy, MayStart, State, WritesFirst, most_fruitless}
-use Rattle.gtp_check.specs.Turns.{IsOver, Turn, process_of, state}
+use Rattle.gtp_check.specs.Turns.{Exchanges, IsOver, StopsIn, Turn, process_of, state}
 
 -- an engine that is up is there
 abbrev pub IsPaired : {P : Type 0} → State P → Type 0
@@ -107,3 +107,19 @@ module _ {P : Type 0} (known : Ghosts P) (plan : Plan) where
         (texts : List (List ℕ)) × Turn known plan before had after has texts × LinesGoOut outs texts out written
     EndsTurn before had out (Some why) after has written =
         IsOver known plan before had why after has × (written ≡ out)
+
+    -- what is due after an exchange was written
+    pub record Settles (before : State P) (had : Attempts P) (fault : Option Fault) (after : State P)
+        (has : Attempts P) (out written : O) : Type 0 where
+      pub next : State P
+      pub line : List (List ℕ)
+      pub said : List (List ℕ)
+      pub first : WritesFirst known plan before (is_some fault) next line
+      pub complains : Complains known plan next had fault after has said
+      pub goes_out : LinesGoOut outs (line ++ said) out written
+
+    -- it wasn't: a turn with this exchange stopped so
+    abbrev pub StopsAfter : State P → Attempts P → Option Fault → Option P → Attempts P → O → O → Failure → Type 0
+    StopsAfter mid had fault process has out written why =
+        (before : State P) → Exchanges known plan before fault mid
+        → StopsIn known plan outs before had out process has written why

@@ -20,6 +20,6 @@ returns-in-Ok-clause-begins g c =
 
 pub returns-in-Err-NotStarted-clause-begins : goal.returns-in-Err-NotStarted-clause-begins
 returns-in-Err-NotStarted-clause-begins g c =
-    rw c.new-unstarted.ensures
+    rw (c.new-unstarted.ensures, c.as_slice-in-Err-NotStarted.ensures.value)
     (is_over (not_started c.in-Err-NotStarted.reason (search rules) (c.if-not-may_start.ensures.yes refl)
     (rw (c.as_slice.ensures.value, c.in-Err-NotStarted.field-0-is) at c.in-Err-NotStarted.ensures.asked)))
