@@ -1,4 +1,10 @@
 mod CommandLine
 mod CommandWords
+mod Complaining
+mod Conversations
+mod Gathering
 mod Joining
 mod LessonLoops
+mod Shortening
+mod Talks
+mod Turning

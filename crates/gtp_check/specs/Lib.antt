@@ -1,5 +1,7 @@
 pub mod Complaints
+pub mod Dialogues
 pub mod Kinds
+pub mod Laws
 pub mod Listing
 pub mod Notes
 pub mod Options
@@ -9,4 +11,5 @@ pub mod Status
 pub mod Summary
 pub mod Tally
 pub mod Texts
+pub mod Turns
 pub mod private

@@ -81,3 +81,12 @@ abbrev pub found : Tally → Lesson → Fault → Tally
 found tally lesson fault =
     if is_shown tally lesson fault then with_known (in_lesson tally lesson) fault
     else with_hidden (with_known (in_lesson tally lesson) fault) lesson
+
+-- one of the starts that are left is taken
+abbrev pub without_start : Tally → Tally
+without_start tally = record tally { starts_left = tally.starts_left - 1 }
+
+-- an engine was started: after something was found that takes one of the starts that are left
+abbrev pub started_again : Tally → Tally
+started_again tally =
+    if tally.is_after_fault then record (without_start tally) { is_after_fault = false } else tally

@@ -1,7 +1,12 @@
 //! An engine that was started: what it is asked, and what it writes.
-ghost use Rattle.std.specs.Prelude.{◌≡◌, ◌+◌, ◌≤◌, ◌<◌, length};
+ghost use Rattle.std.specs.Prelude.{◌≡◌, ◌+◌, ◌-◌, ◌++◌, ◌≤◌, ◌<◌, true, [], length, take, OnOk, if◌then◌else◌};
 ghost use Rattle.arrayvec.specs.ArrayVec.{array_vec_len};
+ghost use Rattle.gtp_wire.specs.Replies.{most_shown};
+ghost use Rattle.gtp_examiner.specs.Asking.{written_check};
+ghost use Rattle.gtp_examiner.specs.Check.{with_exam};
 ghost use Rattle.gtp_examiner.specs.Exam.{HasRoomFor};
+ghost use Rattle.gtp_check.specs.declared.notes.Notes.{Notes};
+ghost use Rattle.gtp_check.specs.Dialogues.{Answers, AreHeard, IsAsked, IsExchanged, IsSent, begun_with, dialogue};
 
 use crate::notes::{Beginning, Notes};
 use crate::talk::{Purpose, Said};
@@ -66,6 +71,8 @@ pub struct Engine<P> {
     pub sent: Vec<u8>,
     /// The commands.
     pub talk: Vec<Said>,
+    /// The lines of those that aren't sent yet.
+    pub waiting: Lines,
     /// What it wrote while it owed nothing. That is heard with the next answer.
     pub held: ArrayVec<u8, READ_ROOM>,
     /// The beginning of what it wrote since its last whole reply.
@@ -74,14 +81,24 @@ pub struct Engine<P> {
 
 impl<P: Process> Engine<P> {
     /// An engine that was asked nothing.
-    pub fn new(alloc: Global, process: P) -> Self {
+    pub fn new(alloc: Global, process: P) -> Self
+        ensures { (notes : Notes) → dialogue result notes ≡ begun_with process notes }
+    {
         Engine {
             process,
             sent: Vec::new(alloc),
             talk: Vec::new(alloc),
+            waiting: ArrayVec::new(),
             held: ArrayVec::new(),
             wrote: ArrayVec::new(),
         }
+    }
+
+    /// Whether another line can wait to be sent.
+    pub fn has_room(&self) -> bool
+        ensures { result ≡ true → array_vec_len self.now.waiting + 64 ≤ LINES_ROOM }
+    {
+        self.waiting.len() + MOST_COMMAND_BYTES <= LINES_ROOM
     }
 
     /// The engine is asked a command, whose line is joined to those that are sent next.
@@ -94,40 +111,57 @@ impl<P: Process> Engine<P> {
         examiner: &mut Examiner,
         command: CheckCommand,
         purpose: Purpose,
-        lines: &mut Lines,
+        notes: &mut Notes,
     ) -> Result<(), AllocError>
         requires may { HasRoomFor examiner.old.exam command }
-        requires room { array_vec_len lines.old + 64 ≤ LINES_ROOM }
+        requires room { array_vec_len self.old.waiting + 64 ≤ LINES_ROOM }
+        ensures asked { OnOk result (IsAsked purpose examiner.old.exam
+            (dialogue self.old notes.old) command examiner.new.exam (dialogue self.new notes.new)) }
+        ensures process { self.new.process ≡ self.old.process }
+        ensures check { examiner.new ≡ with_exam examiner.old examiner.new.exam }
     {
         let is_illegal = is_illegal(examiner, &command);
         let line = examiner.ask(command);
         self.sent.extend_from_slice(line.as_slice())?;
-        let said = Said {
+        self.talk.extend_from_slice(&[Said {
             command,
             purpose,
             is_illegal,
             end: self.sent.len(),
-        };
-        if self.talk.push(said).is_err() {
-            return Err(AllocError);
-        }
-        push(lines, line.as_slice());
+        }])?;
+        push(&mut self.waiting, line.as_slice());
+        notes.count();
         Ok(())
     }
 
-    /// The lines are sent. Then, where the engine owes an answer, it is read once, and what it wrote is heard. Returns
+    /// What waits is sent. Then, where the engine owes an answer, it is read once, and what it wrote is heard. Returns
     /// what is wrong with it, if anything.
     pub fn exchange(
         &mut self,
         examiner: &mut Examiner,
-        lines: &[u8],
         room: &mut Room,
         notes: &mut Notes,
-    ) -> Option<Fault> {
-        if !lines.is_empty() {
-            // What an engine wrote before it closed its input is heard, up to the end of its output.
-            let _ = write_whole(&mut self.process, lines);
-        }
+    ) -> Option<Fault>
+        ensures exchanged { IsExchanged P.Process examiner.old.exam
+            (dialogue self.old notes.old) result examiner.new.exam (dialogue self.new notes.new) }
+        ensures check { examiner.new ≡ with_exam examiner.old examiner.new.exam }
+    {
+        let waiting = std::mem::replace(&mut self.waiting, ArrayVec::new());
+        send(&mut self.process, waiting.as_slice());
+        self.answer(examiner, room, notes)
+    }
+
+    /// The engine is waited for, where it owes an answer, and what it wrote is heard.
+    fn answer(
+        &mut self,
+        examiner: &mut Examiner,
+        room: &mut Room,
+        notes: &mut Notes,
+    ) -> Option<Fault>
+        ensures answers { Answers P.Process examiner.old.exam
+            (dialogue self.old notes.old) result examiner.new.exam (dialogue self.new notes.new) }
+        ensures check { examiner.new ≡ with_exam examiner.old examiner.new.exam }
+    {
         if examiner.unanswered() == 0 {
             return None;
         }
@@ -150,7 +184,12 @@ impl<P: Process> Engine<P> {
         examiner: &mut Examiner,
         room: &mut Room,
         notes: &mut Notes,
-    ) -> Option<Fault> {
+    ) -> Option<Fault>
+        ensures heard { AreHeard self.old.held.items examiner.old.exam
+            (record (dialogue self.old notes.old) { held = [] }) result
+            examiner.new.exam (dialogue self.new notes.new) }
+        ensures check { examiner.new ≡ with_exam examiner.old examiner.new.exam }
+    {
         let held = std::mem::replace(&mut self.held, ArrayVec::new());
         self.hear(examiner, held.as_slice(), &mut room.reply, notes)
     }
@@ -164,45 +203,66 @@ impl<P: Process> Engine<P> {
         notes: &mut Notes,
     ) -> Option<Fault>
         requires { length bytes.now ≤ READ_ROOM }
+        ensures heard { AreHeard bytes.now examiner.old.exam (dialogue self.old notes.old) result
+            examiner.new.exam (dialogue self.new notes.new) }
+        ensures check { examiner.new ≡ with_exam examiner.old examiner.new.exam }
     {
-        let mut rest = bytes;
-        for _reply in 0..READ_ROOM {
-            if rest.is_empty() || examiner.unanswered() == 0 {
-                break;
-            }
+        let mut done = 0;
+        while done < bytes.len() && examiner.unanswered() > 0 {
+            let rest = &bytes[done..];
             let heard = examiner.heard(rest, reply);
             self.keep(&rest[..heard.used]);
-            rest = &rest[heard.used..];
             if let Some(finding) = heard.finding {
                 return Some(Fault::Wrote(finding.kind));
             }
-            if heard.read.is_some() {
-                self.wrote = ArrayVec::new();
-            }
+            self.forget_reply(heard.read.is_some());
             notes.take(&heard, reply, examiner);
+            done += heard.used;
         }
         self.held = ArrayVec::new();
-        push(&mut self.held, &rest[..READ_ROOM.min(rest.len())]);
+        push(&mut self.held, &bytes[done..]);
         None
     }
 
     /// The beginning of what it wrote since its last whole reply is kept.
-    fn keep(&mut self, bytes: &[u8]) {
+    fn keep(&mut self, bytes: &[u8])
+        ensures kept { self.new.wrote.items ≡ take most_shown (self.old.wrote.items ++ bytes.now) }
+        ensures rest { (notes : Notes) → dialogue self.new notes
+            ≡ record (dialogue self.old notes) { wrote = self.new.wrote.items } }
+    {
         let room = MOST_SHOWN - self.wrote.len();
         push(&mut self.wrote, &bytes[..room.min(bytes.len())]);
     }
 
+    /// A whole reply isn't kept.
+    fn forget_reply(&mut self, is_read: bool)
+        ensures kept { self.new.wrote.items ≡ if is_read then [] else self.old.wrote.items }
+        ensures rest { (notes : Notes) → dialogue self.new notes
+            ≡ record (dialogue self.old notes) { wrote = self.new.wrote.items } }
+    {
+        if is_read {
+            self.wrote = ArrayVec::new();
+        }
+    }
+
     /// How many commands the engine has answered.
-    pub fn answered(&self, examiner: &Examiner) -> usize {
+    pub fn answered(&self, examiner: &Examiner) -> usize
+        ensures { result ≡ length self.now.talk.items - length examiner.now.exam.unanswered }
+    {
         self.talk.len().saturating_sub(examiner.unanswered())
     }
 
     /// The process is ended, and what was said stays.
-    pub fn end(self) -> Ended {
+    pub fn end(self) -> Ended
+        ensures said { (result.sent.items ≡ self.sent.items)
+            × (result.talk.items ≡ self.talk.items) × (result.wrote.items ≡ self.wrote.items) }
+        ensures ended { P.leaves self.process result.ending }
+    {
         let Engine {
             process,
             sent,
             talk,
+            waiting: _,
             held: _,
             wrote,
         } = self;
@@ -213,6 +273,19 @@ impl<P: Process> Engine<P> {
             wrote,
             ending,
         }
+    }
+}
+
+/// The lines are sent, if there are any. Where a process is cut off then, what it wrote before is heard still, up to
+/// the end of its output.
+fn send<P: Process>(process: &mut P, lines: &[u8])
+    ensures { IsSent P.Process lines.now process.old process.new }
+{
+    if lines.is_empty() {
+        return;
+    }
+    match write_whole(process, lines) {
+        Ok(()) | Err(CutOff) => {}
     }
 }
 

@@ -9,6 +9,7 @@ mod equal;
 mod failure;
 mod flat;
 mod kinds;
+pub mod laws;
 mod listing;
 mod notes;
 mod options;

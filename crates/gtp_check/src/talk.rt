@@ -1,4 +1,7 @@
 //! What an engine was asked since it was started.
+ghost use Rattle.std.specs.Prelude.{◌≡◌};
+ghost use Rattle.gtp_check.specs.Dialogues.{is_same_purpose};
+
 use gtp_course::Lesson;
 use gtp_examiner::CheckCommand;
 
@@ -9,6 +12,15 @@ pub struct Purpose {
     pub lesson: Lesson,
     /// The part of it, counted from 0.
     pub part: u32,
+}
+
+impl Purpose {
+    /// Whether it is the same lesson, and the same part of it.
+    pub fn is_same(self, other: Purpose) -> bool
+        ensures { result ≡ is_same_purpose self other }
+    {
+        self.lesson.number() == other.lesson.number() && self.part == other.part
+    }
 }
 
 /// A command that was asked.

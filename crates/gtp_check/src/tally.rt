@@ -1,6 +1,6 @@
 //! What was found so far.
-ghost use Rattle.std.specs.Prelude.{◌≡◌, ◌-◌, ◌<◌, nat_lt};
-ghost use Rattle.gtp_check.specs.Tally.{alike, found, in_lesson, is_shown, nothing_found, with_hidden};
+ghost use Rattle.std.specs.Prelude.{◌≡◌, ◌-◌, ◌<◌, ◌||◌, nat_lt, not};
+ghost use Rattle.gtp_check.specs.Tally.{alike, found, started_again, in_lesson, is_shown, nothing_found, with_hidden};
 
 use crate::engine::Fault;
 use arrayvec::ArrayVec;
@@ -90,6 +90,23 @@ impl Tally {
     {
         let index = lesson.number();
         self.hidden[index] = self.hidden[index].saturating_add(1);
+    }
+
+    /// Whether the engine may be started: after something was found only where a start is left.
+    pub fn may_start(&self) -> bool
+        ensures { result ≡ not self.now.is_after_fault || nat_lt 0 self.now.starts_left }
+    {
+        !self.is_after_fault || self.starts_left > 0
+    }
+
+    /// The engine was started. After something was found that takes one of the starts that are left.
+    pub fn start(&mut self)
+        ensures { self.new ≡ started_again self.old }
+    {
+        if self.is_after_fault {
+            self.starts_left = self.starts_left.saturating_sub(1);
+            self.is_after_fault = false;
+        }
     }
 
     /// Takes one of the starts that are left, if there is one.

@@ -1,14 +1,16 @@
 //! A shorter conversation is tried on a new engine.
-ghost use Rattle.std.specs.Prelude.{◌<◌};
+ghost use Rattle.std.specs.Prelude.{◌≡◌, ◌<◌, IfOk, OnOk, OnErr, option_map, true};
+ghost use Rattle.gtp_process.specs.Starts.{program_line};
+ghost use Rattle.gtp_examiner.specs.Check.{with_exam};
+ghost use Rattle.gtp_check.specs.Dialogues.{AsksForMore, Converses, EndsLike, EndsSo, IsTrial, dialogue};
+ghost use Rattle.gtp_check.specs.Dialogues.{wrong_command, wrong_of, wrong_purpose};
 
-use crate::engine::{Ended, Engine, Fault, LINES_ROOM, Lines, Room};
+use crate::engine::{Ended, Engine, Fault, Room};
 use crate::notes::Notes;
 use crate::talk::{Purpose, Said};
-use arrayvec::ArrayVec;
 use gtp_course::Lesson;
 use gtp_examiner::{CheckCommand, Examiner};
 use gtp_process::{Process, StartFault, Starter};
-use gtp_wire::MOST_COMMAND_BYTES;
 use std::alloc::{AllocError, Global};
 
 /// How many exchanges a trial has at most for each command.
@@ -33,7 +35,9 @@ impl Tried {
     }
 
     /// The command that was answered wrongly.
-    fn command(&self) -> Option<CheckCommand> {
+    fn command(&self) -> Option<CheckCommand>
+        ensures { result ≡ wrong_command (wrong_of self.now) }
+    {
         match self.said.talk.get(self.answered) {
             Some(said) => Some(said.command),
             None => None,
@@ -41,7 +45,9 @@ impl Tried {
     }
 
     /// What that was asked for.
-    pub fn purpose(&self) -> Purpose {
+    pub fn purpose(&self) -> Purpose
+        ensures { result ≡ wrong_purpose (wrong_of self.now) }
+    {
         match self.said.talk.get(self.answered) {
             Some(said) => said.purpose,
             None => Purpose {
@@ -52,7 +58,9 @@ impl Tried {
     }
 
     /// Whether another conversation ended with the same command and the same fault.
-    pub fn ends_like(&self, other: &Tried) -> bool {
+    pub fn ends_like(&self, other: &Tried) -> bool
+        ensures { result ≡ true → EndsLike (wrong_of self.now) (wrong_of other.now) }
+    {
         self.fault == other.fault && self.command() == other.command()
     }
 }
@@ -72,10 +80,14 @@ pub fn try_commands<S: Starter>(
     purpose: Purpose,
     room: &mut Room,
     notes: &mut Notes,
-) -> Result<Option<Tried>, AllocError> {
-    if !examiner.may_start() {
-        return Ok(None);
-    }
+) -> Result<Option<Tried>, AllocError>
+    requires { examiner.old.starts < examiner.old.most_starts }
+    ensures tried { IfOk result (λ tried. IsTrial S.Process.Process (program_line words.now)
+        examiner.old (S.asked starter.old) notes.old (option_map wrong_of tried)
+        examiner.new (S.asked starter.new) notes.new) }
+    ensures refused { OnErr result (AsksForMore (program_line words.now)
+        (S.asked starter.old) (S.asked starter.new)) }
+{
     let process = match starter.start(words) {
         Ok(process) => process,
         Err(StartFault::OutOfMemory) => return Err(AllocError),
@@ -105,17 +117,20 @@ fn ask_all<P: Process>(
     purpose: Purpose,
     room: &mut Room,
     notes: &mut Notes,
-) -> Result<Option<Fault>, AllocError> {
+) -> Result<Option<Fault>, AllocError>
+    ensures ends { IfOk result (λ fault. EndsSo P.Process examiner.old.exam
+        (dialogue engine.old notes.old) fault examiner.new.exam (dialogue engine.new notes.new)) }
+    ensures check { examiner.new ≡ with_exam examiner.old examiner.new.exam }
+{
     let mut next: usize = 0;
     for _exchange in 0..MOST_EXCHANGES {
-        let mut lines = ArrayVec::new();
         let rest = &commands[next.min(commands.len())..];
-        next = next.saturating_add(ask_some(engine, examiner, rest, purpose, &mut lines, notes)?);
+        next = next.saturating_add(ask_some(engine, examiner, rest, purpose, notes)?);
         if examiner.unanswered() == 0 {
             // All was answered, or the next command may not be asked in this game.
             return Ok(None);
         }
-        if let Some(fault) = engine.exchange(examiner, lines.as_slice(), room, notes) {
+        if let Some(fault) = engine.exchange(examiner, room, notes) {
             return Ok(Some(fault));
         }
     }
@@ -128,16 +143,18 @@ fn ask_some<P: Process>(
     examiner: &mut Examiner,
     commands: &[CheckCommand],
     purpose: Purpose,
-    lines: &mut Lines,
     notes: &mut Notes,
-) -> Result<usize, AllocError> {
+) -> Result<usize, AllocError>
+    ensures asks { OnOk result (Converses P.Process examiner.old.exam
+        (dialogue engine.old notes.old) examiner.new.exam (dialogue engine.new notes.new)) }
+    ensures check { examiner.new ≡ with_exam examiner.old examiner.new.exam }
+{
     let mut asked: usize = 0;
     for command in commands {
-        if lines.len() + MOST_COMMAND_BYTES > LINES_ROOM || !examiner.has_room(command) {
+        if !engine.has_room() || !examiner.has_room(command) {
             break;
         }
-        engine.ask(examiner, *command, purpose, lines)?;
-        notes.count();
+        engine.ask(examiner, *command, purpose, notes)?;
         asked = asked.saturating_add(1);
     }
     Ok(asked)

@@ -1,0 +1,125 @@
+use Rattle.std.proofs.Common.{◌≡◌, ◌∙◌, ap, drop, inl, inr, ℕ, Bool, true, false, rules, refl, sym, Option, None, Some, Result, Ok, Err}
+use Rattle.std.specs.Prelude.{is_some, option_map}
+use Rattle.std.proofs.lemmas.List.{length-drop, take_rest}
+use Rattle.gtp_wire.specs.declared.replies.Reply.{Reply}
+use Rattle.gtp_wire.specs.declared.replies.ReplyFault.{ReplyFault}
+use Rattle.gtp_wire.specs.Replies.{with_reply}
+use Rattle.gtp_examiner.specs.declared.skills.Skills.{Skills}
+use Rattle.gtp_examiner.specs.declared.unanswered.Asked.{Asked}
+use Rattle.gtp_examiner.specs.Exam.{answered_by, refused_size}
+use Rattle.gtp_examiner.specs.Judging.{oldest}
+use Rattle.gtp_check.specs.declared.notes.Notes.{Notes}
+use Rattle.gtp_check.specs.Notes.{noted}
+use Rattle.gtp_check.specs.Dialogues.{Dialogue, dialogue, listener, noted_of_read, nothing, piece}
+use Rattle.gtp_check.proofs.engine.Engine.hear.Goals as goal
+use Rattle.gtp_check.proofs.engine.Engine.hear.Goals.{then-loop-done-test+else-unanswered-gt0, else-loop-done-test}
+
+-- what is mapped is there where it was before
+is_mapped : {A B : Type 0} (f : A → B) (value : Option A) → is_some (option_map f value) ≡ is_some value
+is_mapped f None = refl
+is_mapped f (Some x) = refl
+
+-- what is noted of an engine that is up
+noted_up : (notes : Notes) (asked : Option Asked) (read : Option (Result (Unit {0}) ReplyFault)) (reply : Reply)
+    (skills : Skills)
+    → noted notes (answered_by asked (option_map (with_reply reply) read) None)
+    (refused_size asked (option_map (with_reply reply) read) None) reply skills
+    ≡ noted_of_read notes asked (option_map (with_reply reply) read) skills
+noted_up notes None read reply skills = refl
+noted_up notes (Some asked) None reply skills = refl
+noted_up notes (Some asked) (Some (Ok done)) reply skills = refl
+noted_up notes (Some asked) (Some (Err shown)) reply skills = refl
+
+-- where nothing was read nothing is noted
+noted_nothing : (notes : Notes) (asked : Option Asked) (skills : Skills) → notes ≡ noted_of_read notes asked None skills
+noted_nothing notes None skills = refl
+noted_nothing notes (Some asked) skills = refl
+
+-- what is noted of an engine, be it up or not
+noted_so : (up : Bool) (notes : Notes) (asked answered : Option Asked) (refused : Option ℕ)
+    (read : Option (Result (Unit {0}) ReplyFault)) (reply : Reply) (skills : Skills)
+    → (up ≡ true → answered ≡ answered_by asked (option_map (with_reply reply) read) None)
+    → (up ≡ true → refused ≡ refused_size asked (option_map (with_reply reply) read) None)
+    → (up ≡ false → (read ≡ None) × (answered ≡ None) × (refused ≡ None))
+    → noted notes answered refused reply skills ≡ noted_of_read notes asked (option_map (with_reply reply) read) skills
+noted_so true notes asked answered refused read reply skills has sized still =
+    rw (has refl, sized refl) (noted_up notes asked read reply skills)
+noted_so false notes asked answered refused read reply skills has sized still =
+    rw ((still refl).0, (still refl).1) (noted_nothing notes asked skills)
+
+-- what changes of a dialogue twice is only what the engine wrote
+with_wrote : {P : Type 0} (first mid last : Dialogue P) → mid ≡ record first { wrote = mid.wrote }
+    → last ≡ record mid { wrote = last.wrote } → last ≡ record first { wrote = last.wrote }
+with_wrote {P = P} first mid last one two = two ∙ ap {A = Dialogue P} (λ said. record said { wrote = last.wrote }) one
+
+pub loop-done-init : goal.loop-done-init
+loop-done-init g c = record { heard = nothing; within = search rules; rest = λ notes. refl; check = refl }
+
+pub returns-in-Some-clause-heard : goal.returns-in-Some-clause-heard
+returns-in-Some-clause-heard g c =
+    let rest = take_rest c.args.bytes.now c.loop-done.done in (
+      record {
+        done = c.loop-done.done;
+        mid = listener c.loop-done.examiner.exam c.loop-done.self.wrote.items c.loop-done.notes;
+        heard = c.loop-done.invariant.heard;
+        owes = search rules;
+        used = c.heard-heard.result.used;
+        read = option_map (with_reply c.heard-heard.new.reply) c.heard-heard.result.read;
+        finding = c.in-Some.finding;
+        found = record {
+          up = rw (c.in-Some.is, rest) at c.heard-heard.ensures.up;
+          down = rw (c.in-Some.is, rest) at c.heard-heard.ensures.down;
+        };
+        wrote = rw rest at c.keep.ensures.kept;
+        notes = refl;
+        kind = search rules;
+      },
+      with_wrote (dialogue c.args.self.now c.loop-done.notes) (dialogue c.loop-done.self c.loop-done.notes)
+          (dialogue c.keep.new.self c.loop-done.notes) (c.loop-done.invariant.rest c.loop-done.notes)
+          (c.keep.ensures.rest c.loop-done.notes),
+    )
+
+pub loop-done-preserved : goal.loop-done-preserved
+loop-done-preserved g c =
+    let rest = take_rest c.args.bytes.now c.loop-done.done in
+    let same = is_mapped (with_reply c.heard-heard.new.reply) c.heard-heard.result.read in
+    let old = c.loop-done.examiner.exam in
+    let notes = noted_so old.up c.loop-done.notes (oldest old.unanswered) c.heard-heard.result.answered
+        c.heard-heard.result.refused c.heard-heard.result.read c.heard-heard.new.reply c.heard-heard.new.self.exam.skills
+        (rw c.in_default.is at c.heard-heard.ensures.answered) (rw c.in_default.is at c.heard-heard.ensures.refused)
+        c.heard-heard.ensures.still in
+    record {
+      heard = rw (c.take.ensures, notes, c.forget_reply.ensures.kept, c.is_some.ensures, c.keep.ensures.kept, rest, sym same)
+          (piece c.loop-done.invariant.heard (search rules)
+          (record {
+            up = rw (c.in_default.is, rest) at c.heard-heard.ensures.up;
+            down = rw (c.in_default.is, rest) at c.heard-heard.ensures.down;
+          }));
+      within = search rules;
+      rest = λ notes.
+          with_wrote (dialogue c.args.self.now notes) (dialogue c.keep.new.self notes)
+          (dialogue c.forget_reply.new.self notes)
+          (with_wrote (dialogue c.args.self.now notes) (dialogue c.loop-done.self notes)
+          (dialogue c.keep.new.self notes) (c.loop-done.invariant.rest notes) (c.keep.ensures.rest notes))
+          (c.forget_reply.ensures.rest notes);
+      check = search rules;
+    }
+
+pub returns-clause-heard : goal.returns-clause-heard
+returns-clause-heard g c =
+    let rest = take_rest c.args.bytes.now c.loop-done.done in
+    let held : c.push.new.text.items ≡ drop c.loop-done.done c.args.bytes.now =
+    rw (c.push.ensures.bytes, c.new-self.ensures, rest) refl in (
+      record {
+        done = c.loop-done.done;
+        heard = c.loop-done.invariant.heard;
+        rest = held;
+        over = elim c.loop-done-test.branch [
+          | then-loop-done-test+else-unanswered-gt0 w ↦ inr (search rules)
+          | else-loop-done-test w ↦
+              inl (rw (held, length-drop c.loop-done.done c.args.bytes.now) (search rules))
+        ];
+      },
+      ap {A = Dialogue g.row.P.Denot} (λ said. record said { held = c.push.new.text.items })
+          (c.loop-done.invariant.rest c.loop-done.notes),
+    )
