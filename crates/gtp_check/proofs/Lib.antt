@@ -5,6 +5,7 @@ mod Conversations
 mod Gathering
 mod Joining
 mod LessonLoops
+mod Running
 mod Shortening
 mod Talks
 mod Turning

@@ -111,7 +111,7 @@ module _ {P : Type 0} (known : Ghosts P) (rule : KoRule) (process : P) (first : 
       → AreHeard bytes old before None new after → IsTalk known rule process new after
   quiet_talk bytes old before new after came goes gave heard =
       let to = heard_to rule before.sent came bytes (listener old before.wrote before.notes) goes heard.0.done
-          (listener new after.wrote after.notes) heard.0.heard in
+      (listener new after.wrote after.notes) heard.0.heard in
       subst (IsTalk known rule process new) (sym heard.1)
       (record {
         came = came ++ take heard.0.done bytes;

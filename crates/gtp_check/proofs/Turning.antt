@@ -29,15 +29,18 @@ module _ {P O : Type 0} (known : Ghosts P) (plan : Plan) (outs : WriterGhosts O)
           → EndsTurn known plan outs before had out why after has out
       began goes after has why (begins process fruitful may tries quits fresh) =
           ([], starts process goes.asks goes.next fruitful may tries quits fresh, no_line)
-      began goes after has why (is_over by) = (record {
-        mid = goes.mid;
-        asks = goes.asks;
-        action = Start;
-        course = goes.course;
-        next = goes.next;
-        over = by;
-        leads = refl;
-      }, refl)
+      began goes after has why (is_over by) = (
+        record {
+          mid = goes.mid;
+          asks = goes.asks;
+          action = Start;
+          course = goes.course;
+          next = goes.next;
+          over = by;
+          leads = refl;
+        },
+        refl,
+      )
 
   -- memory was refused for the start
   pub refused_turn : (mid after : State P) (has : Attempts P) (why : Failure) → Goes plan.singly before Start mid
@@ -58,12 +61,15 @@ module _ {P O : Type 0} (known : Ghosts P) (plan : Plan) (outs : WriterGhosts O)
   pub over_turn : (mid : State P) → Goes plan.singly before Done mid
       → (mid.check.exam.up ≡ false) ⊎ (length mid.check.exam.unanswered ≡ 0)
       → EndsTurn known plan outs before had out (Some over.Done) mid had out
-  over_turn mid goes rests = (record {
-    mid = goes.mid;
-    asks = goes.asks;
-    action = Done;
-    course = goes.course;
-    next = goes.next;
-    over = done rests;
-    leads = goes.leads;
-  }, refl)
+  over_turn mid goes rests = (
+    record {
+      mid = goes.mid;
+      asks = goes.asks;
+      action = Done;
+      course = goes.course;
+      next = goes.next;
+      over = done rests;
+      leads = goes.leads;
+    },
+    refl,
+  )

@@ -1,3 +1,4 @@
+pub mod Checks
 pub mod Complaints
 pub mod Dialogues
 pub mod Kinds

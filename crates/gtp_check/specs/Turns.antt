@@ -339,11 +339,11 @@ module _ {P : Type 0} (known : Ghosts P) (plan : Plan) where
 
     -- a check stopped after turns: in the next one, or since there were too many
     pub data HasStopped (first : State P) (asked : Attempts P) (out : O) : Option P → Attempts P → O → Failure → Type 0
-        where
-      stopped : {count : ℕ} {before : State P} {had has : Attempts P} {between written : O} {process : Option P}
-          {failure : Failure} → Turns first asked out count before had between
-          → StopsIn before had between process has written failure
-          → HasStopped first asked out process has written failure
-      too_many_turns : {last : State P} {has : Attempts P} {written : O}
-          → Turns first asked out most_turns last has written
-          → HasStopped first asked out (process_of last.engine) has written TooManyTurns
+      where
+        stopped : {count : ℕ} {before : State P} {had has : Attempts P} {between written : O} {process : Option P}
+            {failure : Failure} → Turns first asked out count before had between
+            → StopsIn before had between process has written failure
+            → HasStopped first asked out process has written failure
+        too_many_turns : {last : State P} {has : Attempts P} {written : O}
+            → Turns first asked out most_turns last has written
+            → HasStopped first asked out (process_of last.engine) has written TooManyTurns

@@ -8,6 +8,7 @@ ghost use Rattle.gtp_process.specs.Quitting.{QuitsIfAny};
 ghost use Rattle.gtp_process.specs.Starts.{program_line};
 ghost use Rattle.gtp_examiner.specs.Check.{after_loss};
 ghost use Rattle.gtp_examiner.specs.Exam.{HasRoomFor};
+ghost use Rattle.gtp_check.specs.Checks.{AreLastLines, IsClosed, IsClosedWhere, IsEnding};
 ghost use Rattle.gtp_check.specs.Complaints.{complaint_lines};
 ghost use Rattle.gtp_check.specs.Dialogues.{AsksForMore, wrong_of, wrong_purpose};
 ghost use Rattle.gtp_check.specs.Turns.{AsksEngine, Closes, HasStopped, IsComplaint, IsHeardOut, Shortens, StopsIn};
@@ -78,8 +79,9 @@ enum Next {
 impl<S: Starter> Check<S> {
     /// Before the first start.
     pub fn new(alloc: Global, plan: &Plan<'_>) -> Self
-        ensures { state result.examiner result.course result.engine result.tally result.notes
+        ensures first { state result.examiner result.course result.engine result.tally result.notes
             ≡ before_all plan.now }
+        ensures down { result.examiner.exam.up ≡ false }
     {
         Check {
             alloc,
@@ -498,12 +500,16 @@ impl<S: Starter> Check<S> {
     }
 
     /// How many complaints there are.
-    pub fn complaints(&self) -> u32 {
+    pub fn complaints(&self) -> u32
+        ensures { result ≡ self.now.tally.complaints }
+    {
         self.tally.complaints
     }
 
     /// Whether no engine was ever started.
-    pub fn is_unstarted(&self) -> bool {
+    pub fn is_unstarted(&self) -> bool
+        ensures { result ≡ true → self.now.examiner.starts ≡ 0 }
+    {
         self.examiner.starts() == 0
     }
 
@@ -524,7 +530,12 @@ impl<S: Starter> Check<S> {
     }
 
     /// The engine is ended: one that owes nothing after it was sent `quit`, and any other at once.
-    pub fn end(self, plan: &Plan<'_>, over: &Over) -> Result<Vec<u8>, AllocError> {
+    pub fn end(self, plan: &Plan<'_>, over: &Over) -> Result<Vec<u8>, AllocError>
+        ensures closed { IsClosed S.Process.Process
+            (state self.examiner self.course self.engine self.tally self.notes) }
+        ensures text { IfOk result (λ text. AreLastLines plan.now
+            (state self.examiner self.course self.engine self.tally self.notes) over.now text.items) }
+    {
         let Check {
             alloc,
             examiner,
@@ -534,19 +545,9 @@ impl<S: Starter> Check<S> {
             tally,
             mut room,
         } = self;
-        if examiner.unanswered() == 0 {
-            quit(engine, &mut room);
-        } else {
-            end_now(engine);
-        }
-        let done = course.place().lesson.min(plan.lessons.len());
-        let ending = Ending {
-            over,
-            missed: &plan.lessons[done..],
-            hidden: tally.hidden.as_slice(),
-            starts: examiner.starts(),
-            complaints: tally.complaints,
-        };
+        close(engine, examiner.unanswered() == 0, &mut room);
+        let lesson = course.place().lesson;
+        let ending = ending_of(plan, &tally, lesson, examiner.starts(), over);
         last_lines(alloc, plan, &notes, &ending)
     }
 }
@@ -568,6 +569,26 @@ fn complaint_of(number: u32, lesson: Lesson, found: &Tried, rule: KoRule) -> Com
         is_positional: rule == KoRule::Simple
             && found.fault == Fault::Wrote(Kind::Refused)
             && is_positional(found.conversation()),
+    }
+}
+
+/// What the last lines say of a check that is over for this reason in this lesson of the course, after so many starts.
+fn ending_of<'c>(
+    plan: &'c Plan<'_>,
+    tally: &'c Tally,
+    lesson: usize,
+    starts: u32,
+    over: &'c Over,
+) -> Ending<'c>
+    ensures { IsEnding plan.now tally.now lesson starts over.now result }
+{
+    let done = lesson.min(plan.lessons.len());
+    Ending {
+        over,
+        missed: &plan.lessons[done..],
+        hidden: tally.hidden.as_slice(),
+        starts,
+        complaints: tally.complaints,
     }
 }
 
@@ -595,6 +616,17 @@ fn quit<P: Process>(engine: Option<Engine<P>>, room: &mut Room)
             wrote: _,
         } = engine;
         quit_and_end(Some(process), &mut room.buffer);
+    }
+}
+
+/// An engine, if there is one, is ended: one that is idle is sent `quit`.
+fn close<P: Process>(engine: Option<Engine<P>>, is_idle: bool, room: &mut Room)
+    ensures { IsClosedWhere P.Process is_idle (process_of engine) }
+{
+    if is_idle {
+        quit(engine, room);
+    } else {
+        end_now(engine);
     }
 }
 

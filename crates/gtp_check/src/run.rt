@@ -1,5 +1,12 @@
 //! The program, over any writers and any means to start processes.
-ghost use Rattle.std.specs.Prelude.{◌≡◌, ◌⊎◌};
+ghost use Rattle.std.specs.Prelude.{◌≡◌, codes, map};
+ghost use Rattle.byte_streams.specs.Writing.{IsWritten};
+ghost use Rattle.gtp_process.specs.Shown.{unstarted_text};
+ghost use Rattle.programs.specs.Status.{error_line};
+ghost use Rattle.gtp_check.specs.Checks.{Ends, HasRun, Shows};
+ghost use Rattle.gtp_check.specs.Listing.{list_lines};
+ghost use Rattle.gtp_check.specs.Status.{IsStatus, status_of};
+ghost use Rattle.gtp_check.specs.private.Answering.{Answers};
 
 use crate::check::Check;
 use crate::failure::Failure;
@@ -10,12 +17,22 @@ use crate::summary::Over;
 use arrayvec::ArrayVec;
 use byte_streams::{Broken, WriteOnce, write_or_break, write_text};
 use clap::error::ErrorKind;
+use go_base::push;
 use gtp_process::{Starter, Unstarted, push_unstarted};
 use programs::words::is_request;
 use std::alloc::{AllocError, Global};
 use std::convert::AsStr;
 
-/// Checks the engine that the words of the command line name.
+/// Does what the words of the command line ask for, the first of which is the program's name. Checks the engine that
+/// they name, and writes what is wrong with it to `output`. Returns the status that the program ends with:
+///
+/// - 0 where nothing was found, and where the words ask for help, the version or the list of lessons, which goes to
+///   `output`;
+/// - 1 where something was found;
+/// - 2 where the words have a mistake, or the engine wasn't started at the first try;
+/// - 3 where the output can't be written, memory was refused, or a check had too many turns.
+///
+/// What a status of 2 or 3 means is written to `errors`, and whether that can be written changes nothing.
 pub fn run<A: AsStr, O: WriteOnce, E: WriteOnce, S: Starter>(
     alloc: Global,
     words: &[A],
@@ -23,7 +40,12 @@ pub fn run<A: AsStr, O: WriteOnce, E: WriteOnce, S: Starter>(
     output: &mut O,
     errors: &mut E,
     starter: &mut S,
-) -> u8 {
+) -> u8
+    ensures status { IsStatus result }
+    ensures ran { HasRun S.Process.Process O.WriteOnce E.WriteOnce (map A.text words.now)
+        (S.asked starter.old) output.old errors.old result
+        (S.asked starter.new) output.new errors.new }
+{
     let options = match read_options(alloc, words) {
         Ok(options) => options,
         Err(error) => return answer_error(error.kind(), error.to_string(alloc), output, errors),
@@ -42,14 +64,14 @@ pub fn run<A: AsStr, O: WriteOnce, E: WriteOnce, S: Starter>(
 }
 
 /// Writes the list of lessons, and returns the status.
-fn list<O: WriteOnce, E: WriteOnce>(alloc: Global, output: &mut O, errors: &mut E) -> u8 {
+fn list<O: WriteOnce, E: WriteOnce>(alloc: Global, output: &mut O, errors: &mut E) -> u8
+    ensures { Shows O.WriteOnce E.WriteOnce list_lines output.old errors.old
+        result output.new errors.new }
+{
     let Ok(text) = list_text(alloc) else {
         return Failure::OutOfMemory.report(errors);
     };
-    match write_text(output, text.as_slice()) {
-        Ok(()) => 0,
-        Err(Broken) => Failure::Write.report(errors),
-    }
+    show(text.as_slice(), output, errors)
 }
 
 /// Checks an engine by a plan, and returns the status.
@@ -59,19 +81,25 @@ fn check<O: WriteOnce, E: WriteOnce, S: Starter>(
     output: &mut O,
     errors: &mut E,
     starter: &mut S,
-) -> Result<u8, Failure> {
+) -> Result<u8, Failure>
+    ensures { Ends S.Process.Process O.WriteOnce E.WriteOnce plan.now
+        (S.asked starter.old) output.old errors.old result
+        (S.asked starter.new) output.new errors.new }
+{
     let mut check: Check<S> = Check::new(alloc, plan);
     match check.take_turns(plan, output, starter) {
         Ok(over) => {
             let complaints = check.complaints();
             let is_unstarted = check.is_unstarted();
             let lines = check.end(plan, &over)?;
-            if let (Over::NotStarted(unstarted), true) = (&over, is_unstarted) {
-                report_unstarted(unstarted, errors);
-                return Ok(2);
+            if is_unstarted {
+                if let Over::NotStarted(unstarted) = &over {
+                    report_unstarted(unstarted, errors);
+                    return Ok(2);
+                }
             }
             write_text(output, lines.as_slice())?;
-            Ok(if complaints > 0 { 1 } else { 0 })
+            Ok(status_of(complaints))
         }
         Err(failure) => {
             check.end_at_once();
@@ -80,12 +108,22 @@ fn check<O: WriteOnce, E: WriteOnce, S: Starter>(
     }
 }
 
+/// The status of a check that is over, with so many complaints.
+fn status_of(complaints: u32) -> u8
+    ensures { result ≡ status_of complaints }
+{
+    if complaints > 0 { 1 } else { 0 }
+}
+
 /// The engine wasn't started at the first try.
-fn report_unstarted<E: WriteOnce>(unstarted: &Unstarted, errors: &mut E) {
+fn report_unstarted<E: WriteOnce>(unstarted: &Unstarted, errors: &mut E)
+    ensures { IsWritten E.WriteOnce
+        (error_line (codes "gtp_check") (unstarted_text unstarted.now)) errors.old errors.new }
+{
     let mut line: ArrayVec<u8, 420> = ArrayVec::new();
-    let _ = line.try_extend_from_slice(b"gtp_check: ");
+    push(&mut line, b"gtp_check: ");
     push_unstarted(&mut line, unstarted);
-    let _ = line.try_extend_from_slice(b"\n");
+    push(&mut line, b"\n");
     write_or_break(errors, line.as_slice());
 }
 
@@ -96,7 +134,9 @@ fn answer_error<O: WriteOnce, E: WriteOnce>(
     text: Result<String, AllocError>,
     output: &mut O,
     errors: &mut E,
-) -> u8 {
+) -> u8
+    ensures { Answers O.WriteOnce E.WriteOnce kind output.old errors.old result output.new errors.new }
+{
     let Ok(text) = text else {
         return Failure::OutOfMemory.report(errors);
     };
@@ -107,7 +147,15 @@ fn answer_error<O: WriteOnce, E: WriteOnce>(
         write_or_break(errors, text.as_bytes());
         return 2;
     }
-    match write_text(output, text.as_bytes()) {
+    show(text.as_bytes(), output, errors)
+}
+
+/// Writes a text that was asked for, and returns the status.
+fn show<O: WriteOnce, E: WriteOnce>(text: &[u8], output: &mut O, errors: &mut E) -> u8
+    ensures { Shows O.WriteOnce E.WriteOnce text.now output.old errors.old
+        result output.new errors.new }
+{
+    match write_text(output, text) {
         Ok(()) => 0,
         Err(Broken) => Failure::Write.report(errors),
     }

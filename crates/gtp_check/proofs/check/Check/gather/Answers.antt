@@ -23,7 +23,7 @@ returns-in-Wait-clause-gathers g c =
       turns = c.in-Wait.ensures.turns;
     } in
     let up = next_up c.loop-step.self.course c.loop-step.self.examiner.exam Wait c.next.new.self next (λ e. cc e)
-        (λ e. cc e) in
+    (λ e. cc e) in
     (rw c.in-Wait.ensures.goes.1 c.loop-step.invariant.asks, c.loop-step.invariant.paired up)
 
 pub loop-step-preserved : goal.loop-step-preserved
@@ -32,7 +32,7 @@ loop-step-preserved g c =
     elim c.match-next.branch [
       | in-Ask+in_ok-ask-in-Ask w ↦
           let next : IsNext c.loop-step.self.course c.loop-step.self.examiner.exam (Ask w.in-Ask.command)
-              c.next.new.self = record {
+          c.next.new.self = record {
             goes = w.in-Ask.ensures.goes;
             over = w.in-Ask.ensures.over;
             starts = w.in-Ask.ensures.starts;
@@ -57,7 +57,7 @@ loop-step-preserved g c =
             turns = w.in-Skip.ensures.turns;
           } in
           let up = next_up c.loop-step.self.course c.loop-step.self.examiner.exam Skip c.next.new.self next
-              (λ e. cc e) (λ e. cc e) in
+          (λ e. cc e) (λ e. cc e) in
           rw w.self-is
           (record {
             asks = passes c.next.new.self before.asks next;

@@ -18,19 +18,23 @@ pub returns-in_err-commands-clause-refused : goal.returns-in_err-commands-clause
 returns-in_err-commands-clause-refused g c =
     let exit = c.from_residual in
     let failed = err_from_is_err_and exit.result exit.ensures.1 in
-    rw failed.1
-    (failed.2, shortens_asks g.S.Process.Process c.args.plan.now (wrong_of c.args.found.now) _ _
-    c.loop-shortening.invariant.shortens)
+    rw failed.1 (
+      failed.2,
+      shortens_asks g.S.Process.Process c.args.plan.now (wrong_of c.args.found.now) _ _
+          c.loop-shortening.invariant.shortens,
+    )
 
 pub returns-in_err-tried-clause-refused : goal.returns-in_err-tried-clause-refused
 returns-in_err-tried-clause-refused g c =
     let exit = c.from_residual-in_err-tried in
     let failed = err_from_is_err_and exit.result exit.ensures.1 in
-    rw failed.1
-    (failed.2, then_more (program_line c.args.plan.now.words.items) _ _
-    (shortens_asks g.S.Process.Process c.args.plan.now (wrong_of c.args.found.now) _ _
-    c.loop-shortening.invariant.shortens)
-    (rw c.as_slice.ensures.value at c.in_err-tried.ensures.refused))
+    rw failed.1 (
+      failed.2,
+      then_more (program_line c.args.plan.now.words.items) _ _
+          (shortens_asks g.S.Process.Process c.args.plan.now (wrong_of c.args.found.now) _ _
+          c.loop-shortening.invariant.shortens)
+          (rw c.as_slice.ensures.value at c.in_err-tried.ensures.refused),
+    )
 
 pub returns-then-ends_like-clause-shortens : goal.returns-then-ends_like-clause-shortens
 returns-then-ends_like-clause-shortens g c =

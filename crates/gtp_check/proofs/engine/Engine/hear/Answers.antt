@@ -85,9 +85,9 @@ loop-done-preserved g c =
     let same = is_mapped (with_reply c.heard-heard.new.reply) c.heard-heard.result.read in
     let old = c.loop-done.examiner.exam in
     let notes = noted_so old.up c.loop-done.notes (oldest old.unanswered) c.heard-heard.result.answered
-        c.heard-heard.result.refused c.heard-heard.result.read c.heard-heard.new.reply c.heard-heard.new.self.exam.skills
-        (rw c.in_default.is at c.heard-heard.ensures.answered) (rw c.in_default.is at c.heard-heard.ensures.refused)
-        c.heard-heard.ensures.still in
+    c.heard-heard.result.refused c.heard-heard.result.read c.heard-heard.new.reply c.heard-heard.new.self.exam.skills
+    (rw c.in_default.is at c.heard-heard.ensures.answered) (rw c.in_default.is at c.heard-heard.ensures.refused)
+    c.heard-heard.ensures.still in
     record {
       heard = rw (c.take.ensures, notes, c.forget_reply.ensures.kept, c.is_some.ensures, c.keep.ensures.kept, rest, sym same)
           (piece c.loop-done.invariant.heard (search rules)
