@@ -22,8 +22,8 @@ use Rattle.gtp_examiner.specs.Laws.{Exchange, FindingsAreJustified, Talks, excha
 use Rattle.gtp_check.specs.declared.engine.Fault.{Fault}
 use Rattle.gtp_check.specs.declared.engine.Fault.TheVariants.{Wrote}
 use Rattle.gtp_check.specs.declared.notes.Notes.{Notes}
-use Rattle.gtp_check.specs.Dialogues.{Answers, AreHeard, Converses, Dialogue, EndsWrong, IsAsked, IsExchanged, IsHeardTo}
-use Rattle.gtp_check.specs.Dialogues.{IsSent, Listener, begun_with, listener}
+use Rattle.gtp_check.specs.Dialogues.{AreHeard, Converses, Dialogue, EndsWrong, IsAsked, IsExchanged, IsHeard}
+use Rattle.gtp_check.specs.Dialogues.{IsRead, IsSent, begun_with}
 use Rattle.gtp_check.specs.Laws.{ComplaintsAreJustified, IsWronglyWritten}
 
 -- what is wrong with what was written is of one kind
@@ -68,22 +68,16 @@ pub record GoesOn (rule : KoRule) (sent came : List ℕ) (exam : Exam) : Type 0 
   pub talks : Talks rule sent came said exam
   pub up : exam.up ≡ true
 
-heard_to : (rule : KoRule) (sent came : List ℕ) (bytes : List ℕ) (first : Listener) → GoesOn rule sent came first.exam
-    → (done : ℕ) (last : Listener) → IsHeardTo bytes first done last
-    → GoesOn rule sent (came ++ take done bytes) last.exam
-heard_to rule sent came bytes first goes done last IsHeardTo.nothing =
-    subst (λ (c : List ℕ). GoesOn rule sent c first.exam) (sym (append-nil came)) goes
-heard_to rule sent came bytes first goes done last
-    (IsHeardTo.piece {done = before} {used = used} {mid = mid} {read = read} {new = new} heard owes piece) =
-    let so_far = heard_to rule sent came bytes first goes before mid heard in
-    let hears = piece.up so_far.up in
+-- it does where bytes are heard in which nothing is found
+heard_on : (rule : KoRule) (sent came bytes : List ℕ) (used : ℕ) (read : Option (Result Reply ReplyFault)) (old new : Exam)
+    → GoesOn rule sent came old → IsHeard old bytes used read None new
+    → GoesOn rule sent (came ++ take used bytes) new
+heard_on rule sent came bytes used read old new goes heard =
+    let hears = heard.up goes.up in
     record {
-      said = so_far.said ++ exchanged (oldest mid.exam.unanswered) read;
-      talks = subst (λ (c : List ℕ). Talks rule sent c (so_far.said ++ exchanged (oldest mid.exam.unanswered) read) new)
-          (append_assoc came (take before bytes) (take used (drop before bytes))
-          ∙ ap (λ (c : List ℕ). came ++ c) (sym (take-add before used bytes)))
-          (Talks.hear (drop before bytes) used read so_far.talks hears);
-      up = heard_up mid.exam (drop before bytes) used read new hears ∙ so_far.up;
+      said = goes.said ++ exchanged (oldest old.unanswered) read;
+      talks = Talks.hear bytes used read goes.talks hears;
+      up = heard_up old bytes used read new hears ∙ goes.up;
     }
 
 -- ---- a conversation
@@ -110,33 +104,36 @@ module _ {P : Type 0} (known : Ghosts P) (rule : KoRule) (process : P) (first : 
       → Appends (known.given process) (known.given before.process) (came ++ bytes)
       → AreHeard bytes old before None new after → IsTalk known rule process new after
   quiet_talk bytes old before new after came goes gave heard =
-      let to = heard_to rule before.sent came bytes (listener old before.wrote before.notes) goes heard.0.done
-      (listener new after.wrote after.notes) heard.0.heard in
+      let quiet = heard.0 in
       subst (IsTalk known rule process new) (sym heard.1)
       (record {
-        came = came ++ take heard.0.done bytes;
-        goes = to;
+        came = came ++ take quiet.used bytes;
+        goes = heard_on rule before.sent came bytes quiet.used quiet.read old new goes quiet.heard;
         gave = subst (λ (all : List ℕ). Appends (known.given process) (known.given before.process) all)
-            (ap (λ (all : List ℕ). came ++ all) (sym (take-append-drop heard.0.done bytes))
-            ∙ sym (append_assoc came (take heard.0.done bytes) (drop heard.0.done bytes))
-            ∙ ap (λ (left : List ℕ). (came ++ take heard.0.done bytes) ++ left) (sym heard.0.rest))
+            (ap (λ (all : List ℕ). came ++ all) (sym (take-append-drop quiet.used bytes))
+            ∙ sym (append_assoc came (take quiet.used bytes) (drop quiet.used bytes))
+            ∙ ap (λ (left : List ℕ). (came ++ take quiet.used bytes) ++ left) (sym quiet.rest))
             gave;
       })
 
-  -- the engine was waited for, and nothing was found
-  answers_talk : (old : Exam) (before : Dialogue P) (new : Exam) (after : Dialogue P)
-      → IsTalk known rule process old before → Answers known old before None new after
+  -- what was read follows what was heard before
+  read_gave : (came held bytes : List ℕ) (before next : P) → length held ≡ 0
+      → Appends (known.given process) (known.given before) (came ++ held)
+      → Appends (known.given before) (known.given next) bytes
+      → Appends (known.given process) (known.given next) (came ++ bytes)
+  read_gave came held bytes before next none gave more =
+      Appends-trans (known.given process) (known.given before) (known.given next) came bytes
+      (subst (λ (all : List ℕ). Appends (known.given process) (known.given before) all)
+      (ap (λ (left : List ℕ). came ++ left) (nil_from_length held none) ∙ append-nil came) gave)
+      more
+
+  -- the engine was read, and nothing was found
+  read_talk : (old : Exam) (before : Dialogue P) (new : Exam) (after : Dialogue P)
+      → IsTalk known rule process old before → length before.held ≡ 0 → IsRead known old before None new after
       → IsTalk known rule process new after
-  answers_talk old before new after talk (Answers.owes_nothing none) = talk
-  answers_talk old before new after talk (Answers.held owes some heard) =
-      quiet_talk before.held old (record before { held = [] }) new after talk.came talk.goes talk.gave heard
-  answers_talk old before new after talk (Answers.reads bytes next owes none some gave unbroken taken heard) =
+  read_talk old before new after talk none (IsRead.gives bytes next some gave unbroken taken heard) =
       quiet_talk bytes old (record before { process = next }) new after talk.came talk.goes
-      (Appends-trans (known.given process) (known.given before.process) (known.given next) talk.came bytes
-      (subst (λ (all : List ℕ). Appends (known.given process) (known.given before.process) all)
-      (ap (λ (left : List ℕ). talk.came ++ left) (nil_from_length before.held none) ∙ append-nil talk.came) talk.gave)
-      gave)
-      heard
+      (read_gave talk.came before.held bytes before.process next none talk.gave gave) heard
 
   -- what waits was sent
   sent_talk : (old : Exam) (before : Dialogue P) (next : P) → IsTalk known rule process old before
@@ -169,8 +166,18 @@ module _ {P : Type 0} (known : Ghosts P) (rule : KoRule) (process : P) (first : 
         gave = talk.gave;
       })
   converses_talk (Converses.exchanges {old = old} {new = new} {before = before} {after = after} more exchanged) =
-      answers_talk old (record before { process = exchanged.process; waiting = [] }) new after
-      (sent_talk old before exchanged.process (converses_talk more) exchanged.sent) exchanged.answers
+      exchanged_talk old before new after (converses_talk more) exchanged
+    where
+      exchanged_talk : (old : Exam) (before : Dialogue P) (new : Exam) (after : Dialogue P)
+          → IsTalk known rule process old before → IsExchanged known old before None new after
+          → IsTalk known rule process new after
+      exchanged_talk old before new after talk (IsExchanged.owes_nothing next none sent) =
+          sent_talk old before next talk sent
+      exchanged_talk old before new after talk (IsExchanged.held owes some heard) =
+          quiet_talk before.held old (record before { held = [] }) new after talk.came talk.goes talk.gave heard
+      exchanged_talk old before new after talk (IsExchanged.reads next owes none sent read) =
+          read_talk old (record before { process = next; waiting = [] }) new after
+          (sent_talk old before next talk sent) none read
 
   -- ---- a finding
 
@@ -182,55 +189,53 @@ module _ {P : Type 0} (known : Ghosts P) (rule : KoRule) (process : P) (first : 
       → IsWronglyWritten known rule process kind after
   found_talk justify bytes old before kind new after came goes gave heard =
       let found = heard.0 in
-      let to = heard_to rule before.sent came bytes (listener old before.wrote before.notes) goes found.done found.mid found.heard in
-      let hears = found.found.up to.up in
+      let hears = found.found.up goes.up in
       subst (IsWronglyWritten known rule process kind) (sym heard.1)
       (record {
-        came = came ++ take found.done bytes;
-        said = to.said;
-        old = found.mid.exam;
+        came = came;
+        said = goes.said;
+        old = old;
         new = new;
-        bytes = drop found.done bytes;
+        bytes = bytes;
         used = found.used;
         read = found.read;
         finding = found.finding;
-        talks = to.talks;
+        talks = goes.talks;
         hears = hears;
         is = wrote_kind found.kind;
-        justified = justify rule before.sent (came ++ take found.done bytes) to.said found.mid.exam new
-            (drop found.done bytes) found.used found.read found.finding to.talks hears;
-        gave = subst (λ (all : List ℕ). Appends (known.given process) (known.given before.process) all)
-            (ap (λ (all : List ℕ). came ++ all) (sym (take-append-drop found.done bytes))
-            ∙ sym (append_assoc came (take found.done bytes) (drop found.done bytes)))
-            gave;
+        justified = justify rule before.sent came goes.said old new bytes found.used found.read found.finding goes.talks
+            hears;
+        gave = gave;
       })
 
-  answers_found : FindingsAreJustified → (old : Exam) (before : Dialogue P) (kind : Kind) (new : Exam)
-      (after : Dialogue P) → IsTalk known rule process old before
-      → (fault : Option Fault) → fault ≡ Some (Wrote kind) → Answers known old before fault new after
+  read_found : FindingsAreJustified → (old : Exam) (before : Dialogue P) (kind : Kind) (new : Exam)
+      (after : Dialogue P) → IsTalk known rule process old before → length before.held ≡ 0
+      → (fault : Option Fault) → fault ≡ Some (Wrote kind) → IsRead known old before fault new after
       → IsWronglyWritten known rule process kind after
-  answers_found justify old before kind new after talk fault is (Answers.owes_nothing none) = absurd (cc is)
-  answers_found justify old before kind new after talk fault is (Answers.held owes some heard) =
+  read_found justify old before kind new after talk none fault is
+      (IsRead.gives bytes next some gave unbroken taken heard) =
+      found_talk justify bytes old (record before { process = next }) kind new after talk.came talk.goes
+      (read_gave talk.came before.held bytes before.process next none talk.gave gave)
+      (subst (λ (f : Option Fault). AreHeard bytes old (record before { process = next }) f new after) is heard)
+  read_found justify old before kind new after talk none fault is (IsRead.ends next ended given taken) = absurd (cc is)
+  read_found justify old before kind new after talk none fault is (IsRead.breaks next cut given taken) = absurd (cc is)
+
+  exchanged_found : FindingsAreJustified → (old : Exam) (before : Dialogue P) (kind : Kind) (new : Exam)
+      (after : Dialogue P) → IsTalk known rule process old before
+      → (fault : Option Fault) → fault ≡ Some (Wrote kind) → IsExchanged known old before fault new after
+      → IsWronglyWritten known rule process kind after
+  exchanged_found justify old before kind new after talk fault is (IsExchanged.owes_nothing next none sent) =
+      absurd (cc is)
+  exchanged_found justify old before kind new after talk fault is (IsExchanged.held owes some heard) =
       found_talk justify before.held old (record before { held = [] }) kind new after talk.came talk.goes talk.gave
       (subst (λ (f : Option Fault). AreHeard before.held old (record before { held = [] }) f new after) is heard)
-  answers_found justify old before kind new after talk fault is
-      (Answers.reads bytes next owes none some gave unbroken taken heard) =
-      found_talk justify bytes old (record before { process = next }) kind new after talk.came talk.goes
-      (Appends-trans (known.given process) (known.given before.process) (known.given next) talk.came bytes
-      (subst (λ (all : List ℕ). Appends (known.given process) (known.given before.process) all)
-      (ap (λ (left : List ℕ). talk.came ++ left) (nil_from_length before.held none) ∙ append-nil talk.came) talk.gave)
-      gave)
-      (subst (λ (f : Option Fault). AreHeard bytes old (record before { process = next }) f new after) is heard)
-  answers_found justify old before kind new after talk fault is (Answers.ends next owes none ended given taken) =
-      absurd (cc is)
-  answers_found justify old before kind new after talk fault is (Answers.breaks next owes none cut given taken) =
-      absurd (cc is)
+  exchanged_found justify old before kind new after talk fault is (IsExchanged.reads next owes none sent read) =
+      read_found justify old (record before { process = next; waiting = [] }) kind new after
+      (sent_talk old before next talk sent) none fault is read
 
   pub found_in : FindingsAreJustified → (kind : Kind) (new : Exam) (after : Dialogue P)
       → EndsWrong known (begun rule true) (begun_with process first) (Wrote kind) new after
       → IsWronglyWritten known rule process kind after
   found_in justify kind new after ends =
-      answers_found justify ends.old
-      (record ends.before { process = ends.exchanged.process; waiting = [] }) kind new after
-      (sent_talk ends.old ends.before ends.exchanged.process (converses_talk ends.converses) ends.exchanged.sent)
-      (Some (Wrote kind)) refl ends.exchanged.answers
+      exchanged_found justify ends.old ends.before kind new after (converses_talk ends.converses) (Some (Wrote kind)) refl
+      ends.exchanged

@@ -4,15 +4,16 @@ use Rattle.std.specs.Prelude.{length, false}
 use Rattle.byte_streams.specs.declared.calls.WriteOnce.{Ghosts as WriterGhosts}
 use Rattle.byte_streams.specs.Writing.{no_line}
 use Rattle.gtp_process.specs.declared.starter.Process.{Ghosts}
+use Rattle.gtp_process.specs.Endings.{IsEnded}
 use Rattle.gtp_process.specs.Quitting.{QuitsIfAny}
 use Rattle.gtp_process.specs.Starts.{Attempts}
 use Rattle.gtp_examiner.specs.Check.{after_loss}
-use Rattle.gtp_course.specs.declared.actions.Action.TheVariants.{Done, Restart, Start}
+use Rattle.gtp_course.specs.declared.actions.Action.TheVariants.{Done, Kill, Restart, Start}
 use Rattle.gtp_check.specs.declared.failure.Failure.{Failure}
 use Rattle.gtp_check.specs.declared.plan.Plan.{Plan}
 use Rattle.gtp_check.specs.declared.summary.Over.{Over}
 use Rattle.gtp_check.specs.declared.summary.Over.TheVariants as over
-use Rattle.gtp_check.specs.Turns.{State, done, no_memory_to_start, process_of, restarts, starts, StopsIn}
+use Rattle.gtp_check.specs.Turns.{State, done, no_memory_to_start, process_of, kills, restarts, starts, StopsIn}
 use Rattle.gtp_check.specs.private.Steps.{Begins, EndsTurn, Goes, IsRefused, begins, is_over}
 
 module _ {P O : Type 0} (known : Ghosts P) (plan : Plan) (outs : WriterGhosts O) (before : State P) (had : Attempts P)
@@ -56,6 +57,14 @@ module _ {P O : Type 0} (known : Ghosts P) (plan : Plan) (outs : WriterGhosts O)
       → EndsTurn known plan outs before had out None after had out
   ended_turn mid after goes quits is =
       rw (is, goes.leads) ([], restarts goes.asks goes.next (rw goes.leads at quits), no_line)
+
+  -- the engine was ended without `quit`
+  pub killed_turn : (mid after : State P) → Goes plan.singly before Kill mid
+      → IsEnded known (process_of mid.engine)
+      → after ≡ record mid { check = after_loss mid.check; engine = None }
+      → EndsTurn known plan outs before had out None after had out
+  killed_turn mid after goes ended is =
+      rw (is, goes.leads) ([], kills goes.asks goes.next (rw goes.leads at ended), no_line)
 
   -- each lesson was asked
   pub over_turn : (mid : State P) → Goes plan.singly before Done mid

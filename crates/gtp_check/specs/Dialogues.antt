@@ -122,35 +122,24 @@ pub record IsHeard (old : Exam) (bytes : List ℕ) (used : ℕ) (read : Option (
 abbrev pub kept_after : List ℕ → List ℕ → Bool → List ℕ
 kept_after wrote bytes is_read = if is_read then [] else take most_shown (wrote ++ bytes)
 
--- Of these bytes so many were heard, reply by reply, while the engine owed an answer, and nothing was found.
-pub data IsHeardTo (bytes : List ℕ) (first : Listener) : ℕ → Listener → Type 0 where
-  nothing : IsHeardTo bytes first 0 first
-  piece : {done used : ℕ} {mid : Listener} {read : Option (Result Reply ReplyFault)} {new : Exam}
-      → IsHeardTo bytes first done mid → 0 < length mid.exam.unanswered
-      → IsHeard mid.exam (drop done bytes) used read None new
-      → IsHeardTo bytes first (done + used) (listener new
-      (kept_after mid.wrote (take used (drop done bytes)) (is_some read))
-      (noted_of_read mid.notes (oldest mid.exam.unanswered) read new.skills))
-
--- The bytes were heard until the engine owed nothing, or to their end. This end of them is left.
+-- The first reply in the bytes was heard, or all of them where none ends in them, and nothing was found. This end of
+-- them is left.
 pub record IsHeardQuietly (bytes : List ℕ) (first last : Listener) (left : List ℕ) : Type 0 where
-  pub done : ℕ
-  pub heard : IsHeardTo bytes first done last
-  pub rest : left ≡ drop done bytes
-  pub over : (length left ≡ 0) ⊎ (length last.exam.unanswered ≡ 0)
+  pub used : ℕ
+  pub read : Option (Result Reply ReplyFault)
+  pub heard : IsHeard first.exam bytes used read None last.exam
+  pub wrote : last.wrote ≡ kept_after first.wrote (take used bytes) (is_some read)
+  pub notes : last.notes ≡ noted_of_read first.notes (oldest first.exam.unanswered) read last.exam.skills
+  pub rest : left ≡ drop used bytes
 
--- In the bytes something wrong was found, after others were heard in which nothing was.
+-- In the bytes something wrong was found.
 pub record IsFoundIn (bytes : List ℕ) (first last : Listener) (fault : Fault) : Type 0 where
-  pub done : ℕ
-  pub mid : Listener
-  pub heard : IsHeardTo bytes first done mid
-  pub owes : 0 < length mid.exam.unanswered
   pub used : ℕ
   pub read : Option (Result Reply ReplyFault)
   pub finding : Finding
-  pub found : IsHeard mid.exam (drop done bytes) used read (Some finding) last.exam
-  pub wrote : last.wrote ≡ take most_shown (mid.wrote ++ take used (drop done bytes))
-  pub notes : last.notes ≡ mid.notes
+  pub found : IsHeard first.exam bytes used read (Some finding) last.exam
+  pub wrote : last.wrote ≡ take most_shown (first.wrote ++ take used bytes)
+  pub notes : last.notes ≡ first.notes
   pub kind : fault ≡ Wrote finding.kind
 
 -- the bytes were heard, and this is what is wrong with them, if anything; what is left is held
@@ -177,39 +166,41 @@ pub data IsSent {P : Type 0} (known : Ghosts P) (lines : List ℕ) (before after
       → Keeps (known.given before) (known.given after)
       → IsSent known lines before after
 
--- An engine was waited for. One that owes nothing isn't. What is held is heard first. Else its process is read: what it
--- gives, a byte at least, is heard. Or its output ended, or it was cut off, and it gave nothing. It was sent nothing.
-pub data Answers {P : Type 0} (known : Ghosts P) (old : Exam) (before : Dialogue P)
+-- An engine was read. What its process gives, a byte at least, is heard. Or its output ended, or it was cut off, and it
+-- gave nothing. It was sent nothing.
+pub data IsRead {P : Type 0} (known : Ghosts P) (old : Exam) (before : Dialogue P)
     : Option Fault → Exam → Dialogue P → Type 0 where
-  owes_nothing : length old.unanswered ≡ 0 → Answers known old before None old before
-  held : {fault : Option Fault} {new : Exam} {after : Dialogue P} → 0 < length old.unanswered
-      → 0 < length before.held
-      → AreHeard before.held old (record before { held = [] }) fault new after
-      → Answers known old before fault new after
-  reads : {fault : Option Fault} {new : Exam} {after : Dialogue P} (bytes : List ℕ) (process : P)
-      → 0 < length old.unanswered → length before.held ≡ 0
+  gives : {fault : Option Fault} {new : Exam} {after : Dialogue P} (bytes : List ℕ) (process : P)
       → 0 < length bytes → Appends (known.given before.process) (known.given process) bytes
       → IsUnbroken known.fails known.succeeds before.process process
       → Keeps (known.taken before.process) (known.taken process)
       → AreHeard bytes old (record before { process = process }) fault new after
-      → Answers known old before fault new after
-  ends : (process : P) → 0 < length old.unanswered → length before.held ≡ 0
+      → IsRead known old before fault new after
+  ends : (process : P)
       → OutputEnded known.fails known.succeeds known.runs_out before.process process
       → Keeps (known.given before.process) (known.given process)
       → Keeps (known.taken before.process) (known.taken process)
-      → Answers known old before (Some (CutOff Ended)) old (record before { process = process })
-  breaks : (process : P) → 0 < length old.unanswered → length before.held ≡ 0
+      → IsRead known old before (Some (CutOff Ended)) old (record before { process = process })
+  breaks : (process : P)
       → IsCutOff known.fails known.succeeds before.process process
       → Keeps (known.given before.process) (known.given process)
       → Keeps (known.taken before.process) (known.taken process)
-      → Answers known old before (Some (CutOff Reading)) old (record before { process = process })
+      → IsRead known old before (Some (CutOff Reading)) old (record before { process = process })
 
--- What waits was sent to an engine, and it was waited for. This is what is wrong with it, if anything.
-pub record IsExchanged {P : Type 0} (known : Ghosts P) (old : Exam) (before : Dialogue P) (fault : Option Fault)
-    (new : Exam) (after : Dialogue P) : Type 0 where
-  pub process : P
-  pub sent : IsSent known before.waiting before.process process
-  pub answers : Answers known old (record before { process = process; waiting = [] }) fault new after
+-- What an engine owes is heard, and this is what is wrong with it, if anything. What is held is heard first. Else what
+-- waits is sent, and the engine is read. One that owes nothing isn't read.
+pub data IsExchanged {P : Type 0} (known : Ghosts P) (old : Exam) (before : Dialogue P)
+    : Option Fault → Exam → Dialogue P → Type 0 where
+  owes_nothing : (process : P) → length old.unanswered ≡ 0 → IsSent known before.waiting before.process process
+      → IsExchanged known old before None old (record before { process = process; waiting = [] })
+  held : {fault : Option Fault} {new : Exam} {after : Dialogue P} → 0 < length old.unanswered
+      → 0 < length before.held
+      → AreHeard before.held old (record before { held = [] }) fault new after
+      → IsExchanged known old before fault new after
+  reads : {fault : Option Fault} {new : Exam} {after : Dialogue P} (process : P) → 0 < length old.unanswered
+      → length before.held ≡ 0 → IsSent known before.waiting before.process process
+      → IsRead known old (record before { process = process; waiting = [] }) fault new after
+      → IsExchanged known old before fault new after
 
 -- ---- a conversation
 

@@ -8,6 +8,7 @@ use Rattle.gtp_process.specs.declared.starter.Process.{Ghosts}
 use Rattle.gtp_process.specs.declared.starter.Ending.{Ending}
 use Rattle.gtp_process.specs.declared.starter.StartFault.TheVariants as start_fault
 use Rattle.gtp_process.specs.declared.starter.StartReason.{StartReason}
+use Rattle.gtp_process.specs.Endings.{IsEnded}
 use Rattle.gtp_process.specs.Quitting.{QuitsIfAny}
 use Rattle.gtp_process.specs.Shown.{unstarted}
 use Rattle.gtp_process.specs.Starts.{Attempts, Tries, program_line}
@@ -17,7 +18,7 @@ use Rattle.gtp_examiner.specs.declared.exam.Exam.{Exam}
 use Rattle.gtp_examiner.specs.Check.{Check, after_loss, opening, started, with_exam}
 use Rattle.gtp_examiner.specs.Exam.{HasRoomFor}
 use Rattle.gtp_course.specs.declared.actions.Action.{Action}
-use Rattle.gtp_course.specs.declared.actions.Action.TheVariants.{Ask, Done, Restart, Skip, Start}
+use Rattle.gtp_course.specs.declared.actions.Action.TheVariants.{Ask, Done, Kill, Restart, Skip, Start}
 use Rattle.gtp_course.specs.declared.lessons.Lesson.{Lesson}
 use Rattle.gtp_course.specs.declared.lessons.Lesson.TheVariants as lesson
 use Rattle.gtp_course.specs.Asking.{IsTurn, Renews, lesson_of}
@@ -243,8 +244,8 @@ module _ {P : Type 0} (known : Ghosts P) (plan : Plan) where
     pub asks : Asks plan.singly before mid
     pub heard : IsHeardOut known mid fault after
 
-  -- A turn takes steps of the course. Then it starts the engine; or it sends it `quit` and ends it; or it sends what was
-  -- asked, hears the engine, and writes what is due.
+  -- A turn takes steps of the course. Then it starts the engine; or it sends it `quit` and ends it, or ends it at
+  -- once; or it sends what was asked, hears the engine, and writes what is due.
   pub data Turn (before : State P) (had : Attempts P) : State P → Attempts P → List (List ℕ) → Type 0 where
     starts : {mid : State P} {course : Course} {has : Attempts P} {engine : Engine P} (process : P)
         → Asks plan.singly before mid → IsNext mid.course mid.check.exam Start course
@@ -257,6 +258,10 @@ module _ {P : Type 0} (known : Ghosts P) (plan : Plan) where
     restarts : {mid : State P} {course : Course} → Asks plan.singly before mid
         → IsNext mid.course mid.check.exam Restart course
         → QuitsIfAny known (process_of mid.engine)
+        → Turn before had (record mid { check = after_loss mid.check; course = course; engine = None }) had []
+    kills : {mid : State P} {course : Course} → Asks plan.singly before mid
+        → IsNext mid.course mid.check.exam Kill course
+        → IsEnded known (process_of mid.engine)
         → Turn before had (record mid { check = after_loss mid.check; course = course; engine = None }) had []
     exchanges : {mid next after : State P} {has : Attempts P} {fault : Option Fault} {line said : List (List ℕ)}
         → Exchanges before fault mid → WritesFirst mid (is_some fault) next line

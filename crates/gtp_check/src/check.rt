@@ -68,8 +68,10 @@ pub struct Check<S: Starter> {
 enum Next {
     /// An engine is started.
     Start,
-    /// The engine is ended, and a new one is started.
+    /// The engine is sent `quit` and ended, and a new one is started.
     Restart,
+    /// The engine is ended at once, and a new one is started.
+    Kill,
     /// What was asked is sent, and the engine is heard.
     Exchange,
     /// Each lesson was asked.
@@ -149,6 +151,10 @@ impl<S: Starter> Check<S> {
                 self.restart();
                 Ok(None)
             }
+            Next::Kill => {
+                self.kill();
+                Ok(None)
+            }
             Next::Over => Ok(Some(Over::Done)),
             Next::Exchange => {
                 let fault = self.exchange();
@@ -175,6 +181,7 @@ impl<S: Starter> Check<S> {
             match self.course.next(&self.examiner) {
                 Action::Start => return Ok(Next::Start),
                 Action::Restart => return Ok(Next::Restart),
+                Action::Kill => return Ok(Next::Kill),
                 Action::Ask(command) => self.ask(command, purpose)?,
                 Action::Wait => return Ok(Next::Exchange),
                 Action::Skip => {}
@@ -332,6 +339,17 @@ impl<S: Starter> Check<S> {
     {
         self.examiner.lost();
         quit(self.engine.take(), &mut self.room);
+    }
+
+    /// The engine, which owes nothing, is ended without `quit`.
+    fn kill(&mut self)
+        ensures ends { IsEnded S.Process.Process (process_of self.old.engine) }
+        ensures leads { let before = state self.old.examiner self.old.course self.old.engine self.old.tally self.old.notes in
+            let after = state self.new.examiner self.new.course self.new.engine self.new.tally self.new.notes in
+            after ≡ record before { check = after_loss before.check; engine = None } }
+    {
+        self.examiner.lost();
+        end_now(self.engine.take());
     }
 
     /// Whether the first line is due: once the version is known, or something is wrong.

@@ -6,7 +6,7 @@ ghost use Rattle.gtp_examiner.specs.Asking.{written_check};
 ghost use Rattle.gtp_examiner.specs.Check.{with_exam};
 ghost use Rattle.gtp_examiner.specs.Exam.{HasRoomFor};
 ghost use Rattle.gtp_check.specs.declared.notes.Notes.{Notes};
-ghost use Rattle.gtp_check.specs.Dialogues.{Answers, AreHeard, IsAsked, IsExchanged, IsSent, begun_with, dialogue};
+ghost use Rattle.gtp_check.specs.Dialogues.{AreHeard, IsAsked, IsRead, IsExchanged, IsSent, begun_with, dialogue};
 
 use crate::notes::{Beginning, Notes};
 use crate::talk::{Purpose, Said};
@@ -134,8 +134,11 @@ impl<P: Process> Engine<P> {
         Ok(())
     }
 
-    /// What waits is sent. Then, where the engine owes an answer, it is read once, and what it wrote is heard. Returns
-    /// what is wrong with it, if anything.
+    /// What the engine owes is heard, one reply at most. What it wrote before is heard first. Else what waits is sent,
+    /// and the engine is read once. Returns what is wrong with it, if anything.
+    ///
+    /// So the engine is asked the next commands after each reply, however many come at once: what it was asked when
+    /// something is found doesn't hang on the time.
     pub fn exchange(
         &mut self,
         examiner: &mut Examiner,
@@ -146,28 +149,33 @@ impl<P: Process> Engine<P> {
             (dialogue self.old notes.old) result examiner.new.exam (dialogue self.new notes.new) }
         ensures check { examiner.new ≡ with_exam examiner.old examiner.new.exam }
     {
-        let waiting = std::mem::replace(&mut self.waiting, ArrayVec::new());
-        send(&mut self.process, waiting.as_slice());
-        self.answer(examiner, room, notes)
-    }
-
-    /// The engine is waited for, where it owes an answer, and what it wrote is heard.
-    fn answer(
-        &mut self,
-        examiner: &mut Examiner,
-        room: &mut Room,
-        notes: &mut Notes,
-    ) -> Option<Fault>
-        ensures answers { Answers P.Process examiner.old.exam
-            (dialogue self.old notes.old) result examiner.new.exam (dialogue self.new notes.new) }
-        ensures check { examiner.new ≡ with_exam examiner.old examiner.new.exam }
-    {
         if examiner.unanswered() == 0 {
+            self.send_waiting();
             return None;
         }
         if !self.held.is_empty() {
             return self.hear_held(examiner, room, notes);
         }
+        self.send_waiting();
+        self.read(examiner, room, notes)
+    }
+
+    /// What waits is sent.
+    fn send_waiting(&mut self)
+        ensures sent { IsSent P.Process self.old.waiting.items self.old.process self.new.process }
+        ensures rest { (notes : Notes) → dialogue self.new notes
+            ≡ record (dialogue self.old notes) { process = self.new.process; waiting = [] } }
+    {
+        let waiting = std::mem::replace(&mut self.waiting, ArrayVec::new());
+        send(&mut self.process, waiting.as_slice());
+    }
+
+    /// The engine is read once, and what it wrote is heard. One that owes several answers may run first.
+    fn read(&mut self, examiner: &mut Examiner, room: &mut Room, notes: &mut Notes) -> Option<Fault>
+        ensures read { IsRead P.Process examiner.old.exam
+            (dialogue self.old notes.old) result examiner.new.exam (dialogue self.new notes.new) }
+        ensures check { examiner.new ≡ with_exam examiner.old examiner.new.exam }
+    {
         if examiner.unanswered() > 1 {
             self.process.go_first();
         }
@@ -178,7 +186,7 @@ impl<P: Process> Engine<P> {
         }
     }
 
-    /// What the engine wrote while it owed nothing is heard.
+    /// What the engine wrote before is heard.
     fn hear_held(
         &mut self,
         examiner: &mut Examiner,
@@ -194,7 +202,7 @@ impl<P: Process> Engine<P> {
         self.hear(examiner, held.as_slice(), &mut room.reply, notes)
     }
 
-    /// What the engine wrote is heard, reply by reply, until something is wrong or it owes nothing. The rest is held.
+    /// What the engine wrote is heard, up to the end of one reply, or to something wrong. The rest is held.
     fn hear(
         &mut self,
         examiner: &mut Examiner,
@@ -207,20 +215,15 @@ impl<P: Process> Engine<P> {
             examiner.new.exam (dialogue self.new notes.new) }
         ensures check { examiner.new ≡ with_exam examiner.old examiner.new.exam }
     {
-        let mut done = 0;
-        while done < bytes.len() && examiner.unanswered() > 0 {
-            let rest = &bytes[done..];
-            let heard = examiner.heard(rest, reply);
-            self.keep(&rest[..heard.used]);
-            if let Some(finding) = heard.finding {
-                return Some(Fault::Wrote(finding.kind));
-            }
-            self.forget_reply(heard.read.is_some());
-            notes.take(&heard, reply, examiner);
-            done += heard.used;
+        let heard = examiner.heard(bytes, reply);
+        self.keep(&bytes[..heard.used]);
+        if let Some(finding) = heard.finding {
+            return Some(Fault::Wrote(finding.kind));
         }
+        self.forget_reply(heard.read.is_some());
+        notes.take(&heard, reply, examiner);
         self.held = ArrayVec::new();
-        push(&mut self.held, &bytes[done..]);
+        push(&mut self.held, &bytes[heard.used..]);
         None
     }
 

@@ -12,7 +12,7 @@ use Rattle.gtp_course.specs.declared.actions.Action.{Action}
 use Rattle.gtp_course.specs.declared.actions.Action.TheVariants as action
 use Rattle.gtp_course.specs.Course.{Course}
 use Rattle.gtp_check.specs.declared.check.Next.{Next}
-use Rattle.gtp_check.specs.declared.check.Next.TheVariants.{Exchange, Over, Restart, Start}
+use Rattle.gtp_check.specs.declared.check.Next.TheVariants.{Exchange, Kill, Over, Restart, Start}
 use Rattle.gtp_check.specs.declared.engine.Engine.{Engine}
 use Rattle.gtp_check.specs.declared.engine.Fault.{Fault}
 use Rattle.gtp_check.specs.declared.failure.Failure.{Failure}
@@ -42,6 +42,7 @@ pub record Goes {P : Type 0} (singly : Bool) (before : State P) (action : Action
 abbrev pub Gathers : {P : Type 0} → Bool → State P → Next → State P → Type 0
 Gathers singly before Start after = Goes singly before action.Start after
 Gathers singly before Restart after = Goes singly before action.Restart after
+Gathers singly before Kill after = Goes singly before action.Kill after
 Gathers singly before Exchange after = Asks singly before after × IsSome after.engine
 Gathers singly before Over after =
     Goes singly before action.Done after

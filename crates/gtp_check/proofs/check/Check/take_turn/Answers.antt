@@ -2,7 +2,7 @@ use Rattle.std.proofs.Common.{◌++◌}
 use Rattle.std.proofs.lemmas.Result.{err_from_is_err_and}
 use Rattle.gtp_check.specs.Turns.{exchanges, no_memory_to_ask, state}
 use Rattle.gtp_check.proofs.Gathering.{where_failed, where_value}
-use Rattle.gtp_check.proofs.Turning.{begun_turn, ended_turn, over_turn, refused_turn}
+use Rattle.gtp_check.proofs.Turning.{begun_turn, ended_turn, killed_turn, over_turn, refused_turn}
 use Rattle.gtp_check.proofs.check.Check.take_turn.Goals as goal
 
 pub returns-in_err-gather-clause-stops : goal.returns-in_err-gather-clause-stops
@@ -41,6 +41,15 @@ returns-in-Restart-clause-turn g c =
     c.args.output.now (state mid.examiner mid.course mid.engine mid.tally mid.notes)
     (state last.examiner last.course last.engine last.tally last.notes)
     (rw c.in-Restart.is at c.in_ok-gather.ensures.gathers) c.restart.ensures.quits c.restart.ensures.leads
+
+pub returns-in-Kill-clause-turn : goal.returns-in-Kill-clause-turn
+returns-in-Kill-clause-turn g c =
+    let mid = c.gather.new.self in
+    let last = c.kill.new.self in
+    killed_turn g.S.Process.Process c.args.plan.now g.O.WriteOnce _ (g.S.Starter.asked c.args.starter.now)
+    c.args.output.now (state mid.examiner mid.course mid.engine mid.tally mid.notes)
+    (state last.examiner last.course last.engine last.tally last.notes)
+    (rw c.in-Kill.is at c.in_ok-gather.ensures.gathers) c.kill.ensures.ends c.kill.ensures.leads
 
 pub returns-in-Over-clause-turn : goal.returns-in-Over-clause-turn
 returns-in-Over-clause-turn g c =

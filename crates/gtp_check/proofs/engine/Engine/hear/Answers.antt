@@ -10,9 +10,8 @@ use Rattle.gtp_examiner.specs.Exam.{answered_by, refused_size}
 use Rattle.gtp_examiner.specs.Judging.{oldest}
 use Rattle.gtp_check.specs.declared.notes.Notes.{Notes}
 use Rattle.gtp_check.specs.Notes.{noted}
-use Rattle.gtp_check.specs.Dialogues.{Dialogue, dialogue, listener, noted_of_read, nothing, piece}
+use Rattle.gtp_check.specs.Dialogues.{Dialogue, dialogue, noted_of_read}
 use Rattle.gtp_check.proofs.engine.Engine.hear.Goals as goal
-use Rattle.gtp_check.proofs.engine.Engine.hear.Goals.{then-loop-done-test+else-unanswered-gt0, else-loop-done-test}
 
 -- what is mapped is there where it was before
 is_mapped : {A B : Type 0} (f : A → B) (value : Option A) → is_some (option_map f value) ≡ is_some value
@@ -52,74 +51,45 @@ with_wrote : {P : Type 0} (first mid last : Dialogue P) → mid ≡ record first
     → last ≡ record mid { wrote = last.wrote } → last ≡ record first { wrote = last.wrote }
 with_wrote {P = P} first mid last one two = two ∙ ap {A = Dialogue P} (λ said. record said { wrote = last.wrote }) one
 
-pub loop-done-init : goal.loop-done-init
-loop-done-init g c = record { heard = nothing; within = search rules; rest = λ notes. refl; check = refl }
-
 pub returns-in-Some-clause-heard : goal.returns-in-Some-clause-heard
-returns-in-Some-clause-heard g c =
-    let rest = take_rest c.args.bytes.now c.loop-done.done in (
-      record {
-        done = c.loop-done.done;
-        mid = listener c.loop-done.examiner.exam c.loop-done.self.wrote.items c.loop-done.notes;
-        heard = c.loop-done.invariant.heard;
-        owes = search rules;
-        used = c.heard-heard.result.used;
-        read = option_map (with_reply c.heard-heard.new.reply) c.heard-heard.result.read;
-        finding = c.in-Some.finding;
-        found = record {
-          up = rw (c.in-Some.is, rest) at c.heard-heard.ensures.up;
-          down = rw (c.in-Some.is, rest) at c.heard-heard.ensures.down;
-        };
-        wrote = rw rest at c.keep.ensures.kept;
-        notes = refl;
-        kind = search rules;
-      },
-      with_wrote (dialogue c.args.self.now c.loop-done.notes) (dialogue c.loop-done.self c.loop-done.notes)
-          (dialogue c.keep.new.self c.loop-done.notes) (c.loop-done.invariant.rest c.loop-done.notes)
-          (c.keep.ensures.rest c.loop-done.notes),
-    )
-
-pub loop-done-preserved : goal.loop-done-preserved
-loop-done-preserved g c =
-    let rest = take_rest c.args.bytes.now c.loop-done.done in
-    let same = is_mapped (with_reply c.heard-heard.new.reply) c.heard-heard.result.read in
-    let old = c.loop-done.examiner.exam in
-    let notes = noted_so old.up c.loop-done.notes (oldest old.unanswered) c.heard-heard.result.answered
-    c.heard-heard.result.refused c.heard-heard.result.read c.heard-heard.new.reply c.heard-heard.new.self.exam.skills
-    (rw c.in_default.is at c.heard-heard.ensures.answered) (rw c.in_default.is at c.heard-heard.ensures.refused)
-    c.heard-heard.ensures.still in
-    record {
-      heard = rw (c.take.ensures, notes, c.forget_reply.ensures.kept, c.is_some.ensures, c.keep.ensures.kept, rest, sym same)
-          (piece c.loop-done.invariant.heard (search rules)
-          (record {
-            up = rw (c.in_default.is, rest) at c.heard-heard.ensures.up;
-            down = rw (c.in_default.is, rest) at c.heard-heard.ensures.down;
-          }));
-      within = search rules;
-      rest = λ notes.
-          with_wrote (dialogue c.args.self.now notes) (dialogue c.keep.new.self notes)
-          (dialogue c.forget_reply.new.self notes)
-          (with_wrote (dialogue c.args.self.now notes) (dialogue c.loop-done.self notes)
-          (dialogue c.keep.new.self notes) (c.loop-done.invariant.rest notes) (c.keep.ensures.rest notes))
-          (c.forget_reply.ensures.rest notes);
-      check = search rules;
-    }
+returns-in-Some-clause-heard g c = (
+  record {
+    used = c.heard-heard.result.used;
+    read = option_map (with_reply c.heard-heard.new.reply) c.heard-heard.result.read;
+    finding = c.in-Some.finding;
+    found = record {
+      up = rw c.in-Some.is at c.heard-heard.ensures.up;
+      down = rw c.in-Some.is at c.heard-heard.ensures.down;
+    };
+    wrote = c.keep.ensures.kept;
+    notes = refl;
+    kind = search rules;
+  },
+  c.keep.ensures.rest c.args.notes.now,
+)
 
 pub returns-clause-heard : goal.returns-clause-heard
 returns-clause-heard g c =
-    let rest = take_rest c.args.bytes.now c.loop-done.done in
-    let held : c.push.new.text.items ≡ drop c.loop-done.done c.args.bytes.now =
-    rw (c.push.ensures.bytes, c.new-self.ensures, rest) refl in (
+    let old = c.args.examiner.now.exam in
+    let same = is_mapped (with_reply c.heard-heard.new.reply) c.heard-heard.result.read in
+    let rest = take_rest c.args.bytes.now c.heard-heard.result.used in (
       record {
-        done = c.loop-done.done;
-        heard = c.loop-done.invariant.heard;
-        rest = held;
-        over = elim c.loop-done-test.branch [
-          | then-loop-done-test+else-unanswered-gt0 w ↦ inr (search rules)
-          | else-loop-done-test w ↦
-              inl (rw (held, length-drop c.loop-done.done c.args.bytes.now) (search rules))
-        ];
+        used = c.heard-heard.result.used;
+        read = option_map (with_reply c.heard-heard.new.reply) c.heard-heard.result.read;
+        heard = record {
+          up = rw c.in_default.is at c.heard-heard.ensures.up;
+          down = rw c.in_default.is at c.heard-heard.ensures.down;
+        };
+        wrote = rw (c.forget_reply.ensures.kept, c.is_some.ensures, c.keep.ensures.kept, sym same) refl;
+        notes = c.take.ensures
+            ∙ noted_so old.up c.args.notes.now (oldest old.unanswered) c.heard-heard.result.answered
+            c.heard-heard.result.refused c.heard-heard.result.read c.heard-heard.new.reply
+            c.heard-heard.new.self.exam.skills (rw c.in_default.is at c.heard-heard.ensures.answered)
+            (rw c.in_default.is at c.heard-heard.ensures.refused) c.heard-heard.ensures.still;
+        rest = rw (c.push.ensures.bytes, c.new-self.ensures, rest) refl;
       },
       ap {A = Dialogue g.row.P.Denot} (λ said. record said { held = c.push.new.text.items })
-          (c.loop-done.invariant.rest c.loop-done.notes),
+          (with_wrote (dialogue c.args.self.now c.take.new.self) (dialogue c.keep.new.self c.take.new.self)
+          (dialogue c.forget_reply.new.self c.take.new.self) (c.keep.ensures.rest c.take.new.self)
+          (c.forget_reply.ensures.rest c.take.new.self)),
     )
