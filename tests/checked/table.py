@@ -1,8 +1,12 @@
 """Which lessons show the bugs of the wrong engines, and which bugs nothing shows.
 
-A lesson was named here for what it asks, by the tables of crates/gtp_course/specs, before its check was run. To change it: a bug that the
-course notices has the lessons that show it in SHOWN, where those of its family don't; a bug that it doesn't notice has the reason in
-UNNOTICED. No bug may be in both.
+A row follows from the bug's source and from the tables of the lessons, in crates/gtp_course/specs. Most were written before a check was run.
+Some were set after one, and derived then: points_twice, rows_from_the_top, columns_for_rows, the bugs for which the course was made longer,
+and some of UNNOTICED. Where a comment speaks of games that are drawn, a row is only likely. The rows of CHANCE can't be derived: what shows
+these bugs hangs on what the engine draws, so they were found by checks.
+
+To change it: a bug that the course notices has the lessons that show it in SHOWN, where those of its family don't; a bug that it doesn't
+notice has the reason in UNNOTICED. No bug may be in both.
 """
 
 # the lesson that is about what the family is about
@@ -18,6 +22,7 @@ FAMILIES = {
     "turns": ("start",),
     "undo": ("ko",),
     "handicap": ("handicaps",),
+    # of a point that is written as another: on a full board the one point that isn't an eye, turned, has a stone
     "genmove": ("genmoves",),
     "records": ("record",),
     "later": ("handicaps",),
@@ -61,11 +66,6 @@ SHOWN = {
     "first_move_is_the_middle": ("sizes",),
     "first_move_is_the_middle_of_a_handicap": ("handicaps",),
     "chosen_move_is_not_made": ("start",),
-    # The engine's own moves are turned alike, so they are legal until there are others on the board.
-    "columns_for_rows": ("games",),
-    "rows_from_the_top": ("handicaps",),
-    # it shows only where what is drawn meets a stone of the wrong colour
-    "no_colour_is_read": ("games", "genmoves"),
     # a genmove after 60 drawn moves on 5x5
     "points_twice": ("restarts",),
     "ko_stays": ("ko",),
@@ -102,19 +102,35 @@ SHOWN = {
     "taken_stones_of_the_game_before": ("ko",),
     "colour_of_the_first_genmove": ("games",),
     "old_board_comes_back_at_undo": ("restarts",),
+    # a score after a handicap and a new game
     "handicap_sets_komi": ("handicaps",),
-    # it shows only where the engine happens to take in a ko
-    "ko_after_a_genmove": ("genmoves", "sizes"),
+    # a new start right after a ko, and a probe of its point
     "old_ko_stays": ("start",),
+    # After a full board with three gaps these are filled, and a move is asked for: the one that was right before is on a stone.
     "choice_of_the_game_before": ("genmoves",),
+    # a ko in the corner, also at A1
     "point_zero_is_no_ko": ("ko",),
+    # 300 moves taken back in a row
     "moves_taken_back_fill_a_list": ("record",),
+    # an end without `quit`
     "lock_stays": ("restarts",),
     "note_after_a_crash": ("restarts",),
+    # another komi after a new start, and the score
     "old_komi_stays": ("restarts",),
+    # an `undo` before any move after a new start
     "old_moves_are_undone": ("start",),
+    # before a new start a move for one colour, after it one for the other on the same board, where it has no legal point
     "choice_is_kept_by_its_board": ("restarts",),
 }
+
+# bugs that show by chance
+CHANCE = {
+    # what is drawn meets a stone of the wrong colour
+    "no_colour_is_read": ("games", "genmoves"),
+    # the engine takes in a ko, and is asked to take back
+    "ko_after_a_genmove": ("genmoves", "sizes"),
+}
+SHOWN |= CHANCE
 
 NOT_SENT = "no command is written in that form"
 NOT_ASKED = "this command isn't asked"
