@@ -72,7 +72,7 @@ SHOWN = {
     "stones_of_the_game_before": ("ko",),
     "boards_of_earlier_games": ("ko",),
     "ends_at_the_third_game": ("games",),
-    "game_over_stays": ("record",),
+    "game_over_stays": ("games",),
     # of the sizes of drawn games the second is smaller than the first
     "edges_of_a_larger_board": ("drawn",),
     "byte_order_mark": ("start",),
@@ -169,7 +169,7 @@ WAITING = {"one_newline", "one_newline_where_there_is_no_text", "second_line_of_
 # What they answer hangs on how the commands are cut, or on what earlier processes have left: pasted into one more process their
 # conversation may have right answers. Those that wait have answered more commands than the conversation has.
 ANEW = {*WAITING, "reads_of_sixty_four", "trial_is_over"}
-ANEW |= {"old_game_is_a_book", "old_game_comes_back", "old_board_comes_back_at_undo"}
+ANEW |= {"old_game_is_a_book", "old_game_comes_back", "old_board_comes_back_at_undo", "old_moves_are_undone"}
 
 
 def lessons_of(name, family):
