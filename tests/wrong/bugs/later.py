@@ -10,6 +10,8 @@ from talks import AGAIN, KO, Bug, on
 from .records import passes
 from .restarts import Kept
 
+HAS_STONE = bytes(min(value, 1) for value in range(256))
+
 # ---- the form of replies and ids
 
 
@@ -177,10 +179,24 @@ class HashIgnoresColours(Bug):
     shows = on(2, "b A1 w B1 w A2 w A1 b B2 b B1 b A2", "play w A1")
     right = "="
 
+    def begin(self, size):
+        super().begin(size)
+        self.hashes = []  # those of the boards before each move
+
+    def hash_of(self, board):
+        """What is compared of a board: which points have stones."""
+        return board.translate(HAS_STONE)
+
     def is_ko(self, board, colour, point):
-        if self.ko != POSITIONAL:
-            return super().is_ko(board, colour, point)
-        return any(list(map(bool, board)) == list(map(bool, before)) for before in self.boards)
+        return self.hash_of(board) in (self.hashes if self.ko == POSITIONAL else self.hashes[-1:])
+
+    def move(self, colour, point):
+        self.hashes.append(self.hash_of(self.board))
+        super().move(colour, point)
+
+    def undo(self):
+        super().undo()
+        self.hashes.pop()
 
 
 # ---- undo, also in long records
