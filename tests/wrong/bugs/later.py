@@ -203,7 +203,7 @@ class HashIgnoresColours(Bug):
 
 
 class UndoGoesByTurns(Bug):
-    """The moves are two lists, Black's and White's, and `undo` takes from the side whose turn it was by their number."""
+    """The moves are two lists, Black's and White's, and `undo` takes from the one whose turn it was by their number."""
 
     family = "afresh"
     shows = on(5, "b A1 w B2 w C3", "undo", "play w C3")
@@ -251,7 +251,7 @@ class FifthLinePast19(Bug):
 
 
 class EmptyPointsAreListedTwice(Bug):
-    """A captured chain is listed as empty once for each of its stones beside the play, and `genmove` goes by the list."""
+    """A captured chain is listed as empty once for each of its stones by the play, and `genmove` goes by the list."""
 
     family = "afresh"
     # B2 takes A1, A2 and B1, of which it touches two, and Black plays one of them again
