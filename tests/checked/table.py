@@ -2,8 +2,8 @@
 
 A row follows from the bug's source and from the tables of the lessons, in crates/gtp_course/specs. Most were written before a check was run.
 Some were set after one, and derived then: points_twice, rows_from_the_top, columns_for_rows, the bugs for which the course was made longer,
-and some of UNNOTICED. Where a comment speaks of games that are drawn, a row is only likely. The rows of CHANCE can't be derived: what shows
-these bugs hangs on what the engine draws, so they were found by checks.
+those of `afresh`, and some of UNNOTICED. Where a comment speaks of games that are drawn, a row is only likely. The rows of CHANCE can't be
+derived: what shows these bugs hangs on what the engine draws, so they were found by checks.
 
 To change it: a bug that the course notices has the lessons that show it in SHOWN, where those of its family don't; a bug that it doesn't
 notice has the reason in UNNOTICED. No bug may be in both.
@@ -28,6 +28,8 @@ FAMILIES = {
     "later": ("handicaps",),
     "restarts": ("restarts",),
     "unseen": ("drawn",),
+    # long chains and play between them, a board with other colours, a probe after 100 moves: in games that are drawn
+    "afresh": ("drawn",),
 }
 
 # bugs that another lesson shows
@@ -121,6 +123,18 @@ SHOWN = {
     "old_moves_are_undone": ("start",),
     # before a new start a move for one colour, after it one for the other on the same board, where it has no legal point
     "choice_is_kept_by_its_board": ("restarts",),
+    "replies_are_held": ("start",),
+    # on 23x23 U20 has a stone of a handicap, and is probed
+    "tt_is_a_pass": ("handicaps",),
+    "fifth_line_past_19": ("handicaps",),
+    # a play that was refused is legal after a pass
+    "legal_plays_are_kept": ("ko",),
+    # after a ko's five moves a probe of Black is taken back as a move of White
+    "undo_goes_by_turns": ("ko",),
+    # 9x9 comes after 1x1, which has no neighbours
+    "tables_of_another_size": ("sizes",),
+    # five parts with two new starts each, after the first one
+    "eleventh_start_fails": ("restarts",),
 }
 
 # bugs that show by chance
@@ -129,6 +143,8 @@ CHANCE = {
     "no_colour_is_read": ("games", "genmoves"),
     # the engine takes in a ko, and is asked to take back
     "ko_after_a_genmove": ("genmoves", "sizes"),
+    # a chain is taken that has two stones beside the play, and later the engine chooses one of its points twice
+    "empty_points_are_listed_twice": ("genmoves",),
 }
 SHOWN |= CHANCE
 
@@ -160,16 +176,22 @@ UNNOTICED = {
     "capital_pass_is_unread": NOT_SENT,
     "refused_size_counts": "it takes each size that is asked",
     "even_score_has_a_colour": "`B+0` is the number 0",
+    "ids_are_floats": "ids stay below 16777217",
+    "white_is_a_letter": NOT_SENT,
+    "unread_komi_is_zero": "each komi that is sent can be read",
+    "lead_is_a_byte": "no score is asked but that of an empty board",
     "handicap_is_undone": "no `undo` is asked where there is a handicap and no move",
 }
 
 # They wait for more input before they answer, so `timeout` has to end them.
 WAITING = {"one_newline", "one_newline_where_there_is_no_text", "second_line_of_a_read_is_lost", "first_read_is_lost"}
+WAITING |= {"replies_are_held"}
 
 # What they answer hangs on how the commands are cut, or on what earlier processes have left: pasted into one more process their
 # conversation may have right answers. Those that wait have answered more commands than the conversation has.
 ANEW = {*WAITING, "reads_of_sixty_four", "trial_is_over"}
 ANEW |= {"old_game_is_a_book", "old_game_comes_back", "old_board_comes_back_at_undo", "old_moves_are_undone"}
+ANEW |= {"eleventh_start_fails"}
 
 
 def lessons_of(name, family):

@@ -4,10 +4,10 @@ import re
 from talks import Bug
 
 from . import captures, genmove, handicap, ids, ko, komi, later_games, lines
-from . import records, replies, restarts, sizes, suicide, turns, undo, unseen, unseen_games
+from . import later, records, replies, restarts, sizes, suicide, turns, undo, unseen, unseen_games
 
 FIRST = (replies, ids, lines, sizes, komi, captures, ko, suicide, turns)
-FAMILIES = (*FIRST, undo, handicap, genmove, records, later_games, restarts, unseen, unseen_games)
+FAMILIES = (*FIRST, undo, handicap, genmove, records, later_games, restarts, unseen, unseen_games, later)
 
 
 def name_of(bug):
