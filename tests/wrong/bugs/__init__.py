@@ -4,10 +4,11 @@ import re
 from talks import Bug
 
 from . import captures, genmove, handicap, ids, ko, komi, later_games, lines
-from . import later, records, replies, restarts, sizes, suicide, turns, undo, unseen, unseen_games
+from . import later, records, replies, restarts, sizes, suicide, third, third_games, turns, undo, unseen, unseen_games
 
 FIRST = (replies, ids, lines, sizes, komi, captures, ko, suicide, turns)
-FAMILIES = (*FIRST, undo, handicap, genmove, records, later_games, restarts, unseen, unseen_games, later)
+LAST = (unseen, unseen_games, later, third, third_games)
+FAMILIES = (*FIRST, undo, handicap, genmove, records, later_games, restarts, *LAST)
 
 
 def name_of(bug):
