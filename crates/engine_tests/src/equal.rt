@@ -26,3 +26,8 @@ pub fn assert_true(rt: &impl Abort, holds: bool)
 {
     assert!(rt; holds);
 }
+
+/// What is there.
+pub fn some<T>(rt: &impl Abort, found: Option<T>) -> T {
+    found.expect(rt, "nothing is there")
+}

@@ -1,4 +1,5 @@
-//! The tests of `gtp_session` and `gtp_examiner`. A crate with tests is proved twice, so they have a crate of their own.
+//! The tests of `go_board`, `gtp_session` and `gtp_examiner`. A crate with tests is proved twice, so they have a crate of
+//! their own.
 #![tactic(auto)]
 
 #[cfg(test)]

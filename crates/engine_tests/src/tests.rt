@@ -1,4 +1,5 @@
-//! Tests of sessions, and of the core of a check.
+//! Tests of the game, of sessions, and of the core of a check.
 
+mod board;
 mod examiner;
 mod sessions;

@@ -9,7 +9,7 @@ ghost use Rattle.clap.specs.declared.error.kind.ErrorKind.TheVariants.{OutOfMemo
 ghost use Rattle.clap.specs.declared.builder.value_parser.ValueParser.TheVariants as the_parser;
 ghost use Rattle.gtp_check.specs.Options.{Ask, AsksFor, HasFault, HasFlag, HasNumber, default_rule, flag_rule};
 ghost use Rattle.gtp_check.specs.Options.{is_named, ko_rule_named, lessons_named, lessons_of, list_rule, program};
-ghost use Rattle.gtp_check.specs.Options.{value_rule};
+ghost use Rattle.gtp_check.specs.Options.{value_rule, word_rule};
 ghost use Rattle.gtp_check.specs.private.CommandLine.{IsCommandLine, rule_of_row, with_options};
 
 use clap::builder::ValueParser;
@@ -287,15 +287,22 @@ fn command<'a>(alloc: Global) -> Result<Command<'a>, AllocError>
 fn program<'a>(alloc: Global) -> Result<Command<'a>, AllocError>
     ensures { IfOk result (λ command. app_of command ≡ program) }
 {
-    let engine = Arg::new(alloc, "CMD")
-        .value_name("CMD")
-        .help("Command of the engine, split at spaces");
     Command::new(alloc, "gtp_check")
         .version(VERSION)
         .about("Checks an engine of the Go Text Protocol, version 2, beside the rules of play")
         .after_help(AFTER_OPTIONS)
         .bin_name("gtp_check")?
-        .arg(engine)
+        .arg(engine_word(alloc))
+}
+
+/// The word for the engine's command.
+fn engine_word<'a>(alloc: Global) -> Arg<'a>
+    ensures rule { rule_of result ≡ word_rule (codes "CMD") }
+    ensures local { result.global ≡ false }
+{
+    Arg::new(alloc, "CMD")
+        .value_name("CMD")
+        .help("Command of the engine, split at spaces")
 }
 
 /// A command line, and the options of these rows after its own.

@@ -1,8 +1,8 @@
 //! A plain slow game to compare with: stones by column and row, chains and regions found by going over the board again
 //! and again, and each position kept.
-use crate::PlayFault;
 use arrayvec::ArrayVec;
 use go_base::{Colour, Move, Point, Vertex};
+use go_board::PlayFault;
 
 /// The most lines of a board.
 const LINES: usize = 7;

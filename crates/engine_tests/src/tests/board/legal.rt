@@ -2,9 +2,9 @@
 use super::plain::{MOVES, PlainGame};
 use super::{at, new_game_under};
 use crate::equal::{assert_equal, assert_equal_for, assert_true, some};
-use crate::{Game, KoRule, PlayFault};
 use arrayvec::ArrayVec;
 use go_base::{Colour, Move, Vertex};
+use go_board::{Game, KoRule, PlayFault};
 use rand_core::{Rng, SeedableRng};
 use rand_pcg::Pcg64;
 use std::process::Abort;

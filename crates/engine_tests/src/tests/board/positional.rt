@@ -1,7 +1,7 @@
 //! Positional ko: which plays it forbids that simple ko allows.
 use super::{new_game_under, play_all, read_move};
 use crate::equal::{assert_equal_for, assert_true};
-use crate::{KoRule, PlayFault};
+use go_board::{KoRule, PlayFault};
 use std::process::Abort;
 
 /// White takes one stone at B1 by A1, in a corner where Black can take back. Then both pass.

@@ -2,8 +2,8 @@
 use super::slow::SlowGame;
 use super::{at, new_game};
 use crate::equal::{assert_equal, assert_equal_for, assert_true};
-use crate::{Game, NothingToUndo, PlayFault};
 use go_base::{Colour, Move, Vertex};
+use go_board::{Game, NothingToUndo, PlayFault};
 use std::process::Abort;
 use std::test::Fail;
 

@@ -1,8 +1,8 @@
 //! Handicap stones, size and komi.
 use super::{assert_board, new_game, new_game_under, play_all};
 use crate::equal::{assert_equal, assert_equal_for, some};
-use crate::{Game, HandicapFault, KoRule, NothingToUndo};
 use go_base::{Colour, Komi, Size, Vertex};
+use go_board::{Game, HandicapFault, KoRule, NothingToUndo};
 use std::test::Fail;
 
 /// Places `stones` handicap stones, and returns how many points they have.

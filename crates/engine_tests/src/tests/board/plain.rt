@@ -1,9 +1,40 @@
 //! The game in its plainest form, to compare with: liberties by flood fill over the whole board, the ko test by
 //! comparing whole boards, all of which are kept, `undo` by playing the shorter record again.
-use crate::board::{Cell, PLACES, ROW, place_of};
-use crate::{KoRule, NothingToUndo, PlayFault};
 use arrayvec::ArrayVec;
 use go_base::{Colour, Move, Point, Vertex};
+use go_board::{KoRule, NothingToUndo, PlayFault};
+
+/// How many places a row has: its points and its edge.
+const ROW: usize = 26;
+
+/// How many places a board has: those of 25 rows, and of the edge below and above.
+const PLACES: usize = 27 * ROW;
+
+/// What a place holds.
+#[derive(Clone, Copy, PartialEq)]
+#[repr(u8)]
+enum Cell {
+    Edge,
+    Empty,
+    Black,
+    White,
+}
+
+impl Cell {
+    /// The stone of this colour.
+    fn stone(colour: Colour) -> Cell {
+        match colour {
+            Colour::Black => Cell::Black,
+            Colour::White => Cell::White,
+        }
+    }
+}
+
+/// The place of a point.
+fn place_of(point: Point) -> usize {
+    ROW.wrapping_mul(point.row() as usize)
+        .wrapping_add(point.column() as usize)
+}
 
 /// The most moves of a game.
 pub const MOVES: usize = 200;

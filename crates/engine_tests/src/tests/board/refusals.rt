@@ -1,8 +1,8 @@
 //! Which cause a play is refused for.
 use super::{new_game, play_all, read_move};
 use crate::equal::{assert_equal, assert_equal_for};
-use crate::{Game, HandicapFault, NothingToUndo, PlayFault};
 use go_base::{Colour, Move, Vertex};
+use go_board::{Game, HandicapFault, NothingToUndo, PlayFault};
 use std::process::Abort;
 use std::test::Fail;
 
