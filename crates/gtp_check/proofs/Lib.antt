@@ -1,11 +1,11 @@
 mod CommandLine
 mod CommandWords
-mod Complaining
 mod Conversations
 mod Gathering
 mod Joining
 mod LessonLoops
 mod Running
+mod Settling
 mod Shortening
 mod Talks
 mod Turning

@@ -2,6 +2,8 @@
 #![tactic(auto)]
 
 mod check;
+mod closing;
+mod complaining;
 mod complaint;
 mod engine;
 #[cfg(test)]

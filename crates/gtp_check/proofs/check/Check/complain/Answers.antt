@@ -5,7 +5,7 @@ use Rattle.gtp_check.specs.Complaints.{complaint_lines}
 use Rattle.gtp_check.specs.Dialogues.{wrong_of}
 use Rattle.gtp_check.specs.Turns.{State, state}
 use Rattle.gtp_check.specs.private.Steps.{complaint_broke, complaint_refused}
-use Rattle.gtp_check.proofs.Complaining.{complained, is_hidden}
+use Rattle.gtp_check.proofs.Settling.{complained, is_hidden}
 use Rattle.gtp_check.proofs.Gathering.{where_err, where_ok}
 use Rattle.gtp_check.proofs.Shortening.{shortens_asks}
 use Rattle.gtp_check.proofs.check.Check.complain.Goals as goal
