@@ -1,6 +1,7 @@
 mod CommandLine
 mod CommandWords
 mod Conversations
+mod Games
 mod Gathering
 mod Joining
 mod LessonLoops
@@ -8,4 +9,5 @@ mod Running
 mod Settling
 mod Shortening
 mod Talks
+mod Trials
 mod Turning

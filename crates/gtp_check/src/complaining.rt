@@ -1,10 +1,11 @@
 //! Something is wrong with the engine: it is ended, and a complaint is written.
-ghost use Rattle.std.specs.Prelude.{◌≡◌, ◌⊎◌, None, IfErr, IfOk, IfSome, IsSome, OnOk, option_map};
+ghost use Rattle.std.specs.Prelude.{◌≡◌, ◌<◌, ◌⊎◌, true, false, None, IfErr, IfOk, IfSome, IsSome, OnOk, option_map};
 ghost use Rattle.byte_streams.specs.Writing.{BreaksAt, GoesOut};
 ghost use Rattle.gtp_process.specs.Starts.{program_line};
 ghost use Rattle.gtp_check.specs.Complaints.{complaint_lines};
 ghost use Rattle.gtp_check.specs.Dialogues.{AsksForMore, wrong_of};
-ghost use Rattle.gtp_check.specs.Turns.{Closes, IsComplaint, Shortens, state};
+ghost use Rattle.gtp_check.specs.Shortening.{shortenings};
+ghost use Rattle.gtp_check.specs.Turns.{Closes, IsComplaint, Shortens, TriesShorter, state};
 ghost use Rattle.gtp_check.specs.private.Steps.{ComplaintGoesOut, ComplaintStops};
 ghost use Rattle.gtp_check.specs.declared.complaint.Complaint.{Complaint};
 ghost use Rattle.gtp_check.specs.declared.failure.Failure.TheVariants as failure;
@@ -13,7 +14,7 @@ use crate::check::Check;
 use crate::complaint::{Complaint, complaint_text};
 use crate::engine::Fault;
 use crate::failure::Failure;
-use crate::flat::{Shortening, shortened};
+use crate::flat::{Shortening, games_in, shortened, shortenings};
 use crate::plan::Plan;
 use crate::superko::is_positional;
 use crate::trial::{Tried, try_commands};
@@ -24,7 +25,7 @@ use gtp_examiner::Kind;
 use gtp_process::{Process, Starter};
 
 /// A conversation of so many commands isn't shortened.
-const SHORT: usize = 20;
+const FEW_COMMANDS: usize = 20;
 
 impl<S: Starter> Check<S> {
     /// Something is wrong with the engine, which is ended. The complaint is written, unless its like was shown often
@@ -94,10 +95,10 @@ impl<S: Starter> Check<S> {
         output: &mut O,
     ) -> Result<(), Failure>
         ensures goes_out { OnOk result ((complaint : Complaint)
-            × IsComplaint self.old.tally.complaints lesson (wrong_of found.now) complaint
+            × IsComplaint plan.now.rule self.old.tally.complaints lesson (wrong_of found.now) complaint
             × GoesOut O.WriteOnce (complaint_lines complaint) output.old output.new) }
         ensures broke { IfErr result (λ why. why ≡ failure.Write → (complaint : Complaint)
-            × IsComplaint self.old.tally.complaints lesson (wrong_of found.now) complaint
+            × IsComplaint plan.now.rule self.old.tally.complaints lesson (wrong_of found.now) complaint
             × BreaksAt O.WriteOnce (complaint_lines complaint) output.old output.new) }
         ensures refused { IfErr result (λ why. (why ≡ failure.Write)
             ⊎ ((why ≡ failure.OutOfMemory) × (output.new ≡ output.old))) }
@@ -111,7 +112,7 @@ impl<S: Starter> Check<S> {
         Ok(())
     }
 
-    /// A shorter conversation with the same end, if one is found: it is tried on a new engine.
+    /// A shorter conversation with the same end, if one is found: they are tried one after the other.
     fn shorter(
         &mut self,
         found: &Tried,
@@ -121,49 +122,84 @@ impl<S: Starter> Check<S> {
         ensures shortens { let before = state self.old.examiner self.old.course self.old.engine self.old.tally self.old.notes in
             let after = state self.new.examiner self.new.course self.new.engine self.new.tally self.new.notes in
             IfOk result (λ shorter. Shortens S.Process.Process plan.now
-            (wrong_of found.now) before (S.asked starter.old) (option_map wrong_of shorter)
-            after (S.asked starter.new)) }
+            (wrong_of found.now) shortenings before (S.asked starter.old)
+            (option_map wrong_of shorter) after (S.asked starter.new)) }
+        ensures refused { IfErr result (λ why. (why ≡ failure.OutOfMemory)
+            × AsksForMore (program_line plan.now.words.items)
+            (S.asked starter.old) (S.asked starter.new)) }
+        ensures engine { self.new.engine ≡ self.old.engine }
+    {
+        let all = shortenings();
+        for shortening in &all {
+            if let Some(shorter) = self.try_shorter(found, *shortening, plan, starter)? {
+                return Ok(Some(shorter));
+            }
+        }
+        Ok(None)
+    }
+
+    /// One shorter conversation is tried on a new engine, where it may be. It is returned where it has the same end.
+    fn try_shorter(
+        &mut self,
+        found: &Tried,
+        shortening: Shortening,
+        plan: &Plan<'_>,
+        starter: &mut S,
+    ) -> Result<Option<Tried>, Failure>
+        ensures tries { let before = state self.old.examiner self.old.course self.old.engine self.old.tally self.old.notes in
+            let after = state self.new.examiner self.new.course self.new.engine self.new.tally self.new.notes in
+            IfOk result (λ shorter. TriesShorter S.Process.Process plan.now
+            (wrong_of found.now) shortening before (S.asked starter.old)
+            (option_map wrong_of shorter) after (S.asked starter.new)) }
         ensures refused { IfErr result (λ why. (why ≡ failure.OutOfMemory)
             × AsksForMore (program_line plan.now.words.items)
             (S.asked starter.old) (S.asked starter.new)) }
         ensures engine { self.new.engine ≡ self.old.engine }
     {
         let talk = found.conversation();
-        if talk.len() <= SHORT {
+        if talk.len() <= FEW_COMMANDS || games_in(talk) <= shortening.more_than {
             return Ok(None);
         }
-        for shortening in [Shortening::LastGame, Shortening::LastBoard] {
-            let commands = shortened(self.alloc, talk, shortening)?;
-            if commands.len() >= talk.len()
-                || !self.examiner.may_start()
-                || !self.tally.take_start()
-            {
-                continue;
-            }
-            let tried = try_commands(
-                self.alloc,
-                starter,
-                plan.words.as_slice(),
-                &mut self.examiner,
-                commands.as_slice(),
-                found.purpose(),
-                &mut self.room,
-                &mut self.notes,
-            )?;
-            if let Some(tried) = tried {
-                if tried.ends_like(found) {
-                    return Ok(Some(tried));
-                }
-            }
+        let commands = shortened(self.alloc, talk, shortening)?;
+        if commands.len() >= talk.len() || !self.has_start() {
+            return Ok(None);
         }
-        Ok(None)
+        self.tally.take_start();
+        let tried = try_commands(
+            self.alloc,
+            starter,
+            plan.words.as_slice(),
+            &mut self.examiner,
+            commands.as_slice(),
+            found.purpose(),
+            &mut self.room,
+            &mut self.notes,
+        )?;
+        let Some(tried) = tried else {
+            return Ok(None);
+        };
+        if tried.ends_like(found) {
+            Ok(Some(tried))
+        } else {
+            Ok(None)
+        }
+    }
+
+    /// Whether a start is left for a trial.
+    fn has_start(&self) -> bool
+        ensures yes { result ≡ true → (self.now.examiner.starts < self.now.examiner.most_starts)
+            × (0 < self.now.tally.starts_left) }
+        ensures no { result ≡ false → self.now.examiner.starts < self.now.examiner.most_starts
+            → 0 < self.now.tally.starts_left → ⊥ }
+    {
+        self.examiner.may_start() && self.tally.starts_left > 0
     }
 }
 
 /// The complaint of this number about a conversation that ended with something wrong in a lesson. Only where a right
 /// engine is under simple ko positional ko can explain a refusal.
 fn complaint_of(number: u32, lesson: Lesson, found: &Tried, rule: KoRule) -> Complaint<'_>
-    ensures { IsComplaint number lesson (wrong_of found.now) result }
+    ensures { IsComplaint rule number lesson (wrong_of found.now) result }
 {
     Complaint {
         number,
