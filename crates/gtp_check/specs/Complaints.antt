@@ -13,6 +13,7 @@ use Rattle.gtp_process.specs.Shown.{ending_text, quoted}
 use Rattle.gtp_process.specs.declared.starter.Ending.{Ending}
 use Rattle.gtp_wire.specs.Replies.{most_shown}
 use Rattle.gtp_check.specs.Kinds.{fault_text}
+use Rattle.gtp_check.specs.Answers.{before_rule, right_answer}
 use Rattle.gtp_check.specs.Rules.{rule_text}
 use Rattle.gtp_check.specs.declared.complaint.Complaint.{Complaint}
 use Rattle.gtp_check.specs.declared.engine.Fault.{Fault}
@@ -78,9 +79,17 @@ rule_of complaint true = codes "a reply ends with two newlines"
 rule_of complaint false =
     rule_text complaint.fault (option_map (λ said. said.command) (slice_get complaint.talk.now complaint.answered))
 
+-- what a right engine answers, where that is shown
+abbrev pub answer_of : Complaint → List ℕ
+answer_of complaint =
+    right_answer complaint.fault
+    (option_map (λ said. said.command) (slice_get complaint.talk.now complaint.answered))
+    (take complaint.answered complaint.talk.now)
+
 abbrev pub rule_line : Complaint → List ℕ
 rule_line complaint = concat (
-    codes "# right: " ∷ rule_of complaint (is_within complaint.fault complaint.wrote.now) ∷ codes "\n" ∷ [])
+    codes "# right: " ∷ before_rule (answer_of complaint) ∷
+    rule_of complaint (is_within complaint.fault complaint.wrote.now) ∷ codes "\n" ∷ [])
 
 -- That so many commands were sent after the faulty one, before it was answered. One that was sent later isn't at fault.
 -- (No more than 2 ^ 32 - 1 are counted.)

@@ -4,10 +4,13 @@ ghost use Rattle.go_base.specs.Bytes.{newline};
 ghost use Rattle.std.specs.Io.BufRead.{strip_last};
 ghost use Rattle.gtp_process.specs.Shown.{quoted};
 ghost use Rattle.gtp_wire.specs.Replies.{most_shown};
+ghost use Rattle.gtp_check.specs.Answers.{before_rule};
+ghost use Rattle.gtp_check.specs.Complaints.{answer_of};
 ghost use Rattle.gtp_check.specs.Complaints.{ahead_line, commands_after, complaint_lines, conversation, ended_text};
 ghost use Rattle.gtp_check.specs.Complaints.{faulty_line, head_line, is_within, ko_line, line_end, line_start};
 ghost use Rattle.gtp_check.specs.Complaints.{rule_line, rule_of, within_text, wrote_line};
 
+use crate::answers::{ANSWER_ROOM, right_answer};
 use crate::engine::Fault;
 use crate::kinds::fault_text;
 use crate::rules::rule_text;
@@ -121,6 +124,18 @@ impl<'t> Complaint<'t> {
         rule_text(self.fault, command)
     }
 
+    /// What a right engine answers, where that is shown.
+    fn answer(&self) -> ArrayVec<u8, ANSWER_ROOM>
+        ensures { result.items ≡ answer_of self.now }
+    {
+        let command = self.talk.get(self.answered).map(|said| said.command);
+        right_answer(
+            self.fault,
+            command,
+            &self.talk[..self.answered.min(self.talk.len())],
+        )
+    }
+
     /// How many commands were sent after it.
     fn commands_after(&self) -> usize
         ensures { result ≡ commands_after self.now }
@@ -216,7 +231,19 @@ fn beginning(wrote: &[u8]) -> &[u8]
 fn add_rule(text: &mut Vec<u8>, complaint: &Complaint<'_>) -> Result<(), AllocError>
     ensures { OnOk result (text.new.items ≡ text.old.items ++ rule_line complaint.now) }
 {
-    add_all(text, &[b"# right: ", complaint.rule(), b"\n"])
+    text.extend_from_slice(b"# right: ")?;
+    add_answer(text, &complaint.answer())?;
+    add_all(text, &[complaint.rule(), b"\n"])
+}
+
+/// What a right engine answers, if that is known.
+fn add_answer(text: &mut Vec<u8>, answer: &[u8]) -> Result<(), AllocError>
+    ensures { OnOk result (text.new.items ≡ text.old.items ++ before_rule answer.now) }
+{
+    if answer.is_empty() {
+        return Ok(());
+    }
+    add_all(text, &[answer, b"; "])
 }
 
 /// The line of how many commands were sent after the faulty one, where there are any.

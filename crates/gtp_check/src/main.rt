@@ -1,6 +1,7 @@
 //! Checks one engine that speaks the Go Text Protocol, version 2.
 #![tactic(auto)]
 
+mod answers;
 mod check;
 mod closing;
 mod complaining;

@@ -22,7 +22,7 @@ fn by(colour: Colour, vertex: &str) -> CheckCommand {
 }
 
 /// The size is set.
-fn size(number: u32) -> CheckCommand {
+pub fn size(number: u32) -> CheckCommand {
     match Size::new(number) {
         Some(size) => CheckCommand::Match(Command::Boardsize(size)),
         None => CheckCommand::Name,
@@ -30,7 +30,7 @@ fn size(number: u32) -> CheckCommand {
 }
 
 /// Komi is set.
-fn komi(half_points: i32) -> CheckCommand {
+pub fn komi(half_points: i32) -> CheckCommand {
     match Komi::from_half_points(half_points) {
         Some(komi) => CheckCommand::Match(Command::Komi(komi)),
         None => CheckCommand::Name,
@@ -38,11 +38,7 @@ fn komi(half_points: i32) -> CheckCommand {
 }
 
 /// A conversation of these commands, of which that with this number is a `play` that a right engine refuses.
-fn talk(
-    alloc: Global,
-    commands: &[CheckCommand],
-    refused: usize,
-) -> Result<Vec<Said>, AllocError> {
+fn talk(alloc: Global, commands: &[CheckCommand], refused: usize) -> Result<Vec<Said>, AllocError> {
     let mut talk = Vec::new(alloc);
     for (number, command) in commands.iter().enumerate() {
         talk.extend_from_slice(&[Said {
@@ -64,10 +60,15 @@ fn is(commands: &Commands, wanted: &[CheckCommand]) -> bool {
 }
 
 const CLEAR: CheckCommand = CheckCommand::Match(Command::ClearBoard);
+
 const UNDO: CheckCommand = CheckCommand::Match(Command::Undo);
+
 const GENMOVE: CheckCommand = CheckCommand::Match(Command::Genmove(Colour::White));
+
 const SCORE: CheckCommand = CheckCommand::FinalScore;
+
 const UNDO_IS_KNOWN: CheckCommand = CheckCommand::KnownCommand(Known::Undo);
+
 const SCORE_IS_KNOWN: CheckCommand = CheckCommand::KnownCommand(Known::FinalScore);
 
 #[test]
