@@ -26,12 +26,12 @@ pub left_after : (said : Said) (later : List Said) (left next : ℕ) (clear : Bo
 left_after said later left next true now is next-is =
     let one = sum_by-cons (λ (one : Said). cond (is_clear (role_of one)) 1 0) said later in
     let more : left ≡ 1 + games_in later =
-        now ∙ one ∙ ap (λ (b : Bool). cond b 1 0 + games_in later) (sym is) in
+    now ∙ one ∙ ap (λ (b : Bool). cond b 1 0 + games_in later) (sym is) in
     next-is ∙ omega arith
 left_after said later left next false now is next-is =
     let one = sum_by-cons (λ (one : Said). cond (is_clear (role_of one)) 1 0) said later in
     let same : left ≡ 0 + games_in later =
-        now ∙ one ∙ ap (λ (b : Bool). cond b 1 0 + games_in later) (sym is) in
+    now ∙ one ∙ ap (λ (b : Bool). cond b 1 0 + games_in later) (sym is) in
     next-is ∙ omega arith
 
 start_by : (games : ℕ) (said : Said) (later : List Said) (few : Bool) → few ≡ nat_lt (games_in later) games

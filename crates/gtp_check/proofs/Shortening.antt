@@ -111,8 +111,8 @@ pub found_here : {P : Type 0} (known : Ghosts P) (plan : Plan) (found : Wrong) (
 found_here {P} known plan found first asked all index other mid between within none_before {tried = tried} {after = after}
     {has = has} tries =
     let parts : take index all ++ get_or all index other ∷ drop (index + 1) all ≡ all =
-        sym (at_drop_more (λ (rest : List Shortening). take index all ++ rest) all index other within)
-        ∙ take-append-drop index all in
+    sym (at_drop_more (λ (rest : List Shortening). take index all ++ rest) all index other within)
+    ∙ take-append-drop index all in
     subst (λ (list : List Shortening). Shortens known plan found list first asked (Some tried) after has) parts
     (missed_then known plan found first asked none_before (get_or all index other ∷ drop (index + 1) all)
     (shortened_so tries))

@@ -201,7 +201,10 @@ fn flat(alloc: Global, talk: &[Said]) -> Result<Commands, AllocError>
     for done in 0..talk.len() {
         let said = talk[talk.len() - 1 - done];
         let role = role_of(&said);
-        add_if(&mut commands, stays(role, taken_back).then_some(said.command))?;
+        add_if(
+            &mut commands,
+            stays(role, taken_back).then_some(said.command),
+        )?;
         taken_back = taken_by(role, taken_back);
     }
     commands.reverse();
@@ -246,11 +249,7 @@ fn with_needed(alloc: Global, commands: &[CheckCommand]) -> Result<Commands, All
 }
 
 /// One of these `known_command`, where it is needed.
-fn add_needed(
-    all: &mut Commands,
-    commands: &[CheckCommand],
-    known: Known,
-) -> Result<(), AllocError>
+fn add_needed(all: &mut Commands, commands: &[CheckCommand], known: Known) -> Result<(), AllocError>
     ensures { OnOk result (all.new.items ≡ all.old.items ++ needed_for commands.now known) }
 {
     let command = CheckCommand::KnownCommand(known);

@@ -34,10 +34,7 @@ pub fn is_positional(talk: &[Said]) -> bool
 fn is_ko(game: &Game, made: Move) -> bool
     ensures { IsTrue result ↔ RefusesVertex game.now made.colour made.vertex fault.Ko }
 {
-    matches!(
-        game.refusal(made.colour, made.vertex),
-        Some(PlayFault::Ko)
-    )
+    matches!(game.refusal(made.colour, made.vertex), Some(PlayFault::Ko))
 }
 
 /// The game under positional ko of an engine that was given nothing.

@@ -38,11 +38,7 @@ fn komi(half_points: i32) -> CheckCommand {
 }
 
 /// A conversation of these commands, of which that with this number is a `play` that a right engine refuses.
-fn talk(
-    alloc: Global,
-    commands: &[CheckCommand],
-    refused: usize,
-) -> Result<Vec<Said>, AllocError> {
+fn talk(alloc: Global, commands: &[CheckCommand], refused: usize) -> Result<Vec<Said>, AllocError> {
     let mut talk = Vec::new(alloc);
     for (number, command) in commands.iter().enumerate() {
         talk.extend_from_slice(&[Said {
@@ -64,10 +60,15 @@ fn is(commands: &Commands, wanted: &[CheckCommand]) -> bool {
 }
 
 const CLEAR: CheckCommand = CheckCommand::Match(Command::ClearBoard);
+
 const UNDO: CheckCommand = CheckCommand::Match(Command::Undo);
+
 const GENMOVE: CheckCommand = CheckCommand::Match(Command::Genmove(Colour::White));
+
 const SCORE: CheckCommand = CheckCommand::FinalScore;
+
 const UNDO_IS_KNOWN: CheckCommand = CheckCommand::KnownCommand(Known::Undo);
+
 const SCORE_IS_KNOWN: CheckCommand = CheckCommand::KnownCommand(Known::FinalScore);
 
 #[test]

@@ -32,9 +32,8 @@ loop-index-preserved g c =
 pub returns-clause-first : goal.returns-clause-first
 returns-clause-first g c =
     let same : c.loop-index.index ≡ length c.args.commands.now =
-        omega (arith, c.loop-index.auto.index-end, c.loop-index-test.false) in
-    (
+    omega (arith, c.loop-index.auto.index-end, c.loop-index-test.false) in (
       omega arith,
       c.loop-index.invariant.first
-      ∙ ap (λ (n : ℕ). commands_of c.args.engine.now.talk.items ++ take n c.args.commands.now) same,
+          ∙ ap (λ (n : ℕ). commands_of c.args.engine.now.talk.items ++ take n c.args.commands.now) same,
     )

@@ -12,9 +12,9 @@ use Rattle.gtp_check.proofs.check.Check.try_shorter.Goals.{then-len-talk-via-the
 pub returns-then-talk-le-FEW_COMMANDS-clause-tries : goal.returns-then-talk-le-FEW_COMMANDS-clause-tries
 returns-then-talk-le-FEW_COMMANDS-clause-tries g c =
     let same : length c.conversation-talk.result.now ≡ length (wrong_talk (wrong_of c.args.found.now)) =
-        ap length c.conversation-talk.ensures in
+    ap length c.conversation-talk.ensures in
     let games : games_in c.conversation-talk.result.now ≡ games_in (wrong_talk (wrong_of c.args.found.now)) =
-        ap games_in c.conversation-talk.ensures in
+    ap games_in c.conversation-talk.ensures in
     TriesShorter.left_out (λ may. elim c.then-talk-le-FEW_COMMANDS.branch [
       | then-talk-le-FEW_COMMANDS-via-then-talk-le-FEW_COMMANDS w ↦
           omega (arith, may.long, w.if-talk-le-FEW_COMMANDS.true, same)
@@ -31,10 +31,10 @@ returns-in_err-commands-clause-refused g c =
 pub returns-then-len-talk-clause-tries : goal.returns-then-len-talk-clause-tries
 returns-then-len-talk-clause-tries g c =
     let same : length c.conversation-talk.result.now ≡ length (wrong_talk (wrong_of c.args.found.now)) =
-        ap length c.conversation-talk.ensures in
+    ap length c.conversation-talk.ensures in
     let size : length c.in_ok-commands.commands.items
-        ≡ length (shortened c.args.shortening (wrong_talk (wrong_of c.args.found.now))) =
-        ap length (c.in_ok-commands.ensures ∙ ap (shortened c.args.shortening) c.conversation-talk.ensures) in
+    ≡ length (shortened c.args.shortening (wrong_talk (wrong_of c.args.found.now))) =
+    ap length (c.in_ok-commands.ensures ∙ ap (shortened c.args.shortening) c.conversation-talk.ensures) in
     TriesShorter.left_out (λ may. elim c.then-len-talk.branch [
       | then-len-talk-via-then-len-talk w ↦
           omega (arith, may.shorter, w.if-len-talk.true, c.len.ensures, same, size)
