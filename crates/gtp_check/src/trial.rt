@@ -130,7 +130,7 @@ fn ask_all<P: Process>(
     let mut rest = commands;
     for _exchange in 0..MOST_EXCHANGES {
         let asked = ask_some(engine, examiner, rest, purpose, notes)?;
-        rest = &rest[asked..];
+        rest = rest.split_at(asked).1;
         if examiner.unanswered() == 0 {
             // All was answered, or the next command may not be asked in this game.
             return Ok(None);

@@ -1,5 +1,4 @@
 use Rattle.std.proofs.Common.{◌≡◌, ◌∙◌, ap, refl, List, ◌++◌, drop}
-use Rattle.std.proofs.lemmas.List.{take_rest}
 use Rattle.gtp_check.specs.declared.talk.Said.{Said}
 use Rattle.gtp_check.specs.Dialogues.{begins, dialogue, exchanges}
 use Rattle.gtp_check.specs.Shortening.{commands_of}
@@ -57,14 +56,14 @@ loop-exchange-preserved g c =
           (with_another c.args.examiner.now c.loop-exchange.examiner c.ask_some.new.examiner before.check
           c.ask_some.ensures.check)
           c.exchange.ensures.check;
-      first = λ none. rw (take_rest c.loop-exchange.rest.now c.in_ok-asked.asked)
-          (ap (λ (talk : List Said). commands_of talk ++ drop c.in_ok-asked.asked c.loop-exchange.rest.now)
+      first = λ none.
+          ap (λ (talk : List Said). commands_of talk ++ c.split_at.result.1.now)
           (exchanged_talk g.P.Process c.ask_some.new.examiner.exam (dialogue c.ask_some.new.engine c.ask_some.new.notes)
           {after = dialogue c.exchange.new.self c.exchange.new.notes} c.in_default.ensures.exchanged)
           ∙ some_more_of (commands_of c.loop-exchange.engine.talk.items)
           (commands_of c.ask_some.new.engine.talk.items) c.loop-exchange.rest.now
-          (drop c.in_ok-asked.asked c.loop-exchange.rest.now) c.args.commands.now c.in_ok-asked.asked
-          (before.first none) c.in_ok-asked.ensures.first.1 refl);
+          c.split_at.result.1.now c.args.commands.now c.in_ok-asked.asked (before.first none)
+          c.in_ok-asked.ensures.first.1 c.split_at.ensures.back;
     }
 
 pub returns-clause-first : goal.returns-clause-first
