@@ -20,6 +20,7 @@ NO_ID = "a reply without the id of the command"
 NO_END = "no end of a reply in 8192 bytes"
 TAKEN = "it was taken"
 ENDED = "its output ended, "
+WITHIN = "its output ended within a reply, "
 NO_VERTEX = "neither a vertex nor resign"
 
 # Nothing that they write is a right answer, so there are three starts: the first command is answered wrongly each time.
@@ -34,8 +35,8 @@ FRUITLESS = {
     "no_id": NO_ID,
     "newlines_without_end": NO_END,
     "a_reply_without_end": NO_END,
-    "half_a_reply": ENDED + "exit status 0",
-    "all_but_the_last_newline": ENDED + "exit status 0",
+    "half_a_reply": WITHIN + "exit status 0",
+    "all_but_the_last_newline": WITHIN + "exit status 0",
 }
 # Their answer to `name` is right. What they write to the second command has the first one's id.
 SECOND = {"old_id": NO_ID, "twice": NO_ID, "replies_without_end": NO_ID}
@@ -46,8 +47,8 @@ POLITE = """move_exits move_half move_without_its_end move_twice move_closes_its
 # What they do at their move: the command, what is wrong, how many commands each start has, on 5x5, 9x9, 1x1 and 2x2
 MOVES = {
     "move_exits": ("9 genmove b", ENDED + "exit status 0", (9, 9, 9, 9)),
-    "move_half": ("9 genmove b", ENDED + "exit status 0", (9, 9, 9, 9)),
-    "move_without_its_end": ("9 genmove b", ENDED + "exit status 0", (9, 9, 9, 9)),
+    "move_half": ("9 genmove b", WITHIN + "exit status 0", (9, 9, 9, 9)),
+    "move_without_its_end": ("9 genmove b", WITHIN + "exit status 0", (9, 9, 9, 9)),
     "move_twice": ("10 genmove w", NO_ID, (10, 10, 10, 10)),
     "move_sleeps_closed": ("9 genmove b", ENDED + "signal 9", (9, 9, 9, 9)),
     "no_move": ("9 genmove b", "no move: the genmove failed", (9, 9, 9, 9)),
@@ -80,7 +81,7 @@ def rows():
     yield "play_refused_once", START, "play_refused_once", ("9 play b E5", "it was refused", 1, 9)
     yield "undo_refused", START, "undo_refused", ("10 undo", "it was refused", 1, 10)
     yield "undo_exits", START, "undo_exits", ("10 undo", ENDED + "exit status 0", 1, 10)
-    yield "play_half", START, "play_half", ("9 play b E5", ENDED + "exit status 0", 1, 9)
+    yield "play_half", START, "play_half", ("9 play b E5", WITHIN + "exit status 0", 1, 9)
     for kind, (line, fault, counts) in MOVES.items():
         yield f"{kind}, at its move", OWN, kind, (line, fault, 4, sum(counts))
     # No answer comes: the program waits, and `timeout` ends the engine. Its status is 124 then.

@@ -56,7 +56,7 @@ def is_real(complaint, name, folder):
     wrote, status = pasted([*words, "--bug", name], complaint.lines, folder)
     if wrote is None or not wrote.startswith(complaint.wrote):
         return f"pasted, the engine writes {wrote!r}, and not {complaint.wrote!r}"
-    cut = re.fullmatch("its output ended, (.*)", complaint.fault)
+    cut = re.fullmatch("its output ended(?: within a reply)?, (.*)", complaint.fault)
     if cut and (wrote != complaint.wrote or ending(status) != cut[1]):
         return f"pasted, the engine writes {wrote!r} and ends by {ending(status)}"
     if any("genmove" in line for line in complaint.lines[:-1]):

@@ -1,11 +1,13 @@
 mod CommandLine
 mod CommandWords
-mod Complaining
 mod Conversations
+mod Games
 mod Gathering
 mod Joining
 mod LessonLoops
 mod Running
+mod Settling
 mod Shortening
 mod Talks
+mod Trials
 mod Turning

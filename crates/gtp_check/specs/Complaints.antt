@@ -13,10 +13,12 @@ use Rattle.gtp_process.specs.Shown.{ending_text, quoted}
 use Rattle.gtp_process.specs.declared.starter.Ending.{Ending}
 use Rattle.gtp_wire.specs.Replies.{most_shown}
 use Rattle.gtp_check.specs.Kinds.{fault_text}
+use Rattle.gtp_check.specs.Answers.{before_rule, right_answer}
 use Rattle.gtp_check.specs.Rules.{rule_text}
 use Rattle.gtp_check.specs.declared.complaint.Complaint.{Complaint}
 use Rattle.gtp_check.specs.declared.engine.Fault.{Fault}
 use Rattle.gtp_check.specs.declared.engine.Fault.TheVariants.{Wrote, CutOff}
+use Rattle.gtp_process.specs.declared.causes.PipeCause.TheVariants.{Ended}
 
 -- ---- the conversation
 
@@ -44,6 +46,16 @@ commands_after complaint = length complaint.talk.now - complaint.answered - 1
 
 -- ---- the lines
 
+-- Its output ended within a reply: that is what was wrong, and it had written something since its last whole reply.
+abbrev pub is_within : Fault → List ℕ → Bool
+is_within (CutOff Ended) (byte ∷ more) = true
+is_within _ _ = false
+
+-- that it was within a reply
+abbrev pub within_text : Bool → List ℕ
+within_text true = codes " within a reply"
+within_text false = []
+
 -- how the process ended, where that is what was wrong
 abbrev pub ended_text : Fault → Ending → List ℕ
 ended_text (Wrote kind) ending = []
@@ -54,18 +66,30 @@ abbrev pub head_line : Complaint → List ℕ
 head_line complaint = concat (
     codes "# " ∷ decimal complaint.number ∷ codes " " ∷ name_of complaint.lesson ∷
     codes ": \"" ∷ faulty_line complaint ∷ codes "\": " ∷
-    fault_text complaint.fault ∷ ended_text complaint.fault complaint.ending ∷ codes "\n" ∷ [])
+    fault_text complaint.fault ∷ within_text (is_within complaint.fault complaint.wrote.now) ∷
+    ended_text complaint.fault complaint.ending ∷ codes "\n" ∷ [])
 
 -- the beginning of what the engine wrote
 abbrev pub wrote_line : List ℕ → List ℕ
 wrote_line bytes = concat (codes "# it wrote: " ∷ quoted (take most_shown bytes) ∷ codes "\n" ∷ [])
 
 -- what a right engine answers, and the rule that says so
+abbrev pub rule_of : Complaint → Bool → List ℕ
+rule_of complaint true = codes "a reply ends with two newlines"
+rule_of complaint false =
+    rule_text complaint.fault (option_map (λ said. said.command) (slice_get complaint.talk.now complaint.answered))
+
+-- what a right engine answers, where that is shown
+abbrev pub answer_of : Complaint → List ℕ
+answer_of complaint =
+    right_answer complaint.fault
+    (option_map (λ said. said.command) (slice_get complaint.talk.now complaint.answered))
+    (take complaint.answered complaint.talk.now)
+
 abbrev pub rule_line : Complaint → List ℕ
 rule_line complaint = concat (
-    codes "# right: " ∷
-    rule_text complaint.fault (option_map (λ said. said.command) (slice_get complaint.talk.now complaint.answered)) ∷
-    codes "\n" ∷ [])
+    codes "# right: " ∷ before_rule (answer_of complaint) ∷
+    rule_of complaint (is_within complaint.fault complaint.wrote.now) ∷ codes "\n" ∷ [])
 
 -- That so many commands were sent after the faulty one, before it was answered. One that was sent later isn't at fault.
 -- (No more than 2 ^ 32 - 1 are counted.)

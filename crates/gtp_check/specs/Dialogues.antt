@@ -34,6 +34,7 @@ use Rattle.gtp_check.specs.declared.talk.Purpose.{Purpose}
 use Rattle.gtp_check.specs.declared.talk.Said.{Said}
 use Rattle.gtp_check.specs.declared.trial.Tried.{Tried}
 use Rattle.gtp_check.specs.Notes.{counted, noted}
+use Rattle.gtp_check.specs.Shortening.{commands_of}
 
 -- ---- an engine that was started
 
@@ -261,6 +262,10 @@ wrong_with fault exam engine ending = record {
   ending = ending;
 }
 
+-- what was asked up to and with the command that was answered wrongly
+abbrev pub wrong_talk : Wrong → List Said
+wrong_talk wrong = take (wrong.answered + 1) wrong.talk
+
 -- what the command that was answered wrongly was asked for, if there is one
 abbrev pub purpose_of : Option Said → Purpose
 purpose_of None = record { lesson = lesson.Start; part = 0 }
@@ -290,20 +295,24 @@ pub data AsksForMore {P : Type 0} (line : List Text) (before : Attempts P) : Att
   one_more : {mid after : Attempts P} (answer : Result P StartFault) → AsksForMore line before mid
       → Tries mid after line answer → AsksForMore line before after
 
+-- an engine was asked the first of these commands, in their order
+abbrev pub AsksFirst : List CheckCommand → List Said → Type 0
+AsksFirst commands talk = commands_of talk ≡ take (length talk) commands
+
 -- A conversation was tried on an engine that was asked for by this command line. It wasn't started. Or it was, and asked
--- commands, and then nothing was wrong, or this was; and its process ended.
-pub data IsTrial {P : Type 0} (known : Ghosts P) (line : List Text) (old : Check) (had : Attempts P)
-    (first : Notes) : Option Wrong → Check → Attempts P → Notes → Type 0 where
+-- the first of these commands, and then nothing was wrong, or this was; and its process ended.
+pub data IsTrial {P : Type 0} (known : Ghosts P) (line : List Text) (commands : List CheckCommand) (old : Check)
+    (had : Attempts P) (first : Notes) : Option Wrong → Check → Attempts P → Notes → Type 0 where
   unstarted : {has : Attempts P} (reason : StartReason) → Tries had has line (Err (start_fault.NotStarted reason))
-      → IsTrial known line old had first None old has first
+      → IsTrial known line commands old had first None old has first
   right : {has : Attempts P} {exam : Exam} {engine : Dialogue P} (process : P) (ending : Ending)
       → Tries had has line (Ok process)
       → Converses known (started old).exam (begun_with process first) exam engine
-      → known.leaves engine.process ending
-      → IsTrial known line old had first None (after_loss (with_exam (started old) exam)) has engine.notes
+      → AsksFirst commands engine.talk → known.leaves engine.process ending
+      → IsTrial known line commands old had first None (after_loss (with_exam (started old) exam)) has engine.notes
   wrong : {has : Attempts P} {exam : Exam} {engine : Dialogue P} (process : P) (ending : Ending) (fault : Fault)
       → Tries had has line (Ok process)
       → EndsWrong known (started old).exam (begun_with process first) fault exam engine
-      → known.leaves engine.process ending
-      → IsTrial known line old had first (Some (wrong_with fault exam engine ending))
+      → AsksFirst commands engine.talk → known.leaves engine.process ending
+      → IsTrial known line commands old had first (Some (wrong_with fault exam engine ending))
       (after_loss (with_exam (started old) exam)) has engine.notes

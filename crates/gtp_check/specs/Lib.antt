@@ -1,3 +1,4 @@
+pub mod Answers
 pub mod Checks
 pub mod Complaints
 pub mod Dialogues
@@ -8,8 +9,10 @@ pub mod Notes
 pub mod Options
 pub mod Plans
 pub mod Rules
+pub mod Shortening
 pub mod Status
 pub mod Summary
+pub mod Superko
 pub mod Tally
 pub mod Texts
 pub mod Turns

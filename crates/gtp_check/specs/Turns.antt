@@ -1,6 +1,6 @@
 -- A check, turn by turn: what the engine is asked, when it is started and ended, and what is written. (Own.)
 use Rattle.std.specs.Prelude.{min, ◌^◌, ◌-◌}
-use Rattle.std.specs.Prelude.{◌≡◌, ◌≢◌, ◌⊎◌, ℕ, ◌+◌, ◌<◌, ◌≤◌, Bool, true, false, not, ◌&&◌, ◌||◌, List, [], ◌∷◌, ◌++◌, length}
+use Rattle.std.specs.Prelude.{IsTrue, ◌↔◌, ◌≡◌, ◌≢◌, ◌⊎◌, ℕ, ◌+◌, ◌<◌, ◌≤◌, Bool, true, false, not, ◌&&◌, ◌||◌, List, [], ◌∷◌, ◌++◌, length}
 use Rattle.std.specs.Prelude.{Option, None, Some, IfSome, IsSome, is_some, option_map, unwrap_or, Result, Ok, Err}
 use Rattle.byte_streams.specs.declared.calls.WriteOnce.{Ghosts as WriterGhosts}
 use Rattle.byte_streams.specs.Writing.{BreaksAt, LinesGoOut}
@@ -15,6 +15,9 @@ use Rattle.gtp_process.specs.Starts.{Attempts, Tries, program_line}
 use Rattle.gtp_examiner.specs.declared.asking.CheckCommand.{CheckCommand}
 use Rattle.gtp_examiner.specs.declared.asking.CheckCommand.TheVariants.{Name}
 use Rattle.gtp_examiner.specs.declared.exam.Exam.{Exam}
+use Rattle.gtp_examiner.specs.declared.judging.Kind.TheVariants.{Refused}
+use Rattle.go_board.specs.declared.rules.KoRule.{KoRule}
+use Rattle.go_board.specs.declared.rules.KoRule.TheVariants.{Simple}
 use Rattle.gtp_examiner.specs.Check.{Check, after_loss, opening, started, with_exam}
 use Rattle.gtp_examiner.specs.Exam.{HasRoomFor}
 use Rattle.gtp_course.specs.declared.actions.Action.{Action}
@@ -27,7 +30,9 @@ use Rattle.gtp_course.specs.Course.{IsOver as CourseIsOver}
 use Rattle.gtp_check.specs.declared.complaint.Complaint.{Complaint}
 use Rattle.gtp_check.specs.declared.engine.Engine.{Engine}
 use Rattle.gtp_check.specs.declared.engine.Fault.{Fault}
+use Rattle.gtp_check.specs.declared.engine.Fault.TheVariants.{Wrote}
 use Rattle.gtp_check.specs.declared.failure.Failure.{Failure}
+use Rattle.gtp_check.specs.declared.flat.Shortening.{Shortening}
 use Rattle.gtp_check.specs.declared.failure.Failure.TheVariants.{OutOfMemory, TooManyTurns, Write}
 use Rattle.gtp_check.specs.declared.notes.Notes.{Notes}
 use Rattle.gtp_check.specs.declared.plan.Plan.{Plan}
@@ -37,10 +42,12 @@ use Rattle.gtp_check.specs.declared.talk.Purpose.{Purpose}
 use Rattle.gtp_check.specs.declared.tally.Tally.{Tally}
 use Rattle.gtp_check.specs.Complaints.{complaint_lines}
 use Rattle.gtp_check.specs.Dialogues.{AsksForMore, Dialogue, EndsLike, IsAsked, IsExchanged, IsTrial, Wrong, begun_with}
-use Rattle.gtp_check.specs.Dialogues.{dialogue, is_same_purpose, wrong_purpose, wrong_with}
+use Rattle.gtp_check.specs.Dialogues.{dialogue, is_same_purpose, wrong_purpose, wrong_talk, wrong_with}
 use Rattle.gtp_check.specs.Notes.{nothing_noted}
 use Rattle.gtp_check.specs.Notes.{started as noted_start}
+use Rattle.gtp_check.specs.Shortening.{games_in, shortened, shortenings}
 use Rattle.gtp_check.specs.Summary.{first_line}
+use Rattle.gtp_check.specs.Superko.{IsPositional}
 use Rattle.gtp_check.specs.Tally.{found, is_shown, nothing_found, started_again, without_start}
 
 -- how many turns a check has at most; no check within the limits has this number
@@ -50,6 +57,10 @@ most_turns = 1000000000000
 -- after so many starts in a row without a right answer the check is over
 abbrev pub most_fruitless : ℕ
 most_fruitless = 3
+
+-- a conversation of so many commands isn't shortened
+abbrev pub few_commands : ℕ
+few_commands = 20
 
 -- how often an engine is started that is found right: less than this (both together within 32 bits)
 abbrev pub ordinary_starts : ℕ
@@ -143,8 +154,14 @@ is_first_due tally notes is_wrong = not tally.has_first_line && (is_wrong || is_
 
 -- ---- the text of a complaint
 
--- A complaint with this number is of this lesson and of a conversation that ended so.
-pub record IsComplaint (number : ℕ) (lesson : Lesson) (wrong : Wrong) (complaint : Complaint)
+-- Positional ko explains what is wrong: by simple ko it was a wrong refusal, and by that rule a right one.
+pub record IsExplained (rule : KoRule) (wrong : Wrong) : Type 0 where
+  pub simple : rule ≡ Simple
+  pub refused : wrong.fault ≡ Wrote Refused
+  pub positional : IsPositional (wrong_talk wrong)
+
+-- A complaint with this number is of this lesson and of a conversation that ended so, with an engine of this ko rule.
+pub record IsComplaint (rule : KoRule) (number : ℕ) (lesson : Lesson) (wrong : Wrong) (complaint : Complaint)
     : Type 0 where
   pub number_is : complaint.number ≡ number
   pub lesson_is : complaint.lesson ≡ lesson
@@ -154,6 +171,7 @@ pub record IsComplaint (number : ℕ) (lesson : Lesson) (wrong : Wrong) (complai
   pub answered : complaint.answered ≡ wrong.answered
   pub wrote : complaint.wrote.now ≡ wrong.wrote
   pub ending : complaint.ending ≡ wrong.ending
+  pub hint : IsTrue complaint.is_positional ↔ IsExplained rule wrong
 
 -- It was found in the lesson of that command.
 abbrev pub found_in : {P : Type 0} → State P → Wrong → Fault → State P
@@ -187,12 +205,19 @@ module _ {P : Type 0} (known : Ghosts P) where
 module _ {P : Type 0} (known : Ghosts P) (plan : Plan) where
   -- ---- a shorter conversation
 
-  -- A shorter conversation was tried on another engine, which takes one of the starts that are left.
-  pub record IsTried (before : State P) (had : Attempts P) (result : Option Wrong) (after : State P) (has : Attempts P)
-      : Type 0 where
-    pub left : 0 < before.tally.starts_left
+  -- A shorter conversation may be tried: the whole one has more commands than are few, and more games than this one is
+  -- for; this one has fewer commands than it; and a start is left.
+  pub record MayTry (found : Wrong) (how : Shortening) (before : State P) : Type 0 where
+    pub long : few_commands < length (wrong_talk found)
+    pub games : how.more_than < games_in (wrong_talk found)
+    pub shorter : length (shortened how (wrong_talk found)) < length (wrong_talk found)
     pub few : before.check.starts < before.check.most_starts
-    pub trial : IsTrial known (program_line plan.words.items) before.check had before.notes result
+    pub left : 0 < before.tally.starts_left
+
+  -- It was tried on another engine, which takes one of the starts that are left.
+  pub record IsTried (commands : List CheckCommand) (before : State P) (had : Attempts P) (result : Option Wrong)
+      (after : State P) (has : Attempts P) : Type 0 where
+    pub trial : IsTrial known (program_line plan.words.items) commands before.check had before.notes result
         after.check has after.notes
     pub leads : after ≡ record before {
       check = after.check;
@@ -200,17 +225,33 @@ module _ {P : Type 0} (known : Ghosts P) (plan : Plan) where
       notes = after.notes;
     }
 
-  -- Shorter conversations were tried until one ended like the one that was found, or none did.
-  pub data Shortens (found : Wrong) (before : State P) (had : Attempts P)
+  -- One shorter conversation: it may not be tried; or it was, and ended otherwise, or like the one that was found.
+  pub data TriesShorter (found : Wrong) (how : Shortening) (before : State P) (had : Attempts P)
       : Option Wrong → State P → Attempts P → Type 0 where
-    kept : Shortens found before had None before had
-    missed : {mid after : State P} {between has : Attempts P} (tried : Option Wrong)
-        → Shortens found before had None mid between → IsTried mid between tried after has
-        → Shortens found before had None after has
-    shortened : {mid after : State P} {between has : Attempts P} {tried : Wrong}
-        → Shortens found before had None mid between → IsTried mid between (Some tried) after has
+    left_out : (MayTry found how before → ⊥) → TriesShorter found how before had None before had
+    right : {after : State P} {has : Attempts P} → MayTry found how before
+        → IsTried (shortened how (wrong_talk found)) before had None after has
+        → TriesShorter found how before had None after has
+    other : {tried : Wrong} {after : State P} {has : Attempts P} → MayTry found how before
+        → IsTried (shortened how (wrong_talk found)) before had (Some tried) after has
+        → (EndsLike tried found → ⊥)
+        → TriesShorter found how before had None after has
+    alike : {tried : Wrong} {after : State P} {has : Attempts P} → MayTry found how before
+        → IsTried (shortened how (wrong_talk found)) before had (Some tried) after has
         → EndsLike tried found
-        → Shortens found before had (Some tried) after has
+        → TriesShorter found how before had (Some tried) after has
+
+  -- These shorter conversations were tried in their order, up to the first that ended like the one that was found.
+  pub data Shortens (found : Wrong)
+      : List Shortening → State P → Attempts P → Option Wrong → State P → Attempts P → Type 0 where
+    none_left : {before : State P} {had : Attempts P} → Shortens found [] before had None before had
+    missed : {how : Shortening} {later : List Shortening} {before mid after : State P} {had between has : Attempts P}
+        {result : Option Wrong} → TriesShorter found how before had None mid between
+        → Shortens found later mid between result after has
+        → Shortens found (how ∷ later) before had result after has
+    shortened_so : {how : Shortening} {later : List Shortening} {before after : State P} {had has : Attempts P}
+        {tried : Wrong} → TriesShorter found how before had (Some tried) after has
+        → Shortens found (how ∷ later) before had (Some tried) after has
 
   -- ---- a complaint
 
@@ -225,8 +266,8 @@ module _ {P : Type 0} (known : Ghosts P) (plan : Plan) where
     shown : {fault : Fault} {mid after : State P} {has : Attempts P} {shorter : Option Wrong} (wrong : Wrong)
         (complaint : Complaint) → Closes known fault before wrong mid
         → is_shown mid.tally (wrong_purpose wrong).lesson fault ≡ true
-        → Shortens wrong (found_in mid wrong fault) had shorter after has
-        → IsComplaint after.tally.complaints (wrong_purpose wrong).lesson (unwrap_or shorter wrong) complaint
+        → Shortens wrong shortenings (found_in mid wrong fault) had shorter after has
+        → IsComplaint plan.rule after.tally.complaints (wrong_purpose wrong).lesson (unwrap_or shorter wrong) complaint
         → Complains before had (Some fault) after has (complaint_lines complaint ∷ [])
 
   -- The first line is written where it is due.

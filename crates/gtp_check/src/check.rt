@@ -1,40 +1,30 @@
 //! A check: the course of questions is asked of an engine, and what is found is written.
-ghost use Rattle.std.specs.Prelude.{◌≡◌, ◌+◌, ◌<◌, ◌≤◌, ◌⊎◌, true, false, None, IfOk, IfErr, IfSome, IsSome, OnErr};
-ghost use Rattle.std.specs.Prelude.{length, option_map, OnOk};
+ghost use Rattle.std.specs.Prelude.{◌≡◌, ◌+◌, ◌<◌, ◌≤◌, ◌⊎◌, true, false, None, IfOk, IfErr, IfSome, IsSome};
+ghost use Rattle.std.specs.Prelude.{length, OnOk};
 ghost use Rattle.arrayvec.specs.ArrayVec.{array_vec_len};
-ghost use Rattle.byte_streams.specs.Writing.{BreaksAt, GoesOut};
 ghost use Rattle.gtp_process.specs.Endings.{IsEnded};
 ghost use Rattle.gtp_process.specs.Quitting.{QuitsIfAny};
-ghost use Rattle.gtp_process.specs.Starts.{program_line};
 ghost use Rattle.gtp_examiner.specs.Check.{after_loss};
 ghost use Rattle.gtp_examiner.specs.Exam.{HasRoomFor};
-ghost use Rattle.gtp_check.specs.Checks.{AreLastLines, IsClosed, IsClosedWhere, IsEnding};
-ghost use Rattle.gtp_check.specs.Complaints.{complaint_lines};
-ghost use Rattle.gtp_check.specs.Dialogues.{AsksForMore, wrong_of, wrong_purpose};
-ghost use Rattle.gtp_check.specs.Turns.{AsksEngine, Closes, HasStopped, IsComplaint, IsHeardOut, Shortens, StopsIn};
+ghost use Rattle.gtp_check.specs.Checks.{AreLastLines, IsClosed, IsEnding};
+ghost use Rattle.gtp_check.specs.Turns.{AsksEngine, HasStopped, IsHeardOut, StopsIn};
 ghost use Rattle.gtp_check.specs.Turns.{MayStart, TurnsAreOver, before_all, is_first_due, process_of, purpose_in, state};
-ghost use Rattle.gtp_check.specs.private.Steps.{Begins, ComplaintGoesOut, ComplaintStops, FirstGoesOut};
+ghost use Rattle.gtp_check.specs.private.Steps.{Begins, FirstGoesOut};
 ghost use Rattle.gtp_check.specs.private.Steps.{EndsTurn, FirstStops, Gathers, IsPaired, IsRefused, Settles, StopsAfter};
 ghost use Rattle.gtp_check.specs.declared.engine.TheConstants.{LINES_ROOM};
-ghost use Rattle.gtp_check.specs.declared.complaint.Complaint.{Complaint};
-ghost use Rattle.gtp_check.specs.declared.failure.Failure.TheVariants as failure;
 
-use crate::complaint::{Complaint, complaint_text};
+use crate::closing::{close, end_now, quit};
 use crate::engine::{Engine, Fault, Room};
 use crate::failure::Failure;
-use crate::flat::{Shortening, shortened};
 use crate::notes::Notes;
 use crate::plan::Plan;
 use crate::summary::{Ending, Over, first_line, last_lines};
-use crate::superko::is_positional;
 use crate::talk::Purpose;
 use crate::tally::Tally;
-use crate::trial::{Tried, try_commands};
 use byte_streams::{WriteOnce, write_text};
-use go_board::KoRule;
 use gtp_course::{Action, Course, Lesson, Lessons};
-use gtp_examiner::{CheckCommand, Examiner, Kind};
-use gtp_process::{Process, StartFault, Starter, Unstarted, quit_and_end};
+use gtp_examiner::{CheckCommand, Examiner};
+use gtp_process::{Process, StartFault, Starter, Unstarted};
 use std::alloc::{AllocError, Global};
 
 /// How many turns a check has at most. No check within the limits has this number.
@@ -49,18 +39,22 @@ const ORDINARY_STARTS: u32 = 32;
 /// After so many starts in a row without a right answer the check is over.
 const MOST_FRUITLESS: u32 = 3;
 
-/// A conversation of so many commands isn't shortened.
-const SHORT: usize = 20;
-
 /// A check that goes on. It is not `Drop`: its process has to be ended.
 pub struct Check<S: Starter> {
-    alloc: Global,
-    examiner: Examiner,
-    course: Course,
-    engine: Option<Engine<S::Process>>,
-    notes: Notes,
-    tally: Tally,
-    room: Room,
+    /// What hands out memory.
+    pub alloc: Global,
+    /// What is due to each command, and what was started.
+    pub examiner: Examiner,
+    /// What comes next.
+    pub course: Course,
+    /// The engine, if there is one.
+    pub engine: Option<Engine<S::Process>>,
+    /// What is noted of right answers.
+    pub notes: Notes,
+    /// What was found.
+    pub tally: Tally,
+    /// The room for what is read.
+    pub room: Room,
 }
 
 /// What comes next in a turn.
@@ -221,7 +215,7 @@ impl<S: Starter> Check<S> {
     }
 
     /// What the next command is asked for.
-    fn purpose(&self) -> Purpose
+    pub fn purpose(&self) -> Purpose
         ensures { result ≡ purpose_in self.now.course }
     {
         Purpose {
@@ -385,138 +379,6 @@ impl<S: Starter> Check<S> {
         Ok(())
     }
 
-    /// Something is wrong with the engine, which is ended. The complaint is written, unless its like was shown often
-    /// enough, and the part of the lesson is left.
-    fn complain<O: WriteOnce>(
-        &mut self,
-        fault: Fault,
-        plan: &Plan<'_>,
-        output: &mut O,
-        starter: &mut S,
-    ) -> Result<(), Failure>
-        requires { IsSome self.old.engine }
-        ensures goes_out { let before = state self.old.examiner self.old.course self.old.engine self.old.tally self.old.notes in
-            let after = state self.new.examiner self.new.course self.new.engine self.new.tally self.new.notes in
-            OnOk result (ComplaintGoesOut S.Process.Process plan.now O.WriteOnce
-            before (S.asked starter.old) fault after (S.asked starter.new) output.old output.new) }
-        ensures stops { let before = state self.old.examiner self.old.course self.old.engine self.old.tally self.old.notes in
-            let after = state self.new.examiner self.new.course self.new.engine self.new.tally self.new.notes in
-            IfErr result (λ why. ComplaintStops S.Process.Process plan.now
-            O.WriteOnce before (S.asked starter.old) fault after (S.asked starter.new)
-            output.old output.new why) }
-        ensures gone { self.new.engine ≡ None }
-    {
-        let Some(found) = self.close(fault) else {
-            return Ok(());
-        };
-        let lesson = found.purpose().lesson;
-        if !self.tally.find(lesson, fault) {
-            return Ok(());
-        }
-        match self.shorter(&found, plan, starter)? {
-            Some(shorter) => self.write(&shorter, lesson, plan, output),
-            None => self.write(&found, lesson, plan, output),
-        }
-    }
-
-    /// The engine, in which this is wrong, is ended, and the part in which it is wrong is left.
-    fn close(&mut self, fault: Fault) -> Option<Tried>
-        requires { IsSome self.old.engine }
-        ensures found { IsSome result }
-        ensures closes { let before = state self.old.examiner self.old.course self.old.engine self.old.tally self.old.notes in
-            let after = state self.new.examiner self.new.course self.new.engine self.new.tally self.new.notes in
-            IfSome result (λ found. Closes S.Process.Process fault
-            before (wrong_of found) after) }
-        ensures gone { self.new.engine ≡ None }
-    {
-        let engine = self.engine.take()?;
-        let answered = engine.answered(&self.examiner);
-        self.examiner.lost();
-        let found = Tried {
-            fault,
-            answered,
-            said: engine.end(),
-        };
-        if found.purpose().is_same(self.purpose()) {
-            self.course.leave();
-        }
-        Some(found)
-    }
-
-    /// The complaint is written.
-    fn write<O: WriteOnce>(
-        &mut self,
-        found: &Tried,
-        lesson: Lesson,
-        plan: &Plan<'_>,
-        output: &mut O,
-    ) -> Result<(), Failure>
-        ensures goes_out { OnOk result ((complaint : Complaint)
-            × IsComplaint self.old.tally.complaints lesson (wrong_of found.now) complaint
-            × GoesOut O.WriteOnce (complaint_lines complaint) output.old output.new) }
-        ensures broke { IfErr result (λ why. why ≡ failure.Write → (complaint : Complaint)
-            × IsComplaint self.old.tally.complaints lesson (wrong_of found.now) complaint
-            × BreaksAt O.WriteOnce (complaint_lines complaint) output.old output.new) }
-        ensures refused { IfErr result (λ why. (why ≡ failure.Write)
-            ⊎ ((why ≡ failure.OutOfMemory) × (output.new ≡ output.old))) }
-        ensures same { let before = state self.old.examiner self.old.course self.old.engine self.old.tally self.old.notes in
-            let after = state self.new.examiner self.new.course self.new.engine self.new.tally self.new.notes in
-            after ≡ before }
-    {
-        let complaint = complaint_of(self.tally.complaints, lesson, found, plan.rule);
-        let text = complaint_text(self.alloc, &complaint)?;
-        write_text(output, text.as_slice())?;
-        Ok(())
-    }
-
-    /// A shorter conversation with the same end, if one is found: it is tried on a new engine.
-    fn shorter(
-        &mut self,
-        found: &Tried,
-        plan: &Plan<'_>,
-        starter: &mut S,
-    ) -> Result<Option<Tried>, Failure>
-        ensures shortens { let before = state self.old.examiner self.old.course self.old.engine self.old.tally self.old.notes in
-            let after = state self.new.examiner self.new.course self.new.engine self.new.tally self.new.notes in
-            IfOk result (λ shorter. Shortens S.Process.Process plan.now
-            (wrong_of found.now) before (S.asked starter.old) (option_map wrong_of shorter)
-            after (S.asked starter.new)) }
-        ensures refused { IfErr result (λ why. (why ≡ failure.OutOfMemory)
-            × AsksForMore (program_line plan.now.words.items)
-            (S.asked starter.old) (S.asked starter.new)) }
-        ensures engine { self.new.engine ≡ self.old.engine }
-    {
-        let talk = found.conversation();
-        if talk.len() <= SHORT {
-            return Ok(None);
-        }
-        for shortening in [Shortening::LastGame, Shortening::LastBoard] {
-            let commands = shortened(self.alloc, talk, shortening)?;
-            if commands.len() >= talk.len()
-                || !self.examiner.may_start()
-                || !self.tally.take_start()
-            {
-                continue;
-            }
-            let tried = try_commands(
-                self.alloc,
-                starter,
-                plan.words.as_slice(),
-                &mut self.examiner,
-                commands.as_slice(),
-                found.purpose(),
-                &mut self.room,
-                &mut self.notes,
-            )?;
-            if let Some(tried) = tried {
-                if tried.ends_like(found) {
-                    return Ok(Some(tried));
-                }
-            }
-        }
-        Ok(None)
-    }
-
     /// How many complaints there are.
     pub fn complaints(&self) -> u32
         ensures { result ≡ self.now.tally.complaints }
@@ -570,26 +432,6 @@ impl<S: Starter> Check<S> {
     }
 }
 
-/// The complaint of this number about a conversation that ended with something wrong in a lesson. Only where a right
-/// engine is under simple ko positional ko can explain a refusal.
-fn complaint_of(number: u32, lesson: Lesson, found: &Tried, rule: KoRule) -> Complaint<'_>
-    ensures { IsComplaint number lesson (wrong_of found.now) result }
-{
-    Complaint {
-        number,
-        lesson,
-        fault: found.fault,
-        sent: found.said.sent.as_slice(),
-        talk: found.said.talk.as_slice(),
-        answered: found.answered,
-        wrote: found.said.wrote.as_slice(),
-        ending: found.said.ending,
-        is_positional: rule == KoRule::Simple
-            && found.fault == Fault::Wrote(Kind::Refused)
-            && is_positional(found.conversation()),
-    }
-}
-
 /// What the last lines say of a check that is over for this reason in this lesson of the course, after so many starts.
 fn ending_of<'c>(
     plan: &'c Plan<'_>,
@@ -618,41 +460,4 @@ fn copied(lessons: &Lessons) -> Lessons
     // All fit.
     let _ = copy.try_extend_from_slice(lessons);
     copy
-}
-
-/// An engine, if there is one, is sent `quit` and ended.
-fn quit<P: Process>(engine: Option<Engine<P>>, room: &mut Room)
-    ensures { QuitsIfAny P.Process (process_of engine) }
-{
-    if let Some(engine) = engine {
-        let Engine {
-            process,
-            sent: _,
-            talk: _,
-            waiting: _,
-            held: _,
-            wrote: _,
-        } = engine;
-        quit_and_end(Some(process), &mut room.buffer);
-    }
-}
-
-/// An engine, if there is one, is ended: one that is idle is sent `quit`.
-fn close<P: Process>(engine: Option<Engine<P>>, is_idle: bool, room: &mut Room)
-    ensures { IsClosedWhere P.Process is_idle (process_of engine) }
-{
-    if is_idle {
-        quit(engine, room);
-    } else {
-        end_now(engine);
-    }
-}
-
-/// An engine, if there is one, is ended at once.
-fn end_now<P: Process>(engine: Option<Engine<P>>)
-    ensures { IsEnded P.Process (process_of engine) }
-{
-    if let Some(engine) = engine {
-        let _ = engine.end();
-    }
 }

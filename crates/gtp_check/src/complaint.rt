@@ -4,10 +4,13 @@ ghost use Rattle.go_base.specs.Bytes.{newline};
 ghost use Rattle.std.specs.Io.BufRead.{strip_last};
 ghost use Rattle.gtp_process.specs.Shown.{quoted};
 ghost use Rattle.gtp_wire.specs.Replies.{most_shown};
+ghost use Rattle.gtp_check.specs.Answers.{before_rule};
+ghost use Rattle.gtp_check.specs.Complaints.{answer_of};
 ghost use Rattle.gtp_check.specs.Complaints.{ahead_line, commands_after, complaint_lines, conversation, ended_text};
-ghost use Rattle.gtp_check.specs.Complaints.{faulty_line, head_line, ko_line, line_end, line_start, rule_line};
-ghost use Rattle.gtp_check.specs.Complaints.{wrote_line};
+ghost use Rattle.gtp_check.specs.Complaints.{faulty_line, head_line, is_within, ko_line, line_end, line_start};
+ghost use Rattle.gtp_check.specs.Complaints.{rule_line, rule_of, within_text, wrote_line};
 
+use crate::answers::{ANSWER_ROOM, right_answer};
 use crate::engine::Fault;
 use crate::kinds::fault_text;
 use crate::rules::rule_text;
@@ -16,7 +19,7 @@ use crate::texts::add_all;
 use arrayvec::ArrayVec;
 use go_base::write_int;
 use gtp_course::Lesson;
-use gtp_process::{Ending, push_ending, push_quoted};
+use gtp_process::{Ending, PipeCause, push_ending, push_quoted};
 use gtp_wire::MOST_SHOWN;
 use std::alloc::{AllocError, Global};
 
@@ -100,6 +103,39 @@ impl<'t> Complaint<'t> {
         without_newline(&lines[start.min(lines.len())..])
     }
 
+    /// Whether its output ended within a reply.
+    fn is_within(&self) -> bool
+        ensures { result ≡ is_within self.now.fault self.now.wrote.now }
+    {
+        match self.fault {
+            Fault::CutOff(PipeCause::Ended) => !self.wrote.is_empty(),
+            _ => false,
+        }
+    }
+
+    /// What is right.
+    fn rule(&self) -> &'static [u8]
+        ensures { result.now ≡ rule_of self.now (is_within self.now.fault self.now.wrote.now) }
+    {
+        if self.is_within() {
+            return b"a reply ends with two newlines";
+        }
+        let command = self.talk.get(self.answered).map(|said| said.command);
+        rule_text(self.fault, command)
+    }
+
+    /// What a right engine answers, where that is shown.
+    fn answer(&self) -> ArrayVec<u8, ANSWER_ROOM>
+        ensures { result.items ≡ answer_of self.now }
+    {
+        let command = self.talk.get(self.answered).map(|said| said.command);
+        right_answer(
+            self.fault,
+            command,
+            &self.talk[..self.answered.min(self.talk.len())],
+        )
+    }
+
     /// How many commands were sent after it.
     fn commands_after(&self) -> usize
         ensures { result ≡ commands_after self.now }
@@ -141,10 +177,18 @@ fn add_head(text: &mut Vec<u8>, complaint: &Complaint<'_>) -> Result<(), AllocEr
         &[
             b"\": ",
             fault_text(complaint.fault),
+            within_text(complaint.is_within()),
             &ended_text(complaint.fault, complaint.ending),
             b"\n",
         ],
     )
+}
+
+/// That its output ended within a reply.
+fn within_text(is_within: bool) -> &'static [u8]
+    ensures { result.now ≡ within_text is_within }
+{
+    if is_within { b" within a reply" } else { b"" }
 }
 
 /// How the process ended, where that is what was wrong.
@@ -187,14 +231,19 @@ fn beginning(wrote: &[u8]) -> &[u8]
 fn add_rule(text: &mut Vec<u8>, complaint: &Complaint<'_>) -> Result<(), AllocError>
     ensures { OnOk result (text.new.items ≡ text.old.items ++ rule_line complaint.now) }
 {
-    let command = complaint
-        .talk
-        .get(complaint.answered)
-        .map(|said| said.command);
-    add_all(
-        text,
-        &[b"# right: ", rule_text(complaint.fault, command), b"\n"],
-    )
+    text.extend_from_slice(b"# right: ")?;
+    add_answer(text, &complaint.answer())?;
+    add_all(text, &[complaint.rule(), b"\n"])
+}
+
+/// What a right engine answers, if that is known.
+fn add_answer(text: &mut Vec<u8>, answer: &[u8]) -> Result<(), AllocError>
+    ensures { OnOk result (text.new.items ≡ text.old.items ++ before_rule answer.now) }
+{
+    if answer.is_empty() {
+        return Ok(());
+    }
+    add_all(text, &[answer, b"; "])
 }
 
 /// The line of how many commands were sent after the faulty one, where there are any.

@@ -1,7 +1,10 @@
 //! Checks one engine that speaks the Go Text Protocol, version 2.
 #![tactic(auto)]
 
+mod answers;
 mod check;
+mod closing;
+mod complaining;
 mod complaint;
 mod engine;
 #[cfg(test)]

@@ -1,9 +1,10 @@
 //! A shorter conversation is tried on a new engine.
-ghost use Rattle.std.specs.Prelude.{◌≡◌, ◌<◌, IfOk, OnOk, OnErr, option_map, true};
+ghost use Rattle.std.specs.Prelude.{◌≡◌, ◌<◌, ◌≤◌, ◌↔◌, ◌++◌, IsTrue, IfOk, OnOk, OnErr, option_map, [], length, take};
 ghost use Rattle.gtp_process.specs.Starts.{program_line};
 ghost use Rattle.gtp_examiner.specs.Check.{with_exam};
 ghost use Rattle.gtp_check.specs.Dialogues.{AsksForMore, Converses, EndsLike, EndsSo, IsTrial, dialogue};
-ghost use Rattle.gtp_check.specs.Dialogues.{wrong_command, wrong_of, wrong_purpose};
+ghost use Rattle.gtp_check.specs.Dialogues.{AsksFirst, wrong_command, wrong_of, wrong_purpose, wrong_talk};
+ghost use Rattle.gtp_check.specs.Shortening.{commands_of};
 
 use crate::engine::{Ended, Engine, Fault, Room};
 use crate::notes::Notes;
@@ -29,7 +30,9 @@ pub struct Tried {
 
 impl Tried {
     /// What was asked up to the command that was answered wrongly.
-    pub fn conversation(&self) -> &[Said] {
+    pub fn conversation(&self) -> &[Said]
+        ensures { result.now ≡ wrong_talk (wrong_of self.now) }
+    {
         let count = self.answered.saturating_add(1).min(self.said.talk.len());
         &self.said.talk[..count]
     }
@@ -59,7 +62,7 @@ impl Tried {
 
     /// Whether another conversation ended with the same command and the same fault.
     pub fn ends_like(&self, other: &Tried) -> bool
-        ensures { result ≡ true → EndsLike (wrong_of self.now) (wrong_of other.now) }
+        ensures { IsTrue result ↔ EndsLike (wrong_of self.now) (wrong_of other.now) }
     {
         self.fault == other.fault && self.command() == other.command()
     }
@@ -83,7 +86,7 @@ pub fn try_commands<S: Starter>(
 ) -> Result<Option<Tried>, AllocError>
     requires { examiner.old.starts < examiner.old.most_starts }
     ensures tried { IfOk result (λ tried. IsTrial S.Process.Process (program_line words.now)
-        examiner.old (S.asked starter.old) notes.old (option_map wrong_of tried)
+        commands.now examiner.old (S.asked starter.old) notes.old (option_map wrong_of tried)
         examiner.new (S.asked starter.new) notes.new) }
     ensures refused { OnErr result (AsksForMore (program_line words.now)
         (S.asked starter.old) (S.asked starter.new)) }
@@ -121,11 +124,13 @@ fn ask_all<P: Process>(
     ensures ends { IfOk result (λ fault. EndsSo P.Process examiner.old.exam
         (dialogue engine.old notes.old) fault examiner.new.exam (dialogue engine.new notes.new)) }
     ensures check { examiner.new ≡ with_exam examiner.old examiner.new.exam }
+    ensures first { engine.old.talk.items ≡ []
+        → OnOk result (AsksFirst commands.now engine.new.talk.items) }
 {
-    let mut next: usize = 0;
+    let mut rest = commands;
     for _exchange in 0..MOST_EXCHANGES {
-        let rest = &commands[next.min(commands.len())..];
-        next = next.saturating_add(ask_some(engine, examiner, rest, purpose, notes)?);
+        let asked = ask_some(engine, examiner, rest, purpose, notes)?;
+        rest = rest.split_at(asked).1;
         if examiner.unanswered() == 0 {
             // All was answered, or the next command may not be asked in this game.
             return Ok(None);
@@ -148,14 +153,16 @@ fn ask_some<P: Process>(
     ensures asks { OnOk result (Converses P.Process examiner.old.exam
         (dialogue engine.old notes.old) examiner.new.exam (dialogue engine.new notes.new)) }
     ensures check { examiner.new ≡ with_exam examiner.old examiner.new.exam }
+    ensures first { IfOk result (λ count. (count ≤ length commands.now)
+        × (commands_of engine.new.talk.items
+        ≡ commands_of engine.old.talk.items ++ take count commands.now)) }
 {
-    let mut asked: usize = 0;
-    for command in commands {
-        if !engine.has_room() || !examiner.has_room(command) {
-            break;
+    for index in 0..commands.len() {
+        let command = commands[index];
+        if !engine.has_room() || !examiner.has_room(&command) {
+            return Ok(index);
         }
-        engine.ask(examiner, *command, purpose, notes)?;
-        asked = asked.saturating_add(1);
+        engine.ask(examiner, command, purpose, notes)?;
     }
-    Ok(asked)
+    Ok(commands.len())
 }

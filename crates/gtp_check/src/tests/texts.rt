@@ -86,6 +86,16 @@ fn hints_are_lines_of_their_own(rt: HostRuntime) -> Result<(), Fail> {
 
 ";
     assert_equal(&rt, str::from_utf8(text.as_slice())?, expected);
+    complaint.wrote = b"=1\n";
+    let text = complaint_text(rt.alloc(), &complaint)?;
+    let expected = "# 12 ko: \"1 undo\": its output ended within a reply, signal 11
+1 undo
+# it wrote: \"=1\\n\"
+# right: a reply ends with two newlines
+# the 2 commands after it were sent before its answer came
+
+";
+    assert_equal(&rt, str::from_utf8(text.as_slice())?, expected);
     complaint.fault = Fault::Wrote(Kind::Refused);
     complaint.answered = 2;
     complaint.wrote = b"?3 ko\n\n";

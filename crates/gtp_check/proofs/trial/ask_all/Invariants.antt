@@ -1,6 +1,7 @@
-use Rattle.std.proofs.Common.{◌≡◌}
+use Rattle.std.proofs.Common.{◌≡◌, [], ◌++◌}
 use Rattle.gtp_examiner.specs.Check.{with_exam}
 use Rattle.gtp_check.specs.Dialogues.{Converses, dialogue}
+use Rattle.gtp_check.specs.Shortening.{commands_of}
 use Rattle.gtp_check.proofs.trial.ask_all.Given as goal
 
 -- nothing was wrong so far
@@ -9,4 +10,5 @@ invariant-loop-exchange g l = record {
   converses : Converses g.P.Process l.fn.examiner.exam (dialogue l.fn.engine l.fn.notes) l.examiner.exam
       (dialogue l.engine l.notes);
   check : l.examiner ≡ with_exam l.fn.examiner l.examiner.exam;
+  first : l.fn.engine.talk.items ≡ [] → commands_of l.engine.talk.items ++ l.rest ≡ l.commands;
 }

@@ -4,6 +4,7 @@ use Rattle.gtp_process.specs.declared.starter.StartFault.TheVariants as start_fa
 use Rattle.gtp_process.specs.Starts.{program_line}
 use Rattle.gtp_check.specs.Dialogues.{dialogue, none, one_more, unstarted, wrong_of}
 use Rattle.gtp_check.proofs.Conversations.{trial_right, trial_wrong}
+use Rattle.gtp_check.proofs.Trials.{asked_nothing}
 use Rattle.gtp_check.proofs.trial.try_commands.Goals as goal
 
 pub returns-in-Err-OutOfMemory-clause-refused : goal.returns-in-Err-OutOfMemory-clause-refused
@@ -23,18 +24,22 @@ pub returns-in-Some-clause-tried : goal.returns-in-Some-clause-tried
 returns-in-Some-clause-tried g c =
     let said = c.end-said.ensures.said in
     rw c.lost.ensures
-    (trial_wrong g.S.Process.Process (program_line c.args.words.now) c.args.examiner.now c.started.new.self
+    (trial_wrong g.S.Process.Process (program_line c.args.words.now) c.args.commands.now c.args.examiner.now c.started.new.self
     c.ask_all-found.new.examiner _ _ c.args.notes.now c.in-Ok.process (dialogue c.new-engine.result c.args.notes.now)
     (dialogue c.ask_all-found.new.engine c.ask_all-found.new.notes) c.end-said.result.ending c.in-Some.fault _
     c.started.ensures (c.new-engine.ensures c.args.notes.now) c.ask_all-found.ensures.check c.in-Ok.ensures.asked
-    (rw c.in-Some.is at c.in_ok-fault.ensures.ends) c.end-said.ensures.ended
+    (rw c.in-Some.is at c.in_ok-fault.ensures.ends)
+    (c.in_ok-fault.ensures.first (asked_nothing c.new-engine.result c.args.notes.now c.in-Ok.process
+    (c.new-engine.ensures c.args.notes.now))) c.end-said.ensures.ended
     (rw (c.answered-answered.ensures, said.0, said.1, said.2) refl))
 
 pub returns-in-None-clause-tried : goal.returns-in-None-clause-tried
 returns-in-None-clause-tried g c =
     rw c.lost.ensures
-    (trial_right g.S.Process.Process (program_line c.args.words.now) c.args.examiner.now c.started.new.self
+    (trial_right g.S.Process.Process (program_line c.args.words.now) c.args.commands.now c.args.examiner.now c.started.new.self
     c.ask_all-found.new.examiner _ _ c.args.notes.now c.in-Ok.process (dialogue c.new-engine.result c.args.notes.now)
     (dialogue c.ask_all-found.new.engine c.ask_all-found.new.notes) c.end-said.result.ending
     c.started.ensures (c.new-engine.ensures c.args.notes.now) c.ask_all-found.ensures.check c.in-Ok.ensures.asked
-    (rw c.in-None.is at c.in_ok-fault.ensures.ends) c.end-said.ensures.ended)
+    (rw c.in-None.is at c.in_ok-fault.ensures.ends)
+    (c.in_ok-fault.ensures.first (asked_nothing c.new-engine.result c.args.notes.now c.in-Ok.process
+    (c.new-engine.ensures c.args.notes.now))) c.end-said.ensures.ended)

@@ -3,9 +3,10 @@ use Rattle.std.proofs.lemmas.Result.{err_from_is_err_and}
 use Rattle.byte_streams.specs.Writing.{line_out, no_line}
 use Rattle.gtp_check.specs.Complaints.{complaint_lines}
 use Rattle.gtp_check.specs.Dialogues.{wrong_of}
+use Rattle.gtp_check.specs.Shortening.{shortenings}
 use Rattle.gtp_check.specs.Turns.{State, state}
 use Rattle.gtp_check.specs.private.Steps.{complaint_broke, complaint_refused}
-use Rattle.gtp_check.proofs.Complaining.{complained, is_hidden}
+use Rattle.gtp_check.proofs.Settling.{complained, is_hidden}
 use Rattle.gtp_check.proofs.Gathering.{where_err, where_ok}
 use Rattle.gtp_check.proofs.Shortening.{shortens_asks}
 use Rattle.gtp_check.proofs.check.Check.complain.Goals as goal
@@ -51,7 +52,7 @@ returns-in-Some-2-clause-stops g c =
           (broke is).2 gone)
       | inr kept ↦ rw (kept.0, kept.1)
           (complaint_refused c.in-Some.ensures.closes
-          (shortens_asks g.S.Process.Process c.args.plan.now (wrong_of c.in-Some.found) _ _ shortens) refl gone)
+          (shortens_asks g.S.Process.Process c.args.plan.now (wrong_of c.in-Some.found) shortenings shortens) refl gone)
     ]))
 
 pub returns-clause-goes_out : goal.returns-clause-goes_out
@@ -82,5 +83,5 @@ returns-clause-stops g c =
           (broke is).2 gone)
       | inr kept ↦ rw (kept.0, kept.1)
           (complaint_refused c.in-Some.ensures.closes
-          (shortens_asks g.S.Process.Process c.args.plan.now (wrong_of c.in-Some.found) _ _ shortens) refl gone)
+          (shortens_asks g.S.Process.Process c.args.plan.now (wrong_of c.in-Some.found) shortenings shortens) refl gone)
     ]))

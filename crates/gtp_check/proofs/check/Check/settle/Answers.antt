@@ -3,7 +3,7 @@ use Rattle.std.specs.Prelude.{IsSome}
 use Rattle.std.proofs.lemmas.Result.{err_from_is_err_and}
 use Rattle.byte_streams.specs.Writing.{no_line}
 use Rattle.gtp_check.specs.Turns.{nothing, state}
-use Rattle.gtp_check.proofs.Complaining.{both_out, complains_down, complaint_stops, first_stops}
+use Rattle.gtp_check.proofs.Settling.{both_out, complains_down, complaint_stops, first_stops}
 use Rattle.gtp_check.proofs.Gathering.{where_failed, where_ok}
 use Rattle.gtp_check.proofs.check.Check.settle.Goals as goal
 

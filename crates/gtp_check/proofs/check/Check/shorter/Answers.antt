@@ -1,62 +1,63 @@
-use Rattle.std.proofs.Common.{ap, refl, rules}
-use Rattle.std.specs.Prelude.{option_map}
+use Rattle.std.proofs.Common.{◌∙◌, arith, false, refl}
 use Rattle.std.proofs.lemmas.Result.{err_from_is_err_and}
 use Rattle.gtp_process.specs.Starts.{program_line}
-use Rattle.gtp_check.specs.declared.tally.Tally.{Tally}
 use Rattle.gtp_check.specs.Dialogues.{wrong_of}
-use Rattle.gtp_check.specs.Turns.{kept, missed, shortened, state}
-use Rattle.gtp_check.proofs.Shortening.{shortens_asks, then_more}
+use Rattle.gtp_check.specs.Shortening.{shortenings}
+use Rattle.gtp_check.specs.Turns.{state}
+use Rattle.gtp_check.proofs.Shortening.{Missed, all_missed, found_here, missed_asks, one_missed, then_more}
 use Rattle.gtp_check.proofs.check.Check.shorter.Goals as goal
 
-pub returns-then-talk-le-SHORT-clause-shortens : goal.returns-then-talk-le-SHORT-clause-shortens
-returns-then-talk-le-SHORT-clause-shortens g c = kept
-
 pub loop-shortening-init : goal.loop-shortening-init
-loop-shortening-init g c = record { shortens = kept; engine = refl }
+loop-shortening-init g c = record { missed = Missed.nothing; engine = refl }
 
-pub returns-in_err-commands-clause-refused : goal.returns-in_err-commands-clause-refused
-returns-in_err-commands-clause-refused g c =
+pub returns-in_err-shorter-clause-refused : goal.returns-in_err-shorter-clause-refused
+returns-in_err-shorter-clause-refused g c =
     let exit = c.from_residual in
     let failed = err_from_is_err_and exit.result exit.ensures.1 in
-    rw failed.1 (
-      failed.2,
-      shortens_asks g.S.Process.Process c.args.plan.now (wrong_of c.args.found.now) _ _
-          c.loop-shortening.invariant.shortens,
-    )
-
-pub returns-in_err-tried-clause-refused : goal.returns-in_err-tried-clause-refused
-returns-in_err-tried-clause-refused g c =
-    let exit = c.from_residual-in_err-tried in
-    let failed = err_from_is_err_and exit.result exit.ensures.1 in
-    rw failed.1 (
-      failed.2,
+    let refused = c.in_err-shorter.ensures.refused in
+    rw (failed.1, failed.2) (
+      refused.0,
       then_more (program_line c.args.plan.now.words.items) _ _
-          (shortens_asks g.S.Process.Process c.args.plan.now (wrong_of c.args.found.now) _ _
-          c.loop-shortening.invariant.shortens)
-          (rw c.as_slice.ensures.value at c.in_err-tried.ensures.refused),
+          (missed_asks g.S.Process.Process c.args.plan.now (wrong_of c.args.found.now) _ _
+          c.loop-shortening.invariant.missed)
+          refused.1,
     )
 
-pub returns-then-ends_like-clause-shortens : goal.returns-then-ends_like-clause-shortens
-returns-then-ends_like-clause-shortens g c =
-    shortened {tried = wrong_of c.in-Some.tried} c.loop-shortening.invariant.shortens
-    (record {
-      left = search rules;
-      few = c.if-not-may_start.ensures.may refl;
-      trial = rw (c.as_slice.ensures.value, c.in-Some.is) at c.in_ok-tried.ensures.tried;
-      leads = ap (λ (tally : Tally). state c.try_commands.new.examiner c.loop-shortening.self.course
-          c.loop-shortening.self.engine tally c.try_commands.new.notes) c.take_start.ensures.left;
-    })
-    (c.ends_like.ensures c.if-ends_like.true)
+pub returns-in-Some-clause-shortens : goal.returns-in-Some-clause-shortens
+returns-in-Some-clause-shortens g c =
+    found_here g.S.Process.Process c.args.plan.now (wrong_of c.args.found.now)
+    (state c.args.self.now.examiner c.args.self.now.course c.args.self.now.engine c.args.self.now.tally
+    c.args.self.now.notes)
+    (g.S.Starter.asked c.args.starter.now) shortenings c.loop-shortening.shortening-index
+    (record { games = 0; more_than = 0; is_whole = false })
+    (state c.loop-shortening.self.examiner c.loop-shortening.self.course c.loop-shortening.self.engine
+    c.loop-shortening.self.tally c.loop-shortening.self.notes)
+    (g.S.Starter.asked c.loop-shortening.starter) (omega (arith, c.loop-shortening-test.true))
+    c.loop-shortening.invariant.missed
+    (rw (c.shortenings-all.ensures, c.in-Some.is) at c.in_ok-shorter.ensures.tries)
 
 pub loop-shortening-preserved : goal.loop-shortening-preserved
 loop-shortening-preserved g c = record {
-  shortens = missed (option_map wrong_of c.in_ok-tried.tried) c.loop-shortening.invariant.shortens
-      (record {
-        left = search rules;
-        few = c.if-not-may_start.ensures.may refl;
-        trial = rw c.as_slice.ensures.value at c.in_ok-tried.ensures.tried;
-        leads = ap (λ (tally : Tally). state c.try_commands.new.examiner c.loop-shortening.self.course
-            c.loop-shortening.self.engine tally c.try_commands.new.notes) c.take_start.ensures.left;
-      });
-  engine = c.loop-shortening.invariant.engine;
+  missed = one_missed g.S.Process.Process c.args.plan.now (wrong_of c.args.found.now)
+      (state c.args.self.now.examiner c.args.self.now.course c.args.self.now.engine c.args.self.now.tally
+      c.args.self.now.notes)
+      (g.S.Starter.asked c.args.starter.now) shortenings c.loop-shortening.shortening-index
+      (record { games = 0; more_than = 0; is_whole = false })
+      (state c.loop-shortening.self.examiner c.loop-shortening.self.course c.loop-shortening.self.engine
+      c.loop-shortening.self.tally c.loop-shortening.self.notes)
+      (g.S.Starter.asked c.loop-shortening.starter) (omega (arith, c.loop-shortening-test.true))
+      c.loop-shortening.invariant.missed
+      (rw (c.shortenings-all.ensures, c.in_default.is) at c.in_ok-shorter.ensures.tries);
+  engine = c.try_shorter.ensures.engine ∙ c.loop-shortening.invariant.engine;
 }
+
+pub returns-clause-shortens : goal.returns-clause-shortens
+returns-clause-shortens g c =
+    all_missed g.S.Process.Process c.args.plan.now (wrong_of c.args.found.now)
+    (state c.args.self.now.examiner c.args.self.now.course c.args.self.now.engine c.args.self.now.tally
+    c.args.self.now.notes)
+    (g.S.Starter.asked c.args.starter.now) shortenings c.loop-shortening.shortening-index
+    (state c.loop-shortening.self.examiner c.loop-shortening.self.course c.loop-shortening.self.engine
+    c.loop-shortening.self.tally c.loop-shortening.self.notes)
+    (g.S.Starter.asked c.loop-shortening.starter) (omega (arith, c.loop-shortening-test.false))
+    c.loop-shortening.invariant.missed

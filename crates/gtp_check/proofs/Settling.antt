@@ -9,16 +9,19 @@ use Rattle.gtp_examiner.specs.Check.{Check}
 use Rattle.gtp_check.specs.declared.complaint.Complaint.{Complaint}
 use Rattle.gtp_check.specs.declared.engine.Fault.{Fault}
 use Rattle.gtp_check.specs.declared.failure.Failure.{Failure}
+use Rattle.gtp_check.specs.declared.flat.Shortening.{Shortening}
+use Rattle.gtp_examiner.specs.declared.asking.CheckCommand.{CheckCommand}
 use Rattle.gtp_check.specs.declared.notes.Notes.{Notes}
 use Rattle.gtp_check.specs.declared.plan.Plan.{Plan}
 use Rattle.gtp_check.specs.declared.talk.Purpose.{Purpose}
 use Rattle.gtp_check.specs.declared.tally.Tally.{Tally}
 use Rattle.gtp_check.specs.Complaints.{complaint_lines}
-use Rattle.gtp_check.specs.Dialogues.{IsTrial, Wrong, right, unstarted, wrong, wrong_purpose}
+use Rattle.gtp_check.specs.Dialogues.{IsTrial, Wrong, right, unstarted, wrong, wrong_purpose, wrong_talk}
+use Rattle.gtp_check.specs.Shortening.{shortened, shortenings}
 use Rattle.gtp_check.specs.Tally.{found, is_shown}
 use Rattle.gtp_check.specs.Turns.{Closes, Complains, Exchanges, IsComplaint, Shortens, State, StopsIn, found_in, hidden}
 use Rattle.gtp_check.specs.Turns.{complaint_broke as turn_complaint_broke, first_line_broke, no_memory_for_first_line}
-use Rattle.gtp_check.specs.Turns.{kept, missed, no_memory_to_complain, process_of, shortened, shown}
+use Rattle.gtp_check.specs.Turns.{TriesShorter, missed, no_memory_to_complain, none_left, process_of, shortened_so, shown}
 use Rattle.gtp_check.specs.private.Steps.{ComplaintGoesOut, ComplaintStops, FirstGoesOut, FirstStops, StopsAfter}
 use Rattle.gtp_check.specs.private.Steps.{complaint_broke, complaint_refused, first_broke, first_refused}
 
@@ -52,14 +55,14 @@ module _ {P : Type 0} (known : Ghosts P) (plan : Plan) (before mid : State P) (h
 
   pub complained : (answer : Bool) → answer ≡ is_shown mid.tally purpose.lesson fault → answer ≡ true
       → {shorter : Option Wrong} {after : State P} {has : Attempts P}
-      → Shortens known plan wrong (record mid { tally = tally }) had shorter after has
+      → Shortens known plan wrong shortenings (record mid { tally = tally }) had shorter after has
       → (complaint : Complaint)
-      → IsComplaint after.tally.complaints purpose.lesson (unwrap_or shorter wrong) complaint
+      → IsComplaint plan.rule after.tally.complaints purpose.lesson (unwrap_or shorter wrong) complaint
       → Complains known plan before had (Some fault) after has (complaint_lines complaint ∷ [])
   complained answer is so {shorter = shorter} {after = after} {has = has} shortens complaint about =
       shown wrong complaint closes (sym (ap (λ (p : Purpose). is_shown mid.tally p.lesson fault) same) ∙ sym is ∙ so)
-      (subst (λ (start : State P). Shortens known plan wrong start had shorter after has) found_now shortens)
-      (subst (λ (p : Purpose). IsComplaint after.tally.complaints p.lesson (unwrap_or shorter wrong) complaint) same about)
+      (subst (λ (start : State P). Shortens known plan wrong shortenings start had shorter after has) found_now shortens)
+      (subst (λ (p : Purpose). IsComplaint plan.rule after.tally.complaints p.lesson (unwrap_or shorter wrong) complaint) same about)
 
 module _ {P O : Type 0} (known : Ghosts P) (plan : Plan) (outs : WriterGhosts O) where
   -- the first line wasn't written, and so the turn stopped
@@ -85,24 +88,37 @@ module _ {P O : Type 0} (known : Ghosts P) (plan : Plan) (outs : WriterGhosts O)
 
 -- ---- after a complaint the engine is down
 
-trial_down : {P : Type 0} (known : Ghosts P) (line : List Text) (old : Check) (had : Attempts P) (first : Notes)
-    → {result : Option Wrong} {new : Check} {has : Attempts P} {notes : Notes}
-    → IsTrial known line old had first result new has notes → old.exam.up ≡ false → new.exam.up ≡ false
-trial_down known line old had first (unstarted reason tries) down = down
-trial_down known line old had first (right process ending tries converses left) down = refl
-trial_down known line old had first (wrong process ending fault tries ends left) down = refl
+trial_down : {P : Type 0} (known : Ghosts P) (line : List Text) (commands : List CheckCommand) (old : Check)
+    (had : Attempts P) (first : Notes) → {result : Option Wrong} {new : Check} {has : Attempts P} {notes : Notes}
+    → IsTrial known line commands old had first result new has notes → old.exam.up ≡ false → new.exam.up ≡ false
+trial_down known line commands old had first (unstarted reason tries) down = down
+trial_down known line commands old had first (right process ending tries converses asks left) down = refl
+trial_down known line commands old had first (wrong process ending fault tries ends asks left) down = refl
 
-shortens_down : {P : Type 0} (known : Ghosts P) (plan : Plan) (found : Wrong) (before : State P) (had : Attempts P)
-    → {result : Option Wrong} {after : State P} {has : Attempts P}
-    → Shortens known plan found before had result after has
+tries_down : {P : Type 0} (known : Ghosts P) (plan : Plan) (found : Wrong) (how : Shortening) (before : State P)
+    (had : Attempts P) → {result : Option Wrong} {after : State P} {has : Attempts P}
+    → TriesShorter known plan found how before had result after has
     → before.check.exam.up ≡ false → after.check.exam.up ≡ false
-shortens_down known plan found before had kept down = down
-shortens_down known plan found before had (missed {mid = mid} {between = between} tried more trial) down =
-    trial_down known (program_line plan.words.items) mid.check between mid.notes trial.trial
-    (shortens_down known plan found before had more down)
-shortens_down known plan found before had (shortened {mid = mid} {between = between} more trial ends) down =
-    trial_down known (program_line plan.words.items) mid.check between mid.notes trial.trial
-    (shortens_down known plan found before had more down)
+tries_down known plan found how before had (TriesShorter.left_out not) down = down
+tries_down known plan found how before had (TriesShorter.right may tried) down =
+    trial_down known (program_line plan.words.items) (shortened how (wrong_talk found)) before.check had before.notes
+    tried.trial down
+tries_down known plan found how before had (TriesShorter.other may tried differs) down =
+    trial_down known (program_line plan.words.items) (shortened how (wrong_talk found)) before.check had before.notes
+    tried.trial down
+tries_down known plan found how before had (TriesShorter.alike may tried same) down =
+    trial_down known (program_line plan.words.items) (shortened how (wrong_talk found)) before.check had before.notes
+    tried.trial down
+
+shortens_down : {P : Type 0} (known : Ghosts P) (plan : Plan) (found : Wrong) (all : List Shortening)
+    → {before : State P} {had : Attempts P} {result : Option Wrong} {after : State P} {has : Attempts P}
+    → Shortens known plan found all before had result after has
+    → before.check.exam.up ≡ false → after.check.exam.up ≡ false
+shortens_down known plan found [] none_left down = down
+shortens_down known plan found (how ∷ later) (missed {before = before} {had = had} tries more) down =
+    shortens_down known plan found later more (tries_down known plan found how before had tries down)
+shortens_down known plan found (how ∷ later) (shortened_so {before = before} {had = had} tries) down =
+    tries_down known plan found how before had tries down
 
 pub complains_down : {P : Type 0} (known : Ghosts P) (plan : Plan) (before : State P) (had : Attempts P) (fault : Fault)
     → {after : State P} {has : Attempts P} {said : List (List ℕ)} (which : Option Fault) → which ≡ Some fault
@@ -112,5 +128,5 @@ complains_down known plan before had fault which is (Complains.hidden {mid = mid
     ap {A = State _} (λ now. now.check.exam.up) closes.leads
 complains_down known plan before had fault which is
     (Complains.shown {fault = one} {mid = mid} about complaint closes so shortens which_one) =
-    shortens_down known plan about (found_in mid about one) had shortens
+    shortens_down known plan about shortenings shortens
     (ap {A = State _} (λ now. now.check.exam.up) closes.leads)
