@@ -4,6 +4,7 @@ mod Conversations
 mod Gathering
 mod Joining
 mod LessonLoops
+mod Progressing
 mod Running
 mod Settling
 mod Shortening

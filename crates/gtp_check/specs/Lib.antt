@@ -7,6 +7,7 @@ pub mod Listing
 pub mod Notes
 pub mod Options
 pub mod Plans
+pub mod Progress
 pub mod Rules
 pub mod Status
 pub mod Summary

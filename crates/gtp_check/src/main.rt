@@ -16,6 +16,7 @@ mod listing;
 mod notes;
 mod options;
 mod plan;
+mod progress;
 mod rules;
 pub mod run;
 mod summary;
