@@ -1,4 +1,4 @@
-use Rattle.std.proofs.Common.{◌≡◌, ◌∙◌, ◌++◌, ap, List, ℕ, refl, sym, take}
+use Rattle.std.proofs.Common.{◌∙◌, ◌++◌, ap, List, ℕ, refl, sym, take}
 use Rattle.std.proofs.lemmas.List.{append-nil}
 use Rattle.gtp_check.specs.Texts.{joined}
 use Rattle.gtp_check.proofs.Joining.{appended-step, cut_front}

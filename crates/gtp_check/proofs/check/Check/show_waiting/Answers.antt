@@ -1,4 +1,4 @@
-use Rattle.std.proofs.Common.{◌∙◌, rules, sym}
+use Rattle.std.proofs.Common.{◌∙◌, sym}
 use Rattle.gtp_check.specs.Dialogues.{dialogue}
 use Rattle.gtp_check.proofs.Progressing.{none_shown, placed_cut, waits_for, waits_for_none, waits_not}
 use Rattle.gtp_check.proofs.check.Check.show_waiting.Goals as goal
