@@ -1,7 +1,8 @@
 -- Texts that are appended one after the other.
 use Rattle.std.proofs.Common.{◌≡◌, ◌∙◌, ◌++◌, ◌∷◌, ◌+◌, ◌<◌, ℕ, List, [], ap, sym, append_assoc, length, map, take}
-use Rattle.std.proofs.Common.{slice_index_or}
+use Rattle.std.proofs.Common.{slice_index_or, refl, zero, suc}
 use Rattle.std.proofs.lemmas.List.{append-nil, take_more}
+use Rattle.std.proofs.Math.Seq.{take-append-add}
 use Rattle.std.specs.List.{concat}
 
 -- the texts of a list, and of one element more
@@ -33,3 +34,13 @@ pub one_more : (old text next part : List ℕ) (parts : List (List ℕ)) → tex
 one_more old text next part parts is more =
     more ∙ ap (λ (t : List ℕ). t ++ part) is ∙ append_assoc old (concat parts) part
     ∙ ap (λ (t : List ℕ). old ++ t) (sym (concat-end parts part))
+
+-- the beginning of two texts hangs on no more than the beginning of the first one
+pub cut_front : (n : ℕ) (xs ys : List ℕ) → take n (take n xs ++ ys) ≡ take n (xs ++ ys)
+cut_front zero xs ys = refl
+cut_front (suc n) [] ys = refl
+cut_front (suc n) (x ∷ xs) ys = ap (λ (t : List ℕ). x ∷ t) (cut_front n xs ys)
+
+-- the first n of two texts, where the first one leaves so much room
+pub joined_cut : (n room : ℕ) (xs ys : List ℕ) → length xs + room ≡ n → xs ++ take room ys ≡ take n (xs ++ ys)
+joined_cut n room xs ys is = sym (take-append-add xs ys room) ∙ ap (λ (k : ℕ). take k (xs ++ ys)) is

@@ -24,11 +24,11 @@ never_both kind refused (inl help) = cc (refused, help)
 never_both kind refused (inr version) = cc (refused, version)
 
 module _ {P O E : Type 0} (known : Ghosts P) (outs : WriterGhosts O) (errs : WriterGhosts E) (words : List Text)
-    (asked : Attempts P) (out : O) (errors : E) where
+    (progress : Bool) (asked : Attempts P) (out : O) (errors : E) where
   -- where `clap` returns an error
   pub clap_ran : (kind : ErrorKind) → (kind ≡ ClapOutOfMemory) ⊎ HasFault words kind
       → (status : ℕ) (written : O) (reported : E) → Answers outs errs kind out errors status written reported
-      → HasRun known outs errs words asked out errors status asked written reported
+      → HasRun known outs errs words progress asked out errors status asked written reported
   clap_ran kind fault status written reported (Answers.refused why) = HasRun.no_memory why
   clap_ran kind fault status written reported (Answers.request text asks shows) =
       HasRun.shown text
@@ -45,7 +45,7 @@ module _ {P O E : Type 0} (known : Ghosts P) (outs : WriterGhosts O) (errs : Wri
   -- where the options come to no plan
   pub no_plan_ran : (options : Options) → AsksFor words options → (error : PlanError) → HasNoPlan options error
       → (status : ℕ) (reported : E) → ReportsPlanError errs error status errors reported
-      → HasRun known outs errs words asked out errors status asked out reported
+      → HasRun known outs errs words progress asked out errors status asked out reported
   no_plan_ran options asks (BadWords what) none status reported reports =
       rw reports.0
       (HasRun.mistaken (inr (record {
@@ -57,8 +57,8 @@ module _ {P O E : Type 0} (known : Ghosts P) (outs : WriterGhosts O) (errs : Wri
       })))
   no_plan_ran options asks OutOfMemory none status reported reports = rw reports.0 (HasRun.no_memory reports.1)
 
-module _ {P O E : Type 0} (known : Ghosts P) (outs : WriterGhosts O) (errs : WriterGhosts E) (asked : Attempts P) (out : O)
-    (errors : E) where
+module _ {P O E : Type 0} (known : Ghosts P) (outs : WriterGhosts O) (errs : WriterGhosts E)
+    (progress : Bool) (asked : Attempts P) (out : O) (errors : E) where
   -- each status is one of the four
   pub shown_status : (text : List ℕ) (status : ℕ) (written : O) (reported : E)
       → Shows outs errs text out errors status written reported → IsStatus status
@@ -71,7 +71,7 @@ module _ {P O E : Type 0} (known : Ghosts P) (outs : WriterGhosts O) (errs : Wri
   found_status false = inl refl
 
   pub held_status : (plan : Plan) (status : ℕ) (has : Attempts P) (written : O) (reported : E)
-      → IsHeld known outs errs plan asked out errors status has written reported → IsStatus status
-  held_status plan status has written reported (IsHeld.is_over {last = last} turns closed lines goes) =
+      → IsHeld known outs errs plan progress asked out errors status has written reported → IsStatus status
+  held_status plan status has written reported (IsHeld.is_over {last = last} turns shown closed lines goes) =
       found_status (nat_lt 0 last.tally.complaints)
-  held_status plan status has written reported (IsHeld.not_started turns none closed wrote) = inr (inr (inl refl))
+  held_status plan status has written reported (IsHeld.not_started turns shown none closed wrote) = inr (inr (inl refl))

@@ -17,13 +17,16 @@ use Rattle.gtp_check.specs.declared.talk.Purpose.{Purpose}
 use Rattle.gtp_check.specs.declared.tally.Tally.{Tally}
 use Rattle.gtp_check.specs.Complaints.{complaint_lines}
 use Rattle.gtp_check.specs.Dialogues.{IsTrial, Wrong, right, unstarted, wrong, wrong_purpose, wrong_talk}
+use Rattle.gtp_check.specs.Progress.{IsShown, cleared, clearing, looking, looking_line}
 use Rattle.gtp_check.specs.Shortening.{shortened, shortenings}
 use Rattle.gtp_check.specs.Tally.{found, is_shown}
 use Rattle.gtp_check.specs.Turns.{Closes, Complains, Exchanges, IsComplaint, Shortens, State, StopsIn, found_in, hidden}
 use Rattle.gtp_check.specs.Turns.{complaint_broke as turn_complaint_broke, first_line_broke, no_memory_for_first_line}
-use Rattle.gtp_check.specs.Turns.{TriesShorter, missed, no_memory_to_complain, none_left, process_of, shortened_so, shown}
+use Rattle.gtp_check.specs.Turns.{TriesShorter, kept, missed, no_memory_to_complain, none_left, process_of, shortened_so}
+use Rattle.gtp_check.specs.Turns.{shown, waiting}
 use Rattle.gtp_check.specs.private.Steps.{ComplaintGoesOut, ComplaintStops, FirstGoesOut, FirstStops, StopsAfter}
 use Rattle.gtp_check.specs.private.Steps.{complaint_broke, complaint_refused, first_broke, first_refused}
+use Rattle.gtp_check.proofs.Progressing.{both_shown, none_shown}
 
 -- lines went out, and then others
 pub both_out : {W : Type 0} (known : WriterGhosts W) (one other : List (List ℕ)) (before between after : W)
@@ -41,16 +44,20 @@ module _ {P : Type 0} (known : Ghosts P) (plan : Plan) (before mid : State P) (h
       ap (λ (t : Tally). record mid { tally = t })
       (now ∙ ap (λ (p : Purpose). found mid.tally p.lesson fault) same)
 
-  pub is_hidden : {O : Type 0} (outs : WriterGhosts O) (answer : Bool) → answer ≡ is_shown mid.tally purpose.lesson fault
-      → answer ≡ false → (out : O)
-      → ComplaintGoesOut known plan outs before had fault (record mid { tally = tally }) had out out
-  is_hidden outs answer is so out =
-      subst (λ (last : State P). ComplaintGoesOut known plan outs before had fault last had out out) (sym found_now)
+  pub is_hidden : {O E : Type 0} (outs : WriterGhosts O) (errs : WriterGhosts E) (progress : Bool) (answer : Bool)
+      → answer ≡ is_shown mid.tally purpose.lesson fault → answer ≡ false → (out : O) (errors : E)
+      → ComplaintGoesOut known plan outs errs progress before had fault (record mid { tally = tally }) had out out errors
+      errors
+  is_hidden outs errs progress answer is so out errors =
+      subst
+      (λ (last : State P). ComplaintGoesOut known plan outs errs progress before had fault last had out out errors errors)
+      (sym found_now)
       (record {
         said = [];
         complains = hidden wrong closes
             (sym (ap (λ (p : Purpose). is_shown mid.tally p.lesson fault) same) ∙ sym is ∙ so);
         goes_out = no_line;
+        shown = none_shown errs progress errors;
       })
 
   pub complained : (answer : Bool) → answer ≡ is_shown mid.tally purpose.lesson fault → answer ≡ true
@@ -64,27 +71,48 @@ module _ {P : Type 0} (known : Ghosts P) (plan : Plan) (before mid : State P) (h
       (subst (λ (start : State P). Shortens known plan wrong shortenings start had shorter after has) found_now shortens)
       (subst (λ (p : Purpose). IsComplaint plan.rule after.tally.complaints p.lesson (unwrap_or shorter wrong) complaint) same about)
 
-module _ {P O : Type 0} (known : Ghosts P) (plan : Plan) (outs : WriterGhosts O) where
+module _ {P O E : Type 0} (known : Ghosts P) (plan : Plan) (outs : WriterGhosts O) (errs : WriterGhosts E)
+    (progress : Bool) where
+  -- what is waited for was shown, and then what is shown before the first line and a complaint
+  all_shown : (mid : State P) (line texts : List (List ℕ)) (errors seen then sees : E)
+      → IsShown errs progress (waiting plan mid) errors seen → IsShown errs progress (clearing line) seen then
+      → IsShown errs progress texts then sees
+      → IsShown errs progress (waiting plan mid ++ (clearing line ++ texts)) errors sees
+  all_shown mid line texts errors seen then sees waited cleared_so last =
+      both_shown errs progress (waiting plan mid) (clearing line ++ texts) errors seen sees waited
+      (both_shown errs progress (clearing line) texts seen then sees cleared_so last)
+
   -- the first line wasn't written, and so the turn stopped
-  pub first_stops : (mid after : State P) (had : Attempts P) (fault : Option Fault) (out written : O) (why : Failure)
-      → FirstStops known plan outs mid (is_some fault) after out written why
-      → StopsAfter known plan outs mid had fault (process_of after.engine) had out written why
-  first_stops mid after had fault out written why (first_broke first breaks same) = λ before exchanges.
-      rw same (first_line_broke exchanges first breaks)
-  first_stops mid after had fault out written why (first_refused is same) = λ before exchanges.
-      rw (is, same) (no_memory_for_first_line exchanges)
+  pub first_stops : (mid after : State P) (had : Attempts P) (fault : Option Fault) (out written : O) (seen sees : E)
+      (why : Failure) → FirstStops known plan outs errs progress mid (is_some fault) after out written seen sees why
+      → StopsAfter known plan outs errs progress mid had fault (process_of after.engine) had out written seen sees why
+  first_stops mid after had fault out written seen sees why (first_broke first breaks wrote same) =
+      λ before errors heard waited.
+      rw same
+      (first_line_broke heard first breaks
+      (both_shown errs progress (waiting plan heard.mid) (cleared ∷ []) errors seen sees waited wrote))
+  first_stops mid after had fault out written seen sees why (first_refused is still same) =
+      λ before errors heard waited. rw (is, still, same) (no_memory_for_first_line heard waited)
 
   -- the complaint wasn't written, and so the turn stopped
   pub complaint_stops : (mid next after : State P) (had has : Attempts P) (fault : Fault) (out between written : O)
-      (why : Failure) → FirstGoesOut known plan outs mid true next out between
-      → ComplaintStops known plan outs next had fault after has between written why
-      → StopsAfter known plan outs mid had (Some fault) (process_of after.engine) has out written why
-  complaint_stops mid next after had has fault out between written why first (complaint_broke complains breaks gone) =
-      λ before exchanges.
-      rw gone (turn_complaint_broke exchanges first.first first.goes_out complains breaks)
-  complaint_stops mid next after had has fault out between written why first (complaint_refused closes asks is gone) =
-      λ before exchanges.
-      rw (gone, is) (no_memory_to_complain exchanges first.first first.goes_out closes asks)
+      (seen then sees : E) (why : Failure)
+      → FirstGoesOut known plan outs errs progress mid true next out between seen then
+      → ComplaintStops known plan outs errs progress next had fault after has between written then sees why
+      → StopsAfter known plan outs errs progress mid had (Some fault) (process_of after.engine) has out written seen sees
+      why
+  complaint_stops mid next after had has fault out between written seen then sees why first
+      (complaint_broke {text = text} complains breaks wrote gone) =
+      λ before errors heard waited.
+      rw gone
+      (turn_complaint_broke heard first.first first.goes_out complains breaks
+      (all_shown heard.mid first.line (looking (text ∷ [])) errors seen then sees waited first.shown wrote))
+  complaint_stops mid next after had has fault out between written seen then sees why first
+      (complaint_refused closes asks is wrote gone) =
+      λ before errors heard waited.
+      rw (gone, is)
+      (no_memory_to_complain heard first.first first.goes_out closes asks
+      (all_shown heard.mid first.line (looking_line ∷ []) errors seen then sees waited first.shown wrote))
 
 -- ---- after a complaint the engine is down
 

@@ -1,6 +1,7 @@
 -- What the program does, from its words to its end. (Own.)
 use Rattle.std.specs.Prelude.{codes}
-use Rattle.std.specs.Prelude.{◌≡◌, ◌⊎◌, ℕ, ◌==◌, Bool, true, false, List, length, drop, min, Option, None, Result, Ok, Err}
+use Rattle.std.specs.Prelude.{◌≡◌, ◌⊎◌, ℕ, ◌==◌, Bool, true, false, List, [], ◌∷◌, length, drop, min, Option, None}
+use Rattle.std.specs.Prelude.{Result, Ok, Err}
 use Rattle.clap.specs.Words.{Text}
 use Rattle.clap.specs.declared.error.kind.ErrorKind.{ErrorKind}
 use Rattle.byte_streams.specs.declared.calls.WriteOnce.{Ghosts as WriterGhosts}
@@ -25,6 +26,7 @@ use Rattle.gtp_check.specs.declared.tally.Tally.{Tally}
 use Rattle.gtp_check.specs.Listing.{list_lines}
 use Rattle.gtp_check.specs.Options.{AsksFor, AsksForText, HasFault}
 use Rattle.gtp_check.specs.Plans.{HasNoPlan, IsPlanOf}
+use Rattle.gtp_check.specs.Progress.{IsShown, cleared}
 use Rattle.gtp_check.specs.Status.{ReportsFailure, ReportsMistake, status_of}
 use Rattle.gtp_check.specs.Summary.{last_lines}
 use Rattle.gtp_check.specs.Turns.{HasStopped, State, TurnsAreOver, before_all, process_of}
@@ -57,38 +59,46 @@ pub record AreLastLines {P : Type 0} (plan : Plan) (last : State P) (why : Over)
 -- ---- a check
 
 module _ {P O E : Type 0} (known : Ghosts P) (outs : WriterGhosts O) (errs : WriterGhosts E) (plan : Plan)
-    (asked : Attempts P) (out : O) (errors : E) where
-  -- A check was held to its end. The last lines went out, and the status says whether something was found. Or the engine
-  -- wasn't started at the first try: that is reported on standard error, and the status is that of a mistake.
+    (progress : Bool) (asked : Attempts P) (out : O) (errors : E) where
+  -- A check was held to its end, and the line of its progress is cleared. The last lines went out, and the status says
+  -- whether something was found. Or the engine wasn't started at the first try: that is reported on standard error, and
+  -- the status is that of a mistake.
   pub data IsHeld : ℕ → Attempts P → O → E → Type 0 where
-    is_over : {why : Over} {last : State P} {has : Attempts P} {between written : O} {text : List ℕ}
-        → TurnsAreOver known plan outs (before_all plan) asked out why last has between
+    is_over : {why : Over} {last : State P} {has : Attempts P} {between written : O} {seen sees : E} {text : List ℕ}
+        → TurnsAreOver known plan outs errs progress (before_all plan) asked out errors why last has between seen
+        → IsShown errs progress (cleared ∷ []) seen sees
         → IsClosed known last → AreLastLines plan last why text → GoesOut outs text between written
-        → IsHeld (status_of last.tally.complaints) has written errors
-    not_started : {start : Unstarted} {last : State P} {has : Attempts P} {written : O} {reported : E}
-        → TurnsAreOver known plan outs (before_all plan) asked out (over.NotStarted start) last has written
+        → IsHeld (status_of last.tally.complaints) has written sees
+    not_started : {start : Unstarted} {last : State P} {has : Attempts P} {written : O} {seen sees reported : E}
+        → TurnsAreOver known plan outs errs progress (before_all plan) asked out errors (over.NotStarted start) last has
+        written seen
+        → IsShown errs progress (cleared ∷ []) seen sees
         → last.check.starts ≡ 0 → IsClosed known last
-        → IsWritten errs (error_line (codes "gtp_check") (unstarted_text start)) errors reported
+        → IsWritten errs (error_line (codes "gtp_check") (unstarted_text start)) sees reported
         → IsHeld usage_failure has written reported
 
   -- A check stopped: in its turns; or at its last lines, for which memory was refused, or at which the output broke.
-  -- Every process was ended.
-  pub data IsStopped : Failure → Attempts P → O → Type 0 where
-    in_turns : {process : Option P} {has : Attempts P} {written : O} {failure : Failure}
-        → HasStopped known plan outs (before_all plan) asked out process has written failure
-        → IsEnded known process → IsStopped failure has written
-    refused_at_end : {why : Over} {last : State P} {has : Attempts P} {written : O}
-        → TurnsAreOver known plan outs (before_all plan) asked out why last has written
-        → IsClosed known last → IsStopped OutOfMemory has written
-    broke_at_end : {why : Over} {last : State P} {has : Attempts P} {between written : O} {text : List ℕ}
-        → TurnsAreOver known plan outs (before_all plan) asked out why last has between
+  -- Every process was ended, and the line of the progress is cleared.
+  pub data IsStopped : Failure → Attempts P → O → E → Type 0 where
+    in_turns : {process : Option P} {has : Attempts P} {written : O} {seen sees : E} {failure : Failure}
+        → HasStopped known plan outs errs progress (before_all plan) asked out errors process has written seen failure
+        → IsShown errs progress (cleared ∷ []) seen sees
+        → IsEnded known process → IsStopped failure has written sees
+    refused_at_end : {why : Over} {last : State P} {has : Attempts P} {written : O} {seen sees : E}
+        → TurnsAreOver known plan outs errs progress (before_all plan) asked out errors why last has written seen
+        → IsShown errs progress (cleared ∷ []) seen sees
+        → IsClosed known last → IsStopped OutOfMemory has written sees
+    broke_at_end : {why : Over} {last : State P} {has : Attempts P} {between written : O} {seen sees : E}
+        {text : List ℕ}
+        → TurnsAreOver known plan outs errs progress (before_all plan) asked out errors why last has between seen
+        → IsShown errs progress (cleared ∷ []) seen sees
         → IsClosed known last → AreLastLines plan last why text → BreaksAt outs text between written
-        → IsStopped Write has written
+        → IsStopped Write has written sees
 
-  -- so a check ends, with nothing on standard error where it stopped
+  -- so a check ends
   abbrev pub Ends : Result ℕ Failure → Attempts P → O → E → Type 0
   Ends (Ok status) has written reported = IsHeld status has written reported
-  Ends (Err failure) has written reported = IsStopped failure has written × (reported ≡ errors)
+  Ends (Err failure) has written reported = IsStopped failure has written reported
 
 -- ---- the words of the command line
 
@@ -138,17 +148,18 @@ HasMistake errs words before after = IsRefusedByClap errs words before after ⊎
 -- ---- a run
 
 module _ {P O E : Type 0} (known : Ghosts P) (outs : WriterGhosts O) (errs : WriterGhosts E) (words : List Text)
-    (asked : Attempts P) (out : O) (errors : E) where
+    (progress : Bool) (asked : Attempts P) (out : O) (errors : E) where
   -- What the program did, and with what status it ends. It held the check that the words ask for. Or that stopped, and
   -- why is reported. Or it showed the help, the version or the list of lessons. Or the words have a mistake, which is
   -- reported. Or memory was refused before anything was done. Only a check starts anything.
   pub data HasRun : ℕ → Attempts P → O → E → Type 0 where
     checked : {status : ℕ} {has : Attempts P} {written : O} {reported : E} (plan : Plan) → AsksForPlan words plan
-        → IsHeld known outs errs plan asked out errors status has written reported
+        → IsHeld known outs errs plan progress asked out errors status has written reported
         → HasRun status has written reported
-    stopped : {has : Attempts P} {written : O} {reported : E} (plan : Plan) (failure : Failure) → AsksForPlan words plan
-        → IsStopped known outs errs plan asked out errors failure has written
-        → ReportsFailure errs failure errors reported
+    stopped : {has : Attempts P} {written : O} {sees reported : E} (plan : Plan) (failure : Failure)
+        → AsksForPlan words plan
+        → IsStopped known outs errs plan progress asked out errors failure has written sees
+        → ReportsFailure errs failure sees reported
         → HasRun own_failure has written reported
     shown : {status : ℕ} {written : O} {reported : E} (text : List ℕ) → AsksForText words
         → Shows outs errs text out errors status written reported

@@ -8,6 +8,7 @@ pub mod Listing
 pub mod Notes
 pub mod Options
 pub mod Plans
+pub mod Progress
 pub mod Rules
 pub mod Shortening
 pub mod Status

@@ -45,6 +45,7 @@ use Rattle.gtp_check.specs.Dialogues.{AsksForMore, Dialogue, EndsLike, IsAsked, 
 use Rattle.gtp_check.specs.Dialogues.{dialogue, is_same_purpose, wrong_purpose, wrong_talk, wrong_with}
 use Rattle.gtp_check.specs.Notes.{nothing_noted}
 use Rattle.gtp_check.specs.Notes.{started as noted_start}
+use Rattle.gtp_check.specs.Progress.{IsShown, before_read, cleared, clearing, looking, looking_line}
 use Rattle.gtp_check.specs.Shortening.{games_in, shortened, shortenings}
 use Rattle.gtp_check.specs.Summary.{first_line}
 use Rattle.gtp_check.specs.Superko.{IsPositional}
@@ -151,6 +152,16 @@ pub record MayStart (check : Check) (tally : Tally) : Type 0 where
 -- The first line is due once the version is known, or something is wrong, and it isn't written.
 abbrev pub is_first_due : Tally → Notes → Bool → Bool
 is_first_due tally notes is_wrong = not tally.has_first_line && (is_wrong || is_some notes.version)
+
+-- ---- progress on a terminal
+
+-- before this engine, if one is there, is heard: what is waited for
+abbrev pub waiting_for : {P : Type 0} → Plan → State P → Option (Engine P) → List (List ℕ)
+waiting_for plan now None = []
+waiting_for plan now (Some engine) = before_read plan.lessons.items now.check (dialogue engine now.notes)
+
+abbrev pub waiting : {P : Type 0} → Plan → State P → List (List ℕ)
+waiting plan now = waiting_for plan now now.engine
 
 -- ---- the text of a complaint
 
@@ -286,8 +297,10 @@ module _ {P : Type 0} (known : Ghosts P) (plan : Plan) where
     pub heard : IsHeardOut known mid fault after
 
   -- A turn takes steps of the course. Then it starts the engine; or it sends it `quit` and ends it, or ends it at
-  -- once; or it sends what was asked, hears the engine, and writes what is due.
-  pub data Turn (before : State P) (had : Attempts P) : State P → Attempts P → List (List ℕ) → Type 0 where
+  -- once; or it sends what was asked, hears the engine, and writes what is due. These texts are written to the output,
+  -- and these of the progress, in their order.
+  pub data Turn (before : State P) (had : Attempts P)
+      : State P → Attempts P → List (List ℕ) → List (List ℕ) → Type 0 where
     starts : {mid : State P} {course : Course} {has : Attempts P} {engine : Engine P} (process : P)
         → Asks plan.singly before mid → IsNext mid.course mid.check.exam Start course
         → mid.notes.fruitless < most_fruitless → MayStart mid.check mid.tally
@@ -296,18 +309,19 @@ module _ {P : Type 0} (known : Ghosts P) (plan : Plan) where
         → ((notes : Notes) → dialogue engine notes ≡ begun_with process notes)
         → Turn before had
         (state (started mid.check) course (Some engine) (started_again mid.tally) (noted_start mid.notes)) has []
+        []
     restarts : {mid : State P} {course : Course} → Asks plan.singly before mid
         → IsNext mid.course mid.check.exam Restart course
         → QuitsIfAny known (process_of mid.engine)
-        → Turn before had (record mid { check = after_loss mid.check; course = course; engine = None }) had []
+        → Turn before had (record mid { check = after_loss mid.check; course = course; engine = None }) had [] []
     kills : {mid : State P} {course : Course} → Asks plan.singly before mid
         → IsNext mid.course mid.check.exam Kill course
         → IsEnded known (process_of mid.engine)
-        → Turn before had (record mid { check = after_loss mid.check; course = course; engine = None }) had []
+        → Turn before had (record mid { check = after_loss mid.check; course = course; engine = None }) had [] []
     exchanges : {mid next after : State P} {has : Attempts P} {fault : Option Fault} {line said : List (List ℕ)}
-        → Exchanges before fault mid → WritesFirst mid (is_some fault) next line
+        → (heard : Exchanges before fault mid) → WritesFirst mid (is_some fault) next line
         → Complains next had fault after has said
-        → Turn before had after has (line ++ said)
+        → Turn before had after has (line ++ said) (waiting plan heard.mid ++ (clearing line ++ looking said))
 
   -- ---- why it is over
 
@@ -338,58 +352,65 @@ module _ {P : Type 0} (known : Ghosts P) (plan : Plan) where
 
   -- ---- turns, one after another
 
-  module _ {O : Type 0} (outs : WriterGhosts O) where
-    -- This number of turns was taken, from a first state on. What is due in each was written in it.
-    pub data Turns (first : State P) (asked : Attempts P) (out : O) : ℕ → State P → Attempts P → O → Type 0 where
-      not_yet : Turns first asked out 0 first asked out
-      turns : {count : ℕ} {before after : State P} {had has : Attempts P} {between written : O} {texts : List (List ℕ)}
-          → Turns first asked out count before had between
-          → Turn before had after has texts → LinesGoOut outs texts between written
-          → Turns first asked out (count + 1) after has written
+  module _ {O E : Type 0} (outs : WriterGhosts O) (errs : WriterGhosts E) (progress : Bool) where
+    -- This number of turns was taken, from a first state on. What is due in each was written in it, and its progress
+    -- where that is asked for.
+    pub data Turns (first : State P) (asked : Attempts P) (out : O) (errors : E)
+        : ℕ → State P → Attempts P → O → E → Type 0 where
+      not_yet : Turns first asked out errors 0 first asked out errors
+      turns : {count : ℕ} {before after : State P} {had has : Attempts P} {between written : O} {seen sees : E}
+          {texts shows : List (List ℕ)} → Turns first asked out errors count before had between seen
+          → Turn before had after has texts shows → LinesGoOut outs texts between written
+          → IsShown errs progress shows seen sees
+          → Turns first asked out errors (count + 1) after has written sees
 
     -- the check is over, after turns
-    pub record TurnsAreOver (first : State P) (asked : Attempts P) (out : O) (why : Over) (last : State P)
-        (has : Attempts P) (written : O) : Type 0 where
+    pub record TurnsAreOver (first : State P) (asked : Attempts P) (out : O) (errors : E) (why : Over) (last : State P)
+        (has : Attempts P) (written : O) (sees : E) : Type 0 where
       pub count : ℕ
       pub before : State P
       pub had : Attempts P
-      pub turns : Turns first asked out count before had written
+      pub turns : Turns first asked out errors count before had written sees
       pub over : IsOver before had why last has
 
     -- Why a turn stopped. The output broke at what was due in it. Or memory was refused: for a start; for a command; for
     -- the first line; or after something wrong was found, for its complaint. The process that the check had then, if any,
-    -- and the starts that were asked for.
-    pub data StopsIn (before : State P) (had : Attempts P) (out : O)
-        : Option P → Attempts P → O → Failure → Type 0 where
-      first_line_broke : {mid next : State P} {written : O} {fault : Option Fault} {line : List ℕ}
-          → Exchanges before fault mid → WritesFirst mid (is_some fault) next (line ∷ [])
+    -- the starts that were asked for, and what was written of the progress.
+    pub data StopsIn (before : State P) (had : Attempts P) (out : O) (errors : E)
+        : Option P → Attempts P → O → E → Failure → Type 0 where
+      first_line_broke : {mid next : State P} {written : O} {sees : E} {fault : Option Fault} {line : List ℕ}
+          → (heard : Exchanges before fault mid) → WritesFirst mid (is_some fault) next (line ∷ [])
           → BreaksAt outs line out written
-          → StopsIn before had out (process_of mid.engine) had written Write
-      complaint_broke : {mid next after : State P} {has : Attempts P} {then written : O} {fault : Option Fault}
-          {line : List (List ℕ)} {text : List ℕ} → Exchanges before fault mid
+          → IsShown errs progress (waiting plan heard.mid ++ cleared ∷ []) errors sees
+          → StopsIn before had out errors (process_of mid.engine) had written sees Write
+      complaint_broke : {mid next after : State P} {has : Attempts P} {then written : O} {sees : E}
+          {fault : Option Fault} {line : List (List ℕ)} {text : List ℕ} → (heard : Exchanges before fault mid)
           → WritesFirst mid (is_some fault) next line → LinesGoOut outs line out then
           → Complains next had fault after has (text ∷ []) → BreaksAt outs text then written
-          → StopsIn before had out None has written Write
+          → IsShown errs progress (waiting plan heard.mid ++ (clearing line ++ looking (text ∷ []))) errors sees
+          → StopsIn before had out errors None has written sees Write
       no_memory_to_start : {mid : State P} {course : Course} {has : Attempts P} → Asks plan.singly before mid
           → IsNext mid.course mid.check.exam Start course
           → Tries had has (program_line plan.words.items) (Err start_fault.OutOfMemory)
-          → StopsIn before had out (process_of mid.engine) has out OutOfMemory
-      no_memory_to_ask : StopsIn before had out (process_of before.engine) had out OutOfMemory
-      no_memory_for_first_line : {mid : State P} {fault : Option Fault} → Exchanges before fault mid
-          → StopsIn before had out (process_of mid.engine) had out OutOfMemory
-      no_memory_to_complain : {mid next closed : State P} {has : Attempts P} {written : O} {fault : Fault}
-          {line : List (List ℕ)} {wrong : Wrong} → Exchanges before (Some fault) mid
+          → StopsIn before had out errors (process_of mid.engine) has out errors OutOfMemory
+      no_memory_to_ask : StopsIn before had out errors (process_of before.engine) had out errors OutOfMemory
+      no_memory_for_first_line : {mid : State P} {sees : E} {fault : Option Fault} → (heard : Exchanges before fault mid)
+          → IsShown errs progress (waiting plan heard.mid) errors sees
+          → StopsIn before had out errors (process_of mid.engine) had out sees OutOfMemory
+      no_memory_to_complain : {mid next closed : State P} {has : Attempts P} {written : O} {sees : E} {fault : Fault}
+          {line : List (List ℕ)} {wrong : Wrong} → (heard : Exchanges before (Some fault) mid)
           → WritesFirst mid true next line → LinesGoOut outs line out written → Closes known fault next wrong closed
           → AsksForMore (program_line plan.words.items) had has
-          → StopsIn before had out None has written OutOfMemory
+          → IsShown errs progress (waiting plan heard.mid ++ (clearing line ++ looking_line ∷ [])) errors sees
+          → StopsIn before had out errors None has written sees OutOfMemory
 
     -- a check stopped after turns: in the next one, or since there were too many
-    pub data HasStopped (first : State P) (asked : Attempts P) (out : O) : Option P → Attempts P → O → Failure → Type 0
-      where
-        stopped : {count : ℕ} {before : State P} {had has : Attempts P} {between written : O} {process : Option P}
-            {failure : Failure} → Turns first asked out count before had between
-            → StopsIn before had between process has written failure
-            → HasStopped first asked out process has written failure
-        too_many_turns : {last : State P} {has : Attempts P} {written : O}
-            → Turns first asked out most_turns last has written
-            → HasStopped first asked out (process_of last.engine) has written TooManyTurns
+    pub data HasStopped (first : State P) (asked : Attempts P) (out : O) (errors : E)
+        : Option P → Attempts P → O → E → Failure → Type 0 where
+      stopped : {count : ℕ} {before : State P} {had has : Attempts P} {between written : O} {seen sees : E}
+          {process : Option P} {failure : Failure} → Turns first asked out errors count before had between seen
+          → StopsIn before had between seen process has written sees failure
+          → HasStopped first asked out errors process has written sees failure
+      too_many_turns : {last : State P} {has : Attempts P} {written : O} {sees : E}
+          → Turns first asked out errors most_turns last has written sees
+          → HasStopped first asked out errors (process_of last.engine) has written sees TooManyTurns

@@ -18,6 +18,7 @@ use crate::engine::{Engine, Fault, Room};
 use crate::failure::Failure;
 use crate::notes::Notes;
 use crate::plan::Plan;
+use crate::progress::clear;
 use crate::summary::{Ending, Over, first_line, last_lines};
 use crate::talk::Purpose;
 use crate::tally::Tally;
@@ -95,25 +96,28 @@ impl<S: Starter> Check<S> {
     /// # Errors
     ///
     /// Where memory is refused, or what was found can't be written.
-    pub fn take_turns<O: WriteOnce>(
+    pub fn take_turns<O: WriteOnce, E: WriteOnce>(
         &mut self,
         plan: &Plan<'_>,
+        progress: bool,
         output: &mut O,
+        errors: &mut E,
         starter: &mut S,
     ) -> Result<Over, Failure>
         requires { IsPaired (state self.old.examiner self.old.course self.old.engine self.old.tally self.old.notes) }
         ensures over { let before = state self.old.examiner self.old.course self.old.engine self.old.tally self.old.notes in
             let after = state self.new.examiner self.new.course self.new.engine self.new.tally self.new.notes in
-            IfOk result (λ over. TurnsAreOver S.Process.Process plan.now O.WriteOnce
-            before (S.asked starter.old) output.old over after (S.asked starter.new) output.new) }
+            IfOk result (λ over. TurnsAreOver S.Process.Process plan.now O.WriteOnce E.WriteOnce progress
+            before (S.asked starter.old) output.old errors.old
+            over after (S.asked starter.new) output.new errors.new) }
         ensures stopped { let before = state self.old.examiner self.old.course self.old.engine self.old.tally self.old.notes in
             let after = state self.new.examiner self.new.course self.new.engine self.new.tally self.new.notes in
-            IfErr result (λ why. HasStopped S.Process.Process plan.now
-            O.WriteOnce before (S.asked starter.old) output.old (process_of self.new.engine)
-            (S.asked starter.new) output.new why) }
+            IfErr result (λ why. HasStopped S.Process.Process plan.now O.WriteOnce E.WriteOnce progress
+            before (S.asked starter.old) output.old errors.old (process_of self.new.engine)
+            (S.asked starter.new) output.new errors.new why) }
     {
         for _turn in 0..MOST_TURNS {
-            if let Some(over) = self.take_turn(plan, output, starter)? {
+            if let Some(over) = self.take_turn(plan, progress, output, errors, starter)? {
                 return Ok(over);
             }
         }
@@ -121,22 +125,25 @@ impl<S: Starter> Check<S> {
     }
 
     /// Takes the next steps of the course, up to an answer that has to come first.
-    fn take_turn<O: WriteOnce>(
+    fn take_turn<O: WriteOnce, E: WriteOnce>(
         &mut self,
         plan: &Plan<'_>,
+        progress: bool,
         output: &mut O,
+        errors: &mut E,
         starter: &mut S,
     ) -> Result<Option<Over>, Failure>
         requires { IsPaired (state self.old.examiner self.old.course self.old.engine self.old.tally self.old.notes) }
         ensures turn { let before = state self.old.examiner self.old.course self.old.engine self.old.tally self.old.notes in
             let after = state self.new.examiner self.new.course self.new.engine self.new.tally self.new.notes in
-            IfOk result (λ over. EndsTurn S.Process.Process plan.now O.WriteOnce
-            before (S.asked starter.old) output.old over after (S.asked starter.new) output.new) }
+            IfOk result (λ over. EndsTurn S.Process.Process plan.now O.WriteOnce E.WriteOnce progress
+            before (S.asked starter.old) output.old errors.old
+            over after (S.asked starter.new) output.new errors.new) }
         ensures stops { let before = state self.old.examiner self.old.course self.old.engine self.old.tally self.old.notes in
             let after = state self.new.examiner self.new.course self.new.engine self.new.tally self.new.notes in
-            IfErr result (λ why. StopsIn S.Process.Process plan.now O.WriteOnce
-            before (S.asked starter.old) output.old (process_of self.new.engine)
-            (S.asked starter.new) output.new why) }
+            IfErr result (λ why. StopsIn S.Process.Process plan.now O.WriteOnce E.WriteOnce progress
+            before (S.asked starter.old) output.old errors.old (process_of self.new.engine)
+            (S.asked starter.new) output.new errors.new why) }
         ensures paired { OnOk result (IsPaired (state self.new.examiner self.new.course self.new.engine self.new.tally self.new.notes)) }
     {
         match self.gather(plan.singly)? {
@@ -151,8 +158,9 @@ impl<S: Starter> Check<S> {
             }
             Next::Over => Ok(Some(Over::Done)),
             Next::Exchange => {
+                self.show_waiting(progress, plan, errors);
                 let fault = self.exchange();
-                self.settle(fault, plan, output, starter)?;
+                self.settle(fault, plan, progress, output, errors, starter)?;
                 Ok(None)
             }
         }
@@ -265,27 +273,30 @@ impl<S: Starter> Check<S> {
     }
 
     /// What is due after an exchange is written: the first line, and what is wrong.
-    fn settle<O: WriteOnce>(
+    fn settle<O: WriteOnce, E: WriteOnce>(
         &mut self,
         fault: Option<Fault>,
         plan: &Plan<'_>,
+        progress: bool,
         output: &mut O,
+        errors: &mut E,
         starter: &mut S,
     ) -> Result<(), Failure>
         requires { IsSome self.old.engine }
         ensures goes_out { let before = state self.old.examiner self.old.course self.old.engine self.old.tally self.old.notes in
             let after = state self.new.examiner self.new.course self.new.engine self.new.tally self.new.notes in
-            OnOk result (Settles S.Process.Process plan.now O.WriteOnce
-            before (S.asked starter.old) fault after (S.asked starter.new) output.old output.new) }
+            OnOk result (Settles S.Process.Process plan.now O.WriteOnce E.WriteOnce progress
+            before (S.asked starter.old) fault after (S.asked starter.new)
+            output.old output.new errors.old errors.new) }
         ensures stops { let before = state self.old.examiner self.old.course self.old.engine self.old.tally self.old.notes in
-            IfErr result (λ why. StopsAfter S.Process.Process plan.now O.WriteOnce
+            IfErr result (λ why. StopsAfter S.Process.Process plan.now O.WriteOnce E.WriteOnce progress
             before (S.asked starter.old) fault (process_of self.new.engine)
-            (S.asked starter.new) output.old output.new why) }
+            (S.asked starter.new) output.old output.new errors.old errors.new why) }
         ensures paired { OnOk result (IsPaired (state self.new.examiner self.new.course self.new.engine self.new.tally self.new.notes)) }
     {
-        self.write_first(fault.is_some(), plan, output)?;
+        self.write_first(fault.is_some(), plan, progress, output, errors)?;
         match fault {
-            Some(fault) => self.complain(fault, plan, output, starter),
+            Some(fault) => self.complain(fault, plan, progress, output, errors, starter),
             None => Ok(()),
         }
     }
@@ -354,20 +365,22 @@ impl<S: Starter> Check<S> {
     }
 
     /// The first line is written once the version is known, or something is wrong.
-    fn write_first<O: WriteOnce>(
+    fn write_first<O: WriteOnce, E: WriteOnce>(
         &mut self,
         is_wrong: bool,
         plan: &Plan<'_>,
+        progress: bool,
         output: &mut O,
+        errors: &mut E,
     ) -> Result<(), Failure>
         ensures goes_out { let before = state self.old.examiner self.old.course self.old.engine self.old.tally self.old.notes in
             let after = state self.new.examiner self.new.course self.new.engine self.new.tally self.new.notes in
-            OnOk result (FirstGoesOut S.Process.Process plan.now O.WriteOnce
-            before is_wrong after output.old output.new) }
+            OnOk result (FirstGoesOut S.Process.Process plan.now O.WriteOnce E.WriteOnce progress
+            before is_wrong after output.old output.new errors.old errors.new) }
         ensures stops { let before = state self.old.examiner self.old.course self.old.engine self.old.tally self.old.notes in
             let after = state self.new.examiner self.new.course self.new.engine self.new.tally self.new.notes in
-            IfErr result (λ why. FirstStops S.Process.Process plan.now O.WriteOnce
-            before is_wrong after output.old output.new why) }
+            IfErr result (λ why. FirstStops S.Process.Process plan.now O.WriteOnce E.WriteOnce progress
+            before is_wrong after output.old output.new errors.old errors.new why) }
         ensures engine { self.new.engine ≡ self.old.engine }
     {
         if !self.is_first_due(is_wrong) {
@@ -375,6 +388,7 @@ impl<S: Starter> Check<S> {
         }
         let line = first_line(self.alloc, plan, &self.notes)?;
         self.tally.has_first_line = true;
+        clear(progress, errors);
         write_text(output, line.as_slice())?;
         Ok(())
     }

@@ -1,9 +1,11 @@
 //! Something is wrong with the engine: it is ended, and a complaint is written.
-ghost use Rattle.std.specs.Prelude.{◌≡◌, ◌<◌, ◌⊎◌, true, false, None, IfErr, IfOk, IfSome, IsSome, OnOk, option_map};
+ghost use Rattle.std.specs.Prelude.{◌≡◌, ◌<◌, ◌⊎◌, [], ◌∷◌, true, false, None, IfErr, IfOk, IfSome, IsSome, OnOk};
+ghost use Rattle.std.specs.Prelude.{option_map};
 ghost use Rattle.byte_streams.specs.Writing.{BreaksAt, GoesOut};
 ghost use Rattle.gtp_process.specs.Starts.{program_line};
 ghost use Rattle.gtp_check.specs.Complaints.{complaint_lines};
 ghost use Rattle.gtp_check.specs.Dialogues.{AsksForMore, wrong_of};
+ghost use Rattle.gtp_check.specs.Progress.{IsShown, cleared};
 ghost use Rattle.gtp_check.specs.Shortening.{shortenings};
 ghost use Rattle.gtp_check.specs.Turns.{Closes, IsComplaint, Shortens, TriesShorter, state};
 ghost use Rattle.gtp_check.specs.private.Steps.{ComplaintGoesOut, ComplaintStops};
@@ -16,6 +18,7 @@ use crate::engine::Fault;
 use crate::failure::Failure;
 use crate::flat::{Shortening, games_in, shortened, shortenings};
 use crate::plan::Plan;
+use crate::progress::{clear, show_looking};
 use crate::superko::is_positional;
 use crate::trial::{Tried, try_commands};
 use byte_streams::{WriteOnce, write_text};
@@ -30,23 +33,26 @@ const FEW_COMMANDS: usize = 20;
 impl<S: Starter> Check<S> {
     /// Something is wrong with the engine, which is ended. The complaint is written, unless its like was shown often
     /// enough, and the part of the lesson is left.
-    pub fn complain<O: WriteOnce>(
+    pub fn complain<O: WriteOnce, E: WriteOnce>(
         &mut self,
         fault: Fault,
         plan: &Plan<'_>,
+        progress: bool,
         output: &mut O,
+        errors: &mut E,
         starter: &mut S,
     ) -> Result<(), Failure>
         requires { IsSome self.old.engine }
         ensures goes_out { let before = state self.old.examiner self.old.course self.old.engine self.old.tally self.old.notes in
             let after = state self.new.examiner self.new.course self.new.engine self.new.tally self.new.notes in
-            OnOk result (ComplaintGoesOut S.Process.Process plan.now O.WriteOnce
-            before (S.asked starter.old) fault after (S.asked starter.new) output.old output.new) }
+            OnOk result (ComplaintGoesOut S.Process.Process plan.now O.WriteOnce E.WriteOnce progress
+            before (S.asked starter.old) fault after (S.asked starter.new)
+            output.old output.new errors.old errors.new) }
         ensures stops { let before = state self.old.examiner self.old.course self.old.engine self.old.tally self.old.notes in
             let after = state self.new.examiner self.new.course self.new.engine self.new.tally self.new.notes in
-            IfErr result (λ why. ComplaintStops S.Process.Process plan.now
-            O.WriteOnce before (S.asked starter.old) fault after (S.asked starter.new)
-            output.old output.new why) }
+            IfErr result (λ why. ComplaintStops S.Process.Process plan.now O.WriteOnce E.WriteOnce progress
+            before (S.asked starter.old) fault after (S.asked starter.new)
+            output.old output.new errors.old errors.new why) }
         ensures gone { self.new.engine ≡ None }
     {
         let Some(found) = self.close(fault) else {
@@ -56,9 +62,10 @@ impl<S: Starter> Check<S> {
         if !self.tally.find(lesson, fault) {
             return Ok(());
         }
+        show_looking(progress, errors);
         match self.shorter(&found, plan, starter)? {
-            Some(shorter) => self.write(&shorter, lesson, plan, output),
-            None => self.write(&found, lesson, plan, output),
+            Some(shorter) => self.write(&shorter, lesson, plan, progress, output, errors),
+            None => self.write(&found, lesson, plan, progress, output, errors),
         }
     }
 
@@ -86,28 +93,33 @@ impl<S: Starter> Check<S> {
         Some(found)
     }
 
-    /// The complaint is written.
-    fn write<O: WriteOnce>(
+    /// The complaint is written, on an empty line.
+    fn write<O: WriteOnce, E: WriteOnce>(
         &mut self,
         found: &Tried,
         lesson: Lesson,
         plan: &Plan<'_>,
+        progress: bool,
         output: &mut O,
+        errors: &mut E,
     ) -> Result<(), Failure>
         ensures goes_out { OnOk result ((complaint : Complaint)
             × IsComplaint plan.now.rule self.old.tally.complaints lesson (wrong_of found.now) complaint
-            × GoesOut O.WriteOnce (complaint_lines complaint) output.old output.new) }
+            × GoesOut O.WriteOnce (complaint_lines complaint) output.old output.new
+            × IsShown E.WriteOnce progress (cleared ∷ []) errors.old errors.new) }
         ensures broke { IfErr result (λ why. why ≡ failure.Write → (complaint : Complaint)
             × IsComplaint plan.now.rule self.old.tally.complaints lesson (wrong_of found.now) complaint
-            × BreaksAt O.WriteOnce (complaint_lines complaint) output.old output.new) }
+            × BreaksAt O.WriteOnce (complaint_lines complaint) output.old output.new
+            × IsShown E.WriteOnce progress (cleared ∷ []) errors.old errors.new) }
         ensures refused { IfErr result (λ why. (why ≡ failure.Write)
-            ⊎ ((why ≡ failure.OutOfMemory) × (output.new ≡ output.old))) }
+            ⊎ ((why ≡ failure.OutOfMemory) × (output.new ≡ output.old) × (errors.new ≡ errors.old))) }
         ensures same { let before = state self.old.examiner self.old.course self.old.engine self.old.tally self.old.notes in
             let after = state self.new.examiner self.new.course self.new.engine self.new.tally self.new.notes in
             after ≡ before }
     {
         let complaint = complaint_of(self.tally.complaints, lesson, found, plan.rule);
         let text = complaint_text(self.alloc, &complaint)?;
+        clear(progress, errors);
         write_text(output, text.as_slice())?;
         Ok(())
     }

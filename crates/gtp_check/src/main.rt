@@ -17,6 +17,7 @@ mod listing;
 mod notes;
 mod options;
 mod plan;
+mod progress;
 mod rules;
 pub mod run;
 mod summary;

@@ -13,6 +13,7 @@ use crate::failure::Failure;
 use crate::listing::list_text;
 use crate::options::read_options;
 use crate::plan::{Plan, plan_of};
+use crate::progress::clear;
 use crate::summary::Over;
 use arrayvec::ArrayVec;
 use byte_streams::{Broken, WriteOnce, write_or_break, write_text};
@@ -32,17 +33,19 @@ use std::convert::AsStr;
 /// - 2 where the words have a mistake, or the engine wasn't started at the first try;
 /// - 3 where the output can't be written, memory was refused, or a check had too many turns.
 ///
-/// What a status of 2 or 3 means is written to `errors`, and whether that can be written changes nothing.
+/// What a status of 2 or 3 means is written to `errors`, and whether that can be written changes nothing. Where
+/// `progress` is asked for, `errors` is a terminal: what is waited for is written to it, each time in place of its line,
+/// which is cleared before anything else is written.
 pub fn run<A: AsStr, O: WriteOnce, E: WriteOnce, S: Starter>(
     alloc: Global,
     words: &[A],
-    _progress: bool,
+    progress: bool,
     output: &mut O,
     errors: &mut E,
     starter: &mut S,
 ) -> u8
     ensures status { IsStatus result }
-    ensures ran { HasRun S.Process.Process O.WriteOnce E.WriteOnce (map A.text words.now)
+    ensures ran { HasRun S.Process.Process O.WriteOnce E.WriteOnce (map A.text words.now) progress
         (S.asked starter.old) output.old errors.old result
         (S.asked starter.new) output.new errors.new }
 {
@@ -57,7 +60,7 @@ pub fn run<A: AsStr, O: WriteOnce, E: WriteOnce, S: Starter>(
         Ok(plan) => plan,
         Err(error) => return error.report(errors),
     };
-    match check(alloc, &plan, output, errors, starter) {
+    match check(alloc, &plan, progress, output, errors, starter) {
         Ok(status) => status,
         Err(failure) => failure.report(errors),
     }
@@ -78,16 +81,19 @@ fn list<O: WriteOnce, E: WriteOnce>(alloc: Global, output: &mut O, errors: &mut 
 fn check<O: WriteOnce, E: WriteOnce, S: Starter>(
     alloc: Global,
     plan: &Plan<'_>,
+    progress: bool,
     output: &mut O,
     errors: &mut E,
     starter: &mut S,
 ) -> Result<u8, Failure>
-    ensures { Ends S.Process.Process O.WriteOnce E.WriteOnce plan.now
+    ensures { Ends S.Process.Process O.WriteOnce E.WriteOnce plan.now progress
         (S.asked starter.old) output.old errors.old result
         (S.asked starter.new) output.new errors.new }
 {
     let mut check: Check<S> = Check::new(alloc, plan);
-    match check.take_turns(plan, output, starter) {
+    let turns = check.take_turns(plan, progress, output, errors, starter);
+    clear(progress, errors);
+    match turns {
         Ok(over) => {
             let complaints = check.complaints();
             let is_unstarted = check.is_unstarted();

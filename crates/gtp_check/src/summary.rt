@@ -327,7 +327,7 @@ fn add_count(text: &mut Vec<u8>, number: u32, what: &[u8]) -> Result<(), AllocEr
 }
 
 /// The ending of what is counted.
-fn plural(number: u32) -> &'static [u8]
+pub fn plural(number: u32) -> &'static [u8]
     ensures { result.now ≡ plural number }
 {
     match number {

@@ -22,9 +22,10 @@ use Rattle.gtp_check.specs.declared.plan.Plan.{Plan}
 use Rattle.gtp_check.specs.declared.summary.Over.{Over as WhyOver}
 use Rattle.gtp_check.specs.Dialogues.{AsksForMore, Wrong, begun_with, dialogue}
 use Rattle.gtp_check.specs.Notes.{started as noted_start}
+use Rattle.gtp_check.specs.Progress.{IsShown, cleared, clearing, looking, looking_line}
 use Rattle.gtp_check.specs.Tally.{started_again}
 use Rattle.gtp_check.specs.Turns.{Asks, Closes, Complains, IsNext, IsOverBy, MayStart, State, WritesFirst, most_fruitless}
-use Rattle.gtp_check.specs.Turns.{Exchanges, IsOver, StopsIn, Turn, process_of, state}
+use Rattle.gtp_check.specs.Turns.{Exchanges, IsOver, StopsIn, Turn, process_of, state, waiting}
 
 -- an engine that is up is there
 abbrev pub IsPaired : {P : Type 0} → State P → Type 0
@@ -69,58 +70,67 @@ module _ {P : Type 0} (known : Ghosts P) (plan : Plan) where
     is_over : {why : WhyOver} {has : Attempts P} → IsOverBy known plan before had action.Start why has
         → Begins before had (Some why) before has
 
-  module _ {O : Type 0} (outs : WriterGhosts O) where
+  module _ {O E : Type 0} (outs : WriterGhosts O) (errs : WriterGhosts E) (progress : Bool) where
     -- the first line was written where it is due
-    pub record FirstGoesOut (before : State P) (is_wrong : Bool) (after : State P) (out written : O) : Type 0 where
+    pub record FirstGoesOut (before : State P) (is_wrong : Bool) (after : State P) (out written : O) (seen sees : E)
+        : Type 0 where
       pub line : List (List ℕ)
       pub first : WritesFirst known plan before is_wrong after line
       pub goes_out : LinesGoOut outs line out written
+      pub shown : IsShown errs progress (clearing line) seen sees
 
     -- it wasn't: the output broke at it, or memory was refused
-    pub data FirstStops (before : State P) (is_wrong : Bool) (after : State P) (out written : O)
+    pub data FirstStops (before : State P) (is_wrong : Bool) (after : State P) (out written : O) (seen sees : E)
         : Failure → Type 0 where
       first_broke : {next : State P} {line : List ℕ} → WritesFirst known plan before is_wrong next (line ∷ [])
-          → BreaksAt outs line out written → process_of after.engine ≡ process_of before.engine
-          → FirstStops before is_wrong after out written Write
-      first_refused : written ≡ out → process_of after.engine ≡ process_of before.engine
-          → FirstStops before is_wrong after out written OutOfMemory
+          → BreaksAt outs line out written → IsShown errs progress (cleared ∷ []) seen sees
+          → process_of after.engine ≡ process_of before.engine
+          → FirstStops before is_wrong after out written seen sees Write
+      first_refused : written ≡ out → sees ≡ seen → process_of after.engine ≡ process_of before.engine
+          → FirstStops before is_wrong after out written seen sees OutOfMemory
 
     -- what is due of a complaint was written
     pub record ComplaintGoesOut (before : State P) (had : Attempts P) (fault : Fault) (after : State P) (has : Attempts P)
-        (out written : O) : Type 0 where
+        (out written : O) (seen sees : E) : Type 0 where
       pub said : List (List ℕ)
       pub complains : Complains known plan before had (Some fault) after has said
       pub goes_out : LinesGoOut outs said out written
+      pub shown : IsShown errs progress (looking said) seen sees
 
     -- it wasn't: the output broke at it, or memory was refused
     pub data ComplaintStops (before : State P) (had : Attempts P) (fault : Fault) (after : State P) (has : Attempts P)
-        (out written : O) : Failure → Type 0 where
+        (out written : O) (seen sees : E) : Failure → Type 0 where
       complaint_broke : {next : State P} {text : List ℕ} → Complains known plan before had (Some fault) next has (text ∷ [])
-          → BreaksAt outs text out written → after.engine ≡ None
-          → ComplaintStops before had fault after has out written Write
+          → BreaksAt outs text out written → IsShown errs progress (looking (text ∷ [])) seen sees
+          → after.engine ≡ None
+          → ComplaintStops before had fault after has out written seen sees Write
       complaint_refused : {closed : State P} {wrong : Wrong} → Closes known fault before wrong closed
-          → AsksForMore (program_line plan.words.items) had has → written ≡ out → after.engine ≡ None
-          → ComplaintStops before had fault after has out written OutOfMemory
+          → AsksForMore (program_line plan.words.items) had has → written ≡ out
+          → IsShown errs progress (looking_line ∷ []) seen sees → after.engine ≡ None
+          → ComplaintStops before had fault after has out written seen sees OutOfMemory
 
     -- a turn was taken, or the check is over
-    abbrev pub EndsTurn : State P → Attempts P → O → Option WhyOver → State P → Attempts P → O → Type 0
-    EndsTurn before had out None after has written =
-        (texts : List (List ℕ)) × Turn known plan before had after has texts × LinesGoOut outs texts out written
-    EndsTurn before had out (Some why) after has written =
-        IsOver known plan before had why after has × (written ≡ out)
+    abbrev pub EndsTurn : State P → Attempts P → O → E → Option WhyOver → State P → Attempts P → O → E → Type 0
+    EndsTurn before had out seen None after has written sees =
+        (texts shows : List (List ℕ)) × Turn known plan before had after has texts shows
+        × LinesGoOut outs texts out written × IsShown errs progress shows seen sees
+    EndsTurn before had out seen (Some why) after has written sees =
+        IsOver known plan before had why after has × (written ≡ out) × (sees ≡ seen)
 
     -- what is due after an exchange was written
     pub record Settles (before : State P) (had : Attempts P) (fault : Option Fault) (after : State P)
-        (has : Attempts P) (out written : O) : Type 0 where
+        (has : Attempts P) (out written : O) (seen sees : E) : Type 0 where
       pub next : State P
       pub line : List (List ℕ)
       pub said : List (List ℕ)
       pub first : WritesFirst known plan before (is_some fault) next line
       pub complains : Complains known plan next had fault after has said
       pub goes_out : LinesGoOut outs (line ++ said) out written
+      pub shown : IsShown errs progress (clearing line ++ looking said) seen sees
 
-    -- it wasn't: a turn with this exchange stopped so
-    abbrev pub StopsAfter : State P → Attempts P → Option Fault → Option P → Attempts P → O → O → Failure → Type 0
-    StopsAfter mid had fault process has out written why =
-        (before : State P) → Exchanges known plan before fault mid
-        → StopsIn known plan outs before had out process has written why
+    -- it wasn't: a turn with this exchange stopped so, of which this was written before
+    abbrev pub StopsAfter : State P → Attempts P → Option Fault → Option P → Attempts P → O → O → E → E → Failure → Type 0
+    StopsAfter mid had fault process has out written seen sees why =
+        (before : State P) (errors : E) (heard : Exchanges known plan before fault mid)
+        → IsShown errs progress (waiting plan heard.mid) errors seen
+        → StopsIn known plan outs errs progress before had out errors process has written sees why

@@ -5,7 +5,7 @@ use Rattle.gtp_check.proofs.run.run.Goals as goal
 
 pub returns-in-Err-clause-ran : goal.returns-in-Err-clause-ran
 returns-in-Err-clause-ran g c =
-    clap_ran g.S.Process.Process g.O.WriteOnce g.E.WriteOnce _ (g.S.Starter.asked c.args.starter.now) c.args.output.now
+    clap_ran g.S.Process.Process g.O.WriteOnce g.E.WriteOnce _ c.args.progress (g.S.Starter.asked c.args.starter.now) c.args.output.now
     c.args.errors.now c.kind.result (rw (sym c.kind.ensures) at c.in-Err.ensures.fault) c.answer_error.result
     c.answer_error.new.output c.answer_error.new.errors c.answer_error.ensures
 
@@ -15,7 +15,7 @@ returns-then-options-clause-ran g c =
 
 pub returns-in-Err-plan_of-clause-ran : goal.returns-in-Err-plan_of-clause-ran
 returns-in-Err-plan_of-clause-ran g c =
-    no_plan_ran g.S.Process.Process g.O.WriteOnce g.E.WriteOnce _ (g.S.Starter.asked c.args.starter.now)
+    no_plan_ran g.S.Process.Process g.O.WriteOnce g.E.WriteOnce _ c.args.progress (g.S.Starter.asked c.args.starter.now)
     c.args.output.now c.args.errors.now c.in-Ok.options c.in-Ok.ensures.asked c.in-Err-plan_of.error
     c.in-Err-plan_of.ensures.no_plan c.report.result c.report.new.errors c.report.ensures
 
@@ -32,7 +32,6 @@ returns-in-Ok-check-clause-ran g c =
 
 pub returns-clause-ran : goal.returns-clause-ran
 returns-clause-ran g c =
-    let stops = c.in-Err-check.ensures in
     rw c.report-in-Err-check.ensures.status
     (stopped c.in-Ok-plan_of.plan c.in-Err-check.failure
     (record {
@@ -41,14 +40,14 @@ returns-clause-ran g c =
       no_list = c.if-options.false;
       come_to = c.in-Ok-plan_of.ensures.plan;
     })
-    stops.0 (rw stops.1 at c.report-in-Err-check.ensures.written))
+    c.in-Err-check.ensures c.report-in-Err-check.ensures.written)
 
 pub returns-then-options-clause-status : goal.returns-then-options-clause-status
 returns-then-options-clause-status g c =
-    shown_status g.S.Process.Process g.O.WriteOnce g.E.WriteOnce (g.S.Starter.asked c.args.starter.now)
+    shown_status g.S.Process.Process g.O.WriteOnce g.E.WriteOnce c.args.progress (g.S.Starter.asked c.args.starter.now)
     c.args.output.now c.args.errors.now _ c.list.result c.list.new.output c.list.new.errors c.list.ensures
 
 pub returns-in-Ok-check-clause-status : goal.returns-in-Ok-check-clause-status
 returns-in-Ok-check-clause-status g c =
-    held_status g.S.Process.Process g.O.WriteOnce g.E.WriteOnce (g.S.Starter.asked c.args.starter.now)
+    held_status g.S.Process.Process g.O.WriteOnce g.E.WriteOnce c.args.progress (g.S.Starter.asked c.args.starter.now)
     c.args.output.now c.args.errors.now c.in-Ok-plan_of.plan c.in-Ok-check.status _ _ _ c.in-Ok-check.ensures

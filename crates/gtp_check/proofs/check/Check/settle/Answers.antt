@@ -2,8 +2,10 @@ use Rattle.std.proofs.Common.{◌≡◌, Bool, Option, None, Some, [], refl, tru
 use Rattle.std.specs.Prelude.{IsSome}
 use Rattle.std.proofs.lemmas.Result.{err_from_is_err_and}
 use Rattle.byte_streams.specs.Writing.{no_line}
+use Rattle.gtp_check.specs.Progress.{clearing, looking}
 use Rattle.gtp_check.specs.Turns.{nothing, state}
 use Rattle.gtp_check.proofs.Settling.{both_out, complains_down, complaint_stops, first_stops}
+use Rattle.gtp_check.proofs.Progressing.{both_shown, none_shown}
 use Rattle.gtp_check.proofs.Gathering.{where_failed, where_ok}
 use Rattle.gtp_check.proofs.check.Check.settle.Goals as goal
 
@@ -17,9 +19,9 @@ returns-in_err-write_first-clause-stops g c =
     let failed = err_from_is_err_and exit.result exit.ensures.1 in
     let new = c.write_first.new.self in
     rw (failed.1, failed.2)
-    (first_stops g.S.Process.Process c.args.plan.now g.O.WriteOnce _
+    (first_stops g.S.Process.Process c.args.plan.now g.O.WriteOnce g.E.WriteOnce c.args.progress _
     (state new.examiner new.course new.engine new.tally new.notes) (g.S.Starter.asked c.args.starter.now) c.args.fault
-    c.args.output.now c.write_first.new.output _ (rw c.is_some.ensures at c.in_err-write_first.ensures.stops))
+    c.args.output.now c.write_first.new.output c.args.errors.now c.write_first.new.errors _ (rw c.is_some.ensures at c.in_err-write_first.ensures.stops))
 
 pub returns-in-Some-clause-goes_out : goal.returns-in-Some-clause-goes_out
 returns-in-Some-clause-goes_out g c =
@@ -33,6 +35,8 @@ returns-in-Some-clause-goes_out g c =
       first = first.first;
       complains = out.complains;
       goes_out = both_out g.O.WriteOnce first.line out.said _ _ _ first.goes_out out.goes_out;
+      shown = both_shown g.E.WriteOnce c.args.progress (clearing first.line) (looking out.said) _ _ _ first.shown
+          out.shown;
     }))
 
 pub returns-in-Some-clause-stops : goal.returns-in-Some-clause-stops
@@ -42,11 +46,11 @@ returns-in-Some-clause-stops g c =
     let last = c.complain.new.self in
     rw c.in-Some.is
     (where_failed c.complain.result c.complain.ensures.stops (λ why stops.
-    complaint_stops g.S.Process.Process c.args.plan.now g.O.WriteOnce _
+    complaint_stops g.S.Process.Process c.args.plan.now g.O.WriteOnce g.E.WriteOnce c.args.progress _
     (state new.examiner new.course new.engine new.tally new.notes)
     (state last.examiner last.course last.engine last.tally last.notes) (g.S.Starter.asked c.args.starter.now)
     (g.S.Starter.asked c.complain.new.starter) c.in-Some.fault c.args.output.now c.write_first.new.output
-    c.complain.new.output why first stops))
+    c.complain.new.output c.args.errors.now c.write_first.new.errors c.complain.new.errors why first stops))
 
 pub returns-in-Some-clause-paired : goal.returns-in-Some-clause-paired
 returns-in-Some-clause-paired g c =
@@ -66,4 +70,6 @@ returns-in-None-clause-goes_out g c =
       first = first.first;
       complains = nothing;
       goes_out = both_out g.O.WriteOnce first.line [] _ _ _ first.goes_out no_line;
+      shown = both_shown g.E.WriteOnce c.args.progress (clearing first.line) [] _ _ _ first.shown
+          (none_shown g.E.WriteOnce c.args.progress c.write_first.new.errors);
     })

@@ -9,6 +9,7 @@ returns-in_err-write_text-clause-broke g c =
       c.complaint_of-complaint.result,
       c.complaint_of-complaint.ensures,
       rw (c.as_slice.ensures.value, c.in_ok-text.ensures) at c.in_err-write_text.ensures.broke,
+      c.clear.ensures,
     ))
 
 pub returns-clause-goes_out : goal.returns-clause-goes_out
@@ -16,4 +17,5 @@ returns-clause-goes_out g c = (
   c.complaint_of-complaint.result,
   c.complaint_of-complaint.ensures,
   rw (c.as_slice.ensures.value, c.in_ok-text.ensures) at c.in_ok-write_text.ensures.whole,
+  c.clear.ensures,
 )
