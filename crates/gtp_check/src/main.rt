@@ -8,6 +8,7 @@ mod engine;
 mod equal;
 mod failure;
 mod flat;
+mod held;
 mod kinds;
 pub mod laws;
 mod listing;
