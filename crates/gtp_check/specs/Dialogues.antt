@@ -56,7 +56,7 @@ dialogue engine notes = record {
   sent = engine.sent.items;
   talk = engine.talk.items;
   waiting = engine.waiting.items;
-  held = engine.held.items;
+  held = engine.held;
   wrote = engine.wrote.items;
   notes = notes;
 }

@@ -1,5 +1,5 @@
 //! An engine that was started: what it is asked, and what it writes.
-ghost use Rattle.std.specs.Prelude.{◌≡◌, ◌+◌, ◌-◌, ◌++◌, ◌≤◌, ◌<◌, true, [], length, take, OnOk, if◌then◌else◌};
+ghost use Rattle.std.specs.Prelude.{◌≡◌, ◌+◌, ◌-◌, ◌++◌, ◌≤◌, ◌<◌, true, [], length, drop, take, OnOk};
 ghost use Rattle.arrayvec.specs.ArrayVec.{array_vec_len};
 ghost use Rattle.gtp_wire.specs.Replies.{most_shown};
 ghost use Rattle.gtp_examiner.specs.Asking.{written_check};
@@ -7,7 +7,10 @@ ghost use Rattle.gtp_examiner.specs.Check.{with_exam};
 ghost use Rattle.gtp_examiner.specs.Exam.{HasRoomFor};
 ghost use Rattle.gtp_check.specs.declared.notes.Notes.{Notes};
 ghost use Rattle.gtp_check.specs.Dialogues.{AreHeard, IsAsked, IsRead, IsExchanged, IsSent, begun_with, dialogue};
+ghost use Rattle.gtp_check.specs.Dialogues.{kept_after, listener};
+ghost use Rattle.gtp_check.specs.private.Hearing.{IsHeardBy};
 
+use crate::held::Held;
 use crate::notes::{Beginning, Notes};
 use crate::talk::{Purpose, Said};
 use arrayvec::ArrayVec;
@@ -74,7 +77,7 @@ pub struct Engine<P> {
     /// The lines of those that aren't sent yet.
     pub waiting: Lines,
     /// What it wrote while it owed nothing. That is heard with the next answer.
-    pub held: ArrayVec<u8, READ_ROOM>,
+    pub held: Held,
     /// The beginning of what it wrote since its last whole reply.
     pub wrote: Beginning,
 }
@@ -89,7 +92,7 @@ impl<P: Process> Engine<P> {
             sent: Vec::new(alloc),
             talk: Vec::new(alloc),
             waiting: ArrayVec::new(),
-            held: ArrayVec::new(),
+            held: Held::new(),
             wrote: ArrayVec::new(),
         }
     }
@@ -154,7 +157,7 @@ impl<P: Process> Engine<P> {
             return None;
         }
         if !self.held.is_empty() {
-            return self.hear_held(examiner, room, notes);
+            return self.hear_held(examiner, &mut room.reply, notes);
         }
         self.send_waiting();
         self.read(examiner, room, notes)
@@ -166,8 +169,8 @@ impl<P: Process> Engine<P> {
         ensures rest { (notes : Notes) → dialogue self.new notes
             ≡ record (dialogue self.old notes) { process = self.new.process; waiting = [] } }
     {
-        let waiting = std::mem::replace(&mut self.waiting, ArrayVec::new());
-        send(&mut self.process, waiting.as_slice());
+        send(&mut self.process, self.waiting.as_slice());
+        self.waiting.clear();
     }
 
     /// The engine is read once, and what it wrote is heard. One that owes several answers may run first.
@@ -181,29 +184,13 @@ impl<P: Process> Engine<P> {
         }
         match read_some(&mut self.process, &mut room.buffer) {
             Ok(0) => Some(Fault::CutOff(PipeCause::Ended)),
-            Ok(count) => self.hear(examiner, &room.buffer[..count], &mut room.reply, notes),
+            Ok(count) => self.hear_read(examiner, &room.buffer[..count], &mut room.reply, notes),
             Err(CutOff) => Some(Fault::CutOff(PipeCause::Reading)),
         }
     }
 
-    /// What the engine wrote before is heard.
-    fn hear_held(
-        &mut self,
-        examiner: &mut Examiner,
-        room: &mut Room,
-        notes: &mut Notes,
-    ) -> Option<Fault>
-        ensures heard { AreHeard self.old.held.items examiner.old.exam
-            (record (dialogue self.old notes.old) { held = [] }) result
-            examiner.new.exam (dialogue self.new notes.new) }
-        ensures check { examiner.new ≡ with_exam examiner.old examiner.new.exam }
-    {
-        let held = std::mem::replace(&mut self.held, ArrayVec::new());
-        self.hear(examiner, held.as_slice(), &mut room.reply, notes)
-    }
-
-    /// What the engine wrote is heard, up to the end of one reply, or to something wrong. The rest is held.
-    fn hear(
+    /// What was read is heard. What is left of it is held.
+    fn hear_read(
         &mut self,
         examiner: &mut Examiner,
         bytes: &[u8],
@@ -215,36 +202,38 @@ impl<P: Process> Engine<P> {
             examiner.new.exam (dialogue self.new notes.new) }
         ensures check { examiner.new ≡ with_exam examiner.old examiner.new.exam }
     {
-        let heard = examiner.heard(bytes, reply);
-        self.keep(&bytes[..heard.used]);
-        if let Some(finding) = heard.finding {
-            return Some(Fault::Wrote(finding.kind));
+        let hearing = hear(bytes, &mut self.wrote, examiner, reply, notes);
+        match hearing.fault {
+            Some(fault) => Some(fault),
+            None => {
+                self.held.hold(&bytes[hearing.used..]);
+                None
+            }
         }
-        self.forget_reply(heard.read.is_some());
-        notes.take(&heard, reply, examiner);
-        self.held = ArrayVec::new();
-        push(&mut self.held, &bytes[heard.used..]);
-        None
     }
 
-    /// The beginning of what it wrote since its last whole reply is kept.
-    fn keep(&mut self, bytes: &[u8])
-        ensures kept { self.new.wrote.items ≡ take most_shown (self.old.wrote.items ++ bytes.now) }
-        ensures rest { (notes : Notes) → dialogue self.new notes
-            ≡ record (dialogue self.old notes) { wrote = self.new.wrote.items } }
+    /// What the engine wrote before is heard.
+    fn hear_held(
+        &mut self,
+        examiner: &mut Examiner,
+        reply: &mut Reply,
+        notes: &mut Notes,
+    ) -> Option<Fault>
+        ensures heard { AreHeard self.old.held examiner.old.exam
+            (record (dialogue self.old notes.old) { held = [] }) result
+            examiner.new.exam (dialogue self.new notes.new) }
+        ensures check { examiner.new ≡ with_exam examiner.old examiner.new.exam }
     {
-        let room = MOST_SHOWN - self.wrote.len();
-        push(&mut self.wrote, &bytes[..room.min(bytes.len())]);
-    }
-
-    /// A whole reply isn't kept.
-    fn forget_reply(&mut self, is_read: bool)
-        ensures kept { self.new.wrote.items ≡ if is_read then [] else self.old.wrote.items }
-        ensures rest { (notes : Notes) → dialogue self.new notes
-            ≡ record (dialogue self.old notes) { wrote = self.new.wrote.items } }
-    {
-        if is_read {
-            self.wrote = ArrayVec::new();
+        let hearing = hear(self.held.bytes(), &mut self.wrote, examiner, reply, notes);
+        match hearing.fault {
+            Some(fault) => {
+                self.held.clear();
+                Some(fault)
+            }
+            None => {
+                self.held.pass(hearing.used);
+                None
+            }
         }
     }
 
@@ -277,6 +266,63 @@ impl<P: Process> Engine<P> {
             ending,
         }
     }
+}
+
+/// What was heard of an engine.
+#[derive(Clone, Copy, Debug, PartialEq, Eq)]
+struct Hearing {
+    /// How many of the bytes were used.
+    used: usize,
+    /// What is wrong, if anything.
+    fault: Option<Fault>,
+}
+
+/// What an engine wrote is heard, up to the end of one reply, or to something wrong. The beginning of what it wrote
+/// since its last whole reply is kept.
+fn hear(
+    bytes: &[u8],
+    wrote: &mut Beginning,
+    examiner: &mut Examiner,
+    reply: &mut Reply,
+    notes: &mut Notes,
+) -> Hearing
+    ensures used { result.used ≤ length bytes.now }
+    ensures heard { IsHeardBy bytes.now (listener examiner.old.exam wrote.old.items notes.old)
+        result.fault (listener examiner.new.exam wrote.new.items notes.new)
+        (drop result.used bytes.now) }
+    ensures check { examiner.new ≡ with_exam examiner.old examiner.new.exam }
+{
+    let heard = examiner.heard(bytes, reply);
+    let used = heard.used;
+    if let Some(finding) = heard.finding {
+        keep(wrote, &bytes[..used]);
+        return Hearing {
+            used,
+            fault: Some(Fault::Wrote(finding.kind)),
+        };
+    }
+    keep_since(wrote, &bytes[..used], heard.read.is_some());
+    notes.take(&heard, reply, examiner);
+    Hearing { used, fault: None }
+}
+
+/// The beginning of what an engine wrote since its last whole reply is kept: nothing where these bytes end one.
+fn keep_since(wrote: &mut Beginning, bytes: &[u8], is_read: bool)
+    ensures { wrote.new.items ≡ kept_after wrote.old.items bytes.now is_read }
+{
+    if is_read {
+        wrote.clear();
+        return;
+    }
+    keep(wrote, bytes);
+}
+
+/// The beginning of what an engine wrote is kept.
+fn keep(wrote: &mut Beginning, bytes: &[u8])
+    ensures { wrote.new.items ≡ take most_shown (wrote.old.items ++ bytes.now) }
+{
+    let room = MOST_SHOWN - wrote.len();
+    push(wrote, &bytes[..room.min(bytes.len())]);
 }
 
 /// The lines are sent, if there are any. Where a process is cut off then, what it wrote before is heard still, up to

@@ -11,6 +11,7 @@ mod engine;
 mod equal;
 mod failure;
 mod flat;
+mod held;
 mod kinds;
 pub mod laws;
 mod listing;

@@ -5,6 +5,7 @@ ghost use Rattle.gtp_examiner.specs.declared.asking.CheckCommand.TheVariants.{Na
 
 use crate::actions::{Action, Question};
 use crate::boards::{Board, board_of};
+use crate::draws::Draws;
 use crate::lessons::{Lesson, Lessons};
 use crate::openings::Opening;
 use crate::places::Place;
@@ -13,8 +14,6 @@ use go_base::{Move, Size};
 use go_board::Game;
 use gtp_examiner::{Board as Known, CheckCommand, Examiner, Skill};
 use gtp_wire::Command;
-use rand_core::SeedableRng;
-use rand_pcg::Pcg64;
 use std::marker::Model;
 
 /// The smallest size of a scene's board, and the greatest.
@@ -27,9 +26,6 @@ const MOST_FINDINGS: u32 = 10;
 
 /// Takes the last move back.
 const UNDO: CheckCommand = CheckCommand::Match(Command::Undo);
-
-/// How many words a step may draw.
-const WORDS: u128 = 128;
 
 /// A course of questions, which are asked of one engine after each other.
 ///
@@ -159,8 +155,7 @@ impl Course {
         match self.stretch(lesson) {
             Some(stretch) => {
                 let board = self.board(lesson);
-                let mut draws = self.draws(lesson);
-                stretch.question(self.place.step, &board, game, &mut draws)
+                stretch.question(self.place.step, &board, game, self.draws(lesson))
             }
             None => Question::Nothing,
         }
@@ -216,15 +211,16 @@ impl Course {
         }
     }
 
-    /// The generator of what this step draws. Each step has words of its own, whatever other lessons the course has.
-    fn draws(&self, lesson: Lesson) -> Pcg64 {
-        let mut draws = Pcg64::seed_from_u64(u64::from(self.seed));
+    /// What this step draws.
+    fn draws(&self, lesson: Lesson) -> Draws {
         let place = Place {
             lesson: lesson.number(),
             ..self.place
         };
-        draws.advance(u128::from(place.number()) * WORDS);
-        draws
+        Draws {
+            seed: self.seed,
+            number: place.number(),
+        }
     }
 
     /// The engine is asked a command of the opening.

@@ -8,6 +8,7 @@
 mod actions;
 mod boards;
 mod course;
+mod draws;
 #[cfg(test)]
 mod equal;
 pub mod laws;

@@ -14,6 +14,7 @@ ghost use Rattle.gtp_course.specs.Stretches.{steps_of};
 
 use crate::actions::Question;
 use crate::boards::Board;
+use crate::draws::Draws;
 use crate::scenes::crossing;
 use arrayvec::ArrayVec;
 use go_base::{Colour, Move, Point, Size, Vertex, handicap};
@@ -138,7 +139,7 @@ impl Stretch {
     }
 
     /// What is asked in its step of this number, where the game is this one.
-    pub fn question(self, step: u32, board: &Board, game: &Game, draws: &mut Pcg64) -> Question
+    pub fn question(self, step: u32, board: &Board, game: &Game, draws: Draws) -> Question
         ensures { IsQuestion self step board.now game.now result }
     {
         match self {
@@ -168,8 +169,8 @@ impl Stretch {
             Stretch::Stars => star(step, game.size()),
             Stretch::Surround => surround(step, star_point(0, game.size())),
             Stretch::Passes(_) => play(colour_of(step), Vertex::Pass),
-            Stretch::Drawn(_) => drawn_move(game, draws),
-            Stretch::Probed(_) => probed(step, game, draws),
+            Stretch::Drawn(_) => drawn_move(game, &mut draws.generator()),
+            Stretch::Probed(_) => probed(step, game, &mut draws.generator()),
             Stretch::Genmoves(_) => genmove(step, game),
         }
     }

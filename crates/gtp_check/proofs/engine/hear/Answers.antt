@@ -1,6 +1,5 @@
 use Rattle.std.proofs.Common.{◌≡◌, ◌∙◌, ap, drop, inl, inr, ℕ, Bool, true, false, rules, refl, sym, Option, None, Some, Result, Ok, Err}
 use Rattle.std.specs.Prelude.{is_some, option_map}
-use Rattle.std.proofs.lemmas.List.{length-drop, take_rest}
 use Rattle.gtp_wire.specs.declared.replies.Reply.{Reply}
 use Rattle.gtp_wire.specs.declared.replies.ReplyFault.{ReplyFault}
 use Rattle.gtp_wire.specs.Replies.{with_reply}
@@ -10,8 +9,8 @@ use Rattle.gtp_examiner.specs.Exam.{answered_by, refused_size}
 use Rattle.gtp_examiner.specs.Judging.{oldest}
 use Rattle.gtp_check.specs.declared.notes.Notes.{Notes}
 use Rattle.gtp_check.specs.Notes.{noted}
-use Rattle.gtp_check.specs.Dialogues.{Dialogue, dialogue, noted_of_read}
-use Rattle.gtp_check.proofs.engine.Engine.hear.Goals as goal
+use Rattle.gtp_check.specs.Dialogues.{noted_of_read}
+use Rattle.gtp_check.proofs.engine.hear.Goals as goal
 
 -- what is mapped is there where it was before
 is_mapped : {A B : Type 0} (f : A → B) (value : Option A) → is_some (option_map f value) ≡ is_some value
@@ -46,50 +45,36 @@ noted_so true notes asked answered refused read reply skills has sized still =
 noted_so false notes asked answered refused read reply skills has sized still =
     rw ((still refl).0, (still refl).1) (noted_nothing notes asked skills)
 
--- what changes of a dialogue twice is only what the engine wrote
-with_wrote : {P : Type 0} (first mid last : Dialogue P) → mid ≡ record first { wrote = mid.wrote }
-    → last ≡ record mid { wrote = last.wrote } → last ≡ record first { wrote = last.wrote }
-with_wrote {P = P} first mid last one two = two ∙ ap {A = Dialogue P} (λ said. record said { wrote = last.wrote }) one
-
 pub returns-in-Some-clause-heard : goal.returns-in-Some-clause-heard
-returns-in-Some-clause-heard g c = (
-  record {
-    used = c.heard-heard.result.used;
-    read = option_map (with_reply c.heard-heard.new.reply) c.heard-heard.result.read;
-    finding = c.in-Some.finding;
-    found = record {
-      up = rw c.in-Some.is at c.heard-heard.ensures.up;
-      down = rw c.in-Some.is at c.heard-heard.ensures.down;
-    };
-    wrote = c.keep.ensures.kept;
-    notes = refl;
-    kind = search rules;
-  },
-  c.keep.ensures.rest c.args.notes.now,
-)
+returns-in-Some-clause-heard c = record {
+  used = c.heard-heard.result.used;
+  read = option_map (with_reply c.heard-heard.new.reply) c.heard-heard.result.read;
+  finding = c.in-Some.finding;
+  found = record {
+    up = rw c.in-Some.is at c.heard-heard.ensures.up;
+    down = rw c.in-Some.is at c.heard-heard.ensures.down;
+  };
+  wrote = c.keep.ensures;
+  notes = refl;
+  kind = search rules;
+}
 
 pub returns-clause-heard : goal.returns-clause-heard
-returns-clause-heard g c =
+returns-clause-heard c =
     let old = c.args.examiner.now.exam in
     let same = is_mapped (with_reply c.heard-heard.new.reply) c.heard-heard.result.read in
-    let rest = take_rest c.args.bytes.now c.heard-heard.result.used in (
-      record {
-        used = c.heard-heard.result.used;
-        read = option_map (with_reply c.heard-heard.new.reply) c.heard-heard.result.read;
-        heard = record {
-          up = rw c.in_default.is at c.heard-heard.ensures.up;
-          down = rw c.in_default.is at c.heard-heard.ensures.down;
-        };
-        wrote = rw (c.forget_reply.ensures.kept, c.is_some.ensures, c.keep.ensures.kept, sym same) refl;
-        notes = c.take.ensures
-            ∙ noted_so old.up c.args.notes.now (oldest old.unanswered) c.heard-heard.result.answered
-            c.heard-heard.result.refused c.heard-heard.result.read c.heard-heard.new.reply
-            c.heard-heard.new.self.exam.skills (rw c.in_default.is at c.heard-heard.ensures.answered)
-            (rw c.in_default.is at c.heard-heard.ensures.refused) c.heard-heard.ensures.still;
-        rest = rw (c.push.ensures.bytes, c.new-self.ensures, rest) refl;
-      },
-      ap {A = Dialogue g.row.P.Denot} (λ said. record said { held = c.push.new.text.items })
-          (with_wrote (dialogue c.args.self.now c.take.new.self) (dialogue c.keep.new.self c.take.new.self)
-          (dialogue c.forget_reply.new.self c.take.new.self) (c.keep.ensures.rest c.take.new.self)
-          (c.forget_reply.ensures.rest c.take.new.self)),
-    )
+    record {
+      used = c.heard-heard.result.used;
+      read = option_map (with_reply c.heard-heard.new.reply) c.heard-heard.result.read;
+      heard = record {
+        up = rw c.in_default.is at c.heard-heard.ensures.up;
+        down = rw c.in_default.is at c.heard-heard.ensures.down;
+      };
+      wrote = rw (c.keep_since.ensures, c.is_some.ensures, sym same) refl;
+      notes = c.take.ensures
+          ∙ noted_so old.up c.args.notes.now (oldest old.unanswered) c.heard-heard.result.answered
+          c.heard-heard.result.refused c.heard-heard.result.read c.heard-heard.new.reply
+          c.heard-heard.new.self.exam.skills (rw c.in_default.is at c.heard-heard.ensures.answered)
+          (rw c.in_default.is at c.heard-heard.ensures.refused) c.heard-heard.ensures.still;
+      rest = refl;
+    }
