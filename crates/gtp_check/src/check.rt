@@ -17,11 +17,10 @@ ghost use Rattle.gtp_check.specs.private.Steps.{Begins, ComplaintGoesOut, Compla
 ghost use Rattle.gtp_check.specs.private.Steps.{EndsTurn, FirstStops, Gathers, IsPaired, IsRefused, Settles, StopsAfter};
 ghost use Rattle.gtp_check.specs.declared.engine.TheConstants.{LINES_ROOM};
 ghost use Rattle.gtp_check.specs.declared.complaint.Complaint.{Complaint};
-ghost use Rattle.gtp_check.specs.declared.failure.Failure.TheVariants as failure;
+ghost use Rattle.programs.specs.declared.failure.Failure.TheVariants as failure;
 
 use crate::complaint::{Complaint, complaint_text};
 use crate::engine::{Engine, Fault, Room};
-use crate::failure::Failure;
 use crate::flat::{Shortening, shortened};
 use crate::notes::Notes;
 use crate::plan::Plan;
@@ -35,6 +34,7 @@ use go_board::KoRule;
 use gtp_course::{Action, Course, Lesson, Lessons};
 use gtp_examiner::{CheckCommand, Examiner, Kind};
 use gtp_process::{Process, StartFault, Starter, Unstarted, quit_and_end};
+use programs::failure::Failure;
 use std::alloc::{AllocError, Global};
 
 /// How many turns a check has at most. No check within the limits has this number.
