@@ -1,35 +1,20 @@
 -- Each outcome of a reply keeps what joins the controller to the engines.
-use Rattle.std.proofs.Common.{◌≡◌, ◌≢◌, ℕ, ◌+◌, ◌-◌, ◌<◌, ◌≤◌, Bool, true, false, List, [], ◌∷◌, ◌++◌, length, drop}
-use Rattle.std.proofs.Common.{slice_get, Option, Some, inr, add-one}
-use Rattle.std.proofs.Common.{None, Result, Ok, Err, refl, ap, sym, ◌∙◌, subst, arith, append_assoc, length-append, inl}
-use Rattle.std.specs.Prelude.{◌⊎◌, ◌==◌, ◌&&◌, nat_lt, IfSome}
+use Rattle.std.proofs.Common.{◌≡◌, ◌≢◌, ℕ, ◌+◌, ◌-◌, ◌<◌, ◌≤◌, Bool, true, false, List, length, drop}
+use Rattle.std.proofs.Common.{Option, Some, inr}
+use Rattle.std.proofs.Common.{None, refl, sym, ◌∙◌, subst, arith, inl}
+use Rattle.std.specs.Prelude.{◌==◌, ◌&&◌, nat_lt, IfSome}
 use Rattle.std.proofs.lemmas.Option.{slice_get_within}
-use Rattle.std.specs.List.{AllByRecursion}
 use Rattle.std.proofs.lemmas.Bool.Decides.{nat_tests}
 use Rattle.go_base.specs.Colour.{other}
 use Rattle.go_base.specs.declared.colours.Colour.{Colour}
-use Rattle.go_base.specs.Vertex.{IsVertex}
 use Rattle.go_base.specs.declared.vertices.Vertex.{Vertex}
-use Rattle.go_board.specs.Game.{GameRecord, HasRoom, IsGame, IsLegal, with_move, without_last, first_moves}
+use Rattle.go_board.specs.Game.{GameRecord, IsGame, IsLegal, with_move, without_last}
 use Rattle.go_board.specs.declared.rules.KoRule.{KoRule}
 use Rattle.go_board.specs.declared.rules.KoRule.TheVariants.{Simple, Positional}
-use Rattle.go_board.proofs.records.Moves.{IsGame-with_move}
-use Rattle.gtp_wire.specs.declared.commands.Command.{Command}
-use Rattle.gtp_wire.specs.declared.commands.Command.TheVariants.{Genmove, Play, Undo}
 use Rattle.gtp_wire.specs.declared.replies.Reply.{Reply}
-use Rattle.gtp_wire.specs.declared.replies.ReplyFault.{ReplyFault}
-use Rattle.gtp_wire.specs.Replies.{IsFirst, GivesNoAnswer}
-use Rattle.gtp_wire.proofs.first_answers.OneAnswer.{one_first}
-use Rattle.gtp_session.specs.Policy.{IsLawful}
-use Rattle.go_base.specs.declared.choices.Choice.{Choice}
-use Rattle.go_base.specs.declared.choices.Choice.TheVariants as choice
-use Rattle.gtp_session.specs.Commands.{answer, answer_choice}
-use Rattle.gtp_session.specs.Engine.{fresh_game_under}
-use Rattle.gtp_match.specs.declared.unanswered.SentCommand.{SentCommand}
 use Rattle.gtp_match.specs.declared.sides.EngineRun.{EngineRun}
 use Rattle.gtp_match.specs.declared.reply_table.Outcome.{Outcome}
 use Rattle.gtp_match.specs.declared.reply_table.Outcome.TheVariants.{Confirms, Resigns, Moves, Refuses, TakesBack}
-use Rattle.gtp_match.specs.declared.verdicts.SideFault.{SideFault}
 use Rattle.gtp_match.specs.declared.verdicts.Verdict.{Verdict}
 use Rattle.gtp_match.specs.declared.verdicts.Verdict.TheVariants.{Resign, Forfeit}
 use Rattle.gtp_match.specs.declared.verdicts.ForfeitCause.TheVariants.{RefusedPlay}
@@ -37,39 +22,26 @@ use Rattle.gtp_match.specs.declared.controller.Controller.{Controller}
 use Rattle.gtp_match.specs.Unanswered.{oldest}
 use Rattle.gtp_match.specs.Script.{script}
 use Rattle.gtp_match.specs.Sides.{side_of, with_side, with_engine, heard_reply, confirmed, answered, taken_back}
-use Rattle.gtp_match.specs.Controller.{with_side_up, to_move}
+use Rattle.gtp_match.specs.Controller.{to_move}
 use Rattle.gtp_match.specs.Retakes.{most_retakes, retakes_of, with_retake}
 use Rattle.gtp_match.specs.Taking.{moved_last, has_all, owes_last, may_retake}
-use Rattle.gtp_match.specs.ReplyTable.{outcome, after_outcome, fault_of, verdict_after, ended}
+use Rattle.gtp_match.specs.ReplyTable.{outcome, after_outcome, verdict_after, ended}
 use Rattle.gtp_match.specs.ReplyTable.{refused, retaken_at}
-use Rattle.gtp_match.specs.Hearing.{MayKeep, HearsUp, HearsWhere, Hears, HearsAllBy, HearsAll}
-use Rattle.go_board.specs.decisions.Game.{legal?}
-use Rattle.gtp_match.specs.Sound.{VerdictFits, InScript, IsAsked, AreUndo, HasPlan, LacksLast, IsUndo, IsSoundEngine}
+use Rattle.gtp_match.specs.Sound.{LacksLast, IsSoundEngine}
 use Rattle.gtp_match.specs.Sound.{IsIdle, IsSound, all_retakes}
-use Rattle.gtp_match.specs.Unanswered.{most_unanswered}
-use Rattle.gtp_match.proofs.scripts.Scripts.{script_longer}
-use Rattle.gtp_match.proofs.soundness.Calls.{changed, my_engine, their_side, one_idle, idle_plan, taken_at}
-use Rattle.gtp_match.proofs.soundness.Calls.{nothing_pending}
-use Rattle.gtp_match.proofs.scripts.WithoutLast.{shorter_length, script_shorter}
+use Rattle.gtp_match.proofs.soundness.Calls.{changed, their_side, idle_plan, taken_at}
+use Rattle.gtp_match.proofs.scripts.WithoutLast.{script_shorter}
 use Rattle.gtp_match.proofs.soundness.Replies.{reply_sound}
-use Rattle.gtp_match.proofs.soundness.Heard.{quiet_sound}
-use Rattle.gtp_session.proofs.engines.Sent.{vertex_of_legal}
-use Rattle.gtp_world.proofs.exchange.ReplyLemmas.{outcome_of_choice}
-use Rattle.gtp_world.proofs.exchange.ScriptLemmas.{GoesWellOn, after_one_more, replayed_all, replayed_shorter}
-use Rattle.gtp_world.proofs.exchange.ScriptLemmas.{EndsWith, Place, place}
-use Rattle.gtp_world.proofs.exchange.ExchangeLemmas.{owes_replies}
+use Rattle.gtp_world.proofs.exchange.ScriptLemmas.{replayed_shorter}
+use Rattle.gtp_world.proofs.exchange.ScriptLemmas.{EndsWith}
 use Rattle.gtp_world.proofs.joined.JoinedLemmas.{IsPut, joint_put, simple_game, playable_shorter}
-use Rattle.gtp_world.proofs.one_side.SideLemmas.{live_any, live_at, judged_any, Brings, arrives, quiet_or_first}
-use Rattle.gtp_world.specs.Exchange.{CanBeWritten, Answered, reply_bytes, replayed, Owes, AllMayBeSent, all_reply_bytes}
+use Rattle.gtp_world.proofs.one_side.SideLemmas.{live_any, live_at, judged_any}
 use Rattle.gtp_world.specs.Joined.{Rules, rule_of, ruled, IsPlayable, IsRefusal, EngineBody, BareLane}
-use Rattle.gtp_world.specs.Joined.{WillReadWhereRunning, CutByCrash, IsJoinedInPlay}
-use Rattle.gtp_world.specs.Joined.{IsJoinedAtEnd, IsJoinedSide, AreJoined, bare_empty}
-use Rattle.std.proofs.Math.Seq.{drop-length}
-use Rattle.gtp_world.proofs.one_side.OutcomeLemmas.{kept_longer, scripted_outcome, scripted_game, simple_rule}
-use Rattle.gtp_world.proofs.one_side.OutcomeLemmas.{simple_ends}
-use Rattle.gtp_world.proofs.one_side.OutcomeLemmas.{Chose, chose, without_with, this_or_other, made_by, has_all_is}
+use Rattle.gtp_world.specs.Joined.{IsJoinedInPlay}
+use Rattle.gtp_world.specs.Joined.{IsJoinedAtEnd, IsJoinedSide, AreJoined}
+use Rattle.gtp_world.proofs.one_side.OutcomeLemmas.{without_with, this_or_other, made_by, has_all_is}
 use Rattle.gtp_world.proofs.one_side.OutcomeLemmas.{has_all_if, theirs_moved, theirs_shorter, theirs_longer, fair_ended}
-use Rattle.gtp_world.proofs.one_side.OutcomeLemmas.{Replied, Left, left_live, refused_heard, undone_heard}
+use Rattle.gtp_world.proofs.one_side.OutcomeLemmas.{Replied, Left, left_live}
 
 module _ (rules : Rules) (c : Controller) (s : Colour) (u : EngineRun) (e : Option EngineBody) (te tc : List ℕ)
     (lo : BareLane) (sound : IsSound c) (none : c.verdict ≡ None)
