@@ -7,15 +7,17 @@ use Rattle.clap.specs.declared.error.kind.ErrorKind.TheVariants.{OutOfMemory as 
 use Rattle.byte_streams.specs.declared.calls.WriteOnce.{Ghosts as WriterGhosts}
 use Rattle.gtp_process.specs.declared.starter.Process.{Ghosts}
 use Rattle.gtp_process.specs.Starts.{Attempts}
+use Rattle.programs.specs.Failures.{ReportsPlanError}
 use Rattle.programs.specs.Status.{IsRequest, done, own_failure, usage_failure}
-use Rattle.gtp_check.specs.declared.failure.PlanError.{PlanError}
-use Rattle.gtp_check.specs.declared.failure.PlanError.TheVariants.{BadWords, OutOfMemory}
+use Rattle.programs.specs.declared.failure.PlanError.{PlanError}
+use Rattle.programs.specs.declared.failure.PlanError.TheVariants.{BadArgument, BadWords, OutOfMemory}
+use Rattle.gtp_check.specs.declared.failure.Mistake.{Mistake}
 use Rattle.gtp_check.specs.declared.options.Options.{Options}
 use Rattle.gtp_check.specs.declared.plan.Plan.{Plan}
 use Rattle.gtp_check.specs.Checks.{HasRun, IsHeld, Shows}
 use Rattle.gtp_check.specs.Options.{AsksFor, HasFault}
 use Rattle.gtp_check.specs.Plans.{HasNoPlan}
-use Rattle.gtp_check.specs.Status.{IsStatus, ReportsPlanError, something_found}
+use Rattle.gtp_check.specs.Status.{IsStatus, mistake_text, program_name, something_found}
 use Rattle.gtp_check.specs.private.Answering.{Answers}
 
 -- no request for the help or the version is want of memory
@@ -43,9 +45,10 @@ module _ {P O E : Type 0} (known : Ghosts P) (outs : WriterGhosts O) (errs : Wri
       }))
 
   -- where the options come to no plan
-  pub no_plan_ran : (options : Options) → AsksFor words options → (error : PlanError) → HasNoPlan options error
-      → (status : ℕ) (reported : E) → ReportsPlanError errs error status errors reported
+  pub no_plan_ran : (options : Options) → AsksFor words options → (error : PlanError Mistake) → HasNoPlan options error
+      → (status : ℕ) (reported : E) → ReportsPlanError errs program_name mistake_text error status errors reported
       → HasRun known outs errs words progress asked out errors status asked out reported
+  no_plan_ran options asks BadArgument none status reported reports = absurd none
   no_plan_ran options asks (BadWords what) none status reported reports =
       rw reports.0
       (HasRun.mistaken (inr (record {

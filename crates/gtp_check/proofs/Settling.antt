@@ -8,7 +8,7 @@ use Rattle.gtp_process.specs.Starts.{Attempts, Text, program_line}
 use Rattle.gtp_examiner.specs.Check.{Check}
 use Rattle.gtp_check.specs.declared.complaint.Complaint.{Complaint}
 use Rattle.gtp_check.specs.declared.engine.Fault.{Fault}
-use Rattle.gtp_check.specs.declared.failure.Failure.{Failure}
+use Rattle.programs.specs.declared.failure.Failure.{Failure}
 use Rattle.gtp_check.specs.declared.flat.Shortening.{Shortening}
 use Rattle.gtp_examiner.specs.declared.asking.CheckCommand.{CheckCommand}
 use Rattle.gtp_check.specs.declared.notes.Notes.{Notes}

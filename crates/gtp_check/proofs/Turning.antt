@@ -9,7 +9,7 @@ use Rattle.gtp_process.specs.Quitting.{QuitsIfAny}
 use Rattle.gtp_process.specs.Starts.{Attempts}
 use Rattle.gtp_examiner.specs.Check.{after_loss}
 use Rattle.gtp_course.specs.declared.actions.Action.TheVariants.{Done, Kill, Restart, Start}
-use Rattle.gtp_check.specs.declared.failure.Failure.{Failure}
+use Rattle.programs.specs.declared.failure.Failure.{Failure}
 use Rattle.gtp_check.specs.declared.plan.Plan.{Plan}
 use Rattle.gtp_check.specs.declared.summary.Over.{Over}
 use Rattle.gtp_check.specs.declared.summary.Over.TheVariants as over

@@ -13,10 +13,10 @@ use Rattle.gtp_process.specs.Quitting.{QuitsIfAny}
 use Rattle.gtp_process.specs.Shown.{unstarted_text}
 use Rattle.gtp_process.specs.Starts.{Attempts}
 use Rattle.programs.specs.Status.{IsRequest, done, error_line, own_failure, usage_failure}
-use Rattle.gtp_check.specs.declared.failure.Failure.{Failure}
-use Rattle.gtp_check.specs.declared.failure.Failure.TheVariants.{OutOfMemory, Write}
+use Rattle.programs.specs.declared.failure.Failure.{Failure}
+use Rattle.programs.specs.declared.failure.Failure.TheVariants.{OutOfMemory, Write}
 use Rattle.gtp_check.specs.declared.failure.Mistake.{Mistake}
-use Rattle.gtp_check.specs.declared.failure.PlanError.TheVariants.{BadWords}
+use Rattle.programs.specs.declared.failure.PlanError.TheVariants.{BadWords}
 use Rattle.gtp_check.specs.declared.options.Options.{Options}
 use Rattle.gtp_check.specs.declared.plan.Plan.{Plan}
 use Rattle.gtp_check.specs.declared.summary.Ending.{Ending}

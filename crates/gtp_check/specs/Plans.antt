@@ -11,9 +11,10 @@ use Rattle.gtp_course.specs.declared.lessons.Lesson.TheVariants.{Start, Sizes, K
 use Rattle.gtp_course.specs.declared.lessons.Lesson.TheVariants.{Handicaps, Komi, Drawn, Record, Genmoves, Games}
 use Rattle.gtp_course.specs.declared.lessons.Lesson.TheVariants.{Restarts}
 use Rattle.gtp_wire.specs.Words.{words}
-use Rattle.gtp_check.specs.declared.failure.Mistake.TheVariants.{BadArgument, NoCommand}
-use Rattle.gtp_check.specs.declared.failure.PlanError.{PlanError}
-use Rattle.gtp_check.specs.declared.failure.PlanError.TheVariants.{BadWords, OutOfMemory}
+use Rattle.gtp_check.specs.declared.failure.Mistake.{Mistake}
+use Rattle.gtp_check.specs.declared.failure.Mistake.TheVariants.{NoCommand}
+use Rattle.programs.specs.declared.failure.PlanError.{PlanError}
+use Rattle.programs.specs.declared.failure.PlanError.TheVariants.{BadArgument, BadWords, OutOfMemory}
 use Rattle.gtp_check.specs.declared.options.Options.{Options}
 use Rattle.gtp_check.specs.declared.plan.Plan.{Plan}
 
@@ -69,8 +70,9 @@ pub record IsPlanOf (options : Options) (plan : Plan) : Type 0 where
   pub singly : plan.singly ≡ options.singly
   pub restarts : plan.restarts ≡ options.restarts
 
--- why the options come to no plan: the command has no word, or memory was refused
-abbrev pub HasNoPlan : Options → PlanError → Type 0
+-- Why the options come to no plan: the command has no word, or memory was refused. That an argument isn't UTF-8 is none
+-- of theirs.
+abbrev pub HasNoPlan : Options → PlanError Mistake → Type 0
+HasNoPlan options BadArgument = ⊥
 HasNoPlan options (BadWords NoCommand) = words options.command.now ≡ []
-HasNoPlan options (BadWords BadArgument) = ⊥
 HasNoPlan options OutOfMemory = Unit {0}

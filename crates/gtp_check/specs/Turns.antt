@@ -30,10 +30,10 @@ use Rattle.gtp_course.specs.Course.{IsOver as CourseIsOver}
 use Rattle.gtp_check.specs.declared.complaint.Complaint.{Complaint}
 use Rattle.gtp_check.specs.declared.engine.Engine.{Engine}
 use Rattle.gtp_check.specs.declared.engine.Fault.{Fault}
+use Rattle.programs.specs.declared.failure.Failure.{Failure}
+use Rattle.programs.specs.declared.failure.Failure.TheVariants.{OutOfMemory, TooManyTurns, Write}
 use Rattle.gtp_check.specs.declared.engine.Fault.TheVariants.{Wrote}
-use Rattle.gtp_check.specs.declared.failure.Failure.{Failure}
 use Rattle.gtp_check.specs.declared.flat.Shortening.{Shortening}
-use Rattle.gtp_check.specs.declared.failure.Failure.TheVariants.{OutOfMemory, TooManyTurns, Write}
 use Rattle.gtp_check.specs.declared.notes.Notes.{Notes}
 use Rattle.gtp_check.specs.declared.plan.Plan.{Plan}
 use Rattle.gtp_check.specs.declared.summary.Over.{Over}

@@ -12,10 +12,10 @@ ghost use Rattle.gtp_check.specs.Turns.{MayStart, TurnsAreOver, before_all, is_f
 ghost use Rattle.gtp_check.specs.private.Steps.{Begins, FirstGoesOut};
 ghost use Rattle.gtp_check.specs.private.Steps.{EndsTurn, FirstStops, Gathers, IsPaired, IsRefused, Settles, StopsAfter};
 ghost use Rattle.gtp_check.specs.declared.engine.TheConstants.{LINES_ROOM};
+ghost use Rattle.programs.specs.declared.failure.Failure.TheVariants as failure;
 
 use crate::closing::{close, end_now, quit};
 use crate::engine::{Engine, Fault, Room};
-use crate::failure::Failure;
 use crate::notes::Notes;
 use crate::plan::Plan;
 use crate::progress::clear;
@@ -26,6 +26,7 @@ use byte_streams::{WriteOnce, write_text};
 use gtp_course::{Action, Course, Lesson, Lessons};
 use gtp_examiner::{CheckCommand, Examiner};
 use gtp_process::{Process, StartFault, Starter, Unstarted};
+use programs::failure::Failure;
 use std::alloc::{AllocError, Global};
 
 /// How many turns a check has at most. No check within the limits has this number.

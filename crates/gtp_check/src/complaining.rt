@@ -10,12 +10,12 @@ ghost use Rattle.gtp_check.specs.Shortening.{shortenings};
 ghost use Rattle.gtp_check.specs.Turns.{Closes, IsComplaint, Shortens, TriesShorter, state};
 ghost use Rattle.gtp_check.specs.private.Steps.{ComplaintGoesOut, ComplaintStops};
 ghost use Rattle.gtp_check.specs.declared.complaint.Complaint.{Complaint};
-ghost use Rattle.gtp_check.specs.declared.failure.Failure.TheVariants as failure;
+ghost use Rattle.programs.specs.declared.failure.Failure.TheVariants as failure;
 
 use crate::check::Check;
 use crate::complaint::{Complaint, complaint_text};
 use crate::engine::Fault;
-use crate::failure::Failure;
+use programs::failure::Failure;
 use crate::flat::{Shortening, games_in, shortened, shortenings};
 use crate::plan::Plan;
 use crate::progress::{clear, show_looking};

@@ -30,8 +30,9 @@ mod tests;
 mod texts;
 mod trial;
 
-use failure::{Failure, PlanError};
+use failure::{Mistake, NAME};
 use gtp_process::SystemStarter;
+use programs::failure::{Failure, PlanError};
 use programs::standard::hold_closed;
 use programs::words::arguments;
 use run::run;
@@ -43,7 +44,7 @@ fn main(rt: HostRuntime) -> ExitCode {
     let status = match hold_closed(&rt, rt.stdin(), rt.stdout(), rt.stderr()) {
         // They are held until all is asked and written.
         Ok(_held) => check_by(&rt),
-        Err(_) => Failure::NoNullDevice.report(&mut rt.stderr()),
+        Err(_) => Failure::NoNullDevice.report(NAME, &mut rt.stderr()),
     };
     ExitCode::from(status)
 }
@@ -63,6 +64,8 @@ fn check_by(rt: &HostRuntime) -> u8 {
                 errors: rt.stderr(),
             },
         ),
-        Err(error) => PlanError::of_arguments(error.kind()).report(&mut rt.stderr()),
+        Err(error) => {
+            PlanError::<Mistake>::of_arguments(error.kind()).report(NAME, &mut rt.stderr())
+        }
     }
 }

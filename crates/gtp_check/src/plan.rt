@@ -3,11 +3,12 @@ ghost use Rattle.std.specs.Prelude.{◌≡◌, IfOk, IfErr, filter, not};
 ghost use Rattle.gtp_course.specs.Lessons.{all_lessons};
 ghost use Rattle.gtp_check.specs.Plans.{HasNoPlan, IsCommand, IsPlanOf, IsSceneSize, is_among, is_chosen, is_quick};
 
-use crate::failure::{Mistake, PlanError};
+use crate::failure::Mistake;
 use crate::options::{Options, add_if};
 use go_base::Size;
 use go_board::KoRule;
 use gtp_course::{LESSONS, Lesson, Lessons};
+use programs::failure::PlanError;
 use std::alloc::{AllocError, Global};
 
 /// What is checked, and how.
@@ -36,7 +37,7 @@ pub struct Plan<'a> {
 /// # Errors
 ///
 /// `OutOfMemory`, or the mistake that the command has no word.
-pub fn plan_of<'a>(alloc: Global, options: &Options<'a>) -> Result<Plan<'a>, PlanError>
+pub fn plan_of<'a>(alloc: Global, options: &Options<'a>) -> Result<Plan<'a>, PlanError<Mistake>>
     ensures plan { IfOk result (IsPlanOf options.now) }
     ensures no_plan { IfErr result (HasNoPlan options.now) }
 {

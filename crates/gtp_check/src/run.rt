@@ -9,7 +9,7 @@ ghost use Rattle.gtp_check.specs.Status.{IsStatus, status_of};
 ghost use Rattle.gtp_check.specs.private.Answering.{Answers};
 
 use crate::check::Check;
-use crate::failure::Failure;
+use crate::failure::NAME;
 use crate::listing::list_text;
 use crate::options::read_options;
 use crate::plan::{Plan, plan_of};
@@ -20,6 +20,7 @@ use byte_streams::{Broken, WriteOnce, write_or_break, write_text};
 use clap::error::ErrorKind;
 use go_base::push;
 use gtp_process::{Starter, Unstarted, push_unstarted};
+use programs::failure::Failure;
 use programs::words::is_request;
 use std::alloc::{AllocError, Global};
 use std::convert::AsStr;
@@ -58,11 +59,11 @@ pub fn run<A: AsStr, O: WriteOnce, E: WriteOnce, S: Starter>(
     }
     let plan = match plan_of(alloc, &options) {
         Ok(plan) => plan,
-        Err(error) => return error.report(errors),
+        Err(error) => return error.report(NAME, errors),
     };
     match check(alloc, &plan, progress, output, errors, starter) {
         Ok(status) => status,
-        Err(failure) => failure.report(errors),
+        Err(failure) => failure.report(NAME, errors),
     }
 }
 
@@ -72,7 +73,7 @@ fn list<O: WriteOnce, E: WriteOnce>(alloc: Global, output: &mut O, errors: &mut 
         result output.new errors.new }
 {
     let Ok(text) = list_text(alloc) else {
-        return Failure::OutOfMemory.report(errors);
+        return Failure::OutOfMemory.report(NAME, errors);
     };
     show(text.as_slice(), output, errors)
 }
@@ -144,10 +145,10 @@ fn answer_error<O: WriteOnce, E: WriteOnce>(
     ensures { Answers O.WriteOnce E.WriteOnce kind output.old errors.old result output.new errors.new }
 {
     let Ok(text) = text else {
-        return Failure::OutOfMemory.report(errors);
+        return Failure::OutOfMemory.report(NAME, errors);
     };
     if kind == ErrorKind::OutOfMemory {
-        return Failure::OutOfMemory.report(errors);
+        return Failure::OutOfMemory.report(NAME, errors);
     }
     if !is_request(kind) {
         write_or_break(errors, text.as_bytes());
@@ -163,6 +164,6 @@ fn show<O: WriteOnce, E: WriteOnce>(text: &[u8], output: &mut O, errors: &mut E)
 {
     match write_text(output, text) {
         Ok(()) => 0,
-        Err(Broken) => Failure::Write.report(errors),
+        Err(Broken) => Failure::Write.report(NAME, errors),
     }
 }

@@ -1,10 +1,14 @@
 //! The failures that the program reports in a line of its own.
-ghost use Rattle.std.specs.Prelude.{◌≡◌, ◌≢◌};
-ghost use Rattle.gtp_engine.specs.Status.{ReportsFailure, failure_line, status_for};
+ghost use Rattle.std.specs.Prelude.{◌≡◌, ◌≢◌, ◌≤◌, length};
+ghost use Rattle.gtp_engine.specs.Status.{ReportsFailure, failure_text, status_for};
 
 use gtp_session::serve::ServeFault;
 use gtp_session::streams::{Outgoing, send};
+use programs::line::error_line;
 use std::io::ErrorKind;
+
+/// The program's name in the lines of failures.
+const NAME: &[u8] = b"gtp_engine";
 
 /// Why the program ends before its conversation does, where `clap` has no text for it.
 #[derive(Clone, Copy, Debug, PartialEq, Eq, Drop)]
@@ -45,21 +49,20 @@ impl Failure {
         }
     }
 
-    /// Its line on standard error.
-    fn line(self) -> &'static [u8]
-        ensures { result.now ≡ failure_line self }
+    /// What it is called.
+    fn text(self) -> &'static [u8]
+        ensures text { result.now ≡ failure_text self }
+        ensures short { length result.now ≤ 100 }
     {
         match self {
-            Failure::BadArgument => b"gtp_engine: bad argument\n",
-            Failure::BadBook => b"gtp_engine: bad book\n",
-            Failure::BadFault => b"gtp_engine: bad fault\n",
-            Failure::OutOfMemory => b"gtp_engine: out of memory\n",
-            Failure::Serve(ServeFault::Read) => b"gtp_engine: read fault\n",
-            Failure::Serve(ServeFault::Write) => b"gtp_engine: write fault\n",
-            Failure::Serve(ServeFault::TooManyReads) => b"gtp_engine: too many reads\n",
-            Failure::NoNullDevice => {
-                b"gtp_engine: a standard stream is closed, and /dev/null can't be opened\n"
-            }
+            Failure::BadArgument => b"bad argument",
+            Failure::BadBook => b"bad book",
+            Failure::BadFault => b"bad fault",
+            Failure::OutOfMemory => b"out of memory",
+            Failure::Serve(ServeFault::Read) => b"read fault",
+            Failure::Serve(ServeFault::Write) => b"write fault",
+            Failure::Serve(ServeFault::TooManyReads) => b"too many reads",
+            Failure::NoNullDevice => b"a standard stream is closed, and /dev/null can't be opened",
         }
     }
 }
@@ -69,6 +72,7 @@ pub fn report<E: Outgoing>(failure: Failure, errors: &mut E) -> u8
     ensures status { result ≡ status_for failure }
     ensures reported { ReportsFailure failure (E.shown errors.old) (E.shown errors.new) }
 {
-    let _ = send(errors, failure.line());
+    let line = error_line(NAME, failure.text());
+    let _ = send(errors, line.as_slice());
     failure.status()
 }

@@ -2,5 +2,7 @@
 //! it was started without, and with a failure that it reports.
 #![tactic(auto)]
 
+pub mod failure;
+pub mod line;
 pub mod standard;
 pub mod words;

@@ -8,8 +8,8 @@ use Rattle.go_board.specs.Show.{board_text}
 use Rattle.gtp_match.specs.declared.controller.Controller.{Controller}
 use Rattle.gtp_match.specs.declared.verdicts.Verdict.{Verdict}
 use Rattle.gtp_match.specs.ResultLine.{result_text, record_text}
-use Rattle.twogtp.specs.declared.failure.Failure.{Failure}
-use Rattle.twogtp.specs.declared.failure.Failure.TheVariants.{Write}
+use Rattle.programs.specs.declared.failure.Failure.{Failure}
+use Rattle.programs.specs.declared.failure.Failure.TheVariants.{Write}
 use Rattle.twogtp.specs.declared.failure.Mistake.{Mistake}
 use Rattle.twogtp.specs.declared.options.Options.{Options}
 use Rattle.byte_streams.specs.declared.calls.WriteOnce.{Ghosts as WriterGhosts}

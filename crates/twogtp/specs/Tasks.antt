@@ -6,10 +6,9 @@ use Rattle.go_base.specs.Komi.{komi_of}
 use Rattle.gtp_wire.specs.Words.{words}
 use Rattle.gtp_match.specs.Setup.{setup_of, IsSetup}
 use Rattle.twogtp.specs.declared.failure.Mistake.{Mistake}
-use Rattle.twogtp.specs.declared.failure.Mistake.TheVariants.{BadArgument, NoBlackCommand, NoWhiteCommand, BadKomi}
-use Rattle.twogtp.specs.declared.failure.Mistake.TheVariants.{BadHandicap}
-use Rattle.twogtp.specs.declared.failure.PlanError.{PlanError}
-use Rattle.twogtp.specs.declared.failure.PlanError.TheVariants.{BadWords, OutOfMemory}
+use Rattle.twogtp.specs.declared.failure.Mistake.TheVariants.{NoBlackCommand, NoWhiteCommand, BadKomi, BadHandicap}
+use Rattle.programs.specs.declared.failure.PlanError.{PlanError}
+use Rattle.programs.specs.declared.failure.PlanError.TheVariants.{BadArgument, BadWords, OutOfMemory}
 use Rattle.twogtp.specs.declared.options.Options.{Options}
 use Rattle.twogtp.specs.declared.plan.Plan.{Plan}
 use Rattle.twogtp.specs.declared.task.Commands.{Commands}
@@ -56,16 +55,16 @@ pub record IsNoSetup (options : Options) : Type 0 where
   pub spells : komi_of options.komi.now ≡ Some komi
   pub no_setup : ¬ IsSetup (setup_of options.size komi options.handicap options.max_moves options.restarts)
 
--- The first mistake in the options, in this order: Black's command, White's, komi, the handicap. That an argument isn't
--- UTF-8 is none of theirs.
+-- the first mistake in the options, in this order: Black's command, White's, komi, the handicap
 abbrev pub IsMistake : Options → Mistake → Type 0
 IsMistake options NoBlackCommand = words options.black.now ≡ []
 IsMistake options NoWhiteCommand = (words options.black.now ≢ []) × (words options.white.now ≡ [])
 IsMistake options BadKomi = HaveWords options × (komi_of options.komi.now ≡ None)
 IsMistake options BadHandicap = HaveWords options × IsNoSetup options
-IsMistake options BadArgument = ⊥
 
--- why the options come to no plan: their first mistake, or memory was refused
-abbrev pub HasNoPlan : Options → PlanError → Type 0
+-- Why the options come to no plan: their first mistake, or memory was refused. That an argument isn't UTF-8 is none of
+-- theirs.
+abbrev pub HasNoPlan : Options → PlanError Mistake → Type 0
+HasNoPlan options BadArgument = ⊥
 HasNoPlan options (BadWords mistake) = IsMistake options mistake
 HasNoPlan options OutOfMemory = Unit {0}

@@ -10,8 +10,8 @@ use Rattle.gtp_match.specs.Next.{next}
 use Rattle.gtp_match.specs.Setup.{SetupRecord}
 use Rattle.gtp_match.specs.Sides.{side_of}
 use Rattle.gtp_match.specs.Sound.{IsSound}
-use Rattle.twogtp.specs.declared.failure.Failure.{Failure}
-use Rattle.twogtp.specs.declared.failure.Failure.TheVariants.{OutOfMemory, TooManyTurns, Write}
+use Rattle.programs.specs.declared.failure.Failure.{Failure}
+use Rattle.programs.specs.declared.failure.Failure.TheVariants.{OutOfMemory, TooManyTurns, Write}
 use Rattle.byte_streams.specs.declared.calls.WriteOnce.{Ghosts as WriterGhosts}
 use Rattle.twogtp.specs.declared.processes.Processes.{Processes}
 use Rattle.gtp_process.specs.declared.starter.Process.{Ghosts}

@@ -9,7 +9,6 @@ ghost use Rattle.twogtp.specs.Turns.{Begins, IsRefused, TurnsEnd, state};
 ghost use Rattle.twogtp.specs.Why.{ReportCanBeShown};
 ghost use Rattle.twogtp.specs.private.Steps.{IsStep};
 
-use crate::failure::Failure;
 use crate::plan::Plan;
 use crate::processes::Processes;
 use crate::reports::write_turn;
@@ -20,6 +19,7 @@ use byte_streams::WriteOnce;
 use go_base::Side;
 use gtp_match::{Action, Match, Setup, Verdict};
 use gtp_process::{READ_ROOM, StartFault, Starter, Unstarted, end};
+use programs::failure::Failure;
 use std::alloc::AllocError;
 
 /// How many turns a game has at most. No match within the limits has this number.

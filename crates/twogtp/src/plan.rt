@@ -2,11 +2,12 @@
 ghost use Rattle.std.specs.Prelude.{IfOk, IfErr};
 ghost use Rattle.twogtp.specs.Tasks.{AreCommandsOf, HasNoPlan, HaveWords, IsCommand, IsMistake, IsPlanOf, IsTaskOf};
 
-use crate::failure::{Mistake, PlanError};
+use crate::failure::Mistake;
 use crate::options::Options;
 use crate::task::{Commands, Task};
 use go_base::{Komi, Size};
 use gtp_match::Setup;
+use programs::failure::PlanError;
 use std::alloc::{AllocError, Global};
 
 /// What a run is to do, and with which engines.
@@ -24,7 +25,7 @@ pub struct Plan<'a> {
 ///
 /// `OutOfMemory`, or the first mistake in this order: Black's command has no word, White's has none, the text of komi
 /// is no komi, the size doesn't allow the handicap.
-pub fn plan_of<'a>(alloc: Global, options: &Options<'a>) -> Result<Plan<'a>, PlanError>
+pub fn plan_of<'a>(alloc: Global, options: &Options<'a>) -> Result<Plan<'a>, PlanError<Mistake>>
     ensures plan { IfOk result (IsPlanOf options.now) }
     ensures no_plan { IfErr result (HasNoPlan options.now) }
 {
@@ -34,7 +35,7 @@ pub fn plan_of<'a>(alloc: Global, options: &Options<'a>) -> Result<Plan<'a>, Pla
 }
 
 /// The commands of the options. Black's is looked at first.
-fn commands_of<'a>(alloc: Global, options: &Options<'a>) -> Result<Commands<'a>, PlanError>
+fn commands_of<'a>(alloc: Global, options: &Options<'a>) -> Result<Commands<'a>, PlanError<Mistake>>
     ensures commands { IfOk result (AreCommandsOf options.now) }
     ensures no_plan { IfErr result (HasNoPlan options.now) }
 {

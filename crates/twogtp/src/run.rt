@@ -7,7 +7,7 @@ ghost use Rattle.twogtp.specs.Status.{IsStatus, ReportsFailure, some_given_up, s
 ghost use Rattle.programs.specs.Status.{IsRequest, done, own_failure, usage_failure};
 ghost use Rattle.byte_streams.specs.Writing.{BreaksAt, GoesOut, IsWritten};
 
-use crate::failure::Failure;
+use crate::failure::NAME;
 use crate::game::play_game;
 use crate::options::read_options;
 use crate::plan::{Plan, plan_of};
@@ -15,6 +15,7 @@ use byte_streams::{Broken, WriteOnce, write_or_break, write_text};
 use clap::error::ErrorKind;
 use gtp_match::Verdict;
 use gtp_process::Starter;
+use programs::failure::Failure;
 use programs::words::is_request;
 use std::alloc::{AllocError, Global};
 use std::convert::AsStr;
@@ -72,11 +73,11 @@ pub fn run<A: AsStr, O: WriteOnce, E: WriteOnce, S: Starter>(
     };
     let plan = match plan_of(alloc, &options) {
         Ok(plan) => plan,
-        Err(error) => return error.report(errors),
+        Err(error) => return error.report(NAME, errors),
     };
     match play_games(&plan, output, errors, starter) {
         Ok(status) => status,
-        Err(failure) => failure.report(errors),
+        Err(failure) => failure.report(NAME, errors),
     }
 }
 
@@ -139,7 +140,7 @@ fn answer_error<O: WriteOnce, E: WriteOnce>(
         × ReportsFailure E.WriteOnce Failure.Write errors.old errors.new) }
 {
     if kind == ErrorKind::OutOfMemory {
-        return Failure::OutOfMemory.report(errors);
+        return Failure::OutOfMemory.report(NAME, errors);
     }
     if is_request(kind) {
         show(text, output, errors)
@@ -165,9 +166,9 @@ fn show<O: WriteOnce, E: WriteOnce>(
     match text {
         Ok(text) => match write_text(output, text.as_bytes()) {
             Ok(()) => 0,
-            Err(Broken) => Failure::Write.report(errors),
+            Err(Broken) => Failure::Write.report(NAME, errors),
         },
-        Err(AllocError) => Failure::OutOfMemory.report(errors),
+        Err(AllocError) => Failure::OutOfMemory.report(NAME, errors),
     }
 }
 
@@ -183,6 +184,6 @@ fn write_mistake<E: WriteOnce>(text: Result<String, AllocError>, errors: &mut E)
             write_or_break(errors, text.as_bytes());
             2
         }
-        Err(AllocError) => Failure::OutOfMemory.report(errors),
+        Err(AllocError) => Failure::OutOfMemory.report(NAME, errors),
     }
 }

@@ -7,7 +7,7 @@ use Rattle.byte_streams.specs.declared.calls.WriteOnce.{Ghosts as WriterGhosts}
 use Rattle.byte_streams.specs.Writing.{IsWritten}
 use Rattle.clap.specs.declared.error.kind.ErrorKind.TheVariants.{OutOfMemory as ClapOutOfMemory}
 use Rattle.programs.specs.Status.{IsRequest, own_failure, usage_failure}
-use Rattle.gtp_check.specs.declared.failure.Failure.TheVariants.{OutOfMemory}
+use Rattle.programs.specs.declared.failure.Failure.TheVariants.{OutOfMemory}
 use Rattle.gtp_check.specs.Checks.{Shows}
 use Rattle.gtp_check.specs.Status.{ReportsFailure}
 

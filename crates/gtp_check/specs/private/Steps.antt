@@ -15,8 +15,8 @@ use Rattle.gtp_check.specs.declared.check.Next.{Next}
 use Rattle.gtp_check.specs.declared.check.Next.TheVariants.{Exchange, Kill, Over, Restart, Start}
 use Rattle.gtp_check.specs.declared.engine.Engine.{Engine}
 use Rattle.gtp_check.specs.declared.engine.Fault.{Fault}
-use Rattle.gtp_check.specs.declared.failure.Failure.{Failure}
-use Rattle.gtp_check.specs.declared.failure.Failure.TheVariants.{NoNullDevice, OutOfMemory, TooManyTurns, Write}
+use Rattle.programs.specs.declared.failure.Failure.{Failure}
+use Rattle.programs.specs.declared.failure.Failure.TheVariants.{NoNullDevice, OutOfMemory, TooManyTurns, Write}
 use Rattle.gtp_check.specs.declared.notes.Notes.{Notes}
 use Rattle.gtp_check.specs.declared.plan.Plan.{Plan}
 use Rattle.gtp_check.specs.declared.summary.Over.{Over as WhyOver}

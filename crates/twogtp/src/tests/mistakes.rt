@@ -2,7 +2,8 @@
 use super::fakes::Full;
 use super::runs::{assert_refused, run_between, run_with};
 use crate::equal::{assert_equal, assert_true_for};
-use crate::failure::{Failure, PlanError};
+use crate::failure::{Mistake, NAME};
+use programs::failure::{Failure, PlanError};
 use std::io::ErrorKind;
 use std::str;
 use std::test::Fail;
@@ -87,9 +88,9 @@ fn each_failure_is_reported_in_a_line(rt: HostRuntime) -> Result<(), Fail> {
     ];
     for (failure, text) in cases {
         let mut errors = Vec::new(rt.alloc());
-        assert_equal(&rt, failure.report(&mut errors), 3);
+        assert_equal(&rt, failure.report(NAME, &mut errors), 3);
         assert_equal(&rt, errors.as_slice(), text.as_bytes());
-        assert_equal(&rt, failure.report(&mut Full), 3);
+        assert_equal(&rt, failure.report(NAME, &mut Full), 3);
     }
     Ok(())
 }
@@ -103,11 +104,11 @@ fn arguments_that_are_not_collected_are_a_mistake_or_want_of_memory(
         (ErrorKind::OutOfMemory, "twogtp: out of memory\n", 3),
     ];
     for (kind, text, status) in cases {
-        let error = PlanError::of_arguments(kind);
+        let error = PlanError::<Mistake>::of_arguments(kind);
         let mut errors = Vec::new(rt.alloc());
-        assert_equal(&rt, error.report(&mut errors), status);
+        assert_equal(&rt, error.report(NAME, &mut errors), status);
         assert_equal(&rt, errors.as_slice(), text.as_bytes());
-        assert_equal(&rt, error.report(&mut Full), status);
+        assert_equal(&rt, error.report(NAME, &mut Full), status);
     }
     Ok(())
 }
