@@ -77,8 +77,9 @@ pub const LESSONS: [Lesson; ALL] = [
 
 /// What a lesson of scenes asks: the scene, and the points of its moves and of its corner. Then the points of its moves
 /// after a pass, after that is taken back, after the act is, after the act again, after a move elsewhere, after that is
-/// taken back and the act too, and on a board that was cleared after the act.
-static SCENE: [Stretch; 24] = [
+/// taken back and the act too. Then all moves are taken back, and the score shows it. They are made again, the board is
+/// cleared, and the points of the moves and the score are those of an empty board.
+static SCENE: [Stretch; 29] = [
     Stretch::Size,
     Stretch::Taken,
     Stretch::Komi,
@@ -101,12 +102,17 @@ static SCENE: [Stretch; 24] = [
     Stretch::Undo,
     Stretch::Corner,
     Stretch::Act,
+    Stretch::Emptied(12),
+    Stretch::Undo,
+    Stretch::Score,
+    Stretch::Moves,
     Stretch::Clear,
+    Stretch::Score,
     Stretch::Own,
 ];
 
 /// The same where the act is refused: it is no move, so one `undo` takes back what came after it.
-static REFUSED: [Stretch; 21] = [
+static REFUSED: [Stretch; 26] = [
     Stretch::Size,
     Stretch::Taken,
     Stretch::Komi,
@@ -126,7 +132,12 @@ static REFUSED: [Stretch; 21] = [
     Stretch::Own,
     Stretch::Act,
     Stretch::Corner,
+    Stretch::Emptied(12),
+    Stretch::Undo,
+    Stretch::Score,
+    Stretch::Moves,
     Stretch::Clear,
+    Stretch::Score,
     Stretch::Own,
 ];
 
@@ -152,23 +163,36 @@ static START: [Stretch; 19] = [
     Stretch::Own,
 ];
 
-static SIZES: [Stretch; 8] = [
+static SIZES: [Stretch; 19] = [
     Stretch::Size,
     Stretch::Taken,
     Stretch::Komi,
     Stretch::Clear,
     Stretch::Edges,
     Stretch::Undo,
-    Stretch::Genmoves(2),
+    Stretch::Points,
+    Stretch::Score,
+    Stretch::Clear,
+    Stretch::Filled,
+    Stretch::Swept,
+    Stretch::Edges,
+    Stretch::Emptied(640),
     Stretch::Undo,
+    Stretch::Score,
+    Stretch::Genmoves(2),
+    Stretch::Emptied(2),
+    Stretch::Undo,
+    Stretch::Score,
 ];
 
-static HANDICAPS: [Stretch; 19] = [
+static HANDICAPS: [Stretch; 25] = [
     Stretch::Size,
     Stretch::Taken,
     Stretch::Komi,
     Stretch::Clear,
+    Stretch::Stones(10),
     Stretch::Handicap,
+    Stretch::Undo,
     Stretch::Stars,
     Stretch::Handicap,
     Stretch::Surround,
@@ -178,8 +202,12 @@ static HANDICAPS: [Stretch; 19] = [
     Stretch::Stars,
     Stretch::Drawn(1),
     Stretch::Undo,
+    Stretch::Stones(10),
     Stretch::Handicap,
     Stretch::Genmoves(3),
+    Stretch::Emptied(3),
+    Stretch::Undo,
+    Stretch::Handicap,
     Stretch::Clear,
     Stretch::Score,
     Stretch::Stars,
@@ -216,7 +244,7 @@ static DRAWN: [Stretch; 6] = [
     Stretch::Back(40),
 ];
 
-static RECORD: [Stretch; 16] = [
+static RECORD: [Stretch; 23] = [
     Stretch::Size,
     Stretch::Taken,
     Stretch::Komi,
@@ -232,6 +260,13 @@ static RECORD: [Stretch; 16] = [
     Stretch::Moves,
     Stretch::Own,
     Stretch::Back(1020),
+    Stretch::Score,
+    Stretch::Own,
+    Stretch::Moves,
+    Stretch::Waits(600),
+    Stretch::Emptied(400),
+    Stretch::Undo,
+    Stretch::Score,
     Stretch::Own,
 ];
 
@@ -265,18 +300,23 @@ static GENMOVES: [Stretch; 27] = [
     Stretch::Genmoves(20),
 ];
 
-static GAMES: [Stretch; 21] = [
+static GAMES: [Stretch; 44] = [
     Stretch::Size,
     Stretch::Taken,
     Stretch::Komi,
     Stretch::Clear,
+    Stretch::Score,
     Stretch::Genmoves(6),
     Stretch::Probed(60),
     Stretch::Clear,
+    Stretch::Score,
     Stretch::OtherKomi,
+    Stretch::Score,
     Stretch::Genmoves(6),
     Stretch::Probed(60),
-    Stretch::Back(10),
+    Stretch::Emptied(60),
+    Stretch::Undo,
+    Stretch::Score,
     Stretch::OtherSize,
     Stretch::OtherTaken,
     Stretch::Komi,
@@ -284,12 +324,30 @@ static GAMES: [Stretch; 21] = [
     Stretch::Score,
     Stretch::Handicap,
     Stretch::Probed(60),
+    Stretch::Clear,
+    Stretch::Score,
     Stretch::Size,
     Stretch::Clear,
+    Stretch::Score,
+    Stretch::Handicap,
+    Stretch::Probed(60),
+    Stretch::Emptied(60),
+    Stretch::Undo,
+    Stretch::Stars,
+    Stretch::Clear,
+    Stretch::Score,
+    Stretch::Handicap,
+    Stretch::Stars,
+    Stretch::OtherSize,
+    Stretch::Clear,
+    Stretch::Score,
+    Stretch::Size,
+    Stretch::Clear,
+    Stretch::Score,
     Stretch::Genmoves(6),
 ];
 
-static RESTARTS: [Stretch; 35] = [
+static RESTARTS: [Stretch; 45] = [
     Stretch::Size,
     Stretch::Taken,
     Stretch::Komi,
@@ -297,6 +355,10 @@ static RESTARTS: [Stretch; 35] = [
     Stretch::Handicap,
     Stretch::Drawn(60),
     Stretch::Genmoves(2),
+    Stretch::Clear,
+    Stretch::Score,
+    Stretch::Handicap,
+    Stretch::Stars,
     Stretch::Clear,
     Stretch::Filled,
     Stretch::Chosen(Colour::Black),
@@ -310,19 +372,25 @@ static RESTARTS: [Stretch; 35] = [
     Stretch::Filled,
     Stretch::Chosen(Colour::White),
     Stretch::Clear,
+    Stretch::Score,
     Stretch::Handicap,
     Stretch::Drawn(60),
     Stretch::Probed(60),
     Stretch::Back(30),
     Stretch::Genmoves(4),
     Stretch::Clear,
+    Stretch::Score,
     Stretch::Moves,
     Stretch::Own,
+    Stretch::Emptied(12),
+    Stretch::Score,
+    Stretch::Moves,
     Stretch::Kill,
     Stretch::Size,
     Stretch::Taken,
     Stretch::Komi,
     Stretch::Clear,
+    Stretch::Score,
     Stretch::Undo,
     Stretch::Own,
 ];
@@ -384,8 +452,9 @@ impl Lesson {
             Lesson::Suicide => 5 * WAYS,
             Lesson::Joining => 4 * WAYS,
             Lesson::Handicaps => 300,
-            Lesson::Komi => 8,
-            Lesson::Drawn | Lesson::Genmoves => 9,
+            Lesson::Komi => 16,
+            Lesson::Drawn => 11,
+            Lesson::Genmoves => 9,
             Lesson::Record => 3,
             Lesson::Games | Lesson::Restarts => 5,
         }

@@ -16,6 +16,7 @@ mod openings;
 mod places;
 mod scenes;
 mod stretches;
+mod sweeps;
 #[cfg(test)]
 mod tests;
 
