@@ -68,15 +68,14 @@ scene_stretches =
     stretch.Size ∷ stretch.Taken ∷ stretch.Komi ∷ stretch.Clear ∷ stretch.Moves ∷ stretch.Own ∷ stretch.Corner ∷
     stretch.Pass ∷ stretch.Own ∷ stretch.Undo ∷ stretch.Own ∷ stretch.Undo ∷ stretch.Own ∷ stretch.Act ∷ stretch.Own ∷
     stretch.Elsewhere ∷ stretch.Own ∷ stretch.Undo ∷ stretch.Own ∷ stretch.Undo ∷ stretch.Corner ∷ stretch.Act ∷
-    stretch.Emptied 12 ∷ stretch.Undo ∷ stretch.Score ∷ stretch.Moves ∷ stretch.Clear ∷ stretch.Score ∷ stretch.Own ∷
-    []
+    stretch.Emptied 12 ∷ stretch.Moves ∷ stretch.Clear ∷ stretch.Own ∷ []
 
 abbrev pub refused_stretches : List Stretch
 refused_stretches =
     stretch.Size ∷ stretch.Taken ∷ stretch.Komi ∷ stretch.Clear ∷ stretch.Moves ∷ stretch.Own ∷ stretch.Corner ∷
     stretch.Pass ∷ stretch.Own ∷ stretch.Undo ∷ stretch.Own ∷ stretch.Act ∷ stretch.Own ∷ stretch.Elsewhere ∷
-    stretch.Own ∷ stretch.Undo ∷ stretch.Own ∷ stretch.Act ∷ stretch.Corner ∷ stretch.Emptied 12 ∷ stretch.Undo ∷
-    stretch.Score ∷ stretch.Moves ∷ stretch.Clear ∷ stretch.Score ∷ stretch.Own ∷ []
+    stretch.Own ∷ stretch.Undo ∷ stretch.Own ∷ stretch.Act ∷ stretch.Corner ∷ stretch.Emptied 12 ∷ stretch.Moves ∷
+    stretch.Clear ∷ stretch.Own ∷ []
 
 abbrev pub start_stretches : List Stretch
 start_stretches =
@@ -87,8 +86,8 @@ start_stretches =
 abbrev pub sizes_stretches : List Stretch
 sizes_stretches =
     stretch.Size ∷ stretch.Taken ∷ stretch.Komi ∷ stretch.Clear ∷ stretch.Edges ∷ stretch.Undo ∷ stretch.Points ∷
-    stretch.Score ∷ stretch.Clear ∷ stretch.Filled ∷ stretch.Swept ∷ stretch.Edges ∷ stretch.Emptied 640 ∷
-    stretch.Undo ∷ stretch.Score ∷ stretch.Genmoves 2 ∷ stretch.Emptied 2 ∷ stretch.Undo ∷ stretch.Score ∷ []
+    stretch.Clear ∷ stretch.Filled ∷ stretch.Swept ∷ stretch.Edges ∷ stretch.Emptied 640 ∷ stretch.Edges ∷
+    stretch.Genmoves 2 ∷ stretch.Emptied 2 ∷ stretch.Edges ∷ []
 
 abbrev pub handicaps_stretches : List Stretch
 handicaps_stretches =
@@ -100,10 +99,11 @@ handicaps_stretches =
 
 abbrev pub komi_stretches : List Stretch
 komi_stretches =
-    stretch.Size ∷ stretch.Taken ∷ stretch.Komi ∷ stretch.Clear ∷ stretch.Score ∷ stretch.Drawn 3 ∷
-    stretch.Clear ∷ stretch.Score ∷ stretch.Drawn 3 ∷ stretch.OtherKomi ∷ stretch.Undo ∷ stretch.Clear ∷
-    stretch.Score ∷ stretch.Size ∷ stretch.Taken ∷ stretch.Clear ∷ stretch.Score ∷ stretch.Komi ∷
-    stretch.Score ∷ []
+    stretch.Size ∷ stretch.Taken ∷ stretch.Komi ∷ stretch.Clear ∷ stretch.Score ∷ stretch.Drawn 3 ∷ stretch.Clear ∷
+    stretch.Score ∷ stretch.Drawn 3 ∷ stretch.OtherKomi ∷ stretch.Undo ∷ stretch.Clear ∷ stretch.Score ∷
+    stretch.Size ∷ stretch.Taken ∷ stretch.Clear ∷ stretch.Score ∷ stretch.Komi ∷ stretch.Score ∷ stretch.Moves ∷
+    stretch.Emptied 12 ∷ stretch.Undo ∷ stretch.Score ∷ stretch.Moves ∷ stretch.Clear ∷ stretch.Score ∷
+    stretch.Filled ∷ stretch.Swept ∷ stretch.Emptied 640 ∷ stretch.Undo ∷ stretch.Score ∷ []
 
 abbrev pub drawn_stretches : List Stretch
 drawn_stretches =
@@ -113,8 +113,8 @@ abbrev pub record_stretches : List Stretch
 record_stretches =
     stretch.Size ∷ stretch.Taken ∷ stretch.Komi ∷ stretch.Clear ∷ stretch.Drawn 1030 ∷ stretch.Back 12 ∷
     stretch.Drawn 970 ∷ stretch.Back 300 ∷ stretch.Probed 60 ∷ stretch.Back 20 ∷ stretch.Clear ∷ stretch.Passes 1010 ∷
-    stretch.Moves ∷ stretch.Own ∷ stretch.Back 1020 ∷ stretch.Score ∷ stretch.Own ∷ stretch.Moves ∷
-    stretch.Waits 600 ∷ stretch.Emptied 400 ∷ stretch.Undo ∷ stretch.Score ∷ stretch.Own ∷ []
+    stretch.Moves ∷ stretch.Own ∷ stretch.Back 1020 ∷ stretch.Own ∷ stretch.Moves ∷ stretch.Waits 600 ∷
+    stretch.Emptied 400 ∷ stretch.Undo ∷ stretch.Own ∷ stretch.Score ∷ []
 
 -- The board is filled for the choices of both colours, and again for the capture of all that fills it.
 abbrev pub genmoves_stretches : List Stretch
@@ -127,26 +127,24 @@ genmoves_stretches =
 
 abbrev pub games_stretches : List Stretch
 games_stretches =
-    stretch.Size ∷ stretch.Taken ∷ stretch.Komi ∷ stretch.Clear ∷ stretch.Score ∷ stretch.Genmoves 6 ∷
-    stretch.Probed 60 ∷ stretch.Clear ∷ stretch.Score ∷ stretch.OtherKomi ∷ stretch.Score ∷ stretch.Genmoves 6 ∷
-    stretch.Probed 60 ∷ stretch.Emptied 60 ∷ stretch.Undo ∷ stretch.Score ∷ stretch.OtherSize ∷ stretch.OtherTaken ∷
-    stretch.Komi ∷ stretch.Clear ∷ stretch.Score ∷ stretch.Handicap ∷ stretch.Probed 60 ∷ stretch.Clear ∷
-    stretch.Score ∷ stretch.Size ∷ stretch.Clear ∷ stretch.Score ∷ stretch.Handicap ∷ stretch.Probed 60 ∷
-    stretch.Emptied 60 ∷ stretch.Undo ∷ stretch.Stars ∷ stretch.Clear ∷ stretch.Score ∷ stretch.Handicap ∷
-    stretch.Stars ∷ stretch.OtherSize ∷ stretch.Clear ∷ stretch.Score ∷ stretch.Size ∷ stretch.Clear ∷ stretch.Score ∷
-    stretch.Genmoves 6 ∷ []
+    stretch.Size ∷ stretch.Taken ∷ stretch.Komi ∷ stretch.Clear ∷ stretch.Genmoves 6 ∷ stretch.Probed 60 ∷
+    stretch.Clear ∷ stretch.OtherKomi ∷ stretch.Genmoves 6 ∷ stretch.Probed 60 ∷ stretch.Emptied 60 ∷ stretch.Undo ∷
+    stretch.Handicap ∷ stretch.Stars ∷ stretch.Probed 60 ∷ stretch.Emptied 60 ∷ stretch.Undo ∷ stretch.Stars ∷
+    stretch.Clear ∷ stretch.Handicap ∷ stretch.Stars ∷ stretch.Clear ∷ stretch.Probed 60 ∷ stretch.Emptied 60 ∷
+    stretch.Score ∷ stretch.Clear ∷ stretch.Score ∷ stretch.OtherSize ∷ stretch.OtherTaken ∷ stretch.Komi ∷
+    stretch.Clear ∷ stretch.Score ∷ stretch.Handicap ∷ stretch.Probed 60 ∷ stretch.Clear ∷ stretch.Score ∷
+    stretch.Size ∷ stretch.Clear ∷ stretch.Score ∷ stretch.Genmoves 6 ∷ stretch.Clear ∷ stretch.Score ∷ []
 
 -- an engine that is started again after its `quit`, and one that is started after another was ended without it
 abbrev pub restarts_stretches : List Stretch
 restarts_stretches =
     stretch.Size ∷ stretch.Taken ∷ stretch.Komi ∷ stretch.Clear ∷ stretch.Handicap ∷ stretch.Drawn 60 ∷
-    stretch.Genmoves 2 ∷ stretch.Clear ∷ stretch.Score ∷ stretch.Handicap ∷ stretch.Stars ∷ stretch.Clear ∷
-    stretch.Filled ∷ stretch.Chosen Black ∷ stretch.Restart ∷ stretch.Size ∷ stretch.Taken ∷ stretch.OtherKomi ∷
-    stretch.Clear ∷ stretch.Score ∷ stretch.Undo ∷ stretch.Filled ∷ stretch.Chosen White ∷ stretch.Clear ∷
-    stretch.Score ∷ stretch.Handicap ∷ stretch.Drawn 60 ∷ stretch.Probed 60 ∷ stretch.Back 30 ∷ stretch.Genmoves 4 ∷
-    stretch.Clear ∷ stretch.Score ∷ stretch.Moves ∷ stretch.Own ∷ stretch.Emptied 12 ∷ stretch.Score ∷ stretch.Moves ∷
-    stretch.Kill ∷ stretch.Size ∷ stretch.Taken ∷ stretch.Komi ∷ stretch.Clear ∷ stretch.Score ∷ stretch.Undo ∷
-    stretch.Own ∷ []
+    stretch.Genmoves 2 ∷ stretch.Clear ∷ stretch.Handicap ∷ stretch.Stars ∷ stretch.Clear ∷ stretch.Filled ∷
+    stretch.Chosen Black ∷ stretch.Restart ∷ stretch.Size ∷ stretch.Taken ∷ stretch.OtherKomi ∷ stretch.Clear ∷
+    stretch.Score ∷ stretch.Undo ∷ stretch.Filled ∷ stretch.Chosen White ∷ stretch.Clear ∷ stretch.Handicap ∷
+    stretch.Drawn 60 ∷ stretch.Probed 60 ∷ stretch.Back 30 ∷ stretch.Genmoves 4 ∷ stretch.Clear ∷ stretch.Score ∷
+    stretch.Moves ∷ stretch.Own ∷ stretch.Emptied 12 ∷ stretch.Score ∷ stretch.Moves ∷ stretch.Kill ∷ stretch.Size ∷
+    stretch.Taken ∷ stretch.Komi ∷ stretch.Clear ∷ stretch.Undo ∷ stretch.Own ∷ stretch.Score ∷ []
 
 -- the stretches of each part, one after the other
 abbrev pub stretches_of : Lesson → List Stretch

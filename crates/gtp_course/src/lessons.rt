@@ -20,7 +20,8 @@ pub type Lessons = ArrayVec<Lesson, ALL>;
 pub enum Lesson {
     /// Some moves of the engine's own on the smallest board from 5x5 on that it takes, and that board after a new start.
     Start,
-    /// Each size from 1 to 25: whether it is taken, its corners, and two points next to them that it doesn't have.
+    /// Each size from 1 to 25: whether it is taken, each of its points, and two that it doesn't have. Then the capture of all
+    /// stones of a full board, and all moves of it taken back.
     Sizes,
     /// Kos, and what looks like one: who may retake, and when.
     Ko,
@@ -32,11 +33,12 @@ pub enum Lesson {
     Joining,
     /// Each number of handicap stones on each size.
     Handicaps,
-    /// Komis, and the score of an empty board.
+    /// Komis, and the score of an empty board, also where captures were taken back.
     Komi,
     /// Drawn games on several sizes, with probes.
     Drawn,
-    /// Records of nearly 2,000 moves, and a ko after 1,010 passes, which are all taken back.
+    /// Records of nearly 2,000 moves, and a ko after 1,010 passes, which are all taken back. Then a ko and 300 passes after
+    /// it.
     Record,
     /// Moves of the engine's own, on small boards up to a full one, with `undo` between. Then those on a board where White
     /// has no legal point, and the capture of all stones.
@@ -77,9 +79,9 @@ pub const LESSONS: [Lesson; ALL] = [
 
 /// What a lesson of scenes asks: the scene, and the points of its moves and of its corner. Then the points of its moves
 /// after a pass, after that is taken back, after the act is, after the act again, after a move elsewhere, after that is
-/// taken back and the act too. Then all moves are taken back, and the score shows it. They are made again, the board is
-/// cleared, and the points of the moves and the score are those of an empty board.
-static SCENE: [Stretch; 29] = [
+/// taken back and the act too. Then all moves are taken back and made again, and their points are asked on a board that
+/// was cleared.
+static SCENE: [Stretch; 26] = [
     Stretch::Size,
     Stretch::Taken,
     Stretch::Komi,
@@ -103,16 +105,13 @@ static SCENE: [Stretch; 29] = [
     Stretch::Corner,
     Stretch::Act,
     Stretch::Emptied(12),
-    Stretch::Undo,
-    Stretch::Score,
     Stretch::Moves,
     Stretch::Clear,
-    Stretch::Score,
     Stretch::Own,
 ];
 
 /// The same where the act is refused: it is no move, so one `undo` takes back what came after it.
-static REFUSED: [Stretch; 26] = [
+static REFUSED: [Stretch; 23] = [
     Stretch::Size,
     Stretch::Taken,
     Stretch::Komi,
@@ -133,11 +132,8 @@ static REFUSED: [Stretch; 26] = [
     Stretch::Act,
     Stretch::Corner,
     Stretch::Emptied(12),
-    Stretch::Undo,
-    Stretch::Score,
     Stretch::Moves,
     Stretch::Clear,
-    Stretch::Score,
     Stretch::Own,
 ];
 
@@ -163,7 +159,7 @@ static START: [Stretch; 19] = [
     Stretch::Own,
 ];
 
-static SIZES: [Stretch; 19] = [
+static SIZES: [Stretch; 16] = [
     Stretch::Size,
     Stretch::Taken,
     Stretch::Komi,
@@ -171,18 +167,15 @@ static SIZES: [Stretch; 19] = [
     Stretch::Edges,
     Stretch::Undo,
     Stretch::Points,
-    Stretch::Score,
     Stretch::Clear,
     Stretch::Filled,
     Stretch::Swept,
     Stretch::Edges,
     Stretch::Emptied(640),
-    Stretch::Undo,
-    Stretch::Score,
+    Stretch::Edges,
     Stretch::Genmoves(2),
     Stretch::Emptied(2),
-    Stretch::Undo,
-    Stretch::Score,
+    Stretch::Edges,
 ];
 
 static HANDICAPS: [Stretch; 25] = [
@@ -213,7 +206,7 @@ static HANDICAPS: [Stretch; 25] = [
     Stretch::Stars,
 ];
 
-static KOMI: [Stretch; 19] = [
+static KOMI: [Stretch; 31] = [
     Stretch::Size,
     Stretch::Taken,
     Stretch::Komi,
@@ -233,6 +226,18 @@ static KOMI: [Stretch; 19] = [
     Stretch::Score,
     Stretch::Komi,
     Stretch::Score,
+    Stretch::Moves,
+    Stretch::Emptied(12),
+    Stretch::Undo,
+    Stretch::Score,
+    Stretch::Moves,
+    Stretch::Clear,
+    Stretch::Score,
+    Stretch::Filled,
+    Stretch::Swept,
+    Stretch::Emptied(640),
+    Stretch::Undo,
+    Stretch::Score,
 ];
 
 static DRAWN: [Stretch; 6] = [
@@ -244,7 +249,7 @@ static DRAWN: [Stretch; 6] = [
     Stretch::Back(40),
 ];
 
-static RECORD: [Stretch; 23] = [
+static RECORD: [Stretch; 22] = [
     Stretch::Size,
     Stretch::Taken,
     Stretch::Komi,
@@ -260,14 +265,13 @@ static RECORD: [Stretch; 23] = [
     Stretch::Moves,
     Stretch::Own,
     Stretch::Back(1020),
-    Stretch::Score,
     Stretch::Own,
     Stretch::Moves,
     Stretch::Waits(600),
     Stretch::Emptied(400),
     Stretch::Undo,
-    Stretch::Score,
     Stretch::Own,
+    Stretch::Score,
 ];
 
 static GENMOVES: [Stretch; 27] = [
@@ -300,22 +304,33 @@ static GENMOVES: [Stretch; 27] = [
     Stretch::Genmoves(20),
 ];
 
-static GAMES: [Stretch; 44] = [
+static GAMES: [Stretch; 42] = [
     Stretch::Size,
     Stretch::Taken,
     Stretch::Komi,
     Stretch::Clear,
-    Stretch::Score,
     Stretch::Genmoves(6),
     Stretch::Probed(60),
     Stretch::Clear,
-    Stretch::Score,
     Stretch::OtherKomi,
-    Stretch::Score,
     Stretch::Genmoves(6),
     Stretch::Probed(60),
     Stretch::Emptied(60),
     Stretch::Undo,
+    Stretch::Handicap,
+    Stretch::Stars,
+    Stretch::Probed(60),
+    Stretch::Emptied(60),
+    Stretch::Undo,
+    Stretch::Stars,
+    Stretch::Clear,
+    Stretch::Handicap,
+    Stretch::Stars,
+    Stretch::Clear,
+    Stretch::Probed(60),
+    Stretch::Emptied(60),
+    Stretch::Score,
+    Stretch::Clear,
     Stretch::Score,
     Stretch::OtherSize,
     Stretch::OtherTaken,
@@ -329,25 +344,12 @@ static GAMES: [Stretch; 44] = [
     Stretch::Size,
     Stretch::Clear,
     Stretch::Score,
-    Stretch::Handicap,
-    Stretch::Probed(60),
-    Stretch::Emptied(60),
-    Stretch::Undo,
-    Stretch::Stars,
-    Stretch::Clear,
-    Stretch::Score,
-    Stretch::Handicap,
-    Stretch::Stars,
-    Stretch::OtherSize,
-    Stretch::Clear,
-    Stretch::Score,
-    Stretch::Size,
-    Stretch::Clear,
-    Stretch::Score,
     Stretch::Genmoves(6),
+    Stretch::Clear,
+    Stretch::Score,
 ];
 
-static RESTARTS: [Stretch; 45] = [
+static RESTARTS: [Stretch; 43] = [
     Stretch::Size,
     Stretch::Taken,
     Stretch::Komi,
@@ -356,7 +358,6 @@ static RESTARTS: [Stretch; 45] = [
     Stretch::Drawn(60),
     Stretch::Genmoves(2),
     Stretch::Clear,
-    Stretch::Score,
     Stretch::Handicap,
     Stretch::Stars,
     Stretch::Clear,
@@ -372,7 +373,6 @@ static RESTARTS: [Stretch; 45] = [
     Stretch::Filled,
     Stretch::Chosen(Colour::White),
     Stretch::Clear,
-    Stretch::Score,
     Stretch::Handicap,
     Stretch::Drawn(60),
     Stretch::Probed(60),
@@ -390,9 +390,9 @@ static RESTARTS: [Stretch; 45] = [
     Stretch::Taken,
     Stretch::Komi,
     Stretch::Clear,
-    Stretch::Score,
     Stretch::Undo,
     Stretch::Own,
+    Stretch::Score,
 ];
 
 impl Lesson {
