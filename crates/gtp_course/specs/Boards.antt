@@ -12,7 +12,7 @@ use Rattle.gtp_course.specs.Scenes.{way_of, ways, scene_of}
 -- The sizes of the drawn games, of the long records, of those with moves of the engine's own, and of the games in one
 -- process. After them comes the size of scenes, which the engine takes.
 abbrev pub drawn_sizes : List ℕ
-drawn_sizes = 9 ∷ 5 ∷ 3 ∷ 13 ∷ 19 ∷ 7 ∷ 25 ∷ 2 ∷ []
+drawn_sizes = 9 ∷ 5 ∷ 3 ∷ 13 ∷ 19 ∷ 7 ∷ 25 ∷ 2 ∷ 4 ∷ 1 ∷ []
 
 abbrev pub record_sizes : List ℕ
 record_sizes = 9 ∷ 19 ∷ []
@@ -43,12 +43,15 @@ lines_of Restarts part scene_size = slice_index_or game_sizes part scene_size
 abbrev pub size_or : ℕ → ℕ → ℕ
 size_or lines other_size = if nat_le 1 lines && nat_le lines most_size then lines else other_size
 
--- komis in half points: 6.5, 0, -3.5, 7.5, 0.5, -0.5, 1000.5 and -7
+-- Komis in half points: 6.5, 0, -3.5, 7.5, 0.5, -0.5, 1000.5 and -7; 10000000.5, 1000000, 100.5 and -1234.5; the
+-- greatest and the least, 999999999.5 and -999999999.5; 100000.5 and -32768.5.
 abbrev pub komis : List ℤ
-komis = pos 13 ∷ pos 0 ∷ negsuc 6 ∷ pos 15 ∷ pos 1 ∷ negsuc 0 ∷ pos 2001 ∷ negsuc 13 ∷ []
+komis =
+    pos 13 ∷ pos 0 ∷ negsuc 6 ∷ pos 15 ∷ pos 1 ∷ negsuc 0 ∷ pos 2001 ∷ negsuc 13 ∷ pos 20000001 ∷ pos 2000000 ∷
+    pos 201 ∷ negsuc 2468 ∷ pos 1999999999 ∷ negsuc 1999999998 ∷ pos 200001 ∷ negsuc 65536 ∷ []
 
 abbrev pub komi_of : ℕ → ℤ
-komi_of number = slice_index_or komis (number % 8) (pos 13)
+komi_of number = slice_index_or komis (number % 16) (pos 13)
 
 -- how many handicap stones a part asks for: each number from 0 to 11 on each size, and elsewhere 2, 3 or 4
 abbrev pub stones_of : Lesson → ℕ → ℕ

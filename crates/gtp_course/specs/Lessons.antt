@@ -56,8 +56,8 @@ parts_of Captures = 128
 parts_of Suicide = 80
 parts_of Joining = 64
 parts_of Handicaps = 300
-parts_of Komi = 8
-parts_of Drawn = 9
+parts_of Komi = 16
+parts_of Drawn = 11
 parts_of Record = 3
 parts_of Genmoves = 9
 parts_of Games = 5
@@ -65,16 +65,16 @@ parts_of Restarts = 5
 
 abbrev pub scene_stretches : List Stretch
 scene_stretches =
-    stretch.Size ∷ stretch.Taken ∷ stretch.Komi ∷ stretch.Clear ∷ stretch.Moves ∷ stretch.Own ∷
-    stretch.Corner ∷ stretch.Pass ∷ stretch.Own ∷ stretch.Undo ∷ stretch.Own ∷ stretch.Undo ∷ stretch.Own ∷
-    stretch.Act ∷ stretch.Own ∷ stretch.Elsewhere ∷ stretch.Own ∷ stretch.Undo ∷ stretch.Own ∷ stretch.Undo ∷
-    stretch.Corner ∷ stretch.Act ∷ stretch.Clear ∷ stretch.Own ∷ []
+    stretch.Size ∷ stretch.Taken ∷ stretch.Komi ∷ stretch.Clear ∷ stretch.Moves ∷ stretch.Own ∷ stretch.Corner ∷
+    stretch.Pass ∷ stretch.Own ∷ stretch.Undo ∷ stretch.Own ∷ stretch.Undo ∷ stretch.Own ∷ stretch.Act ∷ stretch.Own ∷
+    stretch.Elsewhere ∷ stretch.Own ∷ stretch.Undo ∷ stretch.Own ∷ stretch.Undo ∷ stretch.Corner ∷ stretch.Act ∷
+    stretch.Emptied 12 ∷ stretch.Moves ∷ stretch.Clear ∷ stretch.Own ∷ []
 
 abbrev pub refused_stretches : List Stretch
 refused_stretches =
-    stretch.Size ∷ stretch.Taken ∷ stretch.Komi ∷ stretch.Clear ∷ stretch.Moves ∷ stretch.Own ∷
-    stretch.Corner ∷ stretch.Pass ∷ stretch.Own ∷ stretch.Undo ∷ stretch.Own ∷ stretch.Act ∷ stretch.Own ∷
-    stretch.Elsewhere ∷ stretch.Own ∷ stretch.Undo ∷ stretch.Own ∷ stretch.Act ∷ stretch.Corner ∷
+    stretch.Size ∷ stretch.Taken ∷ stretch.Komi ∷ stretch.Clear ∷ stretch.Moves ∷ stretch.Own ∷ stretch.Corner ∷
+    stretch.Pass ∷ stretch.Own ∷ stretch.Undo ∷ stretch.Own ∷ stretch.Act ∷ stretch.Own ∷ stretch.Elsewhere ∷
+    stretch.Own ∷ stretch.Undo ∷ stretch.Own ∷ stretch.Act ∷ stretch.Corner ∷ stretch.Emptied 12 ∷ stretch.Moves ∷
     stretch.Clear ∷ stretch.Own ∷ []
 
 abbrev pub start_stretches : List Stretch
@@ -85,22 +85,25 @@ start_stretches =
 
 abbrev pub sizes_stretches : List Stretch
 sizes_stretches =
-    stretch.Size ∷ stretch.Taken ∷ stretch.Komi ∷ stretch.Clear ∷ stretch.Edges ∷ stretch.Undo ∷
-    stretch.Genmoves 2 ∷ stretch.Undo ∷ []
+    stretch.Size ∷ stretch.Taken ∷ stretch.Komi ∷ stretch.Clear ∷ stretch.Edges ∷ stretch.Undo ∷ stretch.Points ∷
+    stretch.Clear ∷ stretch.Filled ∷ stretch.Swept ∷ stretch.Edges ∷ stretch.Emptied 640 ∷ stretch.Edges ∷
+    stretch.Genmoves 2 ∷ stretch.Emptied 2 ∷ stretch.Edges ∷ []
 
 abbrev pub handicaps_stretches : List Stretch
 handicaps_stretches =
-    stretch.Size ∷ stretch.Taken ∷ stretch.Komi ∷ stretch.Clear ∷ stretch.Handicap ∷ stretch.Stars ∷
-    stretch.Handicap ∷ stretch.Surround ∷ stretch.Stars ∷ stretch.Clear ∷ stretch.Score ∷ stretch.Stars ∷
-    stretch.Drawn 1 ∷ stretch.Undo ∷ stretch.Handicap ∷ stretch.Genmoves 3 ∷ stretch.Clear ∷ stretch.Score ∷
+    stretch.Size ∷ stretch.Taken ∷ stretch.Komi ∷ stretch.Clear ∷ stretch.Stones 10 ∷ stretch.Handicap ∷
+    stretch.Undo ∷ stretch.Stars ∷ stretch.Handicap ∷ stretch.Surround ∷ stretch.Stars ∷ stretch.Clear ∷
+    stretch.Score ∷ stretch.Stars ∷ stretch.Drawn 1 ∷ stretch.Undo ∷ stretch.Stones 10 ∷ stretch.Handicap ∷
+    stretch.Genmoves 3 ∷ stretch.Emptied 3 ∷ stretch.Undo ∷ stretch.Handicap ∷ stretch.Clear ∷ stretch.Score ∷
     stretch.Stars ∷ []
 
 abbrev pub komi_stretches : List Stretch
 komi_stretches =
-    stretch.Size ∷ stretch.Taken ∷ stretch.Komi ∷ stretch.Clear ∷ stretch.Score ∷ stretch.Drawn 3 ∷
-    stretch.Clear ∷ stretch.Score ∷ stretch.Drawn 3 ∷ stretch.OtherKomi ∷ stretch.Undo ∷ stretch.Clear ∷
-    stretch.Score ∷ stretch.Size ∷ stretch.Taken ∷ stretch.Clear ∷ stretch.Score ∷ stretch.Komi ∷
-    stretch.Score ∷ []
+    stretch.Size ∷ stretch.Taken ∷ stretch.Komi ∷ stretch.Clear ∷ stretch.Score ∷ stretch.Drawn 3 ∷ stretch.Clear ∷
+    stretch.Score ∷ stretch.Drawn 3 ∷ stretch.OtherKomi ∷ stretch.Undo ∷ stretch.Clear ∷ stretch.Score ∷
+    stretch.Size ∷ stretch.Taken ∷ stretch.Clear ∷ stretch.Score ∷ stretch.Komi ∷ stretch.Score ∷ stretch.Moves ∷
+    stretch.Emptied 12 ∷ stretch.Undo ∷ stretch.Score ∷ stretch.Moves ∷ stretch.Clear ∷ stretch.Score ∷
+    stretch.Filled ∷ stretch.Swept ∷ stretch.Emptied 640 ∷ stretch.Undo ∷ stretch.Score ∷ []
 
 abbrev pub drawn_stretches : List Stretch
 drawn_stretches =
@@ -109,8 +112,9 @@ drawn_stretches =
 abbrev pub record_stretches : List Stretch
 record_stretches =
     stretch.Size ∷ stretch.Taken ∷ stretch.Komi ∷ stretch.Clear ∷ stretch.Drawn 1030 ∷ stretch.Back 12 ∷
-    stretch.Drawn 970 ∷ stretch.Back 300 ∷ stretch.Probed 60 ∷ stretch.Back 20 ∷ stretch.Clear ∷
-    stretch.Passes 1010 ∷ stretch.Moves ∷ stretch.Own ∷ stretch.Back 1020 ∷ stretch.Own ∷ []
+    stretch.Drawn 970 ∷ stretch.Back 300 ∷ stretch.Probed 60 ∷ stretch.Back 20 ∷ stretch.Clear ∷ stretch.Passes 1010 ∷
+    stretch.Moves ∷ stretch.Own ∷ stretch.Back 1020 ∷ stretch.Own ∷ stretch.Moves ∷ stretch.Waits 600 ∷
+    stretch.Emptied 400 ∷ stretch.Undo ∷ stretch.Own ∷ stretch.Score ∷ []
 
 -- The board is filled for the choices of both colours, and again for the capture of all that fills it.
 abbrev pub genmoves_stretches : List Stretch
@@ -124,19 +128,23 @@ genmoves_stretches =
 abbrev pub games_stretches : List Stretch
 games_stretches =
     stretch.Size ∷ stretch.Taken ∷ stretch.Komi ∷ stretch.Clear ∷ stretch.Genmoves 6 ∷ stretch.Probed 60 ∷
-    stretch.Clear ∷ stretch.OtherKomi ∷ stretch.Genmoves 6 ∷ stretch.Probed 60 ∷ stretch.Back 10 ∷
-    stretch.OtherSize ∷ stretch.OtherTaken ∷ stretch.Komi ∷ stretch.Clear ∷ stretch.Score ∷ stretch.Handicap ∷
-    stretch.Probed 60 ∷ stretch.Size ∷ stretch.Clear ∷ stretch.Genmoves 6 ∷ []
+    stretch.Clear ∷ stretch.OtherKomi ∷ stretch.Genmoves 6 ∷ stretch.Probed 60 ∷ stretch.Emptied 60 ∷ stretch.Undo ∷
+    stretch.Handicap ∷ stretch.Stars ∷ stretch.Probed 60 ∷ stretch.Emptied 60 ∷ stretch.Undo ∷ stretch.Stars ∷
+    stretch.Clear ∷ stretch.Handicap ∷ stretch.Stars ∷ stretch.Clear ∷ stretch.Probed 60 ∷ stretch.Emptied 60 ∷
+    stretch.Score ∷ stretch.Clear ∷ stretch.Score ∷ stretch.OtherSize ∷ stretch.OtherTaken ∷ stretch.Komi ∷
+    stretch.Clear ∷ stretch.Score ∷ stretch.Handicap ∷ stretch.Probed 60 ∷ stretch.Clear ∷ stretch.Score ∷
+    stretch.Size ∷ stretch.Clear ∷ stretch.Score ∷ stretch.Genmoves 6 ∷ stretch.Clear ∷ stretch.Score ∷ []
 
 -- an engine that is started again after its `quit`, and one that is started after another was ended without it
 abbrev pub restarts_stretches : List Stretch
 restarts_stretches =
     stretch.Size ∷ stretch.Taken ∷ stretch.Komi ∷ stretch.Clear ∷ stretch.Handicap ∷ stretch.Drawn 60 ∷
-    stretch.Genmoves 2 ∷ stretch.Clear ∷ stretch.Filled ∷ stretch.Chosen Black ∷ stretch.Restart ∷
-    stretch.Size ∷ stretch.Taken ∷ stretch.OtherKomi ∷ stretch.Clear ∷ stretch.Score ∷ stretch.Undo ∷
-    stretch.Filled ∷ stretch.Chosen White ∷ stretch.Clear ∷ stretch.Handicap ∷ stretch.Drawn 60 ∷
-    stretch.Probed 60 ∷ stretch.Back 30 ∷ stretch.Genmoves 4 ∷ stretch.Clear ∷ stretch.Moves ∷ stretch.Own ∷
-    stretch.Kill ∷ stretch.Size ∷ stretch.Taken ∷ stretch.Komi ∷ stretch.Clear ∷ stretch.Undo ∷ stretch.Own ∷ []
+    stretch.Genmoves 2 ∷ stretch.Clear ∷ stretch.Handicap ∷ stretch.Stars ∷ stretch.Clear ∷ stretch.Filled ∷
+    stretch.Chosen Black ∷ stretch.Restart ∷ stretch.Size ∷ stretch.Taken ∷ stretch.OtherKomi ∷ stretch.Clear ∷
+    stretch.Score ∷ stretch.Undo ∷ stretch.Filled ∷ stretch.Chosen White ∷ stretch.Clear ∷ stretch.Handicap ∷
+    stretch.Drawn 60 ∷ stretch.Probed 60 ∷ stretch.Back 30 ∷ stretch.Genmoves 4 ∷ stretch.Clear ∷ stretch.Score ∷
+    stretch.Moves ∷ stretch.Own ∷ stretch.Emptied 12 ∷ stretch.Score ∷ stretch.Moves ∷ stretch.Kill ∷ stretch.Size ∷
+    stretch.Taken ∷ stretch.Komi ∷ stretch.Clear ∷ stretch.Undo ∷ stretch.Own ∷ stretch.Score ∷ []
 
 -- the stretches of each part, one after the other
 abbrev pub stretches_of : Lesson → List Stretch

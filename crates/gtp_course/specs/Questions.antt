@@ -106,6 +106,39 @@ abbrev pub surround_asked : ℕ → Option ℕ → Question
 surround_asked step None = Nothing
 surround_asked step (Some p) = plays White (next_to step p)
 
+-- ---- each point, long waits, and empty boards
+
+-- the crossing of this number, row by row, on a board of this size
+abbrev pub crossing_of : ℕ → ℕ → Vertex
+crossing_of number size = crossing (number % size + 1) (number / size + 1)
+
+-- Three steps for each point of the board, row by row: a move on it, of Black and of White in turn; a probe of it by the
+-- other colour, whose move is refused there; and an `undo`.
+abbrev pub points_asked : ℕ → ℕ → Question
+points_asked step size =
+    if nat_le size (step / 3 / size) then Nothing
+    else if step % 3 == 0 then plays (colour_of (step / 3)) (crossing_of (step / 3) size)
+    else if step % 3 == 1 then probes (other (colour_of (step / 3))) (crossing_of (step / 3) size)
+    else asks command.Undo
+
+-- a probe of the point of an act by the colour of the act, if there is one
+abbrev pub retake_asked : Board → Option (Colour × ℕ × ℕ) → Question
+retake_asked board None = Nothing
+retake_asked board (Some act) =
+    probes (turned_act board.way act board.size).colour (turned_act board.way act board.size).vertex
+
+-- the number of the move whose stone is taken in the first scene of kos
+abbrev pub retaken : ℕ
+retaken = 2
+
+-- passes of Black and of White in turn, and after each of them a probe of the point of that act
+abbrev pub waits_asked : Board → ℕ → Option (Colour × ℕ × ℕ) → Question
+waits_asked board step act = if step % 2 == 0 then plays (colour_of (step / 2)) Pass else retake_asked board act
+
+-- an `undo`, while the game has moves
+abbrev pub emptied_asked : ℕ → Question
+emptied_asked moves = if nat_lt 0 moves then asks command.Undo else Nothing
+
 -- ---- the engine's own moves
 
 -- By the number of moves it is Black's turn or White's. Of five steps the third asks for a move of the other colour, and
@@ -187,16 +220,21 @@ IsQuestion stretch.Elsewhere step board game question = question ≡ elsewhere_a
 IsQuestion stretch.Undo step board game question = question ≡ asks command.Undo
 IsQuestion stretch.Edges step board game question = question ≡ probes (colour_of step) (edge_point step board.size)
 IsQuestion stretch.Handicap step board game question = question ≡ asks (command.FixedHandicap board.stones)
+IsQuestion (stretch.Stones stones) step board game question = question ≡ asks (command.FixedHandicap stones)
 IsQuestion stretch.Stars step board game question =
     question ≡ star_asked step (slice_get (star_points game.size) (step / 2))
 IsQuestion stretch.Score step board game question = question ≡ Ask FinalScore
 IsQuestion stretch.Surround step board game question =
     question ≡ surround_asked step (slice_get (star_points game.size) 0)
+IsQuestion stretch.Points step board game question = question ≡ points_asked step board.size
 IsQuestion (stretch.Passes steps) step board game question = question ≡ plays (colour_of step) Pass
+IsQuestion (stretch.Waits steps) step board game question =
+    question ≡ waits_asked board step (slice_get board.scene.now retaken)
 IsQuestion (stretch.Drawn steps) step board game question = IsDrawnMove game question
 IsQuestion (stretch.Probed steps) step board game question =
     (step % 3 ≡ 0 → IsDrawnMove game question) × (step % 3 ≢ 0 → IsProbe game question)
 IsQuestion (stretch.Back steps) step board game question = question ≡ asks command.Undo
+IsQuestion (stretch.Emptied steps) step board game question = question ≡ emptied_asked (length game.moves)
 IsQuestion (stretch.Genmoves steps) step board game question = question ≡ genmove_asked step (length game.moves)
 IsQuestion stretch.Filled step board game question = question ≡ act_asked board (filled_act step board.size)
 IsQuestion stretch.Gaps step board game question = question ≡ act_asked board (Some (gap_act step board.size))

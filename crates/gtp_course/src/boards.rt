@@ -11,7 +11,7 @@ use go_base::{Komi, Size};
 
 /// The sizes of the drawn games, of those with moves of the engine's own, of the long records, and of the games in one
 /// process. After them comes the size of scenes, which the engine takes.
-const DRAWN: [u32; 8] = [9, 5, 3, 13, 19, 7, 25, 2];
+const DRAWN: [u32; 10] = [9, 5, 3, 13, 19, 7, 25, 2, 4, 1];
 
 const GENMOVES: [u32; 8] = [5, 9, 1, 2, 3, 7, 13, 19];
 
@@ -110,7 +110,7 @@ fn half_points_of(number: u32) -> i32
     ensures exact { result ≡ komi_of number }
     ensures komi { IsKomi result }
 {
-    match number % 8 {
+    match number % 16 {
         0 => 13,
         1 => 0,
         2 => -7,
@@ -118,7 +118,15 @@ fn half_points_of(number: u32) -> i32
         4 => 1,
         5 => -1,
         6 => 2001,
-        _ => -14,
+        7 => -14,
+        8 => 20_000_001,
+        9 => 2_000_000,
+        10 => 201,
+        11 => -2469,
+        12 => 1_999_999_999,
+        13 => -1_999_999_999,
+        14 => 200_001,
+        _ => -65_537,
     }
 }
 

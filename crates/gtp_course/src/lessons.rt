@@ -20,7 +20,8 @@ pub type Lessons = ArrayVec<Lesson, ALL>;
 pub enum Lesson {
     /// Some moves of the engine's own on the smallest board from 5x5 on that it takes, and that board after a new start.
     Start,
-    /// Each size from 1 to 25: whether it is taken, its corners, and two points next to them that it doesn't have.
+    /// Each size from 1 to 25: whether it is taken, each of its points, and two that it doesn't have. Then the capture of all
+    /// stones of a full board, and all moves of it taken back.
     Sizes,
     /// Kos, and what looks like one: who may retake, and when.
     Ko,
@@ -32,11 +33,12 @@ pub enum Lesson {
     Joining,
     /// Each number of handicap stones on each size.
     Handicaps,
-    /// Komis, and the score of an empty board.
+    /// Komis, and the score of an empty board, also where captures were taken back.
     Komi,
     /// Drawn games on several sizes, with probes.
     Drawn,
-    /// Records of nearly 2,000 moves, and a ko after 1,010 passes, which are all taken back.
+    /// Records of nearly 2,000 moves, and a ko after 1,010 passes, which are all taken back. Then a ko and 300 passes after
+    /// it.
     Record,
     /// Moves of the engine's own, on small boards up to a full one, with `undo` between. Then those on a board where White
     /// has no legal point, and the capture of all stones.
@@ -77,8 +79,9 @@ pub const LESSONS: [Lesson; ALL] = [
 
 /// What a lesson of scenes asks: the scene, and the points of its moves and of its corner. Then the points of its moves
 /// after a pass, after that is taken back, after the act is, after the act again, after a move elsewhere, after that is
-/// taken back and the act too, and on a board that was cleared after the act.
-static SCENE: [Stretch; 24] = [
+/// taken back and the act too. Then all moves are taken back and made again, and their points are asked on a board that
+/// was cleared.
+static SCENE: [Stretch; 26] = [
     Stretch::Size,
     Stretch::Taken,
     Stretch::Komi,
@@ -101,12 +104,14 @@ static SCENE: [Stretch; 24] = [
     Stretch::Undo,
     Stretch::Corner,
     Stretch::Act,
+    Stretch::Emptied(12),
+    Stretch::Moves,
     Stretch::Clear,
     Stretch::Own,
 ];
 
 /// The same where the act is refused: it is no move, so one `undo` takes back what came after it.
-static REFUSED: [Stretch; 21] = [
+static REFUSED: [Stretch; 23] = [
     Stretch::Size,
     Stretch::Taken,
     Stretch::Komi,
@@ -126,6 +131,8 @@ static REFUSED: [Stretch; 21] = [
     Stretch::Own,
     Stretch::Act,
     Stretch::Corner,
+    Stretch::Emptied(12),
+    Stretch::Moves,
     Stretch::Clear,
     Stretch::Own,
 ];
@@ -152,23 +159,33 @@ static START: [Stretch; 19] = [
     Stretch::Own,
 ];
 
-static SIZES: [Stretch; 8] = [
+static SIZES: [Stretch; 16] = [
     Stretch::Size,
     Stretch::Taken,
     Stretch::Komi,
     Stretch::Clear,
     Stretch::Edges,
     Stretch::Undo,
+    Stretch::Points,
+    Stretch::Clear,
+    Stretch::Filled,
+    Stretch::Swept,
+    Stretch::Edges,
+    Stretch::Emptied(640),
+    Stretch::Edges,
     Stretch::Genmoves(2),
-    Stretch::Undo,
+    Stretch::Emptied(2),
+    Stretch::Edges,
 ];
 
-static HANDICAPS: [Stretch; 19] = [
+static HANDICAPS: [Stretch; 25] = [
     Stretch::Size,
     Stretch::Taken,
     Stretch::Komi,
     Stretch::Clear,
+    Stretch::Stones(10),
     Stretch::Handicap,
+    Stretch::Undo,
     Stretch::Stars,
     Stretch::Handicap,
     Stretch::Surround,
@@ -178,14 +195,18 @@ static HANDICAPS: [Stretch; 19] = [
     Stretch::Stars,
     Stretch::Drawn(1),
     Stretch::Undo,
+    Stretch::Stones(10),
     Stretch::Handicap,
     Stretch::Genmoves(3),
+    Stretch::Emptied(3),
+    Stretch::Undo,
+    Stretch::Handicap,
     Stretch::Clear,
     Stretch::Score,
     Stretch::Stars,
 ];
 
-static KOMI: [Stretch; 19] = [
+static KOMI: [Stretch; 31] = [
     Stretch::Size,
     Stretch::Taken,
     Stretch::Komi,
@@ -205,6 +226,18 @@ static KOMI: [Stretch; 19] = [
     Stretch::Score,
     Stretch::Komi,
     Stretch::Score,
+    Stretch::Moves,
+    Stretch::Emptied(12),
+    Stretch::Undo,
+    Stretch::Score,
+    Stretch::Moves,
+    Stretch::Clear,
+    Stretch::Score,
+    Stretch::Filled,
+    Stretch::Swept,
+    Stretch::Emptied(640),
+    Stretch::Undo,
+    Stretch::Score,
 ];
 
 static DRAWN: [Stretch; 6] = [
@@ -216,7 +249,7 @@ static DRAWN: [Stretch; 6] = [
     Stretch::Back(40),
 ];
 
-static RECORD: [Stretch; 16] = [
+static RECORD: [Stretch; 22] = [
     Stretch::Size,
     Stretch::Taken,
     Stretch::Komi,
@@ -233,6 +266,12 @@ static RECORD: [Stretch; 16] = [
     Stretch::Own,
     Stretch::Back(1020),
     Stretch::Own,
+    Stretch::Moves,
+    Stretch::Waits(600),
+    Stretch::Emptied(400),
+    Stretch::Undo,
+    Stretch::Own,
+    Stretch::Score,
 ];
 
 static GENMOVES: [Stretch; 27] = [
@@ -265,7 +304,7 @@ static GENMOVES: [Stretch; 27] = [
     Stretch::Genmoves(20),
 ];
 
-static GAMES: [Stretch; 21] = [
+static GAMES: [Stretch; 42] = [
     Stretch::Size,
     Stretch::Taken,
     Stretch::Komi,
@@ -276,7 +315,23 @@ static GAMES: [Stretch; 21] = [
     Stretch::OtherKomi,
     Stretch::Genmoves(6),
     Stretch::Probed(60),
-    Stretch::Back(10),
+    Stretch::Emptied(60),
+    Stretch::Undo,
+    Stretch::Handicap,
+    Stretch::Stars,
+    Stretch::Probed(60),
+    Stretch::Emptied(60),
+    Stretch::Undo,
+    Stretch::Stars,
+    Stretch::Clear,
+    Stretch::Handicap,
+    Stretch::Stars,
+    Stretch::Clear,
+    Stretch::Probed(60),
+    Stretch::Emptied(60),
+    Stretch::Score,
+    Stretch::Clear,
+    Stretch::Score,
     Stretch::OtherSize,
     Stretch::OtherTaken,
     Stretch::Komi,
@@ -284,12 +339,17 @@ static GAMES: [Stretch; 21] = [
     Stretch::Score,
     Stretch::Handicap,
     Stretch::Probed(60),
+    Stretch::Clear,
+    Stretch::Score,
     Stretch::Size,
     Stretch::Clear,
+    Stretch::Score,
     Stretch::Genmoves(6),
+    Stretch::Clear,
+    Stretch::Score,
 ];
 
-static RESTARTS: [Stretch; 35] = [
+static RESTARTS: [Stretch; 43] = [
     Stretch::Size,
     Stretch::Taken,
     Stretch::Komi,
@@ -297,6 +357,9 @@ static RESTARTS: [Stretch; 35] = [
     Stretch::Handicap,
     Stretch::Drawn(60),
     Stretch::Genmoves(2),
+    Stretch::Clear,
+    Stretch::Handicap,
+    Stretch::Stars,
     Stretch::Clear,
     Stretch::Filled,
     Stretch::Chosen(Colour::Black),
@@ -316,8 +379,12 @@ static RESTARTS: [Stretch; 35] = [
     Stretch::Back(30),
     Stretch::Genmoves(4),
     Stretch::Clear,
+    Stretch::Score,
     Stretch::Moves,
     Stretch::Own,
+    Stretch::Emptied(12),
+    Stretch::Score,
+    Stretch::Moves,
     Stretch::Kill,
     Stretch::Size,
     Stretch::Taken,
@@ -325,6 +392,7 @@ static RESTARTS: [Stretch; 35] = [
     Stretch::Clear,
     Stretch::Undo,
     Stretch::Own,
+    Stretch::Score,
 ];
 
 impl Lesson {
@@ -384,8 +452,9 @@ impl Lesson {
             Lesson::Suicide => 5 * WAYS,
             Lesson::Joining => 4 * WAYS,
             Lesson::Handicaps => 300,
-            Lesson::Komi => 8,
-            Lesson::Drawn | Lesson::Genmoves => 9,
+            Lesson::Komi => 16,
+            Lesson::Drawn => 11,
+            Lesson::Genmoves => 9,
             Lesson::Record => 3,
             Lesson::Games | Lesson::Restarts => 5,
         }

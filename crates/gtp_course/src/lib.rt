@@ -17,6 +17,7 @@ mod openings;
 mod places;
 mod scenes;
 mod stretches;
+mod sweeps;
 #[cfg(test)]
 mod tests;
 

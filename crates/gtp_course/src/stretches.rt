@@ -6,7 +6,7 @@ ghost use Rattle.go_board.specs.Game.{IsLegal};
 ghost use Rattle.gtp_wire.specs.declared.commands.Command.TheVariants as command;
 ghost use Rattle.gtp_course.specs.Questions.{asks, plays, probes, colour_of, act_asked, last_of, pass_asked};
 ghost use Rattle.gtp_course.specs.Questions.{elsewhere_asked, own_asked, corner_asked, edge_point};
-ghost use Rattle.gtp_course.specs.Questions.{surround_asked, genmove_asked, choice_asked};
+ghost use Rattle.gtp_course.specs.Questions.{retaken, surround_asked, genmove_asked, choice_asked};
 ghost use Rattle.gtp_course.specs.Questions.{is_gap, filled_act, gap_act, swept_act};
 ghost use Rattle.gtp_course.specs.Questions.{star_points, star_asked, IsDrawn, IsDrawnMove, IsProbe, IsQuestion};
 ghost use Rattle.gtp_course.specs.Places.{most_steps};
@@ -16,6 +16,7 @@ use crate::actions::Question;
 use crate::boards::Board;
 use crate::draws::Draws;
 use crate::scenes::crossing;
+use crate::sweeps::{emptied, points, waits};
 use arrayvec::ArrayVec;
 use go_base::{Colour, Move, Point, Size, Vertex, handicap};
 use go_board::Game;
@@ -29,6 +30,9 @@ const TRIES: u32 = 30;
 
 /// The places of a mailbox board's row.
 const ROW: u32 = 26;
+
+/// The number of the move whose stone is taken in the first scene of kos.
+const RETAKEN: usize = 2;
 
 /// The lines of a scene's corner.
 const LINES: u32 = 6;
@@ -68,20 +72,28 @@ pub(crate) enum Stretch {
     Edges,
     /// `fixed_handicap`.
     Handicap,
+    /// `fixed_handicap`, with so many stones.
+    Stones(u32),
     /// Probes of the points of handicaps, in both colours.
     Stars,
     /// `final_score`.
     Score,
     /// White's moves around the first point of a handicap, by which a stone there is captured.
     Surround,
+    /// A move on each point of the board, a probe of that point by the other colour, and an `undo`.
+    Points,
     /// So many passes, of Black and of White in turn.
     Passes(u32),
+    /// So many steps: passes, and after each a probe of the point where the first of all kos may be retaken.
+    Waits(u32),
     /// So many drawn moves.
     Drawn(u32),
     /// So many steps, of which each third is a drawn move, and the others are probes of drawn points.
     Probed(u32),
     /// So often `undo`.
     Back(u32),
+    /// So many steps, each an `undo` while the game has moves.
+    Emptied(u32),
     /// So many steps, of which each fifth is an `undo`, and the others are moves of the engine's own. Of four, three are
     /// of the colour whose turn it is.
     Genmoves(u32),
@@ -118,6 +130,7 @@ impl Stretch {
             | Stretch::Elsewhere
             | Stretch::Undo
             | Stretch::Handicap
+            | Stretch::Stones(_)
             | Stretch::Score
             | Stretch::Chosen(_)
             | Stretch::Restart
@@ -130,10 +143,13 @@ impl Stretch {
             Stretch::Surround | Stretch::Swept => 4,
             Stretch::Filled => 625,
             Stretch::Gaps => 3,
+            Stretch::Points => 1875,
             Stretch::Passes(steps)
+            | Stretch::Waits(steps)
             | Stretch::Drawn(steps)
             | Stretch::Probed(steps)
             | Stretch::Back(steps)
+            | Stretch::Emptied(steps)
             | Stretch::Genmoves(steps) => steps.min(2000),
         }
     }
@@ -152,6 +168,7 @@ impl Stretch {
             Stretch::Clear => ask(Command::ClearBoard),
             Stretch::Undo | Stretch::Back(_) => ask(Command::Undo),
             Stretch::Handicap => ask(Command::FixedHandicap(board.stones)),
+            Stretch::Stones(stones) => ask(Command::FixedHandicap(stones)),
             Stretch::Score => Question::Ask(CheckCommand::FinalScore),
             Stretch::Restart => Question::Restart,
             Stretch::Kill => Question::Kill,
@@ -168,6 +185,9 @@ impl Stretch {
             Stretch::Edges => edge_point(step, board.size.get()),
             Stretch::Stars => star(step, game.size()),
             Stretch::Surround => surround(step, star_point(0, game.size())),
+            Stretch::Points => points(step, board.size.get()),
+            Stretch::Waits(_) => waits(step, act_of(RETAKEN, board), board),
+            Stretch::Emptied(_) => emptied(game),
             Stretch::Passes(_) => play(colour_of(step), Vertex::Pass),
             Stretch::Drawn(_) => drawn_move(game, &mut draws.generator()),
             Stretch::Probed(_) => probed(step, game, &mut draws.generator()),
@@ -225,21 +245,21 @@ fn elsewhere(act: Option<(Colour, u32, u32)>, board: &Board) -> Question
 }
 
 /// A command of a match.
-fn ask(command: Command) -> Question
+pub(crate) fn ask(command: Command) -> Question
     ensures { result ≡ asks command }
 {
     Question::Ask(CheckCommand::Match(command))
 }
 
 /// A `play`.
-fn play(colour: Colour, vertex: Vertex) -> Question
+pub(crate) fn play(colour: Colour, vertex: Vertex) -> Question
     ensures { result ≡ plays colour vertex }
 {
     ask(Command::Play(Move { colour, vertex }))
 }
 
 /// A probe of a point, where there is one.
-fn probe(colour: Colour, vertex: Vertex) -> Question
+pub(crate) fn probe(colour: Colour, vertex: Vertex) -> Question
     ensures { result ≡ probes colour vertex }
 {
     match vertex {
@@ -249,7 +269,7 @@ fn probe(colour: Colour, vertex: Vertex) -> Question
 }
 
 /// Black for an even number, and White for an odd one.
-fn colour_of(number: u32) -> Colour
+pub(crate) fn colour_of(number: u32) -> Colour
     ensures { result ≡ colour_of number }
 {
     if number % 2 == 0 {

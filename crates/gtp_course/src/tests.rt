@@ -2,3 +2,4 @@
 mod courses;
 mod full_boards;
 mod scenes;
+mod sweeps;
