@@ -12,7 +12,6 @@ ghost use Rattle.gtp_check.specs.Turns.{MayStart, TurnsAreOver, before_all, is_f
 ghost use Rattle.gtp_check.specs.private.Steps.{Begins, FirstGoesOut};
 ghost use Rattle.gtp_check.specs.private.Steps.{EndsTurn, FirstStops, Gathers, IsPaired, IsRefused, Settles, StopsAfter};
 ghost use Rattle.gtp_check.specs.declared.engine.TheConstants.{LINES_ROOM};
-ghost use Rattle.programs.specs.declared.failure.Failure.TheVariants as failure;
 
 use crate::closing::{close, end_now, quit};
 use crate::engine::{Engine, Fault, Room};
