@@ -58,7 +58,7 @@ fn check_point(rt: &impl Abort, number: u32, board: &Board, game: &Game) {
 
 #[test]
 fn each_point_of_each_size_is_looked_at(rt: HostRuntime) {
-    for lines in 1..26 {
+    for lines in 1..26u32 {
         let board = board(&rt, Lesson::Sizes, lines.saturating_sub(1), 5);
         assert_equal(&rt, board.size.get(), lines);
         let game = Game::new(board.size, board.komi);
