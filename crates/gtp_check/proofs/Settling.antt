@@ -22,7 +22,7 @@ use Rattle.gtp_check.specs.Shortening.{shortened, shortenings}
 use Rattle.gtp_check.specs.Tally.{found, is_shown}
 use Rattle.gtp_check.specs.Turns.{Closes, Complains, Exchanges, IsComplaint, Shortens, State, StopsIn, found_in, hidden}
 use Rattle.gtp_check.specs.Turns.{complaint_broke as turn_complaint_broke, first_line_broke, no_memory_for_first_line}
-use Rattle.gtp_check.specs.Turns.{TriesShorter, kept, missed, no_memory_to_complain, none_left, process_of, shortened_so}
+use Rattle.gtp_check.specs.Turns.{TriesShorter, missed, no_memory_to_complain, none_left, process_of, shortened_so}
 use Rattle.gtp_check.specs.Turns.{shown, waiting}
 use Rattle.gtp_check.specs.private.Steps.{ComplaintGoesOut, ComplaintStops, FirstGoesOut, FirstStops, StopsAfter}
 use Rattle.gtp_check.specs.private.Steps.{complaint_broke, complaint_refused, first_broke, first_refused}
