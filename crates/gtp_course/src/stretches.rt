@@ -6,7 +6,7 @@ ghost use Rattle.go_board.specs.Game.{IsLegal};
 ghost use Rattle.gtp_wire.specs.declared.commands.Command.TheVariants as command;
 ghost use Rattle.gtp_course.specs.Questions.{asks, plays, probes, colour_of, act_asked, last_of, pass_asked};
 ghost use Rattle.gtp_course.specs.Questions.{elsewhere_asked, own_asked, corner_asked, edge_point};
-ghost use Rattle.gtp_course.specs.Questions.{retaken, surround_asked, genmove_asked, choice_asked};
+ghost use Rattle.gtp_course.specs.Questions.{surround_asked, genmove_asked, choice_asked};
 ghost use Rattle.gtp_course.specs.Questions.{is_gap, filled_act, gap_act, swept_act};
 ghost use Rattle.gtp_course.specs.Questions.{star_points, star_asked, IsDrawn, IsDrawnMove, IsProbe, IsQuestion};
 ghost use Rattle.gtp_course.specs.Places.{most_steps};

@@ -1,4 +1,4 @@
-use Rattle.std.proofs.Common.{◌≡◌, ℕ, ◌<◌}
+use Rattle.std.proofs.Common.{ℕ, ◌<◌}
 use Rattle.go_base.specs.Point.{IsOn}
 use Rattle.go_base.specs.declared.vertices.Vertex.TheVariants.{At}
 use Rattle.go_board.specs.Game.{IsLegal}
