@@ -55,7 +55,7 @@ class FailedUndoHasNoId(Bug):
 
 
 class RegionsAreFilledByRecursion(Bug):
-    """A region is filled by calls in one another, two for a point. Python allows a thousand, and then the program ends."""
+    """A region is filled by calls in one another, two for a point, and at a thousand calls Python ends the program."""
 
     family = FAMILY
     shows = on(25, "", "komi 0", "final_score")

@@ -179,7 +179,7 @@ class NeighboursAreKept(Bug):
 
 
 class BookHasNoSizes(Bug):
-    """Early moves that were chosen are a book in a file, by the moves before them. A later process uses it on each size."""
+    """Early chosen moves are a book in a file, by the moves before them alone. A later process uses it on each size."""
 
     family = FAMILY
     shows = [*on(9, "", "genmove b"), AGAIN, *on(1, "", "genmove b")]
