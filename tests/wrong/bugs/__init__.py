@@ -3,11 +3,11 @@ import re
 
 from talks import Bug
 
-from . import captures, genmove, handicap, ids, ko, komi, later_games, lines
+from . import captures, fourth, fourth_games, genmove, handicap, ids, ko, komi, later_games, lines
 from . import later, records, replies, restarts, sizes, suicide, third, third_games, turns, undo, unseen, unseen_games
 
 FIRST = (replies, ids, lines, sizes, komi, captures, ko, suicide, turns)
-LAST = (unseen, unseen_games, later, third, third_games)
+LAST = (unseen, unseen_games, later, third, third_games, fourth, fourth_games)
 FAMILIES = (*FIRST, undo, handicap, genmove, records, later_games, restarts, *LAST)
 
 
