@@ -1,6 +1,6 @@
 -- Conversations that follow each other, and trials of one.
 use Rattle.std.proofs.Common.{◌≡◌, ◌∙◌, ap, Some, None, Ok}
-use Rattle.std.specs.Prelude.{List, Option}
+use Rattle.std.specs.Prelude.{List}
 use Rattle.gtp_process.specs.declared.starter.Ending.{Ending}
 use Rattle.gtp_process.specs.declared.starter.Process.{Ghosts}
 use Rattle.gtp_process.specs.Starts.{Attempts, Text, Tries}

@@ -8,7 +8,7 @@ use Rattle.byte_streams.specs.declared.calls.WriteOnce.{Ghosts as WriterGhosts}
 use Rattle.gtp_process.specs.declared.starter.Process.{Ghosts}
 use Rattle.gtp_process.specs.Starts.{Attempts}
 use Rattle.programs.specs.Failures.{ReportsPlanError}
-use Rattle.programs.specs.Status.{IsRequest, done, own_failure, usage_failure}
+use Rattle.programs.specs.Status.{IsRequest, done}
 use Rattle.programs.specs.declared.failure.PlanError.{PlanError}
 use Rattle.programs.specs.declared.failure.PlanError.TheVariants.{BadArgument, BadWords, OutOfMemory}
 use Rattle.gtp_check.specs.declared.failure.Mistake.{Mistake}

@@ -1,5 +1,5 @@
 -- What is written after an exchange.
-use Rattle.std.proofs.Common.{◌≡◌, ◌∙◌, ap, refl, sym, subst, Bool, true, false, List, [], ◌∷◌, ◌++◌, ℕ, Option, None, Some}
+use Rattle.std.proofs.Common.{◌≡◌, ◌∙◌, ap, refl, sym, subst, Bool, true, false, List, [], ◌∷◌, ◌++◌, ℕ, Option, Some}
 use Rattle.std.specs.Prelude.{is_some, unwrap_or}
 use Rattle.byte_streams.specs.declared.calls.WriteOnce.{Ghosts as WriterGhosts}
 use Rattle.byte_streams.specs.Writing.{LinesGoOut, line_out, no_line}
@@ -20,7 +20,7 @@ use Rattle.gtp_check.specs.Dialogues.{IsTrial, Wrong, right, unstarted, wrong, w
 use Rattle.gtp_check.specs.Progress.{IsShown, cleared, clearing, looking, looking_line}
 use Rattle.gtp_check.specs.Shortening.{shortened, shortenings}
 use Rattle.gtp_check.specs.Tally.{found, is_shown}
-use Rattle.gtp_check.specs.Turns.{Closes, Complains, Exchanges, IsComplaint, Shortens, State, StopsIn, found_in, hidden}
+use Rattle.gtp_check.specs.Turns.{Closes, Complains, IsComplaint, Shortens, State, found_in, hidden}
 use Rattle.gtp_check.specs.Turns.{complaint_broke as turn_complaint_broke, first_line_broke, no_memory_for_first_line}
 use Rattle.gtp_check.specs.Turns.{TriesShorter, missed, no_memory_to_complain, none_left, process_of, shortened_so}
 use Rattle.gtp_check.specs.Turns.{shown, waiting}

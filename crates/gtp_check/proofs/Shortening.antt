@@ -1,5 +1,5 @@
 -- The starts that are asked for while shorter conversations are tried.
-use Rattle.std.proofs.Common.{◌≡◌, ◌∙◌, ap, sym, subst, Option, None, Some, Err, Ok, [], ◌∷◌, ◌++◌, append_assoc}
+use Rattle.std.proofs.Common.{◌≡◌, ◌∙◌, sym, subst, Option, None, Some, Err, Ok, [], ◌∷◌, ◌++◌, append_assoc}
 use Rattle.std.proofs.Common.{ℕ, ◌+◌, ◌<◌, ◌≤◌, length, take, drop, get_or}
 use Rattle.std.proofs.lemmas.List.{append-nil, at_drop_more, take-append-drop, take_all, take_more}
 use Rattle.std.specs.Prelude.{List}

@@ -1,8 +1,7 @@
 -- A conversation is a talk of the examiner, and what is found in it is justified.
-use Rattle.std.proofs.Common.{◌≡◌, ◌∙◌, ℕ, ◌+◌, Bool, true, false, List, [], ◌∷◌, ◌++◌, take, drop, length, refl, sym, ap, subst}
+use Rattle.std.proofs.Common.{◌≡◌, ◌∙◌, ℕ, Bool, true, false, List, [], ◌++◌, take, drop, length, refl, sym, ap, subst}
 use Rattle.std.proofs.Common.{Option, None, Some, Result, Ok, Err, append_assoc, take-append-drop}
 use Rattle.std.proofs.lemmas.List.{append-nil, nil_from_length}
-use Rattle.std.proofs.Math.Seq.{take-add}
 use Rattle.std.specs.Io.KnownBytes.{Appends, Keeps}
 use Rattle.std.proofs.KnownBytes.{Appends-kept, Appends-nil, Appends-trans, Keeps-refl}
 use Rattle.go_board.specs.declared.rules.KoRule.{KoRule}
@@ -14,7 +13,6 @@ use Rattle.gtp_examiner.specs.declared.judging.Judgement.TheVariants.{Right, Pla
 use Rattle.gtp_examiner.specs.declared.judging.Kind.{Kind}
 use Rattle.gtp_examiner.specs.declared.unanswered.Asked.{Asked}
 use Rattle.gtp_examiner.specs.declared.exam.Exam.{Exam}
-use Rattle.gtp_examiner.specs.Asking.{written_check}
 use Rattle.gtp_examiner.specs.Judging.{oldest, has_id}
 use Rattle.gtp_examiner.specs.Exam.{begun, Hears, Leaves, ReplyLeaves, IdLeaves, after_judged, finding_of}
 use Rattle.gtp_examiner.specs.Exam.{with_learned, with_rest}
@@ -22,9 +20,9 @@ use Rattle.gtp_examiner.specs.Laws.{Exchange, FindingsAreJustified, Talks, excha
 use Rattle.gtp_check.specs.declared.engine.Fault.{Fault}
 use Rattle.gtp_check.specs.declared.engine.Fault.TheVariants.{Wrote}
 use Rattle.gtp_check.specs.declared.notes.Notes.{Notes}
-use Rattle.gtp_check.specs.Dialogues.{AreHeard, Converses, Dialogue, EndsWrong, IsAsked, IsExchanged, IsHeard}
+use Rattle.gtp_check.specs.Dialogues.{AreHeard, Converses, Dialogue, EndsWrong, IsExchanged, IsHeard}
 use Rattle.gtp_check.specs.Dialogues.{IsRead, IsSent, begun_with}
-use Rattle.gtp_check.specs.Laws.{ComplaintsAreJustified, IsWronglyWritten}
+use Rattle.gtp_check.specs.Laws.{IsWronglyWritten}
 
 -- what is wrong with what was written is of one kind
 wrote_kind : {one other : Kind} → Wrote one ≡ Wrote other → one ≡ other

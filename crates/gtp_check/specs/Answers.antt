@@ -1,5 +1,5 @@
 -- What a right engine answers, where that hangs on what was asked before: a score, and the points of a handicap. (Own.)
-use Rattle.std.specs.Prelude.{ℕ, ℤ, neg_ℤ, List, [], ◌∷◌, ◌++◌, codes, Option, None, Some, if◌then◌else◌}
+use Rattle.std.specs.Prelude.{ℕ, neg_ℤ, List, [], ◌∷◌, ◌++◌, codes, Option, Some, if◌then◌else◌}
 use Rattle.std.specs.Option.{option_map_or}
 use Rattle.go_base.specs.Decide.{allows?, holds}
 use Rattle.go_base.specs.HalfPoints.{score_text}

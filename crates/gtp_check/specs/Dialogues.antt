@@ -1,12 +1,11 @@
 -- What is said with an engine since it was started: what it is asked, what it writes, and what is found. (Own.)
-use Rattle.std.specs.Prelude.{◌≡◌, ◌⊎◌, ℕ, ◌+◌, ◌<◌, ◌≤◌, Bool, true, false, List, [], ◌∷◌, ◌++◌, length, take, drop}
+use Rattle.std.specs.Prelude.{◌≡◌, ℕ, ◌+◌, ◌<◌, Bool, true, false, List, [], ◌∷◌, ◌++◌, length, take, drop}
 use Rattle.std.specs.Prelude.{◌-◌, ◌==◌, ◌&&◌, slice_get, Option, None, Some, is_some, option_map, if◌then◌else◌, Result, Ok, Err}
 use Rattle.std.specs.Io.KnownBytes.{Appends, Keeps}
 use Rattle.byte_streams.specs.Parts.{TakesPart}
 use Rattle.gtp_wire.specs.Replies.{most_shown}
 use Rattle.gtp_wire.specs.declared.replies.Reply.{Reply}
 use Rattle.gtp_wire.specs.declared.replies.ReplyFault.{ReplyFault}
-use Rattle.gtp_process.specs.declared.causes.PipeCause.{PipeCause}
 use Rattle.gtp_process.specs.declared.causes.PipeCause.TheVariants.{Ended, Reading}
 use Rattle.gtp_process.specs.declared.starter.Process.{Ghosts}
 use Rattle.gtp_process.specs.declared.starter.Ending.{Ending}
@@ -91,7 +90,7 @@ pub record IsAsked {P : Type 0} (purpose : Purpose) (old : Exam) (before : Dialo
       end = length (before.sent ++ written_check new.sent command);
     } ∷ [];
     waiting = before.waiting ++ written_check new.sent command;
-    notes = counted before.notes;
+    notes = counted purpose.lesson command before.notes;
   }
 
 -- ---- what it wrote

@@ -1,7 +1,9 @@
 -- What is noted of right answers. (Own.)
-use Rattle.std.specs.Prelude.{ℕ, ◌==◌, ◌||◌, Bool, true, false, if◌then◌else◌, List, [], take}
+use Rattle.std.specs.Prelude.{ℕ, ◌==◌, ◌||◌, Bool, true, false, if◌then◌else◌, List, [], length, take}
 use Rattle.std.specs.Prelude.{Option, None, Some}
 use Rattle.std.specs.List.{list_any}
+use Rattle.gtp_course.specs.Lessons.{all_lessons}
+use Rattle.gtp_course.specs.declared.lessons.Lesson.{Lesson}
 use Rattle.gtp_examiner.specs.declared.asking.CheckCommand.{CheckCommand}
 use Rattle.gtp_examiner.specs.declared.asking.CheckCommand.TheVariants.{Match, FinalScore, Name, Version, KnownCommand}
 use Rattle.gtp_examiner.specs.declared.skills.Skill.{Skill}
@@ -9,7 +11,11 @@ use Rattle.gtp_examiner.specs.declared.skills.Skill.TheVariants.{Unasked, Has, L
 use Rattle.gtp_examiner.specs.declared.skills.Skills.{Skills}
 use Rattle.gtp_examiner.specs.declared.unanswered.Asked.{Asked}
 use Rattle.gtp_wire.specs.Replies.{most_shown}
+use Rattle.gtp_wire.specs.declared.commands.Command.{Command}
+use Rattle.gtp_wire.specs.declared.commands.Command.TheVariants.{Boardsize, Komi, ClearBoard, FixedHandicap, Play}
+use Rattle.gtp_wire.specs.declared.commands.Command.TheVariants.{Genmove, Undo, Quit}
 use Rattle.gtp_wire.specs.declared.replies.Reply.{Reply}
+use Rattle.gtp_check.specs.Plans.{is_among}
 use Rattle.gtp_check.specs.Tally.{one_more, with_more}
 use Rattle.gtp_check.specs.declared.notes.Notes.{Notes}
 
@@ -25,15 +31,43 @@ nothing_noted = record {
   has_answered = false;
   fruitless = 0;
   commands = 0;
+  asked = record { items = [] };
 }
 
 -- the engine was started
 abbrev pub started : Notes → Notes
 started notes = record notes { has_answered = false; fruitless = one_more notes.fruitless }
 
--- a command was asked
-abbrev pub counted : Notes → Notes
-counted notes = record notes { commands = one_more notes.commands }
+-- a command of a match is asked on a board, of a size that was taken
+abbrev pub match_on_board : Command → Bool
+match_on_board (Boardsize size) = false
+match_on_board (Komi komi) = true
+match_on_board ClearBoard = true
+match_on_board (FixedHandicap stones) = true
+match_on_board (Play move) = true
+match_on_board (Genmove colour) = true
+match_on_board Undo = true
+match_on_board Quit = false
+
+-- the same of any command
+abbrev pub is_on_board : CheckCommand → Bool
+is_on_board (Match command) = match_on_board command
+is_on_board FinalScore = true
+is_on_board Name = false
+is_on_board Version = false
+is_on_board (KnownCommand known) = false
+
+-- something was asked on a board in the lesson, which is noted once
+abbrev pub with_lesson : Lesson → Notes → Notes
+with_lesson lesson notes =
+    if is_among notes.asked.items lesson then notes
+    else record notes { asked = record { items = with_more (length all_lessons) notes.asked.items lesson } }
+
+-- a command was asked in the lesson
+abbrev pub counted : Lesson → CheckCommand → Notes → Notes
+counted lesson command notes =
+    let more = record notes { commands = one_more notes.commands } in
+    if is_on_board command then with_lesson lesson more else more
 
 -- a right answer came
 abbrev pub with_answer : Notes → Notes

@@ -1,5 +1,5 @@
 -- The statuses with which the program ends, and the lines of its failures. (Own.)
-use Rattle.std.specs.Prelude.{◌≡◌, ◌⊎◌, ◌<◌, ℕ, nat_lt, if◌then◌else◌, List, codes}
+use Rattle.std.specs.Prelude.{◌≡◌, ◌⊎◌, ℕ, nat_lt, if◌then◌else◌, List, codes}
 use Rattle.programs.specs.Failures.{IsReported, ReportsFailure as NamedReportsFailure}
 use Rattle.programs.specs.Status.{done, own_failure, usage_failure}
 use Rattle.programs.specs.declared.failure.Failure.{Failure}

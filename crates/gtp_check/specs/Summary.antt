@@ -1,5 +1,6 @@
 -- The first line and the last lines of a check. (Own.)
-use Rattle.std.specs.Prelude.{ℕ, ◌==◌, Bool, true, false, if◌then◌else◌, List, [], ◌∷◌, ◌++◌, codes, length, map, slice_get}
+use Rattle.std.specs.Prelude.{ℕ, ◌==◌, ◌&&◌, Bool, true, false, not, if◌then◌else◌, List, [], ◌∷◌, ◌++◌, codes, filter, length}
+use Rattle.std.specs.Prelude.{map, slice_get}
 use Rattle.std.specs.Prelude.{Option, None, Some, unwrap_or}
 use Rattle.std.specs.Fmt.{decimal}
 use Rattle.std.specs.List.{concat}
@@ -11,6 +12,7 @@ use Rattle.gtp_course.specs.Lessons.{all_lessons, name_of, number_of}
 use Rattle.gtp_course.specs.declared.lessons.Lesson.{Lesson}
 use Rattle.gtp_process.specs.Shown.{quoted, unstarted_text}
 use Rattle.gtp_process.specs.declared.causes.Unstarted.{Unstarted}
+use Rattle.gtp_check.specs.Plans.{is_among}
 use Rattle.gtp_check.specs.declared.notes.Notes.{Notes}
 use Rattle.gtp_check.specs.declared.plan.Plan.{Plan}
 use Rattle.gtp_check.specs.declared.summary.Ending.{Ending}
@@ -78,6 +80,21 @@ missed_lines NoRightAnswer missed =
 missed_lines (NotStarted unstarted) missed =
     unstarted_line unstarted ++ lessons_line (codes "not asked, or not to their end, for that:") missed
 
+-- The lesson was to be asked and isn't missed, but no command of it was on a board: the sizes of its boards were refused.
+abbrev pub is_boardless : List Lesson → List Lesson → List Lesson → Lesson → Bool
+is_boardless lessons missed asked lesson =
+    is_among lessons lesson && (not (is_among missed lesson) && not (is_among asked lesson))
+
+-- those lessons of all, in their order
+abbrev pub boardless : List Lesson → List Lesson → List Lesson → List Lesson
+boardless lessons missed asked = filter (is_boardless lessons missed asked) all_lessons
+
+-- the line that names them, where there are any
+abbrev pub boardless_line : Plan → Notes → Ending → List ℕ
+boardless_line plan notes ending =
+    lessons_line (codes "not asked on any board:")
+    (boardless plan.lessons.items ending.missed.now notes.asked.items)
+
 -- that the engine lacks the command of this name, where it said so
 abbrev pub lack_line : Bool → List ℕ → List ℕ
 lack_line false name = []
@@ -125,5 +142,6 @@ last_lines plan notes ending = concat (
     hidden_lines ending.hidden.now ∷
     lessons_line (codes "not asked, as the options say:") plan.left_out.items ∷
     missed_lines ending.over.now ending.missed.now ∷
+    boardless_line plan notes ending ∷
     lack_lines notes ∷ refused_line notes.refused.items ∷
     counts_line notes.commands ending.starts ending.complaints ∷ [])

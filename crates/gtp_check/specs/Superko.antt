@@ -2,10 +2,9 @@
 use Rattle.std.specs.Prelude.{◌≡◌, ℕ, Bool, length, List, [], ◌∷◌, ◌++◌, if◌then◌else◌}
 use Rattle.std.specs.Prelude.{Option, None, Some, option_and_then}
 use Rattle.go_base.specs.Decide.{allows?, below?, both?, holds, not?}
-use Rattle.go_base.specs.Handicap.{AllowsHandicap}
 use Rattle.go_base.specs.declared.moves.Move.{Move}
-use Rattle.go_board.specs.Game.{GameRecord, HasRoom, IsLegal, most_moves, with_move, without_last}
-use Rattle.go_board.specs.Refusals.{IsTouched, RefusesVertex}
+use Rattle.go_board.specs.Game.{GameRecord, most_moves, with_move, without_last}
+use Rattle.go_board.specs.Refusals.{RefusesVertex}
 use Rattle.go_board.specs.decisions.Game.{legal?, touched?}
 use Rattle.go_board.specs.declared.faults.PlayFault.TheVariants.{Ko}
 use Rattle.go_board.specs.declared.rules.KoRule.TheVariants.{Positional}

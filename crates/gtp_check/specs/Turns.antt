@@ -1,7 +1,7 @@
 -- A check, turn by turn: what the engine is asked, when it is started and ended, and what is written. (Own.)
 use Rattle.std.specs.Prelude.{min, ◌^◌, ◌-◌}
-use Rattle.std.specs.Prelude.{IsTrue, ◌↔◌, ◌≡◌, ◌≢◌, ◌⊎◌, ℕ, ◌+◌, ◌<◌, ◌≤◌, Bool, true, false, not, ◌&&◌, ◌||◌, List, [], ◌∷◌, ◌++◌, length}
-use Rattle.std.specs.Prelude.{Option, None, Some, IfSome, IsSome, is_some, option_map, unwrap_or, Result, Ok, Err}
+use Rattle.std.specs.Prelude.{IsTrue, ◌↔◌, ◌≡◌, ◌⊎◌, ℕ, ◌+◌, ◌<◌, ◌≤◌, Bool, true, false, not, ◌&&◌, ◌||◌, List, [], ◌∷◌, ◌++◌, length}
+use Rattle.std.specs.Prelude.{Option, None, Some, IfSome, is_some, option_map, unwrap_or, Ok, Err}
 use Rattle.byte_streams.specs.declared.calls.WriteOnce.{Ghosts as WriterGhosts}
 use Rattle.byte_streams.specs.Writing.{BreaksAt, LinesGoOut}
 use Rattle.gtp_process.specs.declared.starter.Process.{Ghosts}
@@ -41,7 +41,7 @@ use Rattle.gtp_check.specs.declared.summary.Over.TheVariants as over
 use Rattle.gtp_check.specs.declared.talk.Purpose.{Purpose}
 use Rattle.gtp_check.specs.declared.tally.Tally.{Tally}
 use Rattle.gtp_check.specs.Complaints.{complaint_lines}
-use Rattle.gtp_check.specs.Dialogues.{AsksForMore, Dialogue, EndsLike, IsAsked, IsExchanged, IsTrial, Wrong, begun_with}
+use Rattle.gtp_check.specs.Dialogues.{AsksForMore, EndsLike, IsAsked, IsExchanged, IsTrial, Wrong, begun_with}
 use Rattle.gtp_check.specs.Dialogues.{dialogue, is_same_purpose, wrong_purpose, wrong_talk, wrong_with}
 use Rattle.gtp_check.specs.Notes.{nothing_noted}
 use Rattle.gtp_check.specs.Notes.{started as noted_start}

@@ -15,7 +15,6 @@ ghost use Rattle.programs.specs.declared.failure.Failure.TheVariants as failure;
 use crate::check::Check;
 use crate::complaint::{Complaint, complaint_text};
 use crate::engine::Fault;
-use programs::failure::Failure;
 use crate::flat::{Shortening, games_in, shortened, shortenings};
 use crate::plan::Plan;
 use crate::progress::{clear, show_looking};
@@ -26,6 +25,7 @@ use go_board::KoRule;
 use gtp_course::Lesson;
 use gtp_examiner::Kind;
 use gtp_process::{Process, Starter};
+use programs::failure::Failure;
 
 /// A conversation of so many commands isn't shortened.
 const FEW_COMMANDS: usize = 20;

@@ -133,7 +133,7 @@ impl<P: Process> Engine<P> {
             end: self.sent.len(),
         }])?;
         push(&mut self.waiting, line.as_slice());
-        notes.count();
+        notes.count(purpose.lesson, &command);
         Ok(())
     }
 

@@ -1,12 +1,14 @@
 //! What is noted of right answers.
 ghost use Rattle.std.specs.Prelude.{◌≡◌};
 ghost use Rattle.gtp_check.specs.Notes.{beginning_of, counted, is_refused, lacks, noted, nothing_noted, started, with_lacks};
-ghost use Rattle.gtp_check.specs.Notes.{noted_of, with_answer, with_size};
+ghost use Rattle.gtp_check.specs.Notes.{is_on_board, match_on_board, noted_of, with_answer, with_lesson, with_size};
 
+use crate::plan::is_among;
 use arrayvec::ArrayVec;
 use go_base::{Size, push};
+use gtp_course::{Lesson, Lessons};
 use gtp_examiner::{CheckCommand, Examiner, Heard, Skill, Skills};
-use gtp_wire::{MOST_SHOWN, Reply};
+use gtp_wire::{Command, MOST_SHOWN, Reply};
 
 /// The beginning of what an engine wrote: 80 bytes at most.
 pub type Beginning = ArrayVec<u8, MOST_SHOWN>;
@@ -32,6 +34,8 @@ pub struct Notes {
     pub fruitless: u32,
     /// How many commands were asked.
     pub commands: u32,
+    /// The lessons in which something was asked that needs a board of a size that is set, each once.
+    pub asked: Lessons,
 }
 
 impl Notes {
@@ -49,6 +53,7 @@ impl Notes {
             has_answered: false,
             fruitless: 0,
             commands: 0,
+            asked: Lessons::new(),
         }
     }
 
@@ -60,11 +65,24 @@ impl Notes {
         self.fruitless = self.fruitless.saturating_add(1);
     }
 
-    /// A command was asked.
-    pub fn count(&mut self)
-        ensures { self.new ≡ counted self.old }
+    /// A command was asked in a lesson.
+    pub fn count(&mut self, lesson: Lesson, command: &CheckCommand)
+        ensures { self.new ≡ counted lesson command.now self.old }
     {
         self.commands = self.commands.saturating_add(1);
+        if is_on_board(command) {
+            self.ask(lesson);
+        }
+    }
+
+    /// Something was asked on a board in a lesson.
+    fn ask(&mut self, lesson: Lesson)
+        ensures { self.new ≡ with_lesson lesson self.old }
+    {
+        if !is_among(&self.asked, lesson) {
+            // All lessons fit.
+            let _ = self.asked.try_push(lesson);
+        }
     }
 
     /// What was heard without a finding. The reply is read only where a command was answered.
@@ -120,6 +138,32 @@ impl Notes {
         ensures { result ≡ is_refused self.now lines }
     {
         self.refused.iter().any(|known| *known == lines)
+    }
+}
+
+/// Whether a command is asked on a board, of a size that was taken.
+fn is_on_board(command: &CheckCommand) -> bool
+    ensures { result ≡ is_on_board command.now }
+{
+    match command {
+        CheckCommand::Match(command) => match_on_board(command),
+        CheckCommand::FinalScore => true,
+        CheckCommand::Name | CheckCommand::Version | CheckCommand::KnownCommand(_) => false,
+    }
+}
+
+/// The same of a command of a match.
+fn match_on_board(command: &Command) -> bool
+    ensures { result ≡ match_on_board command.now }
+{
+    match command {
+        Command::Boardsize(_) | Command::Quit => false,
+        Command::Komi(_)
+        | Command::ClearBoard
+        | Command::FixedHandicap(_)
+        | Command::Play(_)
+        | Command::Genmove(_)
+        | Command::Undo => true,
     }
 }
 

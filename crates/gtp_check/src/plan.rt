@@ -96,8 +96,8 @@ fn is_chosen(options: &Options<'_>, lesson: Lesson) -> bool
 }
 
 /// Whether a lesson is among these.
-fn is_among(lessons: &Lessons, lesson: Lesson) -> bool
-    ensures { result ≡ is_among lessons.now.items lesson }
+pub fn is_among(lessons: &[Lesson], lesson: Lesson) -> bool
+    ensures { result ≡ is_among lessons.now lesson }
 {
     lessons.iter().any(|one| one.number() == lesson.number())
 }

@@ -4,16 +4,18 @@ ghost use Rattle.std.specs.List.{concat};
 ghost use Rattle.gtp_process.specs.Shown.{unstarted_text};
 ghost use Rattle.gtp_check.specs.Summary.{counted_text, counts_line, first_line, hidden_line, hidden_lines};
 ghost use Rattle.gtp_check.specs.Summary.{hidden_of, ko_text};
+ghost use Rattle.gtp_check.specs.Summary.{boardless, boardless_line, is_boardless};
 ghost use Rattle.gtp_check.specs.Summary.{lack_line, lack_lines, last_lines, lessons_line, missed_lines, plural};
 ghost use Rattle.gtp_check.specs.Summary.{refused_line, shown_or, sizes_line, spaced_name, spaced_size, unstarted_line};
 
 use crate::notes::{Beginning, Notes};
-use crate::plan::Plan;
+use crate::options::add_if;
+use crate::plan::{Plan, is_among};
 use crate::texts::add_all;
 use arrayvec::ArrayVec;
 use go_base::{push, write_int};
 use go_board::KoRule;
-use gtp_course::{LESSONS, Lesson};
+use gtp_course::{LESSONS, Lesson, Lessons};
 use gtp_process::{Unstarted, push_quoted, push_unstarted};
 use std::alloc::{AllocError, Global};
 
@@ -109,6 +111,7 @@ pub fn last_lines(
     add_hidden(&mut text, ending.hidden)?;
     add_lessons(&mut text, &plan.left_out, b"not asked, as the options say:")?;
     add_missed(&mut text, ending.over, ending.missed)?;
+    add_boardless(&mut text, plan, notes, ending)?;
     add_lacks(&mut text, notes)?;
     add_refused(&mut text, &notes.refused)?;
     add_counts(&mut text, notes.commands, ending.starts, ending.complaints)?;
@@ -207,6 +210,45 @@ fn add_missed(text: &mut Vec<u8>, over: &Over, missed: &[Lesson]) -> Result<(), 
             add_lessons(text, missed, b"not asked, or not to their end, for that:")
         }
     }
+}
+
+/// The lessons in which nothing was asked on a board, since the engine refused the sizes.
+fn add_boardless(
+    text: &mut Vec<u8>,
+    plan: &Plan<'_>,
+    notes: &Notes,
+    ending: &Ending<'_>,
+) -> Result<(), AllocError>
+    ensures { OnOk result (text.new.items ≡
+        text.old.items ++ boardless_line plan.now notes.now ending.now) }
+{
+    let lessons = boardless(&plan.lessons, ending.missed, &notes.asked);
+    add_lessons(text, &lessons, b"not asked on any board:")
+}
+
+/// Those lessons, in the order of all.
+fn boardless(lessons: &[Lesson], missed: &[Lesson], asked: &[Lesson]) -> Lessons
+    ensures { result.items ≡ boardless lessons.now missed.now asked.now }
+{
+    let mut kept = Lessons::new();
+    for lesson in LESSONS {
+        add_if(
+            &mut kept,
+            lesson,
+            is_boardless(lessons, missed, asked, lesson),
+        );
+    }
+    kept
+}
+
+/// Whether a lesson was to be asked and isn't missed, but no command of it was on a board.
+fn is_boardless(lessons: &[Lesson], missed: &[Lesson], asked: &[Lesson], lesson: Lesson) -> bool
+    ensures { result ≡ is_boardless lessons.now missed.now asked.now lesson }
+{
+    if !is_among(lessons, lesson) || is_among(missed, lesson) {
+        return false;
+    }
+    !is_among(asked, lesson)
 }
 
 /// The line of a program that was not started.

@@ -1,7 +1,5 @@
 -- What is answered where `clap` returns no options.
-use Rattle.std.specs.Prelude.{◌≡◌, ◌⊎◌, ℕ, List, Result, string_bytes}
-use Rattle.std.specs.Prelude.{IsErr, IsOkAnd}
-use Rattle.std.specs.declared.alloc.AllocError.{AllocError}
+use Rattle.std.specs.Prelude.{◌≡◌, ℕ, List}
 use Rattle.clap.specs.declared.error.kind.ErrorKind.{ErrorKind}
 use Rattle.byte_streams.specs.declared.calls.WriteOnce.{Ghosts as WriterGhosts}
 use Rattle.byte_streams.specs.Writing.{IsWritten}

@@ -1,6 +1,6 @@
 -- What the functions of one turn do.
 use Rattle.std.specs.Prelude.{◌≡◌, ◌⊎◌, ℕ, ◌<◌, Bool, true, false, List, [], ◌∷◌, ◌++◌, length, Option, None, Some, IsSome}
-use Rattle.std.specs.Prelude.{Result, Ok, Err, is_some}
+use Rattle.std.specs.Prelude.{Ok, Err, is_some}
 use Rattle.byte_streams.specs.declared.calls.WriteOnce.{Ghosts as WriterGhosts}
 use Rattle.byte_streams.specs.Writing.{BreaksAt, LinesGoOut}
 use Rattle.gtp_process.specs.declared.starter.Process.{Ghosts}
@@ -16,7 +16,7 @@ use Rattle.gtp_check.specs.declared.check.Next.TheVariants.{Exchange, Kill, Over
 use Rattle.gtp_check.specs.declared.engine.Engine.{Engine}
 use Rattle.gtp_check.specs.declared.engine.Fault.{Fault}
 use Rattle.programs.specs.declared.failure.Failure.{Failure}
-use Rattle.programs.specs.declared.failure.Failure.TheVariants.{NoNullDevice, OutOfMemory, TooManyTurns, Write}
+use Rattle.programs.specs.declared.failure.Failure.TheVariants.{OutOfMemory, Write}
 use Rattle.gtp_check.specs.declared.notes.Notes.{Notes}
 use Rattle.gtp_check.specs.declared.plan.Plan.{Plan}
 use Rattle.gtp_check.specs.declared.summary.Over.{Over as WhyOver}

@@ -8,7 +8,7 @@ use crate::plan::plan_of;
 use crate::summary::{Ending, Over, first_line, last_lines};
 use crate::talk::{Purpose, Said};
 use go_board::PlayFault;
-use gtp_course::Lesson;
+use gtp_course::{LESSONS, Lesson};
 use gtp_examiner::{Cause, CheckCommand, Kind};
 use gtp_process::PipeCause;
 use gtp_wire::Command;
@@ -126,7 +126,12 @@ fn a_check_has_a_first_line_and_last_lines(rt: HostRuntime) -> Result<(), Fail> 
     notes.lacks_undo = true;
     let _ = notes.refused.try_push(1);
     let _ = notes.refused.try_push(25);
-    notes.count();
+    notes.count(Lesson::Genmoves, &CheckCommand::Name);
+    for lesson in LESSONS {
+        if lesson != Lesson::Genmoves && lesson != Lesson::Suicide {
+            notes.count(lesson, &CheckCommand::Match(Command::ClearBoard));
+        }
+    }
     let ending = Ending {
         over: &Over::NoMoreStarts,
         missed: &[Lesson::Games, Lesson::Restarts],
@@ -138,9 +143,10 @@ fn a_check_has_a_first_line_and_last_lines(rt: HostRuntime) -> Result<(), Fail> 
     let expected = "check: ko: more of kinds that are shown three times: 4
 check: not asked, as the options say: komi
 check: not asked, or not to their end, since no start was left: games restarts
+check: not asked on any board: suicide genmoves
 check: it lacks undo; nothing was asked that needs it
 check: it refuses the sizes 1 25
-check: 1 command, 2 starts, 0 complaints
+check: 12 commands, 2 starts, 0 complaints
 ";
     assert_equal(&rt, str::from_utf8(last.as_slice())?, expected);
     Ok(())

@@ -1,5 +1,4 @@
 use Rattle.std.proofs.Common.{◌≡◌, ◌∙◌, ◌++◌, ap, append_assoc, List, [], ◌∷◌, ℕ}
-use Rattle.std.specs.List.{concat}
 use Rattle.gtp_check.specs.Complaints.{ahead_line, commands_after, conversation, head_line, ko_line, rule_line}
 use Rattle.gtp_check.specs.Complaints.{wrote_line}
 use Rattle.gtp_check.proofs.complaint.complaint_text.Goals as goal

@@ -1,4 +1,4 @@
-use Rattle.std.proofs.Common.{◌∙◌, ap, sym, ◌-◌, arith, ℕ, drop, length}
+use Rattle.std.proofs.Common.{◌∙◌, ap, sym, ◌-◌, arith, drop, length}
 use Rattle.gtp_check.specs.declared.flat.Role.{Role}
 use Rattle.gtp_check.specs.Shortening.{flat, stays, taken_back, taken_by}
 use Rattle.gtp_check.proofs.Games.{flat_more, from_end, nothing_is_taken, nothing_stays, taken_more}

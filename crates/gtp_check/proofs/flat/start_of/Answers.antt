@@ -1,5 +1,5 @@
-use Rattle.std.proofs.Common.{◌≡◌, ◌∙◌, ◌-◌, Bool, ap, sym, arith, rules, drop, if◌then◌else◌}
-use Rattle.gtp_check.specs.Shortening.{games_in, is_clear}
+use Rattle.std.proofs.Common.{◌∙◌, ◌-◌, Bool, ap, sym, arith, if◌then◌else◌}
+use Rattle.gtp_check.specs.Shortening.{is_clear}
 use Rattle.gtp_check.proofs.Games.{left_here, starts_here, starts_later, starts_nowhere}
 use Rattle.gtp_check.proofs.flat.start_of.Goals as goal
 use Rattle.gtp_check.proofs.flat.start_of.Goals.{then-is_clear, else-is_clear}

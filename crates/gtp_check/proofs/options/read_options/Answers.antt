@@ -1,8 +1,8 @@
-use Rattle.std.proofs.Common.{◌≡◌, ◌∙◌, ap, subst, sym, List, map}
+use Rattle.std.proofs.Common.{◌∙◌, ap, subst, sym, List, map}
 use Rattle.std.proofs.lemmas.Result.{err_from_is_err_and}
 use Rattle.clap.specs.Kinds.{HasKind}
-use Rattle.clap.specs.Words.{App, Row, fault_of, found_of, is_simple, is_simple_and_free, matches_of, rows_of}
-use Rattle.gtp_check.specs.Options.{Ask, command_line}
+use Rattle.clap.specs.Words.{App, Row, fault_of, is_simple, is_simple_and_free, matches_of}
+use Rattle.gtp_check.specs.Options.{Ask}
 use Rattle.gtp_check.proofs.CommandLine.{fault_from_kind, is_simple-command_line, is_simple_and_free-command_line}
 use Rattle.gtp_check.proofs.options.read_options.Goals as goal
 

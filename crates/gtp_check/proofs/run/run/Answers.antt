@@ -1,4 +1,4 @@
-use Rattle.std.proofs.Common.{refl, sym}
+use Rattle.std.proofs.Common.{sym}
 use Rattle.gtp_check.specs.Checks.{checked, listed, stopped}
 use Rattle.gtp_check.proofs.Running.{clap_ran, held_status, no_plan_ran, shown_status}
 use Rattle.gtp_check.proofs.run.run.Goals as goal

@@ -1,6 +1,6 @@
 use Rattle.std.proofs.Common.{◌∙◌, ◌++◌, ℕ, List, [], ◌∷◌, ap, codes}
 use Rattle.gtp_course.specs.declared.lessons.Lesson.{Lesson}
-use Rattle.gtp_check.specs.Summary.{counts_line, hidden_lines, lack_lines, lessons_line, missed_lines, refused_line}
+use Rattle.gtp_check.specs.Summary.{boardless_line, counts_line, hidden_lines, lack_lines, lessons_line, missed_lines, refused_line}
 use Rattle.gtp_check.proofs.Joining.{one_more}
 use Rattle.gtp_check.proofs.summary.last_lines.Goals as goal
 
@@ -19,8 +19,10 @@ returns c =
     (c.in_ok-add_lessons.ensures ∙ ap (λ (l : List Lesson). c.add_hidden.new.text.items
     ++ lessons_line (codes "not asked, as the options say:") l) c.deref.ensures.0) in
     let three = one_more [] _ _ missed (hidden ∷ left_out ∷ []) two c.in_ok-add_missed.ensures in
-    let four = one_more [] _ _ lacks (hidden ∷ left_out ∷ missed ∷ []) three c.in_ok-add_lacks.ensures in
-    let five = one_more [] _ _ refused (hidden ∷ left_out ∷ missed ∷ lacks ∷ []) four
+    let boards = boardless_line c.args.plan.now notes ending in
+    let boarded = one_more [] _ _ boards (hidden ∷ left_out ∷ missed ∷ []) three c.in_ok-add_boardless.ensures in
+    let four = one_more [] _ _ lacks (hidden ∷ left_out ∷ missed ∷ boards ∷ []) boarded c.in_ok-add_lacks.ensures in
+    let five = one_more [] _ _ refused (hidden ∷ left_out ∷ missed ∷ boards ∷ lacks ∷ []) four
     (c.in_ok-add_refused.ensures ∙ ap (λ (sizes : List ℕ). c.add_lacks.new.text.items ++ refused_line sizes)
     c.deref-2.ensures.0) in
-    one_more [] _ _ counts (hidden ∷ left_out ∷ missed ∷ lacks ∷ refused ∷ []) five c.in_ok-add_counts.ensures
+    one_more [] _ _ counts (hidden ∷ left_out ∷ missed ∷ boards ∷ lacks ∷ refused ∷ []) five c.in_ok-add_counts.ensures

@@ -1,6 +1,5 @@
-use Rattle.std.proofs.Common.{◌∙◌, ap, sym, ◌+◌, arith, List, drop}
+use Rattle.std.proofs.Common.{◌∙◌, ap, sym, ◌+◌, arith, drop}
 use Rattle.std.proofs.lemmas.List.{at_drop_all}
-use Rattle.gtp_check.specs.declared.talk.Said.{Said}
 use Rattle.gtp_check.specs.Superko.{after_all}
 use Rattle.gtp_check.proofs.Games.{from_here, known_more, known_none}
 use Rattle.gtp_check.proofs.superko.game_after.Goals as goal

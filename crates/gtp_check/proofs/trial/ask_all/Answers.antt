@@ -1,4 +1,4 @@
-use Rattle.std.proofs.Common.{◌≡◌, ◌∙◌, ap, refl, List, ◌++◌, drop}
+use Rattle.std.proofs.Common.{◌∙◌, ap, refl, List, ◌++◌, drop}
 use Rattle.gtp_check.specs.declared.talk.Said.{Said}
 use Rattle.gtp_check.specs.Dialogues.{begins, dialogue, exchanges}
 use Rattle.gtp_check.specs.Shortening.{commands_of}

@@ -2,7 +2,7 @@ use Rattle.std.proofs.Common.{Err, Ok, refl}
 use Rattle.std.proofs.lemmas.Result.{err_from_is_err_and}
 use Rattle.gtp_process.specs.declared.starter.StartFault.TheVariants as start_fault
 use Rattle.gtp_process.specs.Starts.{program_line}
-use Rattle.gtp_check.specs.Dialogues.{dialogue, none, one_more, unstarted, wrong_of}
+use Rattle.gtp_check.specs.Dialogues.{dialogue, none, one_more, unstarted}
 use Rattle.gtp_check.proofs.Conversations.{trial_right, trial_wrong}
 use Rattle.gtp_check.proofs.Trials.{asked_nothing}
 use Rattle.gtp_check.proofs.trial.try_commands.Goals as goal

@@ -1,11 +1,10 @@
-use Rattle.std.proofs.Common.{◌∙◌, ap, refl, inl, inr, [], ◌∷◌}
+use Rattle.std.proofs.Common.{◌∙◌, refl, inl, inr, [], ◌∷◌}
 use Rattle.std.proofs.lemmas.Result.{err_from_is_err_and}
 use Rattle.byte_streams.specs.Writing.{line_out, no_line}
 use Rattle.gtp_check.specs.Complaints.{complaint_lines}
 use Rattle.gtp_check.specs.Dialogues.{wrong_of}
 use Rattle.gtp_check.specs.Shortening.{shortenings}
 use Rattle.gtp_check.specs.Progress.{cleared, looking_line}
-use Rattle.gtp_check.specs.Turns.{State, state}
 use Rattle.gtp_check.specs.private.Steps.{complaint_broke, complaint_refused}
 use Rattle.gtp_check.proofs.Progressing.{both_shown}
 use Rattle.gtp_check.proofs.Settling.{complained, is_hidden}

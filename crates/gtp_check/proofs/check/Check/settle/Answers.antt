@@ -1,4 +1,4 @@
-use Rattle.std.proofs.Common.{◌≡◌, Bool, Option, None, Some, [], refl, true, false}
+use Rattle.std.proofs.Common.{◌≡◌, Bool, Option, Some, [], refl, true, false}
 use Rattle.std.specs.Prelude.{IsSome}
 use Rattle.std.proofs.lemmas.Result.{err_from_is_err_and}
 use Rattle.byte_streams.specs.Writing.{no_line}

@@ -1,5 +1,4 @@
-use Rattle.std.proofs.Common.{rules, refl, Err}
-use Rattle.gtp_process.specs.declared.starter.StartFault.TheVariants as start_fault
+use Rattle.std.proofs.Common.{rules, refl}
 use Rattle.gtp_check.specs.Turns.{no_more_starts, no_right_answer, not_started}
 use Rattle.gtp_check.specs.private.Steps.{begins, is_over}
 use Rattle.gtp_check.proofs.check.Check.start.Goals as goal

@@ -4,7 +4,7 @@ use Rattle.gtp_check.specs.declared.tally.Tally.{Tally}
 use Rattle.gtp_check.specs.Dialogues.{none, wrong_of, wrong_talk}
 use Rattle.gtp_check.specs.Shortening.{games_in, shortened}
 use Rattle.gtp_check.specs.Turns.{TriesShorter, state}
-use Rattle.gtp_check.proofs.Shortening.{may_try, then_more}
+use Rattle.gtp_check.proofs.Shortening.{may_try}
 use Rattle.gtp_check.proofs.check.Check.try_shorter.Goals as goal
 use Rattle.gtp_check.proofs.check.Check.try_shorter.Goals.{then-talk-le-FEW_COMMANDS-via-then-talk-le-FEW_COMMANDS, then-talk-le-FEW_COMMANDS-via-else-talk-le-FEW_COMMANDS+then-games_in-shortening}
 use Rattle.gtp_check.proofs.check.Check.try_shorter.Goals.{then-len-talk-via-then-len-talk, then-len-talk-via-else-len-talk+then-not-has_start}
