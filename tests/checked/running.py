@@ -18,7 +18,7 @@ PYTHON = f"{sys.executable} -S"  # -S leaves out what a machine adds to each sta
 FIRST = re.compile(r'check: (?:".*"|an engine without a name), version (?:".*"|unknown), seed \d+, (?:simple|positional) ko')
 HEAD = re.compile(r'# (\d+) (\w+): "(.*)": (.*)')
 LAST = re.compile(r"check: (\d+) commands?, (\d+) starts?, (\d+) complaints?")
-HIDDEN = re.compile(r"check: \w+: more of kinds that are shown three times: (\d+)")
+HIDDEN = re.compile(r"check: \w+: more complaints, of kinds that were shown three times: (\d+)")
 AHEAD = re.compile(r"# .*\bcommands?\b.* sent .*\n")  # how many commands were on their way already
 
 

@@ -2,7 +2,7 @@
 
 A row follows from the bug's source and from the tables of the lessons, in crates/gtp_course/specs. Most were written before a check was run.
 Some were set after one, and derived then: points_twice, rows_from_the_top, columns_for_rows, the bugs for which the course was made longer,
-those of `afresh`, and some of UNNOTICED. Where a comment speaks of games that are drawn, a row is only likely. The rows of CHANCE can't be
+those of `afresh`, `third`, `fourth`, and some of UNNOTICED. Where a comment speaks of games that are drawn, a row is only likely. The rows of CHANCE can't be
 derived: what shows these bugs hangs on what the engine draws, so they were found by checks.
 
 To change it: a bug that the course notices has the lessons that show it in SHOWN, where those of its family don't; a bug that it doesn't
@@ -30,6 +30,10 @@ FAMILIES = {
     "unseen": ("drawn",),
     # long chains and play between them, a board with other colours, a probe after 100 moves: in games that are drawn
     "afresh": ("drawn",),
+    # komis, refusals and points of handicaps
+    "third": ("handicaps",),
+    # each point of a board, one after the other, and moves of the engine's own on it
+    "fourth": ("sizes",),
 }
 
 # bugs that another lesson shows
@@ -137,6 +141,52 @@ SHOWN = {
     "eleventh_start_fails": ("restarts",),
 }
 
+# the bugs of `third` and `fourth`: what shows them first
+SHOWN |= {
+    "ids_are_shorts": ("ko",),
+    "id_of_the_last_line_of_a_read": ("start",),
+    "last_line_of_a_read_is_first": ("start",),
+    "pass_is_point_361": ("sizes",),
+    "rows_of_two_digits_are_tens": ("sizes",),
+    "written_letters_end_at_t": ("sizes",),
+    "komi_is_lost_at_boardsize": ("komi",),
+    "every_second_stone_is_taken": ("sizes",),
+    "nothing_below_is_taken": ("sizes",),
+    "touched_twice_counts_twice": ("captures",),
+    "taken_chain_gives_one_liberty": ("drawn",),
+    "ko_outlives_a_second_move": ("drawn",),
+    "ko_forgotten_at_an_occupied_point": ("ko",),
+    "ko_is_compared_by_is": ("restarts",),
+    "first_neighbour_decides": ("ko",),
+    "atari_is_no_suicide": ("captures",),
+    "refused_suicide_takes_liberties": ("drawn",),
+    "pass_is_taken_back_from_a1": ("ko",),
+    "taken_back_point_is_filled": ("ko",),
+    "taken_stones_are_bytes": ("sizes",),
+    "last_taken_chain_comes_back": ("captures",),
+    "undo_plays_in_turns": ("sizes",),
+    "prisoners_stay_at_undo": ("komi",),
+    "chosen_point_stays_taken": ("sizes",),
+    "choice_of_the_move_number": ("genmoves",),
+    "ko_comes_back": ("record",),
+    "no_ko_past_a_byte": ("record",),
+    "undo_gives_no_room_back": ("sizes",),
+    "marks_are_bytes": ("sizes",),
+    "log_of_4096_lines": ("sizes",),
+    "room_of_the_first_size": ("sizes",),
+    "game_is_resumed_at_its_first_move": ("start",),
+    "old_colour_stays": ("sizes",),
+    "even_score_is_a_word": ("handicaps",),
+    "failed_undo_has_no_id": ("start",),
+    "half_is_added_below_zero": ("handicaps",),
+    "komi_is_of_the_next_game": ("komi",),
+    "shared_liberty_counts_once": ("ko",),
+    "prisoners_allow_suicide": ("ko",),
+    "joined_chains_stay_joined": ("ko",),
+    "undo_sets_komi_back": ("handicaps",),
+    "passes_stay_at_undo": ("handicaps",),
+    "handicaps_by_three_tables": ("handicaps",),
+}
 # bugs that show by chance
 CHANCE = {
     # what is drawn meets a stone of the wrong colour
@@ -181,6 +231,11 @@ UNNOTICED = {
     "unread_komi_is_zero": "each komi that is sent can be read",
     "lead_is_a_byte": "no score is asked but that of an empty board",
     "handicap_is_undone": "no `undo` is asked where there is a handicap and no move",
+    "quit_is_not_known": "the answer to `quit` isn't judged",
+    "known_by_its_beginning": "any answer to `known_command` is right",
+    "refused_size_clears_the_board": "it takes each size that is asked",
+    "two_passes_end_the_choice": "no `genmove` is asked after two passes",
+    "ko_forgotten_at_a_suicide": "no ko is open where a suicide is asked",
 }
 
 # They wait for more input before they answer, so `timeout` has to end them.

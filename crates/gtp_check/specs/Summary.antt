@@ -47,7 +47,7 @@ hidden_of hidden lesson = unwrap_or (slice_get hidden (number_of lesson)) 0
 -- the line that says so, where there are any
 abbrev pub hidden_text : Lesson → ℕ → List ℕ
 hidden_text lesson count = if count == 0 then [] else concat (
-    codes "check: " ∷ name_of lesson ∷ codes ": more of kinds that are shown three times: " ∷
+    codes "check: " ∷ name_of lesson ∷ codes ": more complaints, of kinds that were shown three times: " ∷
     decimal count ∷ codes "\n" ∷ [])
 
 abbrev pub hidden_line : List ℕ → Lesson → List ℕ

@@ -148,7 +148,7 @@ impl<'t> Complaint<'t> {
 }
 
 /// A line without its newline.
-fn without_newline(line: &[u8]) -> &[u8]
+pub fn without_newline(line: &[u8]) -> &[u8]
     ensures { result.now ≡ strip_last newline line.entry.now }
 {
     match line {

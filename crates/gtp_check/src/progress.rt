@@ -1,7 +1,5 @@
 //! What is written of a check's progress on a terminal, in place of the line before.
 ghost use Rattle.std.specs.Prelude.{◌≡◌, ◌++◌, [], ◌∷◌, slice_get, take};
-ghost use Rattle.std.specs.Io.BufRead.{strip_last};
-ghost use Rattle.go_base.specs.Bytes.{newline};
 ghost use Rattle.gtp_check.specs.Dialogues.{dialogue};
 ghost use Rattle.gtp_check.specs.Notes.{nothing_noted};
 ghost use Rattle.gtp_check.specs.Progress.{IsShown, cleared, in_place, is_read_next, line_at, line_start, looking_line};
@@ -10,6 +8,7 @@ ghost use Rattle.gtp_check.specs.Texts.{joined};
 ghost use Rattle.gtp_check.specs.Turns.{state, waiting};
 
 use crate::check::Check;
+use crate::complaint::without_newline;
 use crate::engine::Engine;
 use crate::plan::Plan;
 use crate::summary::plural;
@@ -134,16 +133,6 @@ fn line_start(talk: &[Said], number: usize) -> usize
             None => 0,
         },
         None => 0,
-    }
-}
-
-/// A line without its newline.
-fn without_newline(line: &[u8]) -> &[u8]
-    ensures { result.now ≡ strip_last newline line.entry.now }
-{
-    match line {
-        [text @ .., b'\n'] => text,
-        _ => line,
     }
 }
 

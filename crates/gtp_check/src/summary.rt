@@ -141,7 +141,7 @@ fn add_hidden_of(text: &mut Vec<u8>, hidden: &[u32], lesson: Lesson) -> Result<(
         &[
             b"check: ",
             lesson.name().as_bytes(),
-            b": more of kinds that are shown three times: ",
+            b": more complaints, of kinds that were shown three times: ",
             &write_int(count),
             b"\n",
         ],

@@ -140,7 +140,7 @@ fn a_check_has_a_first_line_and_last_lines(rt: HostRuntime) -> Result<(), Fail> 
         complaints: 0,
     };
     let last = last_lines(rt.alloc(), &plan, &notes, &ending)?;
-    let expected = "check: ko: more of kinds that are shown three times: 4
+    let expected = "check: ko: more complaints, of kinds that were shown three times: 4
 check: not asked, as the options say: komi
 check: not asked, or not to their end, since no start was left: games restarts
 check: not asked on any board: suicide genmoves
