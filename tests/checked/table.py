@@ -2,8 +2,8 @@
 
 A row follows from the bug's source and from the tables of the lessons, in crates/gtp_course/specs. Most were written before a check was run.
 Some were set after one, and derived then: points_twice, rows_from_the_top, columns_for_rows, the bugs for which the course was made longer,
-those of `afresh`, `third`, `fourth`, and some of UNNOTICED. Where a comment speaks of games that are drawn, a row is only likely. The rows of CHANCE can't be
-derived: what shows these bugs hangs on what the engine draws, so they were found by checks.
+those of `afresh`, and some of UNNOTICED. Where a comment speaks of games that are drawn, a row is only likely. The rows of CHANCE can't be
+derived: what shows these bugs hangs on what the engine draws, so they were found by checks. So were those of `third` and `fourth`.
 
 To change it: a bug that the course notices has the lessons that show it in SHOWN, where those of its family don't; a bug that it doesn't
 notice has the reason in UNNOTICED. No bug may be in both.
@@ -143,7 +143,7 @@ SHOWN = {
 
 # the bugs of `third` and `fourth`: what shows them first
 SHOWN |= {
-    "ids_are_shorts": ("ko",),
+    "ids_are_shorts": ("sizes", "ko"),
     "id_of_the_last_line_of_a_read": ("start",),
     "last_line_of_a_read_is_first": ("start",),
     "pass_is_point_361": ("sizes",),
@@ -175,7 +175,7 @@ SHOWN |= {
     "log_of_4096_lines": ("sizes",),
     "room_of_the_first_size": ("sizes",),
     "game_is_resumed_at_its_first_move": ("start",),
-    "old_colour_stays": ("sizes",),
+    "old_colour_stays": ("start", "sizes"),
     "even_score_is_a_word": ("handicaps",),
     "failed_undo_has_no_id": ("start",),
     "half_is_added_below_zero": ("handicaps",),
@@ -186,6 +186,7 @@ SHOWN |= {
     "undo_sets_komi_back": ("handicaps",),
     "passes_stay_at_undo": ("handicaps",),
     "handicaps_by_three_tables": ("handicaps",),
+    "book_has_no_sizes": ("start", "sizes"),
 }
 # bugs that show by chance
 CHANCE = {
@@ -246,7 +247,8 @@ WAITING |= {"replies_are_held"}
 # conversation may have right answers. Those that wait have answered more commands than the conversation has.
 ANEW = {*WAITING, "reads_of_sixty_four", "trial_is_over"}
 ANEW |= {"old_game_is_a_book", "old_game_comes_back", "old_board_comes_back_at_undo", "old_moves_are_undone"}
-ANEW |= {"eleventh_start_fails"}
+ANEW |= {"eleventh_start_fails", "id_of_the_last_line_of_a_read", "last_line_of_a_read_is_first"}
+ANEW |= {"game_is_resumed_at_its_first_move", "old_colour_stays", "book_has_no_sizes"}
 
 
 def lessons_of(name, family):
