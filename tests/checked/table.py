@@ -231,7 +231,6 @@ UNNOTICED = {
     "white_is_a_letter": NOT_SENT,
     "unread_komi_is_zero": "each komi that is sent can be read",
     "lead_is_a_byte": "no score is asked but that of an empty board",
-    "handicap_is_undone": "no `undo` is asked where there is a handicap and no move",
     "quit_is_not_known": "the answer to `quit` isn't judged",
     "known_by_its_beginning": "any answer to `known_command` is right",
     "refused_size_clears_the_board": "it takes each size that is asked",
