@@ -58,6 +58,11 @@ pub record AreLastLines {P : Type 0} (plan : Plan) (last : State P) (why : Over)
 
 -- ---- a check
 
+-- a check is over since the engine wasn't started at the first try, for this cause
+pub record IsFirstFailure (why : Over) (starts : ℕ) (start : Unstarted) : Type 0 where
+  pub not_started : why ≡ over.NotStarted start
+  pub first : starts ≡ 0
+
 module _ {P O E : Type 0} (known : Ghosts P) (outs : WriterGhosts O) (errs : WriterGhosts E) (plan : Plan)
     (progress : Bool) (asked : Attempts P) (out : O) (errors : E) where
   -- A check was held to its end, and the line of its progress is cleared. The last lines went out, and the status says
@@ -67,13 +72,14 @@ module _ {P O E : Type 0} (known : Ghosts P) (outs : WriterGhosts O) (errs : Wri
     is_over : {why : Over} {last : State P} {has : Attempts P} {between written : O} {seen sees : E} {text : List ℕ}
         → TurnsAreOver known plan outs errs progress (before_all plan) asked out errors why last has between seen
         → IsShown errs progress (cleared ∷ []) seen sees
+        → ((start : Unstarted) → IsFirstFailure why last.check.starts start → ⊥)
         → IsClosed known last → AreLastLines plan last why text → GoesOut outs text between written
         → IsHeld (status_of last.tally.complaints) has written sees
-    not_started : {start : Unstarted} {last : State P} {has : Attempts P} {written : O} {seen sees reported : E}
-        → TurnsAreOver known plan outs errs progress (before_all plan) asked out errors (over.NotStarted start) last has
-        written seen
+    not_started : {why : Over} {start : Unstarted} {last : State P} {has : Attempts P} {written : O}
+        {seen sees reported : E}
+        → TurnsAreOver known plan outs errs progress (before_all plan) asked out errors why last has written seen
         → IsShown errs progress (cleared ∷ []) seen sees
-        → last.check.starts ≡ 0 → IsClosed known last
+        → IsFirstFailure why last.check.starts start → IsClosed known last
         → IsWritten errs (error_line (codes "gtp_check") (unstarted_text start)) sees reported
         → IsHeld usage_failure has written reported
 

@@ -39,7 +39,7 @@ conversation complaint = take (line_end complaint complaint.answered) complaint.
 abbrev pub faulty_line : Complaint → List ℕ
 faulty_line complaint = strip_last newline (drop (line_start complaint complaint.answered) (conversation complaint))
 
--- how many commands were sent after it
+-- how many commands were asked after it
 abbrev pub commands_after : Complaint → ℕ
 commands_after complaint = length complaint.talk.now - complaint.answered - 1
 
@@ -90,14 +90,14 @@ rule_line complaint = concat (
     codes "# right: " ∷ before_rule (answer_of complaint) ∷
     rule_of complaint (is_within complaint.fault complaint.wrote.now) ∷ codes "\n" ∷ [])
 
--- That so many commands were sent after the faulty one, before it was answered. One that was sent later isn't at fault.
+-- That so many commands were asked after the faulty one, before it was answered, and may have been sent.
 -- (No more than 2 ^ 32 - 1 are counted.)
 abbrev pub ahead_line : ℕ → List ℕ
 ahead_line zero = []
-ahead_line (suc zero) = codes "# the command after it was sent before its answer came\n"
+ahead_line (suc zero) = codes "# the command after it may have been sent before its answer came\n"
 ahead_line (suc (suc more)) = concat (
     codes "# the " ∷ decimal (min (suc (suc more)) 4294967295) ∷
-    codes " commands after it were sent before its answer came\n" ∷ [])
+    codes " commands after it may have been sent before its answer came\n" ∷ [])
 
 -- that the refusal is right under the other ko rule
 abbrev pub ko_line : Bool → List ℕ

@@ -277,6 +277,10 @@ wrong_purpose wrong = purpose_of (slice_get wrong.talk wrong.answered)
 abbrev pub is_same_purpose : Purpose → Purpose → Bool
 is_same_purpose one other = (number_of one.lesson == number_of other.lesson) && (one.part == other.part)
 
+-- the same lesson, in whichever part
+abbrev pub is_same_lesson : Purpose → Purpose → Bool
+is_same_lesson one other = number_of one.lesson == number_of other.lesson
+
 -- the command that was answered wrongly
 abbrev pub wrong_command : Wrong → Option CheckCommand
 wrong_command wrong = option_map (λ said. said.command) (slice_get wrong.talk wrong.answered)

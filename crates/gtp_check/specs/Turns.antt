@@ -42,7 +42,7 @@ use Rattle.gtp_check.specs.declared.talk.Purpose.{Purpose}
 use Rattle.gtp_check.specs.declared.tally.Tally.{Tally}
 use Rattle.gtp_check.specs.Complaints.{complaint_lines}
 use Rattle.gtp_check.specs.Dialogues.{AsksForMore, EndsLike, IsAsked, IsExchanged, IsTrial, Wrong, begun_with}
-use Rattle.gtp_check.specs.Dialogues.{dialogue, is_same_purpose, wrong_purpose, wrong_talk, wrong_with}
+use Rattle.gtp_check.specs.Dialogues.{dialogue, is_same_lesson, is_same_purpose, wrong_purpose, wrong_talk, wrong_with}
 use Rattle.gtp_check.specs.Notes.{nothing_noted}
 use Rattle.gtp_check.specs.Notes.{started as noted_start}
 use Rattle.gtp_check.specs.Progress.{IsShown, before_read, cleared, clearing, looking, looking_line}
@@ -118,6 +118,15 @@ purpose_in course = record {
   lesson = unwrap_or (lesson_of course) lesson.Restarts;
   part = course.place.part;
 }
+
+-- Something was found in what was asked for this purpose: that part is left, if the course is in it. Where it is another
+-- part of the lesson, it counts in that all the same.
+pub record HasNoted (purpose : Purpose) (old new : Course) : Type 0 where
+  pub leaves : is_same_purpose purpose (purpose_in old) ≡ true → HasLeft old new
+  pub counts : is_same_purpose purpose (purpose_in old) ≡ false → is_same_lesson purpose (purpose_in old) ≡ true
+      → new ≡ with_finding old
+  pub stays : is_same_purpose purpose (purpose_in old) ≡ false → is_same_lesson purpose (purpose_in old) ≡ false
+      → new ≡ old
 
 -- the engine is asked a command, for this purpose
 pub record AsksEngine {P : Type 0} (purpose : Purpose) (before : State P) (command : CheckCommand) (after : State P)
@@ -209,8 +218,7 @@ module _ {P : Type 0} (known : Ghosts P) where
     pub ended : known.leaves engine.process ending
     pub is : wrong ≡ wrong_with fault before.check.exam (dialogue engine before.notes) ending
     pub course : Course
-    pub leaves : is_same_purpose (wrong_purpose wrong) (purpose_in before.course) ≡ true → HasLeft before.course course
-    pub stays : is_same_purpose (wrong_purpose wrong) (purpose_in before.course) ≡ false → course ≡ before.course
+    pub notes : HasNoted (wrong_purpose wrong) before.course course
     pub leads : after ≡ record before { check = after_loss before.check; course = course; engine = None }
 
 module _ {P : Type 0} (known : Ghosts P) (plan : Plan) where

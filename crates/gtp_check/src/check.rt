@@ -226,10 +226,7 @@ impl<S: Starter> Check<S> {
     pub fn purpose(&self) -> Purpose
         ensures { result ≡ purpose_in self.now.course }
     {
-        Purpose {
-            lesson: self.course.lesson().unwrap_or(Lesson::Restarts),
-            part: self.course.place().part,
-        }
+        purpose_in(&self.course)
     }
 
     /// The engine is asked a command.
@@ -400,11 +397,11 @@ impl<S: Starter> Check<S> {
         self.tally.complaints
     }
 
-    /// Whether no engine was ever started.
-    pub fn is_unstarted(&self) -> bool
-        ensures { result ≡ true → self.now.examiner.starts ≡ 0 }
+    /// How many engines were started.
+    pub fn starts(&self) -> u32
+        ensures { result ≡ self.now.examiner.starts }
     {
-        self.examiner.starts() == 0
+        self.examiner.starts()
     }
 
     /// The engine is ended at once.
@@ -463,6 +460,16 @@ fn ending_of<'c>(
         hidden: tally.hidden.as_slice(),
         starts,
         complaints: tally.complaints,
+    }
+}
+
+/// What the course asks for next.
+pub fn purpose_in(course: &Course) -> Purpose
+    ensures { result ≡ purpose_in course.now }
+{
+    Purpose {
+        lesson: course.lesson().unwrap_or(Lesson::Restarts),
+        part: course.place().part,
     }
 }
 

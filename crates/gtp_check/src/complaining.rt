@@ -4,25 +4,26 @@ ghost use Rattle.std.specs.Prelude.{option_map};
 ghost use Rattle.byte_streams.specs.Writing.{BreaksAt, GoesOut};
 ghost use Rattle.gtp_process.specs.Starts.{program_line};
 ghost use Rattle.gtp_check.specs.Complaints.{complaint_lines};
-ghost use Rattle.gtp_check.specs.Dialogues.{AsksForMore, wrong_of};
+ghost use Rattle.gtp_check.specs.Dialogues.{AsksForMore, is_same_lesson, is_same_purpose, wrong_of};
 ghost use Rattle.gtp_check.specs.Progress.{IsShown, cleared};
 ghost use Rattle.gtp_check.specs.Shortening.{shortenings};
-ghost use Rattle.gtp_check.specs.Turns.{Closes, IsComplaint, Shortens, TriesShorter, state};
+ghost use Rattle.gtp_check.specs.Turns.{Closes, HasNoted, IsComplaint, Shortens, TriesShorter, state};
 ghost use Rattle.gtp_check.specs.private.Steps.{ComplaintGoesOut, ComplaintStops};
 ghost use Rattle.gtp_check.specs.declared.complaint.Complaint.{Complaint};
 ghost use Rattle.programs.specs.declared.failure.Failure.TheVariants as failure;
 
-use crate::check::Check;
+use crate::check::{Check, purpose_in};
 use crate::complaint::{Complaint, complaint_text};
 use crate::engine::Fault;
 use crate::flat::{Shortening, games_in, shortened, shortenings};
 use crate::plan::Plan;
 use crate::progress::{clear, show_looking};
 use crate::superko::is_positional;
+use crate::talk::Purpose;
 use crate::trial::{Tried, try_commands};
 use byte_streams::{WriteOnce, write_text};
 use go_board::KoRule;
-use gtp_course::Lesson;
+use gtp_course::{Course, Lesson};
 use gtp_examiner::Kind;
 use gtp_process::{Process, Starter};
 use programs::failure::Failure;
@@ -87,9 +88,7 @@ impl<S: Starter> Check<S> {
             answered,
             said: engine.end(),
         };
-        if found.purpose().is_same(self.purpose()) {
-            self.course.leave();
-        }
+        note_finding(&mut self.course, found.purpose());
         Some(found)
     }
 
@@ -225,5 +224,18 @@ fn complaint_of(number: u32, lesson: Lesson, found: &Tried, rule: KoRule) -> Com
         is_positional: rule == KoRule::Simple
             && found.fault == Fault::Wrote(Kind::Refused)
             && is_positional(found.conversation()),
+    }
+}
+
+/// Something was found in what was asked for this purpose: that part is left, if the course is in it. Where it is another
+/// part of the lesson, it counts in that all the same.
+fn note_finding(course: &mut Course, purpose: Purpose)
+    ensures { HasNoted purpose course.old course.new }
+{
+    let now = purpose_in(course);
+    if purpose.is_same(now) {
+        course.leave();
+    } else if purpose.is_same_lesson(now) {
+        course.note_finding();
     }
 }

@@ -136,7 +136,7 @@ impl<'t> Complaint<'t> {
         )
     }
 
-    /// How many commands were sent after it.
+    /// How many commands were asked after it.
     fn commands_after(&self) -> usize
         ensures { result ≡ commands_after self.now }
     {
@@ -246,19 +246,21 @@ fn add_answer(text: &mut Vec<u8>, answer: &[u8]) -> Result<(), AllocError>
     add_all(text, &[answer, b"; "])
 }
 
-/// The line of how many commands were sent after the faulty one, where there are any.
+/// The line of how many commands were asked after the faulty one, where there are any.
 fn add_ahead(text: &mut Vec<u8>, commands: usize) -> Result<(), AllocError>
     ensures { OnOk result (text.new.items ≡ text.old.items ++ ahead_line commands) }
 {
     match commands {
         0 => Ok(()),
-        1 => text.extend_from_slice(b"# the command after it was sent before its answer came\n"),
+        1 => text.extend_from_slice(
+            b"# the command after it may have been sent before its answer came\n",
+        ),
         _ => add_all(
             text,
             &[
                 b"# the ",
                 &write_int(commands.min(4294967295) as u32),
-                b" commands after it were sent before its answer came\n",
+                b" commands after it may have been sent before its answer came\n",
             ],
         ),
     }

@@ -1,9 +1,10 @@
 //! The program, over any writers and any means to start processes.
-ghost use Rattle.std.specs.Prelude.{◌≡◌, codes, map};
+ghost use Rattle.std.specs.Prelude.{◌≡◌, IfNone, IfSome, codes, map};
+ghost use Rattle.gtp_process.specs.declared.causes.Unstarted.{Unstarted};
 ghost use Rattle.byte_streams.specs.Writing.{IsWritten};
 ghost use Rattle.gtp_process.specs.Shown.{unstarted_text};
 ghost use Rattle.programs.specs.Status.{error_line};
-ghost use Rattle.gtp_check.specs.Checks.{Ends, HasRun, Shows};
+ghost use Rattle.gtp_check.specs.Checks.{Ends, HasRun, IsFirstFailure, Shows};
 ghost use Rattle.gtp_check.specs.Listing.{list_lines};
 ghost use Rattle.gtp_check.specs.Status.{IsStatus, status_of};
 ghost use Rattle.gtp_check.specs.private.Answering.{Answers};
@@ -97,13 +98,11 @@ fn check<O: WriteOnce, E: WriteOnce, S: Starter>(
     match turns {
         Ok(over) => {
             let complaints = check.complaints();
-            let is_unstarted = check.is_unstarted();
+            let starts = check.starts();
             let lines = check.end(plan, &over)?;
-            if is_unstarted {
-                if let Over::NotStarted(unstarted) = &over {
-                    report_unstarted(unstarted, errors);
-                    return Ok(2);
-                }
+            if let Some(unstarted) = first_failure(&over, starts) {
+                report_unstarted(unstarted, errors);
+                return Ok(2);
             }
             write_text(output, lines.as_slice())?;
             Ok(status_of(complaints))
@@ -112,6 +111,17 @@ fn check<O: WriteOnce, E: WriteOnce, S: Starter>(
             check.end_at_once();
             Err(failure)
         }
+    }
+}
+
+/// Why the engine wasn't started at the first try, where a check is over for that after so many starts.
+fn first_failure(over: &Over, starts: u32) -> Option<&Unstarted>
+    ensures failed { IfSome result (λ start. IsFirstFailure over.now starts start.now) }
+    ensures none { IfNone result ((start : Unstarted) → IsFirstFailure over.now starts start → ⊥) }
+{
+    match over {
+        Over::NotStarted(unstarted) if starts == 0 => Some(unstarted),
+        _ => None,
     }
 }
 

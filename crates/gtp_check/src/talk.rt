@@ -1,6 +1,6 @@
 //! What an engine was asked since it was started.
 ghost use Rattle.std.specs.Prelude.{◌≡◌};
-ghost use Rattle.gtp_check.specs.Dialogues.{is_same_purpose};
+ghost use Rattle.gtp_check.specs.Dialogues.{is_same_lesson, is_same_purpose};
 
 use gtp_course::Lesson;
 use gtp_examiner::CheckCommand;
@@ -20,6 +20,13 @@ impl Purpose {
         ensures { result ≡ is_same_purpose self other }
     {
         self.lesson.number() == other.lesson.number() && self.part == other.part
+    }
+
+    /// Whether it is the same lesson, in whichever part.
+    pub fn is_same_lesson(self, other: Purpose) -> bool
+        ensures { result ≡ is_same_lesson self other }
+    {
+        self.lesson.number() == other.lesson.number()
     }
 }
 

@@ -83,6 +83,9 @@ holds lessons scene_size asked started course (Walks.goes {asked = a} {started =
     step lessons a s old course exam action (holds lessons scene_size a s old walks) goes
 holds lessons scene_size asked started course (Walks.leaves {old = old} walks leaves) =
     left lessons asked started old course (holds lessons scene_size asked started old walks) leaves
+holds lessons scene_size asked started course (Walks.finds {old = old} walks) =
+    let held = holds lessons scene_size asked started old walks in
+    record { same = held.same; few = held.few }
 
 few_half : (is : Bool) → half is ≤ 1
 few_half true = omega arith

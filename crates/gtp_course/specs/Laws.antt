@@ -5,7 +5,7 @@ use Rattle.gtp_course.specs.declared.actions.Action.{Action}
 use Rattle.gtp_course.specs.declared.actions.Action.TheVariants.{Start, Restart, Kill, Ask, Wait, Skip, Done}
 use Rattle.gtp_course.specs.declared.lessons.Lesson.{Lesson}
 use Rattle.gtp_course.specs.declared.lessons.Lesson.TheVariants.{Ko, Captures, Suicide, Joining}
-use Rattle.gtp_course.specs.Course.{Course, GoesTo, IsIn, Leaves, begun}
+use Rattle.gtp_course.specs.Course.{Course, GoesTo, IsIn, Leaves, begun, with_finding}
 use Rattle.gtp_course.specs.Lessons.{parts_of}
 use Rattle.gtp_course.specs.Scenes.{scenes_of, ways}
 
@@ -31,7 +31,8 @@ starts Skip = 0
 starts Done = 0
 
 -- The calls on a course of these lessons: how many of them asked a command, asked nothing or ended an engine, how many
--- starts there were, and the course after them. Whatever the engine has answered, each call of `next` goes on, and a part may be left at any time.
+-- starts there were, and the course after them. Whatever the engine has answered, each call of `next` goes on. A part may
+-- be left at any time, and something may be found in an earlier one.
 pub data Walks (lessons : List Lesson) (scene_size : Option ℕ) : ℕ → ℕ → Course → Type 0 where
   begins : Walks lessons scene_size 0 0 (begun lessons scene_size)
   goes : {asked started : ℕ} {old new : Course} (exam : Exam) (action : Action)
@@ -39,6 +40,8 @@ pub data Walks (lessons : List Lesson) (scene_size : Option ℕ) : ℕ → ℕ �
       → Walks lessons scene_size (counted action + asked) (starts action + started) new
   leaves : {asked started : ℕ} {old new : Course} → Walks lessons scene_size asked started old → Leaves old new
       → Walks lessons scene_size asked started new
+  finds : {asked started : ℕ} {old : Course} → Walks lessons scene_size asked started old
+      → Walks lessons scene_size asked started (with_finding old)
 
 -- No more commands are asked, steps passed over and engines ended, all together, than the lessons have steps at most, and
 -- five after each start.

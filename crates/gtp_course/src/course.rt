@@ -128,9 +128,16 @@ impl Course {
             ≡ part_over lesson (with_finding self.old)) }
     {
         if let Some(lesson) = self.lesson() {
-            self.findings = self.findings.saturating_add(1).min(MOST_FINDINGS);
+            self.note_finding();
             self.end_part(lesson);
         }
+    }
+
+    /// Something was found in an earlier part of the lesson. It counts as one that is found in this part.
+    pub fn note_finding(&mut self)
+        ensures { self.new ≡ with_finding self.old }
+    {
+        self.findings = self.findings.saturating_add(1).min(MOST_FINDINGS);
     }
 
     /// The lesson in which the course is, if it isn't over.

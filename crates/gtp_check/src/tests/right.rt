@@ -58,7 +58,7 @@ fn the_right_score_is_that_of_the_last_komi(rt: HostRuntime) -> Result<(), Fail>
     let expected = "# 1 komi: \"\": another score
 # it wrote: \"=\\n\\n\"
 # right: W+6.5; on an empty board the score is komi alone
-# the command after it was sent before its answer came
+# the command after it may have been sent before its answer came
 
 ";
     assert_equal(&rt, str::from_utf8(text.as_slice())?, expected);
@@ -66,7 +66,7 @@ fn the_right_score_is_that_of_the_last_komi(rt: HostRuntime) -> Result<(), Fail>
     let expected = "# 1 komi: \"\": another score
 # it wrote: \"=\\n\\n\"
 # right: B+3.5; on an empty board the score is komi alone
-# the command after it was sent before its answer came
+# the command after it may have been sent before its answer came
 
 ";
     assert_equal(&rt, str::from_utf8(text.as_slice())?, expected);
@@ -74,7 +74,7 @@ fn the_right_score_is_that_of_the_last_komi(rt: HostRuntime) -> Result<(), Fail>
     let expected = "# 1 komi: \"\": another score
 # it wrote: \"=\\n\\n\"
 # right: 0; on an empty board the score is komi alone
-# the command after it was sent before its answer came
+# the command after it may have been sent before its answer came
 
 ";
     assert_equal(&rt, str::from_utf8(text.as_slice())?, expected);

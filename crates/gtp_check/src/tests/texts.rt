@@ -52,7 +52,7 @@ fn a_complaint_can_be_pasted_into_an_engine(rt: HostRuntime) -> Result<(), Fail>
 2 undo
 # it wrote: \"=2\\n\\n\"
 # right: there is no move to take back
-# the command after it was sent before its answer came
+# the command after it may have been sent before its answer came
 
 ";
     assert_equal(&rt, str::from_utf8(text.as_slice())?, expected);
@@ -82,7 +82,7 @@ fn hints_are_lines_of_their_own(rt: HostRuntime) -> Result<(), Fail> {
 1 undo
 # it wrote: \"\"
 # right: an engine answers each command, and reads on until quit
-# the 2 commands after it were sent before its answer came
+# the 2 commands after it may have been sent before its answer came
 
 ";
     assert_equal(&rt, str::from_utf8(text.as_slice())?, expected);
@@ -92,7 +92,7 @@ fn hints_are_lines_of_their_own(rt: HostRuntime) -> Result<(), Fail> {
 1 undo
 # it wrote: \"=1\\n\"
 # right: a reply ends with two newlines
-# the 2 commands after it were sent before its answer came
+# the 2 commands after it may have been sent before its answer came
 
 ";
     assert_equal(&rt, str::from_utf8(text.as_slice())?, expected);

@@ -9,10 +9,10 @@ returns-in_err-lines-in-Ok g c =
     rw (failed.1, failed.2)
     (refused_at_end (rw c.new-check.ensures.first at c.in-Ok.ensures.over) c.clear.ensures c.end.ensures.closed)
 
-pub returns-in-NotStarted : goal.returns-in-NotStarted
-returns-in-NotStarted g c =
-    not_started (rw (c.new-check.ensures.first, c.in-NotStarted.is) at c.in-Ok.ensures.over)
-    c.clear.ensures (c.is_unstarted-is_unstarted.ensures c.if-is_unstarted.true) c.end.ensures.closed c.report_unstarted.ensures
+pub returns-in-Some : goal.returns-in-Some
+returns-in-Some g c =
+    not_started (rw c.new-check.ensures.first at c.in-Ok.ensures.over)
+    c.clear.ensures (rw c.starts-starts.ensures at c.in-Some.ensures.failed) c.end.ensures.closed c.report_unstarted.ensures
 
 pub returns-in_err-write_text-in-Ok : goal.returns-in_err-write_text-in-Ok
 returns-in_err-write_text-in-Ok g c =
@@ -29,5 +29,6 @@ returns-in-Err g c =
 pub returns-in_ok-write_text-in-Ok : goal.returns-in_ok-write_text-in-Ok
 returns-in_ok-write_text-in-Ok g c =
     rw (c.status_of.ensures, c.complaints-complaints.ensures)
-    (is_over (rw c.new-check.ensures.first at c.in-Ok.ensures.over) c.clear.ensures c.end.ensures.closed
+    (is_over (rw c.new-check.ensures.first at c.in-Ok.ensures.over) c.clear.ensures
+    (rw c.starts-starts.ensures at c.in_default.ensures.none) c.end.ensures.closed
     c.in_ok-lines-in-Ok.ensures.text (rw c.as_slice.ensures.value at c.in_ok-write_text-in-Ok.ensures.whole))
