@@ -75,6 +75,6 @@ module _ {P O E : Type 0} (known : Ghosts P) (outs : WriterGhosts O) (errs : Wri
 
   pub held_status : (plan : Plan) (status : ℕ) (has : Attempts P) (written : O) (reported : E)
       → IsHeld known outs errs plan progress asked out errors status has written reported → IsStatus status
-  held_status plan status has written reported (IsHeld.is_over {last = last} turns shown closed lines goes) =
+  held_status plan status has written reported (IsHeld.is_over {last = last} turns shown started closed lines goes) =
       found_status (nat_lt 0 last.tally.complaints)
   held_status plan status has written reported (IsHeld.not_started turns shown none closed wrote) = inr (inr (inl refl))

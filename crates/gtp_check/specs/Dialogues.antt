@@ -273,19 +273,19 @@ purpose_of (Some said) = said.purpose
 abbrev pub wrong_purpose : Wrong → Purpose
 wrong_purpose wrong = purpose_of (slice_get wrong.talk wrong.answered)
 
--- whether it is the same lesson, and the same part of it
-abbrev pub is_same_purpose : Purpose → Purpose → Bool
-is_same_purpose one other = (number_of one.lesson == number_of other.lesson) && (one.part == other.part)
-
 -- the same lesson, in whichever part
 abbrev pub is_same_lesson : Purpose → Purpose → Bool
 is_same_lesson one other = number_of one.lesson == number_of other.lesson
+
+-- whether it is the same lesson, and the same part of it
+abbrev pub is_same_purpose : Purpose → Purpose → Bool
+is_same_purpose one other = is_same_lesson one other && (one.part == other.part)
 
 -- the command that was answered wrongly
 abbrev pub wrong_command : Wrong → Option CheckCommand
 wrong_command wrong = option_map (λ said. said.command) (slice_get wrong.talk wrong.answered)
 
--- it ended with the same answer to the same command
+-- it ended with the same fault in the answer to the same command
 pub record EndsLike (one other : Wrong) : Type 0 where
   pub fault : one.fault ≡ other.fault
   pub command : wrong_command one ≡ wrong_command other

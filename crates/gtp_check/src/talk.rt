@@ -19,7 +19,7 @@ impl Purpose {
     pub fn is_same(self, other: Purpose) -> bool
         ensures { result ≡ is_same_purpose self other }
     {
-        self.lesson.number() == other.lesson.number() && self.part == other.part
+        self.is_same_lesson(other) && self.part == other.part
     }
 
     /// Whether it is the same lesson, in whichever part.
