@@ -154,8 +154,9 @@ fn positional_ko_explains_a_refusal(rt: HostRuntime) -> Result<(), Fail> {
     let refused = talk(rt.alloc(), commands.as_slice(), none)?;
     assert_equal(&rt, is_positional(refused.as_slice()), true);
     // The play before isn't one that it forbids.
-    let before = &refused.as_slice()[..8];
-    assert_equal(&rt, is_positional(before), false);
+    if let [before @ .., _] = refused.as_slice() {
+        assert_equal(&rt, is_positional(before), false);
+    }
     // A move of the engine's own isn't known.
     commands[7] = GENMOVE;
     let unknown = talk(rt.alloc(), commands.as_slice(), none)?;
