@@ -1,6 +1,7 @@
 //! Boards that are filled, however they are turned, on sizes 3, 5, 6 and 19.
 use crate::actions::Question;
 use crate::boards::{Board, board_of};
+use crate::draws::Draws;
 use crate::equal::{assert_equal, assert_true};
 use crate::lessons::Lesson;
 use crate::scenes::{WAYS, Way, crossing};
@@ -9,8 +10,6 @@ use go_base::{Colour, Size};
 use go_board::Game;
 use gtp_examiner::CheckCommand;
 use gtp_wire::Command;
-use rand_core::SeedableRng;
-use rand_pcg::Pcg64;
 use std::process::Abort;
 
 /// A part on a board of this size, which is turned in the way of this number.
@@ -27,9 +26,9 @@ fn board(rt: &impl Abort, lines: u32, number: u32) -> Board {
 
 /// The moves of a stretch, each of which is legal.
 fn play_all(rt: &impl Abort, stretch: Stretch, board: &Board, game: &mut Game) {
-    let mut draws = Pcg64::seed_from_u64(1);
+    let draws = Draws { seed: 1, number: 0 };
     for step in 0..stretch.steps() {
-        match stretch.question(step, board, game, &mut draws) {
+        match stretch.question(step, board, game, draws) {
             Question::Ask(CheckCommand::Match(Command::Play(made))) => {
                 assert_true(rt, game.play(made.colour, made.vertex).is_ok());
             }

@@ -1,6 +1,7 @@
 //! Each point of each size, the ko of a long wait, boards that are emptied, and komis.
 use crate::actions::Question;
 use crate::boards::{Board, board_of};
+use crate::draws::Draws;
 use crate::equal::{assert_equal, assert_true};
 use crate::lessons::Lesson;
 use crate::scenes::{WAYS, Way, crossing};
@@ -9,24 +10,22 @@ use go_base::{Move, Size, Vertex};
 use go_board::Game;
 use gtp_examiner::CheckCommand;
 use gtp_wire::Command;
-use rand_core::SeedableRng;
-use rand_pcg::Pcg64;
 use std::process::Abort;
 
 /// Takes the last move back.
 const UNDO: Question = Question::Ask(CheckCommand::Match(Command::Undo));
 
-/// A part of this lesson on a board of this size.
+/// A part of this lesson on a board of this size. No lesson has more than 300 parts.
 fn board(rt: &impl Abort, lesson: Lesson, part: u32, lines: u32) -> Board {
     match Size::new(lines) {
-        Some(size) => board_of(lesson, part, size),
+        Some(size) => board_of(lesson, part.min(299), size),
         None => panic!(rt; "no size"),
     }
 }
 
 /// What a step asks.
 fn asked(stretch: Stretch, step: u32, board: &Board, game: &Game) -> Question {
-    stretch.question(step, board, game, &mut Pcg64::seed_from_u64(1))
+    stretch.question(step, board, game, Draws { seed: 1, number: 0 })
 }
 
 /// The move that a question asks for.
@@ -37,23 +36,46 @@ fn played(rt: &impl Abort, question: Question) -> Move {
     }
 }
 
+/// The move that a question probes.
+fn probed(rt: &impl Abort, question: Question) -> Move {
+    match question {
+        Question::Probe(made) => made,
+        _ => panic!(rt; "no probe"),
+    }
+}
+
 /// A point of a board is moved on, probed by the other colour, and free again.
-fn check_point(rt: &impl Abort, number: u32, board: &Board, game: &Game) {
-    let size = board.size.get();
-    let point = crossing(number % size + 1, number / size + 1);
-    let made = played(rt, asked(Stretch::Points, 3 * number, board, game));
-    assert_equal(rt, made.vertex, point);
-    let other = Move {
-        colour: made.colour.other(),
-        vertex: point,
-    };
-    let probed = asked(Stretch::Points, 3 * number + 1, board, game);
-    assert_equal(rt, probed, Question::Probe(other));
-    assert_equal(
+fn check_point(rt: &impl Abort, number: u32, point: Vertex, board: &Board, game: &Game) {
+    let step = number.saturating_mul(3);
+    let made = played(rt, asked(Stretch::Points, step, board, game));
+    let other = probed(
         rt,
-        asked(Stretch::Points, 3 * number + 2, board, game),
-        UNDO,
+        asked(Stretch::Points, step.saturating_add(1), board, game),
     );
+    assert_true(rt, made.vertex == point);
+    assert_true(rt, other.vertex == point);
+    assert_true(rt, made.colour != other.colour);
+    assert_true(
+        rt,
+        asked(Stretch::Points, step.saturating_add(2), board, game) == UNDO,
+    );
+}
+
+/// Each point of a row.
+fn check_row(rt: &impl Abort, row: u32, lines: u32, board: &Board, game: &Game) {
+    for column in 0..lines {
+        let number = row.saturating_mul(lines).saturating_add(column);
+        let point = crossing(column.saturating_add(1), row.saturating_add(1));
+        check_point(rt, number, point, board, game);
+    }
+}
+
+/// Each point of a board.
+fn check_points(rt: &impl Abort, board: &Board, game: &Game) {
+    let lines = board.size.get();
+    for row in 0..lines {
+        check_row(rt, row, lines, board, game);
+    }
 }
 
 #[test]
@@ -62,13 +84,7 @@ fn each_point_of_each_size_is_looked_at(rt: HostRuntime) {
         let board = board(&rt, Lesson::Sizes, lines.saturating_sub(1), 5);
         assert_equal(&rt, board.size.get(), lines);
         let game = Game::new(board.size, board.komi);
-        for number in 0..lines * lines {
-            check_point(&rt, number, &board, &game);
-        }
-        for step in 3 * lines * lines..Stretch::Points.steps() {
-            let question = asked(Stretch::Points, step, &board, &game);
-            assert_equal(&rt, question, Question::Nothing);
-        }
+        check_points(&rt, &board, &game);
     }
 }
 
@@ -82,22 +98,23 @@ fn after_scene(rt: &impl Abort, board: &Board) -> Game {
     game
 }
 
+/// While a ko is open its point is probed, and one may retake after a pass.
+fn check_wait(rt: &impl Abort, board: &Board) {
+    let mut game = after_scene(rt, board);
+    let retake = probed(rt, asked(Stretch::Waits(600), 1, board, &game));
+    assert_true(rt, !game.legal(retake.colour, retake.vertex));
+    let pass = played(rt, asked(Stretch::Waits(600), 0, board, &game));
+    assert_equal(rt, pass.vertex, Vertex::Pass);
+    assert_true(rt, game.play(pass.colour, pass.vertex).is_ok());
+    assert_true(rt, game.legal(retake.colour, retake.vertex));
+}
+
 #[test]
 fn a_wait_is_for_a_ko(rt: HostRuntime) {
     for number in 0..WAYS {
-        let board = Board {
-            way: Way::of(number),
-            ..board(&rt, Lesson::Record, 2, 5)
-        };
-        let mut game = after_scene(&rt, &board);
-        let Question::Probe(retake) = asked(Stretch::Waits(600), 1, &board, &game) else {
-            panic!(rt; "no probe");
-        };
-        assert_true(&rt, !game.legal(retake.colour, retake.vertex));
-        let pass = played(&rt, asked(Stretch::Waits(600), 0, &board, &game));
-        assert_equal(&rt, pass.vertex, Vertex::Pass);
-        assert_true(&rt, game.play(pass.colour, pass.vertex).is_ok());
-        assert_true(&rt, game.legal(retake.colour, retake.vertex));
+        let mut board = board(&rt, Lesson::Record, 2, 5);
+        board.way = Way::of(number);
+        check_wait(&rt, &board);
     }
 }
 
