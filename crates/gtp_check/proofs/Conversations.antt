@@ -9,7 +9,8 @@ use Rattle.gtp_examiner.specs.declared.exam.Exam.{Exam}
 use Rattle.gtp_examiner.specs.Check.{Check, after_loss, started, with_exam}
 use Rattle.gtp_check.specs.declared.engine.Fault.{Fault}
 use Rattle.gtp_check.specs.declared.notes.Notes.{Notes}
-use Rattle.gtp_check.specs.Dialogues.{AsksFirst, Converses, Dialogue, EndsWrong, IsTrial, Wrong, asks, begins, begun_with, exchanges}
+use Rattle.gtp_check.specs.Dialogues.{AsksFirst, Converses, Dialogue, EndsWrong, IsTrial, Wrong, asks, begins}
+use Rattle.gtp_check.specs.Dialogues.{begun_with, exchanges}
 use Rattle.gtp_check.specs.Dialogues.{right, wrong, wrong_with}
 
 -- a conversation that goes on is one

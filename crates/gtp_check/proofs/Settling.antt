@@ -46,11 +46,13 @@ module _ {P : Type 0} (known : Ghosts P) (plan : Plan) (before mid : State P) (h
 
   pub is_hidden : {O E : Type 0} (outs : WriterGhosts O) (errs : WriterGhosts E) (progress : Bool) (answer : Bool)
       → answer ≡ is_shown mid.tally purpose.lesson fault → answer ≡ false → (out : O) (errors : E)
-      → ComplaintGoesOut known plan outs errs progress before had fault (record mid { tally = tally }) had out out errors
+      → ComplaintGoesOut known plan outs errs progress before had fault (record mid { tally = tally }) had
+      out out errors
       errors
   is_hidden outs errs progress answer is so out errors =
       subst
-      (λ (last : State P). ComplaintGoesOut known plan outs errs progress before had fault last had out out errors errors)
+      (λ (last : State P).
+      ComplaintGoesOut known plan outs errs progress before had fault last had out out errors errors)
       (sym found_now)
       (record {
         said = [];
@@ -68,8 +70,10 @@ module _ {P : Type 0} (known : Ghosts P) (plan : Plan) (before mid : State P) (h
       → Complains known plan before had (Some fault) after has (complaint_lines complaint ∷ [])
   complained answer is so {shorter = shorter} {after = after} {has = has} shortens complaint about =
       shown wrong complaint closes (sym (ap (λ (p : Purpose). is_shown mid.tally p.lesson fault) same) ∙ sym is ∙ so)
-      (subst (λ (start : State P). Shortens known plan wrong shortenings start had shorter after has) found_now shortens)
-      (subst (λ (p : Purpose). IsComplaint plan.rule after.tally.complaints p.lesson (unwrap_or shorter wrong) complaint) same about)
+      (subst (λ (start : State P). Shortens known plan wrong shortenings start had shorter after has)
+      found_now shortens)
+      (subst (λ (p : Purpose).
+      IsComplaint plan.rule after.tally.complaints p.lesson (unwrap_or shorter wrong) complaint) same about)
 
 module _ {P O E : Type 0} (known : Ghosts P) (plan : Plan) (outs : WriterGhosts O) (errs : WriterGhosts E)
     (progress : Bool) where
@@ -99,7 +103,8 @@ module _ {P O E : Type 0} (known : Ghosts P) (plan : Plan) (outs : WriterGhosts 
       (seen then sees : E) (why : Failure)
       → FirstGoesOut known plan outs errs progress mid true next out between seen then
       → ComplaintStops known plan outs errs progress next had fault after has between written then sees why
-      → StopsAfter known plan outs errs progress mid had (Some fault) (process_of after.engine) has out written seen sees
+      → StopsAfter known plan outs errs progress mid had (Some fault) (process_of after.engine) has
+      out written seen sees
       why
   complaint_stops mid next after had has fault out between written seen then sees why first
       (complaint_broke {text = text} complains breaks wrote gone) =

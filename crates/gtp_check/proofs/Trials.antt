@@ -36,13 +36,15 @@ heard_talk {P} bytes old before (Some fault) new after heard = ap {A = Dialogue 
 
 read_talk : {P : Type 0} (known : Ghosts P) (old : Exam) (before : Dialogue P) → {fault : Option Fault} {new : Exam}
     {after : Dialogue P} → IsRead known old before fault new after → after.talk ≡ before.talk
-read_talk known old before (IsRead.gives {fault = fault} {new = new} {after = after} bytes process some gave whole kept heard) =
+read_talk known old before
+    (IsRead.gives {fault = fault} {new = new} {after = after} bytes process some gave whole kept heard) =
     heard_talk bytes old (record before { process = process }) fault new after heard
 read_talk known old before (IsRead.ends process ended gave took) = refl
 read_talk known old before (IsRead.breaks process cut gave took) = refl
 
 -- in an exchange none is asked
-pub exchanged_talk : {P : Type 0} (known : Ghosts P) (old : Exam) (before : Dialogue P) → {fault : Option Fault} {new : Exam}
+pub exchanged_talk : {P : Type 0} (known : Ghosts P) (old : Exam) (before : Dialogue P)
+    → {fault : Option Fault} {new : Exam}
     {after : Dialogue P} → IsExchanged known old before fault new after → after.talk ≡ before.talk
 exchanged_talk known old before (IsExchanged.owes_nothing process none sent) = refl
 exchanged_talk known old before (IsExchanged.held {fault = fault} {new = new} {after = after} owes some heard) =

@@ -1,6 +1,7 @@
 -- What is said with an engine since it was started: what it is asked, what it writes, and what is found. (Own.)
 use Rattle.std.specs.Prelude.{◌≡◌, ℕ, ◌+◌, ◌<◌, Bool, true, false, List, [], ◌∷◌, ◌++◌, length, take, drop}
-use Rattle.std.specs.Prelude.{◌-◌, ◌==◌, ◌&&◌, slice_get, Option, None, Some, is_some, option_map, if◌then◌else◌, Result, Ok, Err}
+use Rattle.std.specs.Prelude.{◌-◌, ◌==◌, ◌&&◌, slice_get, Option, None, Some, is_some, option_map, if◌then◌else◌}
+use Rattle.std.specs.Prelude.{Result, Ok, Err}
 use Rattle.std.specs.Io.KnownBytes.{Appends, Keeps}
 use Rattle.byte_streams.specs.Parts.{TakesPart}
 use Rattle.gtp_wire.specs.Replies.{most_shown}
@@ -38,8 +39,8 @@ use Rattle.gtp_check.specs.Shortening.{commands_of}
 -- ---- an engine that was started
 
 -- An engine that was started: its process, the bytes of all lines that it was asked, the commands, those bytes that
--- aren't sent yet, what it wrote that wasn't heard yet, and the beginning of what it wrote since its last whole reply. And
--- what is noted of it so far.
+-- aren't sent yet, what it wrote that wasn't heard yet, and the beginning of what it wrote since its last whole reply.
+-- And what is noted of it so far.
 pub record Dialogue (P : Type 0) : Type 0 where
   pub process : P
   pub sent : List ℕ
@@ -74,8 +75,8 @@ begun_with process notes = record {
 
 -- ---- a command
 
--- A command is asked, for this purpose: it may be asked, and its line is joined to what the engine was asked and to what
--- is sent next. It is counted.
+-- A command is asked, for this purpose: it may be asked, and its line is joined to what the engine was asked and to
+-- what is sent next. It is counted.
 pub record IsAsked {P : Type 0} (purpose : Purpose) (old : Exam) (before : Dialogue P) (command : CheckCommand)
     (new : Exam) (after : Dialogue P) : Type 0 where
   pub may : HasRoomFor old command
@@ -206,7 +207,8 @@ pub data IsExchanged {P : Type 0} (known : Ghosts P) (old : Exam) (before : Dial
 
 -- A conversation with an engine, from this point on: commands were asked, whose lines are sent with the next exchange,
 -- and nothing was found.
-pub data Converses {P : Type 0} (known : Ghosts P) (first : Exam) (start : Dialogue P) : Exam → Dialogue P → Type 0 where
+pub data Converses {P : Type 0} (known : Ghosts P) (first : Exam) (start : Dialogue P)
+    : Exam → Dialogue P → Type 0 where
   begins : Converses known first start first start
   asks : {old new : Exam} {before after : Dialogue P} (purpose : Purpose) (command : CheckCommand)
       → Converses known first start old before → IsAsked purpose old before command new after
@@ -302,8 +304,8 @@ pub data AsksForMore {P : Type 0} (line : List Text) (before : Attempts P) : Att
 abbrev pub AsksFirst : List CheckCommand → List Said → Type 0
 AsksFirst commands talk = commands_of talk ≡ take (length talk) commands
 
--- A conversation was tried on an engine that was asked for by this command line. It wasn't started. Or it was, and asked
--- the first of these commands, and then nothing was wrong, or this was; and its process ended.
+-- A conversation was tried on an engine that was asked for by this command line. It wasn't started. Or it was, and
+-- asked the first of these commands, and then nothing was wrong, or this was; and its process ended.
 pub data IsTrial {P : Type 0} (known : Ghosts P) (line : List Text) (commands : List CheckCommand) (old : Check)
     (had : Attempts P) (first : Notes) : Option Wrong → Check → Attempts P → Notes → Type 0 where
   unstarted : {has : Attempts P} (reason : StartReason) → Tries had has line (Err (start_fault.NotStarted reason))

@@ -19,8 +19,8 @@ pub const ANSWER_ROOM: usize = 45;
 /// An answer.
 type Answer = ArrayVec<u8, ANSWER_ROOM>;
 
-/// What a right engine answers to a command, where another score was wrong, or other points of a handicap. Before it were
-/// these commands.
+/// What a right engine answers to a command, where another score was wrong, or other points of a handicap. Before it
+/// were these commands.
 pub fn right_answer(fault: Fault, command: Option<CheckCommand>, before: &[Said]) -> Answer
     ensures { result.items ≡ right_answer fault command before.now }
 {

@@ -5,7 +5,7 @@ ghost use Rattle.gtp_check.specs.Notes.{nothing_noted};
 ghost use Rattle.gtp_check.specs.Progress.{IsShown, cleared, in_place, is_read_next, line_at, line_start, looking_line};
 ghost use Rattle.gtp_check.specs.Progress.{most_columns, place_among, waiting_text};
 ghost use Rattle.gtp_check.specs.Texts.{joined};
-ghost use Rattle.gtp_check.specs.Turns.{state, waiting};
+ghost use Rattle.gtp_check.specs.Turns.{state_of, waiting};
 
 use crate::check::Check;
 use crate::complaint::without_newline;
@@ -66,8 +66,7 @@ pub fn in_place(text: &[u8]) -> Line
 impl<S: Starter> Check<S> {
     /// Before the engine is read: what is waited for.
     pub fn show_waiting<E: WriteOnce>(&self, progress: bool, plan: &Plan<'_>, errors: &mut E)
-        ensures { IsShown E.WriteOnce progress (waiting plan.now
-            (state self.now.examiner self.now.course self.now.engine self.now.tally self.now.notes))
+        ensures { IsShown E.WriteOnce progress (waiting plan.now (state_of self.now))
             errors.old errors.new }
     {
         let Some(engine) = &self.engine else {
@@ -144,7 +143,8 @@ pub fn waiting_text(
     commands: u32,
     starts: u32,
 ) -> Text
-    ensures { result.items ≡ take most_columns (waiting_text lessons.now.items line.now lesson commands starts) }
+    ensures { result.items ≡ take most_columns
+        (waiting_text lessons.now.items line.now lesson commands starts) }
 {
     cut(
         b"waits for \"",

@@ -71,8 +71,8 @@ const UNDO_IS_KNOWN: CheckCommand = CheckCommand::KnownCommand(Known::Undo);
 
 const SCORE_IS_KNOWN: CheckCommand = CheckCommand::KnownCommand(Known::FinalScore);
 
-#[test]
-fn the_last_games_are_flat_or_whole(rt: HostRuntime) -> Result<(), Fail> {
+/// Two games. In the first a stone is put on another one, and two moves are taken back.
+fn two_games(alloc: Global) -> Result<Vec<Said>, AllocError> {
     let commands = [
         UNDO_IS_KNOWN,
         SCORE_IS_KNOWN,
@@ -92,11 +92,22 @@ fn the_last_games_are_flat_or_whole(rt: HostRuntime) -> Result<(), Fail> {
         UNDO,
         SCORE,
     ];
-    let talk = talk(rt.alloc(), commands.as_slice(), 8)?;
+    talk(alloc, commands.as_slice(), 8)
+}
+
+#[test]
+fn the_last_game_is_flat(rt: HostRuntime) -> Result<(), Fail> {
+    let talk = two_games(rt.alloc())?;
     assert_equal(&rt, games_in(talk.as_slice()), 2);
     let flat = shortened(rt.alloc(), talk.as_slice(), last_games(1, 0, false))?;
     let wanted = [SCORE_IS_KNOWN, size(5), komi(3), CLEAR, SCORE];
     assert_equal(&rt, is(&flat, wanted.as_slice()), true);
+    Ok(())
+}
+
+#[test]
+fn the_last_game_is_whole(rt: HostRuntime) -> Result<(), Fail> {
+    let talk = two_games(rt.alloc())?;
     let whole = shortened(rt.alloc(), talk.as_slice(), last_games(1, 0, true))?;
     let wanted = [
         UNDO_IS_KNOWN,
@@ -109,6 +120,12 @@ fn the_last_games_are_flat_or_whole(rt: HostRuntime) -> Result<(), Fail> {
         SCORE,
     ];
     assert_equal(&rt, is(&whole, wanted.as_slice()), true);
+    Ok(())
+}
+
+#[test]
+fn the_last_two_games_are_flat(rt: HostRuntime) -> Result<(), Fail> {
+    let talk = two_games(rt.alloc())?;
     let both = shortened(rt.alloc(), talk.as_slice(), last_games(2, 0, false))?;
     let wanted = [
         SCORE_IS_KNOWN,

@@ -15,8 +15,10 @@ loop-exchange-init g c = record {
 
 pub returns-then-unanswered-eq0-clause-ends : goal.returns-then-unanswered-eq0-clause-ends
 returns-then-unanswered-eq0-clause-ends g c =
-    one_after g.P.Process c.args.examiner.now.exam c.loop-exchange.examiner.exam (dialogue c.args.engine.now c.args.notes.now)
-    (dialogue c.loop-exchange.engine c.loop-exchange.notes) c.loop-exchange.invariant.converses c.in_ok-asked.ensures.asks
+    one_after g.P.Process c.args.examiner.now.exam c.loop-exchange.examiner.exam
+    (dialogue c.args.engine.now c.args.notes.now)
+    (dialogue c.loop-exchange.engine c.loop-exchange.notes) c.loop-exchange.invariant.converses
+    c.in_ok-asked.ensures.asks
 
 pub returns-then-unanswered-eq0-clause-first : goal.returns-then-unanswered-eq0-clause-first
 returns-then-unanswered-eq0-clause-first g c = λ none.
@@ -29,8 +31,10 @@ pub returns-in-Some-clause-ends : goal.returns-in-Some-clause-ends
 returns-in-Some-clause-ends g c = record {
   old = c.ask_some.new.examiner.exam;
   before = dialogue c.ask_some.new.engine c.ask_some.new.notes;
-  converses = one_after g.P.Process c.args.examiner.now.exam c.loop-exchange.examiner.exam (dialogue c.args.engine.now c.args.notes.now)
-      (dialogue c.loop-exchange.engine c.loop-exchange.notes) c.loop-exchange.invariant.converses c.in_ok-asked.ensures.asks;
+  converses = one_after g.P.Process c.args.examiner.now.exam c.loop-exchange.examiner.exam
+      (dialogue c.args.engine.now c.args.notes.now)
+      (dialogue c.loop-exchange.engine c.loop-exchange.notes) c.loop-exchange.invariant.converses
+      c.in_ok-asked.ensures.asks;
   exchanged = c.in-Some.ensures.exchanged;
 }
 
@@ -49,7 +53,8 @@ loop-exchange-preserved g c =
     let before = c.loop-exchange.invariant in
     record {
       converses = exchanges
-          (one_after g.P.Process c.args.examiner.now.exam c.loop-exchange.examiner.exam (dialogue c.args.engine.now c.args.notes.now)
+          (one_after g.P.Process c.args.examiner.now.exam c.loop-exchange.examiner.exam
+          (dialogue c.args.engine.now c.args.notes.now)
           (dialogue c.loop-exchange.engine c.loop-exchange.notes) before.converses c.in_ok-asked.ensures.asks)
           c.in_default.ensures.exchanged;
       check = with_another c.args.examiner.now c.ask_some.new.examiner c.exchange.new.examiner
