@@ -121,12 +121,13 @@ module _ {P O E : Type 0} (known : Ghosts P) (plan : Plan) (outs : WriterGhosts 
 
 -- ---- after a complaint the engine is down
 
-trial_down : {P : Type 0} (known : Ghosts P) (line : List Text) (commands : List CheckCommand) (old : Check)
-    (had : Attempts P) (first : Notes) → {result : Option Wrong} {new : Check} {has : Attempts P} {notes : Notes}
-    → IsTrial known line commands old had first result new has notes → old.exam.up ≡ false → new.exam.up ≡ false
-trial_down known line commands old had first (unstarted reason tries) down = down
-trial_down known line commands old had first (right process ending tries converses asks left) down = refl
-trial_down known line commands old had first (wrong process ending fault tries ends asks left) down = refl
+trial_down : {P : Type 0} (known : Ghosts P) (line : List Text) (purpose : Purpose) (commands : List CheckCommand)
+    (old : Check) (had : Attempts P) (first : Notes)
+    → {result : Option Wrong} {new : Check} {has : Attempts P} {notes : Notes}
+    → IsTrial known line purpose commands old had first result new has notes → old.exam.up ≡ false → new.exam.up ≡ false
+trial_down known line purpose commands old had first (unstarted reason tries) down = down
+trial_down known line purpose commands old had first (right process ending tries converses asks left) down = refl
+trial_down known line purpose commands old had first (wrong process ending fault tries ends asks left) down = refl
 
 tries_down : {P : Type 0} (known : Ghosts P) (plan : Plan) (found : Wrong) (how : Shortening) (before : State P)
     (had : Attempts P) → {result : Option Wrong} {after : State P} {has : Attempts P}
@@ -134,14 +135,14 @@ tries_down : {P : Type 0} (known : Ghosts P) (plan : Plan) (found : Wrong) (how 
     → before.check.exam.up ≡ false → after.check.exam.up ≡ false
 tries_down known plan found how before had (TriesShorter.left_out not) down = down
 tries_down known plan found how before had (TriesShorter.right may tried) down =
-    trial_down known (program_line plan.words.items) (shortened how (wrong_talk found)) before.check had before.notes
-    tried.trial down
+    trial_down known (program_line plan.words.items) (wrong_purpose found) (shortened how (wrong_talk found))
+    before.check had before.notes tried.trial down
 tries_down known plan found how before had (TriesShorter.other may tried differs) down =
-    trial_down known (program_line plan.words.items) (shortened how (wrong_talk found)) before.check had before.notes
-    tried.trial down
+    trial_down known (program_line plan.words.items) (wrong_purpose found) (shortened how (wrong_talk found))
+    before.check had before.notes tried.trial down
 tries_down known plan found how before had (TriesShorter.alike may tried same) down =
-    trial_down known (program_line plan.words.items) (shortened how (wrong_talk found)) before.check had before.notes
-    tried.trial down
+    trial_down known (program_line plan.words.items) (wrong_purpose found) (shortened how (wrong_talk found))
+    before.check had before.notes tried.trial down
 
 shortens_down : {P : Type 0} (known : Ghosts P) (plan : Plan) (found : Wrong) (all : List Shortening)
     → {before : State P} {had : Attempts P} {result : Option Wrong} {after : State P} {has : Attempts P}

@@ -11,7 +11,9 @@ use Rattle.gtp_examiner.specs.declared.asking.CheckCommand.{CheckCommand}
 use Rattle.gtp_check.specs.declared.flat.Shortening.{Shortening}
 use Rattle.gtp_check.specs.declared.notes.Notes.{Notes}
 use Rattle.gtp_check.specs.declared.plan.Plan.{Plan}
-use Rattle.gtp_check.specs.Dialogues.{AsksForMore, IsTrial, Wrong, none, one_more, right, unstarted, wrong, wrong_talk}
+use Rattle.gtp_check.specs.Dialogues.{AsksForMore, IsTrial, Wrong, none, one_more, right, unstarted, wrong}
+use Rattle.gtp_check.specs.Dialogues.{wrong_purpose, wrong_talk}
+use Rattle.gtp_check.specs.declared.talk.Purpose.{Purpose}
 use Rattle.gtp_check.specs.declared.talk.Said.{Said}
 use Rattle.gtp_check.specs.Shortening.{games_in, shortened}
 use Rattle.gtp_check.specs.Turns.{MayTry, Shortens, State, TriesShorter, few_commands, missed, none_left, shortened_so}
@@ -24,14 +26,15 @@ then_more line had between one (one_more answer more tries) =
     one_more answer (then_more line had between one more) tries
 
 -- a trial asks for one
-trial_asks : {P : Type 0} (known : Ghosts P) (line : List Text) (commands : List CheckCommand) (old : Check)
-    (had : Attempts P) (first : Notes) → {result : Option Wrong} {new : Check} {has : Attempts P} {notes : Notes}
-    → IsTrial known line commands old had first result new has notes → AsksForMore line had has
-trial_asks known line commands old had first (unstarted reason tries) =
+trial_asks : {P : Type 0} (known : Ghosts P) (line : List Text) (purpose : Purpose) (commands : List CheckCommand)
+    (old : Check) (had : Attempts P) (first : Notes)
+    → {result : Option Wrong} {new : Check} {has : Attempts P} {notes : Notes}
+    → IsTrial known line purpose commands old had first result new has notes → AsksForMore line had has
+trial_asks known line purpose commands old had first (unstarted reason tries) =
     one_more (Err (start_fault.NotStarted reason)) none tries
-trial_asks known line commands old had first (right process ending tries converses asks left) =
+trial_asks known line purpose commands old had first (right process ending tries converses asks left) =
     one_more (Ok process) none tries
-trial_asks known line commands old had first (wrong process ending fault tries ends asks left) =
+trial_asks known line purpose commands old had first (wrong process ending fault tries ends asks left) =
     one_more (Ok process) none tries
 
 pub tries_asks : {P : Type 0} (known : Ghosts P) (plan : Plan) (found : Wrong) (how : Shortening) (before : State P)
@@ -40,14 +43,14 @@ pub tries_asks : {P : Type 0} (known : Ghosts P) (plan : Plan) (found : Wrong) (
     → AsksForMore (program_line plan.words.items) had has
 tries_asks known plan found how before had (TriesShorter.left_out not) = none
 tries_asks known plan found how before had (TriesShorter.right may tried) =
-    trial_asks known (program_line plan.words.items) (shortened how (wrong_talk found)) before.check had before.notes
-    tried.trial
+    trial_asks known (program_line plan.words.items) (wrong_purpose found) (shortened how (wrong_talk found))
+    before.check had before.notes tried.trial
 tries_asks known plan found how before had (TriesShorter.other may tried differs) =
-    trial_asks known (program_line plan.words.items) (shortened how (wrong_talk found)) before.check had before.notes
-    tried.trial
+    trial_asks known (program_line plan.words.items) (wrong_purpose found) (shortened how (wrong_talk found))
+    before.check had before.notes tried.trial
 tries_asks known plan found how before had (TriesShorter.alike may tried same) =
-    trial_asks known (program_line plan.words.items) (shortened how (wrong_talk found)) before.check had before.notes
-    tried.trial
+    trial_asks known (program_line plan.words.items) (wrong_purpose found) (shortened how (wrong_talk found))
+    before.check had before.notes tried.trial
 
 -- and so do several
 pub shortens_asks : {P : Type 0} (known : Ghosts P) (plan : Plan) (found : Wrong) (all : List Shortening)

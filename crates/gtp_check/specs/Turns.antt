@@ -243,11 +243,12 @@ module _ {P : Type 0} (known : Ghosts P) (plan : Plan) where
     pub few : before.check.starts < before.check.most_starts
     pub left : 0 < before.tally.starts_left
 
-  -- It was tried on another engine, which takes one of the starts that are left.
-  pub record IsTried (commands : List CheckCommand) (before : State P) (had : Attempts P) (result : Option Wrong)
+  -- It was tried on another engine, for what the command was asked that was answered wrongly. That takes one of the
+  -- starts that are left.
+  pub record IsTried (found : Wrong) (how : Shortening) (before : State P) (had : Attempts P) (result : Option Wrong)
       (after : State P) (has : Attempts P) : Type 0 where
-    pub trial : IsTrial known (program_line plan.words.items) commands before.check had before.notes result
-        after.check has after.notes
+    pub trial : IsTrial known (program_line plan.words.items) (wrong_purpose found) (shortened how (wrong_talk found))
+        before.check had before.notes result after.check has after.notes
     pub leads : after ≡ record before {
       check = after.check;
       tally = without_start before.tally;
@@ -259,14 +260,14 @@ module _ {P : Type 0} (known : Ghosts P) (plan : Plan) where
       : Option Wrong → State P → Attempts P → Type 0 where
     left_out : (MayTry found how before → ⊥) → TriesShorter found how before had None before had
     right : {after : State P} {has : Attempts P} → MayTry found how before
-        → IsTried (shortened how (wrong_talk found)) before had None after has
+        → IsTried found how before had None after has
         → TriesShorter found how before had None after has
     other : {tried : Wrong} {after : State P} {has : Attempts P} → MayTry found how before
-        → IsTried (shortened how (wrong_talk found)) before had (Some tried) after has
+        → IsTried found how before had (Some tried) after has
         → (EndsLike tried found → ⊥)
         → TriesShorter found how before had None after has
     alike : {tried : Wrong} {after : State P} {has : Attempts P} → MayTry found how before
-        → IsTried (shortened how (wrong_talk found)) before had (Some tried) after has
+        → IsTried found how before had (Some tried) after has
         → EndsLike tried found
         → TriesShorter found how before had (Some tried) after has
 

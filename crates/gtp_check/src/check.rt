@@ -201,6 +201,9 @@ impl<S: Starter> Check<S> {
         ensures alone { result ≡ true → IsSome self.now.engine → singly ≡ true
             → length self.now.examiner.exam.unanswered ≡ 0 }
         ensures full { result ≡ false → IsSome self.now.engine }
+        ensures why { result ≡ false → IfSome self.now.engine (λ engine.
+            (LINES_ROOM < array_vec_len engine.waiting + 64)
+            ⊎ ((singly ≡ true) × (0 < length self.now.examiner.exam.unanswered))) }
     {
         match &self.engine {
             Some(engine) => engine.has_room() && !(singly && self.examiner.unanswered() > 0),
@@ -211,6 +214,7 @@ impl<S: Starter> Check<S> {
     /// Whether an answer of an engine that is up is waited for.
     fn is_owed(&self) -> bool
         ensures owed { result ≡ true → self.now.examiner.exam.up ≡ true }
+        ensures some { result ≡ true → 0 < length self.now.examiner.exam.unanswered }
         ensures not_owed { result ≡ false → (self.now.examiner.exam.up ≡ false)
             ⊎ (length self.now.examiner.exam.unanswered ≡ 0) }
     {

@@ -1,5 +1,5 @@
 //! What is written of a check's progress on a terminal, in place of the line before.
-ghost use Rattle.std.specs.Prelude.{◌≡◌, ◌++◌, [], ◌∷◌, slice_get, take};
+ghost use Rattle.std.specs.Prelude.{◌≡◌, ◌++◌, [], ◌∷◌, take};
 ghost use Rattle.gtp_check.specs.Dialogues.{dialogue};
 ghost use Rattle.gtp_check.specs.Notes.{nothing_noted};
 ghost use Rattle.gtp_check.specs.Progress.{IsShown, cleared, in_place, is_read_next, line_at, line_start, looking_line};
@@ -12,7 +12,7 @@ use crate::complaint::without_newline;
 use crate::engine::Engine;
 use crate::plan::Plan;
 use crate::summary::plural;
-use crate::talk::Said;
+use crate::talk::{Said, said_at};
 use arrayvec::ArrayVec;
 use byte_streams::{WriteOnce, write_or_break};
 use go_base::{push, write_int};
@@ -101,16 +101,6 @@ fn is_read_next<P: Process>(engine: &Engine<P>, examiner: &Examiner) -> bool
     ensures { result ≡ is_read_next (dialogue engine.now nothing_noted) examiner.now.exam }
 {
     examiner.unanswered() > 0 && engine.held.is_empty()
-}
-
-/// The command with this number, counted from 0, if there is one.
-fn said_at(talk: &[Said], number: usize) -> Option<Said>
-    ensures { result ≡ slice_get talk.now number }
-{
-    match talk.get(number) {
-        Some(said) => Some(*said),
-        None => None,
-    }
 }
 
 /// The line of the command with this number, counted from 0, in all that was sent, without its newline.

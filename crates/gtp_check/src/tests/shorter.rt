@@ -21,12 +21,17 @@ fn by(colour: Colour, vertex: &str) -> CheckCommand {
     CheckCommand::Match(Command::Play(Move { colour, vertex }))
 }
 
+/// A size; 5 where the number is none.
+pub fn size_of(number: u32) -> Size {
+    match (Size::new(number), Size::new(5)) {
+        (Some(size), _) | (None, Some(size)) => size,
+        _ => unreachable!(),
+    }
+}
+
 /// The size is set.
 pub fn size(number: u32) -> CheckCommand {
-    match Size::new(number) {
-        Some(size) => CheckCommand::Match(Command::Boardsize(size)),
-        None => CheckCommand::Name,
-    }
+    CheckCommand::Match(Command::Boardsize(size_of(number)))
 }
 
 /// Komi is set.
@@ -37,7 +42,8 @@ pub fn komi(half_points: i32) -> CheckCommand {
     }
 }
 
-/// A conversation of these commands, of which that with this number is a `play` that a right engine refuses.
+/// A conversation of these commands on a board of 5x5, of which that with this number is a `play` that a right engine
+/// refuses.
 fn talk(alloc: Global, commands: &[CheckCommand], refused: usize) -> Result<Vec<Said>, AllocError> {
     let mut talk = Vec::new(alloc);
     for (number, command) in commands.iter().enumerate() {
@@ -48,6 +54,7 @@ fn talk(alloc: Global, commands: &[CheckCommand], refused: usize) -> Result<Vec<
                 part: 0,
             },
             is_illegal: number == refused,
+            size: size_of(5),
             end: 0,
         }])?;
     }
@@ -174,6 +181,11 @@ fn positional_ko_explains_a_refusal(rt: HostRuntime) -> Result<(), Fail> {
     if let [before @ .., _] = refused.as_slice() {
         assert_equal(&rt, is_positional(before), false);
     }
+    // The board isn't of the size that they set: the engine refused it.
+    commands[0] = size(6);
+    let other_size = talk(rt.alloc(), commands.as_slice(), none)?;
+    assert_equal(&rt, is_positional(other_size.as_slice()), false);
+    commands[0] = size(5);
     // A move of the engine's own isn't known.
     commands[7] = GENMOVE;
     let unknown = talk(rt.alloc(), commands.as_slice(), none)?;

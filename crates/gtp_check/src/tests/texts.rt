@@ -7,6 +7,7 @@ use crate::options::read_options;
 use crate::plan::plan_of;
 use crate::summary::{Ending, Over, first_line, last_lines};
 use crate::talk::{Purpose, Said};
+use crate::tests::shorter::size_of;
 use go_board::PlayFault;
 use gtp_course::{LESSONS, Lesson};
 use gtp_examiner::{Cause, CheckCommand, Kind};
@@ -24,6 +25,7 @@ fn said(command: Command, end: usize) -> Said {
             part: 0,
         },
         is_illegal: false,
+        size: size_of(9),
         end,
     }
 }

@@ -60,6 +60,7 @@ returns-in_default-clause-tries g c =
         c.as_slice-2.ensures.value,
         c.in_ok-commands.ensures,
         c.conversation-talk.ensures,
+        c.purpose.ensures,
         c.in_default.is,
       )
           at c.in_ok-tried.ensures.tried;
@@ -83,6 +84,7 @@ returns-then-ends_like-clause-tries g c =
         c.as_slice-2.ensures.value,
         c.in_ok-commands.ensures,
         c.conversation-talk.ensures,
+        c.purpose.ensures,
         c.in-Some.is,
       )
           at c.in_ok-tried.ensures.tried;
@@ -107,6 +109,7 @@ returns-clause-tries g c =
         c.as_slice-2.ensures.value,
         c.in_ok-commands.ensures,
         c.conversation-talk.ensures,
+        c.purpose.ensures,
         c.in-Some.is,
       )
           at c.in_ok-tried.ensures.tried;
