@@ -4,7 +4,6 @@ ghost use Rattle.std.specs.Prelude.{length, OnOk};
 ghost use Rattle.arrayvec.specs.ArrayVec.{array_vec_len};
 ghost use Rattle.gtp_process.specs.Endings.{IsEnded};
 ghost use Rattle.gtp_process.specs.Quitting.{QuitsIfAny};
-ghost use Rattle.gtp_examiner.specs.Check.{after_loss};
 ghost use Rattle.gtp_examiner.specs.Exam.{HasRoomFor};
 ghost use Rattle.gtp_check.specs.Checks.{AreLastLines, IsClosed, IsEnding};
 ghost use Rattle.gtp_check.specs.Turns.{AsksEngine, HasStopped, IsHeardOut, StopsIn};
