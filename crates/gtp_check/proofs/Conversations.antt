@@ -9,7 +9,9 @@ use Rattle.gtp_examiner.specs.declared.exam.Exam.{Exam}
 use Rattle.gtp_examiner.specs.Check.{Check, after_loss, started, with_exam}
 use Rattle.gtp_check.specs.declared.engine.Fault.{Fault}
 use Rattle.gtp_check.specs.declared.notes.Notes.{Notes}
-use Rattle.gtp_check.specs.Dialogues.{AsksFirst, Converses, Dialogue, EndsWrong, IsTrial, Wrong, asks, begins, begun_with, exchanges}
+use Rattle.gtp_check.specs.declared.talk.Purpose.{Purpose}
+use Rattle.gtp_check.specs.Dialogues.{AsksFirst, Converses, Dialogue, EndsWrong, IsTrial, Wrong, asks, begins}
+use Rattle.gtp_check.specs.Dialogues.{begun_with, exchanges}
 use Rattle.gtp_check.specs.Dialogues.{right, wrong, wrong_with}
 
 -- a conversation that goes on is one
@@ -27,23 +29,24 @@ pub with_another : (old mid new : Check) → mid ≡ with_exam old mid.exam → 
     → new ≡ with_exam old new.exam
 with_another old mid new one other = other ∙ ap (λ (check : Check). with_exam check new.exam) one
 
-module _ {P : Type 0} (known : Ghosts P) (line : List Text) (commands : List CheckCommand) (old mid new : Check)
-    (had has : Attempts P) (first : Notes) (process : P) (start engine : Dialogue P) (ending : Ending) where
+module _ {P : Type 0} (known : Ghosts P) (line : List Text) (purpose : Purpose) (commands : List CheckCommand)
+    (old mid new : Check) (had has : Attempts P) (first : Notes) (process : P) (start engine : Dialogue P)
+    (ending : Ending) where
   -- a trial in which something was wrong
   pub trial_wrong : (fault : Fault) (found : Wrong) → mid ≡ started old → start ≡ begun_with process first
       → new ≡ with_exam mid new.exam → Tries had has line (Ok process)
-      → EndsWrong known mid.exam start fault new.exam engine → AsksFirst commands engine.talk
+      → EndsWrong known mid.exam start fault new.exam engine → AsksFirst purpose commands engine.talk
       → known.leaves engine.process ending
       → found ≡ wrong_with fault new.exam engine ending
-      → IsTrial known line commands old had first (Some found) (after_loss new) has engine.notes
+      → IsTrial known line purpose commands old had first (Some found) (after_loss new) has engine.notes
   trial_wrong fault found mid-is start-is new-is tried ends asked left is =
       rw (is, new-is, mid-is) (wrong process ending fault tried (rw (mid-is, start-is) at ends) asked left)
 
   -- a trial in which nothing was wrong
   pub trial_right : mid ≡ started old → start ≡ begun_with process first
       → new ≡ with_exam mid new.exam → Tries had has line (Ok process)
-      → Converses known mid.exam start new.exam engine → AsksFirst commands engine.talk
+      → Converses known mid.exam start new.exam engine → AsksFirst purpose commands engine.talk
       → known.leaves engine.process ending
-      → IsTrial known line commands old had first None (after_loss new) has engine.notes
+      → IsTrial known line purpose commands old had first None (after_loss new) has engine.notes
   trial_right mid-is start-is new-is tried converses asked left =
       rw (new-is, mid-is) (right process ending tried (rw (mid-is, start-is) at converses) asked left)

@@ -46,11 +46,13 @@ module _ {P : Type 0} (known : Ghosts P) (plan : Plan) (before mid : State P) (h
 
   pub is_hidden : {O E : Type 0} (outs : WriterGhosts O) (errs : WriterGhosts E) (progress : Bool) (answer : Bool)
       → answer ≡ is_shown mid.tally purpose.lesson fault → answer ≡ false → (out : O) (errors : E)
-      → ComplaintGoesOut known plan outs errs progress before had fault (record mid { tally = tally }) had out out errors
+      → ComplaintGoesOut known plan outs errs progress before had fault (record mid { tally = tally }) had
+      out out errors
       errors
   is_hidden outs errs progress answer is so out errors =
       subst
-      (λ (last : State P). ComplaintGoesOut known plan outs errs progress before had fault last had out out errors errors)
+      (λ (last : State P).
+      ComplaintGoesOut known plan outs errs progress before had fault last had out out errors errors)
       (sym found_now)
       (record {
         said = [];
@@ -68,8 +70,10 @@ module _ {P : Type 0} (known : Ghosts P) (plan : Plan) (before mid : State P) (h
       → Complains known plan before had (Some fault) after has (complaint_lines complaint ∷ [])
   complained answer is so {shorter = shorter} {after = after} {has = has} shortens complaint about =
       shown wrong complaint closes (sym (ap (λ (p : Purpose). is_shown mid.tally p.lesson fault) same) ∙ sym is ∙ so)
-      (subst (λ (start : State P). Shortens known plan wrong shortenings start had shorter after has) found_now shortens)
-      (subst (λ (p : Purpose). IsComplaint plan.rule after.tally.complaints p.lesson (unwrap_or shorter wrong) complaint) same about)
+      (subst (λ (start : State P). Shortens known plan wrong shortenings start had shorter after has)
+      found_now shortens)
+      (subst (λ (p : Purpose).
+      IsComplaint plan.rule after.tally.complaints p.lesson (unwrap_or shorter wrong) complaint) same about)
 
 module _ {P O E : Type 0} (known : Ghosts P) (plan : Plan) (outs : WriterGhosts O) (errs : WriterGhosts E)
     (progress : Bool) where
@@ -99,7 +103,8 @@ module _ {P O E : Type 0} (known : Ghosts P) (plan : Plan) (outs : WriterGhosts 
       (seen then sees : E) (why : Failure)
       → FirstGoesOut known plan outs errs progress mid true next out between seen then
       → ComplaintStops known plan outs errs progress next had fault after has between written then sees why
-      → StopsAfter known plan outs errs progress mid had (Some fault) (process_of after.engine) has out written seen sees
+      → StopsAfter known plan outs errs progress mid had (Some fault) (process_of after.engine) has
+      out written seen sees
       why
   complaint_stops mid next after had has fault out between written seen then sees why first
       (complaint_broke {text = text} complains breaks wrote gone) =
@@ -116,12 +121,13 @@ module _ {P O E : Type 0} (known : Ghosts P) (plan : Plan) (outs : WriterGhosts 
 
 -- ---- after a complaint the engine is down
 
-trial_down : {P : Type 0} (known : Ghosts P) (line : List Text) (commands : List CheckCommand) (old : Check)
-    (had : Attempts P) (first : Notes) → {result : Option Wrong} {new : Check} {has : Attempts P} {notes : Notes}
-    → IsTrial known line commands old had first result new has notes → old.exam.up ≡ false → new.exam.up ≡ false
-trial_down known line commands old had first (unstarted reason tries) down = down
-trial_down known line commands old had first (right process ending tries converses asks left) down = refl
-trial_down known line commands old had first (wrong process ending fault tries ends asks left) down = refl
+trial_down : {P : Type 0} (known : Ghosts P) (line : List Text) (purpose : Purpose) (commands : List CheckCommand)
+    (old : Check) (had : Attempts P) (first : Notes)
+    → {result : Option Wrong} {new : Check} {has : Attempts P} {notes : Notes}
+    → IsTrial known line purpose commands old had first result new has notes → old.exam.up ≡ false → new.exam.up ≡ false
+trial_down known line purpose commands old had first (unstarted reason tries) down = down
+trial_down known line purpose commands old had first (right process ending tries converses asks left) down = refl
+trial_down known line purpose commands old had first (wrong process ending fault tries ends asks left) down = refl
 
 tries_down : {P : Type 0} (known : Ghosts P) (plan : Plan) (found : Wrong) (how : Shortening) (before : State P)
     (had : Attempts P) → {result : Option Wrong} {after : State P} {has : Attempts P}
@@ -129,14 +135,14 @@ tries_down : {P : Type 0} (known : Ghosts P) (plan : Plan) (found : Wrong) (how 
     → before.check.exam.up ≡ false → after.check.exam.up ≡ false
 tries_down known plan found how before had (TriesShorter.left_out not) down = down
 tries_down known plan found how before had (TriesShorter.right may tried) down =
-    trial_down known (program_line plan.words.items) (shortened how (wrong_talk found)) before.check had before.notes
-    tried.trial down
+    trial_down known (program_line plan.words.items) (wrong_purpose found) (shortened how (wrong_talk found))
+    before.check had before.notes tried.trial down
 tries_down known plan found how before had (TriesShorter.other may tried differs) down =
-    trial_down known (program_line plan.words.items) (shortened how (wrong_talk found)) before.check had before.notes
-    tried.trial down
+    trial_down known (program_line plan.words.items) (wrong_purpose found) (shortened how (wrong_talk found))
+    before.check had before.notes tried.trial down
 tries_down known plan found how before had (TriesShorter.alike may tried same) down =
-    trial_down known (program_line plan.words.items) (shortened how (wrong_talk found)) before.check had before.notes
-    tried.trial down
+    trial_down known (program_line plan.words.items) (wrong_purpose found) (shortened how (wrong_talk found))
+    before.check had before.notes tried.trial down
 
 shortens_down : {P : Type 0} (known : Ghosts P) (plan : Plan) (found : Wrong) (all : List Shortening)
     → {before : State P} {had : Attempts P} {result : Option Wrong} {after : State P} {has : Attempts P}

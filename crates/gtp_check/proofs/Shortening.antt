@@ -11,7 +11,9 @@ use Rattle.gtp_examiner.specs.declared.asking.CheckCommand.{CheckCommand}
 use Rattle.gtp_check.specs.declared.flat.Shortening.{Shortening}
 use Rattle.gtp_check.specs.declared.notes.Notes.{Notes}
 use Rattle.gtp_check.specs.declared.plan.Plan.{Plan}
-use Rattle.gtp_check.specs.Dialogues.{AsksForMore, IsTrial, Wrong, none, one_more, right, unstarted, wrong, wrong_talk}
+use Rattle.gtp_check.specs.Dialogues.{AsksForMore, IsTrial, Wrong, none, one_more, right, unstarted, wrong}
+use Rattle.gtp_check.specs.Dialogues.{wrong_purpose, wrong_talk}
+use Rattle.gtp_check.specs.declared.talk.Purpose.{Purpose}
 use Rattle.gtp_check.specs.declared.talk.Said.{Said}
 use Rattle.gtp_check.specs.Shortening.{games_in, shortened}
 use Rattle.gtp_check.specs.Turns.{MayTry, Shortens, State, TriesShorter, few_commands, missed, none_left, shortened_so}
@@ -20,32 +22,35 @@ use Rattle.gtp_check.specs.Turns.{MayTry, Shortens, State, TriesShorter, few_com
 pub then_more : {P : Type 0} (line : List Text) (had between : Attempts P) → AsksForMore line had between
     → {has : Attempts P} → AsksForMore line between has → AsksForMore line had has
 then_more line had between one none = one
-then_more line had between one (one_more answer more tries) = one_more answer (then_more line had between one more) tries
+then_more line had between one (one_more answer more tries) =
+    one_more answer (then_more line had between one more) tries
 
 -- a trial asks for one
-trial_asks : {P : Type 0} (known : Ghosts P) (line : List Text) (commands : List CheckCommand) (old : Check)
-    (had : Attempts P) (first : Notes) → {result : Option Wrong} {new : Check} {has : Attempts P} {notes : Notes}
-    → IsTrial known line commands old had first result new has notes → AsksForMore line had has
-trial_asks known line commands old had first (unstarted reason tries) =
+trial_asks : {P : Type 0} (known : Ghosts P) (line : List Text) (purpose : Purpose) (commands : List CheckCommand)
+    (old : Check) (had : Attempts P) (first : Notes)
+    → {result : Option Wrong} {new : Check} {has : Attempts P} {notes : Notes}
+    → IsTrial known line purpose commands old had first result new has notes → AsksForMore line had has
+trial_asks known line purpose commands old had first (unstarted reason tries) =
     one_more (Err (start_fault.NotStarted reason)) none tries
-trial_asks known line commands old had first (right process ending tries converses asks left) =
+trial_asks known line purpose commands old had first (right process ending tries converses asks left) =
     one_more (Ok process) none tries
-trial_asks known line commands old had first (wrong process ending fault tries ends asks left) =
+trial_asks known line purpose commands old had first (wrong process ending fault tries ends asks left) =
     one_more (Ok process) none tries
 
 pub tries_asks : {P : Type 0} (known : Ghosts P) (plan : Plan) (found : Wrong) (how : Shortening) (before : State P)
     (had : Attempts P) → {result : Option Wrong} {after : State P} {has : Attempts P}
-    → TriesShorter known plan found how before had result after has → AsksForMore (program_line plan.words.items) had has
+    → TriesShorter known plan found how before had result after has
+    → AsksForMore (program_line plan.words.items) had has
 tries_asks known plan found how before had (TriesShorter.left_out not) = none
 tries_asks known plan found how before had (TriesShorter.right may tried) =
-    trial_asks known (program_line plan.words.items) (shortened how (wrong_talk found)) before.check had before.notes
-    tried.trial
+    trial_asks known (program_line plan.words.items) (wrong_purpose found) (shortened how (wrong_talk found))
+    before.check had before.notes tried.trial
 tries_asks known plan found how before had (TriesShorter.other may tried differs) =
-    trial_asks known (program_line plan.words.items) (shortened how (wrong_talk found)) before.check had before.notes
-    tried.trial
+    trial_asks known (program_line plan.words.items) (wrong_purpose found) (shortened how (wrong_talk found))
+    before.check had before.notes tried.trial
 tries_asks known plan found how before had (TriesShorter.alike may tried same) =
-    trial_asks known (program_line plan.words.items) (shortened how (wrong_talk found)) before.check had before.notes
-    tried.trial
+    trial_asks known (program_line plan.words.items) (wrong_purpose found) (shortened how (wrong_talk found))
+    before.check had before.notes tried.trial
 
 -- and so do several
 pub shortens_asks : {P : Type 0} (known : Ghosts P) (plan : Plan) (found : Wrong) (all : List Shortening)
@@ -69,17 +74,20 @@ pub data Missed {P : Type 0} (known : Ghosts P) (plan : Plan) (found : Wrong) (f
 
 -- and then the others
 pub missed_then : {P : Type 0} (known : Ghosts P) (plan : Plan) (found : Wrong) (first : State P) (asked : Attempts P)
-    → {all : List Shortening} {mid : State P} {between : Attempts P} → Missed known plan found first asked all mid between
+    → {all : List Shortening} {mid : State P} {between : Attempts P}
+    → Missed known plan found first asked all mid between
     → (later : List Shortening) {result : Option Wrong} {after : State P} {has : Attempts P}
     → Shortens known plan found later mid between result after has
     → Shortens known plan found (all ++ later) first asked result after has
 missed_then known plan found first asked Missed.nothing later rest = rest
 missed_then known plan found first asked (Missed.more {all = all} {how = how} one tries) later rest =
-    rw (append_assoc all (how ∷ []) later) (missed_then known plan found first asked one (how ∷ later) (missed tries rest))
+    rw (append_assoc all (how ∷ []) later)
+    (missed_then known plan found first asked one (how ∷ later) (missed tries rest))
 
 -- programs were asked for in them
 pub missed_asks : {P : Type 0} (known : Ghosts P) (plan : Plan) (found : Wrong) (first : State P) (asked : Attempts P)
-    → {all : List Shortening} {mid : State P} {between : Attempts P} → Missed known plan found first asked all mid between
+    → {all : List Shortening} {mid : State P} {between : Attempts P}
+    → Missed known plan found first asked all mid between
     → AsksForMore (program_line plan.words.items) asked between
 missed_asks known plan found first asked Missed.nothing = none
 missed_asks known plan found first asked (Missed.more {how = how} {mid = mid} {between = between} one tries) =
@@ -108,7 +116,8 @@ pub found_here : {P : Type 0} (known : Ghosts P) (plan : Plan) (found : Wrong) (
     → {tried : Wrong} {after : State P} {has : Attempts P}
     → TriesShorter known plan found (get_or all index other) mid between (Some tried) after has
     → Shortens known plan found all first asked (Some tried) after has
-found_here {P} known plan found first asked all index other mid between within none_before {tried = tried} {after = after}
+found_here {P} known plan found first asked all index other mid between within none_before {tried = tried}
+    {after = after}
     {has = has} tries =
     let parts : take index all ++ get_or all index other ∷ drop (index + 1) all ≡ all =
     sym (at_drop_more (λ (rest : List Shortening). take index all ++ rest) all index other within)
@@ -121,7 +130,8 @@ found_here {P} known plan found first asked all index other mid between within n
 pub one_missed : {P : Type 0} (known : Ghosts P) (plan : Plan) (found : Wrong) (first : State P) (asked : Attempts P)
     (all : List Shortening) (index : ℕ) (other : Shortening) (mid : State P) (between : Attempts P) → index < length all
     → Missed known plan found first asked (take index all) mid between
-    → {after : State P} {has : Attempts P} → TriesShorter known plan found (get_or all index other) mid between None after has
+    → {after : State P} {has : Attempts P}
+    → TriesShorter known plan found (get_or all index other) mid between None after has
     → Missed known plan found first asked (take (index + 1) all) after has
 one_missed {P} known plan found first asked all index other mid between within none_before {after = after} {has = has}
     tries =

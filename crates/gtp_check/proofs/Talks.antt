@@ -67,7 +67,8 @@ pub record GoesOn (rule : KoRule) (sent came : List ℕ) (exam : Exam) : Type 0 
   pub up : exam.up ≡ true
 
 -- it does where bytes are heard in which nothing is found
-heard_on : (rule : KoRule) (sent came bytes : List ℕ) (used : ℕ) (read : Option (Result Reply ReplyFault)) (old new : Exam)
+heard_on : (rule : KoRule) (sent came bytes : List ℕ) (used : ℕ) (read : Option (Result Reply ReplyFault))
+    (old new : Exam)
     → GoesOn rule sent came old → IsHeard old bytes used read None new
     → GoesOn rule sent (came ++ take used bytes) new
 heard_on rule sent came bytes used read old new goes heard =
@@ -144,7 +145,8 @@ module _ {P : Type 0} (known : Ghosts P) (rule : KoRule) (process : P) (first : 
         (talk.came ++ before.held) talk.gave (sent_gave before.waiting before.process next sent);
   }
 
-  converses_talk : {exam : Exam} {now : Dialogue P} → Converses known (begun rule true) (begun_with process first) exam now
+  converses_talk : {exam : Exam} {now : Dialogue P}
+      → Converses known (begun rule true) (begun_with process first) exam now
       → IsTalk known rule process exam now
   converses_talk Converses.begins = record {
     came = [];
@@ -235,5 +237,6 @@ module _ {P : Type 0} (known : Ghosts P) (rule : KoRule) (process : P) (first : 
       → EndsWrong known (begun rule true) (begun_with process first) (Wrote kind) new after
       → IsWronglyWritten known rule process kind after
   found_in justify kind new after ends =
-      exchanged_found justify ends.old ends.before kind new after (converses_talk ends.converses) (Some (Wrote kind)) refl
+      exchanged_found justify ends.old ends.before kind new after (converses_talk ends.converses)
+      (Some (Wrote kind)) refl
       ends.exchanged

@@ -1,9 +1,10 @@
 -- Which commands an engine was asked in a trial.
 use Rattle.std.proofs.Common.{◌≡◌, ◌∙◌, ap, sym, ℕ, ◌+◌, ◌<◌, List, [], ◌∷◌, ◌++◌, length, take, drop, get_or, refl}
-use Rattle.std.proofs.Common.{append_assoc}
+use Rattle.std.proofs.Common.{append_assoc, subst}
 use Rattle.std.specs.Prelude.{Option, Some, None}
 use Rattle.std.proofs.lemmas.List.{length-map, map-append, take_more}
 use Rattle.std.proofs.lemmas.List.{take-append-drop}
+use Rattle.std.proofs.lemmas.List.Elements.{All-append, All-cons, All-nil}
 use Rattle.std.proofs.Math.Seq.{take-append_seam}
 use Rattle.gtp_process.specs.declared.starter.Process.{Ghosts}
 use Rattle.gtp_examiner.specs.declared.asking.CheckCommand.{CheckCommand}
@@ -13,7 +14,7 @@ use Rattle.gtp_check.specs.declared.engine.Fault.{Fault}
 use Rattle.gtp_check.specs.declared.notes.Notes.{Notes}
 use Rattle.gtp_check.specs.declared.talk.Purpose.{Purpose}
 use Rattle.gtp_check.specs.declared.talk.Said.{Said}
-use Rattle.gtp_check.specs.Dialogues.{AreHeard, AsksFirst, Dialogue, IsAsked, IsExchanged, IsRead, begun_with, dialogue}
+use Rattle.gtp_check.specs.Dialogues.{AreFor, AreHeard, Dialogue, IsAsked, IsExchanged, IsRead, begun_with, dialogue}
 use Rattle.gtp_check.specs.Shortening.{commands_of}
 
 -- an engine that was just started was asked nothing
@@ -29,6 +30,16 @@ asked_more {P} purpose old before command new after asked =
     ap {A = Dialogue P} (λ one. commands_of one.talk) asked.joins
     ∙ map-append (λ (said : Said). said.command) before.talk _
 
+-- for the purpose of those before
+pub asked_for : {P : Type 0} (purpose : Purpose) (old : Exam) (before : Dialogue P) (command : CheckCommand)
+    (new : Exam) (after : Dialogue P) → IsAsked purpose old before command new after
+    → AreFor purpose before.talk → AreFor purpose after.talk
+asked_for {P} purpose old before command new after asked all =
+    let joined = ap {A = Dialogue P} (λ one. one.talk) asked.joins in
+    subst (AreFor purpose) (sym joined)
+    (All-append (λ (said : Said). said.purpose ≡ purpose) before.talk _ all
+    (All-cons (λ (said : Said). said.purpose ≡ purpose) _ [] refl (All-nil (λ (said : Said). said.purpose ≡ purpose))))
+
 heard_talk : {P : Type 0} (bytes : List ℕ) (old : Exam) (before : Dialogue P) (fault : Option Fault) (new : Exam)
     (after : Dialogue P) → AreHeard bytes old before fault new after → after.talk ≡ before.talk
 heard_talk {P} bytes old before None new after heard = ap {A = Dialogue P} (λ one. one.talk) heard.1
@@ -36,13 +47,15 @@ heard_talk {P} bytes old before (Some fault) new after heard = ap {A = Dialogue 
 
 read_talk : {P : Type 0} (known : Ghosts P) (old : Exam) (before : Dialogue P) → {fault : Option Fault} {new : Exam}
     {after : Dialogue P} → IsRead known old before fault new after → after.talk ≡ before.talk
-read_talk known old before (IsRead.gives {fault = fault} {new = new} {after = after} bytes process some gave whole kept heard) =
+read_talk known old before
+    (IsRead.gives {fault = fault} {new = new} {after = after} bytes process some gave whole kept heard) =
     heard_talk bytes old (record before { process = process }) fault new after heard
 read_talk known old before (IsRead.ends process ended gave took) = refl
 read_talk known old before (IsRead.breaks process cut gave took) = refl
 
 -- in an exchange none is asked
-pub exchanged_talk : {P : Type 0} (known : Ghosts P) (old : Exam) (before : Dialogue P) → {fault : Option Fault} {new : Exam}
+pub exchanged_talk : {P : Type 0} (known : Ghosts P) (old : Exam) (before : Dialogue P)
+    → {fault : Option Fault} {new : Exam}
     {after : Dialogue P} → IsExchanged known old before fault new after → after.talk ≡ before.talk
 exchanged_talk known old before (IsExchanged.owes_nothing process none sent) = refl
 exchanged_talk known old before (IsExchanged.held {fault = fault} {new = new} {after = after} owes some heard) =
@@ -52,7 +65,7 @@ exchanged_talk known old before (IsExchanged.reads process owes none sent read) 
 
 -- what was asked is a front of the commands
 pub asks_first : (commands rest : List CheckCommand) (talk : List Said) → commands_of talk ++ rest ≡ commands
-    → AsksFirst commands talk
+    → commands_of talk ≡ take (length talk) commands
 asks_first commands rest talk is =
     sym (take-append_seam (commands_of talk) rest)
     ∙ ap (λ (n : ℕ). take n (commands_of talk ++ rest)) (length-map talk (λ (said : Said). said.command))

@@ -21,7 +21,8 @@ module _ {P O E : Type 0} (known : Ghosts P) (plan : Plan) (outs : WriterGhosts 
     (progress : Bool) (before : State P) (had : Attempts P) (out : O) (errors : E) where
   -- an engine was started, or the check is over
   pub begun_turn : (mid after : State P) (has : Attempts P) (why : Option Over) → Goes plan.singly before Start mid
-      → Begins known plan mid had why after has → EndsTurn known plan outs errs progress before had out errors why after has out errors
+      → Begins known plan mid had why after has
+      → EndsTurn known plan outs errs progress before had out errors why after has out errors
   begun_turn mid after has why goes begins_so =
       began goes after has why
       (subst (λ (now : State P). Begins known plan now had why after has) goes.leads begins_so)
@@ -63,7 +64,8 @@ module _ {P O E : Type 0} (known : Ghosts P) (plan : Plan) (outs : WriterGhosts 
       → after ≡ record mid { check = after_loss mid.check; engine = None }
       → EndsTurn known plan outs errs progress before had out errors None after had out errors
   ended_turn mid after goes quits is =
-      rw (is, goes.leads) ([], [], restarts goes.asks goes.next (rw goes.leads at quits), no_line, none_shown errs progress errors)
+      rw (is, goes.leads)
+      ([], [], restarts goes.asks goes.next (rw goes.leads at quits), no_line, none_shown errs progress errors)
 
   -- the engine was ended without `quit`
   pub killed_turn : (mid after : State P) → Goes plan.singly before Kill mid
@@ -71,7 +73,8 @@ module _ {P O E : Type 0} (known : Ghosts P) (plan : Plan) (outs : WriterGhosts 
       → after ≡ record mid { check = after_loss mid.check; engine = None }
       → EndsTurn known plan outs errs progress before had out errors None after had out errors
   killed_turn mid after goes ended is =
-      rw (is, goes.leads) ([], [], kills goes.asks goes.next (rw goes.leads at ended), no_line, none_shown errs progress errors)
+      rw (is, goes.leads)
+      ([], [], kills goes.asks goes.next (rw goes.leads at ended), no_line, none_shown errs progress errors)
 
   -- each lesson was asked
   pub over_turn : (mid : State P) → Goes plan.singly before Done mid

@@ -81,8 +81,7 @@ rule_of complaint false =
 -- what a right engine answers, where that is shown
 abbrev pub answer_of : Complaint → List ℕ
 answer_of complaint =
-    right_answer complaint.fault
-    (option_map (λ said. said.command) (slice_get complaint.talk.now complaint.answered))
+    right_answer complaint.fault (slice_get complaint.talk.now complaint.answered)
     (take complaint.answered complaint.talk.now)
 
 abbrev pub rule_line : Complaint → List ℕ

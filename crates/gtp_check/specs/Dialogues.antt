@@ -1,9 +1,12 @@
 -- What is said with an engine since it was started: what it is asked, what it writes, and what is found. (Own.)
 use Rattle.std.specs.Prelude.{◌≡◌, ℕ, ◌+◌, ◌<◌, Bool, true, false, List, [], ◌∷◌, ◌++◌, length, take, drop}
-use Rattle.std.specs.Prelude.{◌-◌, ◌==◌, ◌&&◌, slice_get, Option, None, Some, is_some, option_map, if◌then◌else◌, Result, Ok, Err}
+use Rattle.std.specs.Prelude.{◌-◌, ◌==◌, ◌&&◌, slice_get, Option, None, Some, is_some, option_map, if◌then◌else◌}
+use Rattle.std.specs.Prelude.{Result, Ok, Err, IsTrue, ◌↔◌, All}
 use Rattle.std.specs.Io.KnownBytes.{Appends, Keeps}
 use Rattle.byte_streams.specs.Parts.{TakesPart}
+use Rattle.go_board.specs.Game.{GameRecord, IsLegal}
 use Rattle.gtp_wire.specs.Replies.{most_shown}
+use Rattle.gtp_wire.specs.declared.commands.Command.TheVariants.{Play}
 use Rattle.gtp_wire.specs.declared.replies.Reply.{Reply}
 use Rattle.gtp_wire.specs.declared.replies.ReplyFault.{ReplyFault}
 use Rattle.gtp_process.specs.declared.causes.PipeCause.TheVariants.{Ended, Reading}
@@ -15,6 +18,7 @@ use Rattle.gtp_process.specs.declared.starter.StartReason.{StartReason}
 use Rattle.gtp_process.specs.Starts.{Attempts, Text, Tries}
 use Rattle.gtp_process.specs.Pipes.{IsCutOff, IsUnbroken, OutputEnded}
 use Rattle.gtp_examiner.specs.declared.asking.CheckCommand.{CheckCommand}
+use Rattle.gtp_examiner.specs.declared.asking.CheckCommand.TheVariants.{Match}
 use Rattle.gtp_examiner.specs.declared.exam.Exam.{Exam}
 use Rattle.gtp_examiner.specs.declared.exam.Finding.{Finding}
 use Rattle.gtp_examiner.specs.declared.skills.Skills.{Skills}
@@ -38,8 +42,8 @@ use Rattle.gtp_check.specs.Shortening.{commands_of}
 -- ---- an engine that was started
 
 -- An engine that was started: its process, the bytes of all lines that it was asked, the commands, those bytes that
--- aren't sent yet, what it wrote that wasn't heard yet, and the beginning of what it wrote since its last whole reply. And
--- what is noted of it so far.
+-- aren't sent yet, what it wrote that wasn't heard yet, and the beginning of what it wrote since its last whole reply.
+-- And what is noted of it so far.
 pub record Dialogue (P : Type 0) : Type 0 where
   pub process : P
   pub sent : List ℕ
@@ -74,19 +78,26 @@ begun_with process notes = record {
 
 -- ---- a command
 
--- A command is asked, for this purpose: it may be asked, and its line is joined to what the engine was asked and to what
--- is sent next. It is counted.
+-- a `play` that isn't legal in this game: a right engine refuses it
+abbrev pub IsIllegal : GameRecord → CheckCommand → Type 0
+IsIllegal game (Match (Play move)) = ¬ IsLegal game move.colour move.vertex
+IsIllegal game _ = ⊥
+
+-- A command is asked, for this purpose: it may be asked, and its line is joined to what the engine was asked and to
+-- what is sent next. It is counted.
 pub record IsAsked {P : Type 0} (purpose : Purpose) (old : Exam) (before : Dialogue P) (command : CheckCommand)
     (new : Exam) (after : Dialogue P) : Type 0 where
   pub may : HasRoomFor old command
   pub asks : Asks old command new
   pub is_illegal : Bool
+  pub illegal : IsTrue is_illegal ↔ IsIllegal old.game command
   pub joins : after ≡ record before {
     sent = before.sent ++ written_check new.sent command;
     talk = before.talk ++ record {
       command = command;
       purpose = purpose;
       is_illegal = is_illegal;
+      size = old.game.size;
       end = length (before.sent ++ written_check new.sent command);
     } ∷ [];
     waiting = before.waiting ++ written_check new.sent command;
@@ -206,7 +217,8 @@ pub data IsExchanged {P : Type 0} (known : Ghosts P) (old : Exam) (before : Dial
 
 -- A conversation with an engine, from this point on: commands were asked, whose lines are sent with the next exchange,
 -- and nothing was found.
-pub data Converses {P : Type 0} (known : Ghosts P) (first : Exam) (start : Dialogue P) : Exam → Dialogue P → Type 0 where
+pub data Converses {P : Type 0} (known : Ghosts P) (first : Exam) (start : Dialogue P)
+    : Exam → Dialogue P → Type 0 where
   begins : Converses known first start first start
   asks : {old new : Exam} {before after : Dialogue P} (purpose : Purpose) (command : CheckCommand)
       → Converses known first start old before → IsAsked purpose old before command new after
@@ -298,24 +310,30 @@ pub data AsksForMore {P : Type 0} (line : List Text) (before : Attempts P) : Att
   one_more : {mid after : Attempts P} (answer : Result P StartFault) → AsksForMore line before mid
       → Tries mid after line answer → AsksForMore line before after
 
--- an engine was asked the first of these commands, in their order
-abbrev pub AsksFirst : List CheckCommand → List Said → Type 0
-AsksFirst commands talk = commands_of talk ≡ take (length talk) commands
+-- all was asked for this purpose
+abbrev pub AreFor : Purpose → List Said → Type 0
+AreFor purpose talk = All (λ said. said.purpose ≡ purpose) talk
 
--- A conversation was tried on an engine that was asked for by this command line. It wasn't started. Or it was, and asked
--- the first of these commands, and then nothing was wrong, or this was; and its process ended.
-pub data IsTrial {P : Type 0} (known : Ghosts P) (line : List Text) (commands : List CheckCommand) (old : Check)
-    (had : Attempts P) (first : Notes) : Option Wrong → Check → Attempts P → Notes → Type 0 where
+-- an engine was asked the first of these commands, in their order, each for this purpose
+pub record AsksFirst (purpose : Purpose) (commands : List CheckCommand) (talk : List Said) : Type 0 where
+  pub order : commands_of talk ≡ take (length talk) commands
+  pub purposes : AreFor purpose talk
+
+-- A conversation was tried, for this purpose, on an engine that was asked for by this command line. It wasn't started.
+-- Or it was, and asked the first of these commands, and then nothing was wrong, or this was; and its process ended.
+pub data IsTrial {P : Type 0} (known : Ghosts P) (line : List Text) (purpose : Purpose) (commands : List CheckCommand)
+    (old : Check) (had : Attempts P) (first : Notes) : Option Wrong → Check → Attempts P → Notes → Type 0 where
   unstarted : {has : Attempts P} (reason : StartReason) → Tries had has line (Err (start_fault.NotStarted reason))
-      → IsTrial known line commands old had first None old has first
+      → IsTrial known line purpose commands old had first None old has first
   right : {has : Attempts P} {exam : Exam} {engine : Dialogue P} (process : P) (ending : Ending)
       → Tries had has line (Ok process)
       → Converses known (started old).exam (begun_with process first) exam engine
-      → AsksFirst commands engine.talk → known.leaves engine.process ending
-      → IsTrial known line commands old had first None (after_loss (with_exam (started old) exam)) has engine.notes
+      → AsksFirst purpose commands engine.talk → known.leaves engine.process ending
+      → IsTrial known line purpose commands old had first None (after_loss (with_exam (started old) exam)) has
+      engine.notes
   wrong : {has : Attempts P} {exam : Exam} {engine : Dialogue P} (process : P) (ending : Ending) (fault : Fault)
       → Tries had has line (Ok process)
       → EndsWrong known (started old).exam (begun_with process first) fault exam engine
-      → AsksFirst commands engine.talk → known.leaves engine.process ending
-      → IsTrial known line commands old had first (Some (wrong_with fault exam engine ending))
+      → AsksFirst purpose commands engine.talk → known.leaves engine.process ending
+      → IsTrial known line purpose commands old had first (Some (wrong_with fault exam engine ending))
       (after_loss (with_exam (started old) exam)) has engine.notes

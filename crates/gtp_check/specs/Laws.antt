@@ -17,8 +17,8 @@ use Rattle.gtp_check.specs.declared.notes.Notes.{Notes}
 use Rattle.gtp_check.specs.Dialogues.{Dialogue, EndsWrong, begun_with}
 
 -- What was found in what an engine wrote. What it was asked and what was heard are a talk in which all answers were
--- right; then what was heard is a wrong answer, of this kind, and the finding is justified. What was heard is a front of
--- what the process gave since its start.
+-- right; then what was heard is a wrong answer, of this kind, and the finding is justified. What was heard is a front
+-- of what the process gave since its start.
 pub record IsWronglyWritten {P : Type 0} (known : Ghosts P) (rule : KoRule) (process : P) (kind : Kind)
     (after : Dialogue P) : Type 0 where
   pub came : List ℕ
@@ -42,8 +42,8 @@ ComplaintsAreJustified {P} known = (rule : KoRule) (process : P) (first : Notes)
     → IsWronglyWritten known rule process kind after
 
 -- A right engine under this ko rule, whatever it chose among what its policy may, was given just the bytes that were
--- asked. What the process gave since its start is known, and is a front of what the right engine wrote. Then nothing was
--- found in it.
+-- asked. What the process gave since its start is known, and is a front of what the right engine wrote. Then nothing
+-- was found in it.
 abbrev pub NoRightEngineIsComplainedOf : {P Q : Type 0} → Ghosts P → May Q → Type 0
 NoRightEngineIsComplainedOf {P} {Q} known may = (rule : KoRule) (policy : Q) (engine : Engine Q) (out later : List ℕ)
     (process : P) (first : Notes) (kind : Kind) (new : Exam) (after : Dialogue P) (before gave : List ℕ)

@@ -114,8 +114,8 @@ abbrev pub with_refusal : Notes → Option ℕ → Notes
 with_refusal notes None = notes
 with_refusal notes (Some size) = with_size notes size
 
--- What is noted where this command was answered rightly, if any, by this reply, and this size was refused, if any. Where
--- none was answered nothing is noted, whatever the reply.
+-- What is noted where this command was answered rightly, if any, by this reply, and this size was refused, if any.
+-- Where none was answered nothing is noted, whatever the reply.
 abbrev pub noted : Notes → Option Asked → Option ℕ → Reply → Skills → Notes
 noted notes None refused reply skills = notes
 noted notes (Some asked) refused reply skills =

@@ -1,5 +1,6 @@
 -- Which shorter conversations are tried in place of a long one. (Own.)
-use Rattle.std.specs.Prelude.{ℕ, ◌+◌, ◌-◌, ◌==◌, Bool, true, false, nat_lt, if◌then◌else◌, count_by, map, take, drop, fold}
+use Rattle.std.specs.Prelude.{ℕ, ◌+◌, ◌-◌, ◌==◌, Bool, true, false, nat_lt, if◌then◌else◌, count_by, map, take, drop}
+use Rattle.std.specs.Prelude.{fold}
 use Rattle.std.specs.Prelude.{List, [], ◌∷◌, ◌++◌, length, Option, None, Some}
 use Rattle.std.specs.List.{list_any}
 use Rattle.gtp_wire.specs.declared.commands.Command.{Command}

@@ -1,5 +1,6 @@
 -- The first line and the last lines of a check. (Own.)
-use Rattle.std.specs.Prelude.{ℕ, ◌==◌, ◌&&◌, Bool, true, false, not, if◌then◌else◌, List, [], ◌∷◌, ◌++◌, codes, filter, length}
+use Rattle.std.specs.Prelude.{ℕ, ◌==◌, ◌&&◌, Bool, true, false, not, if◌then◌else◌, List, [], ◌∷◌, ◌++◌, codes}
+use Rattle.std.specs.Prelude.{filter, length}
 use Rattle.std.specs.Prelude.{map, slice_get}
 use Rattle.std.specs.Prelude.{Option, None, Some, unwrap_or}
 use Rattle.std.specs.Fmt.{decimal}
@@ -80,7 +81,8 @@ missed_lines NoRightAnswer missed =
 missed_lines (NotStarted unstarted) missed =
     unstarted_line unstarted ++ lessons_line (codes "not asked, or not to their end, for that:") missed
 
--- The lesson was to be asked and isn't missed, but no command of it was on a board: the sizes of its boards were refused.
+-- The lesson was to be asked and isn't missed, but no command of it was on a board: the sizes of its boards were
+-- refused.
 abbrev pub is_boardless : List Lesson → List Lesson → List Lesson → Lesson → Bool
 is_boardless lessons missed asked lesson =
     is_among lessons lesson && (not (is_among missed lesson) && not (is_among asked lesson))

@@ -58,8 +58,8 @@ after_all game [] = Some game
 after_all game (said ∷ later) =
     option_and_then (λ next. after_all next later) (after_asked game said.command)
 
--- The last command is a `play` that positional ko forbids in the game of the commands before it, under that rule. Where
--- the engine made a move of its own among them this isn't so.
+-- The last command is a `play` that positional ko forbids in the game of the commands before it, under that rule, on
+-- the board that it was asked on. Where the engine made a move of its own among them this isn't so.
 pub record IsPositional (talk : List Said) : Type 0 where
   pub before : List Said
   pub last : Said
@@ -68,4 +68,5 @@ pub record IsPositional (talk : List Said) : Type 0 where
   pub ends : talk ≡ before ++ last ∷ []
   pub plays : last.command ≡ Match (Play move)
   pub known : after_all (fresh_game_under Positional) before ≡ Some game
+  pub size : game.size ≡ last.size
   pub forbids : RefusesVertex game move.colour move.vertex Ko

@@ -1,5 +1,6 @@
 -- What was found so far, and what of it is shown. (Own.)
-use Rattle.std.specs.Prelude.{ℕ, ◌+◌, ◌-◌, ◌^◌, ◌==◌, Bool, true, false, nat_lt, if◌then◌else◌, min, count_by, replicate}
+use Rattle.std.specs.Prelude.{ℕ, ◌+◌, ◌-◌, ◌^◌, ◌==◌, Bool, true, false, nat_lt, if◌then◌else◌, min, count_by}
+use Rattle.std.specs.Prelude.{replicate}
 use Rattle.std.specs.Prelude.{List, [], ◌∷◌, ◌++◌, length, Option, None, Some, slice_index, slice_set}
 use Rattle.gtp_course.specs.Lessons.{number_of}
 use Rattle.gtp_course.specs.declared.lessons.Lesson.{Lesson}

@@ -1,6 +1,7 @@
 -- A check, turn by turn: what the engine is asked, when it is started and ended, and what is written. (Own.)
 use Rattle.std.specs.Prelude.{min, ◌^◌, ◌-◌}
-use Rattle.std.specs.Prelude.{IsTrue, ◌↔◌, ◌≡◌, ◌⊎◌, ℕ, ◌+◌, ◌<◌, ◌≤◌, Bool, true, false, not, ◌&&◌, ◌||◌, List, [], ◌∷◌, ◌++◌, length}
+use Rattle.std.specs.Prelude.{IsTrue, ◌↔◌, ◌≡◌, ◌⊎◌, ℕ, ◌+◌, ◌<◌, ◌≤◌, Bool, true, false, not, ◌&&◌, ◌||◌, List, []}
+use Rattle.std.specs.Prelude.{◌∷◌, ◌++◌, length}
 use Rattle.std.specs.Prelude.{Option, None, Some, IfSome, is_some, option_map, unwrap_or, Ok, Err}
 use Rattle.byte_streams.specs.declared.calls.WriteOnce.{Ghosts as WriterGhosts}
 use Rattle.byte_streams.specs.Writing.{BreaksAt, LinesGoOut}
@@ -27,6 +28,7 @@ use Rattle.gtp_course.specs.declared.lessons.Lesson.TheVariants as lesson
 use Rattle.gtp_course.specs.Asking.{IsTurn, Renews, lesson_of}
 use Rattle.gtp_course.specs.Course.{Course, GoesTo, Leaves, begun, part_over, with_finding}
 use Rattle.gtp_course.specs.Course.{IsOver as CourseIsOver}
+use Rattle.gtp_check.specs.declared.check.Check.{Check as Going}
 use Rattle.gtp_check.specs.declared.complaint.Complaint.{Complaint}
 use Rattle.gtp_check.specs.declared.engine.Engine.{Engine}
 use Rattle.gtp_check.specs.declared.engine.Fault.{Fault}
@@ -82,6 +84,14 @@ abbrev pub state : {P : Type 0} → Check → Course → Option (Engine P) → T
 state check course engine tally notes =
     record { check = check; course = course; engine = engine; tally = tally; notes = notes }
 
+-- the state of a program's check, as its fields have it
+abbrev pub state_of : {S P : Type 0} → Going S P → State P
+state_of going = state going.examiner going.course going.engine going.tally going.notes
+
+-- its engine was ended
+abbrev pub without_engine : {P : Type 0} → State P → State P
+without_engine before = record before { check = after_loss before.check; engine = None }
+
 -- before the first turn
 abbrev pub before_all : {P : Type 0} → Plan → State P
 before_all plan = record {
@@ -119,8 +129,8 @@ purpose_in course = record {
   part = course.place.part;
 }
 
--- Something was found in what was asked for this purpose: that part is left, if the course is in it. Where it is another
--- part of the lesson, it counts in that all the same.
+-- Something was found in what was asked for this purpose: that part is left, if the course is in it. Where it is
+-- another part of the lesson, it counts in that all the same.
 pub record HasNoted (purpose : Purpose) (old new : Course) : Type 0 where
   pub leaves : is_same_purpose purpose (purpose_in old) ≡ true → HasLeft old new
   pub counts : is_same_purpose purpose (purpose_in old) ≡ false → is_same_lesson purpose (purpose_in old) ≡ true
@@ -233,11 +243,12 @@ module _ {P : Type 0} (known : Ghosts P) (plan : Plan) where
     pub few : before.check.starts < before.check.most_starts
     pub left : 0 < before.tally.starts_left
 
-  -- It was tried on another engine, which takes one of the starts that are left.
-  pub record IsTried (commands : List CheckCommand) (before : State P) (had : Attempts P) (result : Option Wrong)
+  -- It was tried on another engine, for what the command was asked that was answered wrongly. That takes one of the
+  -- starts that are left.
+  pub record IsTried (found : Wrong) (how : Shortening) (before : State P) (had : Attempts P) (result : Option Wrong)
       (after : State P) (has : Attempts P) : Type 0 where
-    pub trial : IsTrial known (program_line plan.words.items) commands before.check had before.notes result
-        after.check has after.notes
+    pub trial : IsTrial known (program_line plan.words.items) (wrong_purpose found) (shortened how (wrong_talk found))
+        before.check had before.notes result after.check has after.notes
     pub leads : after ≡ record before {
       check = after.check;
       tally = without_start before.tally;
@@ -249,14 +260,14 @@ module _ {P : Type 0} (known : Ghosts P) (plan : Plan) where
       : Option Wrong → State P → Attempts P → Type 0 where
     left_out : (MayTry found how before → ⊥) → TriesShorter found how before had None before had
     right : {after : State P} {has : Attempts P} → MayTry found how before
-        → IsTried (shortened how (wrong_talk found)) before had None after has
+        → IsTried found how before had None after has
         → TriesShorter found how before had None after has
     other : {tried : Wrong} {after : State P} {has : Attempts P} → MayTry found how before
-        → IsTried (shortened how (wrong_talk found)) before had (Some tried) after has
+        → IsTried found how before had (Some tried) after has
         → (EndsLike tried found → ⊥)
         → TriesShorter found how before had None after has
     alike : {tried : Wrong} {after : State P} {has : Attempts P} → MayTry found how before
-        → IsTried (shortened how (wrong_talk found)) before had (Some tried) after has
+        → IsTried found how before had (Some tried) after has
         → EndsLike tried found
         → TriesShorter found how before had (Some tried) after has
 
@@ -334,8 +345,8 @@ module _ {P : Type 0} (known : Ghosts P) (plan : Plan) where
   -- ---- why it is over
 
   -- Why a check is over, where its course does this next. Each lesson was asked, and no answer is waited for. Or the
-  -- engine would be started: it was three times in a row, and gave no right answer; or no start is left; or it was asked
-  -- for, and wasn't started.
+  -- engine would be started: it was three times in a row, and gave no right answer; or no start is left; or it was
+  -- asked for, and wasn't started.
   pub data IsOverBy (now : State P) (had : Attempts P) : Action → Over → Attempts P → Type 0 where
     done : (now.check.exam.up ≡ false) ⊎ (length now.check.exam.unanswered ≡ 0)
         → IsOverBy now had Done over.Done had
@@ -381,9 +392,9 @@ module _ {P : Type 0} (known : Ghosts P) (plan : Plan) where
       pub turns : Turns first asked out errors count before had written sees
       pub over : IsOver before had why last has
 
-    -- Why a turn stopped. The output broke at what was due in it. Or memory was refused: for a start; for a command; for
-    -- the first line; or after something wrong was found, for its complaint. The process that the check had then, if any,
-    -- the starts that were asked for, and what was written of the progress.
+    -- Why a turn stopped. The output broke at what was due in it. Or memory was refused: for a start; for a command;
+    -- for the first line; or after something wrong was found, for its complaint. The process that the check had then,
+    -- if any, the starts that were asked for, and what was written of the progress.
     pub data StopsIn (before : State P) (had : Attempts P) (out : O) (errors : E)
         : Option P → Attempts P → O → E → Failure → Type 0 where
       first_line_broke : {mid next : State P} {written : O} {sees : E} {fault : Option Fault} {line : List ℕ}
@@ -402,7 +413,8 @@ module _ {P : Type 0} (known : Ghosts P) (plan : Plan) where
           → Tries had has (program_line plan.words.items) (Err start_fault.OutOfMemory)
           → StopsIn before had out errors (process_of mid.engine) has out errors OutOfMemory
       no_memory_to_ask : StopsIn before had out errors (process_of before.engine) had out errors OutOfMemory
-      no_memory_for_first_line : {mid : State P} {sees : E} {fault : Option Fault} → (heard : Exchanges before fault mid)
+      no_memory_for_first_line : {mid : State P} {sees : E} {fault : Option Fault}
+          → (heard : Exchanges before fault mid)
           → IsShown errs progress (waiting plan heard.mid) errors sees
           → StopsIn before had out errors (process_of mid.engine) had out sees OutOfMemory
       no_memory_to_complain : {mid next closed : State P} {has : Attempts P} {written : O} {sees : E} {fault : Fault}

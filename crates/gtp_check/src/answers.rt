@@ -3,10 +3,10 @@ ghost use Rattle.std.specs.Prelude.{◌≡◌, ◌≤◌, [], length, neg_ℤ};
 ghost use Rattle.go_base.specs.HalfPoints.{score_text};
 ghost use Rattle.std.specs.Option.{option_map_or};
 ghost use Rattle.gtp_session.specs.Commands.{written_vertices};
-ghost use Rattle.gtp_check.specs.Answers.{right_answer, right_points, score_after, stones_after, stones_on};
+ghost use Rattle.gtp_check.specs.Answers.{points_of, right_answer, right_points, score_after, stones_on};
 
 use crate::engine::Fault;
-use crate::flat::{last_komi, last_size};
+use crate::flat::last_komi;
 use crate::talk::Said;
 use arrayvec::ArrayVec;
 use go_base::{Komi, Point, Size, Vertex, handicap, push, push_vertex, write_score};
@@ -19,14 +19,14 @@ pub const ANSWER_ROOM: usize = 45;
 /// An answer.
 type Answer = ArrayVec<u8, ANSWER_ROOM>;
 
-/// What a right engine answers to a command, where another score was wrong, or other points of a handicap. Before it were
-/// these commands.
-pub fn right_answer(fault: Fault, command: Option<CheckCommand>, before: &[Said]) -> Answer
-    ensures { result.items ≡ right_answer fault command before.now }
+/// What a right engine answers to a command, where another score was wrong, or other points of a handicap. Before it
+/// were these commands.
+pub fn right_answer(fault: Fault, said: Option<Said>, before: &[Said]) -> Answer
+    ensures { result.items ≡ right_answer fault said before.now }
 {
     match fault {
         Fault::Wrote(Kind::OtherScore) => score_after(last_komi(before)),
-        Fault::Wrote(Kind::OtherPoints) => right_points(command, before),
+        Fault::Wrote(Kind::OtherPoints) => right_points(said),
         _ => ArrayVec::new(),
     }
 }
@@ -50,24 +50,22 @@ fn empty_score(komi: Komi) -> Answer
     text
 }
 
-/// The points of the handicap that a command places after these.
-fn right_points(command: Option<CheckCommand>, before: &[Said]) -> Answer
-    ensures { result.items ≡ right_points command before.now }
+/// The points of the handicap that a command places on the board that it was asked on.
+fn right_points(said: Option<Said>) -> Answer
+    ensures { result.items ≡ right_points said }
 {
-    match command {
-        Some(CheckCommand::Match(Command::FixedHandicap(stones))) => {
-            stones_after(stones, last_size(before))
-        }
-        _ => ArrayVec::new(),
+    match &said {
+        Some(said) => points_of(&said.command, said.size),
+        None => ArrayVec::new(),
     }
 }
 
-/// The points of so many stones, where this command sets the size.
-fn stones_after(stones: u32, command: Option<CheckCommand>) -> Answer
-    ensures { result.items ≡ option_map_or (stones_after stones) command [] }
+/// The points of the handicap that a command places on a board of this size.
+fn points_of(command: &CheckCommand, size: Size) -> Answer
+    ensures { result.items ≡ points_of command.now size }
 {
-    match &command {
-        Some(CheckCommand::Match(Command::Boardsize(size))) => stones_on(stones, *size),
+    match command {
+        CheckCommand::Match(Command::FixedHandicap(stones)) => stones_on(*stones, size),
         _ => ArrayVec::new(),
     }
 }

@@ -4,13 +4,13 @@ ghost use Rattle.std.specs.Prelude.{length, OnOk};
 ghost use Rattle.arrayvec.specs.ArrayVec.{array_vec_len};
 ghost use Rattle.gtp_process.specs.Endings.{IsEnded};
 ghost use Rattle.gtp_process.specs.Quitting.{QuitsIfAny};
-ghost use Rattle.gtp_examiner.specs.Check.{after_loss};
 ghost use Rattle.gtp_examiner.specs.Exam.{HasRoomFor};
 ghost use Rattle.gtp_check.specs.Checks.{AreLastLines, IsClosed, IsEnding};
 ghost use Rattle.gtp_check.specs.Turns.{AsksEngine, HasStopped, IsHeardOut, StopsIn};
-ghost use Rattle.gtp_check.specs.Turns.{MayStart, TurnsAreOver, before_all, is_first_due, process_of, purpose_in, state};
-ghost use Rattle.gtp_check.specs.private.Steps.{Begins, FirstGoesOut};
-ghost use Rattle.gtp_check.specs.private.Steps.{EndsTurn, FirstStops, Gathers, IsPaired, IsRefused, Settles, StopsAfter};
+ghost use Rattle.gtp_check.specs.Turns.{MayStart, TurnsAreOver, before_all, is_first_due, process_of};
+ghost use Rattle.gtp_check.specs.Turns.{purpose_in, state_of, without_engine};
+ghost use Rattle.gtp_check.specs.private.Steps.{Begins, EndsTurn, FirstGoesOut, FirstStops, Gathers};
+ghost use Rattle.gtp_check.specs.private.Steps.{IsPaired, IsRefused, Settles, StopsAfter};
 ghost use Rattle.gtp_check.specs.declared.engine.TheConstants.{LINES_ROOM};
 
 use crate::closing::{close, end_now, quit};
@@ -76,8 +76,7 @@ enum Next {
 impl<S: Starter> Check<S> {
     /// Before the first start.
     pub fn new(alloc: Global, plan: &Plan<'_>) -> Self
-        ensures first { state result.examiner result.course result.engine result.tally result.notes
-            ≡ before_all plan.now }
+        ensures first { state_of result ≡ before_all plan.now }
         ensures down { result.examiner.exam.up ≡ false }
     {
         Check {
@@ -104,17 +103,15 @@ impl<S: Starter> Check<S> {
         errors: &mut E,
         starter: &mut S,
     ) -> Result<Over, Failure>
-        requires { IsPaired (state self.old.examiner self.old.course self.old.engine self.old.tally self.old.notes) }
-        ensures over { let before = state self.old.examiner self.old.course self.old.engine self.old.tally self.old.notes in
-            let after = state self.new.examiner self.new.course self.new.engine self.new.tally self.new.notes in
-            IfOk result (λ over. TurnsAreOver S.Process.Process plan.now O.WriteOnce E.WriteOnce progress
-            before (S.asked starter.old) output.old errors.old
-            over after (S.asked starter.new) output.new errors.new) }
-        ensures stopped { let before = state self.old.examiner self.old.course self.old.engine self.old.tally self.old.notes in
-            let after = state self.new.examiner self.new.course self.new.engine self.new.tally self.new.notes in
-            IfErr result (λ why. HasStopped S.Process.Process plan.now O.WriteOnce E.WriteOnce progress
-            before (S.asked starter.old) output.old errors.old (process_of self.new.engine)
-            (S.asked starter.new) output.new errors.new why) }
+        requires { IsPaired (state_of self.old) }
+        ensures over { IfOk result (λ over.
+            TurnsAreOver S.Process.Process plan.now O.WriteOnce E.WriteOnce progress
+            (state_of self.old) (S.asked starter.old) output.old errors.old
+            over (state_of self.new) (S.asked starter.new) output.new errors.new) }
+        ensures stopped { IfErr result (λ why.
+            HasStopped S.Process.Process plan.now O.WriteOnce E.WriteOnce progress
+            (state_of self.old) (S.asked starter.old) output.old errors.old
+            (process_of self.new.engine) (S.asked starter.new) output.new errors.new why) }
     {
         for _turn in 0..MOST_TURNS {
             if let Some(over) = self.take_turn(plan, progress, output, errors, starter)? {
@@ -133,18 +130,16 @@ impl<S: Starter> Check<S> {
         errors: &mut E,
         starter: &mut S,
     ) -> Result<Option<Over>, Failure>
-        requires { IsPaired (state self.old.examiner self.old.course self.old.engine self.old.tally self.old.notes) }
-        ensures turn { let before = state self.old.examiner self.old.course self.old.engine self.old.tally self.old.notes in
-            let after = state self.new.examiner self.new.course self.new.engine self.new.tally self.new.notes in
-            IfOk result (λ over. EndsTurn S.Process.Process plan.now O.WriteOnce E.WriteOnce progress
-            before (S.asked starter.old) output.old errors.old
-            over after (S.asked starter.new) output.new errors.new) }
-        ensures stops { let before = state self.old.examiner self.old.course self.old.engine self.old.tally self.old.notes in
-            let after = state self.new.examiner self.new.course self.new.engine self.new.tally self.new.notes in
-            IfErr result (λ why. StopsIn S.Process.Process plan.now O.WriteOnce E.WriteOnce progress
-            before (S.asked starter.old) output.old errors.old (process_of self.new.engine)
-            (S.asked starter.new) output.new errors.new why) }
-        ensures paired { OnOk result (IsPaired (state self.new.examiner self.new.course self.new.engine self.new.tally self.new.notes)) }
+        requires { IsPaired (state_of self.old) }
+        ensures turn { IfOk result (λ over.
+            EndsTurn S.Process.Process plan.now O.WriteOnce E.WriteOnce progress
+            (state_of self.old) (S.asked starter.old) output.old errors.old
+            over (state_of self.new) (S.asked starter.new) output.new errors.new) }
+        ensures stops { IfErr result (λ why.
+            StopsIn S.Process.Process plan.now O.WriteOnce E.WriteOnce progress
+            (state_of self.old) (S.asked starter.old) output.old errors.old
+            (process_of self.new.engine) (S.asked starter.new) output.new errors.new why) }
+        ensures paired { OnOk result (IsPaired (state_of self.new)) }
     {
         match self.gather(plan.singly)? {
             Next::Start => self.start(plan, starter),
@@ -168,11 +163,10 @@ impl<S: Starter> Check<S> {
 
     /// The engine is asked what comes next, as much as may be asked before it answers.
     fn gather(&mut self, singly: bool) -> Result<Next, AllocError>
-        requires paired { IsPaired (state self.old.examiner self.old.course self.old.engine self.old.tally self.old.notes) }
-        ensures gathers { let before = state self.old.examiner self.old.course self.old.engine self.old.tally self.old.notes in
-            let after = state self.new.examiner self.new.course self.new.engine self.new.tally self.new.notes in
-            IfOk result (λ next. Gathers singly before next after) }
-        ensures paired { IsPaired (state self.new.examiner self.new.course self.new.engine self.new.tally self.new.notes) }
+        requires paired { IsPaired (state_of self.old) }
+        ensures gathers { IfOk result (λ next.
+            Gathers singly (state_of self.old) next (state_of self.new)) }
+        ensures paired { IsPaired (state_of self.new) }
         ensures process { process_of self.new.engine ≡ process_of self.old.engine }
     {
         for _step in 0..MOST_STEPS {
@@ -206,6 +200,9 @@ impl<S: Starter> Check<S> {
         ensures alone { result ≡ true → IsSome self.now.engine → singly ≡ true
             → length self.now.examiner.exam.unanswered ≡ 0 }
         ensures full { result ≡ false → IsSome self.now.engine }
+        ensures why { result ≡ false → IfSome self.now.engine (λ engine.
+            (LINES_ROOM < array_vec_len engine.waiting + 64)
+            ⊎ ((singly ≡ true) × (0 < length self.now.examiner.exam.unanswered))) }
     {
         match &self.engine {
             Some(engine) => engine.has_room() && !(singly && self.examiner.unanswered() > 0),
@@ -216,6 +213,7 @@ impl<S: Starter> Check<S> {
     /// Whether an answer of an engine that is up is waited for.
     fn is_owed(&self) -> bool
         ensures owed { result ≡ true → self.now.examiner.exam.up ≡ true }
+        ensures some { result ≡ true → 0 < length self.now.examiner.exam.unanswered }
         ensures not_owed { result ≡ false → (self.now.examiner.exam.up ≡ false)
             ⊎ (length self.now.examiner.exam.unanswered ≡ 0) }
     {
@@ -235,9 +233,8 @@ impl<S: Starter> Check<S> {
         requires there { IsSome self.old.engine }
         requires room { IfSome self.old.engine (λ engine.
             array_vec_len engine.waiting + 64 ≤ LINES_ROOM) }
-        ensures asks { let before = state self.old.examiner self.old.course self.old.engine self.old.tally self.old.notes in
-            let after = state self.new.examiner self.new.course self.new.engine self.new.tally self.new.notes in
-            OnOk result (AsksEngine purpose before command after) }
+        ensures asks { OnOk result
+            (AsksEngine purpose (state_of self.old) command (state_of self.new)) }
         ensures there { IsSome self.new.engine }
         ensures process { process_of self.new.engine ≡ process_of self.old.engine }
     {
@@ -250,9 +247,7 @@ impl<S: Starter> Check<S> {
     /// What was asked is sent, and the engine is heard.
     fn exchange(&mut self) -> Option<Fault>
         requires { IsSome self.old.engine }
-        ensures heard { let before = state self.old.examiner self.old.course self.old.engine self.old.tally self.old.notes in
-            let after = state self.new.examiner self.new.course self.new.engine self.new.tally self.new.notes in
-            IsHeardOut S.Process.Process before result after }
+        ensures heard { IsHeardOut S.Process.Process (state_of self.old) result (state_of self.new) }
         ensures there { IsSome self.new.engine }
     {
         match &mut self.engine {
@@ -280,16 +275,16 @@ impl<S: Starter> Check<S> {
         starter: &mut S,
     ) -> Result<(), Failure>
         requires { IsSome self.old.engine }
-        ensures goes_out { let before = state self.old.examiner self.old.course self.old.engine self.old.tally self.old.notes in
-            let after = state self.new.examiner self.new.course self.new.engine self.new.tally self.new.notes in
-            OnOk result (Settles S.Process.Process plan.now O.WriteOnce E.WriteOnce progress
-            before (S.asked starter.old) fault after (S.asked starter.new)
+        ensures goes_out { OnOk result
+            (Settles S.Process.Process plan.now O.WriteOnce E.WriteOnce progress
+            (state_of self.old) (S.asked starter.old) fault
+            (state_of self.new) (S.asked starter.new)
             output.old output.new errors.old errors.new) }
-        ensures stops { let before = state self.old.examiner self.old.course self.old.engine self.old.tally self.old.notes in
-            IfErr result (λ why. StopsAfter S.Process.Process plan.now O.WriteOnce E.WriteOnce progress
-            before (S.asked starter.old) fault (process_of self.new.engine)
+        ensures stops { IfErr result (λ why.
+            StopsAfter S.Process.Process plan.now O.WriteOnce E.WriteOnce progress
+            (state_of self.old) (S.asked starter.old) fault (process_of self.new.engine)
             (S.asked starter.new) output.old output.new errors.old errors.new why) }
-        ensures paired { OnOk result (IsPaired (state self.new.examiner self.new.course self.new.engine self.new.tally self.new.notes)) }
+        ensures paired { OnOk result (IsPaired (state_of self.new)) }
     {
         self.write_first(fault.is_some(), plan, progress, output, errors)?;
         match fault {
@@ -300,14 +295,12 @@ impl<S: Starter> Check<S> {
 
     /// An engine is started, where one may be.
     fn start(&mut self, plan: &Plan<'_>, starter: &mut S) -> Result<Option<Over>, Failure>
-        ensures begins { let before = state self.old.examiner self.old.course self.old.engine self.old.tally self.old.notes in
-            let after = state self.new.examiner self.new.course self.new.engine self.new.tally self.new.notes in
-            IfOk result (λ over. Begins S.Process.Process plan.now
-            before (S.asked starter.old) over after (S.asked starter.new)) }
-        ensures refused { let before = state self.old.examiner self.old.course self.old.engine self.old.tally self.old.notes in
-            let after = state self.new.examiner self.new.course self.new.engine self.new.tally self.new.notes in
-            IfErr result (λ why. IsRefused plan.now
-            before (S.asked starter.old) why after (S.asked starter.new)) }
+        ensures begins { IfOk result (λ over. Begins S.Process.Process plan.now
+            (state_of self.old) (S.asked starter.old) over
+            (state_of self.new) (S.asked starter.new)) }
+        ensures refused { IfErr result (λ why. IsRefused plan.now
+            (state_of self.old) (S.asked starter.old) why
+            (state_of self.new) (S.asked starter.new)) }
     {
         if self.notes.fruitless >= MOST_FRUITLESS {
             return Ok(Some(Over::NoRightAnswer));
@@ -335,9 +328,7 @@ impl<S: Starter> Check<S> {
     /// The engine, which owes nothing, is sent `quit` and ended.
     fn restart(&mut self)
         ensures quits { QuitsIfAny S.Process.Process (process_of self.old.engine) }
-        ensures leads { let before = state self.old.examiner self.old.course self.old.engine self.old.tally self.old.notes in
-            let after = state self.new.examiner self.new.course self.new.engine self.new.tally self.new.notes in
-            after ≡ record before { check = after_loss before.check; engine = None } }
+        ensures leads { state_of self.new ≡ without_engine (state_of self.old) }
     {
         self.examiner.lost();
         quit(self.engine.take(), &mut self.room);
@@ -346,9 +337,7 @@ impl<S: Starter> Check<S> {
     /// The engine, which owes nothing, is ended without `quit`.
     fn kill(&mut self)
         ensures ends { IsEnded S.Process.Process (process_of self.old.engine) }
-        ensures leads { let before = state self.old.examiner self.old.course self.old.engine self.old.tally self.old.notes in
-            let after = state self.new.examiner self.new.course self.new.engine self.new.tally self.new.notes in
-            after ≡ record before { check = after_loss before.check; engine = None } }
+        ensures leads { state_of self.new ≡ without_engine (state_of self.old) }
     {
         self.examiner.lost();
         end_now(self.engine.take());
@@ -370,14 +359,14 @@ impl<S: Starter> Check<S> {
         output: &mut O,
         errors: &mut E,
     ) -> Result<(), Failure>
-        ensures goes_out { let before = state self.old.examiner self.old.course self.old.engine self.old.tally self.old.notes in
-            let after = state self.new.examiner self.new.course self.new.engine self.new.tally self.new.notes in
-            OnOk result (FirstGoesOut S.Process.Process plan.now O.WriteOnce E.WriteOnce progress
-            before is_wrong after output.old output.new errors.old errors.new) }
-        ensures stops { let before = state self.old.examiner self.old.course self.old.engine self.old.tally self.old.notes in
-            let after = state self.new.examiner self.new.course self.new.engine self.new.tally self.new.notes in
-            IfErr result (λ why. FirstStops S.Process.Process plan.now O.WriteOnce E.WriteOnce progress
-            before is_wrong after output.old output.new errors.old errors.new why) }
+        ensures goes_out { OnOk result
+            (FirstGoesOut S.Process.Process plan.now O.WriteOnce E.WriteOnce progress
+            (state_of self.old) is_wrong (state_of self.new)
+            output.old output.new errors.old errors.new) }
+        ensures stops { IfErr result (λ why.
+            FirstStops S.Process.Process plan.now O.WriteOnce E.WriteOnce progress
+            (state_of self.old) is_wrong (state_of self.new)
+            output.old output.new errors.old errors.new why) }
         ensures engine { self.new.engine ≡ self.old.engine }
     {
         if !self.is_first_due(is_wrong) {
@@ -422,10 +411,9 @@ impl<S: Starter> Check<S> {
 
     /// The engine is ended: one that owes nothing after it was sent `quit`, and any other at once.
     pub fn end(self, plan: &Plan<'_>, over: &Over) -> Result<Vec<u8>, AllocError>
-        ensures closed { IsClosed S.Process.Process
-            (state self.examiner self.course self.engine self.tally self.notes) }
-        ensures text { IfOk result (λ text. AreLastLines plan.now
-            (state self.examiner self.course self.engine self.tally self.notes) over.now text.items) }
+        ensures closed { IsClosed S.Process.Process (state_of self) }
+        ensures text { IfOk result (λ text.
+            AreLastLines plan.now (state_of self) over.now text.items) }
     {
         let Check {
             alloc,

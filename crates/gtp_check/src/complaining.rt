@@ -7,7 +7,7 @@ ghost use Rattle.gtp_check.specs.Complaints.{complaint_lines};
 ghost use Rattle.gtp_check.specs.Dialogues.{AsksForMore, is_same_lesson, is_same_purpose, wrong_of};
 ghost use Rattle.gtp_check.specs.Progress.{IsShown, cleared};
 ghost use Rattle.gtp_check.specs.Shortening.{shortenings};
-ghost use Rattle.gtp_check.specs.Turns.{Closes, HasNoted, IsComplaint, Shortens, TriesShorter, state};
+ghost use Rattle.gtp_check.specs.Turns.{Closes, HasNoted, IsComplaint, Shortens, TriesShorter, state_of};
 ghost use Rattle.gtp_check.specs.private.Steps.{ComplaintGoesOut, ComplaintStops};
 ghost use Rattle.gtp_check.specs.declared.complaint.Complaint.{Complaint};
 ghost use Rattle.programs.specs.declared.failure.Failure.TheVariants as failure;
@@ -44,15 +44,15 @@ impl<S: Starter> Check<S> {
         starter: &mut S,
     ) -> Result<(), Failure>
         requires { IsSome self.old.engine }
-        ensures goes_out { let before = state self.old.examiner self.old.course self.old.engine self.old.tally self.old.notes in
-            let after = state self.new.examiner self.new.course self.new.engine self.new.tally self.new.notes in
-            OnOk result (ComplaintGoesOut S.Process.Process plan.now O.WriteOnce E.WriteOnce progress
-            before (S.asked starter.old) fault after (S.asked starter.new)
+        ensures goes_out { OnOk result
+            (ComplaintGoesOut S.Process.Process plan.now O.WriteOnce E.WriteOnce progress
+            (state_of self.old) (S.asked starter.old) fault
+            (state_of self.new) (S.asked starter.new)
             output.old output.new errors.old errors.new) }
-        ensures stops { let before = state self.old.examiner self.old.course self.old.engine self.old.tally self.old.notes in
-            let after = state self.new.examiner self.new.course self.new.engine self.new.tally self.new.notes in
-            IfErr result (λ why. ComplaintStops S.Process.Process plan.now O.WriteOnce E.WriteOnce progress
-            before (S.asked starter.old) fault after (S.asked starter.new)
+        ensures stops { IfErr result (λ why.
+            ComplaintStops S.Process.Process plan.now O.WriteOnce E.WriteOnce progress
+            (state_of self.old) (S.asked starter.old) fault
+            (state_of self.new) (S.asked starter.new)
             output.old output.new errors.old errors.new why) }
         ensures gone { self.new.engine ≡ None }
     {
@@ -74,10 +74,8 @@ impl<S: Starter> Check<S> {
     fn close(&mut self, fault: Fault) -> Option<Tried>
         requires { IsSome self.old.engine }
         ensures found { IsSome result }
-        ensures closes { let before = state self.old.examiner self.old.course self.old.engine self.old.tally self.old.notes in
-            let after = state self.new.examiner self.new.course self.new.engine self.new.tally self.new.notes in
-            IfSome result (λ found. Closes S.Process.Process fault
-            before (wrong_of found) after) }
+        ensures closes { IfSome result (λ found. Closes S.Process.Process fault
+            (state_of self.old) (wrong_of found) (state_of self.new)) }
         ensures gone { self.new.engine ≡ None }
     {
         let engine = self.engine.take()?;
@@ -102,19 +100,18 @@ impl<S: Starter> Check<S> {
         output: &mut O,
         errors: &mut E,
     ) -> Result<(), Failure>
-        ensures goes_out { OnOk result ((complaint : Complaint)
-            × IsComplaint plan.now.rule self.old.tally.complaints lesson (wrong_of found.now) complaint
+        ensures goes_out { OnOk result ((complaint : Complaint) × IsComplaint plan.now.rule
+            self.old.tally.complaints lesson (wrong_of found.now) complaint
             × GoesOut O.WriteOnce (complaint_lines complaint) output.old output.new
             × IsShown E.WriteOnce progress (cleared ∷ []) errors.old errors.new) }
-        ensures broke { IfErr result (λ why. why ≡ failure.Write → (complaint : Complaint)
-            × IsComplaint plan.now.rule self.old.tally.complaints lesson (wrong_of found.now) complaint
+        ensures broke { IfErr result (λ why. why ≡ failure.Write
+            → (complaint : Complaint) × IsComplaint plan.now.rule
+            self.old.tally.complaints lesson (wrong_of found.now) complaint
             × BreaksAt O.WriteOnce (complaint_lines complaint) output.old output.new
             × IsShown E.WriteOnce progress (cleared ∷ []) errors.old errors.new) }
-        ensures refused { IfErr result (λ why. (why ≡ failure.Write)
-            ⊎ ((why ≡ failure.OutOfMemory) × (output.new ≡ output.old) × (errors.new ≡ errors.old))) }
-        ensures same { let before = state self.old.examiner self.old.course self.old.engine self.old.tally self.old.notes in
-            let after = state self.new.examiner self.new.course self.new.engine self.new.tally self.new.notes in
-            after ≡ before }
+        ensures refused { IfErr result (λ why. (why ≡ failure.Write) ⊎ ((why ≡ failure.OutOfMemory)
+            × (output.new ≡ output.old) × (errors.new ≡ errors.old))) }
+        ensures same { state_of self.new ≡ state_of self.old }
     {
         let complaint = complaint_of(self.tally.complaints, lesson, found, plan.rule);
         let text = complaint_text(self.alloc, &complaint)?;
@@ -130,11 +127,9 @@ impl<S: Starter> Check<S> {
         plan: &Plan<'_>,
         starter: &mut S,
     ) -> Result<Option<Tried>, Failure>
-        ensures shortens { let before = state self.old.examiner self.old.course self.old.engine self.old.tally self.old.notes in
-            let after = state self.new.examiner self.new.course self.new.engine self.new.tally self.new.notes in
-            IfOk result (λ shorter. Shortens S.Process.Process plan.now
-            (wrong_of found.now) shortenings before (S.asked starter.old)
-            (option_map wrong_of shorter) after (S.asked starter.new)) }
+        ensures shortens { IfOk result (λ shorter. Shortens S.Process.Process plan.now
+            (wrong_of found.now) shortenings (state_of self.old) (S.asked starter.old)
+            (option_map wrong_of shorter) (state_of self.new) (S.asked starter.new)) }
         ensures refused { IfErr result (λ why. (why ≡ failure.OutOfMemory)
             × AsksForMore (program_line plan.now.words.items)
             (S.asked starter.old) (S.asked starter.new)) }
@@ -157,11 +152,9 @@ impl<S: Starter> Check<S> {
         plan: &Plan<'_>,
         starter: &mut S,
     ) -> Result<Option<Tried>, Failure>
-        ensures tries { let before = state self.old.examiner self.old.course self.old.engine self.old.tally self.old.notes in
-            let after = state self.new.examiner self.new.course self.new.engine self.new.tally self.new.notes in
-            IfOk result (λ shorter. TriesShorter S.Process.Process plan.now
-            (wrong_of found.now) shortening before (S.asked starter.old)
-            (option_map wrong_of shorter) after (S.asked starter.new)) }
+        ensures tries { IfOk result (λ shorter. TriesShorter S.Process.Process plan.now
+            (wrong_of found.now) shortening (state_of self.old) (S.asked starter.old)
+            (option_map wrong_of shorter) (state_of self.new) (S.asked starter.new)) }
         ensures refused { IfErr result (λ why. (why ≡ failure.OutOfMemory)
             × AsksForMore (program_line plan.now.words.items)
             (S.asked starter.old) (S.asked starter.new)) }
@@ -227,8 +220,8 @@ fn complaint_of(number: u32, lesson: Lesson, found: &Tried, rule: KoRule) -> Com
     }
 }
 
-/// Something was found in what was asked for this purpose: that part is left, if the course is in it. Where it is another
-/// part of the lesson, it counts in that all the same.
+/// Something was found in what was asked for this purpose: that part is left, if the course is in it. Where it is
+/// another part of the lesson, it counts in that all the same.
 fn note_finding(course: &mut Course, purpose: Purpose)
     ensures { HasNoted purpose course.old course.new }
 {

@@ -14,7 +14,7 @@ use crate::answers::{ANSWER_ROOM, right_answer};
 use crate::engine::Fault;
 use crate::kinds::fault_text;
 use crate::rules::rule_text;
-use crate::talk::Said;
+use crate::talk::{Said, said_at};
 use crate::texts::add_all;
 use arrayvec::ArrayVec;
 use go_base::write_int;
@@ -128,10 +128,9 @@ impl<'t> Complaint<'t> {
     fn answer(&self) -> ArrayVec<u8, ANSWER_ROOM>
         ensures { result.items ≡ answer_of self.now }
     {
-        let command = self.talk.get(self.answered).map(|said| said.command);
         right_answer(
             self.fault,
-            command,
+            said_at(self.talk, self.answered),
             &self.talk[..self.answered.min(self.talk.len())],
         )
     }

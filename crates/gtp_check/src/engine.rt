@@ -1,5 +1,6 @@
 //! An engine that was started: what it is asked, and what it writes.
-ghost use Rattle.std.specs.Prelude.{◌≡◌, ◌+◌, ◌-◌, ◌++◌, ◌≤◌, ◌<◌, true, [], length, drop, take, OnOk};
+ghost use Rattle.std.specs.Prelude.{◌≡◌, ◌↔◌, ◌+◌, ◌-◌, ◌++◌, ◌≤◌, ◌<◌, true, [], length, drop, take};
+ghost use Rattle.std.specs.Prelude.{IsTrue, OnOk, false};
 ghost use Rattle.arrayvec.specs.ArrayVec.{array_vec_len};
 ghost use Rattle.gtp_wire.specs.Replies.{most_shown};
 ghost use Rattle.gtp_examiner.specs.Asking.{written_check};
@@ -7,7 +8,7 @@ ghost use Rattle.gtp_examiner.specs.Check.{with_exam};
 ghost use Rattle.gtp_examiner.specs.Exam.{HasRoomFor};
 ghost use Rattle.gtp_check.specs.declared.notes.Notes.{Notes};
 ghost use Rattle.gtp_check.specs.Dialogues.{AreHeard, IsAsked, IsRead, IsExchanged, IsSent, begun_with, dialogue};
-ghost use Rattle.gtp_check.specs.Dialogues.{kept_after, listener};
+ghost use Rattle.gtp_check.specs.Dialogues.{IsIllegal, kept_after, listener};
 ghost use Rattle.gtp_check.specs.private.Hearing.{IsHeardBy};
 
 use crate::held::Held;
@@ -99,7 +100,8 @@ impl<P: Process> Engine<P> {
 
     /// Whether another line can wait to be sent.
     pub fn has_room(&self) -> bool
-        ensures { result ≡ true → array_vec_len self.now.waiting + 64 ≤ LINES_ROOM }
+        ensures room { result ≡ true → array_vec_len self.now.waiting + 64 ≤ LINES_ROOM }
+        ensures full { result ≡ false → LINES_ROOM < array_vec_len self.now.waiting + 64 }
     {
         self.waiting.len() + MOST_COMMAND_BYTES <= LINES_ROOM
     }
@@ -124,12 +126,14 @@ impl<P: Process> Engine<P> {
         ensures check { examiner.new ≡ with_exam examiner.old examiner.new.exam }
     {
         let is_illegal = is_illegal(examiner, &command);
+        let size = examiner.game().size();
         let line = examiner.ask(command);
         self.sent.extend_from_slice(line.as_slice())?;
         self.talk.extend_from_slice(&[Said {
             command,
             purpose,
             is_illegal,
+            size,
             end: self.sent.len(),
         }])?;
         push(&mut self.waiting, line.as_slice());
@@ -339,7 +343,9 @@ fn send<P: Process>(process: &mut P, lines: &[u8])
 }
 
 /// Whether a command is a `play` that isn't legal.
-fn is_illegal(examiner: &Examiner, command: &CheckCommand) -> bool {
+fn is_illegal(examiner: &Examiner, command: &CheckCommand) -> bool
+    ensures { IsTrue result ↔ IsIllegal examiner.now.exam.game command.now }
+{
     match command {
         CheckCommand::Match(Command::Play(made)) => {
             !examiner.game().legal(made.colour, made.vertex)

@@ -125,7 +125,7 @@ fn settings(alloc: Global, talk: &[Said]) -> Result<Commands, AllocError>
 }
 
 /// The last command that sets the size.
-pub fn last_size(talk: &[Said]) -> Option<CheckCommand>
+fn last_size(talk: &[Said]) -> Option<CheckCommand>
     ensures { result ≡ last_such is_size talk.now }
 {
     let mut last = None;

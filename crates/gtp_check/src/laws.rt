@@ -5,8 +5,8 @@ use gtp_examiner::laws::{findings_are_justified, no_right_engine_is_blamed};
 use gtp_process::Process;
 use gtp_session::policy::Policy;
 
-/// What is found in what an engine wrote is justified: all that it answered before was right, and no right answer to the
-/// command is what was heard.
+/// What is found in what an engine wrote is justified: all that it answered before was right, and no right answer to
+/// the command is what was heard.
 pub fn complaints_are_justified<P: Process>()
     ensures { ComplaintsAreJustified P.Process }
 {

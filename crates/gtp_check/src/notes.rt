@@ -1,7 +1,8 @@
 //! What is noted of right answers.
 ghost use Rattle.std.specs.Prelude.{◌≡◌};
-ghost use Rattle.gtp_check.specs.Notes.{beginning_of, counted, is_refused, lacks, noted, nothing_noted, started, with_lacks};
-ghost use Rattle.gtp_check.specs.Notes.{is_on_board, match_on_board, noted_of, with_answer, with_lesson, with_size};
+ghost use Rattle.gtp_check.specs.Notes.{beginning_of, counted, is_on_board, is_refused, lacks, match_on_board};
+ghost use Rattle.gtp_check.specs.Notes.{noted, noted_of, nothing_noted, started, with_answer, with_lacks};
+ghost use Rattle.gtp_check.specs.Notes.{with_lesson, with_size};
 
 use crate::plan::is_among;
 use arrayvec::ArrayVec;
@@ -87,8 +88,8 @@ impl Notes {
 
     /// What was heard without a finding. The reply is read only where a command was answered.
     pub fn take(&mut self, heard: &Heard, reply: &Reply, examiner: &Examiner)
-        ensures { self.new
-            ≡ noted self.old heard.now.answered heard.now.refused reply.now examiner.now.exam.skills }
+        ensures { self.new ≡ noted self.old
+            heard.now.answered heard.now.refused reply.now examiner.now.exam.skills }
     {
         let Some(asked) = heard.answered else {
             return;

@@ -1,18 +1,18 @@
 //! What is written of a check's progress on a terminal, in place of the line before.
-ghost use Rattle.std.specs.Prelude.{◌≡◌, ◌++◌, [], ◌∷◌, slice_get, take};
+ghost use Rattle.std.specs.Prelude.{◌≡◌, ◌++◌, [], ◌∷◌, take};
 ghost use Rattle.gtp_check.specs.Dialogues.{dialogue};
 ghost use Rattle.gtp_check.specs.Notes.{nothing_noted};
 ghost use Rattle.gtp_check.specs.Progress.{IsShown, cleared, in_place, is_read_next, line_at, line_start, looking_line};
 ghost use Rattle.gtp_check.specs.Progress.{most_columns, place_among, waiting_text};
 ghost use Rattle.gtp_check.specs.Texts.{joined};
-ghost use Rattle.gtp_check.specs.Turns.{state, waiting};
+ghost use Rattle.gtp_check.specs.Turns.{state_of, waiting};
 
 use crate::check::Check;
 use crate::complaint::without_newline;
 use crate::engine::Engine;
 use crate::plan::Plan;
 use crate::summary::plural;
-use crate::talk::Said;
+use crate::talk::{Said, said_at};
 use arrayvec::ArrayVec;
 use byte_streams::{WriteOnce, write_or_break};
 use go_base::{push, write_int};
@@ -66,8 +66,7 @@ pub fn in_place(text: &[u8]) -> Line
 impl<S: Starter> Check<S> {
     /// Before the engine is read: what is waited for.
     pub fn show_waiting<E: WriteOnce>(&self, progress: bool, plan: &Plan<'_>, errors: &mut E)
-        ensures { IsShown E.WriteOnce progress (waiting plan.now
-            (state self.now.examiner self.now.course self.now.engine self.now.tally self.now.notes))
+        ensures { IsShown E.WriteOnce progress (waiting plan.now (state_of self.now))
             errors.old errors.new }
     {
         let Some(engine) = &self.engine else {
@@ -104,16 +103,6 @@ fn is_read_next<P: Process>(engine: &Engine<P>, examiner: &Examiner) -> bool
     examiner.unanswered() > 0 && engine.held.is_empty()
 }
 
-/// The command with this number, counted from 0, if there is one.
-fn said_at(talk: &[Said], number: usize) -> Option<Said>
-    ensures { result ≡ slice_get talk.now number }
-{
-    match talk.get(number) {
-        Some(said) => Some(*said),
-        None => None,
-    }
-}
-
 /// The line of the command with this number, counted from 0, in all that was sent, without its newline.
 pub fn line_at<'s>(sent: &'s [u8], talk: &[Said], number: usize, said: &Said) -> &'s [u8]
     ensures { result.now ≡ line_at sent.entry.now talk.now number said.now }
@@ -144,7 +133,8 @@ pub fn waiting_text(
     commands: u32,
     starts: u32,
 ) -> Text
-    ensures { result.items ≡ take most_columns (waiting_text lessons.now.items line.now lesson commands starts) }
+    ensures { result.items ≡ take most_columns
+        (waiting_text lessons.now.items line.now lesson commands starts) }
 {
     cut(
         b"waits for \"",

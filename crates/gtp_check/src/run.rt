@@ -36,8 +36,8 @@ use std::convert::AsStr;
 /// - 3 where the output can't be written, memory was refused, or a check had too many turns.
 ///
 /// What a status of 2 or 3 means is written to `errors`, and whether that can be written changes nothing. Where
-/// `progress` is asked for, `errors` is a terminal: what is waited for is written to it, each time in place of its line,
-/// which is cleared before anything else is written.
+/// `progress` is asked for, `errors` is a terminal: what is waited for is written to it, each time in place of its
+/// line, which is cleared before anything else is written.
 pub fn run<A: AsStr, O: WriteOnce, E: WriteOnce, S: Starter>(
     alloc: Global,
     words: &[A],
@@ -152,7 +152,8 @@ fn answer_error<O: WriteOnce, E: WriteOnce>(
     output: &mut O,
     errors: &mut E,
 ) -> u8
-    ensures { Answers O.WriteOnce E.WriteOnce kind output.old errors.old result output.new errors.new }
+    ensures { Answers O.WriteOnce E.WriteOnce kind output.old errors.old
+        result output.new errors.new }
 {
     let Ok(text) = text else {
         return Failure::OutOfMemory.report(NAME, errors);

@@ -13,8 +13,8 @@ use go_board::{Game, KoRule, PlayFault};
 use gtp_examiner::CheckCommand;
 use gtp_wire::Command;
 
-/// Whether the last command is a `play` that positional ko forbids after the commands before it. Where a move among
-/// them was the engine's own it isn't known, and the answer is no.
+/// Whether the last command is a `play` that positional ko forbids after the commands before it, on the board that it
+/// was asked on. Where a move among them was the engine's own it isn't known, and the answer is no.
 pub fn is_positional(talk: &[Said]) -> bool
     ensures { IsTrue result ↔ IsPositional talk.now }
 {
@@ -25,7 +25,7 @@ pub fn is_positional(talk: &[Said]) -> bool
         return false;
     };
     match game_after(before) {
-        Some(game) => is_ko(&game, made),
+        Some(game) => game.size() == last.size && is_ko(&game, made),
         None => false,
     }
 }

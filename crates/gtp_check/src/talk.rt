@@ -1,7 +1,8 @@
 //! What an engine was asked since it was started.
-ghost use Rattle.std.specs.Prelude.{◌≡◌};
+ghost use Rattle.std.specs.Prelude.{◌≡◌, slice_get};
 ghost use Rattle.gtp_check.specs.Dialogues.{is_same_lesson, is_same_purpose};
 
+use go_base::Size;
 use gtp_course::Lesson;
 use gtp_examiner::CheckCommand;
 
@@ -39,6 +40,18 @@ pub struct Said {
     pub purpose: Purpose,
     /// Whether it is a `play` that isn't legal: a right engine refuses it.
     pub is_illegal: bool,
+    /// The size of the board of a right engine when it was asked.
+    pub size: Size,
     /// Where its line ends in the text of all that was asked.
     pub end: usize,
+}
+
+/// The command with this number, counted from 0, if there is one.
+pub fn said_at(talk: &[Said], number: usize) -> Option<Said>
+    ensures { result ≡ slice_get talk.now number }
+{
+    match talk.get(number) {
+        Some(said) => Some(*said),
+        None => None,
+    }
 }

@@ -3,7 +3,7 @@ ghost use Rattle.std.specs.Prelude.{◌≡◌, ◌<◌, ◌≤◌, ◌↔◌, �
 ghost use Rattle.gtp_process.specs.Starts.{program_line};
 ghost use Rattle.gtp_examiner.specs.Check.{with_exam};
 ghost use Rattle.gtp_check.specs.Dialogues.{AsksForMore, Converses, EndsLike, EndsSo, IsTrial, dialogue};
-ghost use Rattle.gtp_check.specs.Dialogues.{AsksFirst, wrong_command, wrong_of, wrong_purpose, wrong_talk};
+ghost use Rattle.gtp_check.specs.Dialogues.{AreFor, AsksFirst, wrong_command, wrong_of, wrong_purpose, wrong_talk};
 ghost use Rattle.gtp_check.specs.Shortening.{commands_of};
 
 use crate::engine::{Ended, Engine, Fault, Room};
@@ -86,7 +86,7 @@ pub fn try_commands<S: Starter>(
 ) -> Result<Option<Tried>, AllocError>
     requires { examiner.old.starts < examiner.old.most_starts }
     ensures tried { IfOk result (λ tried. IsTrial S.Process.Process (program_line words.now)
-        commands.now examiner.old (S.asked starter.old) notes.old (option_map wrong_of tried)
+        purpose commands.now examiner.old (S.asked starter.old) notes.old (option_map wrong_of tried)
         examiner.new (S.asked starter.new) notes.new) }
     ensures refused { OnErr result (AsksForMore (program_line words.now)
         (S.asked starter.old) (S.asked starter.new)) }
@@ -125,7 +125,7 @@ fn ask_all<P: Process>(
         (dialogue engine.old notes.old) fault examiner.new.exam (dialogue engine.new notes.new)) }
     ensures check { examiner.new ≡ with_exam examiner.old examiner.new.exam }
     ensures first { engine.old.talk.items ≡ []
-        → OnOk result (AsksFirst commands.now engine.new.talk.items) }
+        → OnOk result (AsksFirst purpose commands.now engine.new.talk.items) }
 {
     let mut rest = commands;
     for _exchange in 0..MOST_EXCHANGES {
@@ -156,6 +156,8 @@ fn ask_some<P: Process>(
     ensures first { IfOk result (λ count. (count ≤ length commands.now)
         × (commands_of engine.new.talk.items
         ≡ commands_of engine.old.talk.items ++ take count commands.now)) }
+    ensures purposes { OnOk result (AreFor purpose engine.old.talk.items
+        → AreFor purpose engine.new.talk.items) }
 {
     for index in 0..commands.len() {
         let command = commands[index];

@@ -11,7 +11,8 @@ use Rattle.gtp_check.specs.Status.{ReportsFailure}
 
 -- An error of this kind was answered. Where memory was refused that is reported. A text that was asked for was shown.
 -- Any other is a mistake, whose text was written.
-pub data Answers {O E : Type 0} (outs : WriterGhosts O) (errs : WriterGhosts E) (kind : ErrorKind) (out : O) (errors : E)
+pub data Answers {O E : Type 0} (outs : WriterGhosts O) (errs : WriterGhosts E) (kind : ErrorKind) (out : O)
+    (errors : E)
     : ℕ → O → E → Type 0 where
   refused : {reported : E} → ReportsFailure errs OutOfMemory errors reported
       → Answers outs errs kind out errors own_failure out reported

@@ -1,5 +1,6 @@
 -- What the functions of one turn do.
-use Rattle.std.specs.Prelude.{◌≡◌, ◌⊎◌, ℕ, ◌<◌, Bool, true, false, List, [], ◌∷◌, ◌++◌, length, Option, None, Some, IsSome}
+use Rattle.std.specs.Prelude.{◌≡◌, ◌⊎◌, ℕ, ◌<◌, Bool, true, false, List, [], ◌∷◌, ◌++◌, length, Option, None, Some}
+use Rattle.std.specs.Prelude.{IsSome}
 use Rattle.std.specs.Prelude.{Ok, Err, is_some}
 use Rattle.byte_streams.specs.declared.calls.WriteOnce.{Ghosts as WriterGhosts}
 use Rattle.byte_streams.specs.Writing.{BreaksAt, LinesGoOut}
@@ -24,7 +25,8 @@ use Rattle.gtp_check.specs.Dialogues.{AsksForMore, Wrong, begun_with, dialogue}
 use Rattle.gtp_check.specs.Notes.{started as noted_start}
 use Rattle.gtp_check.specs.Progress.{IsShown, cleared, clearing, looking, looking_line}
 use Rattle.gtp_check.specs.Tally.{started_again}
-use Rattle.gtp_check.specs.Turns.{Asks, Closes, Complains, IsNext, IsOverBy, MayStart, State, WritesFirst, most_fruitless}
+use Rattle.gtp_check.specs.Turns.{Asks, Closes, Complains, IsNext, IsOverBy, MayStart, State, WritesFirst}
+use Rattle.gtp_check.specs.Turns.{most_fruitless}
 use Rattle.gtp_check.specs.Turns.{Exchanges, IsOver, StopsIn, Turn, process_of, state, waiting}
 
 -- an engine that is up is there
@@ -90,7 +92,8 @@ module _ {P : Type 0} (known : Ghosts P) (plan : Plan) where
           → FirstStops before is_wrong after out written seen sees OutOfMemory
 
     -- what is due of a complaint was written
-    pub record ComplaintGoesOut (before : State P) (had : Attempts P) (fault : Fault) (after : State P) (has : Attempts P)
+    pub record ComplaintGoesOut (before : State P) (had : Attempts P) (fault : Fault) (after : State P)
+        (has : Attempts P)
         (out written : O) (seen sees : E) : Type 0 where
       pub said : List (List ℕ)
       pub complains : Complains known plan before had (Some fault) after has said
@@ -100,7 +103,8 @@ module _ {P : Type 0} (known : Ghosts P) (plan : Plan) where
     -- it wasn't: the output broke at it, or memory was refused
     pub data ComplaintStops (before : State P) (had : Attempts P) (fault : Fault) (after : State P) (has : Attempts P)
         (out written : O) (seen sees : E) : Failure → Type 0 where
-      complaint_broke : {next : State P} {text : List ℕ} → Complains known plan before had (Some fault) next has (text ∷ [])
+      complaint_broke : {next : State P} {text : List ℕ}
+          → Complains known plan before had (Some fault) next has (text ∷ [])
           → BreaksAt outs text out written → IsShown errs progress (looking (text ∷ [])) seen sees
           → after.engine ≡ None
           → ComplaintStops before had fault after has out written seen sees Write
@@ -129,7 +133,8 @@ module _ {P : Type 0} (known : Ghosts P) (plan : Plan) where
       pub shown : IsShown errs progress (clearing line ++ looking said) seen sees
 
     -- it wasn't: a turn with this exchange stopped so, of which this was written before
-    abbrev pub StopsAfter : State P → Attempts P → Option Fault → Option P → Attempts P → O → O → E → E → Failure → Type 0
+    abbrev pub StopsAfter : State P → Attempts P → Option Fault → Option P → Attempts P → O → O → E → E → Failure
+        → Type 0
     StopsAfter mid had fault process has out written seen sees why =
         (before : State P) (errors : E) (heard : Exchanges known plan before fault mid)
         → IsShown errs progress (waiting plan heard.mid) errors seen

@@ -4,6 +4,7 @@ use crate::options::read_options;
 use crate::plan::plan_of;
 use crate::progress::{in_place, line_at, waiting_text};
 use crate::talk::{Purpose, Said};
+use crate::tests::shorter::size_of;
 use gtp_course::Lesson;
 use gtp_examiner::CheckCommand;
 use std::str;
@@ -18,6 +19,7 @@ fn said(end: usize) -> Said {
             part: 0,
         },
         is_illegal: false,
+        size: size_of(9),
         end,
     }
 }

@@ -3,7 +3,7 @@ use crate::complaint::{Complaint, complaint_text};
 use crate::engine::Fault;
 use crate::equal::assert_equal;
 use crate::talk::{Purpose, Said};
-use crate::tests::shorter::{komi, size};
+use crate::tests::shorter::{komi, size, size_of};
 use gtp_course::Lesson;
 use gtp_examiner::{CheckCommand, Kind};
 use gtp_process::Ending;
@@ -11,7 +11,7 @@ use gtp_wire::Command;
 use std::str;
 use std::test::Fail;
 
-/// A command that was asked, without its line.
+/// A command that was asked on a board of 9x9, without its line.
 fn asked(command: CheckCommand) -> Said {
     Said {
         command,
@@ -20,6 +20,7 @@ fn asked(command: CheckCommand) -> Said {
             part: 0,
         },
         is_illegal: false,
+        size: size_of(9),
         end: 0,
     }
 }
@@ -82,10 +83,11 @@ fn the_right_score_is_that_of_the_last_komi(rt: HostRuntime) -> Result<(), Fail>
 }
 
 #[test]
-fn the_right_points_are_those_of_the_last_size(rt: HostRuntime) -> Result<(), Fail> {
+fn the_right_points_are_those_of_the_board(rt: HostRuntime) -> Result<(), Fail> {
+    // The engine refuses the size 19, and has a board of 9x9 still.
     let talk = [
-        asked(size(19)),
         asked(size(9)),
+        asked(size(19)),
         asked(CheckCommand::Match(Command::ClearBoard)),
         asked(CheckCommand::Match(Command::FixedHandicap(3))),
     ];

@@ -21,12 +21,17 @@ fn by(colour: Colour, vertex: &str) -> CheckCommand {
     CheckCommand::Match(Command::Play(Move { colour, vertex }))
 }
 
+/// A size; 5 where the number is none.
+pub fn size_of(number: u32) -> Size {
+    match (Size::new(number), Size::new(5)) {
+        (Some(size), _) | (None, Some(size)) => size,
+        _ => unreachable!(),
+    }
+}
+
 /// The size is set.
 pub fn size(number: u32) -> CheckCommand {
-    match Size::new(number) {
-        Some(size) => CheckCommand::Match(Command::Boardsize(size)),
-        None => CheckCommand::Name,
-    }
+    CheckCommand::Match(Command::Boardsize(size_of(number)))
 }
 
 /// Komi is set.
@@ -37,7 +42,8 @@ pub fn komi(half_points: i32) -> CheckCommand {
     }
 }
 
-/// A conversation of these commands, of which that with this number is a `play` that a right engine refuses.
+/// A conversation of these commands on a board of 5x5, of which that with this number is a `play` that a right engine
+/// refuses.
 fn talk(alloc: Global, commands: &[CheckCommand], refused: usize) -> Result<Vec<Said>, AllocError> {
     let mut talk = Vec::new(alloc);
     for (number, command) in commands.iter().enumerate() {
@@ -48,6 +54,7 @@ fn talk(alloc: Global, commands: &[CheckCommand], refused: usize) -> Result<Vec<
                 part: 0,
             },
             is_illegal: number == refused,
+            size: size_of(5),
             end: 0,
         }])?;
     }
@@ -71,8 +78,8 @@ const UNDO_IS_KNOWN: CheckCommand = CheckCommand::KnownCommand(Known::Undo);
 
 const SCORE_IS_KNOWN: CheckCommand = CheckCommand::KnownCommand(Known::FinalScore);
 
-#[test]
-fn the_last_games_are_flat_or_whole(rt: HostRuntime) -> Result<(), Fail> {
+/// Two games. In the first a stone is put on another one, and two moves are taken back.
+fn two_games(alloc: Global) -> Result<Vec<Said>, AllocError> {
     let commands = [
         UNDO_IS_KNOWN,
         SCORE_IS_KNOWN,
@@ -92,11 +99,22 @@ fn the_last_games_are_flat_or_whole(rt: HostRuntime) -> Result<(), Fail> {
         UNDO,
         SCORE,
     ];
-    let talk = talk(rt.alloc(), commands.as_slice(), 8)?;
+    talk(alloc, commands.as_slice(), 8)
+}
+
+#[test]
+fn the_last_game_is_flat(rt: HostRuntime) -> Result<(), Fail> {
+    let talk = two_games(rt.alloc())?;
     assert_equal(&rt, games_in(talk.as_slice()), 2);
     let flat = shortened(rt.alloc(), talk.as_slice(), last_games(1, 0, false))?;
     let wanted = [SCORE_IS_KNOWN, size(5), komi(3), CLEAR, SCORE];
     assert_equal(&rt, is(&flat, wanted.as_slice()), true);
+    Ok(())
+}
+
+#[test]
+fn the_last_game_is_whole(rt: HostRuntime) -> Result<(), Fail> {
+    let talk = two_games(rt.alloc())?;
     let whole = shortened(rt.alloc(), talk.as_slice(), last_games(1, 0, true))?;
     let wanted = [
         UNDO_IS_KNOWN,
@@ -109,6 +127,12 @@ fn the_last_games_are_flat_or_whole(rt: HostRuntime) -> Result<(), Fail> {
         SCORE,
     ];
     assert_equal(&rt, is(&whole, wanted.as_slice()), true);
+    Ok(())
+}
+
+#[test]
+fn the_last_two_games_are_flat(rt: HostRuntime) -> Result<(), Fail> {
+    let talk = two_games(rt.alloc())?;
     let both = shortened(rt.alloc(), talk.as_slice(), last_games(2, 0, false))?;
     let wanted = [
         SCORE_IS_KNOWN,
@@ -157,6 +181,11 @@ fn positional_ko_explains_a_refusal(rt: HostRuntime) -> Result<(), Fail> {
     if let [before @ .., _] = refused.as_slice() {
         assert_equal(&rt, is_positional(before), false);
     }
+    // The board isn't of the size that they set: the engine refused it.
+    commands[0] = size(6);
+    let other_size = talk(rt.alloc(), commands.as_slice(), none)?;
+    assert_equal(&rt, is_positional(other_size.as_slice()), false);
+    commands[0] = size(5);
     // A move of the engine's own isn't known.
     commands[7] = GENMOVE;
     let unknown = talk(rt.alloc(), commands.as_slice(), none)?;

@@ -7,6 +7,7 @@ use crate::options::read_options;
 use crate::plan::plan_of;
 use crate::summary::{Ending, Over, first_line, last_lines};
 use crate::talk::{Purpose, Said};
+use crate::tests::shorter::size_of;
 use go_board::PlayFault;
 use gtp_course::{LESSONS, Lesson};
 use gtp_examiner::{Cause, CheckCommand, Kind};
@@ -24,6 +25,7 @@ fn said(command: Command, end: usize) -> Said {
             part: 0,
         },
         is_illegal: false,
+        size: size_of(9),
         end,
     }
 }
@@ -59,24 +61,40 @@ fn a_complaint_can_be_pasted_into_an_engine(rt: HostRuntime) -> Result<(), Fail>
     Ok(())
 }
 
-#[test]
-fn hints_are_lines_of_their_own(rt: HostRuntime) -> Result<(), Fail> {
-    let talk = [
+/// Three `undo`.
+fn three_undos() -> [Said; 3] {
+    [
         said(Command::Undo, 7),
         said(Command::Undo, 14),
         said(Command::Undo, 21),
-    ];
-    let mut complaint = Complaint {
+    ]
+}
+
+/// What was wrong after so many answers to three `undo`. The engine wrote this, and was ended by a signal.
+fn complaint_of<'t>(
+    talk: &'t [Said],
+    fault: Fault,
+    answered: usize,
+    wrote: &'t [u8],
+) -> Complaint<'t> {
+    Complaint {
         number: 12,
         lesson: Lesson::Ko,
-        fault: Fault::CutOff(PipeCause::Ended),
+        fault,
         sent: b"1 undo\n2 undo\n3 undo\n",
-        talk: talk.as_slice(),
-        answered: 0,
-        wrote: b"",
+        talk,
+        answered,
+        wrote,
         ending: gtp_process::Ending::Signal(11),
         is_positional: false,
-    };
+    }
+}
+
+#[test]
+fn how_the_process_ended_is_in_the_head_line(rt: HostRuntime) -> Result<(), Fail> {
+    let talk = three_undos();
+    let fault = Fault::CutOff(PipeCause::Ended);
+    let complaint = complaint_of(talk.as_slice(), fault, 0, b"");
     let text = complaint_text(rt.alloc(), &complaint)?;
     let expected = "# 12 ko: \"1 undo\": its output ended, signal 11
 1 undo
@@ -86,7 +104,14 @@ fn hints_are_lines_of_their_own(rt: HostRuntime) -> Result<(), Fail> {
 
 ";
     assert_equal(&rt, str::from_utf8(text.as_slice())?, expected);
-    complaint.wrote = b"=1\n";
+    Ok(())
+}
+
+#[test]
+fn an_output_ends_within_a_reply(rt: HostRuntime) -> Result<(), Fail> {
+    let talk = three_undos();
+    let fault = Fault::CutOff(PipeCause::Ended);
+    let complaint = complaint_of(talk.as_slice(), fault, 0, b"=1\n");
     let text = complaint_text(rt.alloc(), &complaint)?;
     let expected = "# 12 ko: \"1 undo\": its output ended within a reply, signal 11
 1 undo
@@ -96,9 +121,14 @@ fn hints_are_lines_of_their_own(rt: HostRuntime) -> Result<(), Fail> {
 
 ";
     assert_equal(&rt, str::from_utf8(text.as_slice())?, expected);
-    complaint.fault = Fault::Wrote(Kind::Refused);
-    complaint.answered = 2;
-    complaint.wrote = b"?3 ko\n\n";
+    Ok(())
+}
+
+#[test]
+fn the_hint_of_the_other_ko_rule_is_a_line(rt: HostRuntime) -> Result<(), Fail> {
+    let talk = three_undos();
+    let fault = Fault::Wrote(Kind::Refused);
+    let mut complaint = complaint_of(talk.as_slice(), fault, 2, b"?3 ko\n\n");
     complaint.is_positional = true;
     let text = complaint_text(rt.alloc(), &complaint)?;
     let expected = "# 12 ko: \"3 undo\": it was refused

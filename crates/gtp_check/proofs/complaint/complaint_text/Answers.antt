@@ -23,7 +23,8 @@ joined head talk wrote rule ahead ko end one two three four five six all b c d e
 
 pub returns : goal.returns
 returns c =
-    joined (head_line c.args.complaint.now) (conversation c.args.complaint.now) (wrote_line c.args.complaint.now.wrote.now)
+    joined (head_line c.args.complaint.now) (conversation c.args.complaint.now)
+    (wrote_line c.args.complaint.now.wrote.now)
     (rule_line c.args.complaint.now) (ahead_line (commands_after c.args.complaint.now))
     (ko_line c.args.complaint.now.is_positional) (10 ∷ []) _ _ _ _ _ _ _
     (c.in_ok-add_head.ensures ∙ ap (λ (text : List ℕ). text ++ head_line c.args.complaint.now) c.new-text.ensures.items)

@@ -17,7 +17,8 @@ loop-done-preserved c =
     let later = drop (length c.args.talk.now - c.loop-done.done) c.args.talk.now in
     let here = from_end c.args.talk.now c.loop-done.done said c.loop-done-test.true c.index-talk-talk.is in
     record {
-      back = flat_more c.loop-done.commands.items c.add_if.new.commands.items said later c.stays.result c.then_some.result
+      back = flat_more c.loop-done.commands.items c.add_if.new.commands.items said later c.stays.result
+          c.then_some.result
           c.loop-done.invariant.back
           (c.stays.ensures ∙ ap (λ (role : Role). stays role c.loop-done.taken_back) c.role_of-role.ensures
           ∙ ap (stays _) c.loop-done.invariant.taken)

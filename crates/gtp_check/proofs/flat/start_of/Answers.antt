@@ -12,19 +12,24 @@ returns-then-left-games-clause-start c =
     c.is_clear.result c.loop-index-test.true c.index-talk-index.is c.loop-index.invariant.left
     (c.is_clear.ensures ∙ ap is_clear c.role_of.ensures)
     (elim c.if-is_clear.branch [
-      | then-is_clear w ↦ w.left-is ∙ w.saturating_sub-left.ensures ∙ ap (λ (b : Bool). if b then c.loop-index.left - 1 else c.loop-index.left) (sym w.if-is_clear.true)
-      | else-is_clear w ↦ w.left-is ∙ ap (λ (b : Bool). if b then c.loop-index.left - 1 else c.loop-index.left) (sym w.if-is_clear.false)
+      | then-is_clear w ↦ w.left-is ∙ w.saturating_sub-left.ensures
+          ∙ ap (λ (b : Bool). if b then c.loop-index.left - 1 else c.loop-index.left) (sym w.if-is_clear.true)
+      | else-is_clear w ↦ w.left-is
+          ∙ ap (λ (b : Bool). if b then c.loop-index.left - 1 else c.loop-index.left) (sym w.if-is_clear.false)
     ]))
     c.if-left-games.true
 
 pub loop-index-preserved : goal.loop-index-preserved
 loop-index-preserved c =
-    let left = left_here c.loop-index.index c.loop-index.left c.if-is_clear.left c.args.talk.now c.index-talk-index.result
+    let left = left_here c.loop-index.index c.loop-index.left c.if-is_clear.left c.args.talk.now
+    c.index-talk-index.result
     c.is_clear.result c.loop-index-test.true c.index-talk-index.is c.loop-index.invariant.left
     (c.is_clear.ensures ∙ ap is_clear c.role_of.ensures)
     (elim c.if-is_clear.branch [
-      | then-is_clear w ↦ w.left-is ∙ w.saturating_sub-left.ensures ∙ ap (λ (b : Bool). if b then c.loop-index.left - 1 else c.loop-index.left) (sym w.if-is_clear.true)
-      | else-is_clear w ↦ w.left-is ∙ ap (λ (b : Bool). if b then c.loop-index.left - 1 else c.loop-index.left) (sym w.if-is_clear.false)
+      | then-is_clear w ↦ w.left-is ∙ w.saturating_sub-left.ensures
+          ∙ ap (λ (b : Bool). if b then c.loop-index.left - 1 else c.loop-index.left) (sym w.if-is_clear.true)
+      | else-is_clear w ↦ w.left-is
+          ∙ ap (λ (b : Bool). if b then c.loop-index.left - 1 else c.loop-index.left) (sym w.if-is_clear.false)
     ])
     in
     record {
@@ -35,5 +40,6 @@ loop-index-preserved c =
 
 pub returns-clause-start : goal.returns-clause-start
 returns-clause-start c =
-    starts_nowhere c.args.games c.loop-index.index c.args.talk.now (omega arith) (omega (arith, c.loop-index-test.false))
+    starts_nowhere c.args.games c.loop-index.index c.args.talk.now (omega arith)
+    (omega (arith, c.loop-index-test.false))
     c.loop-index.invariant.start

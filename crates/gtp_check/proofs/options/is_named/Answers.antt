@@ -8,5 +8,6 @@ pub returns : goal.returns
 returns c =
     c.contains.ensures
     ∙ list_any-map (λ (text : List ℕ). bytes_eq text c.name.result.now) (λ name. name.now) c.args.names.now
-    ∙ ap (λ (wanted : List ℕ). list_any (λ (text : List ℕ). bytes_eq text wanted) (map (λ name. name.now) c.args.names.now))
+    ∙ ap (λ (wanted : List ℕ). list_any (λ (text : List ℕ). bytes_eq text wanted)
+    (map (λ name. name.now) c.args.names.now))
     c.name.ensures

@@ -9,10 +9,12 @@ add_if-requires c = omega (arith, c.loop-lesson.invariant.few, c.loop-lesson-tes
 
 pub loop-lesson-preserved : goal.loop-lesson-preserved
 loop-lesson-preserved c =
-    AreKept-more (λ lesson. not (is_chosen c.args.options.now lesson)) c.loop-lesson.lesson-index _ c.loop-lesson.lessons c.add_if.new.lessons _
+    AreKept-more (λ lesson. not (is_chosen c.args.options.now lesson)) c.loop-lesson.lesson-index _
+    c.loop-lesson.lessons c.add_if.new.lessons _
     c.loop-lesson-test.true c.loop-lesson.invariant (ap not c.is_chosen.ensures) c.add_if.ensures.items
     c.add_if.ensures.few
 
 pub returns : goal.returns
-returns c = AreKept-all (λ lesson. not (is_chosen c.args.options.now lesson)) c.loop-lesson.lesson-index c.loop-lesson.lessons c.loop-lesson.invariant
+returns c = AreKept-all (λ lesson. not (is_chosen c.args.options.now lesson)) c.loop-lesson.lesson-index
+    c.loop-lesson.lessons c.loop-lesson.invariant
     (omega (arith, c.loop-lesson-test.false, c.loop-lesson.auto.lesson-index-end))

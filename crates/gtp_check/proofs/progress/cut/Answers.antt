@@ -16,5 +16,6 @@ loop-part-preserved c =
     (rw c.loop-part.invariant at c.add-in-loop-part.ensures)
     ∙ cut_front 79 known _
     ∙ ap (λ (t : List ℕ). take 79 t)
-    (appended-step (λ part. part.now) c.args.parts.now c.loop-part.part-index _ (c.args.before.now ++ c.args.line.now) known
+    (appended-step (λ part. part.now) c.args.parts.now c.loop-part.part-index _
+    (c.args.before.now ++ c.args.line.now) known
     c.loop-part-test.true refl)

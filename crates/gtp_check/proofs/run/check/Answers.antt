@@ -12,7 +12,8 @@ returns-in_err-lines-in-Ok g c =
 pub returns-in-Some : goal.returns-in-Some
 returns-in-Some g c =
     not_started (rw c.new-check.ensures.first at c.in-Ok.ensures.over)
-    c.clear.ensures (rw c.starts-starts.ensures at c.in-Some.ensures.failed) c.end.ensures.closed c.report_unstarted.ensures
+    c.clear.ensures (rw c.starts-starts.ensures at c.in-Some.ensures.failed) c.end.ensures.closed
+    c.report_unstarted.ensures
 
 pub returns-in_err-write_text-in-Ok : goal.returns-in_err-write_text-in-Ok
 returns-in_err-write_text-in-Ok g c =

@@ -5,13 +5,15 @@ use Rattle.gtp_check.proofs.run.run.Goals as goal
 
 pub returns-in-Err-clause-ran : goal.returns-in-Err-clause-ran
 returns-in-Err-clause-ran g c =
-    clap_ran g.S.Process.Process g.O.WriteOnce g.E.WriteOnce _ c.args.progress (g.S.Starter.asked c.args.starter.now) c.args.output.now
+    clap_ran g.S.Process.Process g.O.WriteOnce g.E.WriteOnce _ c.args.progress (g.S.Starter.asked c.args.starter.now)
+    c.args.output.now
     c.args.errors.now c.kind.result (rw (sym c.kind.ensures) at c.in-Err.ensures.fault) c.answer_error.result
     c.answer_error.new.output c.answer_error.new.errors c.answer_error.ensures
 
 pub returns-then-options-clause-ran : goal.returns-then-options-clause-ran
 returns-then-options-clause-ran g c =
-    listed (record { options = c.in-Ok.options; asked = c.in-Ok.ensures.asked; list = c.if-options.true }) c.list.ensures
+    listed (record { options = c.in-Ok.options; asked = c.in-Ok.ensures.asked; list = c.if-options.true })
+    c.list.ensures
 
 pub returns-in-Err-plan_of-clause-ran : goal.returns-in-Err-plan_of-clause-ran
 returns-in-Err-plan_of-clause-ran g c =

@@ -16,4 +16,5 @@ returns c =
     let whole : c.loop-lesson.lesson-index ≡ 13 =
     omega (arith, c.loop-lesson-test.false, c.loop-lesson.auto.lesson-index-end) in
     c.loop-lesson.invariant
-    ∙ ap (λ number. c.args.text.now.items ++ concat (map (hidden_line c.args.hidden.now) (take number all_lessons))) whole
+    ∙ ap (λ number.
+    c.args.text.now.items ++ concat (map (hidden_line c.args.hidden.now) (take number all_lessons))) whole

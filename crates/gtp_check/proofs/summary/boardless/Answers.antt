@@ -8,10 +8,12 @@ add_if-requires c = omega (arith, c.loop-lesson.invariant.few, c.loop-lesson-tes
 
 pub loop-lesson-preserved : goal.loop-lesson-preserved
 loop-lesson-preserved c =
-    AreKept-more (is_boardless c.args.lessons.now c.args.missed.now c.args.asked.now) c.loop-lesson.lesson-index _ c.loop-lesson.kept c.add_if.new.lessons _
+    AreKept-more (is_boardless c.args.lessons.now c.args.missed.now c.args.asked.now) c.loop-lesson.lesson-index _
+    c.loop-lesson.kept c.add_if.new.lessons _
     c.loop-lesson-test.true c.loop-lesson.invariant c.is_boardless.ensures c.add_if.ensures.items
     c.add_if.ensures.few
 
 pub returns : goal.returns
-returns c = AreKept-all (is_boardless c.args.lessons.now c.args.missed.now c.args.asked.now) c.loop-lesson.lesson-index c.loop-lesson.kept c.loop-lesson.invariant
+returns c = AreKept-all (is_boardless c.args.lessons.now c.args.missed.now c.args.asked.now) c.loop-lesson.lesson-index
+    c.loop-lesson.kept c.loop-lesson.invariant
     (omega (arith, c.loop-lesson-test.false, c.loop-lesson.auto.lesson-index-end))

@@ -1,6 +1,7 @@
 use Rattle.std.proofs.Common.{◌∙◌, ◌++◌, ℕ, List, [], ◌∷◌, ap, codes}
 use Rattle.gtp_course.specs.declared.lessons.Lesson.{Lesson}
-use Rattle.gtp_check.specs.Summary.{boardless_line, counts_line, hidden_lines, lack_lines, lessons_line, missed_lines, refused_line}
+use Rattle.gtp_check.specs.Summary.{boardless_line, counts_line, hidden_lines, lack_lines, lessons_line, missed_lines}
+use Rattle.gtp_check.specs.Summary.{refused_line}
 use Rattle.gtp_check.proofs.Joining.{one_more}
 use Rattle.gtp_check.proofs.summary.last_lines.Goals as goal
 

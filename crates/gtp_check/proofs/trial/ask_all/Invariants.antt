@@ -1,6 +1,6 @@
 use Rattle.std.proofs.Common.{◌≡◌, [], ◌++◌}
 use Rattle.gtp_examiner.specs.Check.{with_exam}
-use Rattle.gtp_check.specs.Dialogues.{Converses, dialogue}
+use Rattle.gtp_check.specs.Dialogues.{AreFor, Converses, dialogue}
 use Rattle.gtp_check.specs.Shortening.{commands_of}
 use Rattle.gtp_check.proofs.trial.ask_all.Given as goal
 
@@ -11,4 +11,5 @@ invariant-loop-exchange g l = record {
       (dialogue l.engine l.notes);
   check : l.examiner ≡ with_exam l.fn.examiner l.examiner.exam;
   first : l.fn.engine.talk.items ≡ [] → commands_of l.engine.talk.items ++ l.rest ≡ l.commands;
+  purposes : l.fn.engine.talk.items ≡ [] → AreFor l.purpose l.engine.talk.items;
 }

@@ -3,7 +3,7 @@ use Rattle.std.proofs.lemmas.List.{append-nil}
 use Rattle.gtp_check.specs.Dialogues.{asks, begins, dialogue}
 use Rattle.gtp_check.specs.Shortening.{commands_of}
 use Rattle.gtp_check.proofs.Conversations.{with_another}
-use Rattle.gtp_check.proofs.Trials.{asked_more, one_more_of}
+use Rattle.gtp_check.proofs.Trials.{asked_for, asked_more, one_more_of}
 use Rattle.gtp_check.proofs.trial.ask_some.Goals as goal
 
 pub loop-index-init : goal.loop-index-init
@@ -11,6 +11,7 @@ loop-index-init g c = record {
   converses = begins;
   check = refl;
   first = sym (append-nil (commands_of c.args.engine.now.talk.items));
+  purposes = λ all. all;
 }
 
 pub loop-index-preserved : goal.loop-index-preserved
@@ -27,6 +28,9 @@ loop-index-preserved g c =
           (dialogue c.loop-index.engine c.loop-index.notes) c.index-commands-index.result c.ask.new.examiner.exam
           (dialogue c.ask.new.self c.ask.new.notes) c.in_ok-ask.ensures.asked)
           c.loop-index-test.true c.index-commands-index.is;
+      purposes = λ all. asked_for c.args.purpose c.loop-index.examiner.exam
+          (dialogue c.loop-index.engine c.loop-index.notes) c.index-commands-index.result c.ask.new.examiner.exam
+          (dialogue c.ask.new.self c.ask.new.notes) c.in_ok-ask.ensures.asked (before.purposes all);
     }
 
 pub returns-clause-first : goal.returns-clause-first

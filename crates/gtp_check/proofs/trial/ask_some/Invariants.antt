@@ -1,6 +1,6 @@
 use Rattle.std.proofs.Common.{◌≡◌, ◌++◌, take}
 use Rattle.gtp_examiner.specs.Check.{with_exam}
-use Rattle.gtp_check.specs.Dialogues.{Converses, dialogue}
+use Rattle.gtp_check.specs.Dialogues.{AreFor, Converses, dialogue}
 use Rattle.gtp_check.specs.Shortening.{commands_of}
 use Rattle.gtp_check.proofs.trial.ask_some.Given as goal
 
@@ -11,4 +11,5 @@ invariant-loop-index g l = record {
       (dialogue l.engine l.notes);
   check : l.examiner ≡ with_exam l.fn.examiner l.examiner.exam;
   first : commands_of l.engine.talk.items ≡ commands_of l.fn.engine.talk.items ++ take l.index l.commands;
+  purposes : AreFor l.purpose l.fn.engine.talk.items → AreFor l.purpose l.engine.talk.items;
 }

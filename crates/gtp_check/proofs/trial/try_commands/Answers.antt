@@ -9,7 +9,8 @@ use Rattle.gtp_check.proofs.trial.try_commands.Goals as goal
 
 pub returns-in-Err-OutOfMemory-clause-refused : goal.returns-in-Err-OutOfMemory-clause-refused
 returns-in-Err-OutOfMemory-clause-refused g c =
-    one_more (Err start_fault.OutOfMemory) none (rw c.in-Err-OutOfMemory.field-0-is at c.in-Err-OutOfMemory.ensures.asked)
+    one_more (Err start_fault.OutOfMemory) none
+    (rw c.in-Err-OutOfMemory.field-0-is at c.in-Err-OutOfMemory.ensures.asked)
 
 pub returns-in-Err-NotStarted-clause-tried : goal.returns-in-Err-NotStarted-clause-tried
 returns-in-Err-NotStarted-clause-tried g c =
@@ -24,7 +25,8 @@ pub returns-in-Some-clause-tried : goal.returns-in-Some-clause-tried
 returns-in-Some-clause-tried g c =
     let said = c.end-said.ensures.said in
     rw c.lost.ensures
-    (trial_wrong g.S.Process.Process (program_line c.args.words.now) c.args.commands.now c.args.examiner.now c.started.new.self
+    (trial_wrong g.S.Process.Process (program_line c.args.words.now) c.args.purpose c.args.commands.now
+    c.args.examiner.now c.started.new.self
     c.ask_all-found.new.examiner _ _ c.args.notes.now c.in-Ok.process (dialogue c.new-engine.result c.args.notes.now)
     (dialogue c.ask_all-found.new.engine c.ask_all-found.new.notes) c.end-said.result.ending c.in-Some.fault _
     c.started.ensures (c.new-engine.ensures c.args.notes.now) c.ask_all-found.ensures.check c.in-Ok.ensures.asked
@@ -36,7 +38,8 @@ returns-in-Some-clause-tried g c =
 pub returns-in-None-clause-tried : goal.returns-in-None-clause-tried
 returns-in-None-clause-tried g c =
     rw c.lost.ensures
-    (trial_right g.S.Process.Process (program_line c.args.words.now) c.args.commands.now c.args.examiner.now c.started.new.self
+    (trial_right g.S.Process.Process (program_line c.args.words.now) c.args.purpose c.args.commands.now
+    c.args.examiner.now c.started.new.self
     c.ask_all-found.new.examiner _ _ c.args.notes.now c.in-Ok.process (dialogue c.new-engine.result c.args.notes.now)
     (dialogue c.ask_all-found.new.engine c.ask_all-found.new.notes) c.end-said.result.ending
     c.started.ensures (c.new-engine.ensures c.args.notes.now) c.ask_all-found.ensures.check c.in-Ok.ensures.asked

@@ -21,7 +21,8 @@ returns-in_err-write_first-clause-stops g c =
     rw (failed.1, failed.2)
     (first_stops g.S.Process.Process c.args.plan.now g.O.WriteOnce g.E.WriteOnce c.args.progress _
     (state new.examiner new.course new.engine new.tally new.notes) (g.S.Starter.asked c.args.starter.now) c.args.fault
-    c.args.output.now c.write_first.new.output c.args.errors.now c.write_first.new.errors _ (rw c.is_some.ensures at c.in_err-write_first.ensures.stops))
+    c.args.output.now c.write_first.new.output c.args.errors.now c.write_first.new.errors _
+    (rw c.is_some.ensures at c.in_err-write_first.ensures.stops))
 
 pub returns-in-Some-clause-goes_out : goal.returns-in-Some-clause-goes_out
 returns-in-Some-clause-goes_out g c =

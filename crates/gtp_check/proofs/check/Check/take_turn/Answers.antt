@@ -20,7 +20,8 @@ returns-in-Start-clause-turn g c =
     let goes = rw c.in-Start.is at c.in_ok-gather.ensures.gathers in
     where_value c.start.result c.start.ensures.begins (λ why begins.
     begun_turn g.S.Process.Process c.args.plan.now g.O.WriteOnce g.E.WriteOnce c.args.progress _
-    (g.S.Starter.asked c.args.starter.now) c.args.output.now c.args.errors.now (state mid.examiner mid.course mid.engine mid.tally mid.notes)
+    (g.S.Starter.asked c.args.starter.now) c.args.output.now c.args.errors.now
+    (state mid.examiner mid.course mid.engine mid.tally mid.notes)
     (state last.examiner last.course last.engine last.tally last.notes) (g.S.Starter.asked c.start.new.starter) why
     goes begins)
 
@@ -31,7 +32,8 @@ returns-in-Start-clause-stops g c =
     let goes = rw c.in-Start.is at c.in_ok-gather.ensures.gathers in
     where_failed c.start.result c.start.ensures.refused (λ why refused.
     refused_turn g.S.Process.Process c.args.plan.now g.O.WriteOnce g.E.WriteOnce c.args.progress _
-    (g.S.Starter.asked c.args.starter.now) c.args.output.now c.args.errors.now (state mid.examiner mid.course mid.engine mid.tally mid.notes)
+    (g.S.Starter.asked c.args.starter.now) c.args.output.now c.args.errors.now
+    (state mid.examiner mid.course mid.engine mid.tally mid.notes)
     (state last.examiner last.course last.engine last.tally last.notes) (g.S.Starter.asked c.start.new.starter) why
     goes refused)
 
@@ -40,7 +42,8 @@ returns-in-Restart-clause-turn g c =
     let mid = c.gather.new.self in
     let last = c.restart.new.self in
     ended_turn g.S.Process.Process c.args.plan.now g.O.WriteOnce g.E.WriteOnce c.args.progress _
-    (g.S.Starter.asked c.args.starter.now) c.args.output.now c.args.errors.now (state mid.examiner mid.course mid.engine mid.tally mid.notes)
+    (g.S.Starter.asked c.args.starter.now) c.args.output.now c.args.errors.now
+    (state mid.examiner mid.course mid.engine mid.tally mid.notes)
     (state last.examiner last.course last.engine last.tally last.notes)
     (rw c.in-Restart.is at c.in_ok-gather.ensures.gathers) c.restart.ensures.quits c.restart.ensures.leads
 
@@ -49,7 +52,8 @@ returns-in-Kill-clause-turn g c =
     let mid = c.gather.new.self in
     let last = c.kill.new.self in
     killed_turn g.S.Process.Process c.args.plan.now g.O.WriteOnce g.E.WriteOnce c.args.progress _
-    (g.S.Starter.asked c.args.starter.now) c.args.output.now c.args.errors.now (state mid.examiner mid.course mid.engine mid.tally mid.notes)
+    (g.S.Starter.asked c.args.starter.now) c.args.output.now c.args.errors.now
+    (state mid.examiner mid.course mid.engine mid.tally mid.notes)
     (state last.examiner last.course last.engine last.tally last.notes)
     (rw c.in-Kill.is at c.in_ok-gather.ensures.gathers) c.kill.ensures.ends c.kill.ensures.leads
 
@@ -58,7 +62,8 @@ returns-in-Over-clause-turn g c =
     let mid = c.gather.new.self in
     let gathers = rw c.in-Over.is at c.in_ok-gather.ensures.gathers in
     over_turn g.S.Process.Process c.args.plan.now g.O.WriteOnce g.E.WriteOnce c.args.progress _
-    (g.S.Starter.asked c.args.starter.now) c.args.output.now c.args.errors.now (state mid.examiner mid.course mid.engine mid.tally mid.notes) gathers.0 gathers.1
+    (g.S.Starter.asked c.args.starter.now) c.args.output.now c.args.errors.now
+    (state mid.examiner mid.course mid.engine mid.tally mid.notes) gathers.0 gathers.1
 
 pub returns-in_err-settle-in-Exchange-clause-stops : goal.returns-in_err-settle-in-Exchange-clause-stops
 returns-in_err-settle-in-Exchange-clause-stops g c =

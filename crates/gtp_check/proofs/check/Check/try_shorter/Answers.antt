@@ -6,8 +6,10 @@ use Rattle.gtp_check.specs.Shortening.{games_in, shortened}
 use Rattle.gtp_check.specs.Turns.{TriesShorter, state}
 use Rattle.gtp_check.proofs.Shortening.{may_try}
 use Rattle.gtp_check.proofs.check.Check.try_shorter.Goals as goal
-use Rattle.gtp_check.proofs.check.Check.try_shorter.Goals.{then-talk-le-FEW_COMMANDS-via-then-talk-le-FEW_COMMANDS, then-talk-le-FEW_COMMANDS-via-else-talk-le-FEW_COMMANDS+then-games_in-shortening}
-use Rattle.gtp_check.proofs.check.Check.try_shorter.Goals.{then-len-talk-via-then-len-talk, then-len-talk-via-else-len-talk+then-not-has_start}
+use Rattle.gtp_check.proofs.check.Check.try_shorter.Goals.{then-talk-le-FEW_COMMANDS-via-then-talk-le-FEW_COMMANDS}
+use Rattle.gtp_check.proofs.check.Check.try_shorter.Goals.{then-talk-le-FEW_COMMANDS-via-else-talk-le-FEW_COMMANDS+then-games_in-shortening}
+use Rattle.gtp_check.proofs.check.Check.try_shorter.Goals.{then-len-talk-via-then-len-talk}
+use Rattle.gtp_check.proofs.check.Check.try_shorter.Goals.{then-len-talk-via-else-len-talk+then-not-has_start}
 
 pub returns-then-talk-le-FEW_COMMANDS-clause-tries : goal.returns-then-talk-le-FEW_COMMANDS-clause-tries
 returns-then-talk-le-FEW_COMMANDS-clause-tries g c =
@@ -53,7 +55,14 @@ returns-in_default-clause-tries g c =
     (omega (arith, c.if-games_in-shortening.false)) (omega (arith, c.if-len-talk.false, c.len.ensures))
     (c.has_start.ensures.yes c.if-not-has_start.false))
     (record {
-      trial = rw (c.as_slice.ensures.value, c.as_slice-2.ensures.value, c.in_ok-commands.ensures, c.conversation-talk.ensures, c.in_default.is)
+      trial = rw (
+        c.as_slice.ensures.value,
+        c.as_slice-2.ensures.value,
+        c.in_ok-commands.ensures,
+        c.conversation-talk.ensures,
+        c.purpose.ensures,
+        c.in_default.is,
+      )
           at c.in_ok-tried.ensures.tried;
       leads = ap (λ (tally : Tally). state c.try_commands.new.examiner c.args.self.now.course c.args.self.now.engine
           tally c.try_commands.new.notes) c.take_start.ensures.left;
@@ -70,7 +79,14 @@ returns-then-ends_like-clause-tries g c =
     (omega (arith, c.if-games_in-shortening.false)) (omega (arith, c.if-len-talk.false, c.len.ensures))
     (c.has_start.ensures.yes c.if-not-has_start.false))
     (record {
-      trial = rw (c.as_slice.ensures.value, c.as_slice-2.ensures.value, c.in_ok-commands.ensures, c.conversation-talk.ensures, c.in-Some.is)
+      trial = rw (
+        c.as_slice.ensures.value,
+        c.as_slice-2.ensures.value,
+        c.in_ok-commands.ensures,
+        c.conversation-talk.ensures,
+        c.purpose.ensures,
+        c.in-Some.is,
+      )
           at c.in_ok-tried.ensures.tried;
       leads = ap (λ (tally : Tally). state c.try_commands.new.examiner c.args.self.now.course c.args.self.now.engine
           tally c.try_commands.new.notes) c.take_start.ensures.left;
@@ -88,7 +104,14 @@ returns-clause-tries g c =
     (omega (arith, c.if-games_in-shortening.false)) (omega (arith, c.if-len-talk.false, c.len.ensures))
     (c.has_start.ensures.yes c.if-not-has_start.false))
     (record {
-      trial = rw (c.as_slice.ensures.value, c.as_slice-2.ensures.value, c.in_ok-commands.ensures, c.conversation-talk.ensures, c.in-Some.is)
+      trial = rw (
+        c.as_slice.ensures.value,
+        c.as_slice-2.ensures.value,
+        c.in_ok-commands.ensures,
+        c.conversation-talk.ensures,
+        c.purpose.ensures,
+        c.in-Some.is,
+      )
           at c.in_ok-tried.ensures.tried;
       leads = ap (λ (tally : Tally). state c.try_commands.new.examiner c.args.self.now.course c.args.self.now.engine
           tally c.try_commands.new.notes) c.take_start.ensures.left;

@@ -10,7 +10,8 @@ returns-in-Ok-eq0-clause-read g c =
 
 pub returns-in-Ok-clause-read : goal.returns-in-Ok-clause-read
 returns-in-Ok-clause-read g c =
-    gives _ c.read_some.new.process (grind (arith, common_steps, c.in-Ok.count-is, c.in-Ok.ensures.bound)) (search rules)
+    gives _ c.read_some.new.process (grind (arith, common_steps, c.in-Ok.count-is, c.in-Ok.ensures.bound))
+    (search rules)
     (c.in-Ok.ensures.unbroken (grind (arith, c.in-Ok.count-is))) c.in-Ok.ensures.taken c.hear_read.ensures.heard
 
 pub returns-in-Err-clause-read : goal.returns-in-Err-clause-read
