@@ -9,6 +9,8 @@ ghost use Rattle.go_board.specs.Board.{place_count};
 ghost use Rattle.go_board.specs.private.TakenStack.{most_taken};
 ghost use Rattle.go_board.specs.Taken.{same_colour};
 
+mod copies;
+
 use crate::board::{Board, Cell, place_of};
 use crate::chains::Chains;
 use crate::faults::{HandicapFault, NothingToUndo, PlayFault};

@@ -60,6 +60,25 @@ impl TakenStack {
         }
     }
 
+    /// A copy.
+    pub fn copy(&self) -> Self
+        ensures { result ≡ self.now }
+    {
+        let mut stones = ArrayVec::new();
+        // There is room: both have the same.
+        let _ = stones.try_extend_from_slice(&self.stones);
+        TakenStack { stones }
+    }
+
+    /// Becomes a copy of another stack, in place.
+    pub fn copy_from(&mut self, other: &TakenStack)
+        ensures { self.new ≡ other.now }
+    {
+        self.stones.clear();
+        // There is room: both have the same.
+        let _ = self.stones.try_extend_from_slice(&other.stones);
+    }
+
     /// Adds a stone.
     #[inline]
     pub fn push(&mut self, place: usize, number: usize)
