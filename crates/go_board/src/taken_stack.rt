@@ -49,7 +49,7 @@ impl Model for TakenStack {
 
 impl TakenStack {
     ghost use Rattle.std.specs.Prelude.{IfSome, IfNone, ℕ};
-    ghost use Rattle.go_board.specs.private.TakenStack.{IsNotLast, IsOnlyTaken};
+    ghost use Rattle.go_board.specs.private.TakenStack.{IsNotLast, IsOnlyTaken, AreLastOf};
 
     /// No stone.
     pub fn new() -> Self
@@ -117,6 +117,18 @@ impl TakenStack {
         ensures { result.now ≡ self.now }
     {
         &self.stones
+    }
+
+    /// The stones that the move with this number took, where no later one took any.
+    pub fn taken_by(&self, number: usize) -> &[TakenStone]
+        ensures { AreLastOf self.now number result.now }
+    {
+        let stones = self.stones();
+        let mut first = stones.len();
+        while first > 0 && usize::from(stones[first - 1].number) == number {
+            first -= 1;
+        }
+        &stones[first..]
     }
 
     /// The place of the last stone, if it is the only one that the move with this number took.
