@@ -6,7 +6,7 @@ use Rattle.go_board.specs.Chain.{Joined}
 use Rattle.go_board.specs.Laws.{IsOfSoMany}
 use Rattle.go_board.specs.declared.board.Cell.{Cell}
 use Rattle.go_board.specs.declared.board.Cell.TheVariants.{Empty}
-use Rattle.go_board.specs.declared.game.chain_at.Chain.{Chain}
+use Rattle.go_board.specs.declared.game.searching.Chain.{Chain}
 
 -- q is a liberty of the chain of the stone on p: an empty point that is a neighbour of some stone of the chain
 pub record IsLiberty (board : List Cell) (p q : ℕ) : Type 0 where

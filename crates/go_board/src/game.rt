@@ -9,11 +9,8 @@ ghost use Rattle.go_board.specs.Board.{place_count};
 ghost use Rattle.go_board.specs.private.TakenStack.{most_taken};
 ghost use Rattle.go_board.specs.Taken.{same_colour};
 
-mod board_hash;
-mod chain_at;
 mod copies;
-mod last_taken;
-mod legal_points;
+mod searching;
 
 use crate::board::{Board, Cell, place_of};
 use crate::chains::Chains;
@@ -22,9 +19,8 @@ use crate::ko::{Ko, ko_after};
 use crate::rules::KoRule;
 use crate::taken_stack::TakenStack;
 use arrayvec::ArrayVec;
-pub use chain_at::Chain;
 use go_base::{Colour, Komi, Move, Point, Size, Vertex, handicap};
-pub use legal_points::MOST_POINTS;
+pub use searching::{Chain, MOST_POINTS};
 use std::marker::Model;
 
 /// How many moves a record has room for.
