@@ -12,5 +12,6 @@ pub mod LegalPoints
 pub mod Liberties
 pub mod LastTaken
 pub mod Hash
+pub mod KeptHash
 pub mod decisions
 pub mod private

@@ -2,6 +2,7 @@
 ghost use Rattle.std.specs.Prelude.{◌≡◌, ◌<◌};
 ghost use Rattle.go_board.specs.Board.{place_count};
 ghost use Rattle.go_board.specs.Hash.{mixed, stone_key, key_of};
+ghost use Rattle.go_board.specs.KeptHash.{HashesFollowPlays};
 
 use crate::board::{Cell, place_of};
 use go_base::{Colour, Point};
@@ -9,9 +10,11 @@ use go_base::{Colour, Point};
 /// What numbers are multiplied by before they are mixed, odd and near 2^64 over the golden ratio.
 const STEP: u64 = 0x9e37_79b9_7f4a_7c15;
 
-/// The key of a stone of this colour on a point, which is what it adds to `Game::board_hash`.
+/// The key of a stone of this colour on a point, which is what it adds to `Game::board_hash`. So a play adds the key of
+/// its stone to the hash, and takes away those of the stones that it takes, in 64 bits.
 pub fn stone_key(colour: Colour, point: Point) -> u64
-    ensures { result ≡ stone_key colour point }
+    ensures key { result ≡ stone_key colour point }
+    ensures kept { HashesFollowPlays }
 {
     key_at(colour, place_of(point))
 }

@@ -84,7 +84,7 @@ left-back game c (At p) board l left =
 
 -- ---- the first board
 
-Contains-cases : (x : ℕ) (xs : List ℕ) (q : ℕ) → Contains (x ∷ xs) q → (x ≡ q) ⊎ Contains xs q
+pub Contains-cases : (x : ℕ) (xs : List ℕ) (q : ℕ) → Contains (x ∷ xs) q → (x ≡ q) ⊎ Contains xs q
 Contains-cases x xs q (zero, below, is) = inl is
 Contains-cases x xs q (suc k, below, is) = inr (k, omega arith, is)
 

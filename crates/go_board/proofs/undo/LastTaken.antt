@@ -45,7 +45,7 @@ pub record IsGone (old new : List Cell) (q : ℕ) : Type 0 where
   pub stood : IsStone (at old q)
   pub gone : at new q ≡ Empty
 
-captured-gone : (board : List Cell) (c : Colour) (p q : ℕ) → at board p ≡ Empty
+pub captured-gone : (board : List Cell) (c : Colour) (p q : ℕ) → at board p ≡ Empty
     → IsCaptured (set board p (stone c)) (other c) q → IsGone board (play board c p) q
 captured-gone board c p q empty taken = record {
   stood = elim (cases_eq q p) [
@@ -57,7 +57,7 @@ captured-gone board c p q empty taken = record {
   gone = (play-leaves board c p empty).taken q taken;
 }
 
-gone-captured : (board : List Cell) (c : Colour) (p q : ℕ) → at board p ≡ Empty → IsGone board (play board c p) q
+pub gone-captured : (board : List Cell) (c : Colour) (p q : ℕ) → at board p ≡ Empty → IsGone board (play board c p) q
     → IsCaptured (set board p (stone c)) (other c) q
 gone-captured board c p q empty g =
     by_dec (captured? (set board p (stone c)) (other c) q) (λ h. h) (λ k.
