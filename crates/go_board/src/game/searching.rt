@@ -32,8 +32,8 @@ impl Game {
     ghost use Rattle.go_board.specs.LegalPoints.{AreLegalPoints};
     ghost use Rattle.go_board.specs.Liberties.{IsChainAt};
 
-    /// The points on which a colour may play next, in the order A1, B1, .., A2, B2, ...: those for which `legal` returns
-    /// true. Places without an empty point are passed over.
+    /// The points on which a colour may play next, in the order A1, B1, .., A2, B2, ...: those for which `legal`
+    /// returns true. Places without an empty point are passed over.
     pub fn legal_points(&self, colour: Colour) -> ArrayVec<Point, MOST_POINTS>
         ensures { AreLegalPoints self.now colour result.items }
     {
@@ -75,7 +75,7 @@ impl Game {
     }
 
     /// The points of the stones that the last move of the record took, in the order A1, B1, .., A2, B2, ...: none where
-    /// it is a pass or took none, and none where the record has no move. After an `undo` the last move is the one before.
+    /// it is a pass or took none, and none where the record has no move. After an `undo` that is the move before.
     pub fn taken_by_last_move(&self) -> ArrayVec<Point, MOST_POINTS>
         ensures { AreTakenByLast self.now result.items }
     {
@@ -92,8 +92,9 @@ impl Game {
     /// A hash of the board: the sum of the keys of its stones, in 64 bits. Games with equal boards have equal hashes,
     /// whatever else differs: the komi, the ko rule, who is to move, and by which moves the board came about.
     ///
-    /// It is computed at each call, in a pass over the board. A search that keeps one beside its game adds `stone_key` of
-    /// each stone that comes, and subtracts that of each that goes (`taken_by_last_move`), both wrapping.
+    /// It is computed at each call, in a pass over the board. A search that keeps one beside its game adds the
+    /// `stone_key` of each stone that comes, and subtracts that of each that goes (`taken_by_last_move`), both
+    /// wrapping.
     pub fn board_hash(&self) -> u64
         ensures { result ≡ hash_of (board_of self.now) }
     {
