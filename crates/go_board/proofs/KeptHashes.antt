@@ -69,7 +69,8 @@ sum-listed k h n (x ∷ xs) rising there away =
     let here = there x (0, omega arith, refl) in
     let is = here.1 in
     let later : (q : ℕ) → Contains xs q → x < q =
-    λ q c. subst (λ (r : ℕ). x < r) c.2 (rising 0 (suc c.0) q (omega arith) (let below = c.1 in omega (arith, below))) in
+    λ q c. let below = c.1 in
+    subst (λ (r : ℕ). x < r) c.2 (rising 0 (suc c.0) q (omega arith) (omega (arith, below))) in
     let rest = sum-listed k (but h x) n xs
     (λ i j d less below. rising (suc i) (suc j) d (omega (arith, less)) (omega (arith, below)))
     (λ q c.
@@ -122,7 +123,8 @@ each-place board c p q empty =
       | inr away ↦ elim (dec_sum (captured? (set board p (stone c)) (other c) q)) [
         | inl taken ↦
             let f = ap (λ (x : Cell). key_of x q) ((play-leaves board c p empty).taken q taken) in
-            let h = pick-yes (dec_sum (captured? (set board p (stone c)) (other c) q)) (stone_key (other c) q) 0 taken in
+            let h =
+            pick-yes (dec_sum (captured? (set board p (stone c)) (other c) q)) (stone_key (other c) q) 0 taken in
             let g = ap (λ (x : Cell). key_of x q) (sym (get_or-set_other board p q (stone c) Edge away) ∙ taken.0)
             ∙ stone-keys (other c) q in
             let d = pick-no (cases_eq q p) (stone_key c q) 0 away in

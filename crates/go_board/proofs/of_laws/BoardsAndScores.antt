@@ -43,7 +43,8 @@ use Rattle.go_board.proofs.General.{by_dec}
 
 -- ---- what a play leaves
 
-pub play-leaves : (board : List Cell) (c : Colour) (p : ℕ) → at board p ≡ Empty → IsLeftByPlay board c p (play board c p)
+pub play-leaves : (board : List Cell) (c : Colour) (p : ℕ) → at board p ≡ Empty
+    → IsLeftByPlay board c p (play board c p)
 unfolding play without_captured
 play-leaves board c p empty =
     let with_stone : List Cell = set board p (stone c) in
