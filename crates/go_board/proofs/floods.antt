@@ -2,3 +2,4 @@
 pub mod PlaceSets
 pub mod Regions
 pub mod OneChain
+pub mod Liberties

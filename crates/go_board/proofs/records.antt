@@ -4,3 +4,4 @@ pub mod GameFields
 pub mod TakenCounts
 pub mod TakenStack
 pub mod EveryGame
+pub mod LegalPoints

@@ -3,3 +3,4 @@ pub mod PoppedStones
 pub mod RestoredStones
 pub mod BoardsBefore
 pub mod UnmadePlays
+pub mod LastTaken

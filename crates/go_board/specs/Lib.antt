@@ -8,5 +8,10 @@ pub mod Area
 pub mod Refusals
 pub mod Show
 pub mod Laws
+pub mod LegalPoints
+pub mod Liberties
+pub mod LastTaken
+pub mod Hash
+pub mod KeptHash
 pub mod decisions
 pub mod private

@@ -1,9 +1,10 @@
 //! A board as an array of places with edge round the points.
-ghost use Rattle.std.specs.Prelude.{◌≡◌, ◌≢◌, ℕ, ◌<◌, ◌≤◌, ◌↔◌, ◌⊎◌, if◌then◌else◌, IsTrue, All, ◌+◌};
+ghost use Rattle.std.specs.Prelude.{◌≡◌, ◌≢◌, ℕ, ◌<◌, ◌≤◌, ◌↔◌, ◌⊎◌, if◌then◌else◌, IsTrue, All, ◌+◌, Contains};
 ghost use Rattle.go_base.specs.Point.{IsOn};
 ghost use Rattle.go_base.specs.Size.{most_size, IsSize};
 ghost use Rattle.go_board.specs.Board.{is_point};
 
+use crate::hashes::key_of;
 use crate::places::Places;
 use crate::taken_stack::TakenStone;
 use go_base::{Colour, Point, Size, Vertex, handicap};
@@ -74,6 +75,18 @@ pub fn place_of(point: Point) -> usize
     ROW * point.row() as usize + point.column() as usize
 }
 
+/// The point of a place that is one.
+#[inline]
+pub fn point_at(place: usize) -> Point
+    requires { IsOn most_size place }
+    ensures { result ≡ place }
+{
+    match Point::new((place % ROW) as u32, (place / ROW) as u32) {
+        Some(point) => point,
+        None => unreachable!(),
+    }
+}
+
 /// What a place of an empty board holds: nothing where it is one of the points of `lines` lines each way, and edge
 /// elsewhere.
 #[inline]
@@ -121,7 +134,8 @@ impl Board {
     ghost use Rattle.go_board.specs.Counting.{CountsFor};
     ghost use Rattle.go_board.specs.Area.{area};
     ghost use Rattle.go_board.specs.Chain.{HasBeside};
-    ghost use Rattle.go_board.specs.private.Flood.{IsSpread, AreSpread, AreTouching};
+    ghost use Rattle.go_board.specs.Hash.{hash_of};
+    ghost use Rattle.go_board.specs.private.Flood.{IsSpread, AreSpread, AreTouching, AreEmptyBeside};
     ghost use Rattle.go_board.specs.Game.{start, after_vertex};
     ghost use Rattle.go_board.specs.private.TakenStack.{ArePoints, AreTakenBy, IsVacant, cleared, later_than};
     ghost use Rattle.go_board.specs.declared.board.Cell.TheVariants.{Edge};
@@ -189,6 +203,17 @@ impl Board {
         ensures { self.new ≡ slice_set self.old place cell }
     {
         self.cells[place] = cell;
+    }
+
+    /// The sum of the keys of the stones, in 64 bits.
+    pub fn hash(&self) -> u64
+        ensures { result ≡ hash_of self.now }
+    {
+        let mut sum = 0_u64;
+        for (place, cell) in self.cells.iter().enumerate() {
+            sum = sum.wrapping_add(key_of(*cell, place));
+        }
+        sum
     }
 
     /// Whether all places hold the same on another board. A place that may well differ is looked at first.
@@ -313,6 +338,20 @@ impl Board {
             self.spread_round(sought, place, found);
             next += 1;
         }
+    }
+
+    /// The empty points beside these places.
+    pub fn empty_beside_all(&self, places: &Places) -> Places
+        requires { (p : ℕ) → Contains places.now p → at self.now p ≢ Edge }
+        ensures { AreEmptyBeside self.now places.now result }
+    {
+        // A look: what isn't edge is a point of the largest board.
+        let _ = &self.cells;
+        let mut found = Places::new();
+        for index in 0..places.len() {
+            self.spread_round(Cell::Empty, places.get(index), &mut found);
+        }
+        found
     }
 
     /// Inserts those of a point's four neighbours that hold what is sought.

@@ -9,6 +9,9 @@ ghost use Rattle.go_board.specs.Board.{place_count};
 ghost use Rattle.go_board.specs.private.TakenStack.{most_taken};
 ghost use Rattle.go_board.specs.Taken.{same_colour};
 
+mod copies;
+mod searching;
+
 use crate::board::{Board, Cell, place_of};
 use crate::chains::Chains;
 use crate::faults::{HandicapFault, NothingToUndo, PlayFault};
@@ -17,6 +20,7 @@ use crate::rules::KoRule;
 use crate::taken_stack::TakenStack;
 use arrayvec::ArrayVec;
 use go_base::{Colour, Komi, Move, Point, Size, Vertex, handicap};
+pub use searching::{Chain, MOST_POINTS};
 use std::marker::Model;
 
 /// How many moves a record has room for.

@@ -1,5 +1,7 @@
 //! A set of places that remembers the order in which they were inserted.
-ghost use Rattle.std.specs.Prelude.{◌≡◌, ℕ, ◌<◌, ◌≤◌, ◌↔◌, ◌⊎◌, [], ◌∷◌, ◌++◌, Contains, IsTrue, length, slice_index};
+ghost use Rattle.std.specs.Prelude.{◌≡◌, ◌≢◌, ℕ, ◌<◌, ◌≤◌, ◌↔◌, ◌⊎◌, [], ◌∷◌, ◌++◌, Contains, IsTrue, length};
+ghost use Rattle.std.specs.Prelude.{slice_index};
+ghost use Rattle.std.specs.List.{AllPairs};
 ghost use Rattle.go_board.specs.Board.{place_count};
 
 use crate::board::PLACES;
@@ -42,6 +44,7 @@ impl Places {
     pub fn len(&self) -> usize
         ensures value { result ≡ length self.now }
         ensures few { result ≤ place_count }
+        ensures once { AllPairs (λ p q. p ≢ q) self.now }
     {
         self.order.len()
     }

@@ -67,6 +67,15 @@ impl Stones {
         }
     }
 
+    /// Becomes a copy of other stones, in place.
+    pub fn copy_from(&mut self, other: &Stones)
+        ensures { self.new ≡ other.now }
+    {
+        self.board = other.board;
+        self.ids = other.ids;
+        self.counts = other.counts;
+    }
+
     /// The board.
     #[inline]
     pub fn board(&self) -> &Board

@@ -49,7 +49,7 @@ impl Model for TakenStack {
 
 impl TakenStack {
     ghost use Rattle.std.specs.Prelude.{IfSome, IfNone, ℕ};
-    ghost use Rattle.go_board.specs.private.TakenStack.{IsNotLast, IsOnlyTaken};
+    ghost use Rattle.go_board.specs.private.TakenStack.{IsNotLast, IsOnlyTaken, AreLastOf};
 
     /// No stone.
     pub fn new() -> Self
@@ -58,6 +58,25 @@ impl TakenStack {
         TakenStack {
             stones: ArrayVec::new(),
         }
+    }
+
+    /// A copy.
+    pub fn copy(&self) -> Self
+        ensures { result ≡ self.now }
+    {
+        let mut stones = ArrayVec::new();
+        // There is room: both have the same.
+        let _ = stones.try_extend_from_slice(&self.stones);
+        TakenStack { stones }
+    }
+
+    /// Becomes a copy of another stack, in place.
+    pub fn copy_from(&mut self, other: &TakenStack)
+        ensures { self.new ≡ other.now }
+    {
+        self.stones.clear();
+        // There is room: both have the same.
+        let _ = self.stones.try_extend_from_slice(&other.stones);
     }
 
     /// Adds a stone.
@@ -98,6 +117,18 @@ impl TakenStack {
         ensures { result.now ≡ self.now }
     {
         &self.stones
+    }
+
+    /// The stones that the move with this number took, where no later one took any.
+    pub fn taken_by(&self, number: usize) -> &[TakenStone]
+        ensures { AreLastOf self.now number result.now }
+    {
+        let stones = self.stones();
+        let mut first = stones.len();
+        while first > 0 && usize::from(stones[first - 1].number) == number {
+            first -= 1;
+        }
+        &stones[first..]
     }
 
     /// The place of the last stone, if it is the only one that the move with this number took.

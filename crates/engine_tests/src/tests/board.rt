@@ -1,5 +1,10 @@
 //! The game: examples worked out by hand, and games of random moves beside those of a plain and of a slow game.
+mod chains;
+mod copies;
+mod hashes;
+mod last_taken;
 mod legal;
+mod legal_points;
 mod plain;
 mod positional;
 mod positions;

@@ -8,7 +8,10 @@ use Rattle.std.proofs.lemmas.List.{length_push}
 use Rattle.std.proofs.lemmas.List.Sums.{sum_by-set, count_by-le-length}
 use Rattle.std.proofs.lemmas.Grind.{get_or_default_zero}
 use Rattle.std.proofs.lemmas.List.Elements.{All-push, All-get_or, Contains-push, Contains-push_cases}
-use Rattle.std.proofs.lemmas.List.Elements.{Contains-append_left}
+use Rattle.std.proofs.lemmas.List.Elements.{Contains-append_left, Contains-get_or}
+use Rattle.std.proofs.lemmas.List.Quantifiers.{all_pairs_push}
+use Rattle.std.specs.List.{AllPairs}
+use Rattle.std.proofs.lemmas.Bool.{false≢true}
 use Rattle.arrayvec.specs.ArrayVec.{ArrayVec}
 use Rattle.go_board.specs.private.Places.{AreMarked}
 use Rattle.go_board.specs.declared.places.Places.TheInside.{Inside}
@@ -76,6 +79,10 @@ AreMarked-insert f place order a long h e pushed =
       ];
       listed = λ p m. rw pushed (listed_still f.marked xs place p in_range (a.listed p) m);
       counted = rw (pushed, length_push) (count_by-set f.marked place in_range e ∙ ap (λ (n : ℕ). n + 1) counted);
+      once = subst (λ (ps : List ℕ). AllPairs (λ p q. p ≢ q) ps) (sym pushed)
+          (all_pairs_push (λ p q. p ≢ q) xs place a.once (λ k d below same.
+          let marked = a.marked (get_or xs k d) (Contains-get_or xs k d below) in
+          false≢true (sym e ∙ subst (λ (q : ℕ). get_or f.marked q false ≡ true) same marked)));
     }
 
 Contains-nil : {A : Type 0} (p : ℕ) → Contains [] p → A
@@ -89,6 +96,9 @@ unmarked (suc n) (suc p) e = unmarked n p e
 none_below_zero : (P : ℕ → ℕ → Type 0) (k d : ℕ) → k < 0 → P k d
 none_below_zero P k d h = absurd (omega arith)
 
+once-none : (ps : List ℕ) → ps ≡ [] → AllPairs (λ p q. p ≢ q) ps
+once-none ps empty i j d less below same = absurd (omega (arith, below, ap length empty))
+
 -- no place and no mark
 pub AreMarked-none : (marks : List Bool) (order : ArrayVec ℕ) → marks ≡ replicate 702 false → order.items ≡ []
     → AreMarked (record { marked = marks; order = order })
@@ -97,6 +107,7 @@ AreMarked-none marks order none empty = record {
   marked = λ p h. Contains-nil p (rw empty at h);
   listed = λ p e. unmarked 702 p (rw none at e);
   counted = ap (count_by (λ m. m)) none ∙ ap length (sym empty);
+  once = once-none order.items empty;
 }
 
 -- ---- taking all places out
@@ -161,6 +172,7 @@ AreMarked-cleared had index old marks order l past empty = record {
   marked = λ p h. Contains-nil p (rw empty at h);
   listed = λ p e. absurd (none p e);
   counted = count_none marks none ∙ ap length (sym empty);
+  once = once-none order.items empty;
 }
   where
     none : (p : ℕ) → get_or marks p false ≡ true → ⊥

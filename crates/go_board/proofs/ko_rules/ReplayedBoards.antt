@@ -1,5 +1,5 @@
 -- A record played again on another board, by the stones that its moves took.
-use Rattle.std.proofs.Common.{◌≡◌, ℕ, zero, suc, ◌+◌, ◌-◌, ◌<◌, ◌≤◌, List, [], ◌∷◌, ◌++◌, length, refl, sym, ◌∙◌, ap}
+use Rattle.std.proofs.Common.{◌≡◌, ℕ, zero, suc, ◌+◌, ◌<◌, ◌≤◌, List, [], ◌∷◌, ◌++◌, length, refl, sym, ◌∙◌, ap}
 use Rattle.std.proofs.Common.{subst, arith, inl, inr, Bool, true, false, cond, take, drop}
 use Rattle.std.specs.Prelude.{◌⊎◌, ◌≢◌, ◌==◌, ◌↔◌, IsTrue, Some, slice_get}
 use Rattle.std.specs.List.{range_with_len, AllByRecursion}

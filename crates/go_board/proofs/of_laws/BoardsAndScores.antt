@@ -43,7 +43,8 @@ use Rattle.go_board.proofs.General.{by_dec}
 
 -- ---- what a play leaves
 
-play-leaves : (board : List Cell) (c : Colour) (p : ℕ) → at board p ≡ Empty → IsLeftByPlay board c p (play board c p)
+pub play-leaves : (board : List Cell) (c : Colour) (p : ℕ) → at board p ≡ Empty
+    → IsLeftByPlay board c p (play board c p)
 unfolding play without_captured
 play-leaves board c p empty =
     let with_stone : List Cell = set board p (stone c) in
@@ -84,7 +85,7 @@ left-back game c (At p) board l left =
 
 -- ---- the first board
 
-Contains-cases : (x : ℕ) (xs : List ℕ) (q : ℕ) → Contains (x ∷ xs) q → (x ≡ q) ⊎ Contains xs q
+pub Contains-cases : (x : ℕ) (xs : List ℕ) (q : ℕ) → Contains (x ∷ xs) q → (x ≡ q) ⊎ Contains xs q
 Contains-cases x xs q (zero, below, is) = inl is
 Contains-cases x xs q (suc k, below, is) = inr (k, omega arith, is)
 

@@ -5,6 +5,7 @@ use Rattle.go_base.specs.Point.{Neighbours}
 use Rattle.go_board.specs.Board.{at}
 use Rattle.go_board.specs.Chain.{Touches}
 use Rattle.go_board.specs.declared.board.Cell.{Cell}
+use Rattle.go_board.specs.declared.board.Cell.TheVariants.{Empty}
 
 -- with the place, where it holds what is sought
 pub record IsSpread (board : List Cell) (sought : Cell) (place : ℕ) (old new : List ℕ) : Type 0 where
@@ -21,3 +22,14 @@ pub record AreSpread (board : List Cell) (sought : Cell) (place : ℕ) (old new 
 -- the list has just the places that hold what is sought and touch what is wanted
 abbrev pub AreTouching : List Cell → Cell → Cell → List ℕ → Type 0
 AreTouching board sought wanted found = (p : ℕ) → Contains found p ↔ ((at board p ≡ sought) × Touches board p wanted)
+
+-- the place is empty, and a neighbour of a listed one
+pub record IsEmptyBeside (board : List Cell) (places : List ℕ) (q : ℕ) : Type 0 where
+  pub place : ℕ
+  pub listed : Contains places place
+  pub neighbours : Neighbours place q
+  pub empty : at board q ≡ Empty
+
+-- the list has just the empty places beside the places of another list
+abbrev pub AreEmptyBeside : List Cell → List ℕ → List ℕ → Type 0
+AreEmptyBeside board places found = (q : ℕ) → Contains found q ↔ IsEmptyBeside board places q

@@ -82,6 +82,13 @@ pub record IsOnlyTaken (stones : List TakenStone) (number place : ℕ) : Type 0 
   pub ends : stones ≡ before ++ record { place = place; number = number } ∷ []
   pub alone : IsNotLast before number
 
+-- at the end of the stones these are all that the move with this number took
+pub record AreLastOf (stones : List TakenStone) (number : ℕ) (last : List TakenStone) : Type 0 where
+  pub before : List TakenStone
+  pub ends : stones ≡ before ++ last
+  pub own : AllByRecursion (λ t. t.number ≡ number) last
+  pub all : IsNotLast before number
+
 -- the board and the taken stones after a move, before which `number` others were made
 pub record IsAfterMove (board : List Cell) (stones : List TakenStone) (move : Move) (number : ℕ) : Type 0 where
   pub before : List Cell

@@ -1,0 +1,103 @@
+//! What a search asks of a game beside its board: all legal points, the chain of a stone, the stones that the last move
+//! took, and a hash of the board.
+ghost use Rattle.std.specs.Prelude.{◌≡◌, ◌<◌, ◌↔◌, IsTrue, MatchOption};
+ghost use Rattle.go_board.specs.Board.{place_count};
+
+use super::Game;
+use crate::board::{Cell, ROW, place_of, point_at};
+use crate::places::Places;
+use arrayvec::ArrayVec;
+use go_base::{Colour, Point, Vertex};
+
+/// As many points as the largest board has, 25 to a row.
+pub const MOST_POINTS: usize = 625;
+
+/// The chain of a stone: the stones of its colour that are joined to it.
+#[derive(Clone, Copy, PartialEq, Eq, Debug)]
+pub struct Chain {
+    /// The colour of its stones.
+    pub colour: Colour,
+    /// How many stones it has.
+    pub stones: u32,
+    /// How many liberties it has: empty points beside its stones, each counted once.
+    pub liberties: u32,
+}
+
+impl Game {
+    ghost use Rattle.go_base.specs.declared.vertices.Vertex.TheVariants.{At};
+    ghost use Rattle.go_board.specs.Board.{stone_at};
+    ghost use Rattle.go_board.specs.Game.{IsLegal, board_of};
+    ghost use Rattle.go_board.specs.Hash.{hash_of};
+    ghost use Rattle.go_board.specs.LastTaken.{AreTakenByLast};
+    ghost use Rattle.go_board.specs.LegalPoints.{AreLegalPoints};
+    ghost use Rattle.go_board.specs.Liberties.{IsChainAt};
+
+    /// The points on which a colour may play next, in the order A1, B1, .., A2, B2, ...: those for which `legal`
+    /// returns true. Places without an empty point are passed over.
+    pub fn legal_points(&self, colour: Colour) -> ArrayVec<Point, MOST_POINTS>
+        ensures { AreLegalPoints self.now colour result.items }
+    {
+        let lines = self.size().get() as usize;
+        let mut points = ArrayVec::new();
+        for place in ROW + 1..ROW * (lines + 1) {
+            if self.is_legal_at(colour, place) {
+                points.push(point_at(place));
+            }
+        }
+        points
+    }
+
+    /// Whether a place is a point on which a colour may play next.
+    #[inline]
+    fn is_legal_at(&self, colour: Colour, place: usize) -> bool
+        requires { place < place_count }
+        ensures { IsTrue result ↔ IsLegal self.now colour (At place) }
+    {
+        self.chains.at(place) == Cell::Empty && self.legal(colour, Vertex::At(point_at(place)))
+    }
+
+    /// The chain of the stone on a point: `None` where the point is empty or off the board.
+    pub fn chain(&self, point: Point) -> Option<Chain>
+        ensures { MatchOption result
+            (stone_at (board_of self.now) point ≡ None)
+            (λ chain. IsChainAt (board_of self.now) point chain) }
+    {
+        let colour = self.at(point)?;
+        let board = self.chains.board();
+        let mut stones = Places::new();
+        board.chain_into(place_of(point), &mut stones);
+        let liberties = board.empty_beside_all(&stones);
+        Some(Chain {
+            colour,
+            stones: stones.len() as u32,
+            liberties: liberties.len() as u32,
+        })
+    }
+
+    /// The points of the stones that the last move of the record took, in the order A1, B1, .., A2, B2, ...: none where
+    /// it is a pass or took none, and none where the record has no move. After an `undo` that is the move before.
+    pub fn taken_by_last_move(&self) -> ArrayVec<Point, MOST_POINTS>
+        ensures { AreTakenByLast self.now result.items }
+    {
+        let mut points = ArrayVec::new();
+        let Some(number) = self.moves.len().checked_sub(1) else {
+            return points;
+        };
+        for stone in self.stack.taken_by(number) {
+            points.push(point_at(usize::from(stone.place)));
+        }
+        points
+    }
+
+    /// A hash of the board: the sum of the keys of its stones, in 64 bits. Games with equal boards have equal hashes,
+    /// whatever else differs: the komi, the ko rule, who is to move, and by which moves the board came about.
+    ///
+    /// It is computed at each call, in a pass over the board. A search that keeps one beside its game adds the
+    /// `stone_key` of each stone that comes, and subtracts that of each that goes (`taken_by_last_move`), both
+    /// wrapping.
+    pub fn board_hash(&self) -> u64
+        ensures { result ≡ hash_of (board_of self.now) }
+    {
+        self.chains.board().hash()
+    }
+}

@@ -1,1 +1,0 @@
-//! None here: the tests of the game are in `engine_tests`, so that this crate is proved once.
