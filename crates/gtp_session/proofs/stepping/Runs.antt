@@ -108,7 +108,7 @@ step_chosen s colour ch choices reply e l =
     }
 
 -- the table replies where the author has set no text
-given_where : (e : Exchange) (set : Option (List ℕ)) (other : Bool) → author_text_to e.was e.was.line ≡ set
+pub given_where : (e : Exchange) (set : Option (List ℕ)) (other : Bool) → author_text_to e.was e.was.line ≡ set
     → is_other_line e.was.line ≡ other → IsGivenBy e set other → IsGiven e
 given_where e set other s o given = rw (s, o) given
 
