@@ -43,7 +43,7 @@ fn replied(engine: &Steps) -> Text {
 fn feed(engine: &mut Steps, bytes: &[u8]) -> Text {
     let fed = engine.feed(bytes);
     let mut text = Text::new();
-    let _ = text.try_extend_from_slice(&write_int(fed.used as u32));
+    let _ = text.try_extend_from_slice(&write_int(u32::try_from(fed.used).unwrap_or(0)));
     let event: &[u8] = match fed.event {
         Event::More => b" more",
         Event::Reply => b" reply",
