@@ -61,7 +61,7 @@ pub enum ReplyFault {
 pub type ReplyText = ArrayVec<u8, REPLY_ROOM>;
 
 /// The most bytes that the text of a written reply has.
-const MOST_TEXT_BYTES: usize = 2000;
+pub(crate) const MOST_TEXT_BYTES: usize = 2000;
 
 /// The room for a status, an id, a space, a text and two newlines.
 const REPLY_ROOM: usize = 2048;

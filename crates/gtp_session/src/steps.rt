@@ -1,0 +1,362 @@
+//! An engine in steps, whose author hands in its choices, and answers the commands that the table doesn't have.
+ghost use Rattle.std.specs.Prelude.{◌≡◌, ◌≢◌, ◌≤◌, length, true, false, [], None, IfSome, IfNone, IfErr};
+ghost use Rattle.std.specs.Prelude.{OnOk, OnErr, if◌then◌else◌, codes};
+ghost use Rattle.gtp_wire.specs.Replies.{IsReplyText, most_written_bytes};
+ghost use Rattle.gtp_wire.specs.declared.lines.Line.TheVariants as line;
+ghost use Rattle.gtp_session.specs.declared.events.Wait.TheVariants as wait;
+ghost use Rattle.gtp_session.specs.declared.events.Event.TheVariants as event;
+ghost use Rattle.gtp_session.specs.Commands.{answer, asked};
+ghost use Rattle.gtp_session.specs.Spoken.{IsLawfulAt, IsSpoken};
+ghost use Rattle.gtp_session.specs.Steps.{event_of};
+
+use crate::answers::{Answered, answer};
+use crate::author_texts::{AuthorText, text_for};
+use crate::chosen::{Chosen, refusal};
+pub use crate::events::{AnswerFault, ChoiceFault, CommandFault, Event, NoTitle, StepsFed, Wait};
+use crate::own_commands::OwnCommands;
+use crate::policy::Choice;
+use crate::session::fresh_game;
+use crate::titles::{Title, copy_of, title_of};
+use crate::waits::{id_of, wait_of};
+use go_board::{Game, KoRule};
+use gtp_wire::{
+    CommandLine, Line, LineRead, LineReader, ReplyText, is_reply_text, write_reply_into,
+};
+use std::marker::Model;
+
+/// An engine in steps. Bytes go in. What comes out is a reply, or the colour for which a choice is asked, or a line
+/// whose command isn't in the table. The choice, or the answer to that line, is handed in afterwards.
+///
+/// It is seen as the text that it was given and has not read as lines, the line that it read last, what it waits for,
+/// its game, whether it has ended, its last reply, and what its author has set.
+#[derive(Drop)]
+pub struct Steps {
+    reader: LineReader,
+    /// The line that was read last, in whose place the next is put (`TooLong` before the first).
+    line: Line,
+    wait: Wait,
+    game: Game,
+    ended: bool,
+    reply: ReplyText,
+    name: Title,
+    version: Title,
+    commands: OwnCommands,
+}
+
+impl Model for Steps {
+    ghost use Rattle.gtp_session.specs.Steps.{StepsState};
+    ghost use Rattle.gtp_session.specs.private.StepsFields.{state_in, IsKept};
+
+    ghost Value = { StepsState };
+
+    ghost view = { state_in };
+
+    ghost invariant = { IsKept };
+}
+
+impl Steps {
+    ghost use Rattle.gtp_session.specs.Steps.{IsStepsState, IsOpen, IsTitle, fresh_steps};
+    ghost use Rattle.gtp_session.specs.Steps.{wait_of, after_wait, replied, answered, texted};
+    ghost use Rattle.gtp_session.specs.Steps.{ReadsOn, Chooses, RefusesChoice, AnswersOther, RefusesAnswer};
+    ghost use Rattle.gtp_session.specs.Steps.{SetsName, SetsVersion, AddsCommand, declined_text};
+    ghost use Rattle.gtp_session.specs.OwnCommands.{RefusesName};
+
+    /// An engine with this ko rule that was given nothing: size 19, komi 0, no handicap and no moves. It answers
+    /// `stepgo` to `name` and `1.0` to `version`.
+    pub fn new(rule: KoRule) -> Steps
+        ensures { result ≡ fresh_steps rule }
+    {
+        let name = copy_of(b"stepgo");
+        let version = copy_of(b"1.0");
+        Steps {
+            reader: LineReader::new(),
+            line: Line::TooLong,
+            wait: Wait::Nothing,
+            game: fresh_game(rule),
+            ended: false,
+            reply: ReplyText::new(),
+            name,
+            version,
+            commands: OwnCommands::new(),
+        }
+    }
+
+    /// The game after the lines that were answered so far.
+    pub fn game(&self) -> &Game
+        ensures { result.now ≡ self.now.game }
+    {
+        &self.game
+    }
+
+    /// The bytes of the last reply, or none before the first.
+    pub fn reply(&self) -> &[u8]
+        ensures bytes { result.now ≡ self.now.reply }
+        // They are one reply: a status, an id or none, and a text that a reply may have.
+        ensures spoken { result.now ≢ [] → IsSpoken result.now }
+        ensures few { length result.now ≤ most_written_bytes }
+    {
+        self.reply.as_slice()
+    }
+
+    /// What it waits for.
+    pub fn wait(&self) -> Wait
+        ensures wait { result ≡ self.now.wait }
+        // No whole line is held back, and it waits only for what the line that it read last asks for.
+        ensures kept { IsStepsState self.now }
+    {
+        self.wait
+    }
+
+    /// The line whose choice or answer it waits for, where it waits for one.
+    pub fn line(&self) -> Option<&CommandLine>
+        ensures some { IfSome result (λ waiting.
+            (self.now.line ≡ line.Command waiting.now) × (self.now.wait ≢ wait.Nothing)) }
+        ensures none { IfNone result (self.now.wait ≡ wait.Nothing) }
+    {
+        if self.wait == Wait::Nothing {
+            return None;
+        }
+        match &self.line {
+            Line::Command(line) => Some(line),
+            Line::TooLong => None,
+        }
+    }
+
+    /// Whether the session has ended, by a `quit`.
+    pub fn ended(&self) -> bool
+        ensures { result ≡ self.now.ended }
+    {
+        self.ended
+    }
+
+    /// Takes the next piece up to and with the newline that ends the first line that has a word, or all of it. A line
+    /// that asks the author for nothing is answered. One that asks for a choice or for an answer waits for it, and
+    /// meanwhile no byte is used: the event says again what is asked for. Once the session has ended no byte is used.
+    ///
+    /// What it didn't use is for the next call: `input[used..]`.
+    pub fn feed(&mut self, input: &[u8]) -> StepsFed
+        ensures within { result.used ≤ length input.now }
+        ensures reads { IsOpen self.old →
+            ReadsOn self.old input.now result.used result.event self.new }
+        ensures waits { self.old.wait ≢ wait.Nothing →
+            (result ≡ record { used = 0; event = event_of self.old.wait }) × (self.new ≡ self.old) }
+        ensures over { self.old.ended ≡ true →
+            (result ≡ record { used = 0; event = event.Ended }) × (self.new ≡ self.old) }
+    {
+        if self.ended {
+            return StepsFed {
+                used: 0,
+                event: Event::Ended,
+            };
+        }
+        if let Some(event) = awaited(self.wait) {
+            return StepsFed { used: 0, event };
+        }
+        let LineRead { used, found } = self.reader.feed_into(input, &mut self.line);
+        if !found {
+            return StepsFed {
+                used,
+                event: Event::More,
+            };
+        }
+        let event = self.take_line();
+        StepsFed { used, event }
+    }
+
+    /// The line that was read last waits for what it asks for, or is answered.
+    fn take_line(&mut self) -> Event
+        requires open { IsOpen self.old }
+        ensures after { self.new ≡ after_wait self.old (wait_of self.old.game self.old.line) }
+        ensures event { result ≡ event_of (wait_of self.old.game self.old.line) }
+    {
+        match wait_of(&self.game, &self.line) {
+            Wait::Nothing => {
+                self.reply_unasked();
+                Event::Reply
+            }
+            Wait::Choice(colour) => {
+                self.wait = Wait::Choice(colour);
+                Event::Asked(colour)
+            }
+            Wait::Answer => {
+                self.wait = Wait::Answer;
+                Event::Other
+            }
+        }
+    }
+
+    /// Answers the line that was read last, which asks for nothing.
+    fn reply_unasked(&mut self)
+        requires open { IsOpen self.old }
+        requires asks { asked self.old.game self.old.line ≡ None }
+        ensures { self.new ≡ replied self.old }
+    {
+        let reply = &mut self.reply;
+        let id = id_of(&self.line);
+        match text_for(&self.line, &self.commands) {
+            Some(AuthorText::Name) => write_reply_into(reply, true, id, &self.name),
+            Some(AuthorText::Version) => write_reply_into(reply, true, id, &self.version),
+            Some(AuthorText::Known(known)) => write_reply_into(reply, true, id, truth(known)),
+            Some(AuthorText::Commands) => write_reply_into(
+                reply,
+                true,
+                id,
+                &self.commands.listed(),
+            ),
+            None => self.reply_with(Choice::Resign),
+        }
+    }
+
+    /// Answers the line that was read last by the table, with this choice.
+    fn reply_with(&mut self, choice: Choice)
+        requires goes_on { self.old.ended ≡ false }
+        requires lawful { IsLawfulAt self.old.game self.old.line choice }
+        ensures { self.new ≡ answered self.old (answer self.old.game self.old.line choice) }
+    {
+        let mut policy = Chosen { choice };
+        let Answered { ended, .. } = answer(
+            &mut self.game,
+            &mut policy,
+            &self.line,
+            &mut self.reply,
+        );
+        self.ended = ended;
+        self.wait = Wait::Nothing;
+    }
+
+    /// Makes the choice that is asked for: the move is made, and the reply is there.
+    ///
+    /// # Errors
+    ///
+    /// `NotAsked` where none is asked for, and `Illegal` where it is a vertex that isn't legal, with the first cause.
+    /// The engine stays as it was, and a choice that was asked for is still asked for.
+    pub fn choose(&mut self, choice: Choice) -> Result<(), ChoiceFault>
+        ensures made { OnOk result (Chooses self.old choice self.new) }
+        ensures kept { OnErr result (self.new ≡ self.old) }
+        ensures why { IfErr result (RefusesChoice self.old choice) }
+    {
+        let Wait::Choice(colour) = self.wait else {
+            return Err(ChoiceFault::NotAsked);
+        };
+        if let Some(fault) = refusal(&self.game, colour, &choice) {
+            return Err(ChoiceFault::Illegal(fault));
+        }
+        self.reply_with(choice);
+        Ok(())
+    }
+
+    /// Answers the line whose command isn't in the table, by a success or a failure of this text. The game stays.
+    ///
+    /// # Errors
+    ///
+    /// `NotAsked` where no such line waits, and `BadText` where no reply may have the text. A reply may have at most
+    /// 2,000 bytes, each of them a newline or 32 to 126, without two newlines in a row, and with neither a space nor a
+    /// newline at its ends. The engine stays as it was.
+    pub fn answer(&mut self, ok: bool, text: &[u8]) -> Result<(), AnswerFault>
+        ensures made { OnOk result (AnswersOther self.old ok text.now self.new) }
+        ensures kept { OnErr result (self.new ≡ self.old) }
+        ensures why { IfErr result (RefusesAnswer self.old text.now) }
+    {
+        if self.wait != Wait::Answer {
+            return Err(AnswerFault::NotAsked);
+        }
+        if !is_reply_text(text) {
+            return Err(AnswerFault::BadText);
+        }
+        self.reply_text(ok, text);
+        Ok(())
+    }
+
+    /// Answers the line whose command isn't in the table as the table does: `unknown command`.
+    ///
+    /// # Errors
+    ///
+    /// `NotAsked` where no such line waits. The engine stays as it was.
+    pub fn decline(&mut self) -> Result<(), AnswerFault>
+        ensures made { OnOk result (AnswersOther self.old false declined_text self.new) }
+        ensures kept { OnErr result (self.new ≡ self.old) }
+        ensures why { IfErr result (RefusesAnswer self.old declined_text) }
+    {
+        if self.wait != Wait::Answer {
+            return Err(AnswerFault::NotAsked);
+        }
+        self.reply_text(false, b"unknown command");
+        Ok(())
+    }
+
+    /// Answers the line that was read last by this text.
+    fn reply_text(&mut self, ok: bool, text: &[u8])
+        requires { IsReplyText text.now }
+        ensures { self.new ≡ texted self.old ok text.now }
+    {
+        write_reply_into(&mut self.reply, ok, id_of(&self.line), text);
+        self.wait = Wait::Nothing;
+    }
+
+    /// Answers `name` by this text from now on.
+    ///
+    /// # Errors
+    ///
+    /// The text has more than 200 bytes, or no reply may have it. The engine stays as it was.
+    pub fn set_name(&mut self, text: &[u8]) -> Result<(), NoTitle>
+        ensures set { OnOk result (SetsName self.old text.now self.new) }
+        ensures kept { OnErr result (self.new ≡ self.old) }
+        ensures why { OnErr result (¬ IsTitle text.now) }
+    {
+        let Some(name) = title_of(text) else {
+            return Err(NoTitle);
+        };
+        self.name = name;
+        Ok(())
+    }
+
+    /// Answers `version` by this text from now on.
+    ///
+    /// # Errors
+    ///
+    /// As those of [`Steps::set_name`].
+    pub fn set_version(&mut self, text: &[u8]) -> Result<(), NoTitle>
+        ensures set { OnOk result (SetsVersion self.old text.now self.new) }
+        ensures kept { OnErr result (self.new ≡ self.old) }
+        ensures why { OnErr result (¬ IsTitle text.now) }
+    {
+        let Some(version) = title_of(text) else {
+            return Err(NoTitle);
+        };
+        self.version = version;
+        Ok(())
+    }
+
+    /// Adds a command of the author's own. `known_command` and `list_commands` know its name from now on, and a line
+    /// with it is one whose command isn't in the table.
+    ///
+    /// # Errors
+    ///
+    /// The first cause by which it isn't added, in the order of [`CommandFault`]. The engine stays as it was.
+    pub fn add_command(&mut self, name: &[u8]) -> Result<(), CommandFault>
+        ensures added { OnOk result (AddsCommand self.old name.now self.new) }
+        ensures kept { OnErr result (self.new ≡ self.old) }
+        ensures why { IfErr result (RefusesName self.old.commands name.now) }
+    {
+        self.commands.add(name)
+    }
+}
+
+/// What an engine that waits reports, or nothing where it waits for nothing.
+fn awaited(wanted: Wait) -> Option<Event>
+    ensures some { IfSome result (λ event. (event ≡ event_of wanted) × (wanted ≢ wait.Nothing)) }
+    ensures none { IfNone result (wanted ≡ wait.Nothing) }
+{
+    match wanted {
+        Wait::Nothing => None,
+        Wait::Choice(colour) => Some(Event::Asked(colour)),
+        Wait::Answer => Some(Event::Other),
+    }
+}
+
+/// `true` or `false`.
+fn truth(holds: bool) -> &'static [u8]
+    ensures { result.now ≡ (if holds then codes "true" else codes "false") }
+{
+    if holds { b"true" } else { b"false" }
+}

@@ -1,0 +1,61 @@
+//! What a line asks an author for.
+ghost use Rattle.std.specs.Prelude.{◌≡◌, false, is_none};
+ghost use Rattle.gtp_session.specs.declared.commands.CommandName.TheVariants as command;
+ghost use Rattle.gtp_session.specs.Commands.{argument, asked_by_command, asked_by_words, command_named, id_of};
+ghost use Rattle.gtp_session.specs.Spoken.{HasIntId};
+ghost use Rattle.gtp_session.specs.Steps.{wait_of, wait_by};
+
+use crate::answers::{colour_argument, is_full, named_command};
+use crate::commands::CommandName;
+use crate::events::Wait;
+use go_board::Game;
+use gtp_wire::{CommandLine, Line};
+
+/// What the author is asked for by a line.
+pub(crate) fn wait_of(game: &Game, line: &Line) -> Wait
+    ensures { result ≡ wait_of game.now line.now }
+{
+    match line {
+        Line::TooLong => Wait::Nothing,
+        Line::Command(line) => wait_of_command(game, line),
+    }
+}
+
+/// The same of a command line.
+fn wait_of_command(game: &Game, line: &CommandLine) -> Wait
+    ensures { result ≡ wait_by (asked_by_words game.now line.now.words)
+        (is_none (argument command_named line.now.words 0)) }
+{
+    let Some(command) = named_command(line) else {
+        return Wait::Answer;
+    };
+    if command == CommandName::Genmove {
+        return wait_of_genmove(game, line);
+    }
+    Wait::Nothing
+}
+
+/// The same of a `genmove`.
+fn wait_of_genmove(game: &Game, line: &CommandLine) -> Wait
+    ensures { result
+        ≡ wait_by (asked_by_command game.now command.Genmove line.now.words) false }
+{
+    let Some(colour) = colour_argument(line) else {
+        return Wait::Nothing;
+    };
+    if is_full(game) {
+        return Wait::Nothing;
+    }
+    Wait::Choice(colour)
+}
+
+/// The id that the reply to the line repeats.
+pub(crate) fn id_of(line: &Line) -> Option<u32>
+    ensures value { result ≡ id_of line.now }
+    ensures int { HasIntId line.now }
+{
+    match line {
+        Line::TooLong => None,
+        Line::Command(line) => line.id(),
+    }
+}

@@ -1,0 +1,109 @@
+//! One call, and what it returns, as texts.
+use crate::hex::{bytes_of, push_hex};
+use arrayvec::ArrayVec;
+use go_base::{Choice, Colour, write_int};
+use go_board::PlayFault;
+use gtp_session::steps::{AnswerFault, ChoiceFault, CommandFault, Event, Steps};
+
+/// A line of the input or of the output.
+pub type Text = ArrayVec<u8, 16384>;
+
+/// Makes the call of this line. The text of what it returned.
+pub fn make_call(engine: &mut Steps, line: &[u8]) -> Text {
+    let mut words = line.split(|byte| *byte == b' ');
+    let call = words.next().unwrap_or(b"");
+    let bytes = bytes_of(words.next().unwrap_or(b""));
+    match call {
+        b"feed" => feed(engine, &bytes),
+        b"choose" => choose(engine, &bytes),
+        b"answer" => answered(engine.answer(true, &bytes), engine),
+        b"fail" => answered(engine.answer(false, &bytes), engine),
+        b"decline" => answered(engine.decline(), engine),
+        b"name" => plain(engine.set_name(&bytes).is_ok(), b"no title"),
+        b"version" => plain(engine.set_version(&bytes).is_ok(), b"no title"),
+        b"add" => added(engine.add_command(&bytes)),
+        _ => plain(false, b"no call"),
+    }
+}
+
+/// `done`, or why it wasn't.
+fn plain(done: bool, why: &[u8]) -> Text {
+    let mut text = Text::new();
+    let _ = text.try_extend_from_slice(if done { b"done" } else { why });
+    text
+}
+
+/// `done` and the reply.
+fn replied(engine: &Steps) -> Text {
+    let mut text = plain(true, b"");
+    push_hex(&mut text, engine.reply());
+    text
+}
+
+fn feed(engine: &mut Steps, bytes: &[u8]) -> Text {
+    let fed = engine.feed(bytes);
+    let mut text = Text::new();
+    let _ = text.try_extend_from_slice(&write_int(u32::try_from(fed.used).unwrap_or(0)));
+    let event: &[u8] = match fed.event {
+        Event::More => b" more",
+        Event::Reply => b" reply",
+        Event::Asked(Colour::Black) => b" asked b",
+        Event::Asked(Colour::White) => b" asked w",
+        Event::Other => b" other",
+        Event::Ended => b" ended",
+    };
+    let _ = text.try_extend_from_slice(event);
+    if fed.event == Event::Reply {
+        push_hex(&mut text, engine.reply());
+    }
+    push_words(&mut text, engine);
+    text
+}
+
+/// Appends the words of the line that is waited for, if one is.
+fn push_words(text: &mut Text, engine: &Steps) {
+    let Some(line) = engine.line() else {
+        return;
+    };
+    for number in 0..1000 {
+        match line.word(number) {
+            Some(word) => push_hex(text, word),
+            None => return,
+        }
+    }
+}
+
+fn choose(engine: &mut Steps, bytes: &[u8]) -> Text {
+    let Some(choice) = Choice::read(bytes) else {
+        return plain(false, b"no choice");
+    };
+    match engine.choose(choice) {
+        Ok(()) => replied(engine),
+        Err(ChoiceFault::NotAsked) => plain(false, b"not asked"),
+        Err(ChoiceFault::Illegal(PlayFault::Full)) => plain(false, b"full"),
+        Err(ChoiceFault::Illegal(PlayFault::OffBoard)) => plain(false, b"off the board"),
+        Err(ChoiceFault::Illegal(PlayFault::Occupied)) => plain(false, b"occupied"),
+        Err(ChoiceFault::Illegal(PlayFault::Suicide)) => plain(false, b"suicide"),
+        Err(ChoiceFault::Illegal(PlayFault::Ko)) => plain(false, b"ko"),
+    }
+}
+
+fn answered(answered: Result<(), AnswerFault>, engine: &Steps) -> Text {
+    match answered {
+        Ok(()) => replied(engine),
+        Err(AnswerFault::NotAsked) => plain(false, b"not asked"),
+        Err(AnswerFault::BadText) => plain(false, b"bad text"),
+    }
+}
+
+fn added(added: Result<(), CommandFault>) -> Text {
+    match added {
+        Ok(()) => plain(true, b""),
+        Err(CommandFault::BadLength) => plain(false, b"bad length"),
+        Err(CommandFault::BadByte) => plain(false, b"bad byte"),
+        Err(CommandFault::OnlyDigits) => plain(false, b"only digits"),
+        Err(CommandFault::InTable) => plain(false, b"in table"),
+        Err(CommandFault::AddedBefore) => plain(false, b"added before"),
+        Err(CommandFault::TooMany) => plain(false, b"too many"),
+    }
+}
