@@ -112,8 +112,8 @@ surround_asked step (Some p) = plays White (next_to step p)
 abbrev pub crossing_of : ℕ → ℕ → Vertex
 crossing_of number size = crossing (number % size + 1) (number / size + 1)
 
--- Three steps for each point of the board, row by row: a move on it, of Black and of White in turn; a probe of it by the
--- other colour, whose move is refused there; and an `undo`.
+-- Three steps for each point of the board, row by row: a move on it, of Black and of White in turn; a probe of it by
+-- the other colour, whose move is refused there; and an `undo`.
 abbrev pub points_asked : ℕ → ℕ → Question
 points_asked step size =
     if nat_le size (step / 3 / size) then Nothing
@@ -141,8 +141,8 @@ emptied_asked moves = if nat_lt 0 moves then asks command.Undo else Nothing
 
 -- ---- the engine's own moves
 
--- By the number of moves it is Black's turn or White's. Of five steps the third asks for a move of the other colour, and
--- the last takes a move back.
+-- By the number of moves it is Black's turn or White's. Of five steps the third asks for a move of the other colour,
+-- and the last takes a move back.
 abbrev pub genmove_asked : ℕ → ℕ → Question
 genmove_asked step moves =
     if step % 5 == 4 then asks command.Undo

@@ -94,8 +94,8 @@ pub(crate) enum Stretch {
     Back(u32),
     /// So many steps, each an `undo` while the game has moves.
     Emptied(u32),
-    /// So many steps, of which each fifth is an `undo`, and the others are moves of the engine's own. Of four, three are
-    /// of the colour whose turn it is.
+    /// So many steps, of which each fifth is an `undo`, and the others are moves of the engine's own. Of four, three
+    /// are of the colour whose turn it is.
     Genmoves(u32),
     /// A stone of White in the corner, and Black's on all points but three.
     Filled,
