@@ -57,9 +57,9 @@ impl Model for Course {
 }
 
 impl Course {
-    ghost use Rattle.gtp_course.specs.Lessons.{stretches_of};
+    ghost use Rattle.gtp_course.specs.Lessons.{number_of, stretches_of};
     ghost use Rattle.gtp_course.specs.Stretches.{steps_if};
-    ghost use Rattle.gtp_course.specs.Places.{most_steps};
+    ghost use Rattle.gtp_course.specs.Places.{most_steps, number};
     ghost use Rattle.gtp_course.specs.Boards.{IsBoard};
     ghost use Rattle.gtp_examiner.specs.Exam.{HasRoomFor};
     ghost use Rattle.gtp_course.specs.Asking.{IsStep, IsTurn, Renews, Kills, Opens, Poses, Probes, Sees, lesson_of};
@@ -219,8 +219,10 @@ impl Course {
         }
     }
 
-    /// What this step draws.
-    fn draws(&self, lesson: Lesson) -> Draws {
+    /// What this step draws: words of its own, by its number among all lessons.
+    fn draws(&self, lesson: Lesson) -> Draws
+        ensures { result.number ≡ number (record self.now.place { lesson = number_of lesson }) }
+    {
         let place = Place {
             lesson: lesson.number(),
             ..self.place
