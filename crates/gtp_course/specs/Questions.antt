@@ -1,6 +1,8 @@
 -- What a step of a lesson asks.
 use Rattle.std.specs.Prelude.{◌≡◌, ◌≢◌, ℕ, ◌+◌, ◌-◌, ◌/◌, ◌%◌, ◌==◌, nat_le, nat_lt, ◌||◌, ◌&&◌, if◌then◌else◌, Bool}
-use Rattle.std.specs.Prelude.{List, [], length, slice_get, Option, None, Some}
+use Rattle.std.specs.Prelude.{◌<◌, ◌≤◌, List, [], length, slice_get, Option, None, Some}
+use Rattle.rand_pcg.specs.Lcg.{Lcg}
+use Rattle.rand_pcg.specs.Pcg.{pcg64}
 use Rattle.go_base.specs.Colour.{other}
 use Rattle.go_base.specs.Handicap.{handicap_points}
 use Rattle.go_base.specs.Point.{IsOn, column_of, row_of}
@@ -184,6 +186,14 @@ swept_act step size =
     else (White, 1, size)
 
 -- ---- drawn moves
+
+-- the vertex is a point of a board of this size
+abbrev pub IsPointOf : ℕ → Vertex → Type 0
+IsPointOf size vertex = (p : ℕ) × IsOn size p × (vertex ≡ At p)
+
+-- the number is what is left of the generator's next word, for a limit of at most 25
+pub record IsOfNextWord (generator : Lcg) (limit number : ℕ) : Type 0 where
+  pub is : 0 < limit → limit ≤ 25 → number ≡ (pcg64 generator).0 % limit
 
 -- A move that is legal: on a point, or a pass, where no point is legal for the colour.
 pub record IsDrawn (game : GameRecord) (colour : Colour) (vertex : Vertex) : Type 0 where

@@ -1,4 +1,9 @@
 //! What a step draws.
+ghost use Rattle.std.specs.Prelude.{◌≡◌, ◌*◌};
+ghost use Rattle.rand_pcg.specs.Lcg.{advance};
+ghost use Rattle.rand_pcg.specs.Pcg.{multiplier_128};
+ghost use Rattle.gtp_session.specs.Random.{generator_of};
+
 use rand_core::SeedableRng;
 use rand_pcg::Pcg64;
 
@@ -16,7 +21,10 @@ pub(crate) struct Draws {
 
 impl Draws {
     /// The generator of the words. To make it takes longer than most questions do, and most draw nothing.
-    pub fn generator(self) -> Pcg64 {
+    pub fn generator(self) -> Pcg64
+        ensures { result
+            ≡ advance 128 multiplier_128 (128 * self.number) (generator_of self.seed) }
+    {
         let mut generator = Pcg64::seed_from_u64(u64::from(self.seed));
         generator.advance(u128::from(self.number) * WORDS);
         generator

@@ -9,6 +9,7 @@ ghost use Rattle.gtp_course.specs.Questions.{elsewhere_asked, own_asked, corner_
 ghost use Rattle.gtp_course.specs.Questions.{surround_asked, genmove_asked, choice_asked};
 ghost use Rattle.gtp_course.specs.Questions.{is_gap, filled_act, gap_act, swept_act};
 ghost use Rattle.gtp_course.specs.Questions.{star_points, star_asked, IsDrawn, IsDrawnMove, IsProbe, IsQuestion};
+ghost use Rattle.gtp_course.specs.Questions.{IsOfNextWord, IsPointOf};
 ghost use Rattle.gtp_course.specs.Places.{most_steps};
 ghost use Rattle.gtp_course.specs.Stretches.{steps_of};
 
@@ -439,9 +440,7 @@ fn probed(step: u32, game: &Game, draws: &mut Pcg64) -> Question
         return drawn_move(game, draws);
     }
     let colour = colour_of(draw(draws, 2));
-    let size = game.size().get();
-    let column = draw(draws, size) + 1;
-    probe(colour, crossing(column, draw(draws, size) + 1))
+    probe(colour, drawn_point(game.size().get(), draws))
 }
 
 /// A legal move that is drawn, or a pass where the colour has no legal point.
@@ -481,10 +480,22 @@ fn first_legal(game: &Game, colour: Colour) -> Vertex
     Vertex::Pass
 }
 
-/// A drawn number below this one, of at most 25.
+/// A drawn point of a board of this size.
+fn drawn_point(size: u32, draws: &mut Pcg64) -> Vertex
+    requires least { 0 < size }
+    requires most { size ≤ 25 }
+    ensures { IsPointOf size result }
+{
+    let column = draw(draws, size) + 1;
+    let row = draw(draws, size) + 1;
+    crossing(column, row)
+}
+
+/// A drawn number below this one, of at most 25: what is left of the next word.
 fn draw(draws: &mut Pcg64, limit: u32) -> u32
     ensures below { 0 < limit → limit ≤ 25 → result < limit }
     ensures few { result ≤ 25 }
+    ensures word { IsOfNextWord draws.old limit result }
 {
     if limit == 0 || limit > 25 {
         return 0;
