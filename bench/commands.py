@@ -23,7 +23,7 @@ as it has points. Each is asked for half a second or more, after a first time th
   showboard   `showboard`, in one burst
   final_score `final_score`, one at a time; a play, its `final_score` and an `undo` after each aren't timed, and are there
               since GNU Go keeps the answer to the last position that it was asked for
-  genmove     `genmove b`, one at a time; the `undo` after each isn't timed. In an ENGINE, {book} stands for a book whose
+  genmove     `genmove b`, one at a time; the `undo` after each isn't timed. In an ENGINE, {book} is a book whose
               entry for this position is a free point
 
 The plays of a half full board are drawn, always the same: the points in a shuffled order, Black and White in turn, of which

@@ -79,8 +79,8 @@ left lessons asked started old new held (inr on) =
 holds : (lessons : List Lesson) (scene_size : Option ℕ) (asked started : ℕ) (course : Course)
     → Walks lessons scene_size asked started course → Holds lessons asked started course
 holds lessons scene_size asked started course Walks.begins = record { same = refl; few = omega arith }
-holds lessons scene_size asked started course (Walks.goes {asked = a} {started = s} {old = old} exam action walks goes) =
-    step lessons a s old course exam action (holds lessons scene_size a s old walks) goes
+holds lessons scene_size asked started course (Walks.goes {asked = a} {started = s} {old = old} exam action walk goes) =
+    step lessons a s old course exam action (holds lessons scene_size a s old walk) goes
 holds lessons scene_size asked started course (Walks.leaves {old = old} walks leaves) =
     left lessons asked started old course (holds lessons scene_size asked started old walks) leaves
 holds lessons scene_size asked started course (Walks.finds {old = old} walks) =

@@ -79,8 +79,8 @@ Opens lesson old exam command after Start new = ⊥
 Opens lesson old exam command after Skip new = ⊥
 Opens lesson old exam command after Done new = ⊥
 
--- A command is asked, and the step is over. Where it may not be asked, what the engine owes is waited for. Where it owes
--- nothing, the command may not be asked in this game, and the step is passed over.
+-- A command is asked, and the step is over. Where it may not be asked, what the engine owes is waited for. Where it
+-- owes nothing, the command may not be asked in this game, and the step is passed over.
 abbrev pub Poses : Lesson → Course → Exam → CheckCommand → Action → Course → Type 0
 Poses lesson old exam command (Ask asked) new =
     (asked ≡ command) × HasRoomFor exam command × (new ≡ step_over lesson old)

@@ -31,8 +31,8 @@ starts Skip = 0
 starts Done = 0
 
 -- The calls on a course of these lessons: how many of them asked a command, asked nothing or ended an engine, how many
--- starts there were, and the course after them. Whatever the engine has answered, each call of `next` goes on. A part may
--- be left at any time, and something may be found in an earlier one.
+-- starts there were, and the course after them. Whatever the engine has answered, each call of `next` goes on. A part
+-- may be left at any time, and something may be found in an earlier one.
 pub data Walks (lessons : List Lesson) (scene_size : Option ℕ) : ℕ → ℕ → Course → Type 0 where
   begins : Walks lessons scene_size 0 0 (begun lessons scene_size)
   goes : {asked started : ℕ} {old new : Course} (exam : Exam) (action : Action)
@@ -43,8 +43,8 @@ pub data Walks (lessons : List Lesson) (scene_size : Option ℕ) : ℕ → ℕ �
   finds : {asked started : ℕ} {old : Course} → Walks lessons scene_size asked started old
       → Walks lessons scene_size asked started (with_finding old)
 
--- No more commands are asked, steps passed over and engines ended, all together, than the lessons have steps at most, and
--- five after each start.
+-- No more commands are asked, steps passed over and engines ended, all together, than the lessons have steps at most,
+-- and five after each start.
 abbrev pub EveryCourseIsBounded : Type 0
 EveryCourseIsBounded = (lessons : List Lesson) (scene_size : Option ℕ) (asked started : ℕ) (course : Course)
     → Walks lessons scene_size asked started course → IsIn course.lessons course.place

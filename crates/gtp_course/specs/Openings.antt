@@ -1,4 +1,5 @@
--- What an engine is asked after each start: its name, its version, and which of the commands it has that it may be without.
+-- What an engine is asked after each start: its name, its version, and which of the commands it has that it may be
+-- without.
 use Rattle.std.specs.Prelude.{ℕ, Option, None, Some}
 use Rattle.gtp_examiner.specs.declared.asking.CheckCommand.{CheckCommand}
 use Rattle.gtp_examiner.specs.declared.asking.CheckCommand.TheVariants as ask

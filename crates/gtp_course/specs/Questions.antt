@@ -1,6 +1,8 @@
 -- What a step of a lesson asks.
 use Rattle.std.specs.Prelude.{◌≡◌, ◌≢◌, ℕ, ◌+◌, ◌-◌, ◌/◌, ◌%◌, ◌==◌, nat_le, nat_lt, ◌||◌, ◌&&◌, if◌then◌else◌, Bool}
-use Rattle.std.specs.Prelude.{List, [], length, slice_get, Option, None, Some}
+use Rattle.std.specs.Prelude.{◌<◌, ◌≤◌, List, [], length, slice_get, Option, None, Some}
+use Rattle.rand_pcg.specs.Lcg.{Lcg}
+use Rattle.rand_pcg.specs.Pcg.{pcg64}
 use Rattle.go_base.specs.Colour.{other}
 use Rattle.go_base.specs.Handicap.{handicap_points}
 use Rattle.go_base.specs.Point.{IsOn, column_of, row_of}
@@ -112,8 +114,8 @@ surround_asked step (Some p) = plays White (next_to step p)
 abbrev pub crossing_of : ℕ → ℕ → Vertex
 crossing_of number size = crossing (number % size + 1) (number / size + 1)
 
--- Three steps for each point of the board, row by row: a move on it, of Black and of White in turn; a probe of it by the
--- other colour, whose move is refused there; and an `undo`.
+-- Three steps for each point of the board, row by row: a move on it, of Black and of White in turn; a probe of it by
+-- the other colour, whose move is refused there; and an `undo`.
 abbrev pub points_asked : ℕ → ℕ → Question
 points_asked step size =
     if nat_le size (step / 3 / size) then Nothing
@@ -141,8 +143,8 @@ emptied_asked moves = if nat_lt 0 moves then asks command.Undo else Nothing
 
 -- ---- the engine's own moves
 
--- By the number of moves it is Black's turn or White's. Of five steps the third asks for a move of the other colour, and
--- the last takes a move back.
+-- By the number of moves it is Black's turn or White's. Of five steps the third asks for a move of the other colour,
+-- and the last takes a move back.
 abbrev pub genmove_asked : ℕ → ℕ → Question
 genmove_asked step moves =
     if step % 5 == 4 then asks command.Undo
@@ -184,6 +186,14 @@ swept_act step size =
     else (White, 1, size)
 
 -- ---- drawn moves
+
+-- the vertex is a point of a board of this size
+abbrev pub IsPointOf : ℕ → Vertex → Type 0
+IsPointOf size vertex = (p : ℕ) × IsOn size p × (vertex ≡ At p)
+
+-- the number is what is left of the generator's next word, for a limit of at most 25
+pub record IsOfNextWord (generator : Lcg) (limit number : ℕ) : Type 0 where
+  pub is : 0 < limit → limit ≤ 25 → number ≡ (pcg64 generator).0 % limit
 
 -- A move that is legal: on a point, or a pass, where no point is legal for the colour.
 pub record IsDrawn (game : GameRecord) (colour : Colour) (vertex : Vertex) : Type 0 where

@@ -54,8 +54,8 @@ turned_act way act size = record { colour = turned_colour way act.0; vertex = tu
 abbrev pub Acts : Type 0
 Acts = List (Colour × ℕ × ℕ)
 
--- kos in the corner, whose stones are taken there and beside it, at the edge and in the middle; two stones that one takes,
--- and one that a chain takes
+-- kos in the corner, whose stones are taken there and beside it, at the edge and in the middle; two stones that one
+-- takes, and one that a chain takes
 abbrev pub ko_scenes : List Acts
 ko_scenes =
     ((Black, 1, 2) ∷ (White, 3, 1) ∷ (Black, 2, 1) ∷ (White, 2, 2) ∷ (White, 1, 1) ∷ []) ∷
@@ -69,8 +69,8 @@ ko_scenes =
     (White, 3, 1) ∷ (Black, 2, 1) ∷ []) ∷
     []
 
--- captures: of one stone in the corner, at the edge and in the middle; of two, and of three around a corner; of two chains
--- and of three at once; and of three stones by a stone that had no liberty before
+-- captures: of one stone in the corner, at the edge and in the middle; of two, and of three around a corner; of two
+-- chains and of three at once; and of three stones by a stone that had no liberty before
 abbrev pub captures_scenes : List Acts
 captures_scenes =
     ((White, 1, 1) ∷ (Black, 1, 2) ∷ (White, 4, 5) ∷ (Black, 2, 1) ∷ []) ∷

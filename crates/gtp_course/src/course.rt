@@ -57,19 +57,20 @@ impl Model for Course {
 }
 
 impl Course {
-    ghost use Rattle.gtp_course.specs.Lessons.{stretches_of};
+    ghost use Rattle.gtp_course.specs.Lessons.{number_of, stretches_of};
     ghost use Rattle.gtp_course.specs.Stretches.{steps_if};
-    ghost use Rattle.gtp_course.specs.Places.{most_steps};
+    ghost use Rattle.gtp_course.specs.Places.{most_steps, number};
     ghost use Rattle.gtp_course.specs.Boards.{IsBoard};
     ghost use Rattle.gtp_examiner.specs.Exam.{HasRoomFor};
     ghost use Rattle.gtp_course.specs.Asking.{IsStep, IsTurn, Renews, Kills, Opens, Poses, Probes, Sees, lesson_of};
     ghost use Rattle.gtp_course.specs.Openings.{opened};
     ghost use Rattle.gtp_course.specs.Course.{scene_size_of, sought_size};
-    ghost use Rattle.gtp_course.specs.Course.{begun, GoesTo, GoesOn, IsOver, IsRunning, Leaves, step_over, part_over, with_finding};
+    ghost use Rattle.gtp_course.specs.Course.{begun, GoesTo, GoesOn, IsOver, IsRunning, Leaves};
+    ghost use Rattle.gtp_course.specs.Course.{step_over, part_over, with_finding};
 
-    /// A course of these lessons, with this seed for what is drawn. Where a size is given, which is 5 at least, scenes are
-    /// asked on boards of that size. Else the start finds the smallest from 5 that the engine takes, and without a start
-    /// it is 5.
+    /// A course of these lessons, with this seed for what is drawn. Where a size is given, which is 5 at least, scenes
+    /// are asked on boards of that size. Else the start finds the smallest from 5 that the engine takes, and without a
+    /// start it is 5.
     pub fn new(lessons: Lessons, scene_size: Option<Size>, seed: u32) -> Course
         ensures { result ≡ begun lessons.items scene_size }
     {
@@ -218,8 +219,10 @@ impl Course {
         }
     }
 
-    /// What this step draws.
-    fn draws(&self, lesson: Lesson) -> Draws {
+    /// What this step draws: words of its own, by its number among all lessons.
+    fn draws(&self, lesson: Lesson) -> Draws
+        ensures { result.number ≡ number (record self.now.place { lesson = number_of lesson }) }
+    {
         let place = Place {
             lesson: lesson.number(),
             ..self.place

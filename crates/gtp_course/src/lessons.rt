@@ -18,10 +18,11 @@ pub type Lessons = ArrayVec<Lesson, ALL>;
 /// A lesson: what is asked about.
 #[derive(Clone, Copy, Debug, PartialEq, Eq)]
 pub enum Lesson {
-    /// Some moves of the engine's own on the smallest board from 5x5 on that it takes, and that board after a new start.
+    /// Some moves of the engine's own on the smallest board from 5x5 on that it takes, and that board after a new
+    /// start.
     Start,
-    /// Each size from 1 to 25: whether it is taken, each of its points, and two that it doesn't have. Then the capture of all
-    /// stones of a full board, and all moves of it taken back.
+    /// Each size from 1 to 25: whether it is taken, each of its points, and two that it doesn't have. Then the capture
+    /// of all stones of a full board, and all moves of it taken back.
     Sizes,
     /// Kos, and what looks like one: who may retake, and when.
     Ko,
@@ -37,11 +38,11 @@ pub enum Lesson {
     Komi,
     /// Drawn games on several sizes, with probes.
     Drawn,
-    /// Records of nearly 2,000 moves, and a ko after 1,010 passes, which are all taken back. Then a ko and 300 passes after
-    /// it.
+    /// Records of nearly 2,000 moves, and a ko after 1,010 passes, which are all taken back. Then a ko and 300 passes
+    /// after it.
     Record,
-    /// Moves of the engine's own, on small boards up to a full one, with `undo` between. Then those on a board where White
-    /// has no legal point, and the capture of all stones.
+    /// Moves of the engine's own, on small boards up to a full one, with `undo` between. Then those on a board where
+    /// White has no legal point, and the capture of all stones.
     Genmoves,
     /// Games in one process.
     Games,

@@ -11,8 +11,8 @@ pub(crate) const WAYS: u32 = 16;
 /// The moves of a scene: the colour, the column and the row of each. The last is the act.
 pub(crate) type Scene = &'static [(Colour, u32, u32)];
 
-/// Kos in the corner, whose stones are taken beside it and there, at the edge and in the middle. Then two stones that one
-/// takes, and one that a chain takes: the stone that took may be retaken at once.
+/// Kos in the corner, whose stones are taken beside it and there, at the edge and in the middle. Then two stones that
+/// one takes, and one that a chain takes: the stone that took may be retaken at once.
 pub(crate) static KO: [Scene; 6] = [
     &[
         (Black, 1, 2),

@@ -1,20 +1,17 @@
 //! Stretches of a lesson: what is asked in a step.
 ghost use Rattle.std.specs.Prelude.{◌≡◌, ◌≢◌, ◌<◌, ◌≤◌, ◌/◌, ◌%◌, ◌==◌, length, slice_get, if◌then◌else◌};
-ghost use Rattle.go_base.specs.Point.{IsOn};
-ghost use Rattle.go_base.specs.declared.vertices.Vertex.TheVariants.{Pass, At};
-ghost use Rattle.go_board.specs.Game.{IsLegal};
 ghost use Rattle.gtp_wire.specs.declared.commands.Command.TheVariants as command;
 ghost use Rattle.gtp_course.specs.Questions.{asks, plays, probes, colour_of, act_asked, last_of, pass_asked};
 ghost use Rattle.gtp_course.specs.Questions.{elsewhere_asked, own_asked, corner_asked, edge_point};
 ghost use Rattle.gtp_course.specs.Questions.{surround_asked, genmove_asked, choice_asked};
 ghost use Rattle.gtp_course.specs.Questions.{is_gap, filled_act, gap_act, swept_act};
-ghost use Rattle.gtp_course.specs.Questions.{star_points, star_asked, IsDrawn, IsDrawnMove, IsProbe, IsQuestion};
+ghost use Rattle.gtp_course.specs.Questions.{star_points, star_asked, IsQuestion};
 ghost use Rattle.gtp_course.specs.Places.{most_steps};
 ghost use Rattle.gtp_course.specs.Stretches.{steps_of};
 
 use crate::actions::Question;
 use crate::boards::Board;
-use crate::draws::Draws;
+use crate::draws::{Draws, drawn_move, probed};
 use crate::scenes::crossing;
 use crate::sweeps::{emptied, points, waits};
 use arrayvec::ArrayVec;
@@ -22,14 +19,6 @@ use go_base::{Colour, Move, Point, Size, Vertex, handicap};
 use go_board::Game;
 use gtp_examiner::CheckCommand;
 use gtp_wire::Command;
-use rand_core::utils::NextWord;
-use rand_pcg::Pcg64;
-
-/// How often a point is drawn before the first legal one is taken.
-const TRIES: u32 = 30;
-
-/// The places of a mailbox board's row.
-const ROW: u32 = 26;
 
 /// The number of the move whose stone is taken in the first scene of kos.
 const RETAKEN: usize = 2;
@@ -94,8 +83,8 @@ pub(crate) enum Stretch {
     Back(u32),
     /// So many steps, each an `undo` while the game has moves.
     Emptied(u32),
-    /// So many steps, of which each fifth is an `undo`, and the others are moves of the engine's own. Of four, three are
-    /// of the colour whose turn it is.
+    /// So many steps, of which each fifth is an `undo`, and the others are moves of the engine's own. Of four, three
+    /// are of the colour whose turn it is.
     Genmoves(u32),
     /// A stone of White in the corner, and Black's on all points but three.
     Filled,
@@ -428,66 +417,4 @@ fn swept_act(step: u32, size: u32) -> (Colour, u32, u32)
         2 => (Colour::Black, size, size),
         _ => (Colour::White, 1, size),
     }
-}
-
-/// A drawn move, or a probe of a drawn point.
-fn probed(step: u32, game: &Game, draws: &mut Pcg64) -> Question
-    ensures moves { step % 3 ≡ 0 → IsDrawnMove game.now result }
-    ensures probes { step % 3 ≢ 0 → IsProbe game.now result }
-{
-    if step % 3 == 0 {
-        return drawn_move(game, draws);
-    }
-    let colour = colour_of(draw(draws, 2));
-    let size = game.size().get();
-    let column = draw(draws, size) + 1;
-    probe(colour, crossing(column, draw(draws, size) + 1))
-}
-
-/// A legal move that is drawn, or a pass where the colour has no legal point.
-fn drawn_move(game: &Game, draws: &mut Pcg64) -> Question
-    ensures { IsDrawnMove game.now result }
-{
-    let colour = colour_of(draw(draws, 2));
-    play(colour, legal_vertex(game, colour, draws))
-}
-
-/// A point that is drawn and legal for the colour. Where some tries find none, it is the first that is legal.
-fn legal_vertex(game: &Game, colour: Colour, draws: &mut Pcg64) -> Vertex
-    ensures { IsDrawn game.now colour result }
-{
-    let size = game.size().get();
-    for _try in 0..TRIES {
-        let column = draw(draws, size) + 1;
-        let row = draw(draws, size) + 1;
-        if game.legal(colour, crossing(column, row)) {
-            return crossing(column, row);
-        }
-    }
-    first_legal(game, colour)
-}
-
-/// The first point that is legal for the colour, or a pass where there is none.
-fn first_legal(game: &Game, colour: Colour) -> Vertex
-    ensures { IsDrawn game.now colour result }
-{
-    let rows = game.size().get() + 1;
-    for place in 0..rows * ROW {
-        let vertex = crossing(place % ROW, place / ROW);
-        if vertex != Vertex::Pass && game.legal(colour, vertex) {
-            return vertex;
-        }
-    }
-    Vertex::Pass
-}
-
-/// A drawn number below this one, of at most 25.
-fn draw(draws: &mut Pcg64, limit: u32) -> u32
-    ensures below { 0 < limit → limit ≤ 25 → result < limit }
-    ensures few { result ≤ 25 }
-{
-    if limit == 0 || limit > 25 {
-        return 0;
-    }
-    (draws.next_word() % u64::from(limit)) as u32
 }

@@ -202,7 +202,7 @@ class LettersWithI(Bug):
 
 
 class PointAndItsValue(Bug):
-    """What the engine thinks of its move stands behind the vertex."""
+    """What the engine thinks of its move comes after the vertex."""
 
     family = "genmove"
     shows = on(5, "", "genmove b")

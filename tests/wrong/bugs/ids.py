@@ -137,7 +137,7 @@ class IdsCountSuccesses(Bug):
 
 
 class IdAtMultipleLines(Bug):
-    """The id stands before each line of a reply with several lines."""
+    """The id is before each line of a reply with several lines."""
 
     family = "ids"
     shows = ["4 list_commands"]

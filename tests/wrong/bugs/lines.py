@@ -81,7 +81,7 @@ class SpacesBeforeALine(Bug):
 
 
 class LinesOfThirtyOne(Bug):
-    """A line has room for 31 characters with its newline, and what is behind them is the next line."""
+    """A line has room for 31 characters with its newline, and what comes after them is the next line."""
 
     family = "lines"
     shows = ["100 known_command fixed_handicap"]

@@ -54,7 +54,7 @@ class OneListOfTakenStones(Bug):
 
 
 class TakenBackMovesStayListed(Bug):
-    """A move after an `undo` is listed behind the one that was taken back, and the next `undo` goes back to that."""
+    """A move after an `undo` is listed after the one that was taken back, and the next `undo` goes back to that."""
 
     family = "unseen"
     shows = on(5, "b A1", "undo", "play w B1", "undo", "play b A1")
