@@ -158,7 +158,7 @@ choice_asked board colour = asks (command.Genmove (turned_colour board.way colou
 -- ---- full boards
 
 -- One stone of White is in the corner, and Black has all points but three: the point beside it, and two corners. Beside
--- it Black takes the stone. White has no legal point.
+-- it Black takes the stone. From size 3 on White has no legal point.
 abbrev pub is_gap : ℕ → ℕ → ℕ → Bool
 is_gap column row size =
     column == 2 && row == 1 || column == size && row == size || column == 1 && row == size
