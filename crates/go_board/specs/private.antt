@@ -9,3 +9,4 @@ pub mod Ko
 pub mod Legal
 pub mod Kept
 pub mod Stones
+pub mod HashChange

@@ -10,6 +10,7 @@ ghost use Rattle.go_board.specs.private.TakenStack.{most_taken};
 ghost use Rattle.go_board.specs.Taken.{same_colour};
 
 mod copies;
+mod hash_change;
 mod searching;
 
 use crate::board::{Board, Cell, place_of};
