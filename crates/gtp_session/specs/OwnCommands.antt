@@ -1,10 +1,11 @@
 -- Commands of an author's own: their names, in the order in which they were added, beside those of the table.
 use Rattle.std.specs.Prelude.{◌≡◌, ◌≢◌, ℕ, ◌<◌, ◌≤◌, Bool, true, false, ◌&&◌, ◌||◌, ◌==◌, not, nat_le, List, ◌++◌}
-use Rattle.std.specs.Prelude.{length, map, All, AllPairs, None, is_some, if◌then◌else◌, codes}
+use Rattle.std.specs.Prelude.{length, map, All, AllPairs, Contains, None, is_some, IsTrue, ◌↔◌, if◌then◌else◌, codes}
 use Rattle.std.specs.Char.{is_ascii_digit}
 use Rattle.std.specs.List.{join_with_byte, list_all, list_any}
 use Rattle.std.specs.Str.{bytes_eq}
 use Rattle.go_base.specs.Bytes.{hash, newline}
+use Rattle.gtp_wire.specs.Replies.{IsReplyText}
 use Rattle.gtp_session.specs.declared.events.CommandFault.{CommandFault}
 use Rattle.gtp_session.specs.declared.events.CommandFault.TheVariants as fault
 use Rattle.gtp_session.specs.Commands.{all_commands, command_named, spelled}
@@ -71,3 +72,12 @@ pub record AreOwnCommands (commands : List (List ℕ)) : Type 0 where
   pub words : All IsOwnName commands
   pub no_table : All (λ name. command_named name ≡ None) commands
   pub once : AllPairs (λ a b. a ≢ b) commands
+
+-- ---- law
+
+-- A word is known exactly where it is one of the rows that are listed, and whatever names an author has added, the list
+-- is a text that a reply may have.
+pub record KnownIsListed : Type 0 where
+  pub known : (commands : List (List ℕ)) (word : List ℕ)
+      → IsTrue (is_known commands word) ↔ Contains (map spelled all_commands ++ commands) word
+  pub fits : (commands : List (List ℕ)) → AreOwnCommands commands → IsReplyText (names_with commands)

@@ -9,7 +9,7 @@ use memory::{Limited, Pieces};
 use std::process::Abort;
 
 mod breaks;
-mod commands;
+pub mod commands;
 mod conversations;
 mod faults;
 mod memory;

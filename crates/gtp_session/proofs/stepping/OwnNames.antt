@@ -1,24 +1,26 @@
 -- The names of an author's own commands.
 use Rattle.std.proofs.Common.{◌≡◌, ◌≢◌, ℕ, ◌+◌, ◌<◌, ◌≤◌, true, false, List, [], ◌∷◌, ◌++◌, length, get_or, arith}
-use Rattle.std.proofs.Common.{◌*◌, refl, sym, ap, ◌∙◌, None, take, map, append_assoc, lit≤, lit<}
-use Rattle.std.specs.Prelude.{Result, Ok, Err, OnOk, OnErr}
+use Rattle.std.proofs.Common.{◌*◌, refl, sym, ap, subst, ◌∙◌, inl, inr, None, take, map, append_assoc, lit≤, lit<}
+use Rattle.std.specs.Prelude.{Contains, IsTrue, ◌↔◌, is_some, Result, Ok, Err, OnOk, OnErr}
 use Rattle.std.specs.Str.{bytes_eq}
 use Rattle.std.specs.List.{join_with_byte, list_all, AllByRecursion}
 use Rattle.std.proofs.lemmas.List.{length-append, take_more}
-use Rattle.std.proofs.lemmas.Bool.{and_parts}
+use Rattle.std.proofs.lemmas.Bool.{and_parts, or_cases, or_left, or_right}
 use Rattle.std.proofs.lemmas.Bool.Decides.{nat_tests}
-use Rattle.std.proofs.lemmas.List.Elements.{All-push, recursion_from_All}
-use Rattle.std.proofs.lemmas.List.Folds.{list_any_at}
+use Rattle.std.proofs.lemmas.List.Elements.{All-push, recursion_from_All, Contains-append_left}
+use Rattle.std.proofs.lemmas.List.Elements.{Contains-append_right, Contains-append_cases}
+use Rattle.std.proofs.lemmas.List.Folds.{list_any_at, Any-from_list_any}
 use Rattle.std.proofs.lemmas.List.Quantifiers.{all_pairs_push}
 use Rattle.std.proofs.lemmas.Slice.Eq.{bytes_eq-Decides}
 use Rattle.go_base.proofs.general.Joined.{joined-join_with_byte}
 use Rattle.go_base.specs.Text.{joined}
 use Rattle.gtp_session.specs.Commands.{all_commands, all_names, command_named, spelled}
 use Rattle.gtp_session.specs.OwnCommands.{AreOwnCommands, IsOwnName, MayBeAdded, has_command, is_name_byte}
-use Rattle.gtp_session.specs.OwnCommands.{names_with}
+use Rattle.gtp_session.specs.OwnCommands.{is_known, names_with, KnownIsListed}
 use Rattle.gtp_session.specs.declared.events.CommandFault.{CommandFault}
 use Rattle.gtp_session.specs.declared.commands.CommandName.{CommandName}
 use Rattle.gtp_session.specs.declared.commands.CommandName.TheVariants as command
+use Rattle.gtp_session.proofs.table.Listed.{known_words}
 use Rattle.gtp_session.proofs.reply_texts.NeatTexts.{IsInk, IsNeat, IsReplyText-neat, neat-joined, neat-word, newline}
 use Rattle.gtp_wire.specs.Replies.{IsReplyText}
 
@@ -122,3 +124,32 @@ pub commands_kept : (old new : List (List ℕ)) (name : List ℕ) (result : Resu
     → AreOwnCommands old → AreOwnCommands new
 commands_kept old new name (Ok done) added may kept are = rw added (more_commands old name are may)
 commands_kept old new name (Err fault) added may kept are = rw kept are
+
+-- ---- what is known is listed
+
+added_there : (commands : List (List ℕ)) (word : List ℕ) → has_command commands word ≡ true → Contains commands word
+added_there commands word e =
+    let found = Any-from_list_any (λ own. bytes_eq own word) commands e in
+    let same : found.1 ≡ word = (bytes_eq-Decides found.1 word).0 found.4 in
+    subst (λ (x : List ℕ). Contains commands x) same (found.0, found.2, found.3)
+
+there_added : (commands : List (List ℕ)) (word : List ℕ) → Contains commands word → has_command commands word ≡ true
+there_added commands word h =
+    list_any_at (λ own. bytes_eq own word) commands h.0 word h.1
+    ((bytes_eq-Decides (get_or commands h.0 word) word).1 h.2)
+
+known_listed : (commands : List (List ℕ)) (word : List ℕ)
+    → IsTrue (is_known commands word) ↔ Contains (map spelled all_commands ++ commands) word
+known_listed commands word = (
+  λ e. elim (or_cases (is_some (command_named word)) (has_command commands word) e) [
+    | inl table ↦ Contains-append_left (map spelled all_commands) commands word ((known_words word).0 table)
+    | inr own ↦ Contains-append_right (map spelled all_commands) commands word (added_there commands word own)
+  ],
+  λ h. elim (Contains-append_cases (map spelled all_commands) commands word h) [
+    | inl table ↦ or_left (is_some (command_named word)) (has_command commands word) ((known_words word).1 table)
+    | inr own ↦ or_right (is_some (command_named word)) (has_command commands word) (there_added commands word own)
+  ],
+)
+
+pub known_is_listed : KnownIsListed
+known_is_listed = record { known = known_listed; fits = names_fit }

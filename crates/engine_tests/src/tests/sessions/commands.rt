@@ -29,7 +29,7 @@ fn assert_answers(rt: &impl Abort, alloc: Global, lines: &[Answered]) -> Result<
 
 /// Conversations of fresh sessions with the first policy, each to the end of the input: its name, the input and the
 /// output.
-static CONVERSATIONS: [(&str, &[u8], &[u8]); 9] = [
+pub static CONVERSATIONS: [(&str, &[u8], &[u8]); 9] = [
     (
         "ids",
         b"99999999999 name\n5\n2147483647 name\n2147483648 name\n007 version\n",
