@@ -1,6 +1,7 @@
 //! The game: examples worked out by hand, and games of random moves beside those of a plain and of a slow game.
 mod chains;
 mod copies;
+mod hashed;
 mod hashes;
 mod last_taken;
 mod legal;
