@@ -279,31 +279,34 @@ module _ (s : StepsState) where
   none_answered (wait.Choice colour) e sh n = let wrong : wait.Choice colour ≡ wait.Answer = sym e ∙ n in cc
   none_answered wait.Answer e sh n = sh
 
-  -- a name or a version: neither its line nor what was held has to do with it
-  named_comes : (w : Wait) → s.wait ≡ w → (sh : LikeBy s w) (name version : List ℕ) (coming : List ℕ)
-      → lines (before_by s w sh) ≡ []
-      → Comes w sh coming (record s { name = name; version = version }) []
-  named_comes wait.Nothing e sh name version coming unread =
-      let s2 : StepsState = record s { name = name; version = version } in
+  -- this engine, with what else its author has set
+  abbrev with_set : List ℕ → List ℕ → List (List ℕ) → StepsState
+  with_set name version commands = record s { name = name; version = version; commands = commands }
+
+  -- what its author has set has to do neither with its line nor with what was held
+  same_comes : (w : Wait) → s.wait ≡ w → (sh : LikeBy s w) (name version : List ℕ) (commands : List (List ℕ))
+      (coming : List ℕ) → lines (before_by s w sh) ≡ [] → Comes w sh coming (with_set name version commands) []
+  same_comes wait.Nothing e sh name version commands coming unread =
+      let s2 : StepsState = with_set name version commands in
       subst (λ (v : Wait). MovesTo (as_engine s s.rest) coming s2 v coming []) (sym e)
       (still any_lawful (as_engine s s.rest) coming (engine_by s2 wait.Nothing) (text_by s2 wait.Nothing) tt coming []
       unread refl refl refl)
-  named_comes (wait.Choice colour) e sh name version coming unread =
-      let s2 : StepsState = record s { name = name; version = version } in
+  same_comes (wait.Choice colour) e sh name version commands coming unread =
+      let s2 : StepsState = with_set name version commands in
       let sh2 : IsHeld s2 colour =
       record { before = sh.before; text = sh.text; found = sh.found; unread = sh.unread; asks = sh.asks } in
       subst (λ (v : Wait). MovesTo (as_engine s sh.before) (sh.text ++ coming) s2 v coming []) (sym e)
       (still any_lawful (as_engine s sh.before) (sh.text ++ coming) (engine_by s2 (wait.Choice colour))
       (text_by s2 (wait.Choice colour)) sh2 coming [] unread refl refl refl)
-  named_comes wait.Answer e sh name version coming unread = absurd sh
+  same_comes wait.Answer e sh name version commands coming unread = absurd sh
 
-  set_comes : (w : Wait) → s.wait ≡ w → (sh : LikeBy s w) (name version : List ℕ) (coming : List ℕ) (s2 : StepsState)
-      (written : List ℕ) → lines (before_by s w sh) ≡ [] → s2 ≡ record s { name = name; version = version }
-      → written ≡ [] → Comes w sh coming s2 written
-  set_comes w e sh name version coming s2 written unread new_is wr =
+  set_comes : (w : Wait) → s.wait ≡ w → (sh : LikeBy s w) (name version : List ℕ) (commands : List (List ℕ))
+      (coming : List ℕ) (s2 : StepsState) (written : List ℕ) → lines (before_by s w sh) ≡ []
+      → s2 ≡ with_set name version commands → written ≡ [] → Comes w sh coming s2 written
+  set_comes w e sh name version commands coming s2 written unread new_is wr =
       subst (λ (z : List ℕ). Comes w sh coming s2 z) (sym wr)
       (subst (λ (t : StepsState). Comes w sh coming t []) (sym new_is)
-      (named_comes w e sh name version coming unread))
+      (same_comes w e sh name version commands coming unread))
 
   -- a call that does what it is for, or that is refused
   refused_or : {F : Type 0} (Done : Type 0) (Refuses : F → Type 0) (w : Wait) → s.wait ≡ w → (sh : LikeBy s w)
@@ -325,10 +328,13 @@ module _ (s : StepsState) where
       refused_or _ _ w e sh coming s2 written r.unread (λ h. absurd (none_answered w e sh h.0.asked)) h
   calls_by w e sh (Call.set_name text) coming s2 written r h =
       refused_or _ _ w e sh coming s2 written r.unread
-      (λ h. set_comes w e sh text s.version coming s2 written r.unread h.0.new_is h.1) h
+      (λ h. set_comes w e sh text s.version s.commands coming s2 written r.unread h.0.new_is h.1) h
   calls_by w e sh (Call.set_version text) coming s2 written r h =
       refused_or _ _ w e sh coming s2 written r.unread
-      (λ h. set_comes w e sh s.name text coming s2 written r.unread h.0.new_is h.1) h
+      (λ h. set_comes w e sh s.name text s.commands coming s2 written r.unread h.0.new_is h.1) h
+  calls_by w e sh (Call.add_command name) coming s2 written r h =
+      refused_or _ _ w e sh coming s2 written r.unread
+      (λ h. set_comes w e sh s.name s.version (s.commands ++ name ∷ []) coming s2 written r.unread h.0.new_is h.1) h
 
 -- ---- one line is on its way, which asks for no choice
 
