@@ -9,7 +9,8 @@ use Rattle.gtp_session.specs.Engine.{Engine}
 use Rattle.gtp_session.specs.Policy.{May, IsLawful}
 use Rattle.gtp_session.specs.Steps.{StepsState}
 use Rattle.gtp_match.specs.declared.sides.EngineRun.{EngineRun}
-use Rattle.gtp_match.specs.Controller.{in_step}
+use Rattle.gtp_match.specs.declared.controller.Controller.{Controller}
+use Rattle.gtp_match.specs.Controller.{in_step, to_move}
 use Rattle.gtp_match.specs.Setup.{SetupRecord, IsSetup}
 use Rattle.gtp_match.specs.Sides.{side_of}
 use Rattle.gtp_world.specs.Lane.{Lane, SidePolicies}
@@ -31,16 +32,28 @@ pub record IsThere {E : Type 0} (kind : Kind E) (game : GameRecord) (engine : E)
   pub game_is : kind.game engine ≡ ruled kind.rule game
   pub waits_not : kind.wait engine ≡ wait.Nothing
 
+-- It is asked for this colour's choice, which is its own side, whose turn it is in the controller's game. And it is at
+-- that game, under its own side's ko rule.
+pub record IsAskedThere {E : Type 0} (kind : Kind E) (c : Controller) (side colour : Colour) (engine : E) : Type 0 where
+  pub own : colour ≡ side
+  pub turn : to_move c.game ≡ side
+  pub game_is : kind.game engine ≡ ruled kind.rule c.game
+
 module _ {B W : Type 0} (black : Kind B) (white : Kind W) where
   -- An engine that runs, and whose side the controller counts as in step, is there; and two such engines hold the same
-  -- game. An engine whose side has answered all that it was sent waits for nothing of its author. None ever waits for
-  -- an answer to a line of his own. The lists are short, and no verdict blames an engine but for a fourth refusal.
+  -- game. An engine that waits for a choice, before a verdict, is asked for it there. An engine whose side has answered
+  -- all that it was sent waits for nothing of its author. None ever waits for an answer to a line of his own. The lists
+  -- are short, and no verdict blames an engine but for a fourth refusal.
   pub record StepsAgree (world : StepsWorld B W) : Type 0 where
     pub there : (side : Colour) (engine : at_side B W side) → (steps_lane_of world side).engine ≡ Some engine
         → in_step world.controller side ≡ true → IsThere (kind_at black white side) world.controller.game engine
     pub same : (one : B) (two : W) → world.black.engine ≡ Some one → world.white.engine ≡ Some two
         → in_step world.controller Black ≡ true → in_step world.controller White ≡ true
         → Holds (black.game one) (white.game two)
+    pub asked : (side colour : Colour) (engine : at_side B W side)
+        → (steps_lane_of world side).engine ≡ Some engine → world.controller.verdict ≡ None
+        → (kind_at black white side).wait engine ≡ wait.Choice colour
+        → IsAskedThere (kind_at black white side) world.controller side colour engine
     pub answered : (side : Colour) (engine : at_side B W side) (run : EngineRun)
         → (steps_lane_of world side).engine ≡ Some engine → (side_of world.controller.sides side).up ≡ Some run
         → run.unanswered ≡ [] → (kind_at black white side).wait engine ≡ wait.Nothing

@@ -35,7 +35,8 @@ use Rattle.gtp_world.specs.StepsSettle.{steps_settle, IsQuietInSteps, IsCaughtUp
 use Rattle.gtp_world.specs.StepsSettle.{StepsOpeningsAreQuiet, StepsWaitUnanswered, StepsSettle}
 use Rattle.gtp_world.proofs.joined.EventLemmas.{happens_keeps, opening_under}
 use Rattle.gtp_world.proofs.settling.CaughtUpLemmas.{may_settle, opening_starts, opening_down}
-use Rattle.gtp_world.proofs.settling.SettleLemmas.{MaySend, drop_head, drop_none, Settling, turned, within, one_line_comes}
+use Rattle.gtp_world.proofs.settling.SettleLemmas.{MaySend, drop_head, drop_none, Settling, turned, within}
+use Rattle.gtp_world.proofs.settling.SettleLemmas.{one_line_comes}
 use Rattle.gtp_world.proofs.settling.SettleLemmas.{round_settles, Begun, started, was_up, both_begun, settled}
 use Rattle.gtp_world.proofs.settling.SettleLemmas.{nothing_pending, black_starts, white_starts}
 use Rattle.gtp_world.proofs.stepping.LikenessLemmas.{Likeness}
@@ -236,7 +237,8 @@ module _ {B W P Q : Type 0} {black : Kind B} {white : Kind W} {mb : SidePolicies
     four : Goes (λ w. Settling mb mw law_b law_w game w White all all) [] last
     four =
         steps_rounds game white_left three.world last three.like White two.is.count all []
-        (turned mb mw law_b law_w game (seen three.world three.like) all two.is.count three.is) (omega arith) two.is.left
+        (turned mb mw law_b law_w game (seen three.world three.like) all two.is.count three.is) (omega arith)
+        two.is.left
         (subst (λ (es : List Event). StepsRuns black white three.world (plain es) last)
         (sym (append-nil (rounds White white_left))) three.rest)
 
@@ -301,7 +303,8 @@ module _ {B W P Q : Type 0} {black : Kind B} {white : Kind W} {mb : SidePolicies
         run = up.0;
         up = up.1;
         unanswered = unanswered;
-        not_in_step = not_true (in_step w.controller side) (λ step. waits (agree.there side engine engine_is step).waits_not);
+        not_in_step =
+            not_true (in_step w.controller side) (λ step. waits (agree.there side engine engine_is step).waits_not);
         not_quiet = λ quiet. unanswered (quiet.answered side up.0 up.1);
       }
     where
@@ -323,7 +326,8 @@ module _ {B W P Q : Type 0} {black : Kind B} {white : Kind W} {mb : SidePolicies
       side_up White e is =
           let z = shown like_w w.white.engine s.like_white w.white.to_engine e is in
           up_where_running (ruled (rule_of (rules_of mb mw) White) w.controller.game) w.controller.verdict
-          w.controller.sides.white.up (body (like_w.engine e z.0)) (bare v2.white) s.joined.theirs.joined (ap body_of z.1)
+          w.controller.sides.white.up (body (like_w.engine e z.0)) (bare v2.white) s.joined.theirs.joined
+          (ap body_of z.1)
 
       up : (run : EngineRun) × ((side_of w.controller.sides side).up ≡ Some run)
       up = side_up side engine engine_is

@@ -405,7 +405,8 @@ takes_by : (s : StepsState) (w : Wait) → s.wait ≡ w → (sh : LikeBy s w) (c
     → FeedsFront s count coming s2 left written → (left ≡ []) × (s2.wait ≡ wait.Nothing)
 takes_by s wait.Nothing e sh count coming s2 left written r one short f =
     let is : IsOpen s = record { goes_on = r.going; waits_not = e } in
-    let t = open_takes s coming r one count f.fed.used (take_all count coming short) s2 f.fed.event (f.feeds.reads is) in
+    let t =
+    open_takes s coming r one count f.fed.used (take_all count coming short) s2 f.fed.event (f.feeds.reads is) in
     (f.left_is ∙ t.0, t.1)
 takes_by s (wait.Choice colour) e sh count coming s2 left written r one short f =
     let both : s.line ∷ lines (s.rest ++ coming) ≡ one.line ∷ [] = sym (sh.found coming) ∙ one.whole in
@@ -432,6 +433,14 @@ none_held_by s wait.Nothing sh e = refl
 none_held_by s (wait.Choice colour) sh e = absurd (cc e)
 none_held_by s wait.Answer sh e = refl
 
+asks_by : (s : StepsState) (w : Wait) (sh : LikeBy s w) (colour : Colour) → w ≡ wait.Choice colour → (coming : List ℕ)
+    → (line : Line) × (ls : List Line) × (lines (before_by s w sh ++ (text_by s w sh ++ coming)) ≡ line ∷ ls)
+    × (asked s.game line ≡ Some colour)
+asks_by s wait.Nothing sh colour e coming = absurd (cc e)
+asks_by s (wait.Choice c) sh colour e coming =
+    (s.line, lines (s.rest ++ coming), sh.found coming, sh.asks ∙ same_colour c colour e)
+asks_by s wait.Answer sh colour e coming = absurd sh
+
 begins_as : (rule : KoRule) (s : StepsState) → s ≡ fresh_steps rule
     → (sh : LikeBy s s.wait) × (p : Unit {0}) × Unit {0}
     × (engine_by s s.wait sh ≡ fresh_under rule p) × (text_by s s.wait sh ≡ [])
@@ -453,6 +462,7 @@ steps_like rule = record {
       takes_by s s.wait refl sh count coming s2 left written r one short h;
   idle = λ s sh unread empty. idle_by s s.wait refl sh unread empty;
   none_held = λ s sh waits. none_held_by s s.wait sh waits;
+  asks = λ s sh colour waits coming. asks_by s s.wait sh colour waits coming;
   not_other = λ s sh waits. none_answered s s.wait refl sh waits;
 }
 

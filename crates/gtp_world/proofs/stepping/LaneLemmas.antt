@@ -1,7 +1,7 @@
 -- One side of a world of engines of a kind is like a lane of the definition, and what happens there like what happens
 -- at that lane.
-use Rattle.std.proofs.Common.{◌≡◌, ℕ, List, [], ◌∷◌, ◌++◌, take, drop, Option, Some, None, refl, ap, sym, ◌∙◌, ◌≤◌, subst}
-use Rattle.std.proofs.Common.{append_assoc, length, length-append, arith}
+use Rattle.std.proofs.Common.{◌≡◌, ℕ, List, [], ◌∷◌, ◌++◌, take, drop, Option, Some, None, refl, ap, sym, ◌∙◌, ◌≤◌}
+use Rattle.std.proofs.Common.{subst, append_assoc, length, length-append, arith}
 use Rattle.std.proofs.lemmas.List.{append-nil, take-append-drop, take_all, drop_all}
 use Rattle.go_base.specs.declared.colours.Colour.{Colour}
 use Rattle.gtp_session.specs.declared.events.Wait.TheVariants as wait
@@ -157,7 +157,8 @@ module _ {E P : Type 0} {kind : Kind E} {policies : SidePolicies P} (like : Like
 
   -- one line that asks for no choice is read whole
   line_read_by : (o : Option E) (te tc : List ℕ) (sh : LikeAt o) (count : ℕ) (new : StepsLane E)
-      → FollowsWhereRunning (engine_at o sh) (coming_at o sh te) → OneLineWhereRunning (engine_at o sh) (coming_at o sh te)
+      → FollowsWhereRunning (engine_at o sh) (coming_at o sh te)
+      → OneLineWhereRunning (engine_at o sh) (coming_at o sh te)
       → 100 ≤ count → StepsReadsBy kind o (side_by o te tc) count new
       → Leads (λ l. ReadsWhereRunning policies.may (lane_by o sh te tc) count (engine_at o sh) l) new
   line_read_by None te tc sh count new r one most h = kept (side_by None te tc) new h sh
@@ -232,7 +233,8 @@ module _ {E P : Type 0} {kind : Kind E} {policies : SidePolicies P} (like : Like
         → Leads (λ l. SideBreaksOff policies side a before (lane_like old sh) after l) new
     breaks (Send own) h =
         subst (λ (s : StepsLane E).
-        Leads (λ l. SideBreaksOff policies side (Send own) before (lane_like old sh) after l) s) (sym h.1) (tt, (h.0, refl))
+        Leads (λ l. SideBreaksOff policies side (Send own) before (lane_like old sh) after l) s) (sym h.1)
+        (tt, (h.0, refl))
     breaks (Start own) h = stays before after old new sh h.0 h.1
     breaks (Wait own) h = stays before after old new sh h.0 h.1
     breaks (Done verdict) h = stays before after old new sh h.0 h.1

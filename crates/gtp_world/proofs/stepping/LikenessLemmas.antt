@@ -1,8 +1,12 @@
 -- How engines of a kind are like engines of the definition; and sessions, which are like themselves.
-use Rattle.std.proofs.Common.{◌≡◌, ◌≢◌, ℕ, ◌≤◌, false, List, [], ◌++◌, length, take, drop, refl, sym, ◌∙◌, subst}
+use Rattle.std.proofs.Common.{◌≡◌, ◌≢◌, ℕ, ◌≤◌, false, List, [], ◌∷◌, ◌++◌, length, take, drop, Some}
+use Rattle.std.proofs.Common.{refl, sym, ◌∙◌, subst}
 use Rattle.std.specs.List.{AllByRecursion}
 use Rattle.std.proofs.lemmas.List.{drop_all}
+use Rattle.go_base.specs.declared.colours.Colour.{Colour}
+use Rattle.gtp_wire.specs.declared.lines.Line.{Line}
 use Rattle.gtp_wire.specs.Lines.{lines}
+use Rattle.gtp_session.specs.Commands.{asked}
 use Rattle.gtp_session.specs.declared.events.Wait.TheVariants as wait
 use Rattle.gtp_session.proofs.engines.Replying.{Replies-nothing}
 use Rattle.gtp_session.specs.Policy.{May}
@@ -56,6 +60,10 @@ pub record Likeness {E P : Type 0} (kind : Kind E) (policies : SidePolicies P) :
       → (left ≡ []) × (kind.wait e2 ≡ wait.Nothing)
   pub idle : (e : E) (sh : Like e) → lines (engine e sh).rest ≡ [] → held e sh ≡ [] → kind.wait e ≡ wait.Nothing
   pub none_held : (e : E) (sh : Like e) → kind.wait e ≡ wait.Nothing → held e sh ≡ []
+  -- what is asked for is asked by the first line that the other engine comes to
+  pub asks : (e : E) (sh : Like e) (colour : Colour) → kind.wait e ≡ wait.Choice colour → (coming : List ℕ)
+      → (line : Line) × (ls : List Line) × (lines ((engine e sh).rest ++ (held e sh ++ coming)) ≡ line ∷ ls)
+      × (asked (engine e sh).game line ≡ Some colour)
   pub not_other : (e : E) (sh : Like e) → kind.wait e ≢ wait.Answer
 
 -- ---- a session is like itself
@@ -79,5 +87,6 @@ sessions_like policies = record {
   takes = λ e sh count coming e2 left written r one short h. (h.1 ∙ drop_all count coming short, refl);
   idle = λ e sh unread empty. refl;
   none_held = λ e sh waits. refl;
+  asks = λ e sh colour waits coming. absurd (cc waits);
   not_other = λ e sh waits. cc;
 }

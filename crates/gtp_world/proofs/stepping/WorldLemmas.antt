@@ -34,15 +34,17 @@ use Rattle.gtp_world.specs.World.{most_to_engine, most_to_controller}
 use Rattle.gtp_world.specs.Kinds.{Kind}
 use Rattle.gtp_world.specs.StepsWorld.{StepsLane, StepsWorld, StepsEvent, StepsRuns, side_of_steps_event, steps_opening}
 use Rattle.gtp_world.specs.StepsWorld.{steps_lane_of, StepsHappensAt, StepsHappens, kind_at}
-use Rattle.gtp_world.specs.StepsLaws.{IsThere, StepsAgree, StepsAlwaysAgree, GoesAlong}
+use Rattle.gtp_world.specs.StepsLaws.{IsThere, IsAskedThere, StepsAgree, StepsAlwaysAgree, GoesAlong}
 use Rattle.gtp_world.proofs.exchange.ExchangeLemmas.{orders_lines, owes_idle}
 use Rattle.gtp_world.proofs.joined.AgreementLemmas.{settled_of, inv_agrees, same_game, step_parts}
 use Rattle.gtp_world.proofs.joined.EventLemmas.{opening_has, happens_keeps}
 use Rattle.gtp_world.proofs.joined.JoinedLemmas.{flipped}
 use Rattle.gtp_world.proofs.joined.ReachedLemmas.{runs_push}
+use Rattle.gtp_world.proofs.stepping.AskedLemmas.{asked_in_turn}
 use Rattle.gtp_world.proofs.stepping.LikenessLemmas.{IsFollowing, Likeness}
 use Rattle.gtp_world.proofs.stepping.LaneLemmas.{FollowsWhereRunning, LikeAt, engine_at, coming_at, lane_like}
-use Rattle.gtp_world.proofs.stepping.LaneLemmas.{Leads, OneLineWhereRunning, kept, some_event, same_event, line_delivered}
+use Rattle.gtp_world.proofs.stepping.LaneLemmas.{Leads, OneLineWhereRunning, kept, some_event, same_event}
+use Rattle.gtp_world.proofs.stepping.LaneLemmas.{line_delivered}
 use Rattle.gtp_world.proofs.stepping.LaneLemmas.{is_like, shown, shown_idle, fewer_come}
 
 -- ---- what comes to an engine that a controller has started
@@ -64,7 +66,8 @@ follows_by x te ahead waiting fit r =
     }
 
 pub follows_where : {P : Type 0} (game : GameRecord) (v : Option Verdict) (up : Option EngineRun)
-    (o : Option (Engine P)) (te tc : List ℕ) → IsJoinedSide game v up (record { engine = body_of o; to_engine = te; to_controller = tc })
+    (o : Option (Engine P)) (te tc : List ℕ)
+    → IsJoinedSide game v up (record { engine = body_of o; to_engine = te; to_controller = tc })
     → FollowsWhereRunning o te
 follows_where game v up None te tc h = tt
 follows_where game None None (Some x) te tc h =
@@ -130,6 +133,21 @@ module _ {E P : Type 0} {kind : Kind E} {policies : SidePolicies P} (like : Like
             (ap body_of z.1)
             ∙ ap (λ (r : KoRule). ruled r c.game) (sym rule);
         waits_not = idle_now engine idle.0 runs idle.1 idle.2;
+      }
+
+  asked_now : kind.rule ≡ rule_of rules side → (colour : Colour) (engine : E) → l.engine ≡ Some engine
+      → c.verdict ≡ None → kind.wait engine ≡ wait.Choice colour → IsAskedThere kind c side colour engine
+  asked_now rule colour engine runs none waits =
+      let z = shown like l.engine sh l.to_engine engine runs in
+      let x : Engine P = like.engine engine z.0 in
+      let asks = like.asks engine z.0 colour waits l.to_engine in
+      let it =
+      asked_in_turn rules c side (bare (lane_like like l sh)) lo (body x) j none (ap body_of z.1) asks.0 asks.1 colour
+      (ap (λ (t : List ℕ). lines (x.rest ++ t)) z.2 ∙ asks.2) asks.3 in
+      record {
+        own = it.0;
+        turn = it.1;
+        game_is = sym (like.game engine z.0) ∙ it.2 ∙ ap (λ (r : KoRule). ruled r c.game) (sym rule);
       }
 
   not_other_now : (engine : E) → l.engine ≡ Some engine → kind.wait engine ≢ wait.Answer
@@ -287,6 +305,7 @@ module _ {B W P Q : Type 0} {black : Kind B} {white : Kind W} {policies_black : 
   reached_agrees setup w s = record {
     there = there;
     same = same;
+    asked = asked;
     answered = answered;
     no_line_of_its_own = not_other;
     room = room;
@@ -312,6 +331,12 @@ module _ {B W P Q : Type 0} {black : Kind B} {white : Kind W} {policies_black : 
           → in_step c side ≡ true → IsThere (kind_at black white side) c.game engine
       there Black = there_now like_b rules c Black w.black (bare at.white) s.like_black s.joined like_b.rule
       there White = there_now like_w rules c White w.white (bare at.black) s.like_white turned like_w.rule
+
+      asked : (side colour : Colour) (engine : at_side B W side) → (steps_lane_of w side).engine ≡ Some engine
+          → c.verdict ≡ None → (kind_at black white side).wait engine ≡ wait.Choice colour
+          → IsAskedThere (kind_at black white side) c side colour engine
+      asked Black = asked_now like_b rules c Black w.black (bare at.white) s.like_black s.joined like_b.rule
+      asked White = asked_now like_w rules c White w.white (bare at.black) s.like_white turned like_w.rule
 
       answered : (side : Colour) (engine : at_side B W side) (u : EngineRun)
           → (steps_lane_of w side).engine ≡ Some engine → (side_of c.sides side).up ≡ Some u → u.unanswered ≡ []

@@ -9,8 +9,8 @@ returns-clause-both g c black white = settles_in_steps (steps_like black) (steps
 
 pub returns-clause-black : goal.returns-clause-black
 returns-clause-black g c black white =
-    settles_in_steps (steps_like black) (sessions_like (policies_by g.O.Made.Policy.may g.O.Maker.may_make white)) lawful_any
-    g.met.O.Made.Policy.lawful
+    settles_in_steps (steps_like black) (sessions_like (policies_by g.O.Made.Policy.may g.O.Maker.may_make white))
+    lawful_any g.met.O.Made.Policy.lawful
 
 pub returns-clause-white : goal.returns-clause-white
 returns-clause-white g c black white =
