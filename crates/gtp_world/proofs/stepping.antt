@@ -5,4 +5,5 @@ pub mod EngineLemmas
 pub mod EventLawLemmas
 pub mod LaneLemmas
 pub mod LikenessLemmas
+pub mod TableLemmas
 pub mod WorldLemmas
