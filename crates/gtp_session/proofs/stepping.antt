@@ -1,5 +1,6 @@
 -- Engines whose authors hand in the choices.
 pub mod Waits
+pub mod Driving
 pub mod Kept
 pub mod OwnNames
 pub mod Titles

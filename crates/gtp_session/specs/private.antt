@@ -2,6 +2,7 @@
 -- crate say of one another.
 pub mod AuthorTexts
 pub mod Chosen
+pub mod Completing
 pub mod Lawful
 pub mod Outcome
 pub mod Pieces

@@ -27,8 +27,8 @@ use std::marker::Model;
 /// An engine in steps. Bytes go in. What comes out is a reply, or the colour for which a choice is asked, or a line
 /// whose command isn't in the table. The choice, or the answer to that line, is handed in afterwards.
 ///
-/// It is seen as the text that it was given and has not read as lines, the line that it read last, what it waits for, its
-/// game, whether it has ended, its last reply, and what its author has set.
+/// It is seen as the text that it was given and has not read as lines, the line that it read last, what it waits for,
+/// its game, whether it has ended, its last reply, and what its author has set.
 #[derive(Drop)]
 pub struct Steps {
     reader: LineReader,
@@ -228,8 +228,8 @@ impl Steps {
     ///
     /// # Errors
     ///
-    /// `NotAsked` where none is asked for, and `Illegal` where it is a vertex that isn't legal, with the first cause. The
-    /// engine stays as it was, and a choice that was asked for is still asked for.
+    /// `NotAsked` where none is asked for, and `Illegal` where it is a vertex that isn't legal, with the first cause.
+    /// The engine stays as it was, and a choice that was asked for is still asked for.
     pub fn choose(&mut self, choice: Choice) -> Result<(), ChoiceFault>
         ensures made { OnOk result (Chooses self.old choice self.new) }
         ensures kept { OnErr result (self.new ≡ self.old) }
@@ -249,9 +249,9 @@ impl Steps {
     ///
     /// # Errors
     ///
-    /// `NotAsked` where no such line waits, and `BadText` where no reply may have the text. A reply may have at most 2,000
-    /// bytes, each of them a newline or 32 to 126, without two newlines in a row, and with neither a space nor a newline
-    /// at its ends. The engine stays as it was.
+    /// `NotAsked` where no such line waits, and `BadText` where no reply may have the text. A reply may have at most
+    /// 2,000 bytes, each of them a newline or 32 to 126, without two newlines in a row, and with neither a space nor a
+    /// newline at its ends. The engine stays as it was.
     pub fn answer(&mut self, ok: bool, text: &[u8]) -> Result<(), AnswerFault>
         ensures made { OnOk result (AnswersOther self.old ok text.now self.new) }
         ensures kept { OnErr result (self.new ≡ self.old) }

@@ -100,11 +100,12 @@ neat_first (word ∷ words) some all = neat-joined 10 word words newline all
 -- There are 47 of them at most, of 33 bytes with their newline.
 pub names_fit : (commands : List (List ℕ)) → AreOwnCommands commands → IsReplyText (names_with commands)
 names_fit commands are =
-    let all : AllByRecursion IsOwnName (map spelled all_commands ++ commands) =
+    let words = map spelled all_commands ++ commands in
+    let long = length-append (map spelled all_commands) commands in
+    let all : AllByRecursion IsOwnName words =
     table_names all_commands commands (recursion_from_All IsOwnName commands are.words) in
-    IsReplyText-neat (names_with commands)
-    (omega (arith, names_short (map spelled all_commands ++ commands) all, are.few, length-append (map spelled all_commands) commands))
-    (neat_first (map spelled all_commands ++ commands) (omega (arith, length-append (map spelled all_commands) commands)) (neat_names (map spelled all_commands ++ commands) all))
+    IsReplyText-neat (names_with commands) (omega (arith, names_short words all, are.few, long))
+    (neat_first words (omega (arith, long)) (neat_names words all))
 
 -- none
 pub no_commands : (commands : List (List ℕ)) → commands ≡ [] → AreOwnCommands commands

@@ -68,3 +68,14 @@ reads_on old new input used line rest (wait.Choice colour) event is e reads new_
 reads_on old new input used line rest wait.Answer event is e reads new_is =
     subst (λ (x : Event). ReadsOn old input used x new) (sym e)
     (record { line = line; rest = rest; reads = reads; new_is = new_is; event_is = ap event_of (sym is) })
+
+-- what waits for an answer is asked for no choice
+pub by-unasked : (o : Option Colour) (b : Bool) → wait_by o b ≡ wait.Answer → o ≡ None
+by-unasked (Some c) b e = cc
+by-unasked None b e = refl
+
+-- what waits for nothing is no line of another command
+pub by-no_answer : (o : Option Colour) (b : Bool) → wait_by o b ≡ wait.Nothing → b ≡ false
+by-no_answer (Some c) b e = cc
+by-no_answer None true e = cc
+by-no_answer None false e = refl

@@ -24,8 +24,9 @@ returns-in-Nothing-clause-event c =
 pub returns-in-Choice-clause-after : goal.returns-in-Choice-clause-after
 returns-in-Choice-clause-after c =
     let s = state_in c.self.inside in
-    subst (λ (x : StepsState). record s { wait = wait.Choice c.in-Choice.colour } ≡ after_wait x (wait_of x.game x.line))
-    c.self.view_is (ap (after_wait s) c.in-Choice.ensures)
+    let waits : StepsState = record s { wait = wait.Choice c.in-Choice.colour } in
+    subst (λ (x : StepsState). waits ≡ after_wait x (wait_of x.game x.line)) c.self.view_is
+    (ap (after_wait s) c.in-Choice.ensures)
 
 pub returns-in-Choice-clause-event : goal.returns-in-Choice-clause-event
 returns-in-Choice-clause-event c =
