@@ -1,5 +1,7 @@
 //! The calls of an engine in steps, with what comes of them in a world. Each function here does its call alone.
-ghost use Rattle.std.specs.Prelude.{[], OnOk, OnErr};
+ghost use Rattle.std.specs.Prelude.{[], OnOk, OnErr, IfErr};
+ghost use Rattle.gtp_session.specs.OwnCommands.{RefusesName};
+ghost use Rattle.gtp_session.specs.Steps.{IsTitle, SetsName, SetsVersion, AddsCommand};
 ghost use Rattle.gtp_world.specs.Kinds.{Call, Calls, Feeds};
 
 use gtp_session::policy::Choice;
@@ -39,21 +41,27 @@ pub fn decline(steps: &mut Steps) -> Result<(), AnswerFault>
 
 /// A name is set, or nothing comes of it.
 pub fn set_name(steps: &mut Steps, text: &[u8]) -> Result<(), NoTitle>
-    ensures { Calls steps.old (Call.set_name text.now) steps.new [] }
+    ensures comes { Calls steps.old (Call.set_name text.now) steps.new [] }
+    ensures set { OnOk result (SetsName steps.old text.now steps.new) }
+    ensures refused { OnErr result (¬ IsTitle text.now) }
 {
     steps.set_name(text)
 }
 
 /// A version is set, or nothing comes of it.
 pub fn set_version(steps: &mut Steps, text: &[u8]) -> Result<(), NoTitle>
-    ensures { Calls steps.old (Call.set_version text.now) steps.new [] }
+    ensures comes { Calls steps.old (Call.set_version text.now) steps.new [] }
+    ensures set { OnOk result (SetsVersion steps.old text.now steps.new) }
+    ensures refused { OnErr result (¬ IsTitle text.now) }
 {
     steps.set_version(text)
 }
 
 /// A command of the author's own is added, or nothing comes of it.
 pub fn add_command(steps: &mut Steps, name: &[u8]) -> Result<(), CommandFault>
-    ensures { Calls steps.old (Call.add_command name.now) steps.new [] }
+    ensures comes { Calls steps.old (Call.add_command name.now) steps.new [] }
+    ensures added { OnOk result (AddsCommand steps.old name.now steps.new) }
+    ensures refused { IfErr result (RefusesName steps.old.commands name.now) }
 {
     steps.add_command(name)
 }

@@ -21,12 +21,12 @@ use Rattle.gtp_session.proofs.stepping.Waits.{by-choice, by-nothing, by-answer}
 use Rattle.gtp_session.proofs.stepping.Runs.{tables_line, tables_not_other}
 use Rattle.gtp_session.specs.Policy.{IsLawful}
 use Rattle.gtp_session.specs.Commands.{answer, asked}
-use Rattle.gtp_session.specs.Engine.{Engine, state_of, Step, Replies, Engages, fresh_under}
+use Rattle.gtp_session.specs.Engine.{Engine, WrittenReply, state_of, Step, Replies, Engages, fresh_under}
 use Rattle.gtp_session.specs.Engine.Answers.{none}
 use Rattle.gtp_session.specs.Steps.{StepsState, fresh_steps, IsOpen, ReadsOn, FindsNone, FindsLine, wait_of, event_of}
 use Rattle.gtp_session.specs.Steps.{wait_by, is_other_line}
 use Rattle.gtp_session.specs.Steps.{answered, replied_by, author_text_to, after_wait, with_line, Chooses}
-use Rattle.gtp_session.specs.StepsRuns.{last_reply, IsTablesLine}
+use Rattle.gtp_session.specs.StepsRuns.{IsTablesLine}
 use Rattle.gtp_world.specs.Kinds.{Call, FeedsFront, written_at, OrRefused, Calls}
 use Rattle.gtp_world.specs.Kinds.{in_steps}
 use Rattle.gtp_world.specs.StepsLaws.{any_lawful, any_policies}
@@ -92,6 +92,10 @@ take_whole (x ∷ xs) ys = ap (λ (t : List ℕ). x ∷ t) (take_whole xs ys)
 drop_whole : (xs ys : List ℕ) → drop (length xs) (xs ++ ys) ≡ ys
 drop_whole [] ys = refl
 drop_whole (x ∷ xs) ys = drop_whole xs ys
+
+-- its last reply, and whether it is that of a `genmove` that succeeded
+abbrev last_reply : StepsState → Bool → WrittenReply
+last_reply s genmove = record { text = s.reply; genmove = genmove }
 
 -- a line is answered: by the table, or by a choice
 one_reply : (x y : Engine (Unit {0})) (line : Line) (choice : Choice) (coming : List ℕ) (n : ℕ) (text : List ℕ)
