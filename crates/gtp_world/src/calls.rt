@@ -1,6 +1,7 @@
 //! The calls of an engine in steps, with what comes of them in a world. Each function here does its call alone.
 ghost use Rattle.std.specs.Prelude.{[], OnOk, OnErr, IfErr};
 ghost use Rattle.gtp_session.specs.OwnCommands.{RefusesName};
+ghost use Rattle.gtp_session.specs.Steps.{RefusesChoice, RefusesAnswer, declined_text};
 ghost use Rattle.gtp_session.specs.Steps.{IsTitle, SetsName, SetsVersion, AddsCommand};
 ghost use Rattle.gtp_world.specs.Kinds.{Call, Calls, Feeds};
 
@@ -18,6 +19,7 @@ pub fn feed(steps: &mut Steps, input: &[u8]) -> StepsFed
 pub fn choose(steps: &mut Steps, choice: Choice) -> Result<(), ChoiceFault>
     ensures made { OnOk result (Calls steps.old (Call.choose choice) steps.new steps.new.reply) }
     ensures refused { OnErr result (Calls steps.old (Call.choose choice) steps.new []) }
+    ensures why { IfErr result (RefusesChoice steps.old choice) }
 {
     steps.choose(choice)
 }
@@ -27,6 +29,7 @@ pub fn answer(steps: &mut Steps, ok: bool, text: &[u8]) -> Result<(), AnswerFaul
     ensures made { OnOk result
         (Calls steps.old (Call.answer ok text.now) steps.new steps.new.reply) }
     ensures refused { OnErr result (Calls steps.old (Call.answer ok text.now) steps.new []) }
+    ensures why { IfErr result (RefusesAnswer steps.old text.now) }
 {
     steps.answer(ok, text)
 }
@@ -35,6 +38,7 @@ pub fn answer(steps: &mut Steps, ok: bool, text: &[u8]) -> Result<(), AnswerFaul
 pub fn decline(steps: &mut Steps) -> Result<(), AnswerFault>
     ensures made { OnOk result (Calls steps.old Call.decline steps.new steps.new.reply) }
     ensures refused { OnErr result (Calls steps.old Call.decline steps.new []) }
+    ensures why { IfErr result (RefusesAnswer steps.old declined_text) }
 {
     steps.decline()
 }
