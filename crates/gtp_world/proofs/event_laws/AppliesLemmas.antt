@@ -92,7 +92,7 @@ loses_none {P} s c c2 l l2 un h = by_up (side_of c.sides s).up refl h
     by_up None is h = h
     by_up (Some u) is h = absurd (un (u, is))
 
-nothing_waits : (game : GameRecord) (v : Option Verdict) (up : Option EngineRun) (l : BareLane) → l.engine ≡ None
+pub nothing_waits : (game : GameRecord) (v : Option Verdict) (up : Option EngineRun) (l : BareLane) → l.engine ≡ None
     → IsJoinedSide game v up l → l.to_engine ≡ []
 nothing_waits game None None l none h = ap (λ (x : BareLane). x.to_engine) h
 nothing_waits game (Some v) None l none h = ap (λ (x : BareLane). x.to_engine) h

@@ -36,7 +36,7 @@ use Rattle.gtp_world.proofs.settling.RoundLemmas.{no_bytes_heard}
 
 -- ---- a side that is down has nothing
 
-bare_nothing : (game : GameRecord) (v : Option Verdict) (up : Option EngineRun) (l : BareLane) → up ≡ None
+pub bare_nothing : (game : GameRecord) (v : Option Verdict) (up : Option EngineRun) (l : BareLane) → up ≡ None
     → IsJoinedSide game v up l → l ≡ bare_empty
 bare_nothing game None None l e h = h
 bare_nothing game (Some v) None l e h = h

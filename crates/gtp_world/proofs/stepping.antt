@@ -1,0 +1,9 @@
+-- Worlds of engines in steps go where worlds of the definition go.
+pub mod AskedLemmas
+pub mod CatchUpLemmas
+pub mod EngineLemmas
+pub mod EventLawLemmas
+pub mod LaneLemmas
+pub mod LikenessLemmas
+pub mod TableLemmas
+pub mod WorldLemmas

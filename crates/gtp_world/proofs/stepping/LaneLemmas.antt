@@ -1,0 +1,332 @@
+-- One side of a world of engines of a kind is like a lane of the definition, and what happens there like what happens
+-- at that lane.
+use Rattle.std.proofs.Common.{◌≡◌, ℕ, List, [], ◌∷◌, ◌++◌, take, drop, Option, Some, None, refl, ap, sym, ◌∙◌, ◌≤◌}
+use Rattle.std.proofs.Common.{subst, append_assoc, length, length-append, arith}
+use Rattle.std.proofs.lemmas.List.{append-nil, take-append-drop, take_all, drop_all}
+use Rattle.go_base.specs.declared.colours.Colour.{Colour}
+use Rattle.gtp_session.specs.declared.events.Wait.TheVariants as wait
+use Rattle.gtp_session.specs.Engine.{Engine, Engages}
+use Rattle.gtp_match.specs.declared.sides.EngineRun.{EngineRun}
+use Rattle.gtp_match.specs.declared.verdicts.Action.{Action}
+use Rattle.gtp_match.specs.declared.verdicts.Action.TheVariants.{Start, Send, Wait, Done}
+use Rattle.gtp_match.specs.declared.controller.Controller.{Controller}
+use Rattle.gtp_match.specs.Controller.{next_text}
+use Rattle.gtp_match.specs.Next.{next}
+use Rattle.gtp_match.specs.Sides.{side_of}
+use Rattle.gtp_world.specs.declared.events.Event.{Event}
+use Rattle.gtp_world.specs.declared.events.Event.TheVariants.{Act, BrokenWrite, ToEngine, ToController, Crash, End}
+use Rattle.gtp_world.specs.Lane.{Lane, SidePolicies, ReadsWhereRunning, crashed_lane}
+use Rattle.gtp_world.specs.World.{Starts, Sends, lane_with_next, lane_where_up, HearsWhereUp, FailsWhereUp, SideActs}
+use Rattle.gtp_world.specs.World.{SideBreaksOff, SideHappens, side_of_event}
+use Rattle.gtp_world.specs.Kinds.{Kind, Call}
+use Rattle.gtp_world.specs.StepsWorld.{StepsLane, running_steps_lane, StepsStarts, steps_lane_with_next, StepsSends}
+use Rattle.gtp_world.specs.StepsWorld.{StepsReadsBy, StepsCallsBy, steps_lane_where_up}
+use Rattle.gtp_world.specs.StepsWorld.{StepsHearsWhereUp, StepsFailsWhereUp, crashed_steps_lane, StepsActs}
+use Rattle.gtp_world.specs.StepsWorld.{StepsBreaksOff, StepsEvent, side_of_steps_event, StepsSideHappens}
+use Rattle.gtp_world.specs.StepsLaws.{IsLike}
+use Rattle.gtp_world.proofs.settling.RoundLemmas.{IsOneLine}
+use Rattle.gtp_world.proofs.stepping.LikenessLemmas.{IsFollowing, Moves, Likeness}
+
+-- where an engine of the definition runs, it follows the controller
+abbrev pub FollowsWhereRunning : {P : Type 0} → Option (Engine P) → List ℕ → Type 0
+FollowsWhereRunning None te = Unit {0}
+FollowsWhereRunning (Some x) te = IsFollowing x te
+
+-- where it runs, one line is on its way to it, which asks for no choice
+abbrev pub OneLineWhereRunning : {P : Type 0} → Option (Engine P) → List ℕ → Type 0
+OneLineWhereRunning None te = Unit {0}
+OneLineWhereRunning (Some x) te = IsOneLine x te
+
+module _ {E P : Type 0} {kind : Kind E} {policies : SidePolicies P} (like : Likeness kind policies) where
+  abbrev pub LikeAt : Option E → Type 0
+  LikeAt None = Unit {0}
+  LikeAt (Some e) = like.Like e
+
+  abbrev pub engine_at : (o : Option E) → LikeAt o → Option (Engine P)
+  engine_at None sh = None
+  engine_at (Some e) sh = Some (like.engine e sh)
+
+  abbrev pub coming_at : (o : Option E) → LikeAt o → List ℕ → List ℕ
+  coming_at None sh te = te
+  coming_at (Some e) sh te = like.held e sh ++ te
+
+  -- the lane that a side is like
+  abbrev pub lane_like : (s : StepsLane E) → LikeAt s.engine → Lane P
+  lane_like s sh = record {
+    engine = engine_at s.engine sh;
+    to_engine = coming_at s.engine sh s.to_engine;
+    to_controller = s.to_controller;
+  }
+
+  abbrev pub lane_by : (o : Option E) → LikeAt o → List ℕ → List ℕ → Lane P
+  lane_by o sh te tc = record { engine = engine_at o sh; to_engine = coming_at o sh te; to_controller = tc }
+
+  abbrev pub side_by : Option E → List ℕ → List ℕ → StepsLane E
+  side_by o te tc = record { engine = o; to_engine = te; to_controller = tc }
+
+  -- the new side is like such a lane
+  abbrev pub Leads : (Lane P → Type 0) → StepsLane E → Type 0
+  Leads Is new = (sh : LikeAt new.engine) × Is (lane_like new sh)
+
+  pub kept : (old new : StepsLane E) → new ≡ old → (sh : LikeAt old.engine) → Leads (λ l. l ≡ lane_like old sh) new
+  kept old new e sh = subst (λ (s : StepsLane E). Leads (λ l. l ≡ lane_like old sh) s) (sym e) (sh, refl)
+
+  -- it stays as it was, and so does the controller
+  stays : (before after : Controller) (old new : StepsLane E) (sh : LikeAt old.engine) → after ≡ before → new ≡ old
+      → Leads (λ l. (after ≡ before) × (l ≡ lane_like old sh)) new
+  stays before after old new sh c e = let k = kept old new e sh in (k.0, (c, k.1))
+
+  starts : (side : Colour) (before after : Controller) (new : StepsLane E) → StepsStarts kind side before after new
+      → Leads (λ l. Starts policies side before after l) new
+  starts side before after new h =
+      subst (λ (s : StepsLane E). Leads (λ l. Starts policies side before after l) s) (sym h.lane)
+      (let b = like.begins h.engine h.begins in (
+        b.0,
+        record {
+          controller_is = h.controller_is;
+          fresh_lane = record {
+            policy = b.1;
+            made = b.2;
+            lane = λ i. record {
+              engine = Some (b.3 i);
+              to_engine = (append-nil (like.held h.engine b.0) ∙ b.4) i;
+              to_controller = [];
+            };
+          };
+        },
+      ))
+
+  with_next : (before : Controller) (side : Colour) (up : Option EngineRun) (o : Option E) (te tc : List ℕ)
+      (sh : LikeAt o)
+      → Leads (λ l. l ≡ lane_with_next before side up (lane_by o sh te tc))
+      (steps_lane_with_next before side up (side_by o te tc))
+  with_next before side None o te tc sh = (sh, refl)
+  with_next before side (Some u) None te tc sh = (sh, refl)
+  with_next before side (Some u) (Some e) te tc sh = (
+    sh,
+    λ i. record {
+      engine = Some (like.engine e sh);
+      to_engine = sym (append_assoc (like.held e sh) te (next_text before side u)) i;
+      to_controller = tc;
+    },
+  )
+
+  sends : (side : Colour) (before after : Controller) (old new : StepsLane E) (sh : LikeAt old.engine)
+      → StepsSends side before old after new → Leads (λ l. Sends side before (lane_like old sh) after l) new
+  sends side before after old new sh h =
+      subst (λ (s : StepsLane E). Leads (λ l. Sends side before (lane_like old sh) after l) s) (sym h.lane)
+      (let n = with_next before side (side_of before.sides side).up old.engine old.to_engine old.to_controller sh in
+      (n.0, record { controller_is = h.controller_is; lane = n.1 }))
+
+  -- an engine that moved, as one of the definition by this many bytes
+  moved_by : (te tc : List ℕ) (e : E) (sh : like.Like e) (new : StepsLane E) (after : E) (left written : List ℕ) (n : ℕ)
+      (sh2 : like.Like after) → new ≡ running_steps_lane after left (tc ++ written)
+      → Engages policies.may (like.engine e sh) (take n (like.held e sh ++ te)) (like.engine after sh2) written
+      → like.held after sh2 ++ left ≡ drop n (like.held e sh ++ te)
+      → Leads (λ l. ReadsWhereRunning policies.may (lane_by (Some e) sh te tc) n (Some (like.engine e sh)) l) new
+  moved_by te tc e sh new after left written n sh2 lane engages rest =
+      subst (λ (s : StepsLane E). Leads (λ l. ReadsWhereRunning policies.may (lane_by (Some e) sh te tc) n
+      (Some (like.engine e sh)) l) s) (sym lane) (
+        sh2,
+        record {
+          after = like.engine after sh2;
+          written = written;
+          engages = engages;
+          lane = λ i. record {
+            engine = Some (like.engine after sh2);
+            to_engine = rest i;
+            to_controller = tc ++ written;
+          };
+        },
+      )
+
+  moved : (te tc : List ℕ) (e : E) (sh : like.Like e) (new : StepsLane E) (after : E) (left written : List ℕ)
+      → new ≡ running_steps_lane after left (tc ++ written)
+      → Moves policies.may (like.engine e sh) (like.held e sh ++ te) (like.engine after) (like.held after) left written
+      → (n : ℕ)
+      × Leads (λ l. ReadsWhereRunning policies.may (lane_by (Some e) sh te tc) n (Some (like.engine e sh)) l) new
+  moved te tc e sh new after left written lane m =
+      (m.0, moved_by te tc e sh new after left written m.0 m.1 lane m.2 m.3)
+
+  reads_by : (o : Option E) (te tc : List ℕ) (sh : LikeAt o) (count : ℕ) (new : StepsLane E)
+      → FollowsWhereRunning (engine_at o sh) (coming_at o sh te) → StepsReadsBy kind o (side_by o te tc) count new
+      → (n : ℕ) × Leads (λ l. ReadsWhereRunning policies.may (lane_by o sh te tc) n (engine_at o sh) l) new
+  reads_by None te tc sh count new r h = (0, kept (side_by None te tc) new h sh)
+  reads_by (Some e) te tc sh count new r h =
+      moved te tc e sh new h.0 h.1 h.2 h.4 (like.reads e sh count te h.0 h.1 h.2 r h.3)
+
+  -- one line that asks for no choice is read whole
+  line_read_by : (o : Option E) (te tc : List ℕ) (sh : LikeAt o) (count : ℕ) (new : StepsLane E)
+      → FollowsWhereRunning (engine_at o sh) (coming_at o sh te)
+      → OneLineWhereRunning (engine_at o sh) (coming_at o sh te)
+      → 100 ≤ count → StepsReadsBy kind o (side_by o te tc) count new
+      → Leads (λ l. ReadsWhereRunning policies.may (lane_by o sh te tc) count (engine_at o sh) l) new
+  line_read_by None te tc sh count new r one most h = kept (side_by None te tc) new h sh
+  line_read_by (Some e) te tc sh count new r one most h =
+      let x : Engine P = like.engine e sh in
+      let all : List ℕ = like.held e sh ++ te in
+      let short : length all ≤ count = omega (arith, one.short, most) in
+      let m = like.reads e sh count te h.0 h.1 h.2 r h.3 in
+      let t = like.takes e sh count te h.0 h.1 h.2 r one short h.3 in
+      let none : drop m.0 all ≡ [] =
+      sym m.3 ∙ ap (λ (z : List ℕ). z ++ h.1) (like.none_held h.0 m.1 t.1) ∙ t.0 in
+      let whole : take m.0 all ≡ all =
+      sym (append-nil (take m.0 all)) ∙ ap (λ (z : List ℕ). take m.0 all ++ z) (sym none) ∙ take-append-drop m.0 all in
+      moved_by te tc e sh new h.0 h.1 h.2 count m.1 h.4
+      (subst (λ (z : List ℕ). Engages policies.may x z (like.engine h.0 m.1) h.2)
+      (whole ∙ sym (take_all count all short)) m.2)
+      (m.3 ∙ none ∙ sym (drop_all count all short))
+
+  calls_by : (o : Option E) (te tc : List ℕ) (sh : LikeAt o) (call : Call) (new : StepsLane E)
+      → FollowsWhereRunning (engine_at o sh) (coming_at o sh te) → StepsCallsBy kind o (side_by o te tc) call new
+      → (n : ℕ) × Leads (λ l. ReadsWhereRunning policies.may (lane_by o sh te tc) n (engine_at o sh) l) new
+  calls_by None te tc sh call new r h = (0, kept (side_by None te tc) new h sh)
+  calls_by (Some e) te tc sh call new r h =
+      moved te tc e sh new h.0 te h.1 h.3 (like.calls e sh call te h.0 h.1 r h.2)
+
+  where_up : (up : Option EngineRun) (o : Option E) (te tc : List ℕ) (sh : LikeAt o)
+      → Leads (λ l. l ≡ lane_where_up up (lane_by o sh te tc)) (steps_lane_where_up up (side_by o te tc))
+  where_up None o te tc sh = (tt, refl)
+  where_up (Some u) o te tc sh = (sh, refl)
+
+  hears : (side : Colour) (before : Controller) (up : Option EngineRun) (old : StepsLane E) (sh : LikeAt old.engine)
+      (count : ℕ) (after : Controller) (new : StepsLane E) → StepsHearsWhereUp side before up old count after new
+      → Leads (λ l. HearsWhereUp side before up (lane_like old sh) count after l) new
+  hears side before None old sh count after new h = stays before after old new sh h.0 h.1
+  hears side before (Some u) old sh count after new h =
+      subst (λ (s : StepsLane E). Leads (λ l. HearsWhereUp side before (Some u) (lane_like old sh) count after l) s)
+      (sym h.2)
+      (let w =
+      where_up (side_of after.sides side).up old.engine old.to_engine (drop count old.to_controller) sh in
+      (w.0, record { fault = h.0; hears = h.1; lane = w.1 }))
+
+  fails : (side : Colour) (before : Controller) (up : Option EngineRun) (old : StepsLane E) (sh : LikeAt old.engine)
+      (after : Controller) (new : StepsLane E) → StepsFailsWhereUp side before up old after new
+      → Leads (λ l. FailsWhereUp side before up (lane_like old sh) after l) new
+  fails side before None old sh after new h = stays before after old new sh h.0 h.1
+  fails side before (Some u) old sh after new h =
+      subst (λ (s : StepsLane E). Leads (λ l. FailsWhereUp side before (Some u) (lane_like old sh) after l) s) (sym h.1)
+      (tt, (h.0, refl))
+
+  crash_by : (o : Option E) (te tc : List ℕ) (sh : LikeAt o) (count : ℕ)
+      → Leads (λ l. l ≡ crashed_lane (lane_by o sh te tc) count) (crashed_steps_lane (side_by o te tc) count)
+  crash_by None te tc sh count = (sh, refl)
+  crash_by (Some e) te tc sh count = (tt, refl)
+
+  crashes : (old new : StepsLane E) (sh : LikeAt old.engine) (count : ℕ) → new ≡ crashed_steps_lane old count
+      → Leads (λ l. l ≡ crashed_lane (lane_like old sh) count) new
+  crashes old new sh count e =
+      subst (λ (s : StepsLane E). Leads (λ l. l ≡ crashed_lane (lane_like old sh) count) s) (sym e)
+      (crash_by old.engine old.to_engine old.to_controller sh count)
+
+  -- ---- one event at its side
+
+  module _ (side : Colour) (before after : Controller) (old new : StepsLane E) (sh : LikeAt old.engine) where
+    acts : (a : Action) → StepsActs kind side a before old after new
+        → Leads (λ l. SideActs policies side a before (lane_like old sh) after l) new
+    acts (Start own) h = starts side before after new h
+    acts (Send own) h = sends side before after old new sh h
+    acts (Wait own) h = stays before after old new sh h.0 h.1
+    acts (Done verdict) h = stays before after old new sh h.0 h.1
+
+    breaks : (a : Action) → StepsBreaksOff kind side a before old after new
+        → Leads (λ l. SideBreaksOff policies side a before (lane_like old sh) after l) new
+    breaks (Send own) h =
+        subst (λ (s : StepsLane E).
+        Leads (λ l. SideBreaksOff policies side (Send own) before (lane_like old sh) after l) s) (sym h.1)
+        (tt, (h.0, refl))
+    breaks (Start own) h = stays before after old new sh h.0 h.1
+    breaks (Wait own) h = stays before after old new sh h.0 h.1
+    breaks (Done verdict) h = stays before after old new sh h.0 h.1
+
+    -- An event but that of bytes to an engine leads to where the same event of the definition leads.
+    pub same_event : (e : Event) → ((own : Colour) (count : ℕ) → e ≡ ToEngine own count → ⊥)
+        → StepsSideHappens kind side (StepsEvent.happens e) before old after new
+        → Leads (λ l. SideHappens policies side e before (lane_like old sh) after l) new
+    same_event Act other h = acts (next before) h
+    same_event (BrokenWrite count) other h = breaks (next before) h
+    same_event (ToEngine own count) other h = absurd (other own count refl)
+    same_event (ToController own count) other h =
+        hears side before (side_of before.sides side).up old sh count after new h
+    same_event (Crash own count) other h = let l = crashes old new sh count h.1 in (l.0, (h.0, l.1))
+    same_event (End own) other h = fails side before (side_of before.sides side).up old sh after new h
+
+    -- a delivery of one line that asks for no choice leads to where the same delivery of the definition leads
+    pub line_delivered : (own : Colour)
+        → FollowsWhereRunning (engine_at old.engine sh) (coming_at old.engine sh old.to_engine)
+        → OneLineWhereRunning (engine_at old.engine sh) (coming_at old.engine sh old.to_engine)
+        → StepsSideHappens kind side (StepsEvent.happens (ToEngine own 100)) before old after new
+        → Leads (λ l. SideHappens policies side (ToEngine own 100) before (lane_like old sh) after l) new
+    line_delivered own r one h =
+        let l = line_read_by old.engine old.to_engine old.to_controller sh 100 new r one (omega arith) h.1 in
+        (l.0, (h.0, l.1))
+
+    -- An event leads to where some event of the definition at the same side leads.
+    abbrev pub SomeEvent : StepsEvent → Type 0
+    SomeEvent e = (defined : Event) × (side_of_event before defined ≡ side_of_steps_event before e)
+        × Leads (λ l. SideHappens policies side defined before (lane_like old sh) after l) new
+
+    pub some_event : (e : StepsEvent)
+        → FollowsWhereRunning (engine_at old.engine sh) (coming_at old.engine sh old.to_engine)
+        → StepsSideHappens kind side e before old after new → SomeEvent e
+    some_event (StepsEvent.happens Act) r h = (Act, refl, same_event Act (λ own count e. cc) h)
+    some_event (StepsEvent.happens (BrokenWrite count)) r h =
+        (BrokenWrite count, refl, same_event (BrokenWrite count) (λ own count e. cc) h)
+    some_event (StepsEvent.happens (ToEngine own count)) r h =
+        let l = reads_by old.engine old.to_engine old.to_controller sh count new r h.1 in
+        (ToEngine own l.0, refl, (l.1.0, (h.0, l.1.1)))
+    some_event (StepsEvent.happens (ToController own count)) r h =
+        (ToController own count, refl, same_event (ToController own count) (λ own count e. cc) h)
+    some_event (StepsEvent.happens (Crash own count)) r h =
+        (Crash own count, refl, same_event (Crash own count) (λ own count e. cc) h)
+    some_event (StepsEvent.happens (End own)) r h = (End own, refl, same_event (End own) (λ own count e. cc) h)
+    some_event (StepsEvent.calls own call) r h =
+        let l = calls_by old.engine old.to_engine old.to_controller sh call new r h.1 in
+        (ToEngine own l.0, refl, (l.1.0, (h.0, l.1.1)))
+
+  -- ---- what is seen of it
+
+  none_held_by : (o : Option E) (sh : LikeAt o)
+      → ((e : E) → o ≡ Some e → kind.wait e ≡ wait.Nothing) → (te : List ℕ) → coming_at o sh te ≡ te
+  none_held_by None sh waits te = refl
+  none_held_by (Some e) sh waits te = ap (λ (t : List ℕ). t ++ te) (like.none_held e sh (waits e refl))
+
+  pub is_like : (s : StepsLane E) (sh : LikeAt s.engine) → IsLike kind s (lane_like s sh)
+  is_like s sh = by_engine s.engine s.to_engine s.to_controller sh
+    where
+      by_engine : (o : Option E) (te tc : List ℕ) (z : LikeAt o) → IsLike kind (side_by o te tc) (lane_by o z te tc)
+      by_engine None te tc z =
+          record { game = refl; to_controller = refl; read = []; to_engine = refl; none_read = λ waits. refl }
+      by_engine (Some e) te tc z =
+          record {
+            game = ap Some (like.game e z);
+            to_controller = refl;
+            read = like.held e z;
+            to_engine = refl;
+            none_read = λ waits. like.none_held e z (waits e refl);
+          }
+
+  -- the engine that an engine is like
+  pub shown : (o : Option E) (sh : LikeAt o) (te : List ℕ) (e : E) → o ≡ Some e
+      → (z : like.Like e) × (engine_at o sh ≡ Some (like.engine e z)) × (coming_at o sh te ≡ like.held e z ++ te)
+  shown o sh te e is =
+      subst (λ (q : Option E). (y : LikeAt q) → (z : like.Like e) × (engine_at q y ≡ Some (like.engine e z))
+      × (coming_at q y te ≡ like.held e z ++ te)) (sym is) (λ z. (z, refl, refl)) sh
+
+  first_empty : (xs ys : List ℕ) → xs ++ ys ≡ [] → xs ≡ []
+  first_empty [] ys e = refl
+  first_empty (x ∷ xs) ys e = absurd (cc e)
+
+  -- where nothing is on its way to that engine, this one waits for nothing
+  pub shown_idle : (o : Option E) (sh : LikeAt o) (te : List ℕ) (e : E) → o ≡ Some e
+      → FollowsWhereRunning (engine_at o sh) (coming_at o sh te) → coming_at o sh te ≡ [] → kind.wait e ≡ wait.Nothing
+  shown_idle o sh te e is follows none =
+      let z = shown o sh te e is in
+      let r : IsFollowing (like.engine e z.0) (coming_at o sh te) =
+      subst (λ (q : Option (Engine P)). FollowsWhereRunning q (coming_at o sh te)) z.1 follows in
+      like.idle e z.0 r.unread (first_empty (like.held e z.0) te (sym z.2 ∙ none))
+
+  pub fewer_come : (o : Option E) (sh : LikeAt o) (te : List ℕ) (n : ℕ) → length (coming_at o sh te) ≤ n
+      → length te ≤ n
+  fewer_come None sh te n h = h
+  fewer_come (Some e) sh te n h = omega (arith, h, length-append (like.held e sh) te)
