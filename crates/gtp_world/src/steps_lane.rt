@@ -1,5 +1,5 @@
 //! One side's engine in steps, and the bytes on their ways to it and from it.
-ghost use Rattle.std.specs.Prelude.{◌≡◌, ◌+◌, ◌≤◌, List, ℕ, Bool, true, false, [], take, drop, length, MatchOption, None, Some};
+ghost use Rattle.std.specs.Prelude.{◌≡◌, ◌+◌, ◌≤◌, [], take, drop, length, MatchOption, None, Some};
 ghost use Rattle.go_board.specs.declared.rules.KoRule.{KoRule as KoRules};
 ghost use Rattle.gtp_world.specs.Kinds.{Calls, in_steps, written_at};
 ghost use Rattle.gtp_world.specs.StepsWorlds.{call_of};
@@ -119,7 +119,8 @@ impl StepsLane {
     /// The engine's author calls it, where one runs. A reply that is there is on its way.
     pub(crate) fn call(&mut self, call: &Call<'_>)
         requires { HasCallRoom self.old (call_of call.now) }
-        ensures { (rule : KoRules) → StepsCalls (in_steps rule) self.old (call_of call.now) self.new }
+        ensures { (rule : KoRules) →
+            StepsCalls (in_steps rule) self.old (call_of call.now) self.new }
     {
         if let Some(steps) = &mut self.engine {
             if make(steps, call) {
