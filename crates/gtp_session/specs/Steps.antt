@@ -1,5 +1,6 @@
 -- An engine whose author hands in its choices, and answers the commands that the table doesn't have.
-use Rattle.std.specs.Prelude.{◌≡◌, ◌≢◌, ℕ, Bool, true, false, List, [], length, ◌≤◌, Option, None, Some, is_none, codes}
+use Rattle.std.specs.Prelude.{◌≡◌, ◌≢◌, ℕ, Bool, true, false, List, [], ◌∷◌, ◌++◌, length, ◌≤◌, Option, None, Some}
+use Rattle.std.specs.Prelude.{is_none, codes}
 use Rattle.go_base.specs.declared.colours.Colour.{Colour}
 use Rattle.go_base.specs.declared.choices.Choice.{Choice}
 use Rattle.go_base.specs.declared.choices.Choice.TheVariants.{Resign, Play}
@@ -23,8 +24,9 @@ use Rattle.gtp_session.specs.declared.events.AnswerFault.{AnswerFault}
 use Rattle.gtp_session.specs.declared.events.AnswerFault.TheVariants as answer_fault
 use Rattle.gtp_session.specs.Commands.{Answer, answer, argument, asked, ends, id_of, named_command}
 use Rattle.gtp_session.specs.Engine.{fresh_game_under}
-use Rattle.gtp_session.specs.OwnCommands.{known_text, names_with}
+use Rattle.gtp_session.specs.OwnCommands.{AreOwnCommands, MayBeAdded, known_text, names_with}
 use Rattle.gtp_session.specs.Policy.{IsLawful}
+use Rattle.gtp_session.specs.Spoken.{HasIntId, IsSpoken}
 
 -- What such an engine is seen as: the text that it was given and has not read as lines, the line that it read last,
 -- what it waits for, its game, whether its session has ended, and the bytes of its last reply; and what its author has
@@ -69,16 +71,16 @@ wait_by (Some colour) other = wait.Choice colour
 wait_by None true = wait.Answer
 wait_by None false = wait.Nothing
 
--- What the author is asked for by a line: a choice, where the line asks for one; an answer, where the table doesn't have
--- its command; or nothing.
+-- What the author is asked for by a line: a choice, where the line asks for one; an answer, where the table doesn't
+-- have its command; or nothing.
 abbrev pub wait_of : GameRecord → Line → Wait
 wait_of game line = wait_by (asked game line) (is_other_line line)
 
 -- ---- what the author has set
 
--- The text of a success in which what the author has set is named, for the words of a line with this command: his name,
--- his version, and what `known_command` and `list_commands` say with his commands. None where the answer is the table's
--- alone.
+-- The text of a success in which what the author has set is named, for the words of a line with this command: his
+-- name, his version, and what `known_command` and `list_commands` say with his commands. None where the answer is the
+-- table's alone.
 abbrev pub author_text : StepsState → Option CommandName → List (List ℕ) → Option (List ℕ)
 author_text s None words = None
 author_text s (Some command.Name) words = Some s.name
@@ -212,11 +214,20 @@ pub record SetsVersion (old : StepsState) (text : List ℕ) (new : StepsState) :
   pub title : IsTitle text
   pub new_is : new ≡ record old { version = text }
 
+-- another command of the author's own is known from now on, and all else stays
+pub record AddsCommand (old : StepsState) (name : List ℕ) (new : StepsState) : Type 0 where
+  pub may : MayBeAdded old.commands name
+  pub new_is : new ≡ record old { commands = old.commands ++ name ∷ [] }
+
 -- What holds at any time. No whole line is held back. It waits only for what the line that it read last asks for, and
--- then its session has not ended. Its name and its version are titles.
+-- then its session has not ended. Its last reply, where there was one, is one reply. What its author has set are titles
+-- and names of own commands.
 pub record IsStepsState (s : StepsState) : Type 0 where
   pub unread : lines s.rest ≡ []
   pub waits : s.wait ≢ wait.Nothing → s.wait ≡ wait_of s.game s.line
   pub goes_on : s.wait ≢ wait.Nothing → s.ended ≡ false
+  pub id : HasIntId s.line
+  pub spoken : s.reply ≢ [] → IsSpoken s.reply
   pub name : IsTitle s.name
   pub version : IsTitle s.version
+  pub commands : AreOwnCommands s.commands

@@ -1,8 +1,8 @@
 -- What no reader has to believe: proofs that the choices of the policies are lawful, and what functions inside the
 -- crate say of one another.
+pub mod AuthorTexts
 pub mod Chosen
 pub mod Lawful
 pub mod Outcome
 pub mod Pieces
 pub mod StepsFields
-pub mod Titles

@@ -64,3 +64,26 @@ pub enum AnswerFault {
 #[derive(Clone, Copy, Debug, PartialEq, Eq, Drop, Error)]
 #[error("the text is longer than 200 bytes, or no reply may have it")]
 pub struct NoTitle;
+
+/// Why a command isn't added, in the order of checking.
+#[derive(Clone, Copy, Debug, PartialEq, Eq, Drop, Error)]
+pub enum CommandFault {
+    /// Its name has no byte, or more than 32.
+    #[error("the name has no byte, or more than 32")]
+    BadLength,
+    /// A byte of its name is `#`, or isn't 33 to 126.
+    #[error("a byte of the name is `#`, or is none of 33 to 126")]
+    BadByte,
+    /// Its name has digits alone, as an id.
+    #[error("the name has digits alone")]
+    OnlyDigits,
+    /// The table has a command of this name.
+    #[error("the table has a command of this name")]
+    InTable,
+    /// A command of this name was added before.
+    #[error("a command of this name was added before")]
+    AddedBefore,
+    /// The engine has 32 own commands.
+    #[error("the engine has 32 own commands")]
+    TooMany,
+}

@@ -1,19 +1,22 @@
 //! An engine in steps, whose author hands in its choices, and answers the commands that the table doesn't have.
-ghost use Rattle.std.specs.Prelude.{◌≡◌, ◌≢◌, ◌≤◌, length, true, false, None, IfSome, IfNone, IfErr, OnOk, OnErr};
-ghost use Rattle.gtp_wire.specs.Replies.{most_text_bytes};
+ghost use Rattle.std.specs.Prelude.{◌≡◌, ◌≢◌, ◌≤◌, length, true, false, [], None, IfSome, IfNone, IfErr};
+ghost use Rattle.std.specs.Prelude.{OnOk, OnErr, if◌then◌else◌, codes};
+ghost use Rattle.gtp_wire.specs.Replies.{IsReplyText, most_written_bytes};
 ghost use Rattle.gtp_wire.specs.declared.lines.Line.TheVariants as line;
 ghost use Rattle.gtp_session.specs.declared.events.Wait.TheVariants as wait;
 ghost use Rattle.gtp_session.specs.declared.events.Event.TheVariants as event;
 ghost use Rattle.gtp_session.specs.Commands.{answer, asked};
-ghost use Rattle.gtp_session.specs.Spoken.{IsLawfulAt};
+ghost use Rattle.gtp_session.specs.Spoken.{IsLawfulAt, IsSpoken};
 ghost use Rattle.gtp_session.specs.Steps.{event_of};
 
 use crate::answers::{Answered, answer};
+use crate::author_texts::{AuthorText, text_for};
 use crate::chosen::{Chosen, refusal};
-pub use crate::events::{AnswerFault, ChoiceFault, Event, NoTitle, StepsFed, Wait};
+pub use crate::events::{AnswerFault, ChoiceFault, CommandFault, Event, NoTitle, StepsFed, Wait};
+use crate::own_commands::OwnCommands;
 use crate::policy::Choice;
 use crate::session::fresh_game;
-use crate::titles::{Title, Titled, copy_of, title_named, title_of};
+use crate::titles::{Title, copy_of, title_of};
 use crate::waits::{id_of, wait_of};
 use go_board::{Game, KoRule};
 use gtp_wire::{
@@ -37,6 +40,7 @@ pub struct Steps {
     reply: ReplyText,
     name: Title,
     version: Title,
+    commands: OwnCommands,
 }
 
 impl Model for Steps {
@@ -54,7 +58,8 @@ impl Steps {
     ghost use Rattle.gtp_session.specs.Steps.{IsStepsState, IsOpen, IsTitle, fresh_steps};
     ghost use Rattle.gtp_session.specs.Steps.{wait_of, after_wait, replied, answered, texted};
     ghost use Rattle.gtp_session.specs.Steps.{ReadsOn, Chooses, RefusesChoice, AnswersOther, RefusesAnswer};
-    ghost use Rattle.gtp_session.specs.Steps.{SetsName, SetsVersion, declined_text};
+    ghost use Rattle.gtp_session.specs.Steps.{SetsName, SetsVersion, AddsCommand, declined_text};
+    ghost use Rattle.gtp_session.specs.OwnCommands.{RefusesName};
 
     /// An engine with this ko rule that was given nothing: size 19, komi 0, no handicap and no moves. It answers
     /// `stepgo` to `name` and `1.0` to `version`.
@@ -72,6 +77,7 @@ impl Steps {
             reply: ReplyText::new(),
             name,
             version,
+            commands: OwnCommands::new(),
         }
     }
 
@@ -84,7 +90,10 @@ impl Steps {
 
     /// The bytes of the last reply, or none before the first.
     pub fn reply(&self) -> &[u8]
-        ensures { result.now ≡ self.now.reply }
+        ensures bytes { result.now ≡ self.now.reply }
+        // They are one reply: a status, an id or none, and a text that a reply may have.
+        ensures spoken { result.now ≢ [] → IsSpoken result.now }
+        ensures few { length result.now ≤ most_written_bytes }
     {
         self.reply.as_slice()
     }
@@ -182,10 +191,18 @@ impl Steps {
         requires asks { asked self.old.game self.old.line ≡ None }
         ensures { self.new ≡ replied self.old }
     {
+        let reply = &mut self.reply;
         let id = id_of(&self.line);
-        match title_named(&self.line) {
-            Some(Titled::Name) => write_reply_into(&mut self.reply, true, id, &self.name),
-            Some(Titled::Version) => write_reply_into(&mut self.reply, true, id, &self.version),
+        match text_for(&self.line, &self.commands) {
+            Some(AuthorText::Name) => write_reply_into(reply, true, id, &self.name),
+            Some(AuthorText::Version) => write_reply_into(reply, true, id, &self.version),
+            Some(AuthorText::Known(known)) => write_reply_into(reply, true, id, truth(known)),
+            Some(AuthorText::Commands) => write_reply_into(
+                reply,
+                true,
+                id,
+                &self.commands.listed(),
+            ),
             None => self.reply_with(Choice::Resign),
         }
     }
@@ -269,7 +286,7 @@ impl Steps {
 
     /// Answers the line that was read last by this text.
     fn reply_text(&mut self, ok: bool, text: &[u8])
-        requires { length text.now ≤ most_text_bytes }
+        requires { IsReplyText text.now }
         ensures { self.new ≡ texted self.old ok text.now }
     {
         write_reply_into(&mut self.reply, ok, id_of(&self.line), text);
@@ -309,6 +326,20 @@ impl Steps {
         self.version = version;
         Ok(())
     }
+
+    /// Adds a command of the author's own. `known_command` and `list_commands` know its name from now on, and a line
+    /// with it is one whose command isn't in the table.
+    ///
+    /// # Errors
+    ///
+    /// The first cause by which it isn't added, in the order of [`CommandFault`]. The engine stays as it was.
+    pub fn add_command(&mut self, name: &[u8]) -> Result<(), CommandFault>
+        ensures added { OnOk result (AddsCommand self.old name.now self.new) }
+        ensures kept { OnErr result (self.new ≡ self.old) }
+        ensures why { IfErr result (RefusesName self.old.commands name.now) }
+    {
+        self.commands.add(name)
+    }
 }
 
 /// What an engine that waits reports, or nothing where it waits for nothing.
@@ -321,4 +352,11 @@ fn awaited(wanted: Wait) -> Option<Event>
         Wait::Choice(colour) => Some(Event::Asked(colour)),
         Wait::Answer => Some(Event::Other),
     }
+}
+
+/// `true` or `false`.
+fn truth(holds: bool) -> &'static [u8]
+    ensures { result.now ≡ (if holds then codes "true" else codes "false") }
+{
+    if holds { b"true" } else { b"false" }
 }

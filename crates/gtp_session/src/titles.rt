@@ -1,13 +1,10 @@
 //! Names and versions.
-ghost use Rattle.std.specs.Prelude.{◌≡◌, ◌≤◌, [], length, IfSome, IfNone};
-ghost use Rattle.gtp_session.specs.Steps.{StepsState, IsOpen, IsTitle, replied, replied_by};
-ghost use Rattle.gtp_session.specs.private.Titles.{title_in};
+ghost use Rattle.std.specs.Prelude.{◌≡◌, ◌≤◌, length, IfSome, IfNone};
+ghost use Rattle.gtp_session.specs.Steps.{IsTitle};
 
-use crate::answers::named_command;
-use crate::commands::CommandName;
 use arrayvec::ArrayVec;
 use go_base::push;
-use gtp_wire::{Line, is_reply_text};
+use gtp_wire::is_reply_text;
 
 /// The most bytes of a name or a version.
 const MOST_TITLE_BYTES: usize = 200;
@@ -37,29 +34,4 @@ pub(crate) fn copy_of(text: &[u8]) -> Title
     let mut title = ArrayVec::new();
     push(&mut title, text);
     title
-}
-
-/// A command for which the author has set a text.
-#[derive(Clone, Copy, PartialEq, Eq)]
-pub(crate) enum Titled {
-    Name,
-    Version,
-}
-
-/// That command, where the line names it.
-pub(crate) fn title_named(line: &Line) -> Option<Titled>
-    ensures { (s : StepsState) → IsOpen s → s.line ≡ line.now → s.commands ≡ [] →
-        replied s ≡ replied_by s (title_in s result) }
-{
-    let Line::Command(line) = line else {
-        return None;
-    };
-    let command = named_command(line);
-    if command == Some(CommandName::Name) {
-        return Some(Titled::Name);
-    }
-    if command == Some(CommandName::Version) {
-        return Some(Titled::Version);
-    }
-    None
 }

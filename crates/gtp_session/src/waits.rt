@@ -2,6 +2,7 @@
 ghost use Rattle.std.specs.Prelude.{◌≡◌, false, is_none};
 ghost use Rattle.gtp_session.specs.declared.commands.CommandName.TheVariants as command;
 ghost use Rattle.gtp_session.specs.Commands.{argument, asked_by_command, asked_by_words, command_named, id_of};
+ghost use Rattle.gtp_session.specs.Spoken.{HasIntId};
 ghost use Rattle.gtp_session.specs.Steps.{wait_of, wait_by};
 
 use crate::answers::{colour_argument, is_full, named_command};
@@ -50,7 +51,8 @@ fn wait_of_genmove(game: &Game, line: &CommandLine) -> Wait
 
 /// The id that the reply to the line repeats.
 pub(crate) fn id_of(line: &Line) -> Option<u32>
-    ensures { result ≡ id_of line.now }
+    ensures value { result ≡ id_of line.now }
+    ensures int { HasIntId line.now }
 {
     match line {
         Line::TooLong => None,

@@ -1,4 +1,6 @@
 -- Worlds of engines in steps go where worlds of the definition go.
+pub mod CatchUpLemmas
 pub mod EngineLemmas
 pub mod LaneLemmas
+pub mod LikenessLemmas
 pub mod WorldLemmas

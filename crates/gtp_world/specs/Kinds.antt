@@ -13,6 +13,8 @@ use Rattle.gtp_session.specs.declared.events.NoTitle.{NoTitle}
 use Rattle.gtp_session.specs.Engine.{Engine, Engages, fresh_under}
 use Rattle.gtp_session.specs.Steps.{StepsState, fresh_steps, IsOpen, ReadsOn, event_of, Chooses, RefusesChoice}
 use Rattle.gtp_session.specs.Steps.{AnswersOther, RefusesAnswer, declined_text, IsTitle, SetsName, SetsVersion}
+use Rattle.gtp_session.specs.Steps.{AddsCommand}
+use Rattle.gtp_session.specs.OwnCommands.{RefusesName}
 use Rattle.gtp_world.specs.Lane.{SidePolicies}
 
 -- ---- kinds
@@ -24,6 +26,7 @@ pub data Call : Type 0 where
   decline : Call
   set_name : List ℕ → Call
   set_version : List ℕ → Call
+  add_command : List ℕ → Call
 
 -- What the engines of a side are: how one may begin; what comes of one that is given the first `count` bytes on their
 -- way to it (it is another engine then, these bytes are left on their way, and these are written); what comes of a call
@@ -90,8 +93,9 @@ OrRefused {F} Done Refuses old new written = Done ⊎ ((fault : F) × Refuses fa
 abbrev pub RefusesTitle : List ℕ → NoTitle → Type 0
 RefusesTitle text fault = ¬ IsTitle text
 
--- What comes of a call. A choice that is made, and an answer that is given, have their reply written. What is set is
--- used from then on, and nothing is written. What is refused leaves the engine as it was, and nothing is written.
+-- What comes of a call. A choice that is made, and an answer that is given, have their reply written. What is set or
+-- added is used from then on, and nothing is written. What is refused leaves the engine as it was, and nothing is
+-- written.
 abbrev pub Calls : StepsState → Call → StepsState → List ℕ → Type 0
 Calls old (Call.choose choice) new written =
     OrRefused (Chooses old choice new × (written ≡ new.reply)) (RefusesChoice old choice) old new written
@@ -104,6 +108,8 @@ Calls old (Call.set_name text) new written =
     OrRefused (SetsName old text new × (written ≡ [])) (RefusesTitle text) old new written
 Calls old (Call.set_version text) new written =
     OrRefused (SetsVersion old text new × (written ≡ [])) (RefusesTitle text) old new written
+Calls old (Call.add_command name) new written =
+    OrRefused (AddsCommand old name new × (written ≡ [])) (RefusesName old.commands name) old new written
 
 -- engines in steps with this ko rule, each of which was given nothing at its start
 abbrev pub in_steps : KoRule → Kind StepsState

@@ -29,6 +29,7 @@ call_of (made.Answer ok text) = Call.answer ok text.now
 call_of made.Decline = Call.decline
 call_of (made.SetName text) = Call.set_name text.now
 call_of (made.SetVersion text) = Call.set_version text.now
+call_of (made.AddCommand name) = Call.add_command name.now
 
 abbrev pub event_of : EventMade → StepsEvent
 event_of (event.Happens happens) = StepsEvent.happens happens

@@ -3,7 +3,7 @@ ghost use Rattle.std.specs.Prelude.{[], OnOk, OnErr};
 ghost use Rattle.gtp_world.specs.Kinds.{Call, Calls, Feeds};
 
 use gtp_session::policy::Choice;
-use gtp_session::steps::{AnswerFault, ChoiceFault, NoTitle, Steps, StepsFed};
+use gtp_session::steps::{AnswerFault, ChoiceFault, CommandFault, NoTitle, Steps, StepsFed};
 
 /// It is fed.
 pub fn feed(steps: &mut Steps, input: &[u8]) -> StepsFed
@@ -49,4 +49,11 @@ pub fn set_version(steps: &mut Steps, text: &[u8]) -> Result<(), NoTitle>
     ensures { Calls steps.old (Call.set_version text.now) steps.new [] }
 {
     steps.set_version(text)
+}
+
+/// A command of the author's own is added, or nothing comes of it.
+pub fn add_command(steps: &mut Steps, name: &[u8]) -> Result<(), CommandFault>
+    ensures { Calls steps.old (Call.add_command name.now) steps.new [] }
+{
+    steps.add_command(name)
 }

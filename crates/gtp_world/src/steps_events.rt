@@ -25,4 +25,6 @@ pub enum Call<'t> {
     SetName(&'t [u8]),
     /// `version` is answered by this text from now on.
     SetVersion(&'t [u8]),
+    /// A command of the author's own, of this name, is added.
+    AddCommand(&'t [u8]),
 }

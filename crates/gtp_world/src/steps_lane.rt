@@ -62,6 +62,10 @@ fn make(steps: &mut Steps, call: &Call<'_>) -> bool
             let _ = calls::set_version(steps, text);
             false
         }
+        Call::AddCommand(name) => {
+            let _ = calls::add_command(steps, name);
+            false
+        }
     }
 }
 

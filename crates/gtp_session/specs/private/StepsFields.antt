@@ -1,5 +1,4 @@
 -- What the fields of `Steps` are seen as.
-use Rattle.std.specs.Prelude.{[]}
 use Rattle.gtp_session.specs.declared.steps.Steps.TheInside.{Inside}
 use Rattle.gtp_session.specs.Steps.{StepsState, IsStepsState}
 
@@ -14,7 +13,7 @@ state_in f =
       reply = f.reply.items;
       name = f.name.items;
       version = f.version.items;
-      commands = [];
+      commands = f.commands;
     }
 
 abbrev pub IsKept : Inside → Type 0

@@ -57,7 +57,7 @@ runs_if None e h = tt
 runs_if (Some u) e h = is_there e (h u refl)
 
 -- where nothing is going on, a world may settle
-may_settle : {B W : Type 0} (rules : Rules) (v : World B W) → IsQuiet (rule_of rules) v → MaySettle rules v
+pub may_settle : {B W : Type 0} (rules : Rules) (v : World B W) → IsQuiet (rule_of rules) v → MaySettle rules v
 may_settle rules v quiet = record {
   verdict = no_verdict v.controller quiet.not_done;
   nothing =
@@ -68,11 +68,11 @@ may_settle rules v quiet = record {
   white = runs_if v.controller.sides.white.up v.white.engine (λ u up. quiet.running White (u, up));
 }
 
-opening_starts : (setup : SetupRecord) → next (new setup) ≡ Start Black
+pub opening_starts : (setup : SetupRecord) → next (new setup) ≡ Start Black
 unfolding next
 opening_starts setup = refl
 
-opening_down : (setup : SetupRecord) (s : Colour) → (side_of (new setup).sides s).up ≡ None
+pub opening_down : (setup : SetupRecord) (s : Colour) → (side_of (new setup).sides s).up ≡ None
 opening_down setup Black = refl
 opening_down setup White = refl
 

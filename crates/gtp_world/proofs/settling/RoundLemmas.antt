@@ -6,6 +6,7 @@ use Rattle.std.proofs.lemmas.List.{append-nil}
 use Rattle.std.proofs.lemmas.List.Elements.{recursion_from_All}
 use Rattle.go_base.specs.Colour.{other}
 use Rattle.go_base.specs.Handicap.{handicap_points}
+use Rattle.go_base.specs.Int.{most_int}
 use Rattle.go_base.specs.Point.{IsOn}
 use Rattle.go_base.specs.declared.colours.Colour.{Colour}
 use Rattle.go_base.specs.declared.colours.Colour.TheVariants.{Black, White}
@@ -14,13 +15,16 @@ use Rattle.go_board.specs.Game.{GameRecord, IsGame}
 use Rattle.gtp_wire.specs.declared.commands.Command.{Command}
 use Rattle.gtp_wire.specs.declared.commands.Command.TheVariants.{Boardsize, Komi, ClearBoard, FixedHandicap, Play}
 use Rattle.gtp_wire.specs.declared.commands.Command.TheVariants.{Genmove, Undo, Quit}
+use Rattle.gtp_wire.specs.declared.lines.Line.{Line}
 use Rattle.gtp_wire.specs.declared.replies.Reply.{Reply}
+use Rattle.gtp_wire.specs.Lines.{lines, SameFuture}
 use Rattle.gtp_wire.specs.Replies.{IsReply, IsFirst}
 use Rattle.gtp_wire.proofs.first_answers.OneAnswer.{one_first, reply_is_first}
 use Rattle.gtp_session.proofs.reply_texts.NeatTexts.{short-vertices, few_handicap_points}
 use Rattle.gtp_session.proofs.choosing.Policies.{AllowsLawful}
 use Rattle.gtp_session.specs.Policy.{May}
 use Rattle.gtp_session.specs.Engine.{Engine, fresh_game_under}
+use Rattle.gtp_session.specs.Commands.{asked as asked_by_line}
 use Rattle.gtp_match.specs.declared.unanswered.SentCommand.{SentCommand}
 use Rattle.gtp_match.specs.declared.sides.EngineRun.{EngineRun}
 use Rattle.gtp_match.specs.declared.sides.SideState.{SideState}
@@ -36,11 +40,13 @@ use Rattle.gtp_match.specs.Next.{next}
 use Rattle.gtp_match.specs.Unanswered.{oldest}
 use Rattle.gtp_match.specs.ReplyTable.{outcome, after_outcome, fault_of, confirmed_by}
 use Rattle.gtp_match.specs.Script.{script}
-use Rattle.gtp_match.proofs.scripts.Lines.{sent_line}
+use Rattle.gtp_match.proofs.scripts.Lines.{next_written, sent_line}
+use Rattle.gtp_match.proofs.soundness.Calls.{my_engine}
 use Rattle.gtp_match.specs.Sides.{side_of, with_side, with_engine, handed as handed_command, heard_reply, confirmed}
 use Rattle.gtp_world.specs.Lane.{Lane, written_lane, EngineReads, LaneReads}
 use Rattle.gtp_world.specs.World.{lane_with_next, Sends, lane_where_up, HearsFront, HearsWhereUp, SideHears}
 use Rattle.gtp_match.specs.Controller.{next_text}
+use Rattle.gtp_session.proofs.engines.Replying.{lines-nothing}
 use Rattle.gtp_session.proofs.engines.Sent.{well_answer}
 use Rattle.gtp_world.proofs.exchange.AnswerLemmas.{answered_is_reply, succeeds_with}
 use Rattle.gtp_world.proofs.exchange.ScriptLemmas.{GoesWellOn, script_well, well_at}
@@ -48,10 +54,13 @@ use Rattle.gtp_world.proofs.joined.AgreementLemmas.{reply_length}
 use Rattle.gtp_world.proofs.one_side.SideLemmas.{quiet_or_first}
 use Rattle.gtp_world.proofs.one_side.OutcomeLemmas.{scripted_outcome}
 use Rattle.gtp_world.proofs.joined.EventLemmas.{send_keeps, fed_keeps}
-use Rattle.gtp_world.proofs.settling.IdleLemmas.{idle_lists_empty, no_orders_left, no_replies_left}
-use Rattle.gtp_world.specs.Exchange.{Answered, reply_with_id, reply_bytes, replayed, Owes, all_reply_bytes}
-use Rattle.gtp_session.specs.CommandAnswers.{GoesWell, success_text}
-use Rattle.gtp_world.specs.Joined.{Rules, rule_of, ruled, EngineBody, body, BareLane, bare, IsJoinedInPlay, AreJoined}
+use Rattle.gtp_world.proofs.exchange.ExchangeLemmas.{order_lines, order_part}
+use Rattle.gtp_world.proofs.settling.IdleLemmas.{idle_lists_empty, idle_reads, no_orders_left, no_replies_left}
+use Rattle.gtp_world.specs.Exchange.{CanBeWritten, Answered, reply_with_id, reply_bytes, replayed, Owes}
+use Rattle.gtp_world.specs.Exchange.{all_reply_bytes}
+use Rattle.gtp_session.specs.CommandAnswers.{GoesWell, line_of_command, success_text}
+use Rattle.gtp_world.specs.Joined.{Rules, rule_of, ruled, EngineBody, body, body_of, BareLane, bare, IsJoinedInPlay}
+use Rattle.gtp_world.specs.Joined.{AreJoined}
 use Rattle.std.proofs.lemmas.List.{drop_all, take_all}
 
 -- ---- texts of script commands are short
@@ -209,6 +218,28 @@ module _ (rules : Rules) (c : Controller) (s : Colour) (u : EngineRun) (o : Sent
           no_bytes_heard s mid c2 (drop used bytes) fault
           (drop_all used bytes (omega (arith, done.0, ap length is))) more ∙ done.2
 
+-- ---- one line comes
+
+-- The bytes on their way to an engine are one line, which the last of them ends. It asks for no choice.
+pub record IsOneLine {P : Type 0} (x : Engine P) (coming : List ℕ) : Type 0 where
+  pub line : Line
+  pub whole : lines (x.rest ++ coming) ≡ line ∷ []
+  pub before : (p : List ℕ) (b : ℕ) (q : List ℕ) → coming ≡ p ++ b ∷ q → lines (x.rest ++ p) ≡ []
+  pub asks : asked_by_line x.game line ≡ None
+  pub short : length coming ≤ 100
+
+-- a command that goes well at one game asks for no choice at any
+well_never_asks : (g game : GameRecord) (id : Option ℕ) (k : Command) → GoesWell g k
+    → asked_by_line game (line_of_command id k) ≡ None
+well_never_asks g game id (Boardsize size) h = refl
+well_never_asks g game id (Komi komi) h = refl
+well_never_asks g game id ClearBoard h = refl
+well_never_asks g game id (FixedHandicap stones) h = refl
+well_never_asks g game id (Play move) h = refl
+well_never_asks g game id (Genmove colour) h = absurd h
+well_never_asks g game id Undo h = absurd h
+well_never_asks g game id Quit h = absurd h
+
 -- ---- the round
 
 pub at_put : (s : Colour) (x : SideState) (all : Sides) → side_of (with_side s x all) s ≡ x
@@ -331,15 +362,49 @@ module _ {P : Type 0} (may : May P) (lawful : AllowsLawful may) (rules : Rules) 
             ∙ other_put s (with_engine asked (side_of c.sides s)) c.sides);
       }
 
+  sent_lane_is : (c1 : Controller) (l1 : Lane P) → Sends s c l c1 l1 → l1 ≡ sent_lane
+  sent_lane_is c1 l1 sends =
+      let before : l ≡ record { engine = Some ready.running; to_engine = []; to_controller = [] } =
+      lane_is_idle rules c s l lo engine ready.running j none ready.is_up ready.idle ready.runs in
+      sends.lane ∙ ap (λ (x : Option EngineRun). lane_with_next c s x l) ready.is_up
+      ∙ ap (λ (x : Lane P). written_lane x (next_text c s engine)) before
+
+  -- what is sent to the engine, all of which is on its way then, is one line, which asks for no choice
+  pub one_line_sent : (c1 : Controller) (l1 : Lane P) → Sends s c l c1 l1
+      → (l1.engine ≡ Some ready.running) × IsOneLine ready.running l1.to_engine
+  one_line_sent c1 l1 sends =
+      let sent_is : l1 ≡ sent_lane = sent_lane_is c1 l1 sends in
+      let t : List ℕ = next_text c s engine in
+      let g : GameRecord = ruled (rule_of rules s) c.game in
+      let live : IsJoinedInPlay g engine (bare l) = rw (none, ready.is_up) at j.mine.joined in
+      let reads : SameFuture ready.running.rest [] =
+      idle_reads g engine (body ready.running) (bare l) live ready.idle (ap body_of ready.runs) in
+      let written = next_written c s engine j.sound in
+      let id : engine.sent + 1 ≤ most_int =
+      omega (arith, (my_engine c s engine j.sound ready.is_up).sent, j.sound.setup.moves.1) in
+      let fit : CanBeWritten order = record { id = id; writable = written.writable; limits = written.limits } in
+      let well : GoesWellOn g.size (replayed g count) k =
+      well_at g.size (fresh_game_under g.rule) (script c.game) count k (script_well g legal) scripted in
+      let no_choice : asked_by_line ready.running.game (line_of_command (Some order.id) order.command) ≡ None =
+      ap (λ (x : Command). asked_by_line ready.running.game (line_of_command (Some order.id) x)) command_is
+      ∙ well_never_asks (replayed g count) ready.running.game (Some order.id) k well.well in (
+        ap (λ (x : Lane P). x.engine) sent_is,
+        subst (λ (x : Lane P). IsOneLine ready.running x.to_engine) (sym sent_is) (record {
+          line = line_of_command (Some order.id) order.command;
+          whole =
+              reads t ∙ ap lines (sym (append-nil t)) ∙ order_lines order [] fit
+              ∙ ap (λ (ls : List Line). line_of_command (Some order.id) order.command ∷ ls) lines-nothing;
+          before = λ p b q e. reads p ∙ order_part order p b q fit e;
+          asks = no_choice;
+          short = bytes_short;
+        }),
+      )
+
   pub round_done : (c1 : Controller) (l1 : Lane P) → Sends s c l c1 l1 → (l2 : Lane P) → LaneReads may l1 100 l2
       → (c3 : Controller) (l3 : Lane P) → SideHears s c1 l2 100 c3 l3 → RoundDone s c c3 l3 count
   round_done c1 l1 sends l2 fed c3 l3 heard =
       let sender_is : c1 ≡ sender = sends.controller_is ∙ ap (λ (x : Option EngineRun). sent_to c s x) ready.is_up in
-      let before : l ≡ record { engine = Some ready.running; to_engine = []; to_controller = [] } =
-      lane_is_idle rules c s l lo engine ready.running j none ready.is_up ready.idle ready.runs in
-      let sent_is : l1 ≡ sent_lane =
-      sends.lane ∙ ap (λ (x : Option EngineRun). lane_with_next c s x l) ready.is_up
-      ∙ ap (λ (x : Lane P). written_lane x (next_text c s engine)) before in
+      let sent_is : l1 ≡ sent_lane = sent_lane_is c1 l1 sends in
       let r : EngineReads may sent_lane 100 ready.running l2 =
       subst (λ (x : Lane P). LaneReads may x 100 l2) sent_is fed in
       let fed_is : l2 ≡ fed_lane r.after r.written =

@@ -32,11 +32,12 @@ use Rattle.gtp_match.proofs.soundness.Calls.{my_engine, idle_plan}
 use Rattle.gtp_world.specs.declared.events.Event.{Event}
 use Rattle.gtp_world.specs.declared.events.Event.TheVariants.{Act, ToEngine, ToController}
 use Rattle.gtp_world.specs.Lane.{Lane, SidePolicies}
-use Rattle.gtp_world.specs.World.{World, at_side, lane_of, SameLane, SideHears, policies_at, Happens, Runs}
-use Rattle.gtp_world.specs.Settle.{start_of, script_left, round, rounds, RunsWhereUp, IsSettled, Settles}
+use Rattle.gtp_world.specs.World.{World, at_side, lane_of, SameLane, Sends, SideHears, policies_at, Happens, Runs}
+use Rattle.gtp_world.specs.Settle.{start_of, script_left, round, rounds, RunsWhereUp, MaySettle, IsSettled, Settles}
 use Rattle.gtp_world.proofs.joined.JoinedLemmas.{seen_from, acted}
 use Rattle.gtp_world.proofs.joined.EventLemmas.{lawful_at, happens_keeps, reached_has}
-use Rattle.gtp_world.proofs.settling.RoundLemmas.{at_put, other_put, IsReady, RoundDone, round_done}
+use Rattle.gtp_world.proofs.settling.RoundLemmas.{at_put, other_put, IsReady, IsOneLine, one_line_sent, RoundDone}
+use Rattle.gtp_world.proofs.settling.RoundLemmas.{round_done}
 use Rattle.gtp_world.specs.Joined.{Rules, rule_of, ruled, bare, IsJoined}
 use Rattle.gtp_world.specs.Laws.{rules_of}
 
@@ -129,7 +130,7 @@ module _ (c : Controller) (black white : EngineRun) (none : c.verdict ≡ None) 
       (ap (has_script_left c.game) white_up ∙ lacks_some c.game white white_idle less))
 
 -- the side is next to be sent its script: Black at once, White where Black has confirmed as many commands as it has
-abbrev MaySend : GameRecord → Colour → ℕ → Type 0
+abbrev pub MaySend : GameRecord → Colour → ℕ → Type 0
 MaySend game Black black = Unit {0}
 MaySend game White black = length (script game) ≤ black
 
@@ -144,14 +145,14 @@ sends_side c White mine theirs none free up others idle others_idle less may =
 
 -- ---- lists
 
-drop_head : {A : Type 0} (xs : List A) (n : ℕ) (x : A) (left : List A) → drop n xs ≡ x ∷ left
+pub drop_head : {A : Type 0} (xs : List A) (n : ℕ) (x : A) (left : List A) → drop n xs ≡ x ∷ left
     → (slice_get xs n ≡ Some x) × (drop (suc n) xs ≡ left) × (n < length xs)
 drop_head [] zero x left e = absurd (cc e)
 drop_head [] (suc n) x left e = absurd (cc e)
 drop_head (y ∷ xs) zero x left e = let head : y ≡ x = cc e in (ap (λ (z : _). Some z) head, cc e, omega arith)
 drop_head (y ∷ xs) (suc n) x left e = let rest = drop_head xs n x left e in (rest.0, rest.1, omega (arith, rest.2))
 
-drop_none : {A : Type 0} (xs : List A) (n : ℕ) → drop n xs ≡ [] → length xs ≤ n
+pub drop_none : {A : Type 0} (xs : List A) (n : ℕ) → drop n xs ≡ [] → length xs ≤ n
 drop_none [] n e = omega arith
 drop_none (x ∷ xs) zero e = absurd (cc e)
 drop_none (x ∷ xs) (suc n) e = omega (arith, drop_none xs n e)
@@ -186,17 +187,17 @@ module _ {B W : Type 0} (mb : SidePolicies B) (mw : SidePolicies W) (law_b : All
 
   -- Both sides are up with running engines and nothing unanswered. The side has confirmed as many commands as the first
   -- count says, and the other side as many as the second.
-  record Settling (game : GameRecord) (v : World B W) (s : Colour) (mine theirs : ℕ) : Type 0 where
-    inv : IsJoined rules v
-    none : v.controller.verdict ≡ None
-    free : v.controller.pending ≡ None
-    games : (side : Colour) → IsGame (ruled (rule_of rules side) v.controller.game)
-    game_is : v.controller.game ≡ game
-    own : IsReady (side_of v.controller.sides s).up (lane_of v s) mine
-    others : IsReady (side_of v.controller.sides (other s)).up (lane_of v (other s)) theirs
+  pub record Settling (game : GameRecord) (v : World B W) (s : Colour) (mine theirs : ℕ) : Type 0 where
+    pub inv : IsJoined rules v
+    pub none : v.controller.verdict ≡ None
+    pub free : v.controller.pending ≡ None
+    pub games : (side : Colour) → IsGame (ruled (rule_of rules side) v.controller.game)
+    pub game_is : v.controller.game ≡ game
+    pub own : IsReady (side_of v.controller.sides s).up (lane_of v s) mine
+    pub others : IsReady (side_of v.controller.sides (other s)).up (lane_of v (other s)) theirs
 
   -- it is seen from White
-  turned : (game : GameRecord) (v : World B W) (n m : ℕ) → Settling game v Black n m → Settling game v White m n
+  pub turned : (game : GameRecord) (v : World B W) (n m : ℕ) → Settling game v Black n m → Settling game v White m n
   turned game v n m h = record {
     inv = h.inv;
     none = h.none;
@@ -207,7 +208,7 @@ module _ {B W : Type 0} (mb : SidePolicies B) (mw : SidePolicies W) (law_b : All
     others = h.own;
   }
 
-  within : (game : GameRecord) (v : World B W) (s : Colour) (n m : ℕ) → Settling game v s n m
+  pub within : (game : GameRecord) (v : World B W) (s : Colour) (n m : ℕ) → Settling game v s n m
       → n ≤ length (script game)
   within game v s n m h =
       let u = h.own.incarnation in
@@ -233,33 +234,48 @@ module _ {B W : Type 0} (mb : SidePolicies B) (mw : SidePolicies W) (law_b : All
   still_games rules c c2 same games side =
       let G : GameRecord → Type 0 = λ g. IsGame (ruled (rule_of rules side) g) in subst G (sym same) (games side)
 
-  -- a round of a side
-  side_round : (game : GameRecord) (k : Command) (v last : World B W) (s : Colour) (n m : ℕ) (later : List Event)
-      → Settling game v s n m → MaySend game s m → slice_get (script game) n ≡ Some k → n < length (script game)
-      → Runs mb mw v (round s ++ later) last → Reaches game s (n + 1) m later last
-  side_round game k v last s n m later h may scripted less (Runs.then_ {mid = v1} a
-      (Runs.then_ {mid = v2} b (Runs.then_ {mid = v3} d rest))) =
-      let c = v.controller in
-      let fewer : h.own.incarnation.confirmed < length (script c.game) =
-      omega (arith, less, h.own.confirmed, ap (λ (g : GameRecord). length (script g)) h.game_is) in
-      let turn : MaySend c.game s h.others.incarnation.confirmed =
-      subst (λ (g : GameRecord). MaySend g s h.others.incarnation.confirmed) (sym h.game_is)
-      (subst (MaySend game s) (sym h.others.confirmed) may) in
-      let is : next c ≡ Send s =
-      sends_side c s h.own.incarnation h.others.incarnation h.none h.free h.own.is_up h.others.is_up h.own.idle
-      h.others.idle fewer turn in
-      let acts = acted mb mw (Send s) s refl v v1 is a in
-      let hears : SideHears s v1.controller (lane_of v2 s) 100 v3.controller (lane_of v3 s) =
-      subst (λ (x : Controller). SideHears s x (lane_of v2 s) 100 v3.controller (lane_of v3 s)) b.0.0 d.0 in
-      let here : slice_get (script c.game) n ≡ Some k =
-      ap (λ (g : GameRecord). slice_get (script g) n) h.game_is ∙ scripted in
-      let done : RoundDone s c v3.controller (lane_of v3 s) n =
-      round_done (policies_at mb mw s).may (lawful_at mb mw law_b law_w s) rules s c (lane_of v s)
-      (bare (lane_of v (other s))) n is (seen_from rules v s h.inv) (h.games s) h.free h.none h.own k here
-      v1.controller (lane_of v1 s) acts.0 (lane_of v2 s) b.0.1 v3.controller (lane_of v3 s) hears in
-      record {
-        world = v3;
-        settling = record {
+  -- in a round of a side it is sent the next command of the script
+  module _ (game : GameRecord) (k : Command) (v v1 : World B W) (s : Colour) (n m : ℕ) (h : Settling game v s n m)
+      (may : MaySend game s m) (scripted : slice_get (script game) n ≡ Some k) (less : n < length (script game))
+      (a : Happens mb mw v Act v1) where
+    abbrev c : Controller
+    c = v.controller
+
+    send_is_next : next c ≡ Send s
+    send_is_next =
+        let fewer : h.own.incarnation.confirmed < length (script c.game) =
+        omega (arith, less, h.own.confirmed, ap (λ (g : GameRecord). length (script g)) h.game_is) in
+        let turn : MaySend c.game s h.others.incarnation.confirmed =
+        subst (λ (g : GameRecord). MaySend g s h.others.incarnation.confirmed) (sym h.game_is)
+        (subst (MaySend game s) (sym h.others.confirmed) may) in
+        sends_side c s h.own.incarnation h.others.incarnation h.none h.free h.own.is_up h.others.is_up h.own.idle
+        h.others.idle fewer turn
+
+    here : slice_get (script c.game) n ≡ Some k
+    here = ap (λ (g : GameRecord). slice_get (script g) n) h.game_is ∙ scripted
+
+    abbrev sent_now : Sends s c (lane_of v s) v1.controller (lane_of v1 s) × SameLane (other s) v v1
+    sent_now = acted mb mw (Send s) s refl v v1 send_is_next a
+
+    -- all that is on its way to its engine then is one line, which asks for no choice
+    pub one_line_comes : ((lane_of v1 s).engine ≡ Some h.own.running)
+        × IsOneLine h.own.running (lane_of v1 s).to_engine
+    one_line_comes =
+        one_line_sent (policies_at mb mw s).may (lawful_at mb mw law_b law_w s) rules s c (lane_of v s)
+        (bare (lane_of v (other s))) n send_is_next (seen_from rules v s h.inv) (h.games s) h.free h.none h.own k here
+        v1.controller (lane_of v1 s) sent_now.0
+
+    -- once it was read and answered, and the answer was heard, the command is confirmed
+    pub round_settles : (v2 v3 : World B W) → Happens mb mw v1 (ToEngine s 100) v2
+        → Happens mb mw v2 (ToController s 100) v3 → Settling game v3 s (n + 1) m
+    round_settles v2 v3 b d =
+        let hears : SideHears s v1.controller (lane_of v2 s) 100 v3.controller (lane_of v3 s) =
+        subst (λ (x : Controller). SideHears s x (lane_of v2 s) 100 v3.controller (lane_of v3 s)) b.0.0 d.0 in
+        let done : RoundDone s c v3.controller (lane_of v3 s) n =
+        round_done (policies_at mb mw s).may (lawful_at mb mw law_b law_w s) rules s c (lane_of v s)
+        (bare (lane_of v (other s))) n send_is_next (seen_from rules v s h.inv) (h.games s) h.free h.none h.own k here
+        v1.controller (lane_of v1 s) sent_now.0 (lane_of v2 s) b.0.1 v3.controller (lane_of v3 s) hears in
+        record {
           inv = keeps v2 (ToController s 100) v3 d (keeps v1 (ToEngine s 100) v2 b (keeps v Act v1 a h.inv));
           none = done.verdict;
           free = done.pending;
@@ -268,10 +284,15 @@ module _ {B W : Type 0} (mb : SidePolicies B) (mw : SidePolicies W) (law_b : All
           own = done.ready;
           others =
               stays_ready (side_of c.sides (other s)).up (side_of v3.controller.sides (other s)).up
-              (lane_of v (other s)) (lane_of v3 (other s)) m done.others (d.1 ∙ b.1 ∙ acts.1) h.others;
-        };
-        rest = rest;
-      }
+              (lane_of v (other s)) (lane_of v3 (other s)) m done.others (d.1 ∙ b.1 ∙ sent_now.1) h.others;
+        }
+
+  side_round : (game : GameRecord) (k : Command) (v last : World B W) (s : Colour) (n m : ℕ) (later : List Event)
+      → Settling game v s n m → MaySend game s m → slice_get (script game) n ≡ Some k → n < length (script game)
+      → Runs mb mw v (round s ++ later) last → Reaches game s (n + 1) m later last
+  side_round game k v last s n m later h may scripted less (Runs.then_ {mid = v1} a
+      (Runs.then_ {mid = v2} b (Runs.then_ {mid = v3} d rest))) =
+      record { world = v3; settling = round_settles game k v v1 s n m h may scripted less a v2 v3 b d; rest = rest }
 
   side_rounds : (game : GameRecord) (left : List Command) (v last : World B W) (s : Colour) (n m : ℕ)
       (later : List Event) → Settling game v s n m → MaySend game s m → drop n (script game) ≡ left
@@ -306,34 +327,32 @@ module _ {B W : Type 0} (mb : SidePolicies B) (mw : SidePolicies W) (law_b : All
   free_of_all : (c : Controller) → c.verdict ≡ None → taking_back c ≡ None → c.pending ≡ None
   free_of_all c none nothing = sym (ap (λ (v : Option Verdict). unless_over v c.pending) none) ∙ nothing
 
-  -- A side is up, with its running engine, and this is left of the script for it. The other side is as it was.
-  record Begun (old v : World B W) (s : Colour) (later : List Event) (last : World B W) : Type 0 where
-    world : World B W
-    count : ℕ
-    inv : IsJoined rules world
-    none : world.controller.verdict ≡ None
-    free : world.controller.pending ≡ None
-    game_is : world.controller.game ≡ old.controller.game
-    ready : IsReady (side_of world.controller.sides s).up (lane_of world s) count
-    left : drop count (script old.controller.game)
+  -- In this world, after that one, a side is up, with its running engine, and this is left of the script for it. The
+  -- other side is as it was.
+  pub record Begun (old v world : World B W) (s : Colour) : Type 0 where
+    pub count : ℕ
+    pub inv : IsJoined rules world
+    pub none : world.controller.verdict ≡ None
+    pub free : world.controller.pending ≡ None
+    pub game_is : world.controller.game ≡ old.controller.game
+    pub ready : IsReady (side_of world.controller.sides s).up (lane_of world s) count
+    pub left : drop count (script old.controller.game)
         ≡ script_left old.controller.game (side_of old.controller.sides s).up
-    others : (side_of world.controller.sides (other s)).up ≡ (side_of v.controller.sides (other s)).up
-    others_lane : SameLane (other s) v world
-    rest : Runs mb mw world later last
+    pub others : (side_of world.controller.sides (other s)).up ≡ (side_of v.controller.sides (other s)).up
+    pub others_lane : SameLane (other s) v world
 
   -- of a side that is in this world as it was in the old one, and is started there where it is down
-  module _ (old v last : World B W) (s : Colour) (later : List Event) (j : IsJoined rules v)
+  module _ (old v : World B W) (s : Colour) (j : IsJoined rules v)
       (none : v.controller.verdict ≡ None) (free : v.controller.pending ≡ None)
       (game_is : v.controller.game ≡ old.controller.game)
       (same : (side_of v.controller.sides s).up ≡ (side_of old.controller.sides s).up) (lane : SameLane s old v)
       (starts : (side_of v.controller.sides s).up ≡ None → next v.controller ≡ Start s) where
-    started : (v1 : World B W) → (side_of old.controller.sides s).up ≡ None → Happens mb mw v Act v1
-        → Runs mb mw v1 later last → Begun old v s later last
-    started v1 down a rest =
+    pub started : (v1 : World B W) → (side_of old.controller.sides s).up ≡ None → Happens mb mw v Act v1
+        → Begun old v v1 s
+    started v1 down a =
         let begun = acted mb mw (Start s) s refl v v1 (starts (same ∙ down)) a in
         let it = begun.0.controller_is in
         record {
-          world = v1;
           count = 0;
           inv = keeps v Act v1 a j;
           none = ap (λ (d : Controller). d.verdict) it ∙ none;
@@ -350,15 +369,11 @@ module _ {B W : Type 0} (mb : SidePolicies B) (mw : SidePolicies W) (law_b : All
               ap (λ (d : Controller). (side_of d.sides (other s)).up) it
               ∙ ap (λ (x : SideState). x.up) (other_put s _ v.controller.sides);
           others_lane = begun.1;
-          rest = rest;
         }
 
-    by_up : (up : Option EngineRun) → (side_of old.controller.sides s).up ≡ up → IsIdle up
-        → RunsWhereUp up (lane_of old s).engine → Runs mb mw v (start_of up ++ later) last
-        → Begun old v s later last
-    by_up None down idle running (Runs.then_ {mid = v1} a rest) = started v1 down a rest
-    by_up (Some u) is idle running rest = record {
-      world = v;
+    pub was_up : (u : EngineRun) → (side_of old.controller.sides s).up ≡ Some u → IsIdle (Some u)
+        → RunsWhereUp (Some u) (lane_of old s).engine → Begun old v v s
+    was_up u is idle running = record {
       count = u.confirmed;
       inv = j;
       none = none;
@@ -371,8 +386,31 @@ module _ {B W : Type 0} (mb : SidePolicies B) (mw : SidePolicies W) (law_b : All
       left = left_of old.controller.game u idle ∙ sym (ap (script_left old.controller.game) is);
       others = refl;
       others_lane = refl;
-      rest = rest;
     }
+
+    -- the same, and the rest of the events
+    by_up : (last : World B W) (later : List Event) (up : Option EngineRun) → (side_of old.controller.sides s).up ≡ up
+        → IsIdle up → RunsWhereUp up (lane_of old s).engine → Runs mb mw v (start_of up ++ later) last
+        → (world : World B W) × Begun old v world s × Runs mb mw world later last
+    by_up last later None down idle running (Runs.then_ {mid = v1} a rest) = (v1, started v1 down a, rest)
+    by_up last later (Some u) is idle running rest = (v, was_up u is idle running, rest)
+
+  -- both sides have begun
+  pub both_begun : (old v v2 : World B W)
+      → ((side : Colour) → IsGame (ruled (rule_of rules side) old.controller.game))
+      → (one : Begun old old v Black) (two : Begun old v v2 White)
+      → Settling old.controller.game v2 Black one.count two.count
+  both_begun old v v2 games one two = record {
+    inv = two.inv;
+    none = two.none;
+    free = two.free;
+    games = still_games rules old.controller v2.controller two.game_is games;
+    game_is = two.game_is;
+    own =
+        stays_ready v.controller.sides.black.up v2.controller.sides.black.up v.black v2.black one.count two.others
+        two.others_lane one.ready;
+    others = two.ready;
+  }
 
   -- ---- the end
 
@@ -389,7 +427,7 @@ module _ {B W : Type 0} (mb : SidePolicies B) (mw : SidePolicies W) (law_b : All
       same : (m n : ℕ) → m ≡ n → (m == n) ≡ true
       same m n e = grind (arith, nat_tests)
 
-  settled : (old last : World B W) → Settling old.controller.game last White (length (script old.controller.game))
+  pub settled : (old last : World B W) → Settling old.controller.game last White (length (script old.controller.game))
       (length (script old.controller.game)) → IsSettled old last
   settled old last h = record {
     black_runs = ap is_some h.others.runs;
@@ -408,6 +446,19 @@ module _ {B W : Type 0} (mb : SidePolicies B) (mw : SidePolicies W) (law_b : All
           ap (λ (g : GameRecord). engine_in_step g (side_of last.controller.sides s).up) h.game_is
           ∙ ready_in_step old.controller.game (side_of last.controller.sides s).up (lane_of last s) ready
 
+  -- nothing is going on in the old world, and so each side begins
+  module _ (old : World B W) (j : IsJoined rules old) (may : MaySettle rules old) where
+    pub nothing_pending : old.controller.pending ≡ None
+    nothing_pending = free_of_all old.controller may.verdict may.nothing
+
+    pub black_starts : (side_of old.controller.sides Black).up ≡ None → next old.controller ≡ Start Black
+    black_starts down = starts_black old.controller may.verdict nothing_pending (may.idle White) down
+
+    pub white_starts : (v : World B W) → Begun old old v Black → (side_of v.controller.sides White).up ≡ None
+        → next v.controller ≡ Start White
+    white_starts v one down =
+        starts_white v.controller one.ready.incarnation one.none one.free one.ready.is_up one.ready.idle down
+
   pub settles : Settles mb mw
   settles setup events old last is reached may runs =
       let game = old.controller.game in
@@ -415,38 +466,25 @@ module _ {B W : Type 0} (mb : SidePolicies B) (mw : SidePolicies W) (law_b : All
       let black_left = script_left game old.controller.sides.black.up in
       let white_left = script_left game old.controller.sides.white.up in
       let j : IsJoined rules old = reached_has mb mw law_b law_w setup events old is reached in
-      let free = free_of_all old.controller may.verdict may.nothing in
-      let one : Begun old old Black (start_of old.controller.sides.white.up ++
-      (rounds Black black_left ++ rounds White white_left)) last =
-      by_up old old last Black (start_of old.controller.sides.white.up ++
-      (rounds Black black_left ++ rounds White white_left)) j may.verdict free refl refl refl
-      (λ down. starts_black old.controller may.verdict free (may.idle White) down) old.controller.sides.black.up refl
-      (may.idle Black) may.black runs in
-      let v = one.world in
-      let two : Begun old v White (rounds Black black_left ++ rounds White white_left) last =
-      by_up old v last White (rounds Black black_left ++ rounds White white_left) one.inv one.none one.free one.game_is
-      one.others one.others_lane
-      (λ down. starts_white v.controller one.ready.incarnation one.none one.free one.ready.is_up one.ready.idle down)
-      old.controller.sides.white.up refl (may.idle White) may.white one.rest in
-      let settling : Settling game two.world Black one.count two.count = record {
-        inv = two.inv;
-        none = two.none;
-        free = two.free;
-        games = still_games rules old.controller two.world.controller two.game_is may.games;
-        game_is = two.game_is;
-        own =
-            stays_ready v.controller.sides.black.up two.world.controller.sides.black.up v.black two.world.black one.count
-            two.others two.others_lane one.ready;
-        others = two.ready;
-      } in
-      let three : Reaches game Black all two.count (rounds White white_left) last =
-      side_rounds game black_left two.world last Black one.count two.count (rounds White white_left)
-      settling tt one.left two.rest in
+      let one =
+      by_up old old Black j may.verdict (nothing_pending old j may) refl refl refl (black_starts old j may) last
+      (start_of old.controller.sides.white.up ++ (rounds Black black_left ++ rounds White white_left))
+      old.controller.sides.black.up refl (may.idle Black) may.black runs in
+      let begun : Begun old old one.0 Black = one.1 in
+      let two =
+      by_up old one.0 White begun.inv begun.none begun.free begun.game_is begun.others begun.others_lane
+      (white_starts old j may one.0 begun) last (rounds Black black_left ++ rounds White white_left)
+      old.controller.sides.white.up refl (may.idle White) may.white one.2 in
+      let settling : Settling game two.0 Black begun.count two.1.count =
+      both_begun old one.0 two.0 may.games begun two.1 in
+      let three : Reaches game Black all two.1.count (rounds White white_left) last =
+      side_rounds game black_left two.0 last Black begun.count two.1.count (rounds White white_left)
+      settling tt begun.left two.2 in
       let white_runs : Runs mb mw three.world (rounds White white_left ++ []) last =
       subst (λ (es : List Event). Runs mb mw three.world es last)
       (sym (append-nil (rounds White white_left))) three.rest in
       let four : Reaches game White all all [] last =
-      side_rounds game white_left three.world last White two.count all []
-      (turned game three.world all two.count three.settling) (omega arith) two.left white_runs in
+      side_rounds game white_left three.world last White two.1.count all []
+      (turned game three.world all two.1.count three.settling) (omega arith) two.1.left white_runs in
       settled old last (subst (λ (v : World B W). Settling game v White all all)
       (sym (runs_none four.world last four.rest)) four.settling)

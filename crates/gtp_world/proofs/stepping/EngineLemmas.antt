@@ -2,97 +2,36 @@
 use Rattle.std.proofs.Common.{◌≡◌, ◌≢◌, ℕ, zero, suc, ◌≤◌, true, false, List, [], ◌∷◌, ◌++◌, length, take, drop}
 use Rattle.std.proofs.Common.{Option, Some, None, refl, ap, sym, ◌∙◌, subst, arith, inl, inr}
 use Rattle.std.specs.List.{AllByRecursion}
-use Rattle.std.proofs.lemmas.List.{append-nil, take-append-drop}
+use Rattle.std.specs.Prelude.{Bool}
+use Rattle.std.proofs.lemmas.List.{append-nil, take-append-drop, take_all}
 use Rattle.go_base.specs.declared.colours.Colour.{Colour}
 use Rattle.go_base.specs.declared.choices.Choice.{Choice}
 use Rattle.go_base.specs.declared.choices.Choice.TheVariants.{Resign}
 use Rattle.go_board.specs.declared.rules.KoRule.{KoRule}
 use Rattle.gtp_wire.specs.declared.lines.Line.{Line}
-use Rattle.gtp_wire.specs.Lines.{lines, Finds, ReadsLine}
+use Rattle.gtp_wire.specs.Lines.{lines, Finds, ReadsLine, head_of}
 use Rattle.gtp_session.specs.declared.events.Wait.{Wait}
 use Rattle.gtp_session.specs.declared.events.Wait.TheVariants as wait
 use Rattle.gtp_session.specs.declared.events.Event.{Event}
 use Rattle.gtp_session.specs.declared.events.Event.TheVariants as event
 use Rattle.gtp_session.specs.declared.events.StepsFed.{StepsFed}
 use Rattle.gtp_session.proofs.choosing.Policies.{AllowsLawful}
-use Rattle.gtp_session.proofs.engines.Replying.{Replies-nothing, Replies-found, Replies-line, succeeds_where_asked}
+use Rattle.gtp_session.proofs.engines.Replying.{Replies-found, Replies-line, succeeds_where_asked}
 use Rattle.gtp_session.proofs.stepping.Waits.{by-choice, by-nothing, by-answer}
 use Rattle.gtp_session.proofs.stepping.Runs.{tables_line, tables_not_other}
-use Rattle.gtp_session.specs.Policy.{May, IsLawful}
+use Rattle.gtp_session.specs.Policy.{IsLawful}
 use Rattle.gtp_session.specs.Commands.{answer, asked}
 use Rattle.gtp_session.specs.Engine.{Engine, state_of, Step, Replies, Engages, fresh_under}
 use Rattle.gtp_session.specs.Engine.Answers.{none}
 use Rattle.gtp_session.specs.Steps.{StepsState, fresh_steps, IsOpen, ReadsOn, FindsNone, FindsLine, wait_of, event_of}
+use Rattle.gtp_session.specs.Steps.{wait_by, is_other_line}
 use Rattle.gtp_session.specs.Steps.{answered, replied_by, author_text_to, after_wait, with_line, Chooses}
 use Rattle.gtp_session.specs.StepsRuns.{last_reply, IsTablesLine}
-use Rattle.gtp_world.specs.Lane.{SidePolicies}
-use Rattle.gtp_world.specs.Kinds.{Call, Kind, NothingComes, sessions, FeedsFront, written_at, OrRefused, Calls}
+use Rattle.gtp_world.specs.Kinds.{Call, FeedsFront, written_at, OrRefused, Calls}
 use Rattle.gtp_world.specs.Kinds.{in_steps}
 use Rattle.gtp_world.specs.StepsLaws.{any_lawful, any_policies}
-
--- ---- what an engine of the definition has, where a controller sends it its commands
-
-pub record IsFollowing {P : Type 0} (x : Engine P) (coming : List ℕ) : Type 0 where
-  pub going : x.ended ≡ false
-  pub unread : lines x.rest ≡ []
-  pub tables : AllByRecursion IsTablesLine (lines (x.rest ++ coming))
-
--- It reads some of what is on its way, and writes this; then it is one of these engines, and what that one has still to
--- read before what is left is the rest of what was on its way.
-abbrev pub Moves : {P S : Type 0} → May P → Engine P → List ℕ → (S → Engine P) → (S → List ℕ) → List ℕ → List ℕ
-    → Type 0
-Moves {P} {S} may x coming engine held left written =
-    (n : ℕ) × (sh : S) × Engages may x (take n coming) (engine sh) written × (held sh ++ left ≡ drop n coming)
-
--- nothing is read or written
-still : {P S : Type 0} (may : May P) (x : Engine P) (coming : List ℕ) (engine : S → Engine P) (held : S → List ℕ)
-    (sh : S) (left written : List ℕ) → lines x.rest ≡ [] → engine sh ≡ x → held sh ++ left ≡ coming → written ≡ []
-    → Moves may x coming engine held left written
-still may x coming engine held sh left written unread e h w =
-    (0, sh, ([], subst (λ (y : Engine _). Replies may x [] y []) (sym e) (Replies-nothing may x unread), w), h)
-
--- How engines of a kind are like engines of the definition: `engine` is the one that it is like, and `held` the text
--- that this engine has read and that one has not.
-pub record Likeness {E P : Type 0} (kind : Kind E) (policies : SidePolicies P) : Type 1 where
-  pub Like : E → Type 0
-  pub engine : (e : E) → Like e → Engine P
-  pub held : (e : E) → Like e → List ℕ
-  pub rule : kind.rule ≡ policies.rule
-  pub game : (e : E) (sh : Like e) → (engine e sh).game ≡ kind.game e
-  pub begins : (e : E) → kind.begins e
-      → (sh : Like e) × (p : P) × policies.made p × (engine e sh ≡ fresh_under policies.rule p) × (held e sh ≡ [])
-  pub reads : (e : E) (sh : Like e) (count : ℕ) (coming : List ℕ) (e2 : E) (left written : List ℕ)
-      → IsFollowing (engine e sh) (held e sh ++ coming) → kind.reads e count coming e2 left written
-      → Moves policies.may (engine e sh) (held e sh ++ coming) (engine e2) (held e2) left written
-  pub calls : (e : E) (sh : Like e) (call : Call) (coming : List ℕ) (e2 : E) (written : List ℕ)
-      → IsFollowing (engine e sh) (held e sh ++ coming) → kind.calls e call e2 written
-      → Moves policies.may (engine e sh) (held e sh ++ coming) (engine e2) (held e2) coming written
-  pub idle : (e : E) (sh : Like e) → lines (engine e sh).rest ≡ [] → held e sh ≡ [] → kind.wait e ≡ wait.Nothing
-  pub none_held : (e : E) (sh : Like e) → kind.wait e ≡ wait.Nothing → held e sh ≡ []
-  pub not_other : (e : E) (sh : Like e) → kind.wait e ≢ wait.Answer
-
--- ---- a session is like itself
-
-session_stays : {P : Type 0} (may : May P) (e : Engine P) (coming : List ℕ) (e2 : Engine P) (written : List ℕ)
-    → IsFollowing e coming → NothingComes e e2 written
-    → Moves {S = Unit {0}} may e coming (λ sh. e2) (λ sh. []) coming written
-session_stays may e coming e2 written r h =
-    still may e coming (λ sh. e2) (λ sh. []) tt coming written r.unread h.0 refl h.1
-
-pub sessions_like : {P : Type 0} (policies : SidePolicies P) → Likeness (sessions policies) policies
-sessions_like policies = record {
-  Like = λ e. Unit {0};
-  engine = λ e sh. e;
-  held = λ e sh. [];
-  rule = refl;
-  game = λ e sh. refl;
-  begins = λ e b. (tt, b.0, b.1, b.2, refl);
-  reads = λ e sh count coming e2 left written r h. (count, tt, h.0, h.1);
-  calls = λ e sh call coming e2 written r h. session_stays policies.may e coming e2 written r h;
-  idle = λ e sh unread empty. refl;
-  none_held = λ e sh waits. refl;
-  not_other = λ e sh waits. cc;
-}
+use Rattle.gtp_world.proofs.settling.RoundLemmas.{IsOneLine}
+use Rattle.gtp_world.proofs.stepping.LikenessLemmas.{IsFollowing, Moves, still, Likeness}
 
 -- ---- an engine in steps is like one whose policy may choose whatever is lawful
 
@@ -340,31 +279,34 @@ module _ (s : StepsState) where
   none_answered (wait.Choice colour) e sh n = let wrong : wait.Choice colour ≡ wait.Answer = sym e ∙ n in cc
   none_answered wait.Answer e sh n = sh
 
-  -- a name or a version: neither its line nor what was held has to do with it
-  named_comes : (w : Wait) → s.wait ≡ w → (sh : LikeBy s w) (name version : List ℕ) (coming : List ℕ)
-      → lines (before_by s w sh) ≡ []
-      → Comes w sh coming (record s { name = name; version = version }) []
-  named_comes wait.Nothing e sh name version coming unread =
-      let s2 : StepsState = record s { name = name; version = version } in
+  -- this engine, with what else its author has set
+  abbrev with_set : List ℕ → List ℕ → List (List ℕ) → StepsState
+  with_set name version commands = record s { name = name; version = version; commands = commands }
+
+  -- what its author has set has to do neither with its line nor with what was held
+  same_comes : (w : Wait) → s.wait ≡ w → (sh : LikeBy s w) (name version : List ℕ) (commands : List (List ℕ))
+      (coming : List ℕ) → lines (before_by s w sh) ≡ [] → Comes w sh coming (with_set name version commands) []
+  same_comes wait.Nothing e sh name version commands coming unread =
+      let s2 : StepsState = with_set name version commands in
       subst (λ (v : Wait). MovesTo (as_engine s s.rest) coming s2 v coming []) (sym e)
       (still any_lawful (as_engine s s.rest) coming (engine_by s2 wait.Nothing) (text_by s2 wait.Nothing) tt coming []
       unread refl refl refl)
-  named_comes (wait.Choice colour) e sh name version coming unread =
-      let s2 : StepsState = record s { name = name; version = version } in
+  same_comes (wait.Choice colour) e sh name version commands coming unread =
+      let s2 : StepsState = with_set name version commands in
       let sh2 : IsHeld s2 colour =
       record { before = sh.before; text = sh.text; found = sh.found; unread = sh.unread; asks = sh.asks } in
       subst (λ (v : Wait). MovesTo (as_engine s sh.before) (sh.text ++ coming) s2 v coming []) (sym e)
       (still any_lawful (as_engine s sh.before) (sh.text ++ coming) (engine_by s2 (wait.Choice colour))
       (text_by s2 (wait.Choice colour)) sh2 coming [] unread refl refl refl)
-  named_comes wait.Answer e sh name version coming unread = absurd sh
+  same_comes wait.Answer e sh name version commands coming unread = absurd sh
 
-  set_comes : (w : Wait) → s.wait ≡ w → (sh : LikeBy s w) (name version : List ℕ) (coming : List ℕ) (s2 : StepsState)
-      (written : List ℕ) → lines (before_by s w sh) ≡ [] → s2 ≡ record s { name = name; version = version }
-      → written ≡ [] → Comes w sh coming s2 written
-  set_comes w e sh name version coming s2 written unread new_is wr =
+  set_comes : (w : Wait) → s.wait ≡ w → (sh : LikeBy s w) (name version : List ℕ) (commands : List (List ℕ))
+      (coming : List ℕ) (s2 : StepsState) (written : List ℕ) → lines (before_by s w sh) ≡ []
+      → s2 ≡ with_set name version commands → written ≡ [] → Comes w sh coming s2 written
+  set_comes w e sh name version commands coming s2 written unread new_is wr =
       subst (λ (z : List ℕ). Comes w sh coming s2 z) (sym wr)
       (subst (λ (t : StepsState). Comes w sh coming t []) (sym new_is)
-      (named_comes w e sh name version coming unread))
+      (same_comes w e sh name version commands coming unread))
 
   -- a call that does what it is for, or that is refused
   refused_or : {F : Type 0} (Done : Type 0) (Refuses : F → Type 0) (w : Wait) → s.wait ≡ w → (sh : LikeBy s w)
@@ -386,10 +328,93 @@ module _ (s : StepsState) where
       refused_or _ _ w e sh coming s2 written r.unread (λ h. absurd (none_answered w e sh h.0.asked)) h
   calls_by w e sh (Call.set_name text) coming s2 written r h =
       refused_or _ _ w e sh coming s2 written r.unread
-      (λ h. set_comes w e sh text s.version coming s2 written r.unread h.0.new_is h.1) h
+      (λ h. set_comes w e sh text s.version s.commands coming s2 written r.unread h.0.new_is h.1) h
   calls_by w e sh (Call.set_version text) coming s2 written r h =
       refused_or _ _ w e sh coming s2 written r.unread
-      (λ h. set_comes w e sh s.name text coming s2 written r.unread h.0.new_is h.1) h
+      (λ h. set_comes w e sh s.name text s.commands coming s2 written r.unread h.0.new_is h.1) h
+  calls_by w e sh (Call.add_command name) coming s2 written r h =
+      refused_or _ _ w e sh coming s2 written r.unread
+      (λ h. set_comes w e sh s.name s.version (s.commands ++ name ∷ []) coming s2 written r.unread h.0.new_is h.1) h
+
+-- ---- one line is on its way, which asks for no choice
+
+head_is : (line l : Line) (ls : List Line) → Some line ≡ head_of ls → ls ≡ l ∷ [] → line ≡ l
+head_is line l ls first whole = let same : Some line ≡ Some l = first ∙ ap head_of whole in cc same
+
+no_head : (l : Line) (ls : List Line) → None ≡ head_of ls → ls ≡ l ∷ [] → ⊥
+no_head l ls first whole = let same : None ≡ Some l = first ∙ ap head_of whole in cc same
+
+asks_nothing : (o : Option Colour) (b : Bool) → o ≡ None → (b ≡ true → ⊥) → wait_by o b ≡ wait.Nothing
+asks_nothing None true e n = absurd (n refl)
+asks_nothing None false e n = refl
+asks_nothing (Some c) b e n = absurd (cc e)
+
+replied_waits_not : (s : StepsState) (own : Option (List ℕ)) → (replied_by s own).wait ≡ wait.Nothing
+replied_waits_not s None = refl
+replied_waits_not s (Some text) = refl
+
+module _ (s : StepsState) (coming : List ℕ) (follows : IsFollowing (as_engine s s.rest) coming)
+    (one : IsOneLine (as_engine s s.rest) coming) (count used : ℕ) (all : take count coming ≡ coming) where
+  line_takes : (s2 : StepsState) (reported : Event) → FindsLine s (take count coming) used reported s2
+      → (drop used coming ≡ []) × (s2.wait ≡ wait.Nothing)
+  line_takes s2 reported f = (by_left (drop used coming) refl, waits_not)
+    where
+      by_left : (left : List ℕ) → drop used coming ≡ left → drop used coming ≡ []
+      by_left [] e = e
+      by_left (b ∷ q) e =
+          let cut : coming ≡ take used coming ++ b ∷ q =
+          sym (take-append-drop used coming) ∙ ap (λ (t : List ℕ). take used coming ++ t) e in
+          let wrong : f.line ∷ [] ≡ [] =
+          sym f.reads.whole ∙ ap (λ (t : List ℕ). lines (s.rest ++ take used t)) all
+          ∙ one.before (take used coming) b q cut in
+          absurd (cc wrong)
+
+      whole : lines (s.rest ++ take count coming) ≡ one.line ∷ []
+      whole = ap (λ (t : List ℕ). lines (s.rest ++ t)) all ∙ one.whole
+
+      line_is : f.line ≡ one.line
+      line_is = head_is f.line one.line (lines (s.rest ++ take count coming)) f.reads.first whole
+
+      is_tables_line : IsTablesLine f.line
+      is_tables_line = subst IsTablesLine (sym line_is) (subst (AllByRecursion IsTablesLine) one.whole follows.tables).0
+
+      nothing : wait_of s.game f.line ≡ wait.Nothing
+      nothing =
+          asks_nothing (asked s.game f.line) (is_other_line f.line) (ap (asked s.game) line_is ∙ one.asks)
+          (tables_not_other f.line is_tables_line)
+
+      waits_not : s2.wait ≡ wait.Nothing
+      waits_not =
+          ap (λ (t : StepsState). t.wait) f.new_is
+          ∙ ap (λ (w : Wait). (after_wait (with_line s f.line f.rest) w).wait) nothing
+          ∙ replied_waits_not (with_line s f.line f.rest) (author_text_to (with_line s f.line f.rest) f.line)
+
+  open_takes : (s2 : StepsState) (reported : Event) → ReadsOn s (take count coming) used reported s2
+      → (drop used coming ≡ []) × (s2.wait ≡ wait.Nothing)
+  open_takes s2 event.More f =
+      absurd (no_head one.line (lines (s.rest ++ take count coming)) f.reads.first
+      (ap (λ (t : List ℕ). lines (s.rest ++ t)) all ∙ one.whole))
+  open_takes s2 event.Reply f = line_takes s2 event.Reply f
+  open_takes s2 (event.Asked colour) f = line_takes s2 (event.Asked colour) f
+  open_takes s2 event.Other f = line_takes s2 event.Other f
+  open_takes s2 event.Ended f = absurd f
+
+takes_by : (s : StepsState) (w : Wait) → s.wait ≡ w → (sh : LikeBy s w) (count : ℕ) (coming : List ℕ)
+    (s2 : StepsState) (left written : List ℕ) → IsFollowing (engine_by s w sh) (text_by s w sh ++ coming)
+    → IsOneLine (engine_by s w sh) (text_by s w sh ++ coming) → length (text_by s w sh ++ coming) ≤ count
+    → FeedsFront s count coming s2 left written → (left ≡ []) × (s2.wait ≡ wait.Nothing)
+takes_by s wait.Nothing e sh count coming s2 left written r one short f =
+    let is : IsOpen s = record { goes_on = r.going; waits_not = e } in
+    let t = open_takes s coming r one count f.fed.used (take_all count coming short) s2 f.fed.event (f.feeds.reads is) in
+    (f.left_is ∙ t.0, t.1)
+takes_by s (wait.Choice colour) e sh count coming s2 left written r one short f =
+    let both : s.line ∷ lines (s.rest ++ coming) ≡ one.line ∷ [] = sym (sh.found coming) ∙ one.whole in
+    let line_is : s.line ≡ one.line = cc both in
+    let wrong : Some colour ≡ None = sym sh.asks ∙ ap (asked s.game) line_is ∙ one.asks in
+    absurd (cc wrong)
+takes_by s wait.Answer e sh count coming s2 left written r one short f = absurd sh
+
+-- ---- what it waits for
 
 -- what was held back is not empty where a choice is waited for
 idle_by : (s : StepsState) (w : Wait) → s.wait ≡ w → (sh : LikeBy s w) → lines (before_by s w sh) ≡ []
@@ -424,6 +449,8 @@ steps_like rule = record {
   begins = begins_as rule;
   reads = λ s sh count coming s2 left written r h. reads_by s s.wait refl sh count coming s2 left written r h;
   calls = λ s sh call coming s2 written r h. calls_by s s.wait refl sh call coming s2 written r h;
+  takes = λ s sh count coming s2 left written r one short h.
+      takes_by s s.wait refl sh count coming s2 left written r one short h;
   idle = λ s sh unread empty. idle_by s s.wait refl sh unread empty;
   none_held = λ s sh waits. none_held_by s s.wait sh waits;
   not_other = λ s sh waits. none_answered s s.wait refl sh waits;

@@ -1,11 +1,11 @@
 -- One side of a world of engines of a kind is like a lane of the definition, and what happens there like what happens
 -- at that lane.
-use Rattle.std.proofs.Common.{◌≡◌, ℕ, List, [], ◌∷◌, ◌++◌, drop, Option, Some, None, refl, ap, sym, ◌∙◌, ◌≤◌, subst}
+use Rattle.std.proofs.Common.{◌≡◌, ℕ, List, [], ◌∷◌, ◌++◌, take, drop, Option, Some, None, refl, ap, sym, ◌∙◌, ◌≤◌, subst}
 use Rattle.std.proofs.Common.{append_assoc, length, length-append, arith}
-use Rattle.std.proofs.lemmas.List.{append-nil}
+use Rattle.std.proofs.lemmas.List.{append-nil, take-append-drop, take_all, drop_all}
 use Rattle.go_base.specs.declared.colours.Colour.{Colour}
 use Rattle.gtp_session.specs.declared.events.Wait.TheVariants as wait
-use Rattle.gtp_session.specs.Engine.{Engine}
+use Rattle.gtp_session.specs.Engine.{Engine, Engages}
 use Rattle.gtp_match.specs.declared.sides.EngineRun.{EngineRun}
 use Rattle.gtp_match.specs.declared.verdicts.Action.{Action}
 use Rattle.gtp_match.specs.declared.verdicts.Action.TheVariants.{Start, Send, Wait, Done}
@@ -24,12 +24,18 @@ use Rattle.gtp_world.specs.StepsWorld.{StepsReadsBy, StepsCallsBy, steps_lane_wh
 use Rattle.gtp_world.specs.StepsWorld.{StepsHearsWhereUp, StepsFailsWhereUp, crashed_steps_lane, StepsActs}
 use Rattle.gtp_world.specs.StepsWorld.{StepsBreaksOff, StepsEvent, side_of_steps_event, StepsSideHappens}
 use Rattle.gtp_world.specs.StepsLaws.{IsLike}
-use Rattle.gtp_world.proofs.stepping.EngineLemmas.{IsFollowing, Moves, Likeness}
+use Rattle.gtp_world.proofs.settling.RoundLemmas.{IsOneLine}
+use Rattle.gtp_world.proofs.stepping.LikenessLemmas.{IsFollowing, Moves, Likeness}
 
 -- where an engine of the definition runs, it follows the controller
 abbrev pub FollowsWhereRunning : {P : Type 0} → Option (Engine P) → List ℕ → Type 0
 FollowsWhereRunning None te = Unit {0}
 FollowsWhereRunning (Some x) te = IsFollowing x te
+
+-- where it runs, one line is on its way to it, which asks for no choice
+abbrev pub OneLineWhereRunning : {P : Type 0} → Option (Engine P) → List ℕ → Type 0
+OneLineWhereRunning None te = Unit {0}
+OneLineWhereRunning (Some x) te = IsOneLine x te
 
 module _ {E P : Type 0} {kind : Kind E} {policies : SidePolicies P} (like : Likeness kind policies) where
   abbrev pub LikeAt : Option E → Type 0
@@ -112,29 +118,35 @@ module _ {E P : Type 0} {kind : Kind E} {policies : SidePolicies P} (like : Like
       (let n = with_next before side (side_of before.sides side).up old.engine old.to_engine old.to_controller sh in
       (n.0, record { controller_is = h.controller_is; lane = n.1 }))
 
-  -- an engine that moved
+  -- an engine that moved, as one of the definition by this many bytes
+  moved_by : (te tc : List ℕ) (e : E) (sh : like.Like e) (new : StepsLane E) (after : E) (left written : List ℕ) (n : ℕ)
+      (sh2 : like.Like after) → new ≡ running_steps_lane after left (tc ++ written)
+      → Engages policies.may (like.engine e sh) (take n (like.held e sh ++ te)) (like.engine after sh2) written
+      → like.held after sh2 ++ left ≡ drop n (like.held e sh ++ te)
+      → Leads (λ l. ReadsWhereRunning policies.may (lane_by (Some e) sh te tc) n (Some (like.engine e sh)) l) new
+  moved_by te tc e sh new after left written n sh2 lane engages rest =
+      subst (λ (s : StepsLane E). Leads (λ l. ReadsWhereRunning policies.may (lane_by (Some e) sh te tc) n
+      (Some (like.engine e sh)) l) s) (sym lane) (
+        sh2,
+        record {
+          after = like.engine after sh2;
+          written = written;
+          engages = engages;
+          lane = λ i. record {
+            engine = Some (like.engine after sh2);
+            to_engine = rest i;
+            to_controller = tc ++ written;
+          };
+        },
+      )
+
   moved : (te tc : List ℕ) (e : E) (sh : like.Like e) (new : StepsLane E) (after : E) (left written : List ℕ)
       → new ≡ running_steps_lane after left (tc ++ written)
       → Moves policies.may (like.engine e sh) (like.held e sh ++ te) (like.engine after) (like.held after) left written
       → (n : ℕ)
       × Leads (λ l. ReadsWhereRunning policies.may (lane_by (Some e) sh te tc) n (Some (like.engine e sh)) l) new
-  moved te tc e sh new after left written lane m = (
-    m.0,
-    subst (λ (s : StepsLane E). Leads (λ l. ReadsWhereRunning policies.may (lane_by (Some e) sh te tc) m.0
-        (Some (like.engine e sh)) l) s) (sym lane) (
-          m.1,
-          record {
-            after = like.engine after m.1;
-            written = written;
-            engages = m.2;
-            lane = λ i. record {
-              engine = Some (like.engine after m.1);
-              to_engine = m.3 i;
-              to_controller = tc ++ written;
-            };
-          },
-        ),
-  )
+  moved te tc e sh new after left written lane m =
+      (m.0, moved_by te tc e sh new after left written m.0 m.1 lane m.2 m.3)
 
   reads_by : (o : Option E) (te tc : List ℕ) (sh : LikeAt o) (count : ℕ) (new : StepsLane E)
       → FollowsWhereRunning (engine_at o sh) (coming_at o sh te) → StepsReadsBy kind o (side_by o te tc) count new
@@ -142,6 +154,27 @@ module _ {E P : Type 0} {kind : Kind E} {policies : SidePolicies P} (like : Like
   reads_by None te tc sh count new r h = (0, kept (side_by None te tc) new h sh)
   reads_by (Some e) te tc sh count new r h =
       moved te tc e sh new h.0 h.1 h.2 h.4 (like.reads e sh count te h.0 h.1 h.2 r h.3)
+
+  -- one line that asks for no choice is read whole
+  line_read_by : (o : Option E) (te tc : List ℕ) (sh : LikeAt o) (count : ℕ) (new : StepsLane E)
+      → FollowsWhereRunning (engine_at o sh) (coming_at o sh te) → OneLineWhereRunning (engine_at o sh) (coming_at o sh te)
+      → 100 ≤ count → StepsReadsBy kind o (side_by o te tc) count new
+      → Leads (λ l. ReadsWhereRunning policies.may (lane_by o sh te tc) count (engine_at o sh) l) new
+  line_read_by None te tc sh count new r one most h = kept (side_by None te tc) new h sh
+  line_read_by (Some e) te tc sh count new r one most h =
+      let x : Engine P = like.engine e sh in
+      let all : List ℕ = like.held e sh ++ te in
+      let short : length all ≤ count = omega (arith, one.short, most) in
+      let m = like.reads e sh count te h.0 h.1 h.2 r h.3 in
+      let t = like.takes e sh count te h.0 h.1 h.2 r one short h.3 in
+      let none : drop m.0 all ≡ [] =
+      sym m.3 ∙ ap (λ (z : List ℕ). z ++ h.1) (like.none_held h.0 m.1 t.1) ∙ t.0 in
+      let whole : take m.0 all ≡ all =
+      sym (append-nil (take m.0 all)) ∙ ap (λ (z : List ℕ). take m.0 all ++ z) (sym none) ∙ take-append-drop m.0 all in
+      moved_by te tc e sh new h.0 h.1 h.2 count m.1 h.4
+      (subst (λ (z : List ℕ). Engages policies.may x z (like.engine h.0 m.1) h.2)
+      (whole ∙ sym (take_all count all short)) m.2)
+      (m.3 ∙ none ∙ sym (drop_all count all short))
 
   calls_by : (o : Option E) (te tc : List ℕ) (sh : LikeAt o) (call : Call) (new : StepsLane E)
       → FollowsWhereRunning (engine_at o sh) (coming_at o sh te) → StepsCallsBy kind o (side_by o te tc) call new
@@ -215,6 +248,16 @@ module _ {E P : Type 0} {kind : Kind E} {policies : SidePolicies P} (like : Like
         hears side before (side_of before.sides side).up old sh count after new h
     same_event (Crash own count) other h = let l = crashes old new sh count h.1 in (l.0, (h.0, l.1))
     same_event (End own) other h = fails side before (side_of before.sides side).up old sh after new h
+
+    -- a delivery of one line that asks for no choice leads to where the same delivery of the definition leads
+    pub line_delivered : (own : Colour)
+        → FollowsWhereRunning (engine_at old.engine sh) (coming_at old.engine sh old.to_engine)
+        → OneLineWhereRunning (engine_at old.engine sh) (coming_at old.engine sh old.to_engine)
+        → StepsSideHappens kind side (StepsEvent.happens (ToEngine own 100)) before old after new
+        → Leads (λ l. SideHappens policies side (ToEngine own 100) before (lane_like old sh) after l) new
+    line_delivered own r one h =
+        let l = line_read_by old.engine old.to_engine old.to_controller sh 100 new r one (omega arith) h.1 in
+        (l.0, (h.0, l.1))
 
     -- An event leads to where some event of the definition at the same side leads.
     abbrev pub SomeEvent : StepsEvent → Type 0

@@ -22,12 +22,14 @@ use Rattle.gtp_match.specs.Script.{script}
 use Rattle.gtp_match.specs.Setup.{SetupRecord, IsSetup}
 use Rattle.gtp_match.specs.Sides.{side_of}
 use Rattle.gtp_world.specs.declared.events.Event.{Event}
+use Rattle.gtp_world.specs.declared.events.Event.TheVariants.{ToEngine}
 use Rattle.gtp_world.specs.Exchange.{sent_line, CanBeWritten, all_sent_bytes, replayed}
 use Rattle.gtp_world.specs.Joined.{Rules, rule_of, ruled, EngineBody, BareLane, body, body_of, bare, WillRead, IsFair}
 use Rattle.gtp_world.specs.Joined.{WillReadWhereRunning, IsJoinedAtEnd, IsJoinedSide, AreJoined, IsJoined}
 use Rattle.gtp_world.specs.Lane.{SidePolicies}
 use Rattle.gtp_world.specs.Laws.{rules_of}
-use Rattle.gtp_world.specs.World.{World, at_side, opening, HappensAt, Happens, Runs, Reached, Holds, Agrees}
+use Rattle.gtp_world.specs.World.{World, at_side, lane_of, opening, side_of_event, SideHappens, HappensAt, Happens}
+use Rattle.gtp_world.specs.World.{Runs, Reached, Holds, Agrees}
 use Rattle.gtp_world.specs.World.{most_to_engine, most_to_controller}
 use Rattle.gtp_world.specs.Kinds.{Kind}
 use Rattle.gtp_world.specs.StepsWorld.{StepsLane, StepsWorld, StepsEvent, StepsRuns, side_of_steps_event, steps_opening}
@@ -38,9 +40,10 @@ use Rattle.gtp_world.proofs.joined.AgreementLemmas.{settled_of, inv_agrees, same
 use Rattle.gtp_world.proofs.joined.EventLemmas.{opening_has, happens_keeps}
 use Rattle.gtp_world.proofs.joined.JoinedLemmas.{flipped}
 use Rattle.gtp_world.proofs.joined.ReachedLemmas.{runs_push}
-use Rattle.gtp_world.proofs.stepping.EngineLemmas.{IsFollowing, Likeness}
+use Rattle.gtp_world.proofs.stepping.LikenessLemmas.{IsFollowing, Likeness}
 use Rattle.gtp_world.proofs.stepping.LaneLemmas.{FollowsWhereRunning, LikeAt, engine_at, coming_at, lane_like}
-use Rattle.gtp_world.proofs.stepping.LaneLemmas.{kept, some_event, is_like, shown, shown_idle, fewer_come}
+use Rattle.gtp_world.proofs.stepping.LaneLemmas.{Leads, OneLineWhereRunning, kept, some_event, same_event, line_delivered}
+use Rattle.gtp_world.proofs.stepping.LaneLemmas.{is_like, shown, shown_idle, fewer_come}
 
 -- ---- what comes to an engine that a controller has started
 
@@ -160,35 +163,75 @@ module _ {B W P Q : Type 0} {black : Kind B} {white : Kind W} {policies_black : 
     abbrev pub v : World P Q
     v = world_like w x y
 
+    -- an event of the definition at one side, and the other side stays
+    black_leads : (e : Event) → side_of_event w.controller e ≡ Some Black
+        → Leads like_b (λ l. SideHappens policies_black Black e w.controller v.black w2.controller l) w2.black
+        → w2.white ≡ w.white → LeadsBy v e w2
+    black_leads e at l stays =
+        let k = kept like_w w.white w2.white stays y in
+        let Leading : Option Colour → Type 0 =
+        λ o. HappensAt policies_black policies_white o v e (world_like w2 l.0 k.0) in
+        (l.0, k.0, subst Leading (sym at) (l.1, k.1))
+
+    white_leads : (e : Event) → side_of_event w.controller e ≡ Some White
+        → Leads like_w (λ l. SideHappens policies_white White e w.controller v.white w2.controller l) w2.white
+        → w2.black ≡ w.black → LeadsBy v e w2
+    white_leads e at l stays =
+        let k = kept like_b w.black w2.black stays x in
+        let Leading : Option Colour → Type 0 =
+        λ o. HappensAt policies_black policies_white o v e (world_like w2 k.0 l.0) in
+        (k.0, l.0, subst Leading (sym at) (l.1, k.1))
+
+    -- where no side is to act, nothing happens
+    none_leads : (e : Event) → side_of_event w.controller e ≡ None → w2 ≡ w → LeadsBy v e w2
+    none_leads e at h =
+        subst (λ (u : StepsWorld B W). LeadsBy v e u) (sym h)
+        (x, y, subst (λ (o : Option Colour). HappensAt policies_black policies_white o v e v) (sym at) refl)
+
+    black_follows : IsJoined rules v
+        → FollowsWhereRunning (engine_at like_b w.black.engine x) (coming_at like_b w.black.engine x w.black.to_engine)
+    black_follows j = follows_now like_b rules w.controller Black w.black (bare v.white) x j
+
+    white_follows : IsJoined rules v
+        → FollowsWhereRunning (engine_at like_w w.white.engine y) (coming_at like_w w.white.engine y w.white.to_engine)
+    white_follows j =
+        follows_now like_w rules w.controller White w.white (bare v.black) y
+        (flipped rules w.controller Black (bare v.black) (bare v.white) j)
+
     by_side : (o : Option Colour) (e : StepsEvent) → side_of_steps_event w.controller e ≡ o → IsJoined rules v
         → StepsHappensAt black white o w e w2 → (defined : Event) × LeadsBy v defined w2
-    by_side None (StepsEvent.happens e) at j h = (
-      e,
-      subst (λ (u : StepsWorld B W). (x2 : LikeBlack u) × (y2 : LikeWhite u)
-          × Happens policies_black policies_white v e (world_like u x2 y2)) (sym h) (
-            x,
-            y,
-            subst (λ (o : Option Colour). HappensAt policies_black policies_white o v e v) (sym at) refl,
-          ),
-    )
+    by_side None (StepsEvent.happens e) at j h = (e, none_leads e at h)
     by_side None (StepsEvent.calls side call) at j h = absurd (cc at)
     by_side (Some Black) e at j h =
-        let l =
-        some_event like_b Black w.controller w2.controller w.black w2.black x e
-        (follows_now like_b rules w.controller Black w.black (bare v.white) x j) h.0 in
-        let k = kept like_w w.white w2.white h.1 y in
-        let Leading : Option Colour → Type 0 =
-        λ o. HappensAt policies_black policies_white o v l.0 (world_like w2 l.2.0 k.0) in
-        (l.0, (l.2.0, k.0, subst Leading (sym (l.1 ∙ at)) (l.2.1, k.1)))
+        let l = some_event like_b Black w.controller w2.controller w.black w2.black x e (black_follows j) h.0 in
+        (l.0, black_leads l.0 (l.1 ∙ at) l.2 h.1)
     by_side (Some White) e at j h =
-        let l =
-        some_event like_w White w.controller w2.controller w.white w2.white y e
-        (follows_now like_w rules w.controller White w.white (bare v.black) y
-        (flipped rules w.controller Black (bare v.black) (bare v.white) j)) h.0 in
-        let k = kept like_b w.black w2.black h.1 x in
-        let Leading : Option Colour → Type 0 =
-        λ o. HappensAt policies_black policies_white o v l.0 (world_like w2 k.0 l.2.0) in
-        (l.0, (k.0, l.2.0, subst Leading (sym (l.1 ∙ at)) (l.2.1, k.1)))
+        let l = some_event like_w White w.controller w2.controller w.white w2.white y e (white_follows j) h.0 in
+        (l.0, white_leads l.0 (l.1 ∙ at) l.2 h.1)
+
+    same_by_side : (o : Option Colour) (e : Event) → ((own : Colour) (count : ℕ) → e ≡ ToEngine own count → ⊥)
+        → side_of_event w.controller e ≡ o → StepsHappensAt black white o w (StepsEvent.happens e) w2 → LeadsBy v e w2
+    same_by_side None e other at h = none_leads e at h
+    same_by_side (Some Black) e other at h =
+        black_leads e at (same_event like_b Black w.controller w2.controller w.black w2.black x e other h.0) h.1
+    same_by_side (Some White) e other at h =
+        white_leads e at (same_event like_w White w.controller w2.controller w.white w2.white y e other h.0) h.1
+
+    -- an event but that of bytes to an engine leads to where the same event of the definition leads
+    pub leads_alike : (e : Event) → ((own : Colour) (count : ℕ) → e ≡ ToEngine own count → ⊥)
+        → StepsHappens black white w (StepsEvent.happens e) w2 → LeadsBy v e w2
+    leads_alike e other h = same_by_side (side_of_event w.controller e) e other refl h
+
+    -- and so does the delivery of one line that asks for no choice
+    pub delivery_leads : (side : Colour) → IsJoined rules v
+        → OneLineWhereRunning (lane_of v side).engine (lane_of v side).to_engine
+        → StepsHappens black white w (StepsEvent.happens (ToEngine side 100)) w2 → LeadsBy v (ToEngine side 100) w2
+    delivery_leads Black j one h =
+        black_leads (ToEngine Black 100) refl
+        (line_delivered like_b Black w.controller w2.controller w.black w2.black x Black (black_follows j) one h.0) h.1
+    delivery_leads White j one h =
+        white_leads (ToEngine White 100) refl
+        (line_delivered like_w White w.controller w2.controller w.white w2.white y White (white_follows j) one h.0) h.1
 
     pub leads : (e : StepsEvent) → IsJoined rules v → StepsHappens black white w e w2
         → (defined : Event) × LeadsBy v defined w2
@@ -201,7 +244,7 @@ module _ {B W P Q : Type 0} {black : Kind B} {white : Kind W} {policies_black : 
     pub joined : IsJoined rules (world_like w like_black like_white)
     pub reached : Reached policies_black policies_white setup (world_like w like_black like_white)
 
-  runs_reach : (setup : SetupRecord) (w : StepsWorld B W) (es : List StepsEvent) (w2 : StepsWorld B W)
+  pub runs_reach : (setup : SetupRecord) (w : StepsWorld B W) (es : List StepsEvent) (w2 : StepsWorld B W)
       → StepsRuns black white w es w2 → IsReached setup w → IsReached setup w2
   runs_reach setup w es w2 StepsRuns.done s = s
   runs_reach setup w es w2 (StepsRuns.then_ {mid = mid} {event = e} {events = more} h rest) s =
@@ -240,7 +283,7 @@ module _ {B W P Q : Type 0} {black : Kind B} {white : Kind W} {policies_black : 
         is_like like_w w.white s.like_white,
       )
 
-  reached_agrees : (setup : SetupRecord) (w : StepsWorld B W) → IsReached setup w → StepsAgree black white w
+  pub reached_agrees : (setup : SetupRecord) (w : StepsWorld B W) → IsReached setup w → StepsAgree black white w
   reached_agrees setup w s = record {
     there = there;
     same = same;

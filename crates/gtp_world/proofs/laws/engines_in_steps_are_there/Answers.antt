@@ -1,5 +1,6 @@
 use Rattle.gtp_world.specs.Worlds.{policies_by}
-use Rattle.gtp_world.proofs.stepping.EngineLemmas.{lawful_any, steps_like, sessions_like}
+use Rattle.gtp_world.proofs.stepping.EngineLemmas.{lawful_any, steps_like}
+use Rattle.gtp_world.proofs.stepping.LikenessLemmas.{sessions_like}
 use Rattle.gtp_world.proofs.stepping.WorldLemmas.{always_agree}
 use Rattle.gtp_world.proofs.laws.engines_in_steps_are_there.Goals as goal
 

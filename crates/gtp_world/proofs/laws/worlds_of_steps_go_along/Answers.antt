@@ -1,5 +1,6 @@
 use Rattle.gtp_world.specs.Worlds.{policies_by}
-use Rattle.gtp_world.proofs.stepping.EngineLemmas.{lawful_any, steps_like, sessions_like}
+use Rattle.gtp_world.proofs.stepping.EngineLemmas.{lawful_any, steps_like}
+use Rattle.gtp_world.proofs.stepping.LikenessLemmas.{sessions_like}
 use Rattle.gtp_world.proofs.stepping.WorldLemmas.{goes_along}
 use Rattle.gtp_world.proofs.laws.worlds_of_steps_go_along.Goals as goal
 

@@ -1,0 +1,56 @@
+use Rattle.std.proofs.Common.{ap, sym, subst, ◌∙◌, ◌≡◌, ℕ, List, Option, true}
+use Rattle.gtp_wire.specs.Replies.{IsReplyText, written_reply}
+use Rattle.gtp_session.specs.declared.events.Wait.TheVariants as wait
+use Rattle.gtp_session.specs.private.StepsFields.{state_in}
+use Rattle.gtp_session.specs.Steps.{StepsState}
+use Rattle.gtp_session.proofs.stepping.Kept.{texted_kept, truth_fits}
+use Rattle.gtp_session.proofs.stepping.OwnNames.{names_fit}
+use Rattle.gtp_session.proofs.steps.Steps.reply_unasked.Goals as goal
+
+pub invariant_of-self : goal.invariant_of-self
+invariant_of-self c =
+    let text = c.deref.result.now in
+    let idle : c.self.inside.wait ≡ wait.Nothing =
+    ap (λ (x : StepsState). x.wait) c.self.view_is ∙ c.requires.open.waits_not in
+    let fits : IsReplyText text =
+    subst (λ (t : List ℕ). IsReplyText t) (sym c.deref.ensures.0) c.self.invariant.name.fits in
+    texted_kept (state_in c.self.inside) true text c.self.inside.wait c.write_reply_into.new.out.items
+    c.self.invariant fits idle
+    (c.write_reply_into.ensures.bytes fits.fits
+    ∙ ap (λ (id : Option ℕ). written_reply true id text) c.id_of-id.ensures.value)
+
+pub invariant_of-self-in-Some-Version : goal.invariant_of-self-in-Some-Version
+invariant_of-self-in-Some-Version c =
+    let text = c.deref-in-Some-Version.result.now in
+    let idle : c.self.inside.wait ≡ wait.Nothing =
+    ap (λ (x : StepsState). x.wait) c.self.view_is ∙ c.requires.open.waits_not in
+    let fits : IsReplyText text =
+    subst (λ (t : List ℕ). IsReplyText t) (sym c.deref-in-Some-Version.ensures.0) c.self.invariant.version.fits in
+    texted_kept (state_in c.self.inside) true text c.self.inside.wait c.write_reply_into-in-Some-Version.new.out.items
+    c.self.invariant fits idle
+    (c.write_reply_into-in-Some-Version.ensures.bytes fits.fits
+    ∙ ap (λ (id : Option ℕ). written_reply true id text) c.id_of-id.ensures.value)
+
+pub invariant_of-self-in-Some-Known : goal.invariant_of-self-in-Some-Known
+invariant_of-self-in-Some-Known c =
+    let text = c.truth.result.now in
+    let idle : c.self.inside.wait ≡ wait.Nothing =
+    ap (λ (x : StepsState). x.wait) c.self.view_is ∙ c.requires.open.waits_not in
+    let fits : IsReplyText text = truth_fits text c.in-Some-Known.known c.truth.ensures in
+    texted_kept (state_in c.self.inside) true text c.self.inside.wait c.write_reply_into-in-Some-Known.new.out.items
+    c.self.invariant fits idle
+    (c.write_reply_into-in-Some-Known.ensures.bytes fits.fits
+    ∙ ap (λ (id : Option ℕ). written_reply true id text) c.id_of-id.ensures.value)
+
+pub invariant_of-self-in-Some-Commands : goal.invariant_of-self-in-Some-Commands
+invariant_of-self-in-Some-Commands c =
+    let text = c.deref-in-Some-Commands.result.now in
+    let idle : c.self.inside.wait ≡ wait.Nothing =
+    ap (λ (x : StepsState). x.wait) c.self.view_is ∙ c.requires.open.waits_not in
+    let fits : IsReplyText text =
+    subst (λ (t : List ℕ). IsReplyText t) (sym (c.deref-in-Some-Commands.ensures.0 ∙ c.listed.ensures))
+    (names_fit c.self.inside.commands c.self.invariant.commands) in
+    texted_kept (state_in c.self.inside) true text c.self.inside.wait c.write_reply_into-in-Some-Commands.new.out.items
+    c.self.invariant fits idle
+    (c.write_reply_into-in-Some-Commands.ensures.bytes fits.fits
+    ∙ ap (λ (id : Option ℕ). written_reply true id text) c.id_of-id.ensures.value)

@@ -1,0 +1,83 @@
+-- How engines of a kind are like engines of the definition; and sessions, which are like themselves.
+use Rattle.std.proofs.Common.{◌≡◌, ◌≢◌, ℕ, ◌≤◌, false, List, [], ◌++◌, length, take, drop, refl, sym, ◌∙◌, subst}
+use Rattle.std.specs.List.{AllByRecursion}
+use Rattle.std.proofs.lemmas.List.{drop_all}
+use Rattle.gtp_wire.specs.Lines.{lines}
+use Rattle.gtp_session.specs.declared.events.Wait.TheVariants as wait
+use Rattle.gtp_session.proofs.engines.Replying.{Replies-nothing}
+use Rattle.gtp_session.specs.Policy.{May}
+use Rattle.gtp_session.specs.Engine.{Engine, Replies, Engages, fresh_under}
+use Rattle.gtp_session.specs.StepsRuns.{IsTablesLine}
+use Rattle.gtp_world.specs.Lane.{SidePolicies}
+use Rattle.gtp_world.specs.Kinds.{Call, Kind, NothingComes, sessions}
+use Rattle.gtp_world.proofs.settling.RoundLemmas.{IsOneLine}
+
+-- ---- what an engine of the definition has, where a controller sends it its commands
+
+pub record IsFollowing {P : Type 0} (x : Engine P) (coming : List ℕ) : Type 0 where
+  pub going : x.ended ≡ false
+  pub unread : lines x.rest ≡ []
+  pub tables : AllByRecursion IsTablesLine (lines (x.rest ++ coming))
+
+-- It reads some of what is on its way, and writes this; then it is one of these engines, and what that one has still to
+-- read before what is left is the rest of what was on its way.
+abbrev pub Moves : {P S : Type 0} → May P → Engine P → List ℕ → (S → Engine P) → (S → List ℕ) → List ℕ → List ℕ
+    → Type 0
+Moves {P} {S} may x coming engine held left written =
+    (n : ℕ) × (sh : S) × Engages may x (take n coming) (engine sh) written × (held sh ++ left ≡ drop n coming)
+
+-- nothing is read or written
+pub still : {P S : Type 0} (may : May P) (x : Engine P) (coming : List ℕ) (engine : S → Engine P) (held : S → List ℕ)
+    (sh : S) (left written : List ℕ) → lines x.rest ≡ [] → engine sh ≡ x → held sh ++ left ≡ coming → written ≡ []
+    → Moves may x coming engine held left written
+still may x coming engine held sh left written unread e h w =
+    (0, sh, ([], subst (λ (y : Engine _). Replies may x [] y []) (sym e) (Replies-nothing may x unread), w), h)
+
+-- How engines of a kind are like engines of the definition: `engine` is the one that it is like, and `held` the text
+-- that this engine has read and that one has not.
+pub record Likeness {E P : Type 0} (kind : Kind E) (policies : SidePolicies P) : Type 1 where
+  pub Like : E → Type 0
+  pub engine : (e : E) → Like e → Engine P
+  pub held : (e : E) → Like e → List ℕ
+  pub rule : kind.rule ≡ policies.rule
+  pub game : (e : E) (sh : Like e) → (engine e sh).game ≡ kind.game e
+  pub begins : (e : E) → kind.begins e
+      → (sh : Like e) × (p : P) × policies.made p × (engine e sh ≡ fresh_under policies.rule p) × (held e sh ≡ [])
+  pub reads : (e : E) (sh : Like e) (count : ℕ) (coming : List ℕ) (e2 : E) (left written : List ℕ)
+      → IsFollowing (engine e sh) (held e sh ++ coming) → kind.reads e count coming e2 left written
+      → Moves policies.may (engine e sh) (held e sh ++ coming) (engine e2) (held e2) left written
+  pub calls : (e : E) (sh : Like e) (call : Call) (coming : List ℕ) (e2 : E) (written : List ℕ)
+      → IsFollowing (engine e sh) (held e sh ++ coming) → kind.calls e call e2 written
+      → Moves policies.may (engine e sh) (held e sh ++ coming) (engine e2) (held e2) coming written
+  -- of one line on its way, which asks for no choice, nothing is left, and nothing is waited for
+  pub takes : (e : E) (sh : Like e) (count : ℕ) (coming : List ℕ) (e2 : E) (left written : List ℕ)
+      → IsFollowing (engine e sh) (held e sh ++ coming) → IsOneLine (engine e sh) (held e sh ++ coming)
+      → length (held e sh ++ coming) ≤ count → kind.reads e count coming e2 left written
+      → (left ≡ []) × (kind.wait e2 ≡ wait.Nothing)
+  pub idle : (e : E) (sh : Like e) → lines (engine e sh).rest ≡ [] → held e sh ≡ [] → kind.wait e ≡ wait.Nothing
+  pub none_held : (e : E) (sh : Like e) → kind.wait e ≡ wait.Nothing → held e sh ≡ []
+  pub not_other : (e : E) (sh : Like e) → kind.wait e ≢ wait.Answer
+
+-- ---- a session is like itself
+
+session_stays : {P : Type 0} (may : May P) (e : Engine P) (coming : List ℕ) (e2 : Engine P) (written : List ℕ)
+    → IsFollowing e coming → NothingComes e e2 written
+    → Moves {S = Unit {0}} may e coming (λ sh. e2) (λ sh. []) coming written
+session_stays may e coming e2 written r h =
+    still may e coming (λ sh. e2) (λ sh. []) tt coming written r.unread h.0 refl h.1
+
+pub sessions_like : {P : Type 0} (policies : SidePolicies P) → Likeness (sessions policies) policies
+sessions_like policies = record {
+  Like = λ e. Unit {0};
+  engine = λ e sh. e;
+  held = λ e sh. [];
+  rule = refl;
+  game = λ e sh. refl;
+  begins = λ e b. (tt, b.0, b.1, b.2, refl);
+  reads = λ e sh count coming e2 left written r h. (count, tt, h.0, h.1);
+  calls = λ e sh call coming e2 written r h. session_stays policies.may e coming e2 written r h;
+  takes = λ e sh count coming e2 left written r one short h. (h.1 ∙ drop_all count coming short, refl);
+  idle = λ e sh unread empty. refl;
+  none_held = λ e sh waits. refl;
+  not_other = λ e sh waits. cc;
+}
