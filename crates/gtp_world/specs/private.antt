@@ -1,2 +1,3 @@
 -- What functions inside the crate say of one another. No public clause speaks of it.
 pub mod Feeding
+pub mod StepsRoom

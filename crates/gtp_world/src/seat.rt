@@ -39,7 +39,7 @@ impl<M: Maker> Model for Seat<M> {
 }
 
 /// Whether a side is down.
-fn is_down(played: &Match, side: Side) -> bool
+pub(crate) fn is_down(played: &Match, side: Side) -> bool
     ensures { result ≡ is_down (side_of played.now.sides side).up }
 {
     match played.status(side) {

@@ -1,0 +1,163 @@
+//! The world of engines in steps: a controller, two engines whose authors hand in what they choose, and the bytes on
+//! their ways.
+ghost use Rattle.std.specs.Prelude.{◌≡◌, ◌≢◌, ◌≤◌, length, map, MatchOption, IfSome, None, Some};
+ghost use Rattle.go_board.specs.declared.rules.KoRule.TheVariants.{Simple};
+ghost use Rattle.gtp_session.specs.declared.events.Wait.TheVariants as wait;
+ghost use Rattle.gtp_world.specs.Joined.{IsFair};
+ghost use Rattle.gtp_world.specs.StepsWorld.{steps_opening, side_of_steps_event};
+ghost use Rattle.gtp_world.specs.StepsWorlds.{RuledHappens, RuledRuns, RuledReached, event_of, side_lane, engine_at};
+ghost use Rattle.gtp_world.specs.StepsWorlds.{IsThereAtOnce, SameAtOnce, WaitsOnlyUnanswered};
+ghost use Rattle.gtp_world.specs.World.{most_to_engine, most_to_controller};
+ghost use Rattle.gtp_world.specs.Worlds.{HoldsInStep};
+
+use crate::steps_events::StepsEvent;
+use crate::steps_seat::StepsSeat;
+use crate::world::side_of;
+use go_base::Side;
+use go_board::KoRule;
+use gtp_match::{Match, Setup};
+use gtp_session::steps::Steps;
+use std::marker::Model;
+
+/// A controller and, for each side, an engine in steps or none, and the bytes on their ways.
+///
+/// Each start makes a new engine with the side's ko rule. The controller's game is under simple ko.
+#[derive(Drop)]
+pub struct StepsWorld {
+    controller: Match,
+    black: StepsSeat,
+    white: StepsSeat,
+}
+
+impl Model for StepsWorld {
+    ghost use Rattle.gtp_world.specs.StepsWorlds.{RuledWorld, RuledReached, ruled_world};
+
+    ghost Value = { RuledWorld };
+
+    ghost view = { λ w. ruled_world w.controller w.black w.white };
+
+    // some events lead to it from the opening
+    ghost invariant = { λ w. RuledReached (ruled_world w.controller w.black w.white) };
+}
+
+/// The side at which an event happens: that of the controller's next action, or the event's own.
+fn side_of_steps(controller: &Match, event: &StepsEvent<'_>) -> Option<Side>
+    ensures { result ≡ side_of_steps_event controller.now (event_of event.now) }
+{
+    match event {
+        StepsEvent::Happens(event) => side_of(controller, *event),
+        StepsEvent::Calls(side, _) => Some(*side),
+    }
+}
+
+impl StepsWorld {
+    /// A new match of this setup, no engines, and empty lists. The engines of both sides play under simple ko.
+    pub fn new(setup: Setup) -> StepsWorld
+        ensures { result ≡ record {
+          rules = record { black = Simple; white = Simple };
+          world = steps_opening setup;
+        } }
+    {
+        StepsWorld::with_rules(setup, KoRule::Simple, KoRule::Simple)
+    }
+
+    /// A new match of this setup, no engines, and empty lists. Each side's engines play under the side's ko rule.
+    pub fn with_rules(setup: Setup, rule_black: KoRule, rule_white: KoRule) -> StepsWorld
+        ensures { result ≡ record {
+          rules = record { black = rule_black; white = rule_white };
+          world = steps_opening setup;
+        } }
+    {
+        let controller = Match::new(setup);
+        // A look: the setup is in its limits.
+        let _ = controller.setup();
+        StepsWorld {
+            controller,
+            black: StepsSeat::new(rule_black),
+            white: StepsSeat::new(rule_white),
+        }
+    }
+
+    /// One event happens. Where it doesn't apply, nothing does.
+    pub fn step(&mut self, event: &StepsEvent<'_>)
+        ensures { RuledHappens self.old (event_of event.now) self.new }
+    {
+        match side_of_steps(&self.controller, event) {
+            Some(Side::Black) => self.black.step(&mut self.controller, Side::Black, event),
+            Some(Side::White) => self.white.step(&mut self.controller, Side::White, event),
+            None => {}
+        }
+    }
+
+    /// All these events happen in turn.
+    pub fn run(&mut self, events: &[StepsEvent<'_>])
+        ensures { RuledRuns self.old (map event_of events.now) self.new }
+    {
+        for event in events {
+            self.step(event);
+        }
+    }
+
+    /// A side's engine, where one runs. Some events lead to the world from the opening.
+    fn engine_of(&self, side: Side) -> Option<&Steps>
+        ensures running { MatchOption result (engine_at self.now.world side ≡ None) (λ engine.
+            engine_at self.now.world side ≡ Some engine.now) }
+        ensures reached { RuledReached self.now }
+    {
+        match side {
+            Side::Black => self.black.engine(),
+            Side::White => self.white.engine(),
+        }
+    }
+
+    /// A side's engine, where one runs: its game, what it waits for, and its last reply.
+    pub fn running(&self, side: Side) -> Option<&Steps>
+        ensures running { MatchOption result (engine_at self.now.world side ≡ None) (λ engine.
+            engine_at self.now.world side ≡ Some engine.now) }
+        // One whose side is in step is at the controller's game, under its own side's ko rule, and waits for nothing.
+        ensures there { IfSome result (λ engine. IsThereAtOnce self.now side engine.now) }
+        // So it holds the controller's size, komi, handicap, moves and board.
+        ensures holds { IfSome result (λ engine.
+            HoldsInStep self.now.world.controller side engine.now.game) }
+        // Where both are, the two games are the same.
+        ensures same { IfSome result (λ engine. SameAtOnce self.now.world engine.now) }
+        // One whose side has answered all that it was sent waits for nothing.
+        ensures answered { IfSome result (λ engine.
+            WaitsOnlyUnanswered self.now.world.controller side engine.now) }
+        // None ever waits for an answer to a line of its author's own.
+        ensures own { IfSome result (λ engine. engine.now.wait ≢ wait.Answer) }
+    {
+        self.engine_of(side)
+    }
+
+    /// The controller.
+    pub fn controller(&self) -> &Match
+        ensures controller { result.now ≡ self.now.world.controller }
+        // No verdict blames a side but for a fourth refusal, and a side is given up only after all its starts.
+        ensures fair { IsFair self.now.rules result.now result.now.verdict }
+    {
+        &self.controller
+    }
+
+    /// The bytes on their way to a side's engine.
+    pub fn to_engine(&self, side: Side) -> &[u8]
+        ensures bytes { result.now ≡ (side_lane self.now.world side).to_engine }
+        ensures room { length result.now ≤ most_to_engine }
+    {
+        match side {
+            Side::Black => self.black.to_engine(),
+            Side::White => self.white.to_engine(),
+        }
+    }
+
+    /// The bytes of a side on their way to the controller.
+    pub fn to_controller(&self, side: Side) -> &[u8]
+        ensures bytes { result.now ≡ (side_lane self.now.world side).to_controller }
+        ensures room { length result.now ≤ most_to_controller }
+    {
+        match side {
+            Side::Black => self.black.to_controller(),
+            Side::White => self.white.to_controller(),
+        }
+    }
+}
