@@ -13,6 +13,7 @@ mod recorded;
 mod retakes;
 mod same;
 mod settling;
+mod steps;
 mod unanswered;
 
 const SIDES: [Side; 2] = [Side::Black, Side::White];

@@ -7,7 +7,7 @@ use super::same::{assert_same_game, assert_same_world};
 use crate::equal::{assert_equal, assert_true, some};
 use go_base::{Colour, Komi, Side, Size, Vertex};
 use go_board::{Game, KoRule};
-use gtp_match::{Action, ForfeitCause, Setup, Status, Verdict};
+use gtp_match::{Action, ForfeitCause, Match, Setup, Status, Verdict};
 use gtp_session::first::First;
 use gtp_session::policy::{Choice, Policy};
 use gtp_session::random::Random;
@@ -75,13 +75,17 @@ type DrawnWorld = World<Seeded, Seeded>;
 
 /// A linear congruential generator with 64 bits of state.
 #[derive(Drop)]
-struct Draws {
+pub struct Draws {
     state: u64,
 }
 
 impl Draws {
+    pub fn new(state: u64) -> Self {
+        Draws { state }
+    }
+
     /// A number below `limit`, or 0.
-    fn below(&mut self, limit: u32) -> u32 {
+    pub fn below(&mut self, limit: u32) -> u32 {
         self.state = self
             .state
             .wrapping_mul(6_364_136_223_846_793_005)
@@ -89,7 +93,7 @@ impl Draws {
         ((self.state >> 40) as u32).checked_rem(limit).unwrap_or(0)
     }
 
-    fn side(&mut self) -> Side {
+    pub fn side(&mut self) -> Side {
         if self.below(2) == 0 {
             Side::Black
         } else {
@@ -98,13 +102,13 @@ impl Draws {
     }
 
     /// A number of bytes: often enough for all that is on its way, and else only a few.
-    fn count(&mut self) -> usize {
+    pub fn count(&mut self) -> usize {
         let limit = if self.below(2) == 0 { 100 } else { 9 };
         self.below(limit) as usize
     }
 
     /// An event. Those that bring a match forward come more often than those that break something.
-    fn event(&mut self) -> Event {
+    pub fn event(&mut self) -> Event {
         match self.below(200) {
             0 | 1 => Event::BrokenWrite(self.count()),
             2 => Event::Crash(self.side(), self.count()),
@@ -154,7 +158,7 @@ impl Draws {
 
     /// A setup without handicap, of 0 to 2 restarts. For a match that is to get far it has size 2 and 8 moves or more,
     /// and else size 1 to 3 and few moves.
-    fn setup(&mut self, rt: &impl Abort, far: bool) -> Setup {
+    pub fn setup(&mut self, rt: &impl Abort, far: bool) -> Setup {
         let lines = if far {
             2
         } else {
@@ -170,7 +174,7 @@ impl Draws {
 
     /// The ko rules of both sides. In a match that is to get far they differ, so that one side may refuse a move of the
     /// other.
-    fn rules(&mut self, far: bool) -> [KoRule; 2] {
+    pub fn rules(&mut self, far: bool) -> [KoRule; 2] {
         let black = self.rule();
         let white = self.rule();
         match (far, black) {
@@ -268,7 +272,7 @@ impl Seen {
     }
 }
 
-fn count_up(count: &mut u64) {
+pub fn count_up(count: &mut u64) {
     *count = count.saturating_add(1);
 }
 
@@ -320,32 +324,51 @@ impl Drawn {
         World::with_rules(self.setup, black, white, rule_black, rule_white)
     }
 
-    fn rule(&self, side: Side) -> KoRule {
-        let [black, white] = self.rules;
-        match side {
-            Side::Black => black,
-            Side::White => white,
-        }
-    }
-
-    /// No side is blamed, but one under positional ko which refused a move of one under simple ko for the fourth time.
-    fn assert_fair(&self, rt: &impl Abort, world: &DrawnWorld, seen: &mut Seen) {
-        let Action::Done(verdict) = world.controller().next() else {
+    /// The verdict is fair, and it is counted.
+    fn watch_verdict(&self, rt: &impl Abort, world: &DrawnWorld, seen: &mut Seen) {
+        let Some(verdict) = verdict_of(world.controller()) else {
             return;
         };
         count_up(&mut seen.verdicts);
-        match verdict {
-            Verdict::Forfeit(side, cause) => {
-                assert_equal(rt, cause, ForfeitCause::RefusedPlay);
-                assert_equal(rt, self.rule(side), KoRule::Positional);
-                assert_equal(rt, self.rule(side.other()), KoRule::Simple);
-                let number = world.controller().game().moves().len() as u32;
-                assert_equal(rt, world.controller().retakes(number), 3);
-                count_up(&mut seen.refused_for_good);
-            }
-            Verdict::Unfit(side) => assert_equal(rt, Some(side), None),
-            Verdict::Score(_) | Verdict::Resign(_) | Verdict::Limit | Verdict::Abandoned(_) => {}
+        if assert_fair(rt, world.controller(), self.rules, verdict) {
+            count_up(&mut seen.refused_for_good);
         }
+    }
+}
+
+/// The verdict, where the match has ended.
+pub fn verdict_of(played: &Match) -> Option<Verdict> {
+    match played.next() {
+        Action::Done(verdict) => Some(verdict),
+        Action::Start(_) | Action::Send(_) | Action::Wait(_) => None,
+    }
+}
+
+fn rule_of(rules: [KoRule; 2], side: Side) -> KoRule {
+    let [black, white] = rules;
+    match side {
+        Side::Black => black,
+        Side::White => white,
+    }
+}
+
+/// No side is blamed, but one under positional ko which refused a move of one under simple ko for the fourth time.
+/// Whether one was.
+pub fn assert_fair(rt: &impl Abort, played: &Match, rules: [KoRule; 2], verdict: Verdict) -> bool {
+    match verdict {
+        Verdict::Forfeit(side, cause) => {
+            assert_equal(rt, cause, ForfeitCause::RefusedPlay);
+            assert_equal(rt, rule_of(rules, side), KoRule::Positional);
+            assert_equal(rt, rule_of(rules, side.other()), KoRule::Simple);
+            let number = played.game().moves().len() as u32;
+            assert_equal(rt, played.retakes(number), 3);
+            true
+        }
+        Verdict::Unfit(side) => {
+            assert_equal(rt, Some(side), None);
+            false
+        }
+        Verdict::Score(_) | Verdict::Resign(_) | Verdict::Limit | Verdict::Abandoned(_) => false,
     }
 }
 
@@ -406,26 +429,19 @@ fn one_list(rt: &impl Abort, draws: &mut Draws, far: bool, seen: &mut Seen) {
         step_watched(rt, &mut world, event, seen);
         events.add(rt, event);
         assert_agrees(rt, &world, seen);
-        if is_over(&world) && draws.below(8) == 0 {
+        if verdict_of(world.controller()).is_some() && draws.below(8) == 0 {
             break;
         }
     }
-    drawn.assert_fair(rt, &world, seen);
+    drawn.watch_verdict(rt, &world, seen);
     let mut again = drawn.world();
     again.run(events.all(rt));
     assert_same_world(rt, &world, &again);
 }
 
-fn is_over(world: &DrawnWorld) -> bool {
-    match world.controller().next() {
-        Action::Done(_) => true,
-        Action::Start(_) | Action::Send(_) | Action::Wait(_) => false,
-    }
-}
-
 #[test]
 fn engines_in_step_hold_the_controllers_game_after_every_event(rt: HostRuntime) {
-    let mut draws = Draws { state: 2026 };
+    let mut draws = Draws::new(2026);
     let mut seen = Seen::new();
     for number in 0..LISTS {
         one_list(&rt, &mut draws, number % 2 == 1, &mut seen);

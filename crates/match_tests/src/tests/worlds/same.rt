@@ -3,6 +3,7 @@ use super::SIDES;
 use crate::equal::{assert_equal, some};
 use go_base::Point;
 use go_board::Game;
+use gtp_match::Match;
 use gtp_world::{Maker, World};
 use std::process::Abort;
 
@@ -25,25 +26,24 @@ pub fn assert_same_game(rt: &impl Abort, one: &Game, two: &Game) {
     assert_equal(rt, one.score(), two.score());
 }
 
+/// Two controllers do the same next, hold the same game, and have the same of both sides.
+pub fn assert_same_match(rt: &impl Abort, one: &Match, two: &Match) {
+    assert_equal(rt, one.next(), two.next());
+    assert_same_game(rt, one.game(), two.game());
+    for side in SIDES {
+        assert_equal(rt, one.status(side), two.status(side));
+        assert_equal(rt, one.restarts(side), two.restarts(side));
+    }
+}
+
 /// Two worlds show the same.
 pub fn assert_same_world<B: Maker, W: Maker>(
     rt: &impl Abort,
     one: &World<B, W>,
     two: &World<B, W>,
 ) {
-    assert_equal(rt, one.controller().next(), two.controller().next());
-    assert_same_game(rt, one.controller().game(), two.controller().game());
+    assert_same_match(rt, one.controller(), two.controller());
     for side in SIDES {
-        assert_equal(
-            rt,
-            one.controller().status(side),
-            two.controller().status(side),
-        );
-        assert_equal(
-            rt,
-            one.controller().restarts(side),
-            two.controller().restarts(side),
-        );
         assert_equal(rt, one.to_engine(side), two.to_engine(side));
         assert_equal(rt, one.to_controller(side), two.to_controller(side));
         assert_equal(rt, one.running(side).is_some(), two.running(side).is_some());
