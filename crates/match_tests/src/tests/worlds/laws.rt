@@ -28,4 +28,9 @@ fn the_laws_hold_of_each_maker() {
     laws::settled_worlds_are_caught_up::<Firsts, Firsts>();
     laws::a_side_with_no_start_left_is_up::<Firsts, Firsts>();
     laws::events_do_what_they_say::<Firsts, Firsts>();
+    laws::worlds_of_sessions_are_worlds::<Firsts, Firsts>();
+    laws::worlds_of_steps_go_along::<Firsts>();
+    laws::engines_in_steps_are_there::<Firsts>();
+    laws::worlds_of_steps_catch_up::<Firsts>();
+    laws::events_of_steps_do_what_they_say::<Firsts>();
 }
