@@ -4,6 +4,8 @@ use Rattle.std.specs.Prelude.{◌≡◌, ◌≢◌, ◌⊎◌, ◌≤◌, ℕ, B
 use Rattle.go_base.specs.declared.choices.Choice.{Choice}
 use Rattle.go_board.specs.Game.{GameRecord}
 use Rattle.go_board.specs.declared.rules.KoRule.{KoRule}
+use Rattle.gtp_wire.specs.declared.lines.Line.{Line}
+use Rattle.gtp_wire.specs.declared.lines.Line.TheVariants as line
 use Rattle.gtp_session.specs.declared.events.Wait.{Wait}
 use Rattle.gtp_session.specs.declared.events.Wait.TheVariants as wait
 use Rattle.gtp_session.specs.declared.events.Event.{Event}
@@ -30,11 +32,14 @@ pub data Call : Type 0 where
 
 -- What the engines of a side are: how one may begin; what comes of one that is given the first `count` bytes on their
 -- way to it (it is another engine then, these bytes are left on their way, and these are written); what comes of a call
--- of its author's, and what is written then; its game; what it waits for; and the ko rule of them all.
+-- of its author's, and what is written then; the text that it was given and has not read as lines; the line that it
+-- read last, with which it waits where it waits; its game; what it waits for; and the ko rule of them all.
 pub record Kind (E : Type 0) : Type 1 where
   pub begins : E → Type 0
   pub reads : E → ℕ → List ℕ → E → List ℕ → List ℕ → Type 0
   pub calls : E → Call → E → List ℕ → Type 0
+  pub rest : E → List ℕ
+  pub line : E → Line
   pub game : E → GameRecord
   pub wait : E → Wait
   pub rule : KoRule
@@ -46,13 +51,15 @@ NothingComes old new written = (new ≡ old) × (written ≡ [])
 -- ---- sessions
 
 -- Sessions with these policies: they read all that they are given, and ask their policy at once. They have no author,
--- and wait for nothing.
+-- and wait for nothing, so `line` may be any.
 abbrev pub sessions : {P : Type 0} → SidePolicies P → Kind (Engine P)
 sessions {P} policies = record {
   begins = λ engine. (policy : P) × policies.made policy × (engine ≡ fresh_under policies.rule policy);
   reads = λ old count coming new left written.
       Engages policies.may old (take count coming) new written × (left ≡ drop count coming);
   calls = λ old call new written. NothingComes old new written;
+  rest = λ engine. engine.rest;
+  line = λ engine. line.TooLong;
   game = λ engine. engine.game;
   wait = λ engine. wait.Nothing;
   rule = policies.rule;
@@ -117,6 +124,8 @@ in_steps rule = record {
   begins = λ s. s ≡ fresh_steps rule;
   reads = FeedsFront;
   calls = Calls;
+  rest = λ s. s.rest;
+  line = λ s. s.line;
   game = λ s. s.game;
   wait = λ s. s.wait;
   rule = rule;

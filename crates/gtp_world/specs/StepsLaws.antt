@@ -1,9 +1,10 @@
 -- Laws of worlds whose engines are in steps: where such worlds go, and that no two engines in step disagree.
-use Rattle.std.specs.Prelude.{◌≡◌, ◌≢◌, ◌≤◌, ℕ, true, List, [], ◌++◌, length, Option, None, Some}
+use Rattle.std.specs.Prelude.{◌≡◌, ◌≢◌, ◌≤◌, ℕ, true, List, [], ◌∷◌, ◌++◌, length, Option, None, Some}
 use Rattle.go_base.specs.declared.colours.Colour.{Colour}
 use Rattle.go_base.specs.declared.colours.Colour.TheVariants.{Black, White}
 use Rattle.go_board.specs.Game.{GameRecord}
 use Rattle.go_board.specs.declared.rules.KoRule.{KoRule}
+use Rattle.gtp_wire.specs.Lines.{lines}
 use Rattle.gtp_session.specs.declared.events.Wait.TheVariants as wait
 use Rattle.gtp_session.specs.Engine.{Engine}
 use Rattle.gtp_session.specs.Policy.{May, IsLawful}
@@ -83,6 +84,18 @@ abbrev pub game_by : {E : Type 0} → Kind E → Option E → Option GameRecord
 game_by kind None = None
 game_by kind (Some engine) = Some (kind.game engine)
 
+-- An engine is like one of the definition. It has read these bytes, which are still on their way there. Neither holds
+-- back a whole line. Where the engine waits for its author, take what is held back there, then these bytes, and then
+-- whatever comes later. The first line is the one that waits, and the lines after it are those of what the engine holds
+-- back with what comes later. Where the engine waits for nothing, these bytes are none, and both hold back the same
+-- text.
+pub record IsEngineLike {E P : Type 0} (kind : Kind E) (engine : E) (like : Engine P) (read : List ℕ) : Type 0 where
+  pub own_unread : lines (kind.rest engine) ≡ []
+  pub unread : lines like.rest ≡ []
+  pub waits : kind.wait engine ≢ wait.Nothing → (later : List ℕ)
+      → lines (like.rest ++ (read ++ later)) ≡ kind.line engine ∷ lines (kind.rest engine ++ later)
+  pub waits_not : kind.wait engine ≡ wait.Nothing → (read ≡ []) × (like.rest ≡ kind.rest engine)
+
 -- A side is like a lane of the definition. The games of the two engines are the same, and so are the bytes on their way
 -- to the controller. Of the bytes on their way to the lane's engine the side's engine may have read some: those of the
 -- line that waits for its author, and none where none waits.
@@ -92,6 +105,9 @@ pub record IsLike {E P : Type 0} (kind : Kind E) (one : StepsLane E) (lane : Lan
   pub read : List ℕ
   pub to_engine : lane.to_engine ≡ read ++ one.to_engine
   pub none_read : ((engine : E) → one.engine ≡ Some engine → kind.wait engine ≡ wait.Nothing) → read ≡ []
+  -- what was read is the end of the line that waits, and what the engine holds back after that line
+  pub engines : (engine : E) (like : Engine P) → one.engine ≡ Some engine → lane.engine ≡ Some like
+      → IsEngineLike kind engine like read
 
 -- After every list of events from the opening of any setup, some events lead to a world of the definition that has the
 -- same controller, and lanes that both sides are like.

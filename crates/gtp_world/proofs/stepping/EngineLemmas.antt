@@ -437,6 +437,22 @@ none_held_by s wait.Nothing sh e = refl
 none_held_by s (wait.Choice colour) sh e = absurd (cc e)
 none_held_by s wait.Answer sh e = refl
 
+own_unread_by : (s : StepsState) (w : Wait) (sh : LikeBy s w) → lines (before_by s w sh) ≡ [] → lines s.rest ≡ []
+own_unread_by s wait.Nothing sh unread = unread
+own_unread_by s (wait.Choice colour) sh unread = sh.unread
+own_unread_by s wait.Answer sh unread = absurd sh
+
+found_by : (s : StepsState) (w : Wait) (sh : LikeBy s w) → w ≢ wait.Nothing → (later : List ℕ)
+    → lines (before_by s w sh ++ (text_by s w sh ++ later)) ≡ s.line ∷ lines (s.rest ++ later)
+found_by s wait.Nothing sh waits later = absurd (waits refl)
+found_by s (wait.Choice colour) sh waits later = sh.found later
+found_by s wait.Answer sh waits later = absurd sh
+
+same_rest_by : (s : StepsState) (w : Wait) (sh : LikeBy s w) → w ≡ wait.Nothing → before_by s w sh ≡ s.rest
+same_rest_by s wait.Nothing sh e = refl
+same_rest_by s (wait.Choice colour) sh e = absurd (cc e)
+same_rest_by s wait.Answer sh e = refl
+
 asks_by : (s : StepsState) (w : Wait) (sh : LikeBy s w) (colour : Colour) → w ≡ wait.Choice colour → (coming : List ℕ)
     → (line : Line) × (ls : List Line) × (lines (before_by s w sh ++ (text_by s w sh ++ coming)) ≡ line ∷ ls)
     × (asked s.game line ≡ Some colour)
@@ -466,6 +482,9 @@ steps_like rule = record {
       takes_by s s.wait refl sh count coming s2 left written r one short h;
   idle = λ s sh unread empty. idle_by s s.wait refl sh unread empty;
   none_held = λ s sh waits. none_held_by s s.wait sh waits;
+  own_unread = λ s sh unread. own_unread_by s s.wait sh unread;
+  found = λ s sh waits later. found_by s s.wait sh waits later;
+  same_rest = λ s sh waits. same_rest_by s s.wait sh waits;
   asks = λ s sh colour waits coming. asks_by s s.wait sh colour waits coming;
   not_other = λ s sh waits. none_answered s s.wait refl sh waits;
 }

@@ -23,7 +23,7 @@ use Rattle.gtp_world.specs.StepsWorld.{StepsLane, running_steps_lane, StepsStart
 use Rattle.gtp_world.specs.StepsWorld.{StepsReadsBy, StepsCallsBy, steps_lane_where_up}
 use Rattle.gtp_world.specs.StepsWorld.{StepsHearsWhereUp, StepsFailsWhereUp, crashed_steps_lane, StepsActs}
 use Rattle.gtp_world.specs.StepsWorld.{StepsBreaksOff, StepsEvent, side_of_steps_event, StepsSideHappens}
-use Rattle.gtp_world.specs.StepsLaws.{IsLike}
+use Rattle.gtp_world.specs.StepsLaws.{IsEngineLike, IsLike}
 use Rattle.gtp_world.proofs.settling.RoundLemmas.{IsOneLine}
 use Rattle.gtp_world.proofs.stepping.LikenessLemmas.{IsFollowing, Moves, Likeness}
 
@@ -291,19 +291,50 @@ module _ {E P : Type 0} {kind : Kind E} {policies : SidePolicies P} (like : Like
   none_held_by None sh waits te = refl
   none_held_by (Some e) sh waits te = ap (λ (t : List ℕ). t ++ te) (like.none_held e sh (waits e refl))
 
-  pub is_like : (s : StepsLane E) (sh : LikeAt s.engine) → IsLike kind s (lane_like s sh)
-  is_like s sh = by_engine s.engine s.to_engine s.to_controller sh
+  engine_like : (e : E) (z : like.Like e) (te : List ℕ) → IsFollowing (like.engine e z) (like.held e z ++ te)
+      → IsEngineLike kind e (like.engine e z) (like.held e z)
+  engine_like e z te follows =
+      record {
+        own_unread = like.own_unread e z follows.unread;
+        unread = follows.unread;
+        waits = λ waits later. like.found e z waits later;
+        waits_not = λ waits. (like.none_held e z waits, like.same_rest e z waits);
+      }
+
+  engines_like : (e : E) (z : like.Like e) (te : List ℕ) → IsFollowing (like.engine e z) (like.held e z ++ te)
+      → (engine : E) (x : Engine P) → Some e ≡ Some engine → Some (like.engine e z) ≡ Some x
+      → IsEngineLike kind engine x (like.held e z)
+  engines_like e z te follows engine x is is_x =
+      let one : e ≡ engine = cc is in
+      let other : like.engine e z ≡ x = cc is_x in
+      subst (λ (g : E). IsEngineLike kind g x (like.held e z)) one
+      (subst (λ (y : Engine P). IsEngineLike kind e y (like.held e z)) other (engine_like e z te follows))
+
+  pub is_like : (s : StepsLane E) (sh : LikeAt s.engine)
+      → FollowsWhereRunning (engine_at s.engine sh) (coming_at s.engine sh s.to_engine)
+      → IsLike kind s (lane_like s sh)
+  is_like s sh follows = by_engine s.engine s.to_engine s.to_controller sh follows
     where
-      by_engine : (o : Option E) (te tc : List ℕ) (z : LikeAt o) → IsLike kind (side_by o te tc) (lane_by o z te tc)
-      by_engine None te tc z =
-          record { game = refl; to_controller = refl; read = []; to_engine = refl; none_read = λ waits. refl }
-      by_engine (Some e) te tc z =
+      by_engine : (o : Option E) (te tc : List ℕ) (z : LikeAt o)
+          → FollowsWhereRunning (engine_at o z) (coming_at o z te)
+          → IsLike kind (side_by o te tc) (lane_by o z te tc)
+      by_engine None te tc z r =
+          record {
+            game = refl;
+            to_controller = refl;
+            read = [];
+            to_engine = refl;
+            none_read = λ waits. refl;
+            engines = λ engine x is is_x. absurd (cc is);
+          }
+      by_engine (Some e) te tc z r =
           record {
             game = ap Some (like.game e z);
             to_controller = refl;
             read = like.held e z;
             to_engine = refl;
             none_read = λ waits. like.none_held e z (waits e refl);
+            engines = λ engine x is is_x. engines_like e z te r engine x is is_x;
           }
 
   -- the engine that an engine is like

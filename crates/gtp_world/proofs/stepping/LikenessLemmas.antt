@@ -60,6 +60,12 @@ pub record Likeness {E P : Type 0} (kind : Kind E) (policies : SidePolicies P) :
       → (left ≡ []) × (kind.wait e2 ≡ wait.Nothing)
   pub idle : (e : E) (sh : Like e) → lines (engine e sh).rest ≡ [] → held e sh ≡ [] → kind.wait e ≡ wait.Nothing
   pub none_held : (e : E) (sh : Like e) → kind.wait e ≡ wait.Nothing → held e sh ≡ []
+  -- where it waits, the first line that the other engine comes to is the one that waits, and no other is held; else
+  -- both hold the same text
+  pub own_unread : (e : E) (sh : Like e) → lines (engine e sh).rest ≡ [] → lines (kind.rest e) ≡ []
+  pub found : (e : E) (sh : Like e) → kind.wait e ≢ wait.Nothing → (later : List ℕ)
+      → lines ((engine e sh).rest ++ (held e sh ++ later)) ≡ kind.line e ∷ lines (kind.rest e ++ later)
+  pub same_rest : (e : E) (sh : Like e) → kind.wait e ≡ wait.Nothing → (engine e sh).rest ≡ kind.rest e
   -- what is asked for is asked by the first line that the other engine comes to
   pub asks : (e : E) (sh : Like e) (colour : Colour) → kind.wait e ≡ wait.Choice colour → (coming : List ℕ)
       → (line : Line) × (ls : List Line) × (lines ((engine e sh).rest ++ (held e sh ++ coming)) ≡ line ∷ ls)
@@ -87,6 +93,9 @@ sessions_like policies = record {
   takes = λ e sh count coming e2 left written r one short h. (h.1 ∙ drop_all count coming short, refl);
   idle = λ e sh unread empty. refl;
   none_held = λ e sh waits. refl;
+  own_unread = λ e sh unread. unread;
+  found = λ e sh waits later. absurd (waits refl);
+  same_rest = λ e sh waits. refl;
   asks = λ e sh colour waits coming. absurd (cc waits);
   not_other = λ e sh waits. cc;
 }

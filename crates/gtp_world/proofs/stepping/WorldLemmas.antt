@@ -297,8 +297,8 @@ module _ {B W P Q : Type 0} {black : Kind B} {white : Kind W} {policies_black : 
         world_like w s.like_black s.like_white,
         s.reached,
         refl,
-        is_like like_b w.black s.like_black,
-        is_like like_w w.white s.like_white,
+        is_like like_b w.black s.like_black (black_follows w w s.like_black s.like_white s.joined),
+        is_like like_w w.white s.like_white (white_follows w w s.like_black s.like_white s.joined),
       )
 
   pub reached_agrees : (setup : SetupRecord) (w : StepsWorld B W) → IsReached setup w → StepsAgree black white w
