@@ -35,8 +35,8 @@ impl Draws {
         }
     }
 
-    /// A choice for boards of size 1 to 3: a pass or a resignation now and then, and else a point, which may have a stone
-    /// or be off the board.
+    /// A choice for boards of size 1 to 3: a pass or a resignation now and then, and else a point, which may have a
+    /// stone or be off the board.
     fn choice(&mut self, rt: &impl Abort) -> Choice {
         match self.below(80) {
             0 => Choice::Resign,
