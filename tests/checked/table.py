@@ -98,6 +98,8 @@ SHOWN = {
     "refused_suicide_takes_its_chain": ("suicide",),
     "joined_chains_may_die": ("suicide",),
     "undo_forgets_the_handicap": ("handicaps",),
+    # right after a handicap `undo` has nothing to take back
+    "handicap_is_undone": ("handicaps",),
     "one_list_of_taken_stones": ("ko",),
     "taken_back_moves_stay_listed": ("ko",),
     "no_handicap_below_nine": ("handicaps",),
