@@ -1,24 +1,26 @@
 //! One call, and what it returns, as texts.
-use crate::hex::{bytes_of, push_hex};
 use arrayvec::ArrayVec;
 use go_base::{Choice, Colour, write_int};
 use go_board::PlayFault;
 use gtp_session::steps::{AnswerFault, ChoiceFault, CommandFault, Event, Steps};
+use std::alloc::Global;
 
 /// A line of the input or of the output.
 pub type Text = ArrayVec<u8, 16384>;
 
 /// Makes the call of this line. The text of what it returned.
-pub fn make_call(engine: &mut Steps, line: &[u8]) -> Text {
+pub fn make_call(alloc: Global, engine: &mut Steps, line: &[u8]) -> Text {
     let mut words = line.split(|byte| *byte == b' ');
     let call = words.next().unwrap_or(b"");
-    let bytes = bytes_of(words.next().unwrap_or(b""));
+    let Ok(bytes) = hex::decode(alloc, words.next().unwrap_or(b"")) else {
+        return plain(false, b"no bytes");
+    };
     match call {
-        b"feed" => feed(engine, &bytes),
-        b"choose" => choose(engine, &bytes),
-        b"answer" => answered(engine.answer(true, &bytes), engine),
-        b"fail" => answered(engine.answer(false, &bytes), engine),
-        b"decline" => answered(engine.decline(), engine),
+        b"feed" => feed(alloc, engine, &bytes),
+        b"choose" => choose(alloc, engine, &bytes),
+        b"answer" => answered(alloc, engine.answer(true, &bytes), engine),
+        b"fail" => answered(alloc, engine.answer(false, &bytes), engine),
+        b"decline" => answered(alloc, engine.decline(), engine),
         b"name" => plain(engine.set_name(&bytes).is_ok(), b"no title"),
         b"version" => plain(engine.set_version(&bytes).is_ok(), b"no title"),
         b"add" => added(engine.add_command(&bytes)),
@@ -34,13 +36,13 @@ fn plain(done: bool, why: &[u8]) -> Text {
 }
 
 /// `done` and the reply.
-fn replied(engine: &Steps) -> Text {
+fn replied(alloc: Global, engine: &Steps) -> Text {
     let mut text = plain(true, b"");
-    push_hex(&mut text, engine.reply());
+    push_hex(alloc, &mut text, engine.reply());
     text
 }
 
-fn feed(engine: &mut Steps, bytes: &[u8]) -> Text {
+fn feed(alloc: Global, engine: &mut Steps, bytes: &[u8]) -> Text {
     let fed = engine.feed(bytes);
     let mut text = Text::new();
     let _ = text.try_extend_from_slice(&write_int(u32::try_from(fed.used).unwrap_or(0)));
@@ -54,31 +56,39 @@ fn feed(engine: &mut Steps, bytes: &[u8]) -> Text {
     };
     let _ = text.try_extend_from_slice(event);
     if fed.event == Event::Reply {
-        push_hex(&mut text, engine.reply());
+        push_hex(alloc, &mut text, engine.reply());
     }
-    push_words(&mut text, engine);
+    push_words(alloc, &mut text, engine);
     text
 }
 
+/// Appends the pairs of digits of these bytes, after a space.
+fn push_hex(alloc: Global, text: &mut Text, bytes: &[u8]) {
+    if let Ok(digits) = hex::encode(alloc, bytes) {
+        let _ = text.try_push(b' ');
+        let _ = text.try_extend_from_slice(digits.as_bytes());
+    }
+}
+
 /// Appends the words of the line that is waited for, if one is.
-fn push_words(text: &mut Text, engine: &Steps) {
+fn push_words(alloc: Global, text: &mut Text, engine: &Steps) {
     let Some(line) = engine.line() else {
         return;
     };
     for number in 0..1000 {
         match line.word(number) {
-            Some(word) => push_hex(text, word),
+            Some(word) => push_hex(alloc, text, word),
             None => return,
         }
     }
 }
 
-fn choose(engine: &mut Steps, bytes: &[u8]) -> Text {
+fn choose(alloc: Global, engine: &mut Steps, bytes: &[u8]) -> Text {
     let Some(choice) = Choice::read(bytes) else {
         return plain(false, b"no choice");
     };
     match engine.choose(choice) {
-        Ok(()) => replied(engine),
+        Ok(()) => replied(alloc, engine),
         Err(ChoiceFault::NotAsked) => plain(false, b"not asked"),
         Err(ChoiceFault::Illegal(PlayFault::Full)) => plain(false, b"full"),
         Err(ChoiceFault::Illegal(PlayFault::OffBoard)) => plain(false, b"off the board"),
@@ -88,9 +98,9 @@ fn choose(engine: &mut Steps, bytes: &[u8]) -> Text {
     }
 }
 
-fn answered(answered: Result<(), AnswerFault>, engine: &Steps) -> Text {
+fn answered(alloc: Global, answered: Result<(), AnswerFault>, engine: &Steps) -> Text {
     match answered {
-        Ok(()) => replied(engine),
+        Ok(()) => replied(alloc, engine),
         Err(AnswerFault::NotAsked) => plain(false, b"not asked"),
         Err(AnswerFault::BadText) => plain(false, b"bad text"),
     }

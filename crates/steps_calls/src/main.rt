@@ -6,13 +6,13 @@
 #![tactic(auto)]
 
 mod calls;
-mod hex;
 
 use calls::{Text, make_call};
 use go_board::KoRule;
 use gtp_session::steps::Steps;
 use gtp_session::streams::{Counted, Incoming, Outgoing, send};
 use programs::words::arguments;
+use std::alloc::Global;
 use std::io;
 
 fn main(rt: HostRuntime) -> io::Result<()> {
@@ -30,7 +30,7 @@ fn main(rt: HostRuntime) -> io::Result<()> {
         let Some(piece) = buffer.get(..count) else {
             break;
         };
-        if piece.is_empty() || !make_calls(&mut engine, &mut line, piece, &mut output) {
+        if piece.is_empty() || !make_calls(rt.alloc(), &mut engine, &mut line, piece, &mut output) {
             break;
         }
     }
@@ -39,6 +39,7 @@ fn main(rt: HostRuntime) -> io::Result<()> {
 
 /// Makes the calls whose lines end in the piece. Whether what they returned could be printed.
 fn make_calls<W: Outgoing>(
+    alloc: Global,
     engine: &mut Steps,
     line: &mut Text,
     piece: &[u8],
@@ -49,7 +50,7 @@ fn make_calls<W: Outgoing>(
             let _ = line.try_push(*byte);
             continue;
         }
-        let mut returned = make_call(engine, line);
+        let mut returned = make_call(alloc, engine, line);
         let _ = returned.try_push(b'\n');
         if send(output, &returned).is_err() {
             return false;
