@@ -145,7 +145,7 @@ event_of wait.Nothing = event.Reply
 event_of (wait.Choice colour) = event.Asked colour
 event_of wait.Answer = event.Other
 
--- all of the piece is used, and no line ends in it
+-- all of the piece is used, and no line that has a word ends in it
 pub record FindsNone (old : StepsState) (input : List ℕ) (used : ℕ) (new : StepsState) : Type 0 where
   pub reads : ReadsLine old.rest input used None new.rest
   pub new_is : new ≡ record old { rest = new.rest }

@@ -31,11 +31,17 @@ engine_of s choices = record { rest = s.rest; game = s.game; policy = choices; e
 
 -- ---- runs
 
+-- the author's answer to a line of another command: whether it is a success, and its text
+pub record OwnAnswer : Type 0 where
+  pub ok : Bool
+  pub text : List ℕ
+
 -- One line that was answered: the engine as it was then, the line being the one that it read last; the choice that was
--- made, where the line asks for one; and the reply.
+-- made, where the line asks for one; the answer that the author handed in, where he did; and the reply.
 pub record Exchange : Type 0 where
   pub was : StepsState
   pub choice : Choice
+  pub own : Option OwnAnswer
   pub reply : List ℕ
 
 -- What calls do to it, one after the other: it uses this text, these choices are made, and these lines are answered. (A
@@ -49,17 +55,23 @@ pub data Goes : StepsState → List ℕ → List Choice → List Exchange → St
       (input : List ℕ) (used : ℕ) → Goes a text choices given b → IsOpen b
       → (found : FindsLine b input used event.Reply c)
       → Goes a (text ++ take used input) choices
-      (given ++ record { was = with_line b found.line found.rest; choice = Resign; reply = c.reply } ∷ []) c
+      (given ++ record { was = with_line b found.line found.rest; choice = Resign; own = None; reply = c.reply } ∷ []) c
   waits : {a b c : StepsState} {text : List ℕ} {choices : List Choice} {given : List Exchange}
       (input : List ℕ) (used : ℕ) (kind : Event) → kind ≢ event.Reply
       → Goes a text choices given b → IsOpen b → FindsLine b input used kind c
       → Goes a (text ++ take used input) choices given c
   chosen : {a b c : StepsState} {text : List ℕ} {choices : List Choice} {given : List Exchange}
       (choice : Choice) → Goes a text choices given b → Chooses b choice c
-      → Goes a text (choices ++ choice ∷ []) (given ++ record { was = b; choice = choice; reply = c.reply } ∷ []) c
+      → Goes a text (choices ++ choice ∷ [])
+      (given ++ record { was = b; choice = choice; own = None; reply = c.reply } ∷ []) c
   answered : {a b c : StepsState} {text : List ℕ} {choices : List Choice} {given : List Exchange}
       (ok : Bool) (answer : List ℕ) → Goes a text choices given b → AnswersOther b ok answer c
-      → Goes a text choices (given ++ record { was = b; choice = Resign; reply = c.reply } ∷ []) c
+      → Goes a text choices (given ++ record {
+        was = b;
+        choice = Resign;
+        own = Some (record { ok = ok; text = answer });
+        reply = c.reply;
+      } ∷ []) c
   named : {a b c : StepsState} {text : List ℕ} {choices : List Choice} {given : List Exchange}
       (title : List ℕ) → Goes a text choices given b → SetsName b title c → Goes a text choices given c
   versioned : {a b c : StepsState} {text : List ℕ} {choices : List Choice} {given : List Exchange}
@@ -90,11 +102,12 @@ tables_reply e =
 abbrev pub given_reply : Exchange → WrittenReply
 given_reply e = record { text = e.reply; genmove = is_some (asked e.was.game e.was.line) }
 
--- A line of another command has an answer of the author's: a success or a failure, and a text that a reply may have. A
--- line for which the author has set a text has a success of that text. Every other has the table's reply.
+-- A line of another command has the answer that the author handed in: a success or a failure, and a text that a reply
+-- may have. A line for which the author has set a text has a success of that text. Every other has the table's reply.
 abbrev pub IsGivenBy : Exchange → Option (List ℕ) → Bool → Type 0
 IsGivenBy e set true =
-    (ok : Bool) × (text : List ℕ) × IsReplyText text × (e.reply ≡ written_reply ok (id_of e.was.line) text)
+    (own : OwnAnswer) × (e.own ≡ Some own) × IsReplyText own.text
+    × (e.reply ≡ written_reply own.ok (id_of e.was.line) own.text)
 IsGivenBy e (Some text) false = e.reply ≡ written_reply true (id_of e.was.line) text
 IsGivenBy e None false = e.reply ≡ (tables_reply e).text
 

@@ -17,7 +17,7 @@ pub enum Wait {
 /// What came of a piece of input.
 #[derive(Clone, Copy, Debug, PartialEq, Eq, Drop)]
 pub enum Event {
-    /// All bytes were used, and none of them ended a line.
+    /// All bytes were used, and none of them ended a line that has a word.
     More,
     /// A line was answered: the reply is there.
     Reply,

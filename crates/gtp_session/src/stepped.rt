@@ -15,7 +15,7 @@ use gtp_wire::ReplyText;
 use std::marker::Model;
 
 /// A session that is an engine in steps and a policy, which makes the choices that are asked for. A line whose command
-/// isn't in the table is declined. Its promises are those of a [`Session`](crate::session::Session), word for word.
+/// isn't in the table is declined. `feed_into` has the contract of `Session::feed_into`, word for word.
 ///
 /// It is seen as an engine, as a `Session` is.
 #[derive(Drop)]

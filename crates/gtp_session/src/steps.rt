@@ -5,6 +5,7 @@ ghost use Rattle.gtp_wire.specs.Replies.{IsReplyText, most_written_bytes};
 ghost use Rattle.gtp_wire.specs.declared.lines.Line.TheVariants as line;
 ghost use Rattle.gtp_session.specs.declared.events.Wait.TheVariants as wait;
 ghost use Rattle.gtp_session.specs.declared.events.Event.TheVariants as event;
+ghost use Rattle.gtp_session.specs.declared.events.AnswerFault.TheVariants as answer_fault;
 ghost use Rattle.gtp_session.specs.Commands.{answer, asked};
 ghost use Rattle.gtp_session.specs.Spoken.{IsLawfulAt, IsSpoken};
 ghost use Rattle.gtp_session.specs.Steps.{event_of};
@@ -276,6 +277,7 @@ impl Steps {
         ensures made { OnOk result (AnswersOther self.old false declined_text self.new) }
         ensures kept { OnErr result (self.new ≡ self.old) }
         ensures why { IfErr result (RefusesAnswer self.old declined_text) }
+        ensures not_asked { IfErr result (λ fault. fault ≡ answer_fault.NotAsked) }
     {
         if self.wait != Wait::Answer {
             return Err(AnswerFault::NotAsked);

@@ -44,7 +44,7 @@ fn play<P: Process>(rt: &HostRuntime, mover: &mut P) -> Option<()> {
     Some(())
 }
 
-/// Hands in the mover's next line that is a lawful choice, a vertex or `resign`; after its last line, a pass.
+/// Hands in the mover's next line that is a lawful choice, a vertex or `resign`; after its last newline, a pass.
 fn choose<P: Process>(engine: &mut Steps, mover: &mut P) -> Option<()> {
     let (mut line, mut byte) = (arrayvec::ArrayVec::<u8, 80>::new(), [0]);
     for _byte in 0..u64::MAX {

@@ -33,7 +33,7 @@ use Rattle.gtp_session.proofs.choosing.Policies.{AllowsLawful}
 use Rattle.gtp_session.proofs.engines.Replying.{succeeds_where_asked, Replies-over, Replies-found, Replies-line}
 use Rattle.gtp_session.proofs.engines.Replying.{StopsAtLine-found}
 use Rattle.gtp_session.proofs.reply_texts.Spoken.{replies_spoken}
-use Rattle.gtp_session.proofs.stepping.Runs.{given_where}
+use Rattle.gtp_session.proofs.stepping.Runs.{given_where, own_answer, own_exchange}
 use Rattle.gtp_session.proofs.stepping.Titles.{set_text_keeps, other_line_keeps, default_reply}
 use Rattle.gtp_session.proofs.stepping.Waits.{by-choice, by-nothing, by-no_answer, by-answer, by-unasked, event-reply}
 
@@ -74,7 +74,7 @@ module _ {P : Type 0} (may : May P) where
   -- a line that asks for nothing, or for an answer, is answered as the table answers it
   step_unasked : (s new : StepsState) (p : P) → asked s.game s.line ≡ None
       → new.game ≡ (answer s.game s.line Resign).game → new.ended ≡ ends s.line
-      → new.reply ≡ (tables_reply (record { was = s; choice = Resign; reply = new.reply })).text
+      → new.reply ≡ (tables_reply (record { was = s; choice = Resign; own = None; reply = new.reply })).text
       → Step may (state_with s p) s.line (record { text = new.reply; genmove = false }) (state_with new p)
   step_unasked s new p e game over reply =
       record {
@@ -186,7 +186,7 @@ module _ {P : Type 0} (may : May P) where
         text_is =
         let was = with_line s line rest in
         let new = replied_by was (Some words) in
-        let e : Exchange = record { was = was; choice = Resign; reply = new.reply } in
+        let e : Exchange = record { was = was; choice = Resign; own = None; reply = new.reply } in
         let keeps = set_text_keeps was line Resign words set in
         let declined : is_other_line line ≡ true → e.reply ≡ written_reply false (id_of line) declined_text =
         λ other. absurd (cc (named, other)) in
@@ -224,14 +224,14 @@ module _ {P : Type 0} (may : May P) where
         text_is =
         let was : StepsState = record (with_line s line rest) { wait = wait.Answer } in
         let new = texted was false declined_text in
-        let e : Exchange = record { was = was; choice = Resign; reply = new.reply } in
+        let e : Exchange = own_exchange was false declined_text new in
         let keeps = other_line_keeps s.game line Resign other in
         line_fed s new p p input used line rest false to text genmove is goes_on size reads
         (made.new_is ∙ ap (λ (x : StepsState). texted x false declined_text) mid_is) b_is text_is
         refl refl refl refl refl
         (step_unasked was new p asks (sym keeps.0) (goes_on ∙ sym keeps.1)
         (default_reply e
-        (given_where e (author_text_to was line) true refl other (false, declined_text, made.fits, refl))
+        (given_where e (author_text_to was line) true refl other (own_answer false declined_text, refl, made.fits, refl))
         (unset_line e line is.name is.version is.commands (λ _. refl))))
 
 event-asked : (w : Wait) (colour : Colour) → event.Asked colour ≡ event_of w → w ≡ wait.Choice colour

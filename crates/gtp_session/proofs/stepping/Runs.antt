@@ -26,7 +26,7 @@ use Rattle.gtp_session.specs.Engine.Answers.{none, more}
 use Rattle.gtp_session.specs.Policy.{IsLawful}
 use Rattle.gtp_session.specs.Steps.{StepsState, IsOpen, wait_of, event_of, author_text}
 use Rattle.gtp_session.specs.Steps.{author_text_to, is_other_line, after_wait, with_line, replied_by, answered, texted}
-use Rattle.gtp_session.specs.StepsRuns.{Goes, list_may, engine_of, Exchange, tables_reply, given_reply}
+use Rattle.gtp_session.specs.StepsRuns.{Goes, list_may, engine_of, OwnAnswer, Exchange, tables_reply, given_reply}
 use Rattle.gtp_session.specs.StepsRuns.{IsGivenBy, IsGiven, IsDefault, IsTables, IsTablesLine}
 use Rattle.gtp_session.specs.StepsRuns.{EachLineIsGivenOne, AuthorsEnginesAreEngines, RepliesAreGiven}
 use Rattle.gtp_session.specs.StepsRuns.{DefaultsAreTheTables, TablesLinesAreTheTables, ControllersLinesAreTables}
@@ -80,7 +80,7 @@ tables_not_other (line.Command cl) t e = tables_named (named_command cl.words) t
 step_unasked : (s new : StepsState) (choices : List Choice) (reply : List ℕ) → asked s.game s.line ≡ None
     → new.game ≡ (answer s.game s.line Resign).game → new.ended ≡ ends s.line
     → Step list_may (state_with s choices) s.line
-    (tables_reply (record { was = s; choice = Resign; reply = reply })) (state_with new choices)
+    (tables_reply (record { was = s; choice = Resign; own = None; reply = reply })) (state_with new choices)
 step_unasked s new choices reply e game over =
     record {
       choice = Resign;
@@ -95,7 +95,7 @@ step_unasked s new choices reply e game over =
 step_chosen : (s : StepsState) (colour : Colour) (ch : Choice) (choices : List Choice) (reply : List ℕ)
     → asked s.game s.line ≡ Some colour → IsLawful s.game colour ch
     → Step list_may (state_with s (ch ∷ choices)) s.line
-    (tables_reply (record { was = s; choice = ch; reply = reply }))
+    (tables_reply (record { was = s; choice = ch; own = None; reply = reply }))
     (state_with (answered s (answer s.game s.line ch)) choices)
 step_chosen s colour ch choices reply e l =
     record {
@@ -111,6 +111,14 @@ step_chosen s colour ch choices reply e l =
 pub given_where : (e : Exchange) (set : Option (List ℕ)) (other : Bool) → author_text_to e.was e.was.line ≡ set
     → is_other_line e.was.line ≡ other → IsGivenBy e set other → IsGiven e
 given_where e set other s o given = rw (s, o) given
+
+-- a line that the author answered himself
+abbrev pub own_answer : Bool → List ℕ → OwnAnswer
+own_answer ok text = record { ok = ok; text = text }
+
+abbrev pub own_exchange : StepsState → Bool → List ℕ → StepsState → Exchange
+own_exchange was ok text new =
+    record { was = was; choice = Resign; own = Some (own_answer ok text); reply = new.reply }
 
 -- ---- runs
 
@@ -186,12 +194,13 @@ module _ {a b : StepsState} {text : List ℕ} {choices : List Choice} {given : L
       (given ++ record {
         was = with_line b line rest;
         choice = Resign;
+        own = None;
         reply = (replied_by (with_line b line rest) set).reply;
       } ∷ []) (replied_by (with_line b line rest) set)
   follows_replied piece rest line None is finds asks named own =
       let s = with_line b line rest in
       let new = replied_by s None in
-      let e : Exchange = record { was = s; choice = Resign; reply = new.reply } in
+      let e : Exchange = record { was = s; choice = Resign; own = None; reply = new.reply } in
       record {
         answered = λ left. answers_push given e (f.answered left) is.goes_on
             (step_unasked s new left new.reply asks refl refl);
@@ -205,7 +214,7 @@ module _ {a b : StepsState} {text : List ℕ} {choices : List Choice} {given : L
   follows_replied piece rest line (Some words) is finds asks named own =
       let s = with_line b line rest in
       let new = replied_by s (Some words) in
-      let e : Exchange = record { was = s; choice = Resign; reply = new.reply } in
+      let e : Exchange = record { was = s; choice = Resign; own = None; reply = new.reply } in
       let keeps = set_text_keeps s line Resign words own in
       record {
         answered = λ left. answers_push given e (f.answered left) is.goes_on
@@ -256,13 +265,13 @@ module _ {a b : StepsState} {text : List ℕ} {choices : List Choice} {given : L
 
   follows_chosen : (colour : Colour) (ch : Choice) → b.wait ≡ wait.Choice colour → IsLawful b.game colour ch
       → Follows a text (choices ++ ch ∷ [])
-      (given ++ record { was = b; choice = ch; reply = (answered b (answer b.game b.line ch)).reply } ∷ [])
+      (given ++ record { was = b; choice = ch; own = None; reply = (answered b (answer b.game b.line ch)).reply } ∷ [])
       (answered b (answer b.game b.line ch))
   follows_chosen colour ch bw lawful =
       let waits : b.wait ≢ wait.Nothing = λ n. let wrong : wait.Choice colour ≡ wait.Nothing = sym bw ∙ n in cc in
       let asks : asked b.game b.line ≡ Some colour = by-choice _ _ colour (sym (f.waits waits) ∙ bw) in
       let new = answered b (answer b.game b.line ch) in
-      let e : Exchange = record { was = b; choice = ch; reply = new.reply } in
+      let e : Exchange = record { was = b; choice = ch; own = None; reply = new.reply } in
       let alone = asked_alone b b.line colour asks in
       record {
         answered = λ left.
@@ -281,20 +290,20 @@ module _ {a b : StepsState} {text : List ℕ} {choices : List Choice} {given : L
 
   follows_texted : (ok : Bool) (words : List ℕ) → b.wait ≡ wait.Answer → IsReplyText words
       → Follows a text choices
-      (given ++ record { was = b; choice = Resign; reply = (texted b ok words).reply } ∷ []) (texted b ok words)
+      (given ++ own_exchange b ok words (texted b ok words) ∷ []) (texted b ok words)
   follows_texted ok words bw fits =
       let waits : b.wait ≢ wait.Nothing = λ n. let wrong : wait.Answer ≡ wait.Nothing = sym bw ∙ n in cc in
       let asks : asked b.game b.line ≡ None = by-unasked _ _ (sym (f.waits waits) ∙ bw) in
       let other : is_other_line b.line ≡ true = by-answer _ _ (sym (f.waits waits) ∙ bw) in
       let keeps = other_line_keeps b.game b.line Resign other in
       let new = texted b ok words in
-      let e : Exchange = record { was = b; choice = Resign; reply = new.reply } in
+      let e : Exchange = own_exchange b ok words new in
       record {
         answered = λ left. answers_push given e (f.answered left) (f.goes_on waits)
             (step_unasked b new left new.reply asks (sym keeps.0) (f.goes_on waits ∙ sym keeps.1));
         lines_are = waiting_more wait.Answer e bw refl refl;
         each = AllByRecursion-append IsGiven given (e ∷ []) f.each
-            (given_where e (author_text_to b b.line) true refl other (ok, words, fits, refl), tt);
+            (given_where e (author_text_to b b.line) true refl other (own_answer ok words, refl, fits, refl), tt);
         unread = f.unread;
         waits = λ n. absurd (n refl);
         goes_on = λ n. absurd (n refl);
@@ -344,7 +353,7 @@ follows {a} unread aw
     let s = with_line b found.line found.rest in
     let asks : wait_of b.game found.line ≡ wait.Nothing = event-reply _ found.event_is in
     subst (λ (x : StepsState). Follows a (text ++ take used input) choices
-    (given ++ record { was = s; choice = Resign; reply = x.reply } ∷ []) x)
+    (given ++ record { was = s; choice = Resign; own = None; reply = x.reply } ∷ []) x)
     (sym (found.new_is ∙ ap (λ (w : Wait). after_wait s w) asks))
     (follows_replied (follows unread aw g) (take used input) found.rest found.line (author_text_to s found.line) is
     found.reads.finds (by-nothing _ _ asks) (by-no_answer _ _ asks) refl)
@@ -355,11 +364,10 @@ follows {a} unread aw
     found.reads.finds refl (λ e. n (found.event_is ∙ e)))
 follows {a} unread aw (Goes.chosen {b = b} {text = text} {choices = choices} {given = given} ch g made) =
     subst (λ (x : StepsState). Follows a text (choices ++ ch ∷ [])
-    (given ++ record { was = b; choice = ch; reply = x.reply } ∷ []) x)
+    (given ++ record { was = b; choice = ch; own = None; reply = x.reply } ∷ []) x)
     (sym made.new_is) (follows_chosen (follows unread aw g) made.colour ch made.asked made.lawful)
 follows {a} unread aw (Goes.answered {b = b} {text = text} {choices = choices} {given = given} ok words g made) =
-    subst (λ (x : StepsState). Follows a text choices
-    (given ++ record { was = b; choice = Resign; reply = x.reply } ∷ []) x)
+    subst (λ (x : StepsState). Follows a text choices (given ++ own_exchange b ok words x ∷ []) x)
     (sym made.new_is) (follows_texted (follows unread aw g) ok words made.asked made.fits)
 follows {a} unread aw (Goes.named {b = b} {text = text} {choices = choices} {given = given} title g set) =
     subst (λ (x : StepsState). Follows a text choices given x) (sym set.new_is)
