@@ -1,41 +1,12 @@
 //! Checks one engine that speaks the Go Text Protocol, version 2.
 #![tactic(auto)]
 
-mod answers;
-mod check;
-mod closing;
-mod complaining;
-mod complaint;
-mod engine;
-#[cfg(test)]
-mod equal;
-mod failure;
-mod flat;
-mod held;
-mod kinds;
-pub mod laws;
-mod listing;
-mod notes;
-mod options;
-mod plan;
-mod progress;
-mod rules;
-pub mod run;
-mod summary;
-mod superko;
-mod talk;
-mod tally;
-#[cfg(test)]
-mod tests;
-mod texts;
-mod trial;
-
-use failure::{Mistake, NAME};
+use gtp_checker::failure::{Mistake, NAME};
+use gtp_checker::run::run;
 use gtp_process::SystemStarter;
 use programs::failure::{Failure, PlanError};
 use programs::standard::hold_closed;
 use programs::words::arguments;
-use run::run;
 use std::io::IsTerminal;
 use std::process::ExitCode;
 

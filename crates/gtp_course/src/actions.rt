@@ -24,7 +24,7 @@ pub enum Action {
 
 /// What a step of a lesson is.
 #[derive(Clone, Copy, Debug, PartialEq, Eq)]
-pub(crate) enum Question {
+pub enum Question {
     /// A command, where it may be asked.
     Ask(CheckCommand),
     /// A move on any point. Where it is legal it is taken back.

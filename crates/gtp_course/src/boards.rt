@@ -21,7 +21,7 @@ const GAMES: [u32; 4] = [9, 5, 13, 19];
 
 /// What a part is asked on.
 #[derive(Clone, Copy, Debug, PartialEq, Eq)]
-pub(crate) struct Board {
+pub struct Board {
     /// The size of the board.
     pub size: Size,
     /// That of a later game.
@@ -39,7 +39,7 @@ pub(crate) struct Board {
 }
 
 /// What a part of a lesson is asked on, where scenes are on boards of this size.
-pub(crate) fn board_of(lesson: Lesson, part: u32, scene_size: Size) -> Board
+pub fn board_of(lesson: Lesson, part: u32, scene_size: Size) -> Board
     requires { part < most_parts }
     ensures { IsBoard lesson part scene_size result }
 {

@@ -28,7 +28,7 @@ const ROW: u32 = 26;
 
 /// The words that a step draws. Each step has words of its own, whatever other lessons the course has.
 #[derive(Clone, Copy, Debug, PartialEq, Eq)]
-pub(crate) struct Draws {
+pub struct Draws {
     /// The seed of the course.
     pub seed: u32,
     /// The number of the step's place among all lessons.

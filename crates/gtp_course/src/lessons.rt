@@ -441,7 +441,7 @@ impl Lesson {
     }
 
     /// How many parts it has.
-    pub(crate) fn parts(self) -> u32
+    pub fn parts(self) -> u32
         ensures parts { result ≡ parts_of self }
         ensures few { result ≤ most_parts }
     {

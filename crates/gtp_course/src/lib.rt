@@ -5,21 +5,17 @@
 //! something was found or the engine was lost.
 #![tactic(auto)]
 
-mod actions;
-mod boards;
+pub mod actions;
+pub mod boards;
 mod course;
-mod draws;
-#[cfg(test)]
-mod equal;
+pub mod draws;
 pub mod laws;
-mod lessons;
+pub mod lessons;
 mod openings;
 mod places;
-mod scenes;
-mod stretches;
+pub mod scenes;
+pub mod stretches;
 mod sweeps;
-#[cfg(test)]
-mod tests;
 
 pub use actions::Action;
 pub use course::Course;

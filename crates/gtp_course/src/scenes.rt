@@ -6,14 +6,14 @@ use go_base::Colour::{self, Black, White};
 use go_base::{Move, Point, Size, Vertex};
 
 /// The ways in which a scene is asked: the eight in which a board can be turned and mirrored, in both colours.
-pub(crate) const WAYS: u32 = 16;
+pub const WAYS: u32 = 16;
 
 /// The moves of a scene: the colour, the column and the row of each. The last is the act.
-pub(crate) type Scene = &'static [(Colour, u32, u32)];
+pub type Scene = &'static [(Colour, u32, u32)];
 
 /// Kos in the corner, whose stones are taken beside it and there, at the edge and in the middle. Then two stones that
 /// one takes, and one that a chain takes: the stone that took may be retaken at once.
-pub(crate) static KO: [Scene; 6] = [
+pub static KO: [Scene; 6] = [
     &[
         (Black, 1, 2),
         (White, 3, 1),
@@ -70,7 +70,7 @@ pub(crate) static KO: [Scene; 6] = [
 
 /// Captures: one stone in the corner, at the edge and in the middle; two, and three around a corner; two chains and
 /// three at once; and three stones by a stone that had no liberty before.
-pub(crate) static CAPTURES: [Scene; 8] = [
+pub static CAPTURES: [Scene; 8] = [
     &[(White, 1, 1), (Black, 1, 2), (White, 4, 5), (Black, 2, 1)],
     &[(White, 3, 1), (Black, 2, 1), (Black, 4, 1), (Black, 3, 2)],
     &[
@@ -130,7 +130,7 @@ pub(crate) static CAPTURES: [Scene; 8] = [
 ];
 
 /// Suicide of one stone in the corner, at the edge and in the middle; of two; and of three, by a stone that joins two.
-pub(crate) static SUICIDE: [Scene; 5] = [
+pub static SUICIDE: [Scene; 5] = [
     &[(White, 1, 2), (White, 2, 1), (Black, 1, 1)],
     &[(White, 2, 1), (White, 4, 1), (White, 3, 2), (Black, 3, 1)],
     &[
@@ -159,7 +159,7 @@ pub(crate) static SUICIDE: [Scene; 5] = [
 
 /// Joining: two chains and three, by a stone that has no empty neighbour; and captures of chains that were joined, of
 /// three stones and of a block of four.
-pub(crate) static JOINING: [Scene; 4] = [
+pub static JOINING: [Scene; 4] = [
     &[
         (Black, 1, 2),
         (White, 2, 2),
@@ -200,7 +200,7 @@ pub(crate) static JOINING: [Scene; 4] = [
 
 /// How a scene is turned: each of the eight symmetries of a board is some of the first three, one after the other.
 #[derive(Clone, Copy, Debug, PartialEq, Eq)]
-pub(crate) struct Way {
+pub struct Way {
     /// Left and right change places.
     pub sideways: bool,
     /// The upper and the lower edge change places.
@@ -268,7 +268,7 @@ fn mirrored(line: u32, size: Size, is_mirrored: bool) -> u32
 }
 
 /// The vertex where a column and a row cross; a pass where there is none.
-pub(crate) fn crossing(column: u32, row: u32) -> Vertex
+pub fn crossing(column: u32, row: u32) -> Vertex
     ensures { result ≡ crossing column row }
 {
     match Point::new(column, row) {

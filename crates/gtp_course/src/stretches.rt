@@ -28,7 +28,7 @@ const LINES: u32 = 6;
 
 /// Steps of one kind, one after the other.
 #[derive(Clone, Copy, Debug, PartialEq, Eq)]
-pub(crate) enum Stretch {
+pub enum Stretch {
     /// `boardsize`, with the part's size.
     Size,
     /// The part is left where the size was refused.

@@ -1,0 +1,21 @@
+//! Matches between two engines that speak the Go Text Protocol, version 2: their options, their turns and their lines.
+//!
+//! [`run::run`] plays them all. The program `twogtp` calls it with the arguments, the standard streams and the system's
+//! processes.
+#![tactic(auto)]
+
+mod closing;
+pub mod failure;
+mod game;
+mod game_text;
+pub mod laws;
+mod options;
+mod plan;
+mod processes;
+mod reports;
+pub mod run;
+mod sending;
+mod speaking;
+mod task;
+mod why;
+mod why_text;

@@ -1,5 +1,0 @@
-use Rattle.twogtp.proofs.matches.LossLines.{losses_have_lines}
-use Rattle.twogtp.proofs.laws.losses_have_lines.Goals as goal
-
-pub returns : goal.returns
-returns g c = losses_have_lines g.P.Process
