@@ -15,13 +15,12 @@ const GAMES: u32 = 200;
 /// The most legal moves of a colour: a play on each point of the largest board, and a pass.
 const LEGAL: usize = 82;
 
-/// Compares two games by their moves, captures and scores, and point by point.
+/// Compares two games by their moves and captures, and point by point.
 pub fn assert_same(rt: &impl Abort, game: &Game, plain: &PlainGame) {
     assert_equal(rt, game.moves(), plain.moves());
     for colour in [Colour::Black, Colour::White] {
         assert_equal(rt, game.captured(colour), plain.captured(colour));
     }
-    assert_equal(rt, game.score(), plain.score());
     let lines = game.size().get();
     for row in 1..=lines {
         for column in 1..=lines {

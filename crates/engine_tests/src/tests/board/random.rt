@@ -44,6 +44,12 @@ impl Draws {
     }
 }
 
+/// Compares two games as those of legal moves are, and by their scores.
+fn assert_alike(rt: &impl Abort, game: &Game, plain: &PlainGame) {
+    assert_same(rt, game, plain);
+    assert_equal(rt, game.score(), plain.score());
+}
+
 /// Compares what is legal next, on each point of the board and one line further.
 fn assert_same_legal(rt: &impl Abort, game: &Game, plain: &PlainGame) {
     let lines = game.size().get();
@@ -90,14 +96,14 @@ fn step(
     let wanted = plain.play(made.colour, made.vertex);
     assert_equal(rt, legal, wanted.is_ok());
     assert_equal(rt, game.play(made.colour, made.vertex), wanted);
-    assert_same(rt, game, plain);
+    assert_alike(rt, game, plain);
     wanted
 }
 
 /// Takes one move back.
 fn back(rt: &impl Abort, game: &mut Game, plain: &mut PlainGame) {
     assert_equal(rt, game.undo(), plain.undo());
-    assert_same(rt, game, plain);
+    assert_alike(rt, game, plain);
 }
 
 /// Both games, fresh. On seven lines they begin with two handicap stones.
