@@ -1,21 +1,12 @@
 //! An engine that speaks the Go Text Protocol, version 2, on its standard input and output.
 #![tactic(auto)]
 
-#[cfg(test)]
-mod equal;
-mod failure;
-mod options;
-mod plain;
-pub mod run;
-#[cfg(test)]
-mod tests;
-
-use failure::{Failure, report};
 use gtp_session::streams::Counted;
 use programs::standard::hold_closed;
 use programs::words::arguments;
-use run::run;
 use std::process::ExitCode;
+use stepgo::failure::{Failure, report};
+use stepgo::run::run;
 
 /// Holds the standard streams that are closed, runs the engine, and ends with its status.
 fn main(rt: HostRuntime) -> ExitCode {

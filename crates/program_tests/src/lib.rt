@@ -1,5 +1,5 @@
-//! The tests of `gtp_controller`, `gtp_course` and `gtp_checker`. A crate with tests is proved twice, so they have a crate
-//! of their own.
+//! The tests of `stepgo`, `gtp_controller`, `gtp_course` and `gtp_checker`. A crate with tests is proved twice, so they
+//! have a crate of their own.
 #![tactic(auto)]
 
 #[cfg(test)]

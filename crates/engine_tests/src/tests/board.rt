@@ -1,4 +1,4 @@
-//! The game: examples worked out by hand, and games of random moves beside those of a plain and of a slow game.
+//! The game: examples worked out by hand, and games of random moves beside those of a plain game.
 mod chains;
 mod copies;
 mod hashed;
@@ -13,7 +13,6 @@ mod random;
 mod refusals;
 mod setup;
 mod show;
-mod slow;
 
 use crate::equal::{assert_equal, assert_equal_for, assert_true, some};
 use go_base::{Colour, Komi, Move, Point, Size, Vertex};

@@ -16,7 +16,7 @@ const GAMES: u32 = 200;
 const LEGAL: usize = 82;
 
 /// Compares two games by their moves and captures, and point by point.
-fn assert_same(rt: &impl Abort, game: &Game, plain: &PlainGame) {
+pub fn assert_same(rt: &impl Abort, game: &Game, plain: &PlainGame) {
     assert_equal(rt, game.moves(), plain.moves());
     for colour in [Colour::Black, Colour::White] {
         assert_equal(rt, game.captured(colour), plain.captured(colour));

@@ -164,12 +164,25 @@ impl PlainBoard {
                 .touching(Cell::stone(colour), Cell::Empty)
                 .contains(place)
     }
+
+    /// How many points count for a colour: its stones, and the empty points from which one reaches its stones alone.
+    fn area(&self, colour: Colour) -> i32 {
+        let own = self.touching(Cell::Empty, Cell::stone(colour));
+        let others = self.touching(Cell::Empty, Cell::stone(colour.other()));
+        let mut area: i32 = 0;
+        for place in 0..self.end {
+            let is_stone = self.at(place) == Cell::stone(colour);
+            if is_stone || (own.contains(place) && !others.contains(place)) {
+                area = area.saturating_add(1);
+            }
+        }
+        area
+    }
 }
 
-/// A game from an empty board.
+/// A game from an empty board, or one with stones that are no moves.
 #[derive(Drop)]
 pub struct PlainGame {
-    lines: u32,
     rule: KoRule,
     moves: ArrayVec<Move, MOVES>,
     board: PlainBoard,
@@ -181,9 +194,12 @@ pub struct PlainGame {
 
 impl PlainGame {
     pub fn new(lines: u32, rule: KoRule) -> PlainGame {
-        let board = PlainBoard::empty(lines);
+        PlainGame::begun_on(PlainBoard::empty(lines), rule)
+    }
+
+    /// A game that begins on this board.
+    fn begun_on(board: PlainBoard, rule: KoRule) -> PlainGame {
         PlainGame {
-            lines,
             rule,
             moves: ArrayVec::new(),
             board,
@@ -191,6 +207,12 @@ impl PlainGame {
             taken_by_black: 0,
             taken_by_white: 0,
         }
+    }
+
+    /// Puts a stone down that is no move, before the first move.
+    pub fn begin_with(&mut self, colour: Colour, point: Point) {
+        self.board.set(place_of(point), Cell::stone(colour));
+        self.boards[0] = self.board;
     }
 
     pub fn moves(&self) -> &[Move] {
@@ -210,6 +232,15 @@ impl PlainGame {
             Colour::Black => self.taken_by_black,
             Colour::White => self.taken_by_white,
         }
+    }
+
+    /// The score in half points, without komi.
+    pub fn score(&self) -> i32 {
+        let lead = self
+            .board
+            .area(Colour::Black)
+            .saturating_sub(self.board.area(Colour::White));
+        lead.saturating_mul(2)
     }
 
     /// Whether the ko rule forbids to bring a board back: that before the last move, or any.
@@ -276,7 +307,7 @@ impl PlainGame {
         let Some(last) = self.moves.last().copied() else {
             return Err(NothingToUndo);
         };
-        let mut game = PlainGame::new(self.lines, self.rule);
+        let mut game = PlainGame::begun_on(self.boards[0], self.rule);
         for made in self.moves.iter().take(self.moves.len().saturating_sub(1)) {
             let _ = game.play(made.colour, made.vertex);
         }

@@ -1,9 +1,10 @@
-//! Games of random moves, legal ones and others, beside the same games of a slow game.
-use super::slow::SlowGame;
+//! Games of random moves, legal ones and others, beside the same games of a plain game.
+use super::legal::assert_same;
+use super::plain::PlainGame;
 use super::{at, new_game};
 use crate::equal::{assert_equal, assert_equal_for, assert_true};
 use go_base::{Colour, Move, Vertex};
-use go_board::{Game, NothingToUndo, PlayFault};
+use go_board::{Game, KoRule, PlayFault};
 use std::process::Abort;
 use std::test::Fail;
 
@@ -43,24 +44,14 @@ impl Draws {
     }
 }
 
-/// Compares two games by their moves, captures and scores, and point by point.
-fn assert_same(rt: &impl Abort, game: &Game, slow: &SlowGame) {
-    assert_equal(rt, game.moves(), slow.moves());
-    for colour in [Colour::Black, Colour::White] {
-        assert_equal(rt, game.captured(colour), slow.captured(colour));
-    }
-    assert_equal(rt, game.score(), slow.score());
-    let lines = game.size().get();
-    for row in 1..=lines {
-        for column in 1..=lines {
-            let point = at(rt, column, row);
-            assert_equal_for(rt, (column, row), game.at(point), slow.at(point));
-        }
-    }
+/// Compares two games as those of legal moves are, and by their scores.
+fn assert_alike(rt: &impl Abort, game: &Game, plain: &PlainGame) {
+    assert_same(rt, game, plain);
+    assert_equal(rt, game.score(), plain.score());
 }
 
 /// Compares what is legal next, on each point of the board and one line further.
-fn assert_same_legal(rt: &impl Abort, game: &Game, slow: &SlowGame) {
+fn assert_same_legal(rt: &impl Abort, game: &Game, plain: &PlainGame) {
     let lines = game.size().get();
     for row in 1..=lines.saturating_add(1) {
         for column in 1..=lines.saturating_add(1) {
@@ -69,7 +60,7 @@ fn assert_same_legal(rt: &impl Abort, game: &Game, slow: &SlowGame) {
                     colour,
                     vertex: Vertex::At(at(rt, column, row)),
                 };
-                let wanted = slow.legal(made.colour, made.vertex);
+                let wanted = plain.legal(made.colour, made.vertex);
                 let legal = game.legal(made.colour, made.vertex);
                 assert_equal_for(rt, (column, row), legal, wanted);
             }
@@ -78,12 +69,12 @@ fn assert_same_legal(rt: &impl Abort, game: &Game, slow: &SlowGame) {
 }
 
 /// A colour and a vertex to try: at times the point of a stone that the previous move took, where a ko would be.
-fn draw(rt: &impl Abort, draws: &mut Draws, game: &Game, slow: &SlowGame) -> Move {
-    if let (Some(point), Some(last)) = (slow.just_taken(), game.moves().last()) {
+fn draw(rt: &impl Abort, draws: &mut Draws, game: &Game) -> Move {
+    if let (Some(point), Some(last)) = (game.taken_by_last_move().first(), game.moves().last()) {
         if draws.below(2) == 0 {
             return Move {
                 colour: last.colour.other(),
-                vertex: Vertex::At(point),
+                vertex: Vertex::At(*point),
             };
         }
     }
@@ -98,52 +89,52 @@ fn step(
     rt: &impl Abort,
     draws: &mut Draws,
     game: &mut Game,
-    slow: &mut SlowGame,
+    plain: &mut PlainGame,
 ) -> Result<(), PlayFault> {
-    let made = draw(rt, draws, game, slow);
+    let made = draw(rt, draws, game);
     let legal = game.legal(made.colour, made.vertex);
-    let wanted = slow.play(made.colour, made.vertex);
+    let wanted = plain.play(made.colour, made.vertex);
     assert_equal(rt, legal, wanted.is_ok());
     assert_equal(rt, game.play(made.colour, made.vertex), wanted);
-    assert_same(rt, game, slow);
+    assert_alike(rt, game, plain);
     wanted
 }
 
 /// Takes one move back.
-fn back(rt: &impl Abort, game: &mut Game, slow: &mut SlowGame) {
-    assert_equal(rt, game.undo(), slow.undo().ok_or(NothingToUndo));
-    assert_same(rt, game, slow);
+fn back(rt: &impl Abort, game: &mut Game, plain: &mut PlainGame) {
+    assert_equal(rt, game.undo(), plain.undo());
+    assert_alike(rt, game, plain);
 }
 
 /// Both games, fresh. On seven lines they begin with two handicap stones.
-fn fresh(rt: &impl Abort, lines: u32) -> Result<(Game, SlowGame), Fail> {
+fn fresh(rt: &impl Abort, lines: u32) -> Result<(Game, PlainGame), Fail> {
     let mut game = new_game(rt, lines);
-    let mut slow = SlowGame::new(lines);
+    let mut plain = PlainGame::new(lines, KoRule::Simple);
     if lines == 7 {
         game.place_handicap(2)?;
-        slow.put(Colour::Black, at(rt, 3, 3));
-        slow.put(Colour::Black, at(rt, 5, 5));
+        plain.begin_with(Colour::Black, at(rt, 3, 3));
+        plain.begin_with(Colour::Black, at(rt, 5, 5));
     }
-    Ok((game, slow))
+    Ok((game, plain))
 }
 
 #[test]
-fn random_games_go_as_slow_ones(rt: HostRuntime) -> Result<(), Fail> {
+fn random_games_go_as_plain_ones(rt: HostRuntime) -> Result<(), Fail> {
     let mut draws = Draws { state: 7 };
     let (mut suicides, mut kos) = (0_u32, 0_u32);
     for number in 0..20 {
-        let (mut game, mut slow) = fresh(&rt, number % 7 + 1)?;
+        let (mut game, mut plain) = fresh(&rt, number % 7 + 1)?;
         for _ in 0..80 {
-            match step(&rt, &mut draws, &mut game, &mut slow) {
+            match step(&rt, &mut draws, &mut game, &mut plain) {
                 Err(PlayFault::Suicide) => suicides = suicides.saturating_add(1),
                 Err(PlayFault::Ko) => kos = kos.saturating_add(1),
                 _ => {}
             }
             if draws.below(10) == 0 {
-                back(&rt, &mut game, &mut slow);
+                back(&rt, &mut game, &mut plain);
             }
         }
-        assert_same_legal(&rt, &game, &slow);
+        assert_same_legal(&rt, &game, &plain);
     }
     assert_true(&rt, suicides > 0);
     assert_true(&rt, kos > 0);
