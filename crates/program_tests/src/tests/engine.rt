@@ -1,12 +1,12 @@
 //! Runs of the program over memory.
 use crate::equal::assert_equal_for;
-use stepgo::run::run;
 use gtp_session::streams::Counted;
 use std::alloc::Global;
 use std::io;
 use std::io::{ErrorKind, Read, Write};
 use std::process::Abort;
 use std::test::Fail;
+use stepgo::run::run;
 
 mod failures;
 mod faults;

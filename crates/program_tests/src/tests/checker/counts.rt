@@ -1,6 +1,6 @@
 //! What was found and noted.
-use gtp_checker::engine::Fault;
 use crate::equal::assert_equal;
+use gtp_checker::engine::Fault;
 use gtp_checker::notes::Notes;
 use gtp_checker::tally::Tally;
 use gtp_course::Lesson;

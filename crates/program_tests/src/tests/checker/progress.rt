@@ -1,10 +1,10 @@
 //! What is written of the progress, as it is written by hand.
 use crate::equal::assert_equal;
+use crate::tests::checker::shorter::size_of;
 use gtp_checker::options::read_options;
 use gtp_checker::plan::plan_of;
 use gtp_checker::progress::{in_place, line_at, waiting_text};
 use gtp_checker::talk::{Purpose, Said};
-use crate::tests::checker::shorter::size_of;
 use gtp_course::Lesson;
 use gtp_examiner::CheckCommand;
 use std::str;

@@ -1,9 +1,9 @@
 //! What is shown as right, where that is a score or the points of a handicap.
+use crate::equal::assert_equal;
+use crate::tests::checker::shorter::{komi, size, size_of};
 use gtp_checker::complaint::{Complaint, complaint_text};
 use gtp_checker::engine::Fault;
-use crate::equal::assert_equal;
 use gtp_checker::talk::{Purpose, Said};
-use crate::tests::checker::shorter::{komi, size, size_of};
 use gtp_course::Lesson;
 use gtp_examiner::{CheckCommand, Kind};
 use gtp_process::Ending;

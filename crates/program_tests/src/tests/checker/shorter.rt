@@ -1,9 +1,9 @@
 //! Shorter conversations, and the hint of positional ko.
 use crate::equal::assert_equal;
+use go_base::{Colour, Komi, Move, Size, Vertex};
 use gtp_checker::flat::{Commands, games_in, last_games, shortened, shortenings};
 use gtp_checker::superko::is_positional;
 use gtp_checker::talk::{Purpose, Said};
-use go_base::{Colour, Komi, Move, Size, Vertex};
 use gtp_course::Lesson;
 use gtp_examiner::{CheckCommand, Known};
 use gtp_wire::Command;

@@ -1,14 +1,14 @@
 //! The texts of complaints, and the first and the last lines.
+use crate::equal::assert_equal;
+use crate::tests::checker::shorter::size_of;
+use go_board::PlayFault;
 use gtp_checker::complaint::{Complaint, complaint_text};
 use gtp_checker::engine::Fault;
-use crate::equal::assert_equal;
 use gtp_checker::notes::Notes;
 use gtp_checker::options::read_options;
 use gtp_checker::plan::plan_of;
 use gtp_checker::summary::{Ending, Over, first_line, last_lines};
 use gtp_checker::talk::{Purpose, Said};
-use crate::tests::checker::shorter::size_of;
-use go_board::PlayFault;
 use gtp_course::{LESSONS, Lesson};
 use gtp_examiner::{Cause, CheckCommand, Kind};
 use gtp_process::PipeCause;

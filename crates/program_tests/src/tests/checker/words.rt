@@ -1,10 +1,10 @@
 //! The words of the command line, and the plan.
 use crate::equal::assert_equal;
+use go_base::Size;
+use go_board::KoRule;
 use gtp_checker::listing::list_text;
 use gtp_checker::options::read_options;
 use gtp_checker::plan::plan_of;
-use go_base::Size;
-use go_board::KoRule;
 use gtp_course::Lesson;
 use std::test::Fail;
 

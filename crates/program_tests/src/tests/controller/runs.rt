@@ -1,8 +1,8 @@
 //! Runs of the program, with engines in memory.
 use super::fakes::{InMemory, Log, Narrow, new_log};
 use crate::equal::{assert_equal_for, assert_true_for};
-use gtp_controller::run::run;
 use byte_streams::WriteOnce;
+use gtp_controller::run::run;
 use std::alloc::Global;
 use std::process::Abort;
 use std::str;

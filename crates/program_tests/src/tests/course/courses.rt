@@ -1,8 +1,8 @@
 //! Whole courses.
 use crate::equal::{assert_equal, assert_true};
-use gtp_course::{Action, Course, LESSONS, Lesson, Lessons};
 use arrayvec::ArrayVec;
 use go_board::KoRule;
+use gtp_course::{Action, Course, LESSONS, Lesson, Lessons};
 use gtp_examiner::{CheckCommand, Examiner, Known};
 use gtp_session::first::First;
 use gtp_session::session::Session;

@@ -1,13 +1,13 @@
 //! Boards that are filled, however they are turned, on sizes 3, 5, 6 and 19.
+use crate::equal::{assert_equal, assert_true};
+use go_base::{Colour, Size};
+use go_board::Game;
 use gtp_course::actions::Question;
 use gtp_course::boards::{Board, board_of};
 use gtp_course::draws::Draws;
-use crate::equal::{assert_equal, assert_true};
 use gtp_course::lessons::Lesson;
 use gtp_course::scenes::{WAYS, Way, crossing};
 use gtp_course::stretches::Stretch;
-use go_base::{Colour, Size};
-use go_board::Game;
 use gtp_examiner::CheckCommand;
 use gtp_wire::Command;
 use std::process::Abort;

@@ -1,9 +1,9 @@
 //! Scenes are what they are said to be, however they are turned, on sizes 5, 6 and 19.
 use crate::equal::{assert_equal, assert_true};
-use gtp_course::scenes::{CAPTURES, JOINING, KO, SUICIDE, Scene, WAYS, Way};
 use go_base::Colour::{Black, White};
 use go_base::{Komi, Size};
 use go_board::Game;
+use gtp_course::scenes::{CAPTURES, JOINING, KO, SUICIDE, Scene, WAYS, Way};
 use std::process::Abort;
 
 /// A size of a board.

@@ -1,12 +1,12 @@
 //! Streams that fail, and how failures are reported.
 use super::{Broken, Holding};
 use crate::equal::{assert_equal, assert_equal_for};
-use stepgo::failure::{Failure, report};
-use stepgo::run::run;
 use gtp_session::serve::ServeFault;
 use gtp_session::streams::Counted;
 use std::io::ErrorKind;
 use std::test::Fail;
+use stepgo::failure::{Failure, report};
+use stepgo::run::run;
 
 #[test]
 fn a_read_that_fails_is_status_3(rt: HostRuntime) -> Result<(), Fail> {

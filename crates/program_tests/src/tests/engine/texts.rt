@@ -1,9 +1,9 @@
 //! The help and the version.
 use super::Holding;
 use crate::equal::assert_equal_for;
-use stepgo::run::run;
 use gtp_session::streams::Counted;
 use std::test::Fail;
+use stepgo::run::run;
 
 /// The lines of the help.
 static HELP: [&str; 39] = [
