@@ -1,0 +1,20 @@
+-- What is put into memory.
+use Rattle.std.specs.Prelude.{pos, []}
+use Rattle.go_board.specs.Game.{GameRecord}
+use Rattle.go_board.specs.declared.rules.KoRule.TheVariants.{Simple}
+use Rattle.gtp_match.specs.Controller as controller
+use Rattle.gtp_match.specs.Setup.{setup_of}
+use Rattle.gtp_match.specs.declared.controller.Controller.{Controller}
+use Rattle.gtp_session.specs.Steps.{StepsState, fresh_steps}
+
+-- size 19, no komi, simple ko
+abbrev pub fresh_game : GameRecord
+fresh_game = record { size = 19; komi = pos 0; rule = Simple; handicap = 0; moves = [] }
+
+-- simple ko, and given nothing
+abbrev pub fresh_engine : StepsState
+fresh_engine = fresh_steps Simple
+
+-- size 19, no komi, no handicap, 2,000 moves at most, no restart
+abbrev pub fresh_match : Controller
+fresh_match = controller.new (setup_of 19 (pos 0) 0 2000 0)

@@ -1,0 +1,4 @@
+pub mod EngineLends
+pub mod Fresh
+pub mod GameLends
+pub mod MatchLends

@@ -1,0 +1,223 @@
+//! The calls of an engine in steps.
+ghost use Rattle.std.specs.Prelude.{◌≡◌, ◌≢◌, ◌≤◌, ◌↔◌, ℤ, [], Some, None, length, false, Result, OnOk, OnErr, IfErr, IsTrue};
+ghost use Rattle.vintsaky_calls.specs.Codes.{result_code};
+ghost use Rattle.vintsaky_calls.specs.declared.causes.Cause.{Cause};
+ghost use Rattle.gtp_session.specs.Steps.{AnswersOther, declined_text, SetsName, SetsVersion, AddsCommand, IsTitle};
+ghost use Rattle.gtp_session.specs.declared.events.Event.{Event};
+ghost use Rattle.vintsaky_calls.specs.declared.causes.Cause.TheVariants as cause;
+ghost use Rattle.vintsaky_calls.specs.Codes.{NoRule, choice_cause, answer_cause, command_cause};
+ghost use Rattle.vintsaky_calls.specs.Engines.{BeginsEngine, Feeds, event_code, wait_code, ChoosesBy, RefusesNumber};
+ghost use Rattle.vintsaky_calls.specs.Engines.{is_success, RefusesText, RefusesCommand, PutsWord, LacksWord, HasId, LacksId};
+ghost use Rattle.vintsaky_calls.specs.Engines.{IsChoiceOf, NoChoice, choice_code};
+ghost use Rattle.vintsaky_calls.specs.Texts.{Puts};
+
+use crate::engine::handle::EngineHandle;
+use crate::game::handle::GameHandle;
+use gtp_session::steps::Steps;
+use std::mem::{align_of, size_of};
+use vintsaky_calls::{code_of, engines};
+
+/// How many bytes an engine takes.
+#[unsafe(no_mangle)]
+pub extern "C" fn vintsaky_engine_bytes() -> usize {
+    size_of::<Steps>()
+}
+
+/// Of what number the address of an engine is a multiple.
+#[unsafe(no_mangle)]
+pub extern "C" fn vintsaky_engine_align() -> usize {
+    align_of::<Steps>()
+}
+
+/// Whether the session has ended, by a `quit`.
+#[unsafe(no_mangle)]
+pub extern "C" fn vintsaky_engine_ended(engine: &mut EngineHandle) -> bool
+    ensures ended { result ≡ engine.old.value.ended }
+    ensures object { engine.new.value ≡ engine.old.value }
+{
+    engine.lend().ended()
+}
+
+/// Begins the engine anew, under a ko rule.
+///
+/// # Errors
+///
+/// `BadRule`. The engine stays as it was.
+#[unsafe(no_mangle)]
+pub extern "C" fn vintsaky_engine_begin(engine: &mut EngineHandle, rule: u32) -> u32
+    ensures call { (made : Result (Unit {0}) Cause) × (result ≡ result_code made)
+        × OnOk made (BeginsEngine rule engine.new.value)
+        × OnErr made (engine.new.value ≡ engine.old.value)
+        × IfErr made (λ why. (why ≡ cause.BadRule) × NoRule rule) }
+{
+    code_of(engines::begin(engine.lend(), rule))
+}
+
+/// Takes the next piece. How many bytes of it were used is written. Returns the number of what came of them.
+#[unsafe(no_mangle)]
+pub extern "C" fn vintsaky_engine_feed(
+    engine: &mut EngineHandle,
+    bytes: &[u8],
+    used: &mut usize,
+) -> u32
+    ensures call { (came : Event) × (result ≡ event_code came) × Feeds engine.old.value bytes.now used.new came engine.new.value }
+{
+    engines::feed(engine.lend(), bytes, used)
+}
+
+/// The number of what is waited for.
+#[unsafe(no_mangle)]
+pub extern "C" fn vintsaky_engine_wait(engine: &mut EngineHandle) -> u32
+    ensures call { result ≡ wait_code engine.old.value.wait }
+    ensures object { engine.new.value ≡ engine.old.value }
+{
+    engines::wait(engine.lend())
+}
+
+/// Makes the choice that is asked for.
+///
+/// # Errors
+///
+/// `BadVertex`, `NotAsked`, or else why the move is refused: `Full`, `OffBoard`, `Occupied`, `Suicide` or `Ko`. The
+/// engine stays as it was, and a choice that was asked for is still asked for.
+#[unsafe(no_mangle)]
+pub extern "C" fn vintsaky_engine_choose(engine: &mut EngineHandle, vertex: u32) -> u32
+    ensures call { (made : Result (Unit {0}) Cause) × (result ≡ result_code made)
+        × OnOk made (ChoosesBy engine.old.value vertex engine.new.value)
+        × OnErr made (engine.new.value ≡ engine.old.value)
+        × IfErr made (RefusesNumber engine.old.value vertex) }
+{
+    code_of(engines::choose(engine.lend(), vertex))
+}
+
+/// Answers the line of another command: by a success, where `ok` isn't 0, or else by a failure.
+///
+/// # Errors
+///
+/// `NotAsked`, or else `BadText` where no reply may have the text. The engine stays as it was.
+#[unsafe(no_mangle)]
+pub extern "C" fn vintsaky_engine_answer(engine: &mut EngineHandle, ok: u32, text: &[u8]) -> u32
+    ensures call { (made : Result (Unit {0}) Cause) × (result ≡ result_code made)
+        × OnOk made (AnswersOther engine.old.value (is_success ok) text.now engine.new.value)
+        × OnErr made (engine.new.value ≡ engine.old.value)
+        × IfErr made (RefusesText engine.old.value text.now) }
+{
+    code_of(engines::answer(engine.lend(), ok, text))
+}
+
+/// Answers the line of another command as the protocol's table does: `unknown command`.
+///
+/// # Errors
+///
+/// `NotAsked`. The engine stays as it was.
+#[unsafe(no_mangle)]
+pub extern "C" fn vintsaky_engine_decline(engine: &mut EngineHandle) -> u32
+    ensures call { (made : Result (Unit {0}) Cause) × (result ≡ result_code made)
+        × OnOk made (AnswersOther engine.old.value false declined_text engine.new.value)
+        × OnErr made (engine.new.value ≡ engine.old.value)
+        × IfErr made (RefusesText engine.old.value declined_text) }
+{
+    code_of(engines::decline(engine.lend()))
+}
+
+/// Answers `name` by this text from now on.
+///
+/// # Errors
+///
+/// `BadText` where it has more than 200 bytes, or no reply may have it. The engine stays as it was.
+#[unsafe(no_mangle)]
+pub extern "C" fn vintsaky_engine_set_name(engine: &mut EngineHandle, text: &[u8]) -> u32
+    ensures call { (made : Result (Unit {0}) Cause) × (result ≡ result_code made)
+        × OnOk made (SetsName engine.old.value text.now engine.new.value)
+        × OnErr made (engine.new.value ≡ engine.old.value)
+        × IfErr made (λ why. (why ≡ cause.BadText) × ¬ IsTitle text.now) }
+{
+    code_of(engines::set_name(engine.lend(), text))
+}
+
+/// Answers `version` by this text from now on.
+///
+/// # Errors
+///
+/// As those of `set_name`.
+#[unsafe(no_mangle)]
+pub extern "C" fn vintsaky_engine_set_version(engine: &mut EngineHandle, text: &[u8]) -> u32
+    ensures call { (made : Result (Unit {0}) Cause) × (result ≡ result_code made)
+        × OnOk made (SetsVersion engine.old.value text.now engine.new.value)
+        × OnErr made (engine.new.value ≡ engine.old.value)
+        × IfErr made (λ why. (why ≡ cause.BadText) × ¬ IsTitle text.now) }
+{
+    code_of(engines::set_version(engine.lend(), text))
+}
+
+/// Adds a command of the author's own.
+///
+/// # Errors
+///
+/// `BadLength`, `BadByte`, `OnlyDigits`, `InTable`, `AddedBefore` or `TooMany`, the first of these that holds. The
+/// engine stays as it was.
+#[unsafe(no_mangle)]
+pub extern "C" fn vintsaky_engine_add_command(engine: &mut EngineHandle, name: &[u8]) -> u32
+    ensures call { (made : Result (Unit {0}) Cause) × (result ≡ result_code made)
+        × OnOk made (AddsCommand engine.old.value name.now engine.new.value)
+        × OnErr made (engine.new.value ≡ engine.old.value)
+        × IfErr made (RefusesCommand engine.old.value.commands name.now) }
+{
+    code_of(engines::add_command(engine.lend(), name))
+}
+
+/// Copies the engine's game.
+#[unsafe(no_mangle)]
+pub extern "C" fn vintsaky_engine_copy_game(engine: &mut EngineHandle, game: &mut GameHandle)
+    ensures call { game.new.value ≡ engine.old.value.game }
+    ensures object { engine.new.value ≡ engine.old.value }
+{
+    engines::copy_game(engine.lend(), game.lend())
+}
+
+/// Writes the last reply. How many bytes it has: none before the first.
+#[unsafe(no_mangle)]
+pub extern "C" fn vintsaky_engine_reply(engine: &mut EngineHandle, text: &mut [u8]) -> usize
+    ensures length { result ≡ length engine.old.value.reply }
+    ensures put { Puts engine.old.value.reply text.old text.new }
+    ensures object { engine.new.value ≡ engine.old.value }
+{
+    engines::reply(engine.lend(), text)
+}
+
+/// Writes a word of the line that is waited for, counted from 0 after the id, and its length.
+///
+/// # Errors
+///
+/// `NotAsked` where no line is waited for, or else `NoWord`. Nothing is written.
+#[unsafe(no_mangle)]
+pub extern "C" fn vintsaky_engine_word(
+    engine: &mut EngineHandle,
+    number: usize,
+    text: &mut [u8],
+    count: &mut usize,
+) -> u32
+    ensures call { (made : Result (Unit {0}) Cause) × (result ≡ result_code made)
+        × OnOk made (PutsWord engine.old.value number text.old text.new count.new)
+        × OnErr made ((text.new ≡ text.old) × (count.new ≡ count.old))
+        × IfErr made (LacksWord engine.old.value number) }
+    ensures object { engine.new.value ≡ engine.old.value }
+{
+    code_of(engines::word(engine.lend(), number, text, count))
+}
+
+/// The id of the line that is waited for.
+///
+/// # Errors
+///
+/// `NotAsked` where no line is waited for, or else `NoId`. Nothing is written.
+#[unsafe(no_mangle)]
+pub extern "C" fn vintsaky_engine_id(engine: &mut EngineHandle, id: &mut u32) -> u32
+    ensures call { (made : Result (Unit {0}) Cause) × (result ≡ result_code made)
+        × OnOk made (HasId engine.old.value id.new)
+        × OnErr made (id.new ≡ id.old)
+        × IfErr made (LacksId engine.old.value) }
+    ensures object { engine.new.value ≡ engine.old.value }
+{
+    code_of(engines::id(engine.lend(), id))
+}

@@ -1,0 +1,36 @@
+//! Engines that are put into memory.
+ghost use Rattle.std.specs.Prelude.{◌≡◌};
+ghost use Rattle.std.specs.Borrow.{full_share, sem};
+ghost use Rattle.std.specs.Ptr.{lies_at, room_at};
+ghost use base.Fml.{fsep};
+ghost use Rattle.gtp_session.specs.contracts.steps.Steps.{the_row as engine_row};
+ghost use Rattle.vintsaky.specs.contracts.engine.handle.EngineHandle.{the_row};
+ghost use Rattle.vintsaky.specs.Fresh.{fresh_engine};
+
+use crate::engine::handle::EngineHandle;
+use go_board::KoRule;
+use gtp_session::steps::Steps;
+
+/// An engine under simple ko that was given nothing.
+pub(crate) fn fresh_engine() -> Steps
+    ensures { result ≡ fresh_engine }
+{
+    Steps::new(KoRule::Simple)
+}
+
+/// Puts an engine in steps into the memory, and its handle. It has simple ko, and was given nothing.
+///
+/// # Safety
+///
+/// The memory has as many bytes and the alignment that the calls for these return. It is the object's alone, and stays
+/// where it is, as long as the handle is used. So does the handle.
+#[unsafe(no_mangle)]
+pub unsafe extern "C" fn vintsaky_engine_place(out: *mut EngineHandle, at: *mut u8)
+    requires* { sem 𝓛 (fsep (room_at the_row out) (room_at engine_row at)) }
+    ensures* { sem 𝓛
+        (lies_at the_row full_share out (record { at = at; value = fresh_engine })) }
+{
+    let fresh = fresh_engine();
+    (at as *mut Steps).write(fresh);
+    out.write(EngineHandle { at });
+}

@@ -1,0 +1,39 @@
+//! Games that are put into memory.
+ghost use Rattle.std.specs.Prelude.{◌≡◌};
+ghost use Rattle.std.specs.Borrow.{full_share, sem};
+ghost use Rattle.std.specs.Ptr.{lies_at, room_at};
+ghost use base.Fml.{fsep};
+ghost use Rattle.go_board.specs.contracts.game.Game.{the_row as game_row};
+ghost use Rattle.vintsaky.specs.contracts.game.handle.GameHandle.{the_row};
+ghost use Rattle.vintsaky.specs.Fresh.{fresh_game};
+
+use crate::game::handle::GameHandle;
+use go_base::{Komi, Size};
+use go_board::{Game, KoRule};
+
+/// A game of size 19 without komi, under simple ko.
+pub(crate) fn fresh_game() -> Game
+    ensures { result ≡ fresh_game }
+{
+    match (Size::new(19), Komi::from_half_points(0)) {
+        (Some(size), Some(komi)) => Game::with_rule(size, komi, KoRule::Simple),
+        _ => unreachable!(),
+    }
+}
+
+/// Puts a game into the memory, and its handle. It has size 19, no komi and simple ko.
+///
+/// # Safety
+///
+/// The memory has as many bytes and the alignment that the calls for these return. It is the object's alone, and stays
+/// where it is, as long as the handle is used. So does the handle.
+#[unsafe(no_mangle)]
+pub unsafe extern "C" fn vintsaky_game_place(out: *mut GameHandle, at: *mut u8)
+    requires* { sem 𝓛 (fsep (room_at the_row out) (room_at game_row at)) }
+    ensures* { sem 𝓛
+        (lies_at the_row full_share out (record { at = at; value = fresh_game })) }
+{
+    let fresh = fresh_game();
+    (at as *mut Game).write(fresh);
+    out.write(GameHandle { at });
+}

@@ -1,0 +1,10 @@
+//! The library for other languages: each call of `vintsaky_calls` by its C name, over a handle of what it works on.
+//!
+//! A handle is made in memory that the caller gives. No call takes memory, blocks, or reads or writes anything but its
+//! object and the caller's buffers.
+#![tactic(auto)]
+
+pub mod engine;
+pub mod game;
+pub mod referee;
+pub mod values;

@@ -1,0 +1,6 @@
+//! The referee of a match, for callers in other languages.
+
+pub mod exports;
+pub mod handle;
+pub mod lend;
+pub mod place;

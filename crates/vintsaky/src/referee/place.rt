@@ -1,0 +1,42 @@
+//! Matches that are put into memory.
+ghost use Rattle.std.specs.Prelude.{◌≡◌};
+ghost use Rattle.std.specs.Borrow.{full_share, sem};
+ghost use Rattle.std.specs.Ptr.{lies_at, room_at};
+ghost use base.Fml.{fsep};
+ghost use Rattle.gtp_match.specs.contracts.matches.Match.{the_row as match_row};
+ghost use Rattle.vintsaky.specs.contracts.referee.handle.MatchHandle.{the_row};
+ghost use Rattle.vintsaky.specs.Fresh.{fresh_match};
+
+use crate::referee::handle::MatchHandle;
+use go_base::{Komi, Size};
+use gtp_match::{Match, Setup};
+
+/// A match of size 19 without komi, handicap and restarts.
+pub(crate) fn fresh_match() -> Match
+    ensures { result ≡ fresh_match }
+{
+    let (Some(size), Some(komi)) = (Size::new(19), Komi::from_half_points(0)) else {
+        unreachable!()
+    };
+    match Setup::new(size, komi, 0, 2000, 0) {
+        Ok(setup) => Match::new(setup),
+        Err(_) => unreachable!(),
+    }
+}
+
+/// Puts a match into the memory, and its handle. It has size 19, no komi, no handicap, 2,000 moves at most, and no restart.
+///
+/// # Safety
+///
+/// The memory has as many bytes and the alignment that the calls for these return. It is the object's alone, and stays
+/// where it is, as long as the handle is used. So does the handle.
+#[unsafe(no_mangle)]
+pub unsafe extern "C" fn vintsaky_match_place(out: *mut MatchHandle, at: *mut u8)
+    requires* { sem 𝓛 (fsep (room_at the_row out) (room_at match_row at)) }
+    ensures* { sem 𝓛
+        (lies_at the_row full_share out (record { at = at; value = fresh_match })) }
+{
+    let fresh = fresh_match();
+    (at as *mut Match).write(fresh);
+    out.write(MatchHandle { at });
+}

@@ -1,0 +1,145 @@
+-- The calls of an engine in steps.
+use Rattle.std.specs.Prelude.{◌≡◌, ◌≢◌, ℕ, ◌≤◌, Bool, true, false, List, length, Option, Some, None, slice_get, nat_eq, not}
+use Rattle.go_base.specs.declared.choices.Choice.{Choice}
+use Rattle.go_base.specs.declared.choices.Choice.TheVariants.{Resign, Play}
+use Rattle.go_board.specs.declared.faults.PlayFault.{PlayFault}
+use Rattle.go_board.specs.declared.faults.PlayFault.TheVariants as play_fault
+use Rattle.go_board.specs.declared.rules.KoRule.{KoRule}
+use Rattle.gtp_wire.specs.declared.lines.Line.TheVariants as line
+use Rattle.gtp_wire.specs.Words.{CommandWords}
+use Rattle.gtp_session.specs.declared.events.Wait.{Wait}
+use Rattle.gtp_session.specs.declared.events.Wait.TheVariants as wait
+use Rattle.gtp_session.specs.declared.events.Event.{Event}
+use Rattle.gtp_session.specs.declared.events.Event.TheVariants as event
+use Rattle.gtp_session.specs.declared.events.ChoiceFault.{ChoiceFault}
+use Rattle.gtp_session.specs.declared.events.ChoiceFault.TheVariants as choice_fault
+use Rattle.gtp_session.specs.declared.events.AnswerFault.TheVariants as answer_fault
+use Rattle.gtp_session.specs.declared.events.CommandFault.TheVariants as command_fault
+use Rattle.gtp_session.specs.OwnCommands.{RefusesName}
+use Rattle.gtp_session.specs.Steps.{StepsState, IsOpen, ReadsOn, event_of, fresh_steps, Chooses, RefusesChoice}
+use Rattle.gtp_session.specs.Steps.{RefusesAnswer}
+use Rattle.vintsaky_calls.specs.Codes.{colour_code, rule_code, vertex_code, IsVertex}
+use Rattle.vintsaky_calls.specs.Texts.{Puts}
+use Rattle.vintsaky_calls.specs.declared.causes.Cause.{Cause}
+use Rattle.vintsaky_calls.specs.declared.causes.Cause.TheVariants as cause
+
+-- the number of what came of a piece: a colour whose choice is asked for has its own number
+abbrev pub event_code : Event → ℕ
+event_code event.More = 0
+event_code (event.Asked colour) = colour_code colour
+event_code event.Other = 3
+event_code event.Reply = 4
+event_code event.Ended = 5
+
+-- the number of what is waited for
+abbrev pub wait_code : Wait → ℕ
+wait_code wait.Nothing = 0
+wait_code (wait.Choice colour) = colour_code colour
+wait_code wait.Answer = 3
+
+-- 65,535 is a resignation, which no vertex has
+abbrev pub choice_code : Choice → ℕ
+choice_code Resign = 65535
+choice_code (Play vertex) = vertex_code vertex
+
+-- a resignation, a pass, or a point of the largest board
+abbrev pub IsChoice : Choice → Type 0
+IsChoice Resign = Unit {0}
+IsChoice (Play vertex) = IsVertex vertex
+
+-- the number stands for this choice
+pub record IsChoiceOf (n : ℕ) (choice : Choice) : Type 0 where
+  pub code : n ≡ choice_code choice
+  pub is : IsChoice choice
+
+-- the number stands for no choice
+abbrev pub NoChoice : ℕ → Type 0
+NoChoice n = (choice : Choice) → IsChoice choice → n ≢ choice_code choice
+
+-- an engine with this ko rule that was given nothing
+pub record BeginsEngine (rule : ℕ) (new : StepsState) : Type 0 where
+  pub by : KoRule
+  pub rule_is : rule ≡ rule_code by
+  pub new_is : new ≡ fresh_steps by
+
+-- what comes of a piece, of which so many bytes are used
+pub record Feeds (old : StepsState) (input : List ℕ) (used : ℕ) (came : Event) (new : StepsState) : Type 0 where
+  pub within : used ≤ length input
+  pub reads : IsOpen old → ReadsOn old input used came new
+  pub waits : old.wait ≢ wait.Nothing → (used ≡ 0) × (came ≡ event_of old.wait) × (new ≡ old)
+  pub over : old.ended ≡ true → (used ≡ 0) × (came ≡ event.Ended) × (new ≡ old)
+
+-- the choice of the number is made
+pub record ChoosesBy (old : StepsState) (number : ℕ) (new : StepsState) : Type 0 where
+  pub choice : Choice
+  pub is : IsChoiceOf number choice
+  pub made : Chooses old choice new
+
+-- the number is that of a choice which is refused by this fault
+pub record RefusesBy (s : StepsState) (number : ℕ) (fault : ChoiceFault) : Type 0 where
+  pub choice : Choice
+  pub is : IsChoiceOf number choice
+  pub refused : RefusesChoice s choice fault
+
+-- why it isn't made
+abbrev pub RefusesNumber : StepsState → ℕ → Cause → Type 0
+RefusesNumber s n cause.BadVertex = NoChoice n
+RefusesNumber s n cause.NotAsked = RefusesBy s n choice_fault.NotAsked
+RefusesNumber s n cause.Full = RefusesBy s n (choice_fault.Illegal play_fault.Full)
+RefusesNumber s n cause.OffBoard = RefusesBy s n (choice_fault.Illegal play_fault.OffBoard)
+RefusesNumber s n cause.Occupied = RefusesBy s n (choice_fault.Illegal play_fault.Occupied)
+RefusesNumber s n cause.Suicide = RefusesBy s n (choice_fault.Illegal play_fault.Suicide)
+RefusesNumber s n cause.Ko = RefusesBy s n (choice_fault.Illegal play_fault.Ko)
+RefusesNumber s n _ = ⊥
+
+-- an answer is a success, where its number isn't 0
+abbrev pub is_success : ℕ → Bool
+is_success ok = not (nat_eq ok 0)
+
+-- why an answer isn't given
+abbrev pub RefusesText : StepsState → List ℕ → Cause → Type 0
+RefusesText s text cause.NotAsked = RefusesAnswer s text answer_fault.NotAsked
+RefusesText s text cause.BadText = RefusesAnswer s text answer_fault.BadText
+RefusesText s text _ = ⊥
+
+-- why a command isn't added
+abbrev pub RefusesCommand : List (List ℕ) → List ℕ → Cause → Type 0
+RefusesCommand commands name cause.BadLength = RefusesName commands name command_fault.BadLength
+RefusesCommand commands name cause.BadByte = RefusesName commands name command_fault.BadByte
+RefusesCommand commands name cause.OnlyDigits = RefusesName commands name command_fault.OnlyDigits
+RefusesCommand commands name cause.InTable = RefusesName commands name command_fault.InTable
+RefusesCommand commands name cause.AddedBefore = RefusesName commands name command_fault.AddedBefore
+RefusesCommand commands name cause.TooMany = RefusesName commands name command_fault.TooMany
+RefusesCommand commands name _ = ⊥
+
+-- the line that is waited for
+pub record WaitsOn (s : StepsState) (words : CommandWords) : Type 0 where
+  pub waits : s.wait ≢ wait.Nothing
+  pub line_is : s.line ≡ line.Command words
+
+-- a word of the line that is waited for is put into the caller's buffer
+pub record PutsWord (s : StepsState) (number : ℕ) (old new : List ℕ) (count : ℕ) : Type 0 where
+  pub line : CommandWords
+  pub word : List ℕ
+  pub waits : WaitsOn s line
+  pub is : slice_get line.words number ≡ Some word
+  pub puts : Puts word old new
+  pub count_is : count ≡ length word
+
+-- why none is
+abbrev pub LacksWord : StepsState → ℕ → Cause → Type 0
+LacksWord s number cause.NotAsked = s.wait ≡ wait.Nothing
+LacksWord s number cause.NoWord = (line : CommandWords) × WaitsOn s line × (slice_get line.words number ≡ None)
+LacksWord s number _ = ⊥
+
+-- the id of the line that is waited for
+pub record HasId (s : StepsState) (id : ℕ) : Type 0 where
+  pub line : CommandWords
+  pub waits : WaitsOn s line
+  pub is : line.id ≡ Some id
+
+-- why there is none
+abbrev pub LacksId : StepsState → Cause → Type 0
+LacksId s cause.NotAsked = s.wait ≡ wait.Nothing
+LacksId s cause.NoId = (line : CommandWords) × WaitsOn s line × (line.id ≡ None)
+LacksId s _ = ⊥

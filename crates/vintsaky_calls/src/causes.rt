@@ -1,0 +1,116 @@
+//! Why a call is refused.
+ghost use Rattle.std.specs.Prelude.{◌≡◌};
+ghost use Rattle.vintsaky_calls.specs.Codes.{cause_code, result_code};
+
+/// Why a call is refused. Its number is the same in all later releases, and 0 is what a call returns that was done.
+#[derive(Clone, Copy, PartialEq, Eq, Debug, Drop)]
+pub enum Cause {
+    /// The number is no colour and no side: it is neither 1, Black, nor 2, White.
+    BadColour,
+    /// The number is no vertex: neither 0, a pass, nor a row times 256 and a column, both from 1 to 25.
+    BadVertex,
+    /// The number is no ko rule: it is neither 1, simple ko, nor 2, positional superko.
+    BadRule,
+    /// The size isn't from 1 to 25.
+    BadSize,
+    /// The komi isn't from -1,999,999,999 to 1,999,999,999 half points.
+    BadKomi,
+    /// The text is none that can be read.
+    BadText,
+    /// The buffer is too short.
+    NoRoom,
+    /// The record has 2,000 moves.
+    Full,
+    /// The point isn't on a board of this size.
+    OffBoard,
+    /// A stone is on the point.
+    Occupied,
+    /// The new stone's chain would have no liberty.
+    Suicide,
+    /// The board would be one that the ko rule forbids.
+    Ko,
+    /// There is no move to take back.
+    NothingToUndo,
+    /// A stone is on the board, or a move is in the record.
+    NotEmpty,
+    /// The size doesn't allow this number of handicap stones.
+    BadHandicap,
+    /// The record has no move of this number.
+    NoMove,
+    /// No stone is on the point.
+    NoStone,
+    /// Nothing is asked for that the call hands in.
+    NotAsked,
+    /// The line has no word of this number.
+    NoWord,
+    /// The line has no id.
+    NoId,
+    /// The name of the command has no byte, or more than 32.
+    BadLength,
+    /// A byte of the name is `#`, or is none of 33 to 126.
+    BadByte,
+    /// The name has digits alone, as an id.
+    OnlyDigits,
+    /// The protocol's table has a command of this name.
+    InTable,
+    /// A command of this name was added before.
+    AddedBefore,
+    /// The engine has 32 own commands.
+    TooMany,
+    /// The limit of moves is not 1 to 2,000.
+    BadMaxMoves,
+    /// The limit of restarts is more than 1,000.
+    BadMaxRestarts,
+    /// The call is not what the match says next.
+    NotNext,
+    /// The match is not over.
+    NotOver,
+}
+
+/// The number of what a call came to: 0 where it was done, and else that of the cause.
+pub fn code_of(made: Result<(), Cause>) -> u32
+    ensures { result ≡ result_code made }
+{
+    match made {
+        Ok(()) => 0,
+        Err(cause) => number_of(cause),
+    }
+}
+
+/// The number of a cause.
+fn number_of(cause: Cause) -> u32
+    ensures { result ≡ cause_code cause }
+{
+    match cause {
+        Cause::BadColour => 1,
+        Cause::BadVertex => 2,
+        Cause::BadRule => 3,
+        Cause::BadSize => 4,
+        Cause::BadKomi => 5,
+        Cause::BadText => 6,
+        Cause::NoRoom => 7,
+        Cause::Full => 8,
+        Cause::OffBoard => 9,
+        Cause::Occupied => 10,
+        Cause::Suicide => 11,
+        Cause::Ko => 12,
+        Cause::NothingToUndo => 13,
+        Cause::NotEmpty => 14,
+        Cause::BadHandicap => 15,
+        Cause::NoMove => 16,
+        Cause::NoStone => 17,
+        Cause::NotAsked => 18,
+        Cause::NoWord => 19,
+        Cause::NoId => 20,
+        Cause::BadLength => 21,
+        Cause::BadByte => 22,
+        Cause::OnlyDigits => 23,
+        Cause::InTable => 24,
+        Cause::AddedBefore => 25,
+        Cause::TooMany => 26,
+        Cause::BadMaxMoves => 27,
+        Cause::BadMaxRestarts => 28,
+        Cause::NotNext => 29,
+        Cause::NotOver => 30,
+    }
+}

@@ -1,0 +1,253 @@
+//! The calls of a game.
+ghost use Rattle.std.specs.Prelude.{◌≡◌, ◌≢◌, ◌≤◌, [], length, OnOk, OnErr, IfOk, IfErr};
+ghost use Rattle.go_base.specs.Komi.{IsKomi};
+ghost use Rattle.go_board.specs.Game.{IsLegal, without_last};
+ghost use Rattle.go_board.specs.Show.{board_text};
+ghost use Rattle.vintsaky_calls.specs.declared.causes.Cause.TheVariants as cause;
+ghost use Rattle.vintsaky_calls.specs.Codes.{NoColour, point_code, rule_code};
+ghost use Rattle.vintsaky_calls.specs.Games.{Begins, RefusesToBegin, Makes, RefusesMove, IsPlay, IsIllegal};
+ghost use Rattle.vintsaky_calls.specs.Games.{PlacesHandicap, RefusesStones, ListsLegal, ListsTaken, PutsPoints};
+ghost use Rattle.vintsaky_calls.specs.Games.{IsPointOn, RefusesPointCode, HasAt, HasChain, RefusesChain, HasMove, HasCaptured};
+ghost use Rattle.vintsaky_calls.specs.Texts.{Puts};
+
+use crate::causes::Cause;
+use crate::codes::{
+    cause_of_play, colour_of, number_of_colour, number_of_point, number_of_rule, number_of_vertex,
+    point_of, rule_of, vertex_of,
+};
+use crate::texts::put;
+use arrayvec::ArrayVec;
+use go_base::{Komi, Point, Size};
+use go_board::{Game, HandicapFault, MOST_POINTS};
+
+/// Begins the game anew, on an empty board.
+///
+/// # Errors
+///
+/// `BadRule`, `BadSize` or `BadKomi`, the first of these that holds. The game stays as it was.
+pub fn begin(game: &mut Game, rule: u32, size: u32, half_komi: i32) -> Result<(), Cause>
+    ensures begun { OnOk result (Begins rule size half_komi game.new) }
+    ensures kept { OnErr result (game.new ≡ game.old) }
+    ensures why { IfErr result (RefusesToBegin rule size half_komi) }
+{
+    let rule = rule_of(rule)?;
+    let size = Size::new(size).ok_or(Cause::BadSize)?;
+    let komi = Komi::from_half_points(half_komi).ok_or(Cause::BadKomi)?;
+    *game = Game::with_rule(size, komi, rule);
+    Ok(())
+}
+
+/// Makes a move.
+///
+/// # Errors
+///
+/// `BadColour` or `BadVertex`, and else why the move is refused: `Full`, `OffBoard`, `Occupied`, `Suicide` or `Ko`. The
+/// game stays as it was.
+pub fn play(game: &mut Game, colour: u32, vertex: u32) -> Result<(), Cause>
+    ensures made { OnOk result (Makes game.old colour vertex game.new) }
+    ensures kept { OnErr result (game.new ≡ game.old) }
+    ensures why { IfErr result (RefusesMove game.old colour vertex) }
+{
+    let colour = colour_of(colour)?;
+    let vertex = vertex_of(vertex)?;
+    game.play(colour, vertex).map_err(cause_of_play)
+}
+
+/// Whether a colour may make a move next.
+///
+/// # Errors
+///
+/// As those of [`play`], of which it leaves out `Full`.
+pub fn legal(game: &Game, colour: u32, vertex: u32) -> Result<(), Cause>
+    ensures legal { OnOk result (IsPlay colour vertex (IsLegal game.now)) }
+    ensures why { IfErr result (IsIllegal game.now colour vertex) }
+{
+    let colour = colour_of(colour)?;
+    let vertex = vertex_of(vertex)?;
+    match game.refusal(colour, vertex) {
+        None => Ok(()),
+        Some(fault) => Err(cause_of_play(fault)),
+    }
+}
+
+/// Takes back the last move.
+///
+/// # Errors
+///
+/// `NothingToUndo` where the record has no move. The game stays as it was.
+pub fn undo(game: &mut Game) -> Result<(), Cause>
+    ensures undone { OnOk result ((game.old.moves ≢ []) × (game.new ≡ without_last game.old)) }
+    ensures kept { OnErr result (game.new ≡ game.old) }
+    ensures why { IfErr result (λ why. (why ≡ cause.NothingToUndo) × (game.old.moves ≡ [])) }
+{
+    match game.undo() {
+        Ok(_last) => Ok(()),
+        Err(_none) => Err(Cause::NothingToUndo),
+    }
+}
+
+/// Sets the komi. The board and the record stay.
+///
+/// # Errors
+///
+/// `BadKomi`. The game stays as it was.
+pub fn set_komi(game: &mut Game, half_komi: i32) -> Result<(), Cause>
+    ensures set { OnOk result (IsKomi half_komi × (game.new ≡ record game.old { komi = half_komi })) }
+    ensures kept { OnErr result (game.new ≡ game.old) }
+    ensures why { IfErr result (λ why. (why ≡ cause.BadKomi) × ¬ IsKomi half_komi) }
+{
+    let komi = Komi::from_half_points(half_komi).ok_or(Cause::BadKomi)?;
+    game.set_komi(komi);
+    Ok(())
+}
+
+/// Puts handicap stones on their fixed points.
+///
+/// # Errors
+///
+/// `NotEmpty`, or else `BadHandicap`. The game stays as it was.
+pub fn place_handicap(game: &mut Game, stones: u32) -> Result<(), Cause>
+    ensures placed { OnOk result (PlacesHandicap game.old stones game.new) }
+    ensures kept { OnErr result (game.new ≡ game.old) }
+    ensures why { IfErr result (RefusesStones game.old stones) }
+{
+    match game.place_handicap(stones) {
+        Ok(_points) => Ok(()),
+        Err(HandicapFault::NotEmpty) => Err(Cause::NotEmpty),
+        Err(HandicapFault::BadNumber) => Err(Cause::BadHandicap),
+    }
+}
+
+/// Writes the numbers of the points on which a colour may play next, row by row from A1, where there is room for all of
+/// them, and how many these are.
+///
+/// # Errors
+///
+/// `BadColour`. Nothing is written.
+pub fn legal_points(
+    game: &Game,
+    colour: u32,
+    points: &mut [u32],
+    count: &mut usize,
+) -> Result<(), Cause>
+    ensures listed { OnOk result (ListsLegal game.now colour points.old points.new count.new) }
+    ensures kept { OnErr result ((points.new ≡ points.old) × (count.new ≡ count.old)) }
+    ensures why { IfErr result (λ why. (why ≡ cause.BadColour) × NoColour colour) }
+{
+    let colour = colour_of(colour)?;
+    *count = put_points(&game.legal_points(colour), points);
+    Ok(())
+}
+
+/// Writes the numbers of the points whose stones the last move took, row by row from A1, where there is room for all of
+/// them. How many these are.
+pub fn taken_by_last_move(game: &Game, points: &mut [u32]) -> usize
+    ensures { ListsTaken game.now points.old points.new result }
+{
+    put_points(&game.taken_by_last_move(), points)
+}
+
+/// Writes the numbers of points, where there is room for all of them. How many these are.
+fn put_points(points: &ArrayVec<Point, MOST_POINTS>, numbers: &mut [u32]) -> usize
+    ensures { PutsPoints points.now.items numbers.old numbers.new result }
+{
+    let mut codes = ArrayVec::<u32, MOST_POINTS>::new();
+    for point in points.as_slice() {
+        codes.push(number_of_point(*point));
+    }
+    let count = codes.len();
+    if count <= numbers.len() {
+        numbers[..count].copy_from_slice(&codes);
+    }
+    count
+}
+
+/// The colour of the stone on a point: 0 where there is none.
+///
+/// # Errors
+///
+/// `BadVertex`, also of a pass, or else `OffBoard`. Nothing is written.
+pub fn stone_at(game: &Game, vertex: u32, colour: &mut u32) -> Result<(), Cause>
+    ensures found { OnOk result (HasAt game.now vertex colour.new) }
+    ensures kept { OnErr result (colour.new ≡ colour.old) }
+    ensures why { IfErr result (RefusesPointCode game.now vertex) }
+{
+    let point = point_on(game, vertex)?;
+    *colour = game.at(point).map_or(0, number_of_colour);
+    Ok(())
+}
+
+/// How many stones a chain has, and how many liberties.
+///
+/// # Errors
+///
+/// `BadVertex`, also of a pass, or else `OffBoard` or `NoStone`. Nothing is written.
+pub fn chain(game: &Game, vertex: u32, stones: &mut u32, liberties: &mut u32) -> Result<(), Cause>
+    ensures found { OnOk result (HasChain game.now vertex stones.new liberties.new) }
+    ensures kept { OnErr result ((stones.new ≡ stones.old) × (liberties.new ≡ liberties.old)) }
+    ensures why { IfErr result (RefusesChain game.now vertex) }
+{
+    let point = point_on(game, vertex)?;
+    let chain = game.chain(point).ok_or(Cause::NoStone)?;
+    *stones = chain.stones;
+    *liberties = chain.liberties;
+    Ok(())
+}
+
+/// The point of a number, on the board of a game.
+fn point_on(game: &Game, vertex: u32) -> Result<Point, Cause>
+    ensures on { IfOk result (λ point. IsPointOn game.now vertex point) }
+    ensures why { IfErr result (RefusesPointCode game.now vertex) }
+{
+    let point = point_of(vertex)?;
+    if point.on(game.size()) {
+        Ok(point)
+    } else {
+        Err(Cause::OffBoard)
+    }
+}
+
+/// A move of the record, counted from 0.
+///
+/// # Errors
+///
+/// `NoMove` where the record has no such move. Nothing is written.
+pub fn made(game: &Game, number: usize, colour: &mut u32, vertex: &mut u32) -> Result<(), Cause>
+    ensures found { OnOk result (HasMove game.now number colour.new vertex.new) }
+    ensures kept { OnErr result ((colour.new ≡ colour.old) × (vertex.new ≡ vertex.old)) }
+    ensures why { IfErr result (λ why. (why ≡ cause.NoMove) × (length game.now.moves ≤ number)) }
+{
+    let made = game.moves().get(number).ok_or(Cause::NoMove)?;
+    *colour = number_of_colour(made.colour);
+    *vertex = number_of_vertex(made.vertex);
+    Ok(())
+}
+
+/// How many stones a colour has taken.
+///
+/// # Errors
+///
+/// `BadColour`. Nothing is written.
+pub fn captured(game: &Game, colour: u32, stones: &mut u32) -> Result<(), Cause>
+    ensures found { OnOk result (HasCaptured game.now colour stones.new) }
+    ensures kept { OnErr result (stones.new ≡ stones.old) }
+    ensures why { IfErr result (λ why. (why ≡ cause.BadColour) × NoColour colour) }
+{
+    *stones = game.captured(colour_of(colour)?);
+    Ok(())
+}
+
+/// The number of the ko rule.
+pub fn rule(game: &Game) -> u32
+    ensures { result ≡ rule_code game.now.rule }
+{
+    number_of_rule(game.rule())
+}
+
+/// Writes the board as text, as `Game::show` returns it.
+pub fn board_text(game: &Game, text: &mut [u8]) -> usize
+    ensures length { result ≡ length (board_text game.now) }
+    ensures put { Puts (board_text game.now) text.old text.new }
+{
+    put(&game.show(), text)
+}

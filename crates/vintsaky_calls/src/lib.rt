@@ -1,0 +1,15 @@
+//! The calls of the library for other languages, over the crates' own types: arguments are numbers, each of which is
+//! looked at, and what a call refuses is a [`Cause`].
+//!
+//! The static library `vintsaky` exports each of them by its C name, and passes on what it lends of a handle.
+#![tactic(auto)]
+
+mod causes;
+mod codes;
+pub mod engines;
+pub mod games;
+pub mod matches;
+pub mod texts;
+pub mod values;
+
+pub use causes::{Cause, code_of};

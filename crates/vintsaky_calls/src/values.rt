@@ -1,0 +1,92 @@
+//! Vertices and komis, and their texts.
+ghost use Rattle.std.specs.Prelude.{◌≡◌, ℤ, OnOk, OnErr, IfErr};
+ghost use Rattle.go_base.specs.Komi.{IsKomi, SpellsKomi};
+ghost use Rattle.go_base.specs.Point.{IsCrossing, point};
+ghost use Rattle.go_base.specs.Vertex.{SpellsVertex};
+ghost use Rattle.go_base.specs.declared.vertices.Vertex.{Vertex};
+ghost use Rattle.vintsaky_calls.specs.declared.causes.Cause.TheVariants as cause;
+ghost use Rattle.vintsaky_calls.specs.Codes.{NoVertex, point_code};
+ghost use Rattle.vintsaky_calls.specs.Values.{ReadsVertex, WritesVertex, WritesKomi};
+
+use crate::causes::Cause;
+use crate::codes::{number_of_point, number_of_vertex, vertex_of};
+use crate::texts::put;
+use go_base::{Komi, Point, Vertex};
+
+/// The number of the point of a column and a row, both from 1 to 25.
+///
+/// # Errors
+///
+/// `BadVertex`. Nothing is written.
+pub fn point(column: u32, row: u32, vertex: &mut u32) -> Result<(), Cause>
+    ensures found { OnOk result (IsCrossing column row
+        × (vertex.new ≡ point_code (point column row))) }
+    ensures kept { OnErr result (vertex.new ≡ vertex.old) }
+    ensures why { IfErr result (λ why. (why ≡ cause.BadVertex) × ¬ IsCrossing column row) }
+{
+    let point = Point::new(column, row).ok_or(Cause::BadVertex)?;
+    *vertex = number_of_point(point);
+    Ok(())
+}
+
+/// Reads a vertex, as the protocol spells it.
+///
+/// # Errors
+///
+/// `BadText`. Nothing is written.
+pub fn read_vertex(text: &[u8], vertex: &mut u32) -> Result<(), Cause>
+    ensures read { OnOk result (ReadsVertex text.now vertex.new) }
+    ensures kept { OnErr result (vertex.new ≡ vertex.old) }
+    ensures why { IfErr result (λ why. (why ≡ cause.BadText)
+        × ((v : Vertex) → SpellsVertex v text.now → ⊥)) }
+{
+    let read = Vertex::read(text).ok_or(Cause::BadText)?;
+    *vertex = number_of_vertex(read);
+    Ok(())
+}
+
+/// Writes a vertex, as the protocol spells it, and the length of that text.
+///
+/// # Errors
+///
+/// `BadVertex`. Nothing is written.
+pub fn vertex_text(vertex: u32, text: &mut [u8], count: &mut usize) -> Result<(), Cause>
+    ensures written { OnOk result (WritesVertex vertex text.old text.new count.new) }
+    ensures kept { OnErr result ((text.new ≡ text.old) × (count.new ≡ count.old)) }
+    ensures why { IfErr result (λ why. (why ≡ cause.BadVertex) × NoVertex vertex) }
+{
+    let vertex = vertex_of(vertex)?;
+    *count = put(&vertex.write(), text);
+    Ok(())
+}
+
+/// Reads a komi in points, as the protocol spells it: the half points.
+///
+/// # Errors
+///
+/// `BadText`. Nothing is written.
+pub fn read_komi(text: &[u8], half_points: &mut i32) -> Result<(), Cause>
+    ensures read { OnOk result (SpellsKomi half_points.new text.now) }
+    ensures kept { OnErr result (half_points.new ≡ half_points.old) }
+    ensures why { IfErr result (λ why. (why ≡ cause.BadText)
+        × ((z : ℤ) → SpellsKomi z text.now → ⊥)) }
+{
+    let read = Komi::read(text).ok_or(Cause::BadText)?;
+    *half_points = read.half_points();
+    Ok(())
+}
+
+/// Writes a komi in points, as the protocol spells it, and the length of that text.
+///
+/// # Errors
+///
+/// `BadKomi`. Nothing is written.
+pub fn komi_text(half_points: i32, text: &mut [u8], count: &mut usize) -> Result<(), Cause>
+    ensures written { OnOk result (WritesKomi half_points text.old text.new count.new) }
+    ensures kept { OnErr result ((text.new ≡ text.old) × (count.new ≡ count.old)) }
+    ensures why { IfErr result (λ why. (why ≡ cause.BadKomi) × ¬ IsKomi half_points) }
+{
+    let komi = Komi::from_half_points(half_points).ok_or(Cause::BadKomi)?;
+    *count = put(&komi.write(), text);
+    Ok(())
+}
