@@ -6,5 +6,7 @@
 
 pub mod engine;
 pub mod game;
+pub mod lines;
 pub mod referee;
+pub mod replies;
 pub mod values;

@@ -92,6 +92,7 @@ cause_code cause.BadMaxMoves = 27
 cause_code cause.BadMaxRestarts = 28
 cause_code cause.NotNext = 29
 cause_code cause.NotOver = 30
+cause_code cause.NoLine = 31
 
 -- what a call returns: 0 where it was done
 abbrev pub result_code : Result (Unit {0}) Cause → ℕ

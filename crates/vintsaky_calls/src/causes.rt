@@ -65,6 +65,8 @@ pub enum Cause {
     NotNext,
     /// The match is not over.
     NotOver,
+    /// No line of a command was read.
+    NoLine,
 }
 
 /// The number of what a call came to: 0 where it was done, and else that of the cause.
@@ -112,5 +114,6 @@ fn number_of(cause: Cause) -> u32
         Cause::BadMaxRestarts => 28,
         Cause::NotNext => 29,
         Cause::NotOver => 30,
+        Cause::NoLine => 31,
     }
 }

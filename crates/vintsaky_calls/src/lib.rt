@@ -8,7 +8,9 @@ mod causes;
 mod codes;
 pub mod engines;
 pub mod games;
+pub mod lines;
 pub mod matches;
+pub mod replies;
 pub mod texts;
 pub mod values;
 

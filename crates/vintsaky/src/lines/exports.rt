@@ -1,0 +1,77 @@
+//! The calls of a reader of command lines.
+ghost use Rattle.std.specs.Prelude.{◌≡◌, ◌≢◌, ◌⊎◌, Some, None, length, Result, OnOk, OnErr, IfErr};
+ghost use Rattle.vintsaky_calls.specs.Codes.{result_code};
+ghost use Rattle.vintsaky_calls.specs.declared.causes.Cause.{Cause};
+ghost use Rattle.gtp_wire.specs.Lines.{ReadsLine};
+ghost use Rattle.gtp_wire.specs.declared.lines.Line.TheVariants as line;
+ghost use Rattle.vintsaky_calls.specs.declared.causes.Cause.TheVariants as cause;
+ghost use Rattle.vintsaky_calls.specs.Lines.{line_code, line_unless, PutsLineWord, LacksLineWord, HasLineId, LacksLineId};
+
+use crate::lines::handle::LinesHandle;
+use std::mem::{align_of, size_of};
+use vintsaky_calls::lines::Lines;
+use vintsaky_calls::{code_of, lines};
+
+/// How many bytes such a reader takes.
+#[unsafe(no_mangle)]
+pub extern "C" fn vintsaky_lines_bytes() -> usize {
+    size_of::<Lines>()
+}
+
+/// Of what number the address of such a reader is a multiple.
+#[unsafe(no_mangle)]
+pub extern "C" fn vintsaky_lines_align() -> usize {
+    align_of::<Lines>()
+}
+
+/// Takes the next piece up to and with the newline that ends a line, or all of it. How many bytes were used is written.
+/// Returns 0 where none ended a line, 1 for a command line, and 2 for one that is too long.
+#[unsafe(no_mangle)]
+pub extern "C" fn vintsaky_lines_feed(
+    lines: &mut LinesHandle,
+    bytes: &[u8],
+    used: &mut usize,
+) -> u32
+    ensures reads { ReadsLine lines.old.value.reader bytes.now used.new (line_unless result lines.new.value.line) lines.new.value.reader }
+    ensures kind { (result ≡ 0) ⊎ (result ≡ line_code lines.new.value.line) }
+    ensures kept { result ≡ 0 → lines.new.value.line ≡ lines.old.value.line }
+{
+    lines::feed(lines.lend(), bytes, used)
+}
+
+/// The id of the command line that was read last.
+///
+/// # Errors
+///
+/// `NoLine`, or else `NoId`. Nothing is written.
+#[unsafe(no_mangle)]
+pub extern "C" fn vintsaky_lines_id(lines: &mut LinesHandle, id: &mut u32) -> u32
+    ensures call { (made : Result (Unit {0}) Cause) × (result ≡ result_code made)
+        × OnOk made (HasLineId lines.old.value.line id.new)
+        × OnErr made (id.new ≡ id.old)
+        × IfErr made (LacksLineId lines.old.value.line) }
+    ensures object { lines.new.value ≡ lines.old.value }
+{
+    code_of(lines::id(lines.lend(), id))
+}
+
+/// Writes a word of the command line that was read last, counted from 0 after the id, and its length.
+///
+/// # Errors
+///
+/// `NoLine`, or else `NoWord`. Nothing is written.
+#[unsafe(no_mangle)]
+pub extern "C" fn vintsaky_lines_word(
+    lines: &mut LinesHandle,
+    number: usize,
+    text: &mut [u8],
+    count: &mut usize,
+) -> u32
+    ensures call { (made : Result (Unit {0}) Cause) × (result ≡ result_code made)
+        × OnOk made (PutsLineWord lines.old.value.line number text.old text.new count.new)
+        × OnErr made ((text.new ≡ text.old) × (count.new ≡ count.old))
+        × IfErr made (LacksLineWord lines.old.value.line number) }
+    ensures object { lines.new.value ≡ lines.old.value }
+{
+    code_of(lines::word(lines.lend(), number, text, count))
+}

@@ -1,0 +1,6 @@
+//! A reader of replies, for callers in other languages.
+
+pub mod exports;
+pub mod handle;
+pub mod lend;
+pub mod place;

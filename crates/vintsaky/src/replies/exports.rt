@@ -1,0 +1,73 @@
+//! The calls of a reader of replies.
+ghost use Rattle.std.specs.Prelude.{◌≡◌, ◌≢◌, ◌⊎◌, Some, None, length, Result, OnOk, OnErr, IfErr};
+ghost use Rattle.vintsaky_calls.specs.Codes.{result_code};
+ghost use Rattle.vintsaky_calls.specs.declared.causes.Cause.{Cause};
+ghost use Rattle.vintsaky_calls.specs.declared.causes.Cause.TheVariants as cause;
+ghost use Rattle.vintsaky_calls.specs.Replies.{ReadsReply};
+ghost use Rattle.vintsaky_calls.specs.Texts.{Puts};
+
+use crate::replies::handle::RepliesHandle;
+use std::mem::{align_of, size_of};
+use vintsaky_calls::replies::Replies;
+use vintsaky_calls::{code_of, replies};
+
+/// How many bytes such a reader takes.
+#[unsafe(no_mangle)]
+pub extern "C" fn vintsaky_replies_bytes() -> usize {
+    size_of::<Replies>()
+}
+
+/// Of what number the address of such a reader is a multiple.
+#[unsafe(no_mangle)]
+pub extern "C" fn vintsaky_replies_align() -> usize {
+    align_of::<Replies>()
+}
+
+/// Takes the next piece up to and with the byte that ends a reply or shows a fault, or all of it. How many bytes were
+/// used is written. Returns 0 where none did, 1 for a reply, 2 where what came is no reply, and 3 where it is too long.
+#[unsafe(no_mangle)]
+pub extern "C" fn vintsaky_replies_feed(
+    replies: &mut RepliesHandle,
+    bytes: &[u8],
+    used: &mut usize,
+) -> u32
+    ensures reads { ReadsReply replies.old.value.reader bytes.now used.new result replies.new.value.reply replies.new.value.reader }
+    ensures kept { result ≢ 1 → replies.new.value.reply ≡ replies.old.value.reply }
+{
+    replies::feed(replies.lend(), bytes, used)
+}
+
+/// Whether the reply that was read last is a success.
+#[unsafe(no_mangle)]
+pub extern "C" fn vintsaky_replies_ok(replies: &mut RepliesHandle) -> bool
+    ensures call { result ≡ replies.old.value.reply.ok }
+    ensures object { replies.new.value ≡ replies.old.value }
+{
+    replies::ok(replies.lend())
+}
+
+/// The id of the reply that was read last.
+///
+/// # Errors
+///
+/// `NoId`. Nothing is written.
+#[unsafe(no_mangle)]
+pub extern "C" fn vintsaky_replies_id(replies: &mut RepliesHandle, id: &mut u32) -> u32
+    ensures call { (made : Result (Unit {0}) Cause) × (result ≡ result_code made)
+        × OnOk made (replies.old.value.reply.id ≡ Some id.new)
+        × OnErr made (id.new ≡ id.old)
+        × IfErr made (λ why. (why ≡ cause.NoId) × (replies.old.value.reply.id ≡ None)) }
+    ensures object { replies.new.value ≡ replies.old.value }
+{
+    code_of(replies::id(replies.lend(), id))
+}
+
+/// Writes the text of the reply that was read last. How many bytes it has.
+#[unsafe(no_mangle)]
+pub extern "C" fn vintsaky_replies_text(replies: &mut RepliesHandle, text: &mut [u8]) -> usize
+    ensures length { result ≡ length replies.old.value.reply.text.items }
+    ensures put { Puts replies.old.value.reply.text.items text.old text.new }
+    ensures object { replies.new.value ≡ replies.old.value }
+{
+    replies::text(replies.lend(), text)
+}

@@ -1,0 +1,320 @@
+/* vintsaky.h: the rules of Go, the referee of a match and the engine of the Go Text Protocol, as a library.
+ *
+ * Each object lies in memory that the caller gives: as many bytes and the alignment that its _bytes and _align return. The memory is
+ * the object's alone and stays where it is, and so does the handle, as long as it is used. Two arguments of a call are two objects.
+ * One thread at a time uses an object. No pointer is NULL. No call takes memory, blocks, or reads or writes anything but its object
+ * and the caller's buffers.
+ *
+ * A call that may be refused returns 0 where it was done, and else a cause: then its object is as it was, and it has written nothing.
+ * A text is written with a NUL after it, where the buffer has room for both, else not at all; its length is without the NUL. */
+#ifndef VINTSAKY_H
+#define VINTSAKY_H
+
+#include <stdbool.h>
+#include <stddef.h>
+#include <stdint.h>
+#include <stdlib.h>
+
+#ifdef __cplusplus
+extern "C" {
+#endif
+
+/* ---- numbers ---- */
+
+/* why a call is refused */
+enum {
+    VINTSAKY_DONE = 0,
+    VINTSAKY_BAD_COLOUR = 1, /* The number is no colour and no side: it is neither 1, Black, nor 2, White. */
+    VINTSAKY_BAD_VERTEX = 2, /* The number is no vertex: neither 0, a pass, nor a row times 256 and a column, both from 1 to 25. */
+    VINTSAKY_BAD_RULE = 3, /* The number is no ko rule: it is neither 1, simple ko, nor 2, positional superko. */
+    VINTSAKY_BAD_SIZE = 4, /* The size isn't from 1 to 25. */
+    VINTSAKY_BAD_KOMI = 5, /* The komi isn't from -1,999,999,999 to 1,999,999,999 half points. */
+    VINTSAKY_BAD_TEXT = 6, /* The text is none that can be read. */
+    VINTSAKY_NO_ROOM = 7, /* The buffer is too short. */
+    VINTSAKY_FULL = 8, /* The record has 2,000 moves. */
+    VINTSAKY_OFF_BOARD = 9, /* The point isn't on a board of this size. */
+    VINTSAKY_OCCUPIED = 10, /* A stone is on the point. */
+    VINTSAKY_SUICIDE = 11, /* The new stone's chain would have no liberty. */
+    VINTSAKY_KO = 12, /* The board would be one that the ko rule forbids. */
+    VINTSAKY_NOTHING_TO_UNDO = 13, /* There is no move to take back. */
+    VINTSAKY_NOT_EMPTY = 14, /* A stone is on the board, or a move is in the record. */
+    VINTSAKY_BAD_HANDICAP = 15, /* The size doesn't allow this number of handicap stones. */
+    VINTSAKY_NO_MOVE = 16, /* The record has no move of this number. */
+    VINTSAKY_NO_STONE = 17, /* No stone is on the point. */
+    VINTSAKY_NOT_ASKED = 18, /* Nothing is asked for that the call hands in. */
+    VINTSAKY_NO_WORD = 19, /* The line has no word of this number. */
+    VINTSAKY_NO_ID = 20, /* The line has no id. */
+    VINTSAKY_BAD_LENGTH = 21, /* The name of the command has no byte, or more than 32. */
+    VINTSAKY_BAD_BYTE = 22, /* A byte of the name is #, or is none of 33 to 126. */
+    VINTSAKY_ONLY_DIGITS = 23, /* The name has digits alone, as an id. */
+    VINTSAKY_IN_TABLE = 24, /* The protocol's table has a command of this name. */
+    VINTSAKY_ADDED_BEFORE = 25, /* A command of this name was added before. */
+    VINTSAKY_TOO_MANY = 26, /* The engine has 32 own commands. */
+    VINTSAKY_BAD_MAX_MOVES = 27, /* The limit of moves is not 1 to 2,000. */
+    VINTSAKY_BAD_MAX_RESTARTS = 28, /* The limit of restarts is more than 1,000. */
+    VINTSAKY_NOT_NEXT = 29, /* The call is not what the match says next. */
+    VINTSAKY_NOT_OVER = 30, /* The match is not over. */
+};
+
+/* colours of stones, and the sides that play them */
+enum { VINTSAKY_BLACK = 1, VINTSAKY_WHITE = 2 };
+
+/* ko rules: simple ko, and positional superko */
+enum { VINTSAKY_SIMPLE = 1, VINTSAKY_POSITIONAL = 2 };
+
+/* A vertex is a pass, or a point: its row times 256 and its column, both from 1 to 25, counted from the lower left corner. Only
+ * vintsaky_engine_choose takes a resignation. */
+#define VINTSAKY_PASS ((uint32_t)0)
+#define VINTSAKY_RESIGN ((uint32_t)65535)
+
+/* what vintsaky_engine_feed returns: VINTSAKY_BLACK or VINTSAKY_WHITE, whose choice is asked for, or one of these */
+enum {
+    VINTSAKY_MORE = 0,  /* all bytes were used: read on */
+    VINTSAKY_OTHER = 3, /* a line of another command: answer or decline it */
+    VINTSAKY_REPLY = 4, /* a line was answered: write the reply */
+    VINTSAKY_ENDED = 5  /* the session has ended, by a quit */
+};
+
+/* what vintsaky_match_next returns: start this side's engine, send it a command, wait for what it writes; or the match is over */
+enum { VINTSAKY_START = 1, VINTSAKY_SEND = 2, VINTSAKY_WAIT = 3, VINTSAKY_OVER = 4 };
+
+/* what vintsaky_match_hear writes, where it isn't 0: what a side wrote is no reply, is too long, has another id, or was never asked */
+enum { VINTSAKY_NO_STATUS = 1, VINTSAKY_OVERLONG = 2, VINTSAKY_WRONG_ID = 3, VINTSAKY_UNASKED = 4 };
+
+/* handles, which nobody but the library reads */
+typedef struct { void *at; } vintsaky_game;
+typedef struct { void *at; } vintsaky_engine;
+typedef struct { void *at; } vintsaky_match;
+
+/* ---- values ---- */
+
+/* The number of the point of a column and a row, both from 1 to 25.
+ * Causes: VINTSAKY_BAD_VERTEX. Nothing is written. */
+uint32_t vintsaky_point(uint32_t column, uint32_t row, uint32_t *vertex);
+
+/* Reads a vertex, as the protocol spells it.
+ * Causes: VINTSAKY_BAD_TEXT. Nothing is written. */
+uint32_t vintsaky_read_vertex(const char *text, size_t text_length, uint32_t *vertex);
+
+/* Writes a vertex, as the protocol spells it, and the length of that text.
+ * Causes: VINTSAKY_BAD_VERTEX. Nothing is written. */
+uint32_t vintsaky_vertex_text(uint32_t vertex, char *text, size_t text_room, size_t *count);
+
+/* Reads a komi in points, as the protocol spells it: the half points.
+ * Causes: VINTSAKY_BAD_TEXT. Nothing is written. */
+uint32_t vintsaky_read_komi(const char *text, size_t text_length, int32_t *half_points);
+
+/* Writes a komi in points, as the protocol spells it, and the length of that text.
+ * Causes: VINTSAKY_BAD_KOMI. Nothing is written. */
+uint32_t vintsaky_komi_text(int32_t half_points, char *text, size_t text_room, size_t *count);
+
+/* ---- games ---- */
+
+/* Puts a game into the memory, and its handle. It has size 19, no komi and simple ko. */
+void vintsaky_game_place(vintsaky_game *out, void *at);
+
+/* How many bytes a game takes. */
+size_t vintsaky_game_bytes(void);
+
+/* Of what number the address of a game is a multiple. */
+size_t vintsaky_game_align(void);
+
+/* The size of the board, from 1 to 25. */
+uint32_t vintsaky_game_size(vintsaky_game *game);
+
+/* The komi in half points. */
+int32_t vintsaky_game_komi(vintsaky_game *game);
+
+/* How many handicap stones were placed, or 0. */
+uint32_t vintsaky_game_handicap(vintsaky_game *game);
+
+/* How many moves the record has. */
+size_t vintsaky_game_length(vintsaky_game *game);
+
+/* The score in half points, positive where Black leads. */
+int32_t vintsaky_game_score(vintsaky_game *game);
+
+/* Whether the last two moves are passes. */
+bool vintsaky_game_finished(vintsaky_game *game);
+
+/* A hash of the board: equal boards have equal hashes. */
+uint64_t vintsaky_game_hash(vintsaky_game *game);
+
+/* Becomes a copy of another game. */
+void vintsaky_game_copy(vintsaky_game *game, vintsaky_game *other);
+
+/* Begins the game anew, on an empty board.
+ * Causes: VINTSAKY_BAD_RULE, VINTSAKY_BAD_SIZE or VINTSAKY_BAD_KOMI, the first of these that holds. The game stays as it was. */
+uint32_t vintsaky_game_begin(vintsaky_game *game, uint32_t rule, uint32_t size, int32_t half_komi);
+
+/* Makes a move.
+ * Causes: VINTSAKY_BAD_COLOUR or VINTSAKY_BAD_VERTEX, and else why the move is refused: VINTSAKY_FULL, VINTSAKY_OFF_BOARD, VINTSAKY_OCCUPIED, VINTSAKY_SUICIDE or VINTSAKY_KO. The
+ * game stays as it was. */
+uint32_t vintsaky_game_play(vintsaky_game *game, uint32_t colour, uint32_t vertex);
+
+/* Whether a colour may make a move next.
+ * Causes: As those of play, of which it leaves out VINTSAKY_FULL. */
+uint32_t vintsaky_game_legal(vintsaky_game *game, uint32_t colour, uint32_t vertex);
+
+/* Takes back the last move.
+ * Causes: VINTSAKY_NOTHING_TO_UNDO where the record has no move. The game stays as it was. */
+uint32_t vintsaky_game_undo(vintsaky_game *game);
+
+/* Sets the komi. The board and the record stay.
+ * Causes: VINTSAKY_BAD_KOMI. The game stays as it was. */
+uint32_t vintsaky_game_set_komi(vintsaky_game *game, int32_t half_komi);
+
+/* Puts handicap stones on their fixed points.
+ * Causes: VINTSAKY_NOT_EMPTY, or else VINTSAKY_BAD_HANDICAP. The game stays as it was. */
+uint32_t vintsaky_game_place_handicap(vintsaky_game *game, uint32_t stones);
+
+/* Writes the numbers of the points on which a colour may play next, row by row from A1, where there is room for all of
+ * them, and how many these are.
+ * Causes: VINTSAKY_BAD_COLOUR. Nothing is written. */
+uint32_t vintsaky_game_legal_points(vintsaky_game *game, uint32_t colour, uint32_t *points, size_t points_room, size_t *count);
+
+/* Writes the numbers of the points whose stones the last move took, row by row from A1, where there is room for all of
+ * them. How many these are. */
+size_t vintsaky_game_taken_by_last_move(vintsaky_game *game, uint32_t *points, size_t points_room);
+
+/* The colour of the stone on a point: 0 where there is none.
+ * Causes: VINTSAKY_BAD_VERTEX, also of a pass, or else VINTSAKY_OFF_BOARD. Nothing is written. */
+uint32_t vintsaky_game_stone_at(vintsaky_game *game, uint32_t vertex, uint32_t *colour);
+
+/* How many stones a chain has, and how many liberties.
+ * Causes: VINTSAKY_BAD_VERTEX, also of a pass, or else VINTSAKY_OFF_BOARD or VINTSAKY_NO_STONE. Nothing is written. */
+uint32_t vintsaky_game_chain(vintsaky_game *game, uint32_t vertex, uint32_t *stones, uint32_t *liberties);
+
+/* A move of the record, counted from 0.
+ * Causes: VINTSAKY_NO_MOVE where the record has no such move. Nothing is written. */
+uint32_t vintsaky_game_made(vintsaky_game *game, size_t number, uint32_t *colour, uint32_t *vertex);
+
+/* How many stones a colour has taken.
+ * Causes: VINTSAKY_BAD_COLOUR. Nothing is written. */
+uint32_t vintsaky_game_captured(vintsaky_game *game, uint32_t colour, uint32_t *stones);
+
+/* The number of the ko rule. */
+uint32_t vintsaky_game_rule(vintsaky_game *game);
+
+/* Writes the board as text, as Game::show returns it. */
+size_t vintsaky_game_board_text(vintsaky_game *game, char *text, size_t text_room);
+
+/* ---- engines ---- */
+
+/* Puts an engine in steps into the memory, and its handle. It has simple ko, and was given nothing. */
+void vintsaky_engine_place(vintsaky_engine *out, void *at);
+
+/* How many bytes an engine takes. */
+size_t vintsaky_engine_bytes(void);
+
+/* Of what number the address of an engine is a multiple. */
+size_t vintsaky_engine_align(void);
+
+/* Whether the session has ended, by a quit. */
+bool vintsaky_engine_ended(vintsaky_engine *engine);
+
+/* Begins the engine anew, under a ko rule.
+ * Causes: VINTSAKY_BAD_RULE. The engine stays as it was. */
+uint32_t vintsaky_engine_begin(vintsaky_engine *engine, uint32_t rule);
+
+/* Takes the next piece. How many bytes of it were used is written. Returns the number of what came of them. */
+uint32_t vintsaky_engine_feed(vintsaky_engine *engine, const void *bytes, size_t bytes_length, size_t *used);
+
+/* The number of what is waited for. */
+uint32_t vintsaky_engine_wait(vintsaky_engine *engine);
+
+/* Makes the choice that is asked for.
+ * Causes: VINTSAKY_BAD_VERTEX, VINTSAKY_NOT_ASKED, or else why the move is refused: VINTSAKY_FULL, VINTSAKY_OFF_BOARD, VINTSAKY_OCCUPIED, VINTSAKY_SUICIDE or VINTSAKY_KO. The
+ * engine stays as it was, and a choice that was asked for is still asked for. */
+uint32_t vintsaky_engine_choose(vintsaky_engine *engine, uint32_t vertex);
+
+/* Answers the line of another command: by a success, where ok isn't 0, or else by a failure.
+ * Causes: VINTSAKY_NOT_ASKED, or else VINTSAKY_BAD_TEXT where no reply may have the text. The engine stays as it was. */
+uint32_t vintsaky_engine_answer(vintsaky_engine *engine, uint32_t ok, const char *text, size_t text_length);
+
+/* Answers the line of another command as the protocol's table does: unknown command.
+ * Causes: VINTSAKY_NOT_ASKED. The engine stays as it was. */
+uint32_t vintsaky_engine_decline(vintsaky_engine *engine);
+
+/* Answers name by this text from now on.
+ * Causes: VINTSAKY_BAD_TEXT where it has more than 200 bytes, or no reply may have it. The engine stays as it was. */
+uint32_t vintsaky_engine_set_name(vintsaky_engine *engine, const char *text, size_t text_length);
+
+/* Answers version by this text from now on.
+ * Causes: As those of set_name. */
+uint32_t vintsaky_engine_set_version(vintsaky_engine *engine, const char *text, size_t text_length);
+
+/* Adds a command of the author's own.
+ * Causes: VINTSAKY_BAD_LENGTH, VINTSAKY_BAD_BYTE, VINTSAKY_ONLY_DIGITS, VINTSAKY_IN_TABLE, VINTSAKY_ADDED_BEFORE or VINTSAKY_TOO_MANY, the first of these that holds. The
+ * engine stays as it was. */
+uint32_t vintsaky_engine_add_command(vintsaky_engine *engine, const char *name, size_t name_length);
+
+/* Copies the engine's game. */
+void vintsaky_engine_copy_game(vintsaky_engine *engine, vintsaky_game *game);
+
+/* Writes the last reply. How many bytes it has: none before the first. */
+size_t vintsaky_engine_reply(vintsaky_engine *engine, char *text, size_t text_room);
+
+/* Writes a word of the line that is waited for, counted from 0 after the id, and its length.
+ * Causes: VINTSAKY_NOT_ASKED where no line is waited for, or else VINTSAKY_NO_WORD. Nothing is written. */
+uint32_t vintsaky_engine_word(vintsaky_engine *engine, size_t number, char *text, size_t text_room, size_t *count);
+
+/* The id of the line that is waited for.
+ * Causes: VINTSAKY_NOT_ASKED where no line is waited for, or else VINTSAKY_NO_ID. Nothing is written. */
+uint32_t vintsaky_engine_id(vintsaky_engine *engine, uint32_t *id);
+
+/* ---- matches ---- */
+
+/* Puts a match into the memory, and its handle. It has size 19, no komi, no handicap, 2,000 moves at most, and no restart. */
+void vintsaky_match_place(vintsaky_match *out, void *at);
+
+/* How many bytes a match takes. */
+size_t vintsaky_match_bytes(void);
+
+/* Of what number the address of a match is a multiple. */
+size_t vintsaky_match_align(void);
+
+/* Begins a match between two engines that are not started yet.
+ * Causes: VINTSAKY_BAD_SIZE, VINTSAKY_BAD_KOMI, VINTSAKY_BAD_HANDICAP, VINTSAKY_BAD_MAX_MOVES or VINTSAKY_BAD_MAX_RESTARTS, the first of these that holds. The match
+ * stays as it was. */
+uint32_t vintsaky_match_begin(vintsaky_match *held, uint32_t size, int32_t half_komi, uint32_t handicap, uint32_t max_moves, uint32_t max_restarts);
+
+/* What is to be done next, as a number. The number of the side with which it is done is written, or 0. */
+uint32_t vintsaky_match_next(vintsaky_match *held, uint32_t *side);
+
+/* A side was started.
+ * Causes: VINTSAKY_BAD_COLOUR, or else VINTSAKY_NOT_NEXT where its start isn't what is next. The match stays as it was. */
+uint32_t vintsaky_match_started(vintsaky_match *held, uint32_t side);
+
+/* Writes the next command for a side, and its length. It counts as sent.
+ * Causes: VINTSAKY_BAD_COLOUR, or else VINTSAKY_NOT_NEXT where that isn't what is next, or else VINTSAKY_NO_ROOM where the buffer has fewer than 65
+ * bytes. The match stays as it was, and nothing is written. */
+uint32_t vintsaky_match_send(vintsaky_match *held, uint32_t side, char *text, size_t text_room, size_t *count);
+
+/* Hears what a side wrote, in any pieces. The number of the fault that it shows is written, or 0.
+ * Causes: VINTSAKY_BAD_COLOUR. The match stays as it was, and nothing is written. */
+uint32_t vintsaky_match_hear(vintsaky_match *held, uint32_t side, const void *bytes, size_t bytes_length, uint32_t *fault);
+
+/* A side is gone.
+ * Causes: VINTSAKY_BAD_COLOUR. The match stays as it was. */
+uint32_t vintsaky_match_lost(vintsaky_match *held, uint32_t side);
+
+/* Whether a side is in step: 1 where it is, else 0.
+ * Causes: VINTSAKY_BAD_COLOUR. Nothing is written. */
+uint32_t vintsaky_match_in_step(vintsaky_match *held, uint32_t side, uint32_t *holds);
+
+/* Copies the match's game. */
+void vintsaky_match_copy_game(vintsaky_match *held, vintsaky_game *game);
+
+/* Writes the line of a match that is over, and its length.
+ * Causes: VINTSAKY_NOT_OVER. Nothing is written. */
+uint32_t vintsaky_match_result(vintsaky_match *held, uint32_t number, char *text, size_t text_room, size_t *count);
+
+/* Writes the moves of a match. How many bytes they have. */
+size_t vintsaky_match_record(vintsaky_match *held, char *text, size_t text_room);
+
+#ifdef __cplusplus
+}
+#endif
+
+#endif
