@@ -54,6 +54,7 @@ enum {
     VINTSAKY_BAD_MAX_RESTARTS = 28, /* The limit of restarts is more than 1,000. */
     VINTSAKY_NOT_NEXT = 29, /* The call is not what the match says next. */
     VINTSAKY_NOT_OVER = 30, /* The match is not over. */
+    VINTSAKY_NO_LINE = 31, /* No line of a command was read. */
 };
 
 /* colours of stones, and the sides that play them */
@@ -81,10 +82,18 @@ enum { VINTSAKY_START = 1, VINTSAKY_SEND = 2, VINTSAKY_WAIT = 3, VINTSAKY_OVER =
 /* what vintsaky_match_hear writes, where it isn't 0: what a side wrote is no reply, is too long, has another id, or was never asked */
 enum { VINTSAKY_NO_STATUS = 1, VINTSAKY_OVERLONG = 2, VINTSAKY_WRONG_ID = 3, VINTSAKY_UNASKED = 4 };
 
+/* what vintsaky_lines_feed returns, where it is not 0: a command line, or one that is too long */
+enum { VINTSAKY_LINE = 1, VINTSAKY_TOO_LONG = 2 };
+
+/* what vintsaky_replies_feed returns, where it is not 0: a reply, bytes that are none, or one that is too long */
+enum { VINTSAKY_READ = 1, VINTSAKY_NO_REPLY = 2, VINTSAKY_LONG_REPLY = 3 };
+
 /* handles, which nobody but the library reads */
 typedef struct { void *at; } vintsaky_game;
 typedef struct { void *at; } vintsaky_engine;
 typedef struct { void *at; } vintsaky_match;
+typedef struct { void *at; } vintsaky_lines;
+typedef struct { void *at; } vintsaky_replies;
 
 /* ---- values ---- */
 
@@ -312,6 +321,54 @@ uint32_t vintsaky_match_result(vintsaky_match *held, uint32_t number, char *text
 
 /* Writes the moves of a match. How many bytes they have. */
 size_t vintsaky_match_record(vintsaky_match *held, char *text, size_t text_room);
+
+/* ---- readers of command lines ---- */
+
+/* Puts a reader of command lines into the memory, and its handle. It was given nothing. */
+void vintsaky_lines_place(vintsaky_lines *out, void *at);
+
+/* How many bytes such a reader takes. */
+size_t vintsaky_lines_bytes(void);
+
+/* Of what number the address of such a reader is a multiple. */
+size_t vintsaky_lines_align(void);
+
+/* Takes the next piece up to and with the newline that ends a line, or all of it. How many bytes were used is written.
+ * Returns 0 where none ended a line, 1 for a command line, and 2 for one that is too long. */
+uint32_t vintsaky_lines_feed(vintsaky_lines *lines, const void *bytes, size_t bytes_length, size_t *used);
+
+/* The id of the command line that was read last.
+ * Causes: VINTSAKY_NO_LINE, or else VINTSAKY_NO_ID. Nothing is written. */
+uint32_t vintsaky_lines_id(vintsaky_lines *lines, uint32_t *id);
+
+/* Writes a word of the command line that was read last, counted from 0 after the id, and its length.
+ * Causes: VINTSAKY_NO_LINE, or else VINTSAKY_NO_WORD. Nothing is written. */
+uint32_t vintsaky_lines_word(vintsaky_lines *lines, size_t number, char *text, size_t text_room, size_t *count);
+
+/* ---- readers of replies ---- */
+
+/* Puts a reader of replies into the memory, and its handle. It was given nothing. */
+void vintsaky_replies_place(vintsaky_replies *out, void *at);
+
+/* How many bytes such a reader takes. */
+size_t vintsaky_replies_bytes(void);
+
+/* Of what number the address of such a reader is a multiple. */
+size_t vintsaky_replies_align(void);
+
+/* Takes the next piece up to and with the byte that ends a reply or shows a fault, or all of it. How many bytes were
+ * used is written. Returns 0 where none did, 1 for a reply, 2 where what came is no reply, and 3 where it is too long. */
+uint32_t vintsaky_replies_feed(vintsaky_replies *replies, const void *bytes, size_t bytes_length, size_t *used);
+
+/* Whether the reply that was read last is a success. */
+bool vintsaky_replies_ok(vintsaky_replies *replies);
+
+/* The id of the reply that was read last.
+ * Causes: VINTSAKY_NO_ID. Nothing is written. */
+uint32_t vintsaky_replies_id(vintsaky_replies *replies, uint32_t *id);
+
+/* Writes the text of the reply that was read last. How many bytes it has. */
+size_t vintsaky_replies_text(vintsaky_replies *replies, char *text, size_t text_room);
 
 #ifdef __cplusplus
 }
