@@ -1,15 +1,15 @@
 -- The calls of a game.
-use Rattle.std.specs.Prelude.{◌≡◌, ◌≢◌, ℕ, ℤ, ◌<◌, ◌≤◌, ◌↔◌, List, [], ◌∷◌, ◌++◌, length, map, drop, Option, Some, None, slice_get}
+use Rattle.std.specs.Prelude.{◌≡◌, ◌≢◌, ℕ, ℤ, ◌<◌, ◌≤◌, List, [], ◌++◌, length, map, drop, Option, Some, None, slice_get}
 use Rattle.go_base.specs.Handicap.{AllowsHandicap}
 use Rattle.go_base.specs.Komi.{IsKomi}
 use Rattle.go_base.specs.Point.{IsOn}
 use Rattle.go_base.specs.Size.{IsSize, most_size}
 use Rattle.go_base.specs.declared.colours.Colour.{Colour}
 use Rattle.go_base.specs.declared.vertices.Vertex.{Vertex}
-use Rattle.go_base.specs.declared.vertices.Vertex.TheVariants.{Pass, At}
+use Rattle.go_base.specs.declared.vertices.Vertex.TheVariants.{At}
 use Rattle.go_base.specs.declared.moves.Move.{Move}
 use Rattle.go_board.specs.Board.{stone_at}
-use Rattle.go_board.specs.Game.{GameRecord, HasRoom, IsLegal, board_of, with_move, without_last}
+use Rattle.go_board.specs.Game.{GameRecord, HasRoom, IsLegal, board_of, with_move}
 use Rattle.go_board.specs.LastTaken.{AreTakenByLast}
 use Rattle.go_board.specs.LegalPoints.{AreLegalPoints}
 use Rattle.go_board.specs.Liberties.{IsChainAt}
@@ -21,7 +21,7 @@ use Rattle.go_board.specs.declared.faults.HandicapFault.TheVariants as handicap_
 use Rattle.go_board.specs.declared.game.searching.Chain.{Chain}
 use Rattle.go_board.specs.declared.rules.KoRule.{KoRule}
 use Rattle.vintsaky_calls.specs.Codes.{colour_code, rule_code, vertex_code, point_code, IsCodeOf}
-use Rattle.vintsaky_calls.specs.Codes.{NoColour, NoRule, NoVertex, play_cause}
+use Rattle.vintsaky_calls.specs.Codes.{NoColour, NoRule, NoVertex}
 use Rattle.vintsaky_calls.specs.declared.causes.Cause.{Cause}
 use Rattle.vintsaky_calls.specs.declared.causes.Cause.TheVariants as cause
 

@@ -1,5 +1,5 @@
 -- The calls of a reader of command lines.
-use Rattle.std.specs.Prelude.{◌≡◌, ℕ, List, [], length, Option, Some, None, slice_get, nat_eq, if◌then◌else◌}
+use Rattle.std.specs.Prelude.{◌≡◌, ℕ, List, length, Option, Some, None, slice_get, nat_eq, if◌then◌else◌}
 use Rattle.gtp_wire.specs.Words.{CommandWords}
 use Rattle.gtp_wire.specs.declared.lines.Line.{Line}
 use Rattle.gtp_wire.specs.declared.lines.Line.TheVariants as line
@@ -36,7 +36,8 @@ pub record PutsLineWord (read : Line) (number : ℕ) (old new : List ℕ) (count
 -- why none is
 abbrev pub LacksLineWord : Line → ℕ → Cause → Type 0
 LacksLineWord read number cause.NoLine = IsNoLine read
-LacksLineWord read number cause.NoWord = (line : CommandWords) × IsRead read line × (slice_get line.words number ≡ None)
+LacksLineWord read number cause.NoWord =
+    (line : CommandWords) × IsRead read line × (slice_get line.words number ≡ None)
 LacksLineWord read number _ = ⊥
 
 -- the id of the line that was read last

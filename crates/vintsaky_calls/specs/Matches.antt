@@ -14,7 +14,7 @@ use Rattle.gtp_match.specs.Controller as controller
 use Rattle.gtp_match.specs.Hearing.{HearsAllExactly}
 use Rattle.gtp_match.specs.Next.{next}
 use Rattle.gtp_match.specs.ResultLine.{result_text}
-use Rattle.gtp_match.specs.Setup.{SetupRecord, setup_of, IsSetup, RefusesSetup}
+use Rattle.gtp_match.specs.Setup.{SetupRecord, IsSetup, RefusesSetup}
 use Rattle.gtp_match.specs.Sides.{side_of}
 use Rattle.vintsaky_calls.specs.Codes.{colour_code, NoColour}
 use Rattle.vintsaky_calls.specs.Texts.{Puts}
@@ -77,7 +77,8 @@ IsNextText old side bytes =
     MatchOption (side_of old.sides side).up ⊥ (λ engine. bytes ≡ controller.next_text old side engine)
 
 -- the next command is put into the caller's buffer, and counts as sent
-pub record Sends (old : Controller) (number : ℕ) (before after : List ℕ) (count : ℕ) (new : Controller) : Type 0 where
+pub record Sends (old : Controller) (number : ℕ) (before after : List ℕ) (count : ℕ) (new : Controller)
+    : Type 0 where
   pub side : Colour
   pub number_is : number ≡ colour_code side
   pub due : next old ≡ action.Send side

@@ -1,5 +1,5 @@
 -- Texts that a call writes into a buffer of its caller.
-use Rattle.std.specs.Prelude.{◌≡◌, ℕ, ◌<◌, ◌≤◌, ◌+◌, List, [], ◌∷◌, ◌++◌, length, drop}
+use Rattle.std.specs.Prelude.{◌≡◌, ℕ, ◌<◌, ◌≤◌, ◌+◌, List, ◌∷◌, ◌++◌, length, drop}
 
 -- The buffer begins with the text and a NUL where it has room for both, and its other bytes stay. Else it stays.
 pub record Puts (text old new : List ℕ) : Type 0 where

@@ -1,12 +1,10 @@
 -- Values as numbers and as texts.
 use Rattle.std.specs.Prelude.{◌≡◌, ℕ, ℤ, List, length}
-use Rattle.go_base.specs.Colour.{written_colour}
 use Rattle.go_base.specs.HalfPoints.{written_half_points}
-use Rattle.go_base.specs.Komi.{IsKomi, SpellsKomi}
+use Rattle.go_base.specs.Komi.{IsKomi}
 use Rattle.go_base.specs.Vertex.{written_vertex, SpellsVertex}
-use Rattle.go_base.specs.declared.colours.Colour.{Colour}
 use Rattle.go_base.specs.declared.vertices.Vertex.{Vertex}
-use Rattle.vintsaky_calls.specs.Codes.{IsCodeOf, colour_code, vertex_code}
+use Rattle.vintsaky_calls.specs.Codes.{IsCodeOf, vertex_code}
 use Rattle.vintsaky_calls.specs.Texts.{Puts}
 
 -- the text spells a vertex, whose number this is
