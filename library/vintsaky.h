@@ -19,6 +19,19 @@
 extern "C" {
 #endif
 
+/* The number of the interface. A program is linked with a library of the same number alone: each file that has this header asks for
+ * vintsaky_interface_1, which no other has. */
+#define VINTSAKY_INTERFACE 1
+void vintsaky_interface_1(void);
+#ifdef __GNUC__
+__attribute__((used))
+#endif
+static void (*const vintsaky_interface)(void) = vintsaky_interface_1;
+
+/* The version of this header, as vintsaky_version returns that of the library: 65536 times the first number, 256 times the second,
+ * and the third. */
+#define VINTSAKY_VERSION 0x010000
+
 /* ---- numbers ---- */
 
 /* why a call is refused */
@@ -55,6 +68,9 @@ enum {
     VINTSAKY_NOT_NEXT = 29, /* The call is not what the match says next. */
     VINTSAKY_NOT_OVER = 30, /* The match is not over. */
     VINTSAKY_NO_LINE = 31, /* No line of a command was read. */
+    VINTSAKY_BAD_COMMAND = 32, /* The number is no command: it isn't from 1 to 8. */
+    VINTSAKY_BAD_ID = 33, /* The id is negative, and not -1, which is none. */
+    VINTSAKY_DOWN = 34, /* The side was not started or went down, or the match is over. */
 };
 
 /* colours of stones, and the sides that play them */
@@ -79,8 +95,48 @@ enum {
 /* what vintsaky_match_next returns: start this side's engine, send it a command, wait for what it writes; or the match is over */
 enum { VINTSAKY_START = 1, VINTSAKY_SEND = 2, VINTSAKY_WAIT = 3, VINTSAKY_OVER = 4 };
 
-/* what vintsaky_match_hear writes, where it isn't 0: what a side wrote is no reply, is too long, has another id, or was never asked */
-enum { VINTSAKY_NO_STATUS = 1, VINTSAKY_OVERLONG = 2, VINTSAKY_WRONG_ID = 3, VINTSAKY_UNASKED = 4 };
+/* why a side fails by what it writes, where it isn't 0 */
+enum {
+    VINTSAKY_LOSS_NO_STATUS = 1,    /* What it wrote is no reply: it begins with neither = nor ?. It goes down. */
+    VINTSAKY_LOSS_OVERLONG = 2,     /* More than 8,192 bytes came since its last reply. It goes down. */
+    VINTSAKY_LOSS_WRONG_ID = 3,     /* The reply hasn't the id of the oldest unanswered command. It goes down. */
+    VINTSAKY_LOSS_UNASKED = 4,      /* A reply came where no command is unanswered. It goes down. */
+    VINTSAKY_LOSS_UNFIT = 5,        /* It failed at a command that brings it to the record, or placed another handicap. It is unfit. */
+    VINTSAKY_LOSS_REFUSES_PLAY = 6, /* It refused a play that isn't retaken. It forfeits. */
+    VINTSAKY_LOSS_KEEPS_MOVE = 7,   /* It didn't take back its move, which the other side refused. The other side forfeits. */
+    VINTSAKY_LOSS_NO_MOVE = 8,      /* It failed at a genmove. It forfeits. */
+    VINTSAKY_LOSS_NO_VERTEX = 9,    /* Its answer to a genmove is neither a vertex nor a resignation. It forfeits. */
+    VINTSAKY_LOSS_FULL = 10,        /* Its move is refused, for the causes of the same names. It forfeits. */
+    VINTSAKY_LOSS_OFF_BOARD = 11,
+    VINTSAKY_LOSS_OCCUPIED = 12,
+    VINTSAKY_LOSS_SUICIDE = 13,
+    VINTSAKY_LOSS_KO = 14
+};
+
+/* how a match ended */
+enum {
+    VINTSAKY_BY_SCORE = 1,        /* by two passes */
+    VINTSAKY_BY_RESIGNATION = 2,  /* the side resigned */
+    VINTSAKY_BY_LIMIT = 3,        /* the record has as many moves as the match allows */
+    VINTSAKY_BY_REFUSED_PLAY = 4, /* the side refused a legal play, or kept a move that the other side refused: it forfeits */
+    VINTSAKY_BY_NO_MOVE = 5,      /* the side failed to answer with a move: it forfeits */
+    VINTSAKY_BY_NO_VERTEX = 6,    /* the side answered with what is no move: it forfeits */
+    VINTSAKY_BY_ILLEGAL_MOVE = 7, /* the side answered with a move that isn't legal: it forfeits */
+    VINTSAKY_BY_UNFIT = 8,        /* the side can't be brought to the record */
+    VINTSAKY_BY_ABANDONED = 9     /* the side went down too often */
+};
+
+/* the commands that vintsaky_write_command writes */
+enum {
+    VINTSAKY_BOARDSIZE = 1,
+    VINTSAKY_KOMI = 2,
+    VINTSAKY_CLEAR_BOARD = 3,
+    VINTSAKY_FIXED_HANDICAP = 4,
+    VINTSAKY_PLAY = 5,
+    VINTSAKY_GENMOVE = 6,
+    VINTSAKY_UNDO = 7,
+    VINTSAKY_QUIT = 8
+};
 
 /* what vintsaky_lines_feed returns, where it is not 0: a command line, or one that is too long */
 enum { VINTSAKY_LINE = 1, VINTSAKY_TOO_LONG = 2 };
@@ -95,7 +151,23 @@ typedef struct { void *at; } vintsaky_match;
 typedef struct { void *at; } vintsaky_lines;
 typedef struct { void *at; } vintsaky_replies;
 
+/* ---- the library ---- */
+
+/* The version of the library: see VINTSAKY_VERSION. */
+uint32_t vintsaky_version(void);
+
+/* Writes a sentence that says what a cause means. How many bytes it has. Each number has one: also 0, and what is no cause. */
+size_t vintsaky_cause_text(uint32_t cause, char *text, size_t text_room);
+
 /* ---- values ---- */
+
+/* Reads a colour: b, w, black or white, where each letter may be small or capital.
+ * Causes: VINTSAKY_BAD_TEXT. Nothing is written. */
+uint32_t vintsaky_read_colour(const char *text, size_t text_length, uint32_t *colour);
+
+/* Writes a colour, as the protocol spells it: b or w, and the length of that text.
+ * Causes: VINTSAKY_BAD_COLOUR. Nothing is written. */
+uint32_t vintsaky_colour_text(uint32_t colour, char *text, size_t text_room, size_t *count);
 
 /* The number of the point of a column and a row, both from 1 to 25.
  * Causes: VINTSAKY_BAD_VERTEX. Nothing is written. */
@@ -116,6 +188,21 @@ uint32_t vintsaky_read_komi(const char *text, size_t text_length, int32_t *half_
 /* Writes a komi in points, as the protocol spells it, and the length of that text.
  * Causes: VINTSAKY_BAD_KOMI. Nothing is written. */
 uint32_t vintsaky_komi_text(int32_t half_points, char *text, size_t text_room, size_t *count);
+
+/* ---- lines that are written ---- */
+
+/* Writes the line of a command, with its newline, and its length: 64 bytes at most. The id is -1 for none. The value is the size of
+ * boardsize, the half points of komi, the number of stones of fixed_handicap, the colour of play and genmove; the vertex is that of
+ * play. What a command doesn't have isn't looked at.
+ * Causes: VINTSAKY_BAD_ID, or else VINTSAKY_BAD_COMMAND, or else VINTSAKY_BAD_SIZE, VINTSAKY_BAD_KOMI, VINTSAKY_BAD_HANDICAP (of a
+ * negative number alone), VINTSAKY_BAD_COLOUR or VINTSAKY_BAD_VERTEX, the first of these that holds. Nothing is written. */
+uint32_t vintsaky_write_command(
+    int32_t id, uint32_t command, int32_t value, uint32_t vertex, char *text, size_t text_room, size_t *count);
+
+/* Writes a reply: a success where ok isn't 0, else a failure, and its length: 2,014 bytes at most. The id is -1 for none.
+ * Causes: VINTSAKY_BAD_ID, or else VINTSAKY_BAD_TEXT where no reply may have the text. Nothing is written. */
+uint32_t vintsaky_write_reply(
+    int32_t id, uint32_t ok, const char *said, size_t said_length, char *text, size_t text_room, size_t *count);
 
 /* ---- games ---- */
 
@@ -157,7 +244,8 @@ void vintsaky_game_copy(vintsaky_game *game, vintsaky_game *other);
 uint32_t vintsaky_game_begin(vintsaky_game *game, uint32_t rule, uint32_t size, int32_t half_komi);
 
 /* Makes a move.
- * Causes: VINTSAKY_BAD_COLOUR or VINTSAKY_BAD_VERTEX, and else why the move is refused: VINTSAKY_FULL, VINTSAKY_OFF_BOARD, VINTSAKY_OCCUPIED, VINTSAKY_SUICIDE or VINTSAKY_KO. The
+ * Causes: VINTSAKY_BAD_COLOUR or VINTSAKY_BAD_VERTEX, and else why the move is refused: VINTSAKY_FULL, VINTSAKY_OFF_BOARD,
+ * VINTSAKY_OCCUPIED, VINTSAKY_SUICIDE or VINTSAKY_KO. The
  * game stays as it was. */
 uint32_t vintsaky_game_play(vintsaky_game *game, uint32_t colour, uint32_t vertex);
 
@@ -233,7 +321,8 @@ uint32_t vintsaky_engine_feed(vintsaky_engine *engine, const void *bytes, size_t
 uint32_t vintsaky_engine_wait(vintsaky_engine *engine);
 
 /* Makes the choice that is asked for.
- * Causes: VINTSAKY_BAD_VERTEX, VINTSAKY_NOT_ASKED, or else why the move is refused: VINTSAKY_FULL, VINTSAKY_OFF_BOARD, VINTSAKY_OCCUPIED, VINTSAKY_SUICIDE or VINTSAKY_KO. The
+ * Causes: VINTSAKY_BAD_VERTEX, VINTSAKY_NOT_ASKED, or else why the move is refused: VINTSAKY_FULL, VINTSAKY_OFF_BOARD,
+ * VINTSAKY_OCCUPIED, VINTSAKY_SUICIDE or VINTSAKY_KO. The
  * engine stays as it was, and a choice that was asked for is still asked for. */
 uint32_t vintsaky_engine_choose(vintsaky_engine *engine, uint32_t vertex);
 
@@ -254,7 +343,8 @@ uint32_t vintsaky_engine_set_name(vintsaky_engine *engine, const char *text, siz
 uint32_t vintsaky_engine_set_version(vintsaky_engine *engine, const char *text, size_t text_length);
 
 /* Adds a command of the author's own.
- * Causes: VINTSAKY_BAD_LENGTH, VINTSAKY_BAD_BYTE, VINTSAKY_ONLY_DIGITS, VINTSAKY_IN_TABLE, VINTSAKY_ADDED_BEFORE or VINTSAKY_TOO_MANY, the first of these that holds. The
+ * Causes: VINTSAKY_BAD_LENGTH, VINTSAKY_BAD_BYTE, VINTSAKY_ONLY_DIGITS, VINTSAKY_IN_TABLE, VINTSAKY_ADDED_BEFORE or
+ * VINTSAKY_TOO_MANY, the first of these that holds. The
  * engine stays as it was. */
 uint32_t vintsaky_engine_add_command(vintsaky_engine *engine, const char *name, size_t name_length);
 
@@ -284,9 +374,11 @@ size_t vintsaky_match_bytes(void);
 size_t vintsaky_match_align(void);
 
 /* Begins a match between two engines that are not started yet.
- * Causes: VINTSAKY_BAD_SIZE, VINTSAKY_BAD_KOMI, VINTSAKY_BAD_HANDICAP, VINTSAKY_BAD_MAX_MOVES or VINTSAKY_BAD_MAX_RESTARTS, the first of these that holds. The match
+ * Causes: VINTSAKY_BAD_SIZE, VINTSAKY_BAD_KOMI, VINTSAKY_BAD_HANDICAP, VINTSAKY_BAD_MAX_MOVES or VINTSAKY_BAD_MAX_RESTARTS, the
+ * first of these that holds. The match
  * stays as it was. */
-uint32_t vintsaky_match_begin(vintsaky_match *held, uint32_t size, int32_t half_komi, uint32_t handicap, uint32_t max_moves, uint32_t max_restarts);
+uint32_t vintsaky_match_begin(
+    vintsaky_match *held, uint32_t size, int32_t half_komi, uint32_t handicap, uint32_t max_moves, uint32_t max_restarts);
 
 /* What is to be done next, as a number. The number of the side with which it is done is written, or 0. */
 uint32_t vintsaky_match_next(vintsaky_match *held, uint32_t *side);
@@ -296,13 +388,34 @@ uint32_t vintsaky_match_next(vintsaky_match *held, uint32_t *side);
 uint32_t vintsaky_match_started(vintsaky_match *held, uint32_t side);
 
 /* Writes the next command for a side, and its length. It counts as sent.
- * Causes: VINTSAKY_BAD_COLOUR, or else VINTSAKY_NOT_NEXT where that isn't what is next, or else VINTSAKY_NO_ROOM where the buffer has fewer than 65
+ * Causes: VINTSAKY_BAD_COLOUR, or else VINTSAKY_NOT_NEXT where that isn't what is next, or else VINTSAKY_NO_ROOM where the buffer
+ * has fewer than 65
  * bytes. The match stays as it was, and nothing is written. */
 uint32_t vintsaky_match_send(vintsaky_match *held, uint32_t side, char *text, size_t text_room, size_t *count);
 
-/* Hears what a side wrote, in any pieces. The number of the fault that it shows is written, or 0.
+/* Hears what a side wrote, in any pieces. Why the side fails by it is written, or 0.
  * Causes: VINTSAKY_BAD_COLOUR. The match stays as it was, and nothing is written. */
-uint32_t vintsaky_match_hear(vintsaky_match *held, uint32_t side, const void *bytes, size_t bytes_length, uint32_t *fault);
+uint32_t vintsaky_match_hear(vintsaky_match *held, uint32_t side, const void *bytes, size_t bytes_length, uint32_t *loss);
+
+/* Hears what a side wrote as vintsaky_match_hear does, and writes more of what it reports: which retake of its number of a move it is,
+ * 1 to 3, where the side refused a play that is retaken, or 0; and of the loss, or else of the retake, how many commands the side hadn't
+ * answered, the oldest of them, as it was sent, and the first 80 bytes that it wrote since its last whole reply, each with its
+ * length. Where there is neither, these are 0 and the texts empty.
+ * Causes: VINTSAKY_BAD_COLOUR. The match stays as it was, and nothing is written. */
+uint32_t vintsaky_match_hear_reporting(vintsaky_match *held, uint32_t side, const void *bytes, size_t bytes_length, uint32_t *loss,
+    uint32_t *retake, uint32_t *unanswered, char *command, size_t command_room, size_t *command_count, char *wrote, size_t wrote_room,
+    size_t *wrote_count);
+
+/* Writes what a side owes: how many commands it hasn't answered, the oldest of them, as it was sent, or an empty text, and the first
+ * 80 bytes that it wrote since its last whole reply, each with its length.
+ * Causes: VINTSAKY_BAD_COLOUR, or else VINTSAKY_DOWN. Nothing is written. */
+uint32_t vintsaky_match_owed(vintsaky_match *held, uint32_t side, uint32_t *unanswered, char *command, size_t command_room,
+    size_t *command_count, char *wrote, size_t wrote_room, size_t *wrote_count);
+
+/* Writes how many commands a side has confirmed of those that bring it to the record, how many it hasn't answered, and whether a
+ * genmove is among them: 1 where it is, else 0. It doesn't matter whether the match is over.
+ * Causes: VINTSAKY_BAD_COLOUR, or else VINTSAKY_DOWN. Nothing is written. */
+uint32_t vintsaky_match_status(vintsaky_match *held, uint32_t side, uint32_t *confirmed, uint32_t *unanswered, uint32_t *asked);
 
 /* A side is gone.
  * Causes: VINTSAKY_BAD_COLOUR. The match stays as it was. */
@@ -311,6 +424,20 @@ uint32_t vintsaky_match_lost(vintsaky_match *held, uint32_t side);
 /* Whether a side is in step: 1 where it is, else 0.
  * Causes: VINTSAKY_BAD_COLOUR. Nothing is written. */
 uint32_t vintsaky_match_in_step(vintsaky_match *held, uint32_t side, uint32_t *holds);
+
+/* Writes how often a side was started again.
+ * Causes: VINTSAKY_BAD_COLOUR. Nothing is written. */
+uint32_t vintsaky_match_restarts(vintsaky_match *held, uint32_t side, uint32_t *restarts);
+
+/* How many refusals of the move of this number, counted from 1, were met by a retake: 3 at most. */
+uint32_t vintsaky_match_retakes(vintsaky_match *held, uint32_t number);
+
+/* The side whose last move is to be taken back, because the other side refused it, or 0. */
+uint32_t vintsaky_match_taking_back(vintsaky_match *held);
+
+/* Writes how a match ended, the side that it says it of, or 0, and the score in half points, positive where Black leads, or 0.
+ * Causes: VINTSAKY_NOT_OVER. Nothing is written. */
+uint32_t vintsaky_match_verdict(vintsaky_match *held, uint32_t *ending, uint32_t *side, int32_t *half_points);
 
 /* Copies the match's game. */
 void vintsaky_match_copy_game(vintsaky_match *held, vintsaky_game *game);
@@ -369,6 +496,73 @@ uint32_t vintsaky_replies_id(vintsaky_replies *replies, uint32_t *id);
 
 /* Writes the text of the reply that was read last. How many bytes it has. */
 size_t vintsaky_replies_text(vintsaky_replies *replies, char *text, size_t text_room);
+
+/* ---- in memory of malloc ---- */
+
+/* Puts a game into memory of malloc, as vintsaky_game_place does. Returns false where there is no memory. */
+static inline bool vintsaky_game_new(vintsaky_game *out) {
+    void *at = malloc(vintsaky_game_bytes());
+    if (at != NULL) vintsaky_game_place(out, at);
+    return at != NULL;
+}
+
+/* Gives back the memory of one that vintsaky_game_new put there. It can't be used then. */
+static inline void vintsaky_game_free(vintsaky_game *held) {
+    free(held->at);
+    held->at = NULL;
+}
+
+/* Puts an engine into memory of malloc, as vintsaky_engine_place does. Returns false where there is no memory. */
+static inline bool vintsaky_engine_new(vintsaky_engine *out) {
+    void *at = malloc(vintsaky_engine_bytes());
+    if (at != NULL) vintsaky_engine_place(out, at);
+    return at != NULL;
+}
+
+/* Gives back the memory of one that vintsaky_engine_new put there. It can't be used then. */
+static inline void vintsaky_engine_free(vintsaky_engine *held) {
+    free(held->at);
+    held->at = NULL;
+}
+
+/* Puts a match into memory of malloc, as vintsaky_match_place does. Returns false where there is no memory. */
+static inline bool vintsaky_match_new(vintsaky_match *out) {
+    void *at = malloc(vintsaky_match_bytes());
+    if (at != NULL) vintsaky_match_place(out, at);
+    return at != NULL;
+}
+
+/* Gives back the memory of one that vintsaky_match_new put there. It can't be used then. */
+static inline void vintsaky_match_free(vintsaky_match *held) {
+    free(held->at);
+    held->at = NULL;
+}
+
+/* Puts a reader of command lines into memory of malloc, as vintsaky_lines_place does. Returns false where there is no memory. */
+static inline bool vintsaky_lines_new(vintsaky_lines *out) {
+    void *at = malloc(vintsaky_lines_bytes());
+    if (at != NULL) vintsaky_lines_place(out, at);
+    return at != NULL;
+}
+
+/* Gives back the memory of one that vintsaky_lines_new put there. It can't be used then. */
+static inline void vintsaky_lines_free(vintsaky_lines *held) {
+    free(held->at);
+    held->at = NULL;
+}
+
+/* Puts a reader of replies into memory of malloc, as vintsaky_replies_place does. Returns false where there is no memory. */
+static inline bool vintsaky_replies_new(vintsaky_replies *out) {
+    void *at = malloc(vintsaky_replies_bytes());
+    if (at != NULL) vintsaky_replies_place(out, at);
+    return at != NULL;
+}
+
+/* Gives back the memory of one that vintsaky_replies_new put there. It can't be used then. */
+static inline void vintsaky_replies_free(vintsaky_replies *held) {
+    free(held->at);
+    held->at = NULL;
+}
 
 #ifdef __cplusplus
 }
