@@ -399,15 +399,15 @@ uint32_t vintsaky_match_hear(vintsaky_match *held, uint32_t side, const void *by
 
 /* Hears what a side wrote as vintsaky_match_hear does, and writes more of what it reports: which retake of its number of a move it is,
  * 1 to 3, where the side refused a play that is retaken, or 0; and of the loss, or else of the retake, how many commands the side hadn't
- * answered, the oldest of them, as it was sent, and the first 80 bytes that it wrote since its last whole reply, each with its
- * length. Where there is neither, these are 0 and the texts empty.
+ * answered, the oldest of them, as it was sent but without its newline, and the first 80 bytes that it wrote since its last whole
+ * reply, each with its length. Where there is neither, these are 0 and the texts empty.
  * Causes: VINTSAKY_BAD_COLOUR. The match stays as it was, and nothing is written. */
 uint32_t vintsaky_match_hear_reporting(vintsaky_match *held, uint32_t side, const void *bytes, size_t bytes_length, uint32_t *loss,
     uint32_t *retake, uint32_t *unanswered, char *command, size_t command_room, size_t *command_count, char *wrote, size_t wrote_room,
     size_t *wrote_count);
 
-/* Writes what a side owes: how many commands it hasn't answered, the oldest of them, as it was sent, or an empty text, and the first
- * 80 bytes that it wrote since its last whole reply, each with its length.
+/* Writes what a side owes: how many commands it hasn't answered, the oldest of them, as it was sent but without its newline, or an
+ * empty text, and the first 80 bytes that it wrote since its last whole reply, each with its length.
  * Causes: VINTSAKY_BAD_COLOUR, or else VINTSAKY_DOWN. Nothing is written. */
 uint32_t vintsaky_match_owed(vintsaky_match *held, uint32_t side, uint32_t *unanswered, char *command, size_t command_room,
     size_t *command_count, char *wrote, size_t wrote_room, size_t *wrote_count);

@@ -93,6 +93,13 @@ cause_code cause.BadMaxRestarts = 28
 cause_code cause.NotNext = 29
 cause_code cause.NotOver = 30
 cause_code cause.NoLine = 31
+cause_code cause.BadCommand = 32
+cause_code cause.BadId = 33
+cause_code cause.Down = 34
+
+-- the number stands for no cause
+abbrev pub NoCause : ℕ → Type 0
+NoCause n = (why : Cause) → n ≢ cause_code why
 
 -- what a call returns: 0 where it was done
 abbrev pub result_code : Result (Unit {0}) Cause → ℕ

@@ -1,8 +1,10 @@
 pub mod Codes
 pub mod Engines
 pub mod Games
+pub mod Library
 pub mod Lines
 pub mod Matches
 pub mod Replies
 pub mod Texts
 pub mod Values
+pub mod Writing

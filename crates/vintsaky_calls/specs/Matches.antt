@@ -1,21 +1,41 @@
 -- The calls of a match.
-use Rattle.std.specs.Prelude.{◌≡◌, ◌≢◌, ℕ, Bool, List, ◌≤◌, length, Option, Some, None, MatchOption, if◌then◌else◌}
+use Rattle.std.specs.Prelude.{◌≡◌, ◌≢◌, ℕ, ℤ, pos, Bool, List, [], ◌∷◌, ◌++◌, ◌≤◌, length}
+use Rattle.std.specs.Prelude.{Option, Some, None, MatchOption, if◌then◌else◌}
+use Rattle.std.specs.List.{join_with_byte}
+use Rattle.std.specs.Option.{option_to_list}
+use Rattle.go_base.specs.Bytes.{space}
+use Rattle.go_base.specs.Int.{written_int}
 use Rattle.go_base.specs.Komi.{IsKomi}
 use Rattle.go_base.specs.Size.{IsSize}
 use Rattle.go_base.specs.declared.colours.Colour.{Colour}
+use Rattle.go_board.specs.declared.faults.PlayFault.{PlayFault}
+use Rattle.go_board.specs.declared.faults.PlayFault.TheVariants as play_fault
+use Rattle.gtp_wire.specs.Commands.{words_of}
 use Rattle.gtp_match.specs.declared.controller.Controller.{Controller}
+use Rattle.gtp_match.specs.declared.losses.Loss.{Loss}
+use Rattle.gtp_match.specs.declared.losses.LossCause.{LossCause}
+use Rattle.gtp_match.specs.declared.losses.LossCause.TheVariants as loss
+use Rattle.gtp_match.specs.declared.losses.Owed.{Owed}
+use Rattle.gtp_match.specs.declared.reports.Retake.{Retake}
 use Rattle.gtp_match.specs.declared.setup.SetupFault.TheVariants as setup_fault
+use Rattle.gtp_match.specs.declared.sides.EngineRun.{EngineRun}
+use Rattle.gtp_match.specs.declared.unanswered.SentCommand.{SentCommand}
 use Rattle.gtp_match.specs.declared.verdicts.Action.{Action}
 use Rattle.gtp_match.specs.declared.verdicts.Action.TheVariants as action
 use Rattle.gtp_match.specs.declared.verdicts.SideFault.{SideFault}
 use Rattle.gtp_match.specs.declared.verdicts.SideFault.TheVariants as side_fault
+use Rattle.gtp_match.specs.declared.verdicts.ForfeitCause.TheVariants as forfeit
 use Rattle.gtp_match.specs.declared.verdicts.Verdict.{Verdict}
+use Rattle.gtp_match.specs.declared.verdicts.Verdict.TheVariants as verdict
 use Rattle.gtp_match.specs.Controller as controller
 use Rattle.gtp_match.specs.Hearing.{HearsAllExactly}
+use Rattle.gtp_match.specs.Losing.{HearsAllReporting, owed}
 use Rattle.gtp_match.specs.Next.{next}
 use Rattle.gtp_match.specs.ResultLine.{result_text}
+use Rattle.gtp_match.specs.Retaking.{HearsAllRetakes}
 use Rattle.gtp_match.specs.Setup.{SetupRecord, IsSetup, RefusesSetup}
 use Rattle.gtp_match.specs.Sides.{side_of}
+use Rattle.gtp_match.specs.Unanswered.{has_genmove}
 use Rattle.vintsaky_calls.specs.Codes.{colour_code, NoColour}
 use Rattle.vintsaky_calls.specs.Texts.{Puts}
 use Rattle.vintsaky_calls.specs.declared.causes.Cause.{Cause}
@@ -100,25 +120,160 @@ RefusesSend old number before cause.NoRoom =
     IsSide number (λ side. next old ≡ action.Send side) × (length before ≤ most_command)
 RefusesSend old number before _ = ⊥
 
--- the number of the fault that bytes show, or 0
-abbrev pub fault_code : Option SideFault → ℕ
-fault_code None = 0
-fault_code (Some side_fault.NoStatus) = 1
-fault_code (Some side_fault.Overlong) = 2
-fault_code (Some side_fault.WrongId) = 3
-fault_code (Some side_fault.Unasked) = 4
+-- 1 where it holds, else 0
+abbrev pub bool_code : Bool → ℕ
+bool_code holds = if holds then 1 else 0
+
+-- the number of a fault that bytes show
+abbrev pub fault_code : SideFault → ℕ
+fault_code side_fault.NoStatus = 1
+fault_code side_fault.Overlong = 2
+fault_code side_fault.WrongId = 3
+fault_code side_fault.Unasked = 4
+
+-- the number of a rule that a move breaks
+abbrev pub rule_loss_code : PlayFault → ℕ
+rule_loss_code play_fault.Full = 10
+rule_loss_code play_fault.OffBoard = 11
+rule_loss_code play_fault.Occupied = 12
+rule_loss_code play_fault.Suicide = 13
+rule_loss_code play_fault.Ko = 14
+
+-- the number of why a side fails
+abbrev pub loss_cause_code : LossCause → ℕ
+loss_cause_code (loss.Shows fault) = fault_code fault
+loss_cause_code loss.Unfit = 5
+loss_cause_code loss.RefusesPlay = 6
+loss_cause_code loss.KeepsMove = 7
+loss_cause_code loss.NoMove = 8
+loss_cause_code loss.NoVertex = 9
+loss_cause_code (loss.Illegal fault) = rule_loss_code fault
+
+-- the number of a loss, or 0
+abbrev pub loss_code : Option Loss → ℕ
+loss_code None = 0
+loss_code (Some lost) = loss_cause_code lost.cause
+
+-- All that a side wrote is heard, and the first loss by it is this one.
+pub record HearsLoss (side : Colour) (old : Controller) (bytes : List ℕ) (lost : Option Loss) (new : Controller)
+    : Type 0 where
+  pub fault : Option SideFault
+  pub heard : HearsAllExactly side old bytes fault new
+  pub reported : HearsAllReporting side old bytes lost new
 
 -- what a side wrote is heard
 pub record Hears (old : Controller) (number : ℕ) (bytes : List ℕ) (shown : ℕ) (new : Controller) : Type 0 where
   pub side : Colour
-  pub fault : Option SideFault
+  pub lost : Option Loss
   pub number_is : number ≡ colour_code side
-  pub shown_is : shown ≡ fault_code fault
-  pub heard : HearsAllExactly side old bytes fault new
+  pub shown_is : shown ≡ loss_code lost
+  pub heard : HearsLoss side old bytes lost new
 
--- 1 where it holds, else 0
-abbrev pub bool_code : Bool → ℕ
-bool_code holds = if holds then 1 else 0
+-- which retake of its number of a move it is, or 0
+abbrev pub retake_code : Option Retake → ℕ
+retake_code None = 0
+retake_code (Some retaken) = retaken.count
+
+-- a command as it was sent, without its newline: its id, a space and its words
+abbrev pub sent_text : SentCommand → List ℕ
+sent_text entry = written_int entry.id ++ space ∷ join_with_byte space (words_of entry.command)
+
+-- that of the oldest unanswered command, or an empty text
+abbrev pub oldest_text : Option SentCommand → List ℕ
+oldest_text None = []
+oldest_text (Some entry) = sent_text entry
+
+-- a side owes nothing
+abbrev pub owes_nothing : Owed
+owes_nothing = record { unanswered = 0; oldest = None; bytes = record { items = [] } }
+
+-- what a side owed at its loss, or else at the retake, or else nothing
+abbrev pub reported_owed : Option Loss → Option Retake → Owed
+reported_owed (Some lost) retaken = lost.owed
+reported_owed None (Some retaken) = retaken.owed
+reported_owed None None = owes_nothing
+
+-- what a side owes is written: a number, and two texts with their lengths
+pub record PutsOwed (owes : Owed) (unanswered : ℕ) (command_old command_new : List ℕ) (command_count : ℕ)
+    (wrote_old wrote_new : List ℕ) (wrote_count : ℕ) : Type 0 where
+  pub unanswered_is : unanswered ≡ owes.unanswered
+  pub command : Puts (oldest_text owes.oldest) command_old command_new
+  pub command_count_is : command_count ≡ length (oldest_text owes.oldest)
+  pub wrote : Puts owes.bytes.items wrote_old wrote_new
+  pub wrote_count_is : wrote_count ≡ length owes.bytes.items
+
+-- Bytes of this side are heard, and the first loss and the retake by them are reported.
+pub record HearsReport (old : Controller) (number : ℕ) (bytes : List ℕ) (lost : Option Loss) (retaken : Option Retake)
+    (new : Controller) : Type 0 where
+  pub side : Colour
+  pub number_is : number ≡ colour_code side
+  pub heard : HearsLoss side old bytes lost new
+  pub retakes : HearsAllRetakes side old bytes (option_to_list retaken) new
+
+-- why what a side owes isn't written: the number is no side, or nothing is known of what that side owes
+abbrev pub LacksOwed : Controller → ℕ → Cause → Type 0
+LacksOwed c number cause.BadColour = NoColour number
+LacksOwed c number cause.Down = IsSide number (λ side. owed c side ≡ None)
+LacksOwed c number _ = ⊥
+
+-- the side is up, with these numbers
+pub record HasStatus (c : Controller) (number confirmed unanswered asked : ℕ) : Type 0 where
+  pub side : Colour
+  pub engine : EngineRun
+  pub number_is : number ≡ colour_code side
+  pub up : (side_of c.sides side).up ≡ Some engine
+  pub confirmed_is : confirmed ≡ engine.confirmed
+  pub unanswered_is : unanswered ≡ length engine.unanswered
+  pub asked_is : asked ≡ bool_code (has_genmove engine.unanswered)
+
+-- why it has none: the number is no side, or the side is down
+abbrev pub LacksStatus : Controller → ℕ → Cause → Type 0
+LacksStatus c number cause.BadColour = NoColour number
+LacksStatus c number cause.Down = IsSide number (λ side. (side_of c.sides side).up ≡ None)
+LacksStatus c number _ = ⊥
+
+-- the number of a side, or 0
+abbrev pub maybe_side_code : Option Colour → ℕ
+maybe_side_code None = 0
+maybe_side_code (Some side) = colour_code side
+
+-- the number of how a match ended
+abbrev pub ending_code : Verdict → ℕ
+ending_code (verdict.Score half_points) = 1
+ending_code (verdict.Resign side) = 2
+ending_code verdict.Limit = 3
+ending_code (verdict.Forfeit side forfeit.RefusedPlay) = 4
+ending_code (verdict.Forfeit side forfeit.NoMove) = 5
+ending_code (verdict.Forfeit side forfeit.NoVertex) = 6
+ending_code (verdict.Forfeit side forfeit.IllegalMove) = 7
+ending_code (verdict.Unfit side) = 8
+ending_code (verdict.Abandoned side) = 9
+
+-- the number of the side that this is said of, or 0
+abbrev pub ending_side : Verdict → ℕ
+ending_side (verdict.Score half_points) = 0
+ending_side (verdict.Resign side) = colour_code side
+ending_side verdict.Limit = 0
+ending_side (verdict.Forfeit side cause) = colour_code side
+ending_side (verdict.Unfit side) = colour_code side
+ending_side (verdict.Abandoned side) = colour_code side
+
+-- the score in half points, or 0
+abbrev pub ending_score : Verdict → ℤ
+ending_score (verdict.Score half_points) = half_points
+ending_score (verdict.Resign side) = pos 0
+ending_score verdict.Limit = pos 0
+ending_score (verdict.Forfeit side cause) = pos 0
+ending_score (verdict.Unfit side) = pos 0
+ending_score (verdict.Abandoned side) = pos 0
+
+-- the match is over, and ended so
+pub record EndsAs (c : Controller) (ending side : ℕ) (half_points : ℤ) : Type 0 where
+  pub given : Verdict
+  pub over : c.verdict ≡ Some given
+  pub ending_is : ending ≡ ending_code given
+  pub side_is : side ≡ ending_side given
+  pub score_is : half_points ≡ ending_score given
 
 -- the line of a match that is over is put into the caller's buffer
 pub record PutsResult (c : Controller) (number : ℕ) (old new : List ℕ) (count : ℕ) : Type 0 where

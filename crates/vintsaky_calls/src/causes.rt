@@ -1,6 +1,6 @@
 //! Why a call is refused.
-ghost use Rattle.std.specs.Prelude.{◌≡◌};
-ghost use Rattle.vintsaky_calls.specs.Codes.{cause_code, result_code};
+ghost use Rattle.std.specs.Prelude.{◌≡◌, IfSome, IfNone};
+ghost use Rattle.vintsaky_calls.specs.Codes.{cause_code, result_code, NoCause};
 
 /// Why a call is refused. Its number is the same in all later releases, and 0 is what a call returns that was done.
 #[derive(Clone, Copy, PartialEq, Eq, Debug, Drop)]
@@ -67,6 +67,12 @@ pub enum Cause {
     NotOver,
     /// No line of a command was read.
     NoLine,
+    /// The number is no command: it isn't from 1 to 8.
+    BadCommand,
+    /// The id is negative, and not -1, which is none.
+    BadId,
+    /// The side was not started or went down, or the match is over.
+    Down,
 }
 
 /// The number of what a call came to: 0 where it was done, and else that of the cause.
@@ -115,5 +121,52 @@ fn number_of(cause: Cause) -> u32
         Cause::NotNext => 29,
         Cause::NotOver => 30,
         Cause::NoLine => 31,
+        Cause::BadCommand => 32,
+        Cause::BadId => 33,
+        Cause::Down => 34,
+    }
+}
+
+/// The cause of a number.
+pub(crate) fn cause_of(number: u32) -> Option<Cause>
+    ensures some { IfSome result (λ why. number ≡ cause_code why) }
+    ensures none { IfNone result (NoCause number) }
+{
+    match number {
+        1 => Some(Cause::BadColour),
+        2 => Some(Cause::BadVertex),
+        3 => Some(Cause::BadRule),
+        4 => Some(Cause::BadSize),
+        5 => Some(Cause::BadKomi),
+        6 => Some(Cause::BadText),
+        7 => Some(Cause::NoRoom),
+        8 => Some(Cause::Full),
+        9 => Some(Cause::OffBoard),
+        10 => Some(Cause::Occupied),
+        11 => Some(Cause::Suicide),
+        12 => Some(Cause::Ko),
+        13 => Some(Cause::NothingToUndo),
+        14 => Some(Cause::NotEmpty),
+        15 => Some(Cause::BadHandicap),
+        16 => Some(Cause::NoMove),
+        17 => Some(Cause::NoStone),
+        18 => Some(Cause::NotAsked),
+        19 => Some(Cause::NoWord),
+        20 => Some(Cause::NoId),
+        21 => Some(Cause::BadLength),
+        22 => Some(Cause::BadByte),
+        23 => Some(Cause::OnlyDigits),
+        24 => Some(Cause::InTable),
+        25 => Some(Cause::AddedBefore),
+        26 => Some(Cause::TooMany),
+        27 => Some(Cause::BadMaxMoves),
+        28 => Some(Cause::BadMaxRestarts),
+        29 => Some(Cause::NotNext),
+        30 => Some(Cause::NotOver),
+        31 => Some(Cause::NoLine),
+        32 => Some(Cause::BadCommand),
+        33 => Some(Cause::BadId),
+        34 => Some(Cause::Down),
+        _ => None,
     }
 }

@@ -6,12 +6,16 @@
 
 mod causes;
 mod codes;
+mod endings;
 pub mod engines;
 pub mod games;
+pub mod library;
 pub mod lines;
+mod losses;
 pub mod matches;
 pub mod replies;
 pub mod texts;
 pub mod values;
+pub mod writing;
 
 pub use causes::{Cause, code_of};

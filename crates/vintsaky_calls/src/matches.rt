@@ -1,21 +1,33 @@
 //! The calls of a match: the referee between two engines.
-ghost use Rattle.std.specs.Prelude.{◌≡◌, length, Some, None, OnOk, OnErr, IfOk, IfErr};
+ghost use Rattle.std.specs.Prelude.{◌≡◌, length, Option, Some, None, MatchOption, OnOk, OnErr, IfOk, IfErr};
 ghost use Rattle.gtp_match.specs.Controller.{lost, in_step};
+ghost use Rattle.gtp_match.specs.Losing.{owed};
 ghost use Rattle.gtp_match.specs.Next.{next};
 ghost use Rattle.gtp_match.specs.ResultLine.{record_text};
+ghost use Rattle.gtp_match.specs.Retakes.{retakes_of};
 ghost use Rattle.gtp_match.specs.Setup.{setup_of};
+ghost use Rattle.gtp_match.specs.Sides.{side_of, restarts as restarts_of};
+ghost use Rattle.gtp_match.specs.Taking.{taking_back};
+ghost use Rattle.gtp_match.specs.declared.losses.Loss.{Loss};
+ghost use Rattle.gtp_match.specs.declared.reports.Retake.{Retake};
 ghost use Rattle.vintsaky_calls.specs.declared.causes.Cause.TheVariants as cause;
 ghost use Rattle.vintsaky_calls.specs.Codes.{NoColour};
 ghost use Rattle.vintsaky_calls.specs.Matches.{BeginsMatch, RefusesMatch, action_code, action_side, Starts, RefusesStart};
-ghost use Rattle.vintsaky_calls.specs.Matches.{Sends, RefusesSend, Hears, fault_code, IsSide, bool_code, PutsResult};
+ghost use Rattle.vintsaky_calls.specs.Matches.{Sends, RefusesSend, Hears, IsSide, bool_code, PutsResult};
+ghost use Rattle.vintsaky_calls.specs.Matches.{HearsReport, loss_code, retake_code, reported_owed, PutsOwed, LacksOwed};
+ghost use Rattle.vintsaky_calls.specs.Matches.{HasStatus, LacksStatus, maybe_side_code, EndsAs};
 ghost use Rattle.vintsaky_calls.specs.Texts.{Puts};
 
 use crate::causes::Cause;
 use crate::codes::{colour_of, number_of_colour};
+use crate::endings::{
+    number_of_ending, number_of_side, score_of_ending, side_of_ending, verdict_of,
+};
+use crate::losses::{number_of_loss, number_of_retake, put_owed, put_reported};
 use crate::texts::put;
 use go_base::{Komi, Size};
 use go_board::Game;
-use gtp_match::{Action, Match, Setup, SetupFault, SideFault, record_line, result_line};
+use gtp_match::{Action, Match, Setup, SetupFault, Status, record_line, result_line};
 use gtp_wire::MOST_COMMAND_BYTES;
 
 /// Begins a match between two engines that are not started yet.
@@ -108,32 +120,139 @@ pub fn send(held: &mut Match, side: u32, text: &mut [u8], count: &mut usize) -> 
     Ok(())
 }
 
-/// Hears what a side wrote, in any pieces. The number of the fault that it shows is written, or 0.
+/// Hears what a side wrote, in any pieces. The number of why the side fails by it is written, or 0.
 ///
 /// # Errors
 ///
 /// `BadColour`. The match stays as it was, and nothing is written.
-pub fn hear(held: &mut Match, side: u32, bytes: &[u8], fault: &mut u32) -> Result<(), Cause>
-    ensures heard { OnOk result (Hears held.old side bytes.now fault.new held.new) }
-    ensures kept { OnErr result ((held.new ≡ held.old) × (fault.new ≡ fault.old)) }
+pub fn hear(held: &mut Match, side: u32, bytes: &[u8], loss: &mut u32) -> Result<(), Cause>
+    ensures heard { OnOk result (Hears held.old side bytes.now loss.new held.new) }
+    ensures kept { OnErr result ((held.new ≡ held.old) × (loss.new ≡ loss.old)) }
     ensures why { IfErr result (λ why. (why ≡ cause.BadColour) × NoColour side) }
 {
     let side = colour_of(side)?;
-    let shown = held.hear_all(side, bytes);
-    *fault = number_of_fault(shown);
+    let heard = held.hear_reporting(side, bytes);
+    *loss = number_of_loss(&heard.loss);
     Ok(())
 }
 
-/// The number of a fault, or 0.
-fn number_of_fault(fault: Option<SideFault>) -> u32
-    ensures { result ≡ fault_code fault }
+/// Hears what a side wrote as [`hear`] does, and writes more of what it reports.
+///
+/// That is which retake of its number of a move it is, 1 to 3, where the side refused a play that is retaken, or 0; and
+/// of the loss, or else of the retake, how many commands the side hadn't answered, the oldest of them, as it was sent
+/// but without its newline, and the first 80 bytes that it wrote since its last whole reply, each with its length.
+/// Where there is neither, these are 0 and the texts empty.
+///
+/// # Errors
+///
+/// `BadColour`. The match stays as it was, and nothing is written.
+pub fn hear_reporting(
+    held: &mut Match,
+    side: u32,
+    bytes: &[u8],
+    loss: &mut u32,
+    retake: &mut u32,
+    unanswered: &mut u32,
+    command: &mut [u8],
+    command_count: &mut usize,
+    wrote: &mut [u8],
+    wrote_count: &mut usize,
+) -> Result<(), Cause>
+    ensures heard { OnOk result ((lost : Option Loss) × (retaken : Option Retake)
+        × HearsReport held.old side bytes.now lost retaken held.new
+        × (loss.new ≡ loss_code lost) × (retake.new ≡ retake_code retaken)
+        × PutsOwed (reported_owed lost retaken) unanswered.new
+        command.old command.new command_count.new wrote.old wrote.new wrote_count.new) }
+    ensures kept { OnErr result ((held.new ≡ held.old)
+        × (loss.new ≡ loss.old) × (retake.new ≡ retake.old)
+        × (unanswered.new ≡ unanswered.old)
+        × (command.new ≡ command.old) × (command_count.new ≡ command_count.old)
+        × (wrote.new ≡ wrote.old) × (wrote_count.new ≡ wrote_count.old)) }
+    ensures why { IfErr result (λ why. (why ≡ cause.BadColour) × NoColour side) }
 {
-    match fault {
-        None => 0,
-        Some(SideFault::NoStatus) => 1,
-        Some(SideFault::Overlong) => 2,
-        Some(SideFault::WrongId) => 3,
-        Some(SideFault::Unasked) => 4,
+    let side = colour_of(side)?;
+    let report = held.hear_reporting(side, bytes);
+    *loss = number_of_loss(&report.loss);
+    *retake = number_of_retake(&report.retake);
+    put_reported(
+        &report,
+        unanswered,
+        command,
+        command_count,
+        wrote,
+        wrote_count,
+    );
+    Ok(())
+}
+
+/// Writes what a side owes: how many commands it hasn't answered, the oldest of them, as it was sent but without its
+/// newline, or an empty text, and the first 80 bytes that it wrote since its last whole reply, each with its length.
+///
+/// # Errors
+///
+/// `BadColour`, or else `Down`. Nothing is written.
+pub fn owed(
+    held: &Match,
+    side: u32,
+    unanswered: &mut u32,
+    command: &mut [u8],
+    command_count: &mut usize,
+    wrote: &mut [u8],
+    wrote_count: &mut usize,
+) -> Result<(), Cause>
+    ensures written { OnOk result (IsSide side (λ s.
+        MatchOption (owed held.now s) ⊥ (λ owes. PutsOwed owes unanswered.new
+        command.old command.new command_count.new wrote.old wrote.new wrote_count.new))) }
+    ensures kept { OnErr result ((unanswered.new ≡ unanswered.old)
+        × (command.new ≡ command.old) × (command_count.new ≡ command_count.old)
+        × (wrote.new ≡ wrote.old) × (wrote_count.new ≡ wrote_count.old)) }
+    ensures why { IfErr result (LacksOwed held.now side) }
+{
+    let side = colour_of(side)?;
+    let owes = held.owed(side).ok_or(Cause::Down)?;
+    put_owed(
+        &owes,
+        unanswered,
+        command,
+        command_count,
+        wrote,
+        wrote_count,
+    );
+    Ok(())
+}
+
+/// Writes how many commands a side has confirmed of those that bring it to the record, how many it hasn't answered, and
+/// whether a `genmove` is among them: 1 where it is, else 0. It doesn't matter whether the match is over.
+///
+/// # Errors
+///
+/// `BadColour`, or else `Down`. Nothing is written.
+pub fn status(
+    held: &Match,
+    side: u32,
+    confirmed: &mut u32,
+    unanswered: &mut u32,
+    asked: &mut u32,
+) -> Result<(), Cause>
+    ensures found { OnOk result
+        (HasStatus held.now side confirmed.new unanswered.new asked.new) }
+    ensures kept { OnErr result ((confirmed.new ≡ confirmed.old)
+        × (unanswered.new ≡ unanswered.old) × (asked.new ≡ asked.old)) }
+    ensures why { IfErr result (LacksStatus held.now side) }
+{
+    let side = colour_of(side)?;
+    match held.status(side) {
+        Status::Down => Err(Cause::Down),
+        Status::Up {
+            confirmed: count,
+            unanswered: left,
+            asked: is_asked,
+        } => {
+            *confirmed = count;
+            *unanswered = left;
+            *asked = if is_asked { 1 } else { 0 };
+            Ok(())
+        }
     }
 }
 
@@ -164,6 +283,63 @@ pub fn in_step(held: &Match, side: u32, holds: &mut u32) -> Result<(), Cause>
     let side = colour_of(side)?;
     *holds = if held.in_step(side) { 1 } else { 0 };
     Ok(())
+}
+
+/// Writes how often a side was started again.
+///
+/// # Errors
+///
+/// `BadColour`. Nothing is written.
+pub fn restarts(held: &Match, side: u32, restarts: &mut u32) -> Result<(), Cause>
+    ensures found { OnOk result
+        (IsSide side (λ s. restarts.new ≡ restarts_of (side_of held.now.sides s))) }
+    ensures kept { OnErr result (restarts.new ≡ restarts.old) }
+    ensures why { IfErr result (λ why. (why ≡ cause.BadColour) × NoColour side) }
+{
+    *restarts = held.restarts(colour_of(side)?);
+    Ok(())
+}
+
+/// How many refusals of the move of this number, counted from 1, were met by a retake: 3 at most.
+pub fn retakes(held: &Match, number: u32) -> u32
+    ensures { result ≡ retakes_of held.now.retakes number }
+{
+    held.retakes(number)
+}
+
+/// The side whose last move is to be taken back, because the other side refused it, or 0.
+pub fn taking_back(held: &Match) -> u32
+    ensures { result ≡ maybe_side_code (taking_back held.now) }
+{
+    number_of_side(held.taking_back())
+}
+
+/// Writes how a match ended, the side that it says it of, or 0, and the score in half points, positive where Black leads,
+/// or 0.
+///
+/// # Errors
+///
+/// `NotOver`. Nothing is written.
+pub fn verdict(
+    held: &Match,
+    ending: &mut u32,
+    side: &mut u32,
+    half_points: &mut i32,
+) -> Result<(), Cause>
+    ensures found { OnOk result (EndsAs held.now ending.new side.new half_points.new) }
+    ensures kept { OnErr result ((ending.new ≡ ending.old) × (side.new ≡ side.old)
+        × (half_points.new ≡ half_points.old)) }
+    ensures why { IfErr result (λ why. (why ≡ cause.NotOver) × (held.now.verdict ≡ None)) }
+{
+    match verdict_of(held) {
+        None => Err(Cause::NotOver),
+        Some(given) => {
+            *ending = number_of_ending(given);
+            *side = side_of_ending(given);
+            *half_points = score_of_ending(given);
+            Ok(())
+        }
+    }
 }
 
 /// Copies the match's game.

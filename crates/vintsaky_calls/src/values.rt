@@ -1,17 +1,50 @@
-//! Vertices and komis, and their texts.
+//! Colours, vertices and komis, and their texts.
 ghost use Rattle.std.specs.Prelude.{◌≡◌, ℤ, OnOk, OnErr, IfErr};
+ghost use Rattle.go_base.specs.Colour.{SpellsColour};
 ghost use Rattle.go_base.specs.Komi.{IsKomi, SpellsKomi};
 ghost use Rattle.go_base.specs.Point.{IsCrossing, point};
 ghost use Rattle.go_base.specs.Vertex.{SpellsVertex};
+ghost use Rattle.go_base.specs.declared.colours.Colour.{Colour};
 ghost use Rattle.go_base.specs.declared.vertices.Vertex.{Vertex};
 ghost use Rattle.vintsaky_calls.specs.declared.causes.Cause.TheVariants as cause;
-ghost use Rattle.vintsaky_calls.specs.Codes.{NoVertex, point_code};
-ghost use Rattle.vintsaky_calls.specs.Values.{ReadsVertex, WritesVertex, WritesKomi};
+ghost use Rattle.vintsaky_calls.specs.Codes.{NoColour, NoVertex, point_code};
+ghost use Rattle.vintsaky_calls.specs.Values.{ReadsColour, WritesColour, ReadsVertex, WritesVertex, WritesKomi};
 
 use crate::causes::Cause;
-use crate::codes::{number_of_point, number_of_vertex, vertex_of};
+use crate::codes::{colour_of, number_of_colour, number_of_point, number_of_vertex, vertex_of};
 use crate::texts::put;
-use go_base::{Komi, Point, Vertex};
+use go_base::{Colour, Komi, Point, Vertex};
+
+/// Reads a colour: `b`, `w`, `black` or `white`, where each letter may be small or capital.
+///
+/// # Errors
+///
+/// `BadText`. Nothing is written.
+pub fn read_colour(text: &[u8], colour: &mut u32) -> Result<(), Cause>
+    ensures read { OnOk result (ReadsColour text.now colour.new) }
+    ensures kept { OnErr result (colour.new ≡ colour.old) }
+    ensures why { IfErr result (λ why. (why ≡ cause.BadText)
+        × ((c : Colour) → SpellsColour c text.now → ⊥)) }
+{
+    let read = Colour::read(text).ok_or(Cause::BadText)?;
+    *colour = number_of_colour(read);
+    Ok(())
+}
+
+/// Writes a colour, as the protocol spells it: `b` or `w`, and the length of that text.
+///
+/// # Errors
+///
+/// `BadColour`. Nothing is written.
+pub fn colour_text(colour: u32, text: &mut [u8], count: &mut usize) -> Result<(), Cause>
+    ensures written { OnOk result (WritesColour colour text.old text.new count.new) }
+    ensures kept { OnErr result ((text.new ≡ text.old) × (count.new ≡ count.old)) }
+    ensures why { IfErr result (λ why. (why ≡ cause.BadColour) × NoColour colour) }
+{
+    let colour = colour_of(colour)?;
+    *count = put(&[colour.write()], text);
+    Ok(())
+}
 
 /// The number of the point of a column and a row, both from 1 to 25.
 ///

@@ -1,0 +1,73 @@
+//! How a match ended, in numbers.
+ghost use Rattle.std.specs.Prelude.{◌≡◌};
+ghost use Rattle.vintsaky_calls.specs.Matches.{maybe_side_code, ending_code, ending_side, ending_score};
+
+use crate::codes::number_of_colour;
+use go_base::Side;
+use gtp_match::laws::next_is_due;
+use gtp_match::{Action, ForfeitCause, Match, Verdict};
+
+/// How a match ended, if it did.
+pub(crate) fn verdict_of(held: &Match) -> Option<Verdict>
+    ensures { result ≡ held.now.verdict }
+{
+    next_is_due();
+    match held.next() {
+        Action::Done(given) => Some(given),
+        Action::Start(_) | Action::Send(_) | Action::Wait(_) => None,
+    }
+}
+
+/// The number of a side, or 0.
+pub(crate) fn number_of_side(side: Option<Side>) -> u32
+    ensures { result ≡ maybe_side_code side }
+{
+    match side {
+        None => 0,
+        Some(side) => number_of_colour(side),
+    }
+}
+
+/// The number of how a match ended.
+pub(crate) fn number_of_ending(given: Verdict) -> u32
+    ensures { result ≡ ending_code given }
+{
+    match given {
+        Verdict::Score(_) => 1,
+        Verdict::Resign(_) => 2,
+        Verdict::Limit => 3,
+        Verdict::Forfeit(_, ForfeitCause::RefusedPlay) => 4,
+        Verdict::Forfeit(_, ForfeitCause::NoMove) => 5,
+        Verdict::Forfeit(_, ForfeitCause::NoVertex) => 6,
+        Verdict::Forfeit(_, ForfeitCause::IllegalMove) => 7,
+        Verdict::Unfit(_) => 8,
+        Verdict::Abandoned(_) => 9,
+    }
+}
+
+/// The number of the side that this is said of, or 0.
+pub(crate) fn side_of_ending(given: Verdict) -> u32
+    ensures { result ≡ ending_side given }
+{
+    match given {
+        Verdict::Score(_) | Verdict::Limit => 0,
+        Verdict::Resign(side) => number_of_colour(side),
+        Verdict::Forfeit(side, _) => number_of_colour(side),
+        Verdict::Unfit(side) => number_of_colour(side),
+        Verdict::Abandoned(side) => number_of_colour(side),
+    }
+}
+
+/// The score in half points, or 0.
+pub(crate) fn score_of_ending(given: Verdict) -> i32
+    ensures { result ≡ ending_score given }
+{
+    match given {
+        Verdict::Score(half_points) => half_points,
+        Verdict::Resign(_)
+        | Verdict::Limit
+        | Verdict::Forfeit(_, _)
+        | Verdict::Unfit(_)
+        | Verdict::Abandoned(_) => 0,
+    }
+}

@@ -1,0 +1,154 @@
+//! Why a side fails, and what it owes, in numbers and texts.
+ghost use Rattle.std.specs.Prelude.{◌≡◌, ◌≤◌, length, IfSome};
+ghost use Rattle.gtp_match.specs.Losing.{CanBeShown};
+ghost use Rattle.gtp_wire.specs.Commands.{IsWritable};
+ghost use Rattle.vintsaky_calls.specs.Matches.{fault_code, rule_loss_code, loss_cause_code, loss_code, retake_code};
+ghost use Rattle.vintsaky_calls.specs.Matches.{oldest_text, reported_owed, PutsOwed};
+ghost use Rattle.vintsaky_calls.specs.Texts.{Puts};
+
+use crate::texts::put;
+use arrayvec::ArrayVec;
+use go_base::{push, write_int};
+use go_board::PlayFault;
+use gtp_match::{Loss, LossCause, Owed, Report, Retake, SentCommand, SideFault};
+use gtp_wire::write_command;
+
+/// The bytes of a command as it was sent.
+type SentText = ArrayVec<u8, SENT_ROOM>;
+
+/// The room for ten digits, a space and the words of a command.
+const SENT_ROOM: usize = 75;
+
+/// The number of a loss, or 0.
+pub(crate) fn number_of_loss(loss: &Option<Loss>) -> u32
+    ensures { result ≡ loss_code loss.now }
+{
+    match loss {
+        None => 0,
+        Some(loss) => number_of_cause(loss.cause),
+    }
+}
+
+/// The number of why a side fails.
+fn number_of_cause(cause: LossCause) -> u32
+    ensures { result ≡ loss_cause_code cause }
+{
+    match cause {
+        LossCause::Shows(fault) => number_of_fault(fault),
+        LossCause::Unfit => 5,
+        LossCause::RefusesPlay => 6,
+        LossCause::KeepsMove => 7,
+        LossCause::NoMove => 8,
+        LossCause::NoVertex => 9,
+        LossCause::Illegal(fault) => number_of_rule(fault),
+    }
+}
+
+/// The number of a fault that bytes show.
+fn number_of_fault(fault: SideFault) -> u32
+    ensures { result ≡ fault_code fault }
+{
+    match fault {
+        SideFault::NoStatus => 1,
+        SideFault::Overlong => 2,
+        SideFault::WrongId => 3,
+        SideFault::Unasked => 4,
+    }
+}
+
+/// The number of a rule that a move breaks.
+fn number_of_rule(fault: PlayFault) -> u32
+    ensures { result ≡ rule_loss_code fault }
+{
+    match fault {
+        PlayFault::Full => 10,
+        PlayFault::OffBoard => 11,
+        PlayFault::Occupied => 12,
+        PlayFault::Suicide => 13,
+        PlayFault::Ko => 14,
+    }
+}
+
+/// Which retake of its number of a move it is, or 0.
+pub(crate) fn number_of_retake(retake: &Option<Retake>) -> u32
+    ensures { result ≡ retake_code retake.now }
+{
+    match retake {
+        None => 0,
+        Some(retake) => retake.count,
+    }
+}
+
+/// Writes what a side owed at a loss, or else at a retake, or else nothing.
+pub(crate) fn put_reported(
+    report: &Report,
+    unanswered: &mut u32,
+    command: &mut [u8],
+    command_count: &mut usize,
+    wrote: &mut [u8],
+    wrote_count: &mut usize,
+)
+    requires loss_shown { IfSome report.now.loss (λ loss. CanBeShown loss.owed) }
+    requires retake_shown { IfSome report.now.retake (λ retake. CanBeShown retake.owed) }
+    ensures { PutsOwed (reported_owed report.now.loss report.now.retake) unanswered.new
+        command.old command.new command_count.new wrote.old wrote.new wrote_count.new }
+{
+    match (&report.loss, &report.retake) {
+        (Some(loss), _) => put_owed(
+            &loss.owed,
+            unanswered,
+            command,
+            command_count,
+            wrote,
+            wrote_count,
+        ),
+        (None, Some(retake)) => put_owed(
+            &retake.owed,
+            unanswered,
+            command,
+            command_count,
+            wrote,
+            wrote_count,
+        ),
+        (None, None) => {
+            *unanswered = 0;
+            *command_count = put(b"", command);
+            *wrote_count = put(b"", wrote);
+        }
+    }
+}
+
+/// Writes what a side owes: how many commands it hasn't answered, the oldest of them, and what it wrote.
+pub(crate) fn put_owed(
+    owes: &Owed,
+    unanswered: &mut u32,
+    command: &mut [u8],
+    command_count: &mut usize,
+    wrote: &mut [u8],
+    wrote_count: &mut usize,
+)
+    requires { CanBeShown owes.now }
+    ensures { PutsOwed owes.now unanswered.new
+        command.old command.new command_count.new wrote.old wrote.new wrote_count.new }
+{
+    *unanswered = owes.unanswered;
+    *command_count = put(&oldest_text(owes.oldest), command);
+    *wrote_count = put(&owes.bytes, wrote);
+}
+
+/// The oldest unanswered command as it was sent, without its newline: its id, a space and its words. Nothing where
+/// there is none.
+fn oldest_text(oldest: Option<SentCommand>) -> SentText
+    requires { IfSome oldest (λ entry. IsWritable entry.command) }
+    ensures { result.items ≡ oldest_text oldest }
+{
+    let mut text = ArrayVec::new();
+    if let Some(entry) = oldest {
+        let mut words = write_command(None, &entry.command);
+        words.pop();
+        push(&mut text, &write_int(entry.id));
+        text.push(b' ');
+        push(&mut text, &words);
+    }
+    text
+}
