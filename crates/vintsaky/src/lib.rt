@@ -6,7 +6,9 @@
 
 pub mod engine;
 pub mod game;
+pub mod library;
 pub mod lines;
 pub mod referee;
 pub mod replies;
 pub mod values;
+pub mod writing;

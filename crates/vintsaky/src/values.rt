@@ -1,16 +1,48 @@
-//! Vertices and komis, and their texts.
+//! Colours, vertices and komis, and their texts.
 ghost use Rattle.std.specs.Prelude.{◌≡◌, ◌≢◌, ◌≤◌, ◌↔◌, ℤ, [], Some, None, length, false, Result, OnOk, OnErr, IfErr, IsTrue};
 ghost use Rattle.vintsaky_calls.specs.Codes.{result_code};
 ghost use Rattle.vintsaky_calls.specs.declared.causes.Cause.{Cause};
+ghost use Rattle.go_base.specs.Colour.{SpellsColour};
 ghost use Rattle.go_base.specs.Komi.{IsKomi, SpellsKomi};
 ghost use Rattle.go_base.specs.Point.{IsCrossing, point};
 ghost use Rattle.go_base.specs.Vertex.{SpellsVertex};
+ghost use Rattle.go_base.specs.declared.colours.Colour.{Colour};
 ghost use Rattle.go_base.specs.declared.vertices.Vertex.{Vertex};
 ghost use Rattle.vintsaky_calls.specs.declared.causes.Cause.TheVariants as cause;
-ghost use Rattle.vintsaky_calls.specs.Codes.{NoVertex, point_code};
-ghost use Rattle.vintsaky_calls.specs.Values.{ReadsVertex, WritesVertex, WritesKomi};
+ghost use Rattle.vintsaky_calls.specs.Codes.{NoColour, NoVertex, point_code};
+ghost use Rattle.vintsaky_calls.specs.Values.{ReadsColour, WritesColour, ReadsVertex, WritesVertex, WritesKomi};
 
 use vintsaky_calls::{code_of, values};
+
+/// Reads a colour: `b`, `w`, `black` or `white`, where each letter may be small or capital.
+///
+/// # Errors
+///
+/// `BadText`. Nothing is written.
+#[unsafe(no_mangle)]
+pub extern "C" fn vintsaky_read_colour(text: &[u8], colour: &mut u32) -> u32
+    ensures call { (made : Result (Unit {0}) Cause) × (result ≡ result_code made)
+        × OnOk made (ReadsColour text.now colour.new)
+        × OnErr made (colour.new ≡ colour.old)
+        × IfErr made (λ why. (why ≡ cause.BadText) × ((c : Colour) → SpellsColour c text.now → ⊥)) }
+{
+    code_of(values::read_colour(text, colour))
+}
+
+/// Writes a colour, as the protocol spells it: `b` or `w`, and the length of that text.
+///
+/// # Errors
+///
+/// `BadColour`. Nothing is written.
+#[unsafe(no_mangle)]
+pub extern "C" fn vintsaky_colour_text(colour: u32, text: &mut [u8], count: &mut usize) -> u32
+    ensures call { (made : Result (Unit {0}) Cause) × (result ≡ result_code made)
+        × OnOk made (WritesColour colour text.old text.new count.new)
+        × OnErr made ((text.new ≡ text.old) × (count.new ≡ count.old))
+        × IfErr made (λ why. (why ≡ cause.BadColour) × NoColour colour) }
+{
+    code_of(values::colour_text(colour, text, count))
+}
 
 /// The number of the point of a column and a row, both from 1 to 25.
 ///

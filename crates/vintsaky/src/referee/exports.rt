@@ -1,15 +1,23 @@
 //! The calls of a match.
-ghost use Rattle.std.specs.Prelude.{◌≡◌, ◌≢◌, ◌≤◌, ◌↔◌, ℤ, [], Some, None, length, false, Result, OnOk, OnErr, IfErr, IsTrue};
+ghost use Rattle.std.specs.Prelude.{◌≡◌, length, Option, None, MatchOption, Result, OnOk, OnErr, IfErr};
 ghost use Rattle.vintsaky_calls.specs.Codes.{result_code};
 ghost use Rattle.vintsaky_calls.specs.declared.causes.Cause.{Cause};
 ghost use Rattle.gtp_match.specs.Controller.{lost, in_step};
+ghost use Rattle.gtp_match.specs.Losing.{owed};
 ghost use Rattle.gtp_match.specs.Next.{next};
 ghost use Rattle.gtp_match.specs.ResultLine.{record_text};
+ghost use Rattle.gtp_match.specs.Retakes.{retakes_of};
 ghost use Rattle.gtp_match.specs.Setup.{setup_of};
+ghost use Rattle.gtp_match.specs.Sides.{side_of, restarts as restarts_of};
+ghost use Rattle.gtp_match.specs.Taking.{taking_back};
+ghost use Rattle.gtp_match.specs.declared.losses.Loss.{Loss};
+ghost use Rattle.gtp_match.specs.declared.reports.Retake.{Retake};
 ghost use Rattle.vintsaky_calls.specs.declared.causes.Cause.TheVariants as cause;
 ghost use Rattle.vintsaky_calls.specs.Codes.{NoColour};
 ghost use Rattle.vintsaky_calls.specs.Matches.{BeginsMatch, RefusesMatch, action_code, action_side, Starts, RefusesStart};
-ghost use Rattle.vintsaky_calls.specs.Matches.{Sends, RefusesSend, Hears, fault_code, IsSide, bool_code, PutsResult};
+ghost use Rattle.vintsaky_calls.specs.Matches.{Sends, RefusesSend, Hears, IsSide, bool_code, PutsResult};
+ghost use Rattle.vintsaky_calls.specs.Matches.{HearsReport, loss_code, retake_code, reported_owed, PutsOwed, LacksOwed};
+ghost use Rattle.vintsaky_calls.specs.Matches.{HasStatus, LacksStatus, maybe_side_code, EndsAs};
 ghost use Rattle.vintsaky_calls.specs.Texts.{Puts};
 
 use crate::game::handle::GameHandle;
@@ -106,7 +114,7 @@ pub extern "C" fn vintsaky_match_send(
     code_of(matches::send(held.lend(), side, text, count))
 }
 
-/// Hears what a side wrote, in any pieces. The number of the fault that it shows is written, or 0.
+/// Hears what a side wrote, in any pieces. The number of why the side fails by it is written, or 0.
 ///
 /// # Errors
 ///
@@ -116,14 +124,125 @@ pub extern "C" fn vintsaky_match_hear(
     held: &mut MatchHandle,
     side: u32,
     bytes: &[u8],
-    fault: &mut u32,
+    loss: &mut u32,
 ) -> u32
     ensures call { (made : Result (Unit {0}) Cause) × (result ≡ result_code made)
-        × OnOk made (Hears held.old.value side bytes.now fault.new held.new.value)
-        × OnErr made ((held.new.value ≡ held.old.value) × (fault.new ≡ fault.old))
+        × OnOk made (Hears held.old.value side bytes.now loss.new held.new.value)
+        × OnErr made ((held.new.value ≡ held.old.value) × (loss.new ≡ loss.old))
         × IfErr made (λ why. (why ≡ cause.BadColour) × NoColour side) }
 {
-    code_of(matches::hear(held.lend(), side, bytes, fault))
+    code_of(matches::hear(held.lend(), side, bytes, loss))
+}
+
+/// Hears what a side wrote as [`vintsaky_match_hear`] does, and writes more of what it reports.
+///
+/// That is which retake of its number of a move it is, 1 to 3, where the side refused a play that is retaken, or 0; and
+/// of the loss, or else of the retake, how many commands the side hadn't answered, the oldest of them, as it was sent
+/// but without its newline, and the first 80 bytes that it wrote since its last whole reply, each with its length.
+/// Where there is neither, these are 0 and the texts empty.
+///
+/// # Errors
+///
+/// `BadColour`. The match stays as it was, and nothing is written.
+#[unsafe(no_mangle)]
+pub extern "C" fn vintsaky_match_hear_reporting(
+    held: &mut MatchHandle,
+    side: u32,
+    bytes: &[u8],
+    loss: &mut u32,
+    retake: &mut u32,
+    unanswered: &mut u32,
+    command: &mut [u8],
+    command_count: &mut usize,
+    wrote: &mut [u8],
+    wrote_count: &mut usize,
+) -> u32
+    ensures call { (made : Result (Unit {0}) Cause) × (result ≡ result_code made)
+        × OnOk made ((lost : Option Loss) × (retaken : Option Retake)
+        × HearsReport held.old.value side bytes.now lost retaken held.new.value
+        × (loss.new ≡ loss_code lost) × (retake.new ≡ retake_code retaken)
+        × PutsOwed (reported_owed lost retaken) unanswered.new
+        command.old command.new command_count.new wrote.old wrote.new wrote_count.new)
+        × OnErr made ((held.new.value ≡ held.old.value)
+        × (loss.new ≡ loss.old) × (retake.new ≡ retake.old)
+        × (unanswered.new ≡ unanswered.old)
+        × (command.new ≡ command.old) × (command_count.new ≡ command_count.old)
+        × (wrote.new ≡ wrote.old) × (wrote_count.new ≡ wrote_count.old))
+        × IfErr made (λ why. (why ≡ cause.BadColour) × NoColour side) }
+{
+    code_of(matches::hear_reporting(
+        held.lend(),
+        side,
+        bytes,
+        loss,
+        retake,
+        unanswered,
+        command,
+        command_count,
+        wrote,
+        wrote_count,
+    ))
+}
+
+/// Writes what a side owes: how many commands it hasn't answered, the oldest of them, as it was sent but without its
+/// newline, or an empty text, and the first 80 bytes that it wrote since its last whole reply, each with its length.
+///
+/// # Errors
+///
+/// `BadColour`, or else `Down`. Nothing is written.
+#[unsafe(no_mangle)]
+pub extern "C" fn vintsaky_match_owed(
+    held: &mut MatchHandle,
+    side: u32,
+    unanswered: &mut u32,
+    command: &mut [u8],
+    command_count: &mut usize,
+    wrote: &mut [u8],
+    wrote_count: &mut usize,
+) -> u32
+    ensures call { (made : Result (Unit {0}) Cause) × (result ≡ result_code made)
+        × OnOk made (IsSide side (λ s.
+        MatchOption (owed held.old.value s) ⊥ (λ owes. PutsOwed owes unanswered.new
+        command.old command.new command_count.new wrote.old wrote.new wrote_count.new)))
+        × OnErr made ((unanswered.new ≡ unanswered.old)
+        × (command.new ≡ command.old) × (command_count.new ≡ command_count.old)
+        × (wrote.new ≡ wrote.old) × (wrote_count.new ≡ wrote_count.old))
+        × IfErr made (LacksOwed held.old.value side) }
+    ensures object { held.new.value ≡ held.old.value }
+{
+    code_of(matches::owed(
+        held.lend(),
+        side,
+        unanswered,
+        command,
+        command_count,
+        wrote,
+        wrote_count,
+    ))
+}
+
+/// Writes how many commands a side has confirmed of those that bring it to the record, how many it hasn't answered, and
+/// whether a `genmove` is among them: 1 where it is, else 0. It doesn't matter whether the match is over.
+///
+/// # Errors
+///
+/// `BadColour`, or else `Down`. Nothing is written.
+#[unsafe(no_mangle)]
+pub extern "C" fn vintsaky_match_status(
+    held: &mut MatchHandle,
+    side: u32,
+    confirmed: &mut u32,
+    unanswered: &mut u32,
+    asked: &mut u32,
+) -> u32
+    ensures call { (made : Result (Unit {0}) Cause) × (result ≡ result_code made)
+        × OnOk made (HasStatus held.old.value side confirmed.new unanswered.new asked.new)
+        × OnErr made ((confirmed.new ≡ confirmed.old)
+        × (unanswered.new ≡ unanswered.old) × (asked.new ≡ asked.old))
+        × IfErr made (LacksStatus held.old.value side) }
+    ensures object { held.new.value ≡ held.old.value }
+{
+    code_of(matches::status(held.lend(), side, confirmed, unanswered, asked))
 }
 
 /// A side is gone.
@@ -155,6 +274,67 @@ pub extern "C" fn vintsaky_match_in_step(held: &mut MatchHandle, side: u32, hold
     ensures object { held.new.value ≡ held.old.value }
 {
     code_of(matches::in_step(held.lend(), side, holds))
+}
+
+/// Writes how often a side was started again.
+///
+/// # Errors
+///
+/// `BadColour`. Nothing is written.
+#[unsafe(no_mangle)]
+pub extern "C" fn vintsaky_match_restarts(
+    held: &mut MatchHandle,
+    side: u32,
+    restarts: &mut u32,
+) -> u32
+    ensures call { (made : Result (Unit {0}) Cause) × (result ≡ result_code made)
+        × OnOk made (IsSide side (λ s. restarts.new ≡ restarts_of (side_of held.old.value.sides s)))
+        × OnErr made (restarts.new ≡ restarts.old)
+        × IfErr made (λ why. (why ≡ cause.BadColour) × NoColour side) }
+    ensures object { held.new.value ≡ held.old.value }
+{
+    code_of(matches::restarts(held.lend(), side, restarts))
+}
+
+/// How many refusals of the move of this number, counted from 1, were met by a retake: 3 at most.
+#[unsafe(no_mangle)]
+pub extern "C" fn vintsaky_match_retakes(held: &mut MatchHandle, number: u32) -> u32
+    ensures call { result ≡ retakes_of held.old.value.retakes number }
+    ensures object { held.new.value ≡ held.old.value }
+{
+    matches::retakes(held.lend(), number)
+}
+
+/// The side whose last move is to be taken back, because the other side refused it, or 0.
+#[unsafe(no_mangle)]
+pub extern "C" fn vintsaky_match_taking_back(held: &mut MatchHandle) -> u32
+    ensures call { result ≡ maybe_side_code (taking_back held.old.value) }
+    ensures object { held.new.value ≡ held.old.value }
+{
+    matches::taking_back(held.lend())
+}
+
+/// Writes how a match ended, the side that it says it of, or 0, and the score in half points, positive where Black
+/// leads, or 0.
+///
+/// # Errors
+///
+/// `NotOver`. Nothing is written.
+#[unsafe(no_mangle)]
+pub extern "C" fn vintsaky_match_verdict(
+    held: &mut MatchHandle,
+    ending: &mut u32,
+    side: &mut u32,
+    half_points: &mut i32,
+) -> u32
+    ensures call { (made : Result (Unit {0}) Cause) × (result ≡ result_code made)
+        × OnOk made (EndsAs held.old.value ending.new side.new half_points.new)
+        × OnErr made ((ending.new ≡ ending.old) × (side.new ≡ side.old)
+        × (half_points.new ≡ half_points.old))
+        × IfErr made (λ why. (why ≡ cause.NotOver) × (held.old.value.verdict ≡ None)) }
+    ensures object { held.new.value ≡ held.old.value }
+{
+    code_of(matches::verdict(held.lend(), ending, side, half_points))
 }
 
 /// Copies the match's game.

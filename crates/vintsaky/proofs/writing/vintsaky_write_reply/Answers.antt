@@ -1,0 +1,14 @@
+use Rattle.std.proofs.Common.{rules}
+use Rattle.std.proofs.lemmas.Int.{to_z-of_z}
+use Rattle.vintsaky.proofs.writing.vintsaky_write_reply.Goals as goal
+
+pub returns : goal.returns
+returns c = record {
+  call = (
+    c.write_reply.result,
+    c.code_of.ensures,
+    search rules,
+    c.write_reply.ensures.kept,
+    (let fits = c.ranges.id in simp to_z-of_z at c.write_reply.ensures.why),
+  );
+}

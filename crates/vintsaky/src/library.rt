@@ -1,0 +1,28 @@
+//! The library itself: its interface, its version, and what a cause means.
+ghost use Rattle.std.specs.Prelude.{◌≡◌, List, ℕ, length};
+ghost use Rattle.vintsaky_calls.specs.Library.{library_version, Says};
+ghost use Rattle.vintsaky_calls.specs.Texts.{Puts};
+
+use vintsaky_calls::library;
+
+/// Does nothing. A program that asks for it is linked with a library of this interface alone.
+#[unsafe(no_mangle)]
+pub extern "C" fn vintsaky_interface_1() {}
+
+/// The version of the library: 65536 times the first number, 256 times the second, and the third.
+#[unsafe(no_mangle)]
+pub extern "C" fn vintsaky_version() -> u32
+    ensures { result ≡ library_version }
+{
+    library::version()
+}
+
+/// Writes a sentence that says what a cause means. How many bytes it has. Each number has one: also 0, and what is no
+/// cause.
+#[unsafe(no_mangle)]
+pub extern "C" fn vintsaky_cause_text(cause: u32, text: &mut [u8]) -> usize
+    ensures { (said : List ℕ) × Says cause said × (result ≡ length said)
+        × Puts said text.old text.new }
+{
+    library::cause_text(cause, text)
+}
