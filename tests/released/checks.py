@@ -7,6 +7,7 @@ from pathlib import Path
 
 TOP = Path(__file__).resolve().parent.parent.parent
 PROGRAMS = ["twogtp", "gtp_engine", "gtp_check"]
+LIBRARY = ["libvintsaky.a", "libvintsaky.so.1"]
 LIMIT = 120  # seconds that a command may take
 results = []
 

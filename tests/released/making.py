@@ -6,7 +6,7 @@ import subprocess
 from concurrent.futures import ThreadPoolExecutor
 from pathlib import Path
 
-from .checks import PROGRAMS, TOP, check, run, sum_of
+from .checks import LIBRARY, PROGRAMS, TOP, check, run, sum_of
 
 GATE = "12345 passed, 0 failed, at https://gate.example/7"
 DATE = "2026-11-25T00:00:00Z"
@@ -36,20 +36,22 @@ def commit(folder, message):
 
 
 def copy_of(folder):
-    """A copy of the repository with one commit and the built programs."""
+    """A copy of the repository with one commit, the built programs and the library."""
     folder.mkdir(parents=True)
     names = run(["git", "ls-files", "-z"], cwd=TOP)[1].split("\0")
     for name in [it for it in names if it and (TOP / it).exists()]:
         (folder / name).parent.mkdir(parents=True, exist_ok=True)
         shutil.copy(TOP / name, folder / name, follow_symlinks=False)
     # nothing is to be proved here
-    (folder / "build").write_text('#!/bin/bash\n[ "$*" = --needed ]\n')
+    (folder / "build").write_text(f'#!/bin/bash\n[ "$*" = "--needed {" ".join(PROGRAMS)} library" ]\n')
     subprocess.run(["git", "init", "-q"], cwd=folder, check=True, stderr=subprocess.DEVNULL)
     commit(folder, "What is released")
     (folder / "bin").mkdir()
     for program in PROGRAMS:
         shutil.copyfile(TOP / "bin" / program, folder / "bin" / program)
         (folder / "bin" / program).chmod(0o755)
+    for file in LIBRARY:
+        shutil.copyfile(TOP / "bin" / file, folder / "bin" / file)
     return folder
 
 
@@ -62,6 +64,13 @@ def release(folder, *words, umask=0o022, **environment):
 def made(folder):
     """The names in dist/."""
     return sorted(it.name for it in (folder / "dist").iterdir()) if (folder / "dist").is_dir() else []
+
+
+def files_of(name):
+    """What lies in dist/ after a release of this name, by what it is."""
+    files = {"sums": "SHA256SUMS", "archive": f"vintsaky-{name}-linux-x86_64.tar.gz", "programs": f"vintsaky_{name}_amd64.deb"}
+    files |= {"shared": f"libvintsaky1_{name}_amd64.deb", "header": f"libvintsaky-dev_{name}_amd64.deb"}
+    return files | ({"python": f"python3-vintsaky_{name}_all.deb"} if (TOP / "library/python/vintsaky").is_dir() else {})
 
 
 def check_same(one, other, third, final):
@@ -79,7 +88,6 @@ def check_same(one, other, third, final):
     check("the sums are those of the files", 0, run(["sha256sum", "--check", "--strict", "SHA256SUMS"], cwd=one / "dist")[0])
     sums = [{name: sum_of(at / "dist" / name) for name in made(at)} for at in (one, other)]
     check("two folders with other names, umask, time zone and language give the same files to the byte", *sums)
-    return made(one)
 
 
 def version_of(program):
@@ -93,8 +101,7 @@ def check_names(one, third, final):
     commit = run(["git", "rev-parse", "HEAD"], cwd=one)[1].strip()
     name = f"{version}+git.{commit[:12]}"
     for at, wanted in ((one, name), (third, name), (final, version)):
-        files = ["SHA256SUMS", f"vintsaky-{wanted}-linux-x86_64.tar.gz", f"vintsaky_{wanted}_amd64.deb"]
-        check(f"{at.name}: dist/ has the sums, the archive and the package of {wanted}", files, made(at))
+        check(f"{at.name}: dist/ has the sums, the archive and the packages of {wanted}", sorted(files_of(wanted).values()), made(at))
     for words in ([name, "gt", version], [name, "lt", f"{version}.1"], [name, "lt", re.sub(r"\d+$", lambda it: str(int(it[0]) + 1), version)]):
         check(f"Debian's order: {' '.join(words)}", 0, run(["dpkg", "--compare-versions", *words])[0])
     return name, version

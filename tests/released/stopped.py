@@ -60,6 +60,15 @@ def check_other_object(folder):
     object_file.write_bytes(was)
 
 
+def check_other_library(folder):
+    """A shared library that was not linked from the archive."""
+    shared = folder / "bin/libvintsaky.so.1"
+    was = shared.read_bytes()
+    shared.write_bytes(was[:-1] + bytes([was[-1] ^ 1]))
+    check_stopped("another shared library", folder, release(folder), "bin/libvintsaky.so.1 was not linked from bin/libvintsaky.a")
+    shared.write_bytes(was)
+
+
 def check_full(folder):
     """A disk that is full, sooner or later."""
     if not shutil.which("unshare"):
@@ -93,7 +102,7 @@ def check_ended(folder):
 def check_words(folder):
     """The words on its command line."""
     status, output, _ = release(folder, "--help")
-    check("--help says it in six lines", (0, 6, "usage: ./release [--final] "), (status, len(output.splitlines()), output[:27]))
+    check("--help says it in seven lines", (0, 7, "usage: ./release [--final] "), (status, len(output.splitlines()), output[:27]))
     mistakes = [["--gate"], ["--gate", "fine"], ["--gate", "1 passed, 0 failed\n2"], ["now"], ["--final", "now"], ["--final", "--final"]]
     mistakes += [["--final", "--gate"], ["--gate", "--final"], ["--gate", GATE, "--gate", GATE], ["--final=1.0"], ["--help", "--final"], [""]]
     for words in mistakes:
@@ -144,6 +153,7 @@ def check_all(folder, room):
     check_changed(folder)
     check_missing(folder, room)
     check_other_object(folder)
+    check_other_library(folder)
     check_full(folder)
     check_ended(folder)
     check_words(folder)
