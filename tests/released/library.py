@@ -11,8 +11,8 @@ from .checks import LIBRARY, TOP, check, run, skip, sum_of
 LIBRARIES = "usr/lib/x86_64-linux-gnu"
 MODULES = "usr/lib/python3/dist-packages"
 NO_LICENCE = "Vintsaky has no licence: choosing one is up to its owner"
-# a game in Python: whether Black may play on A1 once it has played there
-CALLED = "import vintsaky; game = vintsaky.Game(9); game.play('b', 'A1'); print(vintsaky.version(), game.is_legal('w', 'A1'))"
+# a game in Python: whether White may play on A1 and on B1, once Black has played on A1
+CALLED = "import vintsaky; it = vintsaky.Game(9); it.play('b', 'A1'); print(vintsaky.version(), it.legal('w', 'A1'), it.legal('w', 'B1'))"
 DEPENDS = {"shared": "", "header": "libvintsaky1 (= {0})", "python": "libvintsaky1 (>= {0}), python3 (>= 3.9)"}
 PACKAGES = {"shared": "libvintsaky1", "header": "libvintsaky-dev", "python": "python3-vintsaky"}
 
@@ -31,12 +31,13 @@ def compiled(what, flags, folder, at):
         check(f"{what}: that program makes each call", (0, "", ""), run([at], env={**os.environ, "LD_LIBRARY_PATH": str(folder)}))
 
 
-def flags_of(what, folder, *words):
+def flags_of(what, folder):
     """What pkg-config finds in this folder, or None where there is none."""
     if not shutil.which("pkg-config"):
         skip(f"{what}: what pkg-config finds", "there is no pkg-config (apt-get install pkg-config)")
         return None
-    ran = run(["pkg-config", *words, "--cflags", "--libs", "vintsaky"], env={**os.environ, "PKG_CONFIG_LIBDIR": str(folder)})
+    names = {"PKG_CONFIG_LIBDIR": str(folder), "PKG_CONFIG_ALLOW_SYSTEM_CFLAGS": "1", "PKG_CONFIG_ALLOW_SYSTEM_LIBS": "1"}
+    ran = run(["pkg-config", "--cflags", "--libs", "vintsaky"], env={**os.environ, **names})
     check(f"{what}: pkg-config finds the library", (0, ""), ran[::2])
     return ran[1].split()
 
@@ -44,7 +45,7 @@ def flags_of(what, folder, *words):
 def called_in_python(what, folder, **environment):
     """Calls the library by the package in this folder."""
     names = {**os.environ, "PYTHONPATH": str(folder), "PYTHONDONTWRITEBYTECODE": "1", **environment}
-    check(f"{what}: Python calls the library", (0, "(1, 0, 0) False\n", ""), run([sys.executable, "-c", CALLED], env=names))
+    check(f"{what}: Python calls the library", (0, "(1, 0, 0) False True\n", ""), run([sys.executable, "-c", CALLED], env=names))
 
 
 def check_files(what, tree, files):
@@ -136,7 +137,7 @@ def check_packages(packages, copies, room):
     paths = [str(it).encode() for it in [*copies, TOP]]
     found = [it for it in root.rglob("*") if it.is_file() and any(path in it.read_bytes() for path in paths)]
     check("the packages: no file has a path of whoever built it", [], found)
-    flags = flags_of("the packages", root / LIBRARIES / "pkgconfig", "--define-variable=prefix=/usr")
+    flags = flags_of("the packages", root / LIBRARIES / "pkgconfig")
     if flags is not None:
         check("the packages: pkg-config names Debian's folders", ["-I/usr/include", f"-L/{LIBRARIES}", "-lvintsaky"], flags)
     compiled("the packages", ["-I", root / "usr/include", "-L", root / LIBRARIES, "-lvintsaky"], root / LIBRARIES, room / "of-packages")
