@@ -1,0 +1,64 @@
+//! The rules of Go, the referee of a match, and engines of the Go Text Protocol (GTP), over the library `vintsaky`,
+//! whose calls are proved.
+//!
+//! - [`Game`] has the rules: moves, legality, undo, captures and the score.
+//! - [`serve`] and [`Player`] make an engine of whoever chooses moves. [`Engine`] is the same in steps.
+//! - [`Match`] is the referee between two engines.
+//! - [`CommandLines`] and [`Replies`] read the protocol's lines; [`Command`] and [`reply`] write them.
+//!
+//! An engine that plays the first legal point:
+//!
+//! ```no_run
+//! use vintsaky::{Choice, Colour, Game, ServeError, Vertex};
+//!
+//! fn main() -> Result<(), ServeError> {
+//!     let mut first = |game: &Game, colour: Colour| -> Choice {
+//!         game.legal_points(colour).next().map_or(Vertex::Pass.into(), Choice::from)
+//!     };
+//!     vintsaky::serve(&mut first, std::io::stdin(), std::io::stdout())
+//! }
+//! ```
+//!
+//! No call panics, whatever it is given; only a fresh object does where a library asks for an alignment of more than 8.
+//! The types are neither `Send` nor `Sync`: an object stays on its thread, and
+//! each thread may have its own.
+//!
+//! The build script finds the archive `libvintsaky.a` in the folder that the variable `VINTSAKY_LIB_DIR` names, or else
+//! in the one that `pkg-config --variable=libdir vintsaky` prints.
+
+#![deny(missing_docs)]
+
+mod engine;
+mod ffi;
+mod game;
+mod held;
+mod outcomes;
+mod player;
+mod readers;
+mod referee;
+mod refusal;
+mod texts;
+mod values;
+mod writers;
+
+pub use engine::{Engine, Fed, Wait};
+pub use game::{Chain, Game};
+pub use outcomes::{Action, Loss, Owed, Report, Status, Verdict};
+pub use player::{serve, Player, ServeError};
+pub use readers::{CommandLines, LineEvent, Replies, ReplyEvent};
+pub use referee::{Match, Setup};
+pub use refusal::Refusal;
+pub use values::{Choice, Colour, KoRule, Komi, Move, Point, Score, Vertex};
+pub use writers::{reply, Command};
+
+/// The version of the library that this crate is made for, as [`version`] returns that of the library it has.
+pub const VERSION: u32 = ffi::VINTSAKY_VERSION;
+
+/// The version of the library: 65536 times the first number, 256 times the second, and the third.
+pub fn version() -> u32 {
+    unsafe { ffi::vintsaky_version() }
+}
+
+/// A program that has this crate links with a library of the same interface alone.
+#[used]
+static INTERFACE: unsafe extern "C" fn() = ffi::vintsaky_interface_1;

@@ -1,0 +1,173 @@
+//! Readers of command lines and of replies.
+
+use std::fmt;
+
+use crate::ffi::*;
+use crate::held::{Held, LINES, REPLIES};
+use crate::refusal::Refusal;
+use crate::texts;
+
+/// What came of bytes that a reader of command lines was fed.
+#[derive(Clone, Copy, Debug, PartialEq, Eq, Hash)]
+pub enum LineEvent {
+    /// All bytes were used, and no line came: read on.
+    More,
+    /// A command line came: its id and its words can be read.
+    Line,
+    /// A line came whose words are too long: together, with a space between any two, more than 1,000 bytes.
+    TooLong,
+}
+
+/// A reader of the command lines that a controller writes. It passes over lines without a word, comments and control
+/// characters.
+///
+/// ```
+/// use vintsaky::{CommandLines, LineEvent};
+///
+/// let mut lines = CommandLines::new();
+/// assert_eq!(lines.feed(b"# hello\n7 play b"), (LineEvent::More, 16));
+/// assert_eq!(lines.feed(b" D4\nquit\n"), (LineEvent::Line, 4));
+/// assert_eq!(lines.id(), Ok(7));
+/// assert!(lines.words().eq([b"play".to_vec(), b"b".to_vec(), b"D4".to_vec()]));
+/// ```
+pub struct CommandLines {
+    held: Held<Lines>,
+}
+
+impl CommandLines {
+    /// A reader that was given nothing.
+    pub fn new() -> Self {
+        Self { held: Held::new(&LINES) }
+    }
+
+    /// Takes the next bytes up to and with the newline that ends a line, or all of them. Returns what came of them, and
+    /// how many were used.
+    pub fn feed(&mut self, bytes: &[u8]) -> (LineEvent, usize) {
+        let mut used = 0;
+        let came = unsafe { vintsaky_lines_feed(self.held.get(), bytes.as_ptr(), bytes.len(), &mut used) };
+        let came = match came {
+            VINTSAKY_LINE => LineEvent::Line,
+            VINTSAKY_TOO_LONG => LineEvent::TooLong,
+            _ => LineEvent::More,
+        };
+        (came, used)
+    }
+
+    /// The id of the command line that was read last.
+    ///
+    /// # Errors
+    ///
+    /// [`Refusal::NoLine`], or else [`Refusal::NoId`].
+    pub fn id(&self) -> Result<u32, Refusal> {
+        let mut id = 0;
+        Refusal::check(unsafe { vintsaky_lines_id(self.held.get(), &mut id) })?;
+        Ok(id)
+    }
+
+    /// A word of the command line that was read last, counted from 0 after the id.
+    ///
+    /// # Errors
+    ///
+    /// [`Refusal::NoLine`], or else [`Refusal::NoWord`].
+    pub fn word(&self, number: usize) -> Result<Vec<u8>, Refusal> {
+        texts::bytes_or_refusal(|text, room, count| unsafe {
+            vintsaky_lines_word(self.held.get(), number, text, room, count)
+        })
+    }
+
+    /// The words of the command line that was read last, after the id. There are none where no line was.
+    pub fn words(&self) -> impl Iterator<Item = Vec<u8>> + '_ {
+        (0..).map_while(|number| self.word(number).ok())
+    }
+}
+
+impl Default for CommandLines {
+    fn default() -> Self {
+        Self::new()
+    }
+}
+
+impl fmt::Debug for CommandLines {
+    fn fmt(&self, out: &mut fmt::Formatter<'_>) -> fmt::Result {
+        out.debug_struct("CommandLines").finish_non_exhaustive()
+    }
+}
+
+/// What came of bytes that a reader of replies was fed.
+#[derive(Clone, Copy, Debug, PartialEq, Eq, Hash)]
+pub enum ReplyEvent {
+    /// All bytes were used, and no reply came: read on.
+    More,
+    /// A reply came: whether it is a success, its id and its text can be read.
+    Reply,
+    /// What came is no reply.
+    NoReply,
+    /// What came is too long for a reply.
+    TooLong,
+}
+
+/// A reader of the replies that an engine writes.
+///
+/// ```
+/// use vintsaky::{Replies, ReplyEvent};
+///
+/// let mut replies = Replies::new();
+/// assert_eq!(replies.feed(b"=3 D4\n"), (ReplyEvent::More, 6));
+/// assert_eq!(replies.feed(b"\n= \n\n"), (ReplyEvent::Reply, 1));
+/// assert!(replies.is_ok());
+/// assert_eq!(replies.id(), Some(3));
+/// assert_eq!(replies.text(), b"D4");
+/// ```
+pub struct Replies {
+    held: Held<crate::ffi::Replies>,
+}
+
+impl Replies {
+    /// A reader that was given nothing.
+    pub fn new() -> Self {
+        Self { held: Held::new(&REPLIES) }
+    }
+
+    /// Takes the next bytes up to and with the byte that ends a reply or shows a fault, or all of them. Returns what
+    /// came of them, and how many were used.
+    pub fn feed(&mut self, bytes: &[u8]) -> (ReplyEvent, usize) {
+        let mut used = 0;
+        let came = unsafe { vintsaky_replies_feed(self.held.get(), bytes.as_ptr(), bytes.len(), &mut used) };
+        let came = match came {
+            VINTSAKY_READ => ReplyEvent::Reply,
+            VINTSAKY_NO_REPLY => ReplyEvent::NoReply,
+            VINTSAKY_LONG_REPLY => ReplyEvent::TooLong,
+            _ => ReplyEvent::More,
+        };
+        (came, used)
+    }
+
+    /// Whether the reply that was read last is a success.
+    pub fn is_ok(&self) -> bool {
+        unsafe { vintsaky_replies_ok(self.held.get()) }
+    }
+
+    /// The id of the reply that was read last: none where it has none.
+    pub fn id(&self) -> Option<u32> {
+        let mut id = 0;
+        let answer = unsafe { vintsaky_replies_id(self.held.get(), &mut id) };
+        Refusal::check(answer).ok().map(|()| id)
+    }
+
+    /// The text of the reply that was read last.
+    pub fn text(&self) -> Vec<u8> {
+        texts::bytes_of(|text, room| unsafe { vintsaky_replies_text(self.held.get(), text, room) })
+    }
+}
+
+impl Default for Replies {
+    fn default() -> Self {
+        Self::new()
+    }
+}
+
+impl fmt::Debug for Replies {
+    fn fmt(&self, out: &mut fmt::Formatter<'_>) -> fmt::Result {
+        out.debug_struct("Replies").finish_non_exhaustive()
+    }
+}
