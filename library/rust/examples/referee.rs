@@ -3,7 +3,6 @@
 use std::error::Error;
 use std::io::{self, ErrorKind, Read, Write};
 use std::process::{Child, Command, Stdio};
-
 use vintsaky::{Action, Colour, Komi, Match, Setup};
 
 /// A side: the command of its engine, and the engine that runs.
@@ -33,7 +32,8 @@ impl Side<'_> {
     fn end(&mut self) {
         let _may_be_gone = self.write("quit\n");
         if let Some(mut engine) = self.1.take() {
-            drop((engine.stdin.take(), engine.stdout.take()));
+            drop(engine.stdin.take());
+            let _last_words = engine.stdout.take().map(|pipe| io::copy(&mut pipe.take(8192), &mut io::sink()));
             let _status = engine.wait();
         }
     }
