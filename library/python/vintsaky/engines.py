@@ -1,0 +1,294 @@
+"""Engines: all but the choice of a move is the library's."""
+from __future__ import annotations
+
+import contextlib
+import ctypes
+import fcntl
+import os
+import sys
+from enum import IntEnum
+from typing import Any, Callable, ClassVar, Dict, Iterator, List, Optional, Tuple, TypeVar, Union
+
+from . import _library
+from ._held import Bytes, Held, ascii_of, bytes_of, whole
+from ._library import Cause, done, library, or_none, text_of
+from .games import Game
+from .lines import CommandLine, words_of
+from .values import RESIGN, AnyVertex, Colour, KoRule, vertex_number
+
+__all__ = ["RESIGN", "Engine", "Event", "Failure", "Steps", "command"]
+
+PIECE = 4096  # the most bytes that are read at a time
+Method = TypeVar("Method", bound=Callable[..., Any])
+
+
+class Event(IntEnum):
+    """What came of a piece that was fed to an engine in steps."""
+
+    MORE = 0  # All bytes were used: read on.
+    BLACK = 1  # A move of Black is asked for: call `choose`.
+    WHITE = 2  # A move of White is asked for: call `choose`.
+    OTHER = 3  # A line of another command: look at `line`, and call `answer` or `decline`.
+    REPLY = 4  # A line was answered: write `reply`.
+    ENDED = 5  # The session has ended, by a quit.
+
+
+class Steps(Held):
+    """An engine in steps: bytes go in, and replies, or the colour for which a move is asked, come out.
+
+    What is refused raises Refused, and the engine stays as it was. While it waits for a choice or an answer it uses no
+    byte, and `feed` returns the same event.
+
+    >>> steps = Steps()
+    >>> steps.feed(b"1 genmove b\\n2 name\\n")
+    (12, <Event.BLACK: 1>)
+    >>> steps.choose("D4")
+    >>> steps.reply
+    b'=1 D4\\n\\n'
+    >>> steps.feed(b"2 name\\n"), steps.reply
+    ((7, <Event.REPLY: 4>), b'=2 stepgo\\n\\n')
+    """
+
+    __slots__ = ()
+    _kind: ClassVar[str] = "engine"
+    _handle_type = _library.EngineHandle
+
+    def __init__(self, rule: KoRule = KoRule.SIMPLE) -> None:
+        super().__init__()
+        self.begin(rule)
+
+    def begin(self, rule: KoRule = KoRule.SIMPLE) -> None:
+        """Begins anew. Causes: BAD_RULE."""
+        done(library.vintsaky_engine_begin(self._held(), whole(rule, "the ko rule")))
+
+    def feed(self, data: Bytes) -> Tuple[int, Event]:
+        """Takes the next piece, up to and with the newline of the first line that has a word. How many bytes were used,
+        and what came of them."""
+        data, used = bytes_of(data), ctypes.c_size_t()
+        event = library.vintsaky_engine_feed(self._held(), data, len(data), ctypes.byref(used))
+        return used.value, Event(event)
+
+    @property
+    def wait(self) -> Event:
+        """What is waited for: BLACK, WHITE, OTHER, or MORE where it is nothing."""
+        return Event(library.vintsaky_engine_wait(self._held()))
+
+    @property
+    def ended(self) -> bool:
+        """Whether the session has ended, by a quit."""
+        ended: bool = library.vintsaky_engine_ended(self._held())
+        return ended
+
+    @property
+    def reply(self) -> bytes:
+        """The last reply: no bytes before the first."""
+        return text_of(library.vintsaky_engine_reply, self._held())
+
+    @property
+    def line(self) -> Optional[CommandLine]:
+        """The line that is waited with, or None."""
+        place, number = self._held(), ctypes.c_uint32()
+        if self.wait is Event.MORE:
+            return None
+        number_or_none = or_none(library.vintsaky_engine_id(place, ctypes.byref(number)), Cause.NO_ID, number)
+        return CommandLine(number_or_none, words_of(library.vintsaky_engine_word, place))
+
+    @property
+    def game(self) -> Game:
+        """A copy of the engine's game."""
+        game = Game()
+        library.vintsaky_engine_copy_game(self._held(), game._held())
+        return game
+
+    def choose(self, choice: AnyVertex) -> None:
+        """Makes the choice that is asked for: a vertex, or RESIGN. Causes: BAD_VERTEX, NOT_ASKED, FULL, OFF_BOARD,
+        OCCUPIED, SUICIDE or KO; the choice is still asked for."""
+        done(library.vintsaky_engine_choose(self._held(), vertex_number(choice)))
+
+    def answer(self, text: Union[str, bytes] = "", ok: bool = True) -> None:
+        """Answers the line of another command: by a success, or by a failure. Causes: NOT_ASKED, or BAD_TEXT where no
+        reply may have the text."""
+        data = ascii_of(text, "the answer")
+        done(library.vintsaky_engine_answer(self._held(), int(bool(ok)), data, len(data)))
+
+    def decline(self) -> None:
+        """Answers the line of another command by `unknown command`. Causes: NOT_ASKED."""
+        done(library.vintsaky_engine_decline(self._held()))
+
+    def set_name(self, name: Union[str, bytes]) -> None:
+        """Answers name by this text from now on. Causes: BAD_TEXT where it has more than 200 bytes, or no reply may
+        have it."""
+        data = ascii_of(name, "the name")
+        done(library.vintsaky_engine_set_name(self._held(), data, len(data)))
+
+    def set_version(self, version: Union[str, bytes]) -> None:
+        """Answers version by this text from now on. Causes: as those of `set_name`."""
+        data = ascii_of(version, "the version")
+        done(library.vintsaky_engine_set_version(self._held(), data, len(data)))
+
+    def add_command(self, name: Union[str, bytes]) -> None:
+        """Adds a command of the author's own. Causes: BAD_LENGTH, BAD_BYTE, ONLY_DIGITS, IN_TABLE, ADDED_BEFORE or
+        TOO_MANY."""
+        data = ascii_of(name, "the command's name")
+        done(library.vintsaky_engine_add_command(self._held(), data, len(data)))
+
+
+class Failure(Exception):
+    """An own command fails: its reply is a failure with this text."""
+
+
+def command(name: str) -> Callable[[Method], Method]:
+    """Marks a method of an Engine as the answer to a command of the author's own, of this name.
+
+    The method gets the words after the name, a list of str, and returns the text of the reply, or None for an empty
+    one. Where it raises Failure, the reply is a failure with that text. No own command changes the game."""
+
+    def marked(method: Method) -> Method:
+        setattr(method, "gtp_command", name)
+        return method
+
+    return marked
+
+
+class Engine:
+    """An engine of one's own: a class that says what it chooses.
+
+    >>> import io
+    >>> class Resigns(Engine):
+    ...     name = "resigns"
+    ...     def choose(self, game, colour):
+    ...         return RESIGN
+    ...     @command("mood")
+    ...     def say_mood(self, words):
+    ...         return "gloomy"
+    >>> output = io.BytesIO()
+    >>> Resigns().serve(io.BytesIO(b"name\\n2 genmove w\\nmood\\nquit\\n"), output)
+    >>> output.getvalue()
+    b'= resigns\\n\\n=2 resign\\n\\n= gloomy\\n\\n=\\n\\n'
+    """
+
+    name: str = "stepgo"
+    version: str = "1.0"
+    rule: KoRule = KoRule.SIMPLE
+    _steps: Optional[Steps] = None
+
+    def choose(self, game: Game, colour: Colour) -> AnyVertex:
+        """What the engine plays: a legal Point, PASS or RESIGN, or the text of one. The game is a copy, on which it may
+        play as it likes.
+
+        Where it raises an exception, or its choice isn't lawful, that comes out of `serve`, and the genmove isn't
+        answered."""
+        raise NotImplementedError(f"{type(self).__name__} has no method choose(self, game, colour)")
+
+    @property
+    def game(self) -> Game:
+        """A copy of the game as it is, for an own command, say. Errors: RuntimeError where the engine doesn't serve."""
+        if self._steps is None:
+            raise RuntimeError(f"{type(self).__name__} doesn't serve")
+        return self._steps.game
+
+    def serve(self, source: Any = None, sink: Any = None) -> None:
+        """Answers the commands that are read from `source` by replies that are written to `sink`, until a quit was
+        answered or the input ends. Both are binary files. Each piece is read as it comes, and each reply flushed.
+
+        Without them they are standard input and standard output. As long as it serves, these are its own: what else is
+        written to standard output, by `print` or by a process that is started, goes to standard error. What else reads
+        standard input finds it empty.
+
+        Errors: what `choose` or an own command raises, Refused of a choice or an answer that may not be, and what the
+        files raise. Nothing is written then; the reply to each earlier line was."""
+        with contextlib.ExitStack() as stack:
+            if source is None or sink is None:
+                standard = stack.enter_context(standard_streams())
+                source, sink = source or standard[0], sink or standard[1]
+            self._steps = self._started()
+            try:
+                self._answer_all(self._steps, source, sink)
+            finally:
+                self._steps = None
+
+    def _started(self) -> Steps:
+        """An engine in steps of this name and version, with the own commands."""
+        steps = Steps(self.rule)
+        steps.set_name(self.name)
+        steps.set_version(self.version)
+        for name in self._commands():
+            steps.add_command(name)
+        return steps
+
+    def _commands(self) -> Dict[str, str]:
+        """The own commands: the name of each, and that of its method, those of a base class first."""
+        found: Dict[str, str] = {}
+        for kind in reversed(type(self).__mro__):
+            for attribute, value in vars(kind).items():
+                name = getattr(value, "gtp_command", None)
+                if name is not None:
+                    found[name] = attribute
+        return found
+
+    def _answer_all(self, steps: Steps, source: Any, sink: Any) -> None:
+        """Reads and answers, until the session or the input ends."""
+        commands = self._commands()
+        read = getattr(source, "read1", source.read)
+        while data := read(PIECE):
+            while data:
+                used, event = steps.feed(data)
+                data = data[used:]
+                if event in (Event.BLACK, Event.WHITE):
+                    steps.choose(self.choose(steps.game, Colour(event)))
+                elif event is Event.OTHER:
+                    self._answer_other(steps, commands)
+                if event is not Event.MORE:
+                    write_whole(sink, steps.reply)
+                if steps.ended:
+                    return
+
+    def _answer_other(self, steps: Steps, commands: Dict[str, str]) -> None:
+        """Answers a line that isn't the library's: by an own command, or as unknown."""
+        line = steps.line
+        words: List[str] = list(line.words) if line else []
+        if not words or words[0] not in commands:
+            steps.decline()
+            return
+        try:
+            text = getattr(self, commands[words[0]])(words[1:])
+        except Failure as failure:
+            steps.answer(str(failure), ok=False)
+        else:
+            steps.answer("" if text is None else text)
+
+
+def write_whole(sink: Any, data: bytes) -> None:
+    """Writes all of the bytes, and flushes them."""
+    left = memoryview(data)
+    while left:
+        left = left[sink.write(left) :]
+    sink.flush()
+
+
+@contextlib.contextmanager
+def standard_streams() -> Iterator[Tuple[Any, Any]]:
+    """Standard input and output as files of their own. As long as they are open, standard output is standard error, and
+    standard input is empty. What `print` had written and not flushed goes to standard error too."""
+    with contextlib.ExitStack() as stack:
+        source, sink = (stack.enter_context(own_stream(number, mode)) for number, mode in ((0, "rb"), (1, "wb")))
+        stack.callback(os.dup2, source.fileno(), 0)
+        stack.callback(os.dup2, sink.fileno(), 1)
+        stack.callback(flush_standard_output, sys.stdout)
+        with open(os.devnull, "r+b", buffering=0) as empty:
+            os.dup2(empty.fileno(), 0)
+            os.dup2(empty.fileno() if sys.stderr is None else 2, 1)
+        flush_standard_output(sys.stdout)
+        stack.enter_context(contextlib.redirect_stdout(sys.stderr))
+        yield source, sink
+
+
+def own_stream(number: int, mode: str) -> Any:
+    """A standard stream as a file of another number, which no process that is started has."""
+    return os.fdopen(fcntl.fcntl(number, fcntl.F_DUPFD_CLOEXEC, 3), mode, buffering=0)
+
+
+def flush_standard_output(output: Any) -> None:
+    """Flushes what was written to it, where there is one."""
+    if output is not None:
+        output.flush()

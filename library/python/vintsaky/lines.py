@@ -1,0 +1,191 @@
+"""Command lines and replies: their readers, which take bytes in any cuts, and how they are written."""
+from __future__ import annotations
+
+import ctypes
+from enum import IntEnum
+from typing import Any, ClassVar, List, NamedTuple, Optional, Tuple, Union
+
+from . import _library
+from ._held import Bytes, Held, ascii_of, bytes_of, whole
+from ._library import Cause, Refused, done, library, or_none, text_of
+from .values import colour_number, half_points, vertex_number, written
+
+LONGEST_INT = 2**31 - 1
+
+
+class LineEvent(IntEnum):
+    """What came of a piece that was fed to a reader of command lines, where it isn't 0."""
+
+    LINE = 1
+    TOO_LONG = 2
+
+
+class ReplyEvent(IntEnum):
+    """What came of a piece that was fed to a reader of replies, where it isn't 0: a reply, or why there is none."""
+
+    READ = 1
+    NO_REPLY = 2
+    LONG_REPLY = 3
+
+
+class Command(IntEnum):
+    """The commands that `write_command` writes."""
+
+    BOARDSIZE = 1
+    KOMI = 2
+    CLEAR_BOARD = 3
+    FIXED_HANDICAP = 4
+    PLAY = 5
+    GENMOVE = 6
+    UNDO = 7
+    QUIT = 8
+
+
+class CommandLine(NamedTuple):
+    """A command line: its id, if it has one, and its words, the command's name first. Of a line that is too long only
+    that is known. Bytes of a word that aren't UTF-8 are what `os.fsencode` gives back."""
+
+    id: Optional[int]
+    words: Tuple[str, ...]
+    too_long: bool = False
+
+
+class Reply(NamedTuple):
+    """A reply: whether it is a success, its id, if it has one, and its text, as it came."""
+
+    ok: bool
+    id: Optional[int]
+    text: bytes
+
+
+def words_of(call: Any, place: Any) -> Tuple[str, ...]:
+    """The words that this call writes one by one."""
+    words: List[str] = []
+    room = 1024  # a line has at most 1,000 bytes
+    text, count = ctypes.create_string_buffer(room), ctypes.c_size_t()
+    while True:
+        cause = call(place, len(words), text, room, ctypes.byref(count))
+        if cause == Cause.NO_WORD:
+            return tuple(words)
+        done(cause)
+        words.append(text.raw[: count.value].decode("utf-8", "surrogateescape"))
+
+
+class CommandLines(Held):
+    """A reader of command lines.
+
+    >>> lines = CommandLines()
+    >>> lines.feed(b"1 genm"), lines.feed(b"ove  b # a comment")
+    ([], [])
+    >>> lines.feed(b"\\n")
+    [CommandLine(id=1, words=('genmove', 'b'), too_long=False)]
+    """
+
+    __slots__ = ()
+    _kind: ClassVar[str] = "lines"
+    _handle_type = _library.LinesHandle
+
+    def feed(self, data: Bytes) -> List[CommandLine]:
+        """Takes the next piece. Returns the lines that it ends, in their order."""
+        data, used = bytes_of(data), ctypes.c_size_t()
+        lines: List[CommandLine] = []
+        while data:
+            event = library.vintsaky_lines_feed(self._held(), data, len(data), ctypes.byref(used))
+            data = data[used.value :]
+            if event == LineEvent.LINE:
+                lines.append(self._line())
+            elif event == LineEvent.TOO_LONG:
+                lines.append(CommandLine(None, (), True))
+        return lines
+
+    def _line(self) -> CommandLine:
+        """The line that was read last."""
+        place, number = self._held(), ctypes.c_uint32()
+        number_or_none = or_none(library.vintsaky_lines_id(place, ctypes.byref(number)), Cause.NO_ID, number)
+        return CommandLine(number_or_none, words_of(library.vintsaky_lines_word, place))
+
+
+class Replies(Held):
+    """A reader of replies.
+
+    >>> replies = Replies()
+    >>> replies.feed(b"=7 D4\\n\\n? no")
+    [Reply(ok=True, id=7, text=b'D4')]
+    >>> replies.feed(b"\\n\\nhello"), replies.fault
+    ([Reply(ok=False, id=None, text=b'no')], <ReplyEvent.NO_REPLY: 2>)
+    """
+
+    __slots__ = ("_fault",)
+    _kind: ClassVar[str] = "replies"
+    _handle_type = _library.RepliesHandle
+
+    def __init__(self) -> None:
+        super().__init__()
+        self._fault: Optional[ReplyEvent] = None
+
+    @property
+    def fault(self) -> Optional[ReplyEvent]:
+        """NO_REPLY or LONG_REPLY, once such bytes came. Nothing is read any more then."""
+        return self._fault
+
+    def feed(self, data: Bytes) -> List[Reply]:
+        """Takes the next piece. Returns the replies that it ends, in their order, up to a fault."""
+        data, used = bytes_of(data), ctypes.c_size_t()
+        replies: List[Reply] = []
+        while data and self._fault is None:
+            event = library.vintsaky_replies_feed(self._held(), data, len(data), ctypes.byref(used))
+            data = data[used.value :]
+            if event == ReplyEvent.READ:
+                replies.append(self._reply())
+            elif event:
+                self._fault = ReplyEvent(event)
+        return replies
+
+    def _reply(self) -> Reply:
+        """The reply that was read last."""
+        place, number = self._held(), ctypes.c_uint32()
+        number_or_none = or_none(library.vintsaky_replies_id(place, ctypes.byref(number)), Cause.NO_ID, number)
+        return Reply(library.vintsaky_replies_ok(place), number_or_none, text_of(library.vintsaky_replies_text, place))
+
+
+def id_number(id: Optional[int]) -> int:
+    """The number of an id, which is -1 for none. Causes: BAD_ID."""
+    if id is None:
+        return -1
+    number = whole(id, "the id", -(2**31), LONGEST_INT)
+    if number < 0:
+        raise Refused(Cause.BAD_ID)
+    return number
+
+
+def write_command(command: Command, *arguments: Any, id: Optional[int] = None) -> bytes:
+    """The line of a command, with its newline. Its arguments are the size of BOARDSIZE, the komi of KOMI, the number of
+    stones of FIXED_HANDICAP, the colour and the vertex of PLAY, and the colour of GENMOVE. Causes: BAD_ID, BAD_COMMAND,
+    BAD_SIZE, BAD_KOMI, BAD_HANDICAP, BAD_COLOUR or BAD_VERTEX.
+
+    >>> write_command(Command.PLAY, "b", "D4", id=5)
+    b'5 play b D4\\n'
+    """
+    kind, number = whole(command, "the command"), id_number(id)
+    wanted = {Command.PLAY: 2, Command.CLEAR_BOARD: 0, Command.UNDO: 0, Command.QUIT: 0}.get(kind, 1)
+    if kind in list(Command) and len(arguments) != wanted:
+        raise TypeError(f"{Command(kind).name} has {wanted} arguments, and not {len(arguments)}")
+    value = vertex = 0
+    if kind == Command.KOMI:
+        value = half_points(arguments[0])
+    elif kind in (Command.PLAY, Command.GENMOVE):
+        value = whole(colour_number(arguments[0]), "the colour", 0, LONGEST_INT)
+        vertex = vertex_number(arguments[1]) if kind == Command.PLAY else 0
+    elif arguments:
+        value = whole(arguments[0], "the argument", -(2**31), LONGEST_INT)
+    return written(library.vintsaky_write_command, number, kind, value, vertex).encode("ascii")
+
+
+def write_reply(text: Union[str, bytes] = "", ok: bool = True, id: Optional[int] = None) -> bytes:
+    """A reply: a success, or a failure. Causes: BAD_ID, or BAD_TEXT where no reply may have the text.
+
+    >>> write_reply("D4", id=7), write_reply("no", ok=False)
+    (b'=7 D4\\n\\n', b'? no\\n\\n')
+    """
+    data = ascii_of(text, "the text")
+    return written(library.vintsaky_write_reply, id_number(id), int(bool(ok)), data, len(data)).encode("ascii")

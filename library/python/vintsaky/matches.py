@@ -1,0 +1,265 @@
+"""The referee of a match between two engines. It starts no process: it is told what happened, and says what is next."""
+from __future__ import annotations
+
+import ctypes
+from dataclasses import dataclass
+from enum import IntEnum
+from typing import Any, ClassVar, Optional, Tuple
+
+from . import _library
+from ._held import Bytes, Held, bytes_of, whole
+from ._library import Cause, done, library, text_of
+from .games import Game
+from .values import AnyColour, Colour, Komi, colour_number, half_points, written
+
+COMMAND_ROOM = 128  # a command has at most 64 bytes
+WROTE_ROOM = 128  # of what a side wrote at most 80 bytes are shown
+
+
+class Next(IntEnum):
+    """What is to be done next."""
+
+    START = 1  # Start this side's engine, and call `started`.
+    SEND = 2  # Call `send`, and write to this side's engine what it returns.
+    WAIT = 3  # Read what this side's engine writes, and call `hear` or `report`.
+    OVER = 4  # The match is over.
+
+
+class Loss(IntEnum):
+    """Why a side fails by what it writes."""
+
+    NO_STATUS = _library.LOSS_NO_STATUS  # What it wrote is no reply: it begins with neither = nor ?. It goes down.
+    OVERLONG = _library.LOSS_OVERLONG  # More than 8,192 bytes came since its last reply. It goes down.
+    WRONG_ID = _library.LOSS_WRONG_ID  # The reply hasn't the id of the oldest unanswered command. It goes down.
+    UNASKED = _library.LOSS_UNASKED  # A reply came where no command is unanswered. It goes down.
+    UNFIT = _library.LOSS_UNFIT  # It failed at a command that brings it to the record, or placed another handicap.
+    REFUSES_PLAY = _library.LOSS_REFUSES_PLAY  # It refused a play that isn't retaken. It forfeits.
+    KEEPS_MOVE = _library.LOSS_KEEPS_MOVE  # It kept its move, which the other side refused. The other side forfeits.
+    NO_MOVE = _library.LOSS_NO_MOVE  # It failed at a genmove. It forfeits.
+    NO_VERTEX = _library.LOSS_NO_VERTEX  # Its answer is neither a vertex nor a resignation. It forfeits.
+    FULL = _library.LOSS_FULL  # Its move is refused, for the causes of the same names. It forfeits.
+    OFF_BOARD = _library.LOSS_OFF_BOARD
+    OCCUPIED = _library.LOSS_OCCUPIED
+    SUICIDE = _library.LOSS_SUICIDE
+    KO = _library.LOSS_KO
+
+
+class Ending(IntEnum):
+    """How a match ended."""
+
+    BY_SCORE = 1  # by two passes
+    BY_RESIGNATION = 2  # the side resigned
+    BY_LIMIT = 3  # the record has as many moves as the match allows
+    BY_REFUSED_PLAY = 4  # the side refused a legal play, or kept a move that the other side refused: it forfeits
+    BY_NO_MOVE = 5  # the side failed to answer with a move: it forfeits
+    BY_NO_VERTEX = 6  # the side answered with what is no move: it forfeits
+    BY_ILLEGAL_MOVE = 7  # the side answered with a move that isn't legal: it forfeits
+    BY_UNFIT = 8  # the side can't be brought to the record
+    BY_ABANDONED = 9  # the side went down too often
+
+
+@dataclass(frozen=True)
+class Action:
+    """What is to be done next, and with which side."""
+
+    kind: Next
+    side: Optional[Colour]
+
+
+@dataclass(frozen=True)
+class Owed:
+    """What a side owes: how many commands it hasn't answered, the oldest of them, as it was sent, and the first 80
+    bytes that it wrote since its last whole reply."""
+
+    unanswered: int
+    command: str
+    wrote: bytes
+
+
+@dataclass(frozen=True)
+class Report:
+    """What came of the bytes that a side wrote: why it fails, if it does; which retake of its number of a move it is,
+    1 to 3, where it refused a play that is retaken, else 0; and what it owed at the loss, or else at the retake."""
+
+    loss: Optional[Loss]
+    retake: int
+    owed: Optional[Owed]
+
+
+@dataclass(frozen=True)
+class Status:
+    """How many commands a side has confirmed of those that bring it to the record, how many it hasn't answered, and
+    whether a genmove is among them."""
+
+    confirmed: int
+    unanswered: int
+    asked: bool
+
+
+@dataclass(frozen=True)
+class Verdict:
+    """How a match ended, the side that the ending says it of, and the score in points where it ended by one."""
+
+    ending: Ending
+    side: Optional[Colour]
+    score: Optional[float]
+
+
+class OwedRoom:
+    """Where a call writes what a side owes."""
+
+    def __init__(self) -> None:
+        self.unanswered = ctypes.c_uint32()
+        self.command, self.command_count = ctypes.create_string_buffer(COMMAND_ROOM), ctypes.c_size_t()
+        self.wrote, self.wrote_count = ctypes.create_string_buffer(WROTE_ROOM), ctypes.c_size_t()
+
+    def arguments(self) -> Tuple[Any, ...]:
+        """The call's last arguments."""
+        command = (self.command, COMMAND_ROOM, ctypes.byref(self.command_count))
+        return (ctypes.byref(self.unanswered), *command, self.wrote, WROTE_ROOM, ctypes.byref(self.wrote_count))
+
+    def owed(self) -> Owed:
+        """What was written there."""
+        command = self.command.raw[: self.command_count.value].decode("ascii")
+        return Owed(self.unanswered.value, command, self.wrote.raw[: self.wrote_count.value])
+
+
+class Match(Held):
+    """A match between two engines that are not started yet. Sides may be given as the texts of their colours.
+
+    What is refused raises Refused, and the match stays as it was: BAD_COLOUR of a side that is none, and what each
+    method names.
+
+    >>> match = Match(size=9, komi=6.5)
+    >>> match.next()
+    Action(kind=<Next.START: 1>, side=<Colour.BLACK: 1>)
+    >>> match.started("b")
+    >>> match.started("w")
+    >>> match.send("b")
+    b'1 boardsize 9\\n'
+    """
+
+    __slots__ = ()
+    _kind: ClassVar[str] = "match"
+    _handle_type = _library.MatchHandle
+
+    def __init__(
+        self, size: int = 19, komi: Komi = 0, handicap: int = 0, max_moves: int = 2000, max_restarts: int = 0
+    ) -> None:
+        super().__init__()
+        self.begin(size, komi, handicap, max_moves, max_restarts)
+
+    def begin(
+        self, size: int = 19, komi: Komi = 0, handicap: int = 0, max_moves: int = 2000, max_restarts: int = 0
+    ) -> None:
+        """Begins anew. Causes: BAD_SIZE, BAD_KOMI, BAD_HANDICAP, BAD_MAX_MOVES or BAD_MAX_RESTARTS."""
+        done(
+            library.vintsaky_match_begin(
+                self._held(),
+                whole(size, "the size"),
+                half_points(komi),
+                whole(handicap, "the number of handicap stones"),
+                whole(max_moves, "the limit of moves"),
+                whole(max_restarts, "the limit of restarts"),
+            )
+        )
+
+    def next(self) -> Action:
+        """What is to be done next."""
+        side = ctypes.c_uint32()
+        kind = library.vintsaky_match_next(self._held(), ctypes.byref(side))
+        return Action(Next(kind), Colour(side.value) if side.value else None)
+
+    def started(self, side: AnyColour) -> None:
+        """The side was started. Causes: NOT_NEXT where its start isn't what is next."""
+        done(library.vintsaky_match_started(self._held(), colour_number(side)))
+
+    def send(self, side: AnyColour) -> bytes:
+        """The next command for the side, which counts as sent. Causes: NOT_NEXT where that isn't what is next."""
+        text, count = ctypes.create_string_buffer(COMMAND_ROOM), ctypes.c_size_t()
+        number = colour_number(side)
+        done(library.vintsaky_match_send(self._held(), number, text, COMMAND_ROOM, ctypes.byref(count)))
+        return text.raw[: count.value]
+
+    def hear(self, side: AnyColour, data: Bytes) -> Optional[Loss]:
+        """Hears what the side wrote, in any pieces. Why the side fails by it, or None."""
+        data, number, loss = bytes_of(data), colour_number(side), ctypes.c_uint32()
+        done(library.vintsaky_match_hear(self._held(), number, data, len(data), ctypes.byref(loss)))
+        return Loss(loss.value) if loss.value else None
+
+    def report(self, side: AnyColour, data: Bytes) -> Report:
+        """Hears what the side wrote as `hear` does, and says more of what came of it."""
+        data, number, room = bytes_of(data), colour_number(side), OwedRoom()
+        loss, retake = ctypes.c_uint32(), ctypes.c_uint32()
+        written_to = (ctypes.byref(loss), ctypes.byref(retake), *room.arguments())
+        done(library.vintsaky_match_hear_reporting(self._held(), number, data, len(data), *written_to))
+        happened = bool(loss.value or retake.value)
+        return Report(Loss(loss.value) if loss.value else None, retake.value, room.owed() if happened else None)
+
+    def owed(self, side: AnyColour) -> Owed:
+        """What the side owes. Causes: DOWN where it wasn't started or went down, or the match is over."""
+        room = OwedRoom()
+        done(library.vintsaky_match_owed(self._held(), colour_number(side), *room.arguments()))
+        return room.owed()
+
+    def status(self, side: AnyColour) -> Status:
+        """How far the side is. Causes: DOWN where it wasn't started or went down."""
+        confirmed, unanswered, asked = ctypes.c_uint32(), ctypes.c_uint32(), ctypes.c_uint32()
+        places = (ctypes.byref(confirmed), ctypes.byref(unanswered), ctypes.byref(asked))
+        done(library.vintsaky_match_status(self._held(), colour_number(side), *places))
+        return Status(confirmed.value, unanswered.value, bool(asked.value))
+
+    def lost(self, side: AnyColour) -> None:
+        """The side is gone: its output ended, or it couldn't be started or written to."""
+        done(library.vintsaky_match_lost(self._held(), colour_number(side)))
+
+    def in_step(self, side: AnyColour) -> bool:
+        """Whether the side is up, owes nothing, and has confirmed all that brings it to the record."""
+        holds = ctypes.c_uint32()
+        done(library.vintsaky_match_in_step(self._held(), colour_number(side), ctypes.byref(holds)))
+        return bool(holds.value)
+
+    def restarts(self, side: AnyColour) -> int:
+        """How often the side was started again."""
+        restarts = ctypes.c_uint32()
+        done(library.vintsaky_match_restarts(self._held(), colour_number(side), ctypes.byref(restarts)))
+        return restarts.value
+
+    def retakes(self, number: int) -> int:
+        """How many refusals of the move of this number, counted from 1, were met by a retake: 3 at most."""
+        retakes: int = library.vintsaky_match_retakes(self._held(), whole(number, "the number of the move"))
+        return retakes
+
+    @property
+    def taking_back(self) -> Optional[Colour]:
+        """The side whose last move is to be taken back, because the other side refused it."""
+        side = library.vintsaky_match_taking_back(self._held())
+        return Colour(side) if side else None
+
+    @property
+    def verdict(self) -> Optional[Verdict]:
+        """How the match ended; None as long as it isn't over."""
+        ending, side, halves = ctypes.c_uint32(), ctypes.c_uint32(), ctypes.c_int32()
+        places = (ctypes.byref(ending), ctypes.byref(side), ctypes.byref(halves))
+        cause = library.vintsaky_match_verdict(self._held(), *places)
+        if cause == Cause.NOT_OVER:
+            return None
+        done(cause)
+        score = halves.value / 2 if ending.value == Ending.BY_SCORE else None
+        return Verdict(Ending(ending.value), Colour(side.value) if side.value else None, score)
+
+    @property
+    def game(self) -> Game:
+        """A copy of the match's game."""
+        game = Game()
+        library.vintsaky_match_copy_game(self._held(), game._held())
+        return game
+
+    def result(self, number: int = 1) -> str:
+        """The line of the match, as the game of this number. Causes: NOT_OVER."""
+        return written(library.vintsaky_match_result, self._held(), whole(number, "the number of the game"))
+
+    @property
+    def record(self) -> str:
+        """The vertices of the moves, with single spaces between them."""
+        return text_of(library.vintsaky_match_record, self._held()).decode("ascii")
