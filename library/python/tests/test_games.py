@@ -91,7 +91,8 @@ class Plays(Refusing):
 
     def test_what_is_refused(self):
         game = played(2, "b A2, b B1")
-        for vertex, cause in (("C1", Cause.OFF_BOARD), ("A2", Cause.OCCUPIED), ("A1", Cause.SUICIDE), ("B2", Cause.SUICIDE)):
+        refused = {"C1": Cause.OFF_BOARD, "A2": Cause.OCCUPIED, "A1": Cause.SUICIDE, "B2": Cause.SUICIDE}
+        for vertex, cause in refused.items():
             self.assertIs(game.why_not("w", vertex), cause)
             self.assertFalse(game.legal(WHITE, vertex))
             self.refused(cause, game.play, WHITE, vertex)

@@ -80,10 +80,11 @@ class Writers(Refusing):
 
     def test_refused_commands(self):
         for cause, command, *arguments in (
-            (Cause.BAD_COMMAND, 9), (Cause.BAD_COMMAND, 0), (Cause.BAD_COMMAND, 2**32 - 1), (Cause.BAD_SIZE, Command.BOARDSIZE, 26),
-            (Cause.BAD_SIZE, Command.BOARDSIZE, -1), (Cause.BAD_KOMI, Command.KOMI, 10**9), (Cause.BAD_HANDICAP, Command.FIXED_HANDICAP, -1),
-            (Cause.BAD_COLOUR, Command.GENMOVE, 3), (Cause.BAD_COLOUR, Command.PLAY, 0, PASS), (Cause.BAD_VERTEX, Command.PLAY, 1, RESIGN),
-            (Cause.BAD_VERTEX, Command.PLAY, 1, (26, 1)),
+            (Cause.BAD_COMMAND, 9), (Cause.BAD_COMMAND, 0), (Cause.BAD_COMMAND, 2**32 - 1),
+            (Cause.BAD_SIZE, Command.BOARDSIZE, 26), (Cause.BAD_SIZE, Command.BOARDSIZE, -1),
+            (Cause.BAD_KOMI, Command.KOMI, 10**9), (Cause.BAD_HANDICAP, Command.FIXED_HANDICAP, -1),
+            (Cause.BAD_COLOUR, Command.GENMOVE, 3), (Cause.BAD_COLOUR, Command.PLAY, 0, PASS),
+            (Cause.BAD_VERTEX, Command.PLAY, 1, RESIGN), (Cause.BAD_VERTEX, Command.PLAY, 1, (26, 1)),
         ):  # fmt: skip
             self.refused(cause, write_command, command, *arguments)
         for command, *arguments in ((Command.BOARDSIZE, 2**32 + 9), (Command.GENMOVE, 2**32 + 1), (-1,), (2**32 + 8,)):

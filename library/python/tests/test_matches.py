@@ -1,4 +1,4 @@
-"""The referee. What is wanted comes from the rules of a match: what is next, what a reply does, and how a match ends."""
+"""The referee. What is wanted comes from the rules of a match: what is next, what a reply does, how a match ends."""
 import dataclasses
 import unittest
 
@@ -174,8 +174,8 @@ class Limits(Refusing):
     def test_sides(self):
         match = Match()
         calls = {
-            match.started: (), match.send: (), match.hear: (b"",), match.report: (b"",), match.owed: (), match.status: (),
-            match.lost: (), match.in_step: (), match.restarts: (),
+            match.started: (), match.send: (), match.hear: (b"",), match.report: (b"",), match.owed: (),
+            match.status: (), match.lost: (), match.in_step: (), match.restarts: (),
         }  # fmt: skip
         for call, more in calls.items():
             for side in (0, 3, 257, 2**32 - 1):

@@ -102,8 +102,8 @@ class Komis(Refusing):
 
     def test_writes_one_spelling(self):
         for komi, text in (
-            (6.5, "6.5"), (7, "7"), (0.5, "0.5"), (-0.5, "-0.5"), (-0.0, "0"), (Fraction(-7, 2), "-3.5"), (Decimal("7.50"), "7.5"),
-            (999999999.5, "999999999.5"),
+            (6.5, "6.5"), (7, "7"), (0.5, "0.5"), (-0.5, "-0.5"), (-0.0, "0"), (Fraction(-7, 2), "-3.5"),
+            (Decimal("7.50"), "7.5"), (999999999.5, "999999999.5"),
         ):  # fmt: skip
             self.assertEqual(vintsaky.komi_text(komi), text)
 

@@ -1,0 +1,272 @@
+"""Engines, in steps and served. What is wanted is what the protocol says of each reply."""
+import io
+import os
+import subprocess
+import sys
+import unittest
+
+import vintsaky
+from vintsaky import BLACK, PASS, RESIGN, WHITE, Cause, CommandLine, Engine, Event, Failure, KoRule, Steps, command
+
+from .test_values import Refusing
+
+OURS = (
+    "protocol_version name version known_command list_commands quit boardsize clear_board komi play genmove"
+    " fixed_handicap undo final_score showboard"
+).split()
+
+
+class First(Engine):
+    """Plays the first legal point, and has commands of its own."""
+
+    name = "first"
+    version = "2.5"
+
+    def choose(self, game, colour):
+        return next(iter(game.legal_points(colour)), PASS)
+
+    @command("kgs-chat")
+    def say(self, words):
+        return " ".join(words)
+
+    @command("nothing")
+    def say_nothing(self, words):
+        return None
+
+    @command("fails")
+    def fail(self, words):
+        raise Failure("not today")
+
+    @command("stones")
+    def count_stones(self, words):
+        return str(sum(self.game[point] is not None for point in [(1, 1), (2, 1)]))
+
+
+class Second(First):
+    """A method that is overridden answers the same command."""
+
+    def say(self, words):
+        return "second"
+
+
+def served(engine, said):
+    """What the engine writes that is told this."""
+    sink = io.BytesIO()
+    engine.serve(io.BytesIO(said), sink)
+    return sink.getvalue()
+
+
+class InSteps(Refusing):
+    def test_what_comes_of_a_piece(self):
+        steps = Steps()
+        self.assertEqual((steps.wait, steps.reply, steps.line, steps.ended), (Event.MORE, b"", None, False))
+        self.assertEqual(steps.feed(b"1 na"), (4, Event.MORE))
+        self.assertEqual(steps.feed(b"me\n2 genmove w\n"), (3, Event.REPLY))
+        self.assertEqual(steps.reply, b"=1 stepgo\n\n")
+        self.assertEqual(steps.feed(bytearray(b"2 genmove w\n3 x\n")), (12, Event.WHITE))
+        self.assertEqual((steps.wait, steps.line), (Event.WHITE, CommandLine(2, ("genmove", "w"))))
+        self.assertEqual(steps.feed(b"3 x\n"), (0, Event.WHITE))
+        self.refused(Cause.OFF_BOARD, steps.choose, "U1")
+        self.refused(Cause.NOT_ASKED, steps.answer, "x")
+        self.assertEqual(steps.reply, b"=1 stepgo\n\n")
+        steps.choose((3, 4))
+        self.assertEqual((steps.reply, steps.game["C4"]), (b"=2 C4\n\n", WHITE))
+        self.assertEqual(steps.feed(memoryview(b"3 x y z\n")), (8, Event.OTHER))
+        self.assertEqual(steps.line, CommandLine(3, ("x", "y", "z")))
+        self.refused(Cause.NOT_ASKED, steps.choose, PASS)
+        self.refused(Cause.BAD_TEXT, steps.answer, "a\n\nb")
+        steps.answer("all\nright", ok=False)
+        self.assertEqual(steps.reply, b"?3 all\nright\n\n")
+        self.assertEqual(steps.feed(b"quit\n5 name\n"), (5, Event.REPLY))
+        self.assertEqual((steps.reply, steps.ended), (b"=\n\n", True))
+        self.assertEqual(steps.feed(b"5 name\n"), (0, Event.ENDED))
+
+    def test_choices(self):
+        steps = Steps()
+        for choice, reply in ((RESIGN, b"= resign\n\n"), ("pass", b"= pass\n\n"), ("a1", b"= A1\n\n")):
+            steps.feed(b"genmove b\n")
+            steps.choose(choice)
+            self.assertEqual(steps.reply, reply)
+        steps.feed(b"genmove b\n")
+        self.refused(Cause.OCCUPIED, steps.choose, "A1")
+        self.refused(Cause.BAD_VERTEX, steps.choose, (26, 1))
+        self.refused(Cause.BAD_TEXT, steps.choose, "resigned")
+        self.assertRaises(OverflowError, steps.choose, (2**32 + 1, 1))
+        for choice in (None, 0, 65535, 1.5):
+            self.assertRaises(TypeError, steps.choose, choice)
+        self.assertIs(steps.wait, Event.BLACK)
+
+    def test_names_and_commands(self):
+        steps = Steps(KoRule.POSITIONAL)
+        steps.set_name("x" * 200)
+        steps.set_version("")
+        for text in ("x" * 201, " a", "a\n", "\t"):
+            self.refused(Cause.BAD_TEXT, steps.set_name, text)
+            self.refused(Cause.BAD_TEXT, steps.set_version, text)
+        steps.add_command("y" * 32)
+        for cause, name in (
+            (Cause.BAD_LENGTH, ""), (Cause.BAD_LENGTH, "y" * 33), (Cause.BAD_BYTE, "a b"), (Cause.BAD_BYTE, "#"),
+            (Cause.ONLY_DIGITS, "7"), (Cause.IN_TABLE, "play"), (Cause.ADDED_BEFORE, "y" * 32),
+        ):  # fmt: skip
+            self.refused(cause, steps.add_command, name)
+        for number in range(31):
+            steps.add_command(b"own%d" % number)
+        self.refused(Cause.TOO_MANY, steps.add_command, "another")
+        for call in (steps.set_name, steps.set_version, steps.add_command, steps.answer):
+            self.assertRaises(TypeError, call, 5)
+            self.assertRaises(ValueError, call, "é")
+        steps.feed(b"name\n")
+        self.assertEqual(steps.reply, b"= " + b"x" * 200 + b"\n\n")
+        steps.begin()
+        steps.feed(b"name\n")
+        self.assertEqual(steps.reply, b"= stepgo\n\n")
+
+    def test_declines(self):
+        steps = Steps()
+        steps.feed(b"7 analyze\n")
+        steps.decline()
+        self.assertEqual(steps.reply, b"?7 unknown command\n\n")
+        self.refused(Cause.NOT_ASKED, steps.decline)
+
+    def test_rules(self):
+        for rule in (0, 3, 257):
+            self.refused(Cause.BAD_RULE, Steps, rule)
+        self.assertRaises(OverflowError, Steps, 2**32 + 1)
+        self.assertRaises(TypeError, Steps, "simple")
+
+
+class Served(unittest.TestCase):
+    def test_any_cuts(self):
+        said = b"boardsize 2\n1 genmove b\n2 genmove w\n name\n3 version\n4 nosuch\n5 kgs-chat a  b\n6 nothing\nfails\nstones\n"
+        said += b"quit\nname\n"
+        replies = b"=\n\n=1 A1\n\n=2 B1\n\n= first\n\n=3 2.5\n\n?4 unknown command\n\n=5 a b\n\n=6\n\n? not today\n\n"
+        replies += b"= 2\n\n=\n\n"
+        self.assertEqual(served(First(), said), replies)
+        for size in (1, 7, 30):
+            pieces = [said[place : place + size] for place in range(0, len(said), size)]
+            source, sink = io.BytesIO(), io.BytesIO()
+            source.read1 = lambda most, pieces=pieces: pieces.pop(0) if pieces else b""
+            First().serve(source, sink)
+            self.assertEqual(sink.getvalue(), replies)
+
+    def test_own_commands_are_listed(self):
+        for engine, answer in ((First(), b"= a"), (Second(), b"= second")):
+            listed, known, own, _ = served(engine, b"list_commands\nknown_command fails\nkgs-chat a\n").split(b"\n\n")
+            self.assertEqual(listed.decode()[2:].split("\n"), [*OURS, "kgs-chat", "nothing", "fails", "stones"])
+            self.assertEqual((known, own), (b"= true", answer))
+
+    def test_an_unfinished_line_is_never_executed(self):
+        self.assertEqual(served(First(), b"name"), b"")
+
+    def test_what_choose_raises_comes_out(self):
+        class Raises(Engine):
+            def choose(self, game, colour):
+                raise KeyError("a fault of its author")
+
+        for engine, kind in ((Raises(), KeyError), (Engine(), NotImplementedError)):
+            sink = io.BytesIO()
+            self.assertRaises(kind, engine.serve, io.BytesIO(b"1 name\n2 genmove b\n3 name\n"), sink)
+            self.assertEqual(sink.getvalue(), b"=1 stepgo\n\n")
+            self.assertRaises(RuntimeError, getattr, engine, "game")
+
+    def test_choices_that_are_not_lawful_come_out(self):
+        for choice, kind, text in (
+            ("A1", vintsaky.Refused, "A stone is on the point"), ("C1", vintsaky.Refused, "isn't on a board"),
+            (None, TypeError, "None is no Point"), (257, TypeError, "257 is no Point"),
+            ("Z99", vintsaky.Refused, "can be read"),
+        ):  # fmt: skip
+            engine, sink = Engine(), io.BytesIO()
+            engine.choose = lambda game, colour, choice=choice: choice
+            with self.assertRaisesRegex(kind, text):
+                engine.serve(io.BytesIO(b"boardsize 2\nplay b A1\ngenmove w\nname\n"), sink)
+            self.assertEqual(sink.getvalue(), b"=\n\n=\n\n")
+
+    def test_answers_that_may_not_be_come_out(self):
+        class Says(First):
+            @command("bad")
+            def say_bad(self, words):
+                return {"text": "a\n\nb", "type": 5, "accent": "é"}[words[0]]
+
+        kinds = {"text": vintsaky.Refused, "type": TypeError, "accent": ValueError, "other": KeyError}
+        for word, kind in kinds.items():
+            sink = io.BytesIO()
+            self.assertRaises(kind, Says().serve, io.BytesIO(b"name\nbad %s\n" % word.encode()), sink)
+            self.assertEqual(sink.getvalue(), b"= first\n\n")
+
+    def test_bad_names_come_out_at_once(self):
+        class Named(First):
+            name = "two\n\nlines"
+
+        self.assertRaises(vintsaky.Refused, served, Named(), b"name\n")
+
+    def test_the_game_is_a_copy(self):
+        class Plays(First):
+            def choose(self, game, colour):
+                for point in game.legal_points(WHITE):
+                    if game.legal(BLACK, point):
+                        game.play(BLACK, point)
+                return "A1" if colour == BLACK else "B2"
+
+        said = b"boardsize 2\n1 genmove b\n2 genmove w\nquit\n"
+        self.assertEqual(served(Plays(), said), b"=\n\n=1 A1\n\n=2 B2\n\n=\n\n")
+
+    def test_positional_ko(self):
+        cycle = b"boardsize 2\nplay b A1\nplay w B1\nplay b A2\nplay w B2\nplay b A1\nplay w A2\n1 play b A1\n"
+
+        class Positional(First):
+            rule = KoRule.POSITIONAL
+
+        self.assertTrue(served(First(), cycle).endswith(b"=1\n\n"))
+        self.assertTrue(served(Positional(), cycle).endswith(b"?1 illegal move\n\n"))
+
+
+def run(program, said):
+    """Status, output and standard error of a program in Python that is told this, and whose input stays open."""
+    pipes = {"stdin": subprocess.PIPE, "stdout": subprocess.PIPE, "stderr": subprocess.PIPE}
+    variables = {name: value for name, value in os.environ.items() if name != "PYTHONUNBUFFERED"}
+    process = subprocess.Popen([sys.executable, "-c", program], env=variables, **pipes)
+    process.stdin.write(said)
+    process.stdin.flush()
+    try:
+        status = process.wait(20)
+    finally:
+        process.kill()
+    output, errors = process.stdout.read(), process.stderr.read()
+    for stream in (process.stdin, process.stdout, process.stderr):
+        stream.close()
+    return status, output, errors.decode()
+
+
+NOISY = """
+import os, sys, vintsaky
+print("before")
+class Noisy(vintsaky.Engine):
+    def choose(self, game, colour):
+        print("print")
+        sys.__stdout__.write("file\\n")
+        os.write(1, b"number\\n")
+        os.system("echo child; cat")
+        assert sys.stdin.read() == ""
+        return vintsaky.PASS
+Noisy().serve()
+sys.stderr.write("after\\n")
+print("output is back")
+"""
+
+
+class Standard(unittest.TestCase):
+    def test_what_else_is_printed_goes_to_standard_error(self):
+        status, output, errors = run(NOISY, b"1 genmove b\n2 quit\n")
+        self.assertEqual((status, output), (0, f"=1 pass\n\n=2\n\noutput is back{os.linesep}".encode()))
+        self.assertEqual(sorted(errors.split()), sorted("before print file number child after".split()))
+
+    def test_a_choose_that_raises(self):
+        for choice in ('raise ValueError("a fault of its author")', 'return "Z25"', "return None"):
+            engine = f"class Wrong(vintsaky.Engine):\n    def choose(self, game, colour):\n        {choice}\n"
+            status, output, errors = run(f"import vintsaky\n{engine}Wrong().serve()", b"1 name\n2 genmove b\n3 name\n")
+            self.assertEqual((status, output), (1, b"=1 stepgo\n\n"))
+            self.assertTrue(errors.startswith("Traceback (most recent call last):"))
+
+
+if __name__ == "__main__":
+    unittest.main()
