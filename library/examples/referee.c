@@ -6,12 +6,13 @@
 #include <sys/wait.h>
 #include <unistd.h>
 
-static const char *const losses[] = {"its output ended", "no reply", "overlong", "wrong id", "unasked", "unfit", "refuses a play",
-    "keeps its move", "no move", "no vertex", "record full", "off the board", "occupied", "suicide", "ko"};
+enum { GONE = 15 };
+static const char *const losses[] = {"", "no reply", "overlong", "wrong id", "unasked", "unfit", "refuses a play", "keeps its move",
+    "no move", "no vertex", "record full", "off the board", "occupied", "suicide", "ko", "its output ended"};
 static vintsaky_match match;
-static int to[3], from[3];
-static pid_t child[3];
+static int to[3], from[3], child[3];
 static char text[16384];
+static size_t length;
 
 static bool start(uint32_t side, const char *command) {
     int in[2], out[2];
@@ -36,25 +37,24 @@ static void end(uint32_t side) { /* by a quit where its engine owes no answer */
     close(from[side]), waitpid(child[side], NULL, 0), child[side] = 0;
 }
 
-static bool take(uint32_t next, uint32_t side, const char *command) { /* false where its engine is gone */
+static uint32_t take(uint32_t next, uint32_t side, const char *command) { /* why its engine fails, or 0 */
     uint32_t loss = 0;
-    size_t length;
-    if (next == VINTSAKY_START) return end(side), vintsaky_match_started(&match, side), start(side, command);
+    if (next == VINTSAKY_START) return end(side), vintsaky_match_started(&match, side), start(side, command) ? 0 : GONE;
     if (next == VINTSAKY_SEND)
-        return vintsaky_match_send(&match, side, text, sizeof text, &length), write(to[side], text, length) == (ssize_t)length;
+        return vintsaky_match_send(&match, side, text, sizeof text, &length), write(to[side], text, length) != (ssize_t)length ? GONE : 0;
     ssize_t held = read(from[side], text, sizeof text);
     if (held > 0) vintsaky_match_hear(&match, side, text, (size_t)held, &loss);
-    if (held <= 0 || loss) fprintf(stderr, "%s: %s\n", side == VINTSAKY_BLACK ? "black" : "white", losses[loss]);
-    return held > 0;
+    return held > 0 ? loss : GONE;
 }
 
 int main(int count, char **words) {
-    uint32_t side, next;
-    size_t length;
+    uint32_t side, next, loss;
     if (count != 5 || !vintsaky_match_new(&match)) return 2;
     if (vintsaky_match_begin(&match, (uint32_t)atoi(words[1]), atoi(words[2]), 0, 1000, 2) != VINTSAKY_DONE) return 2;
-    for (signal(SIGPIPE, SIG_IGN); (next = vintsaky_match_next(&match, &side)) != VINTSAKY_OVER;)
-        if (!take(next, side, words[2 + side])) vintsaky_match_lost(&match, side);
-    vintsaky_match_result(&match, 1, text, sizeof text, &length);
-    return puts(text), end(VINTSAKY_BLACK), end(VINTSAKY_WHITE), 0;
+    for (signal(SIGPIPE, SIG_IGN); (next = vintsaky_match_next(&match, &side)) != VINTSAKY_OVER;) {
+        if ((loss = take(next, side, words[2 + side])) != 0) fprintf(stderr, "%s: %s\n", words[2 + side], losses[loss]);
+        if (loss == GONE) vintsaky_match_lost(&match, side);
+    }
+    if (vintsaky_match_result(&match, 1, text, sizeof text, &length) == VINTSAKY_DONE) puts(text);
+    return end(VINTSAKY_BLACK), end(VINTSAKY_WHITE), 0;
 }
