@@ -24,6 +24,9 @@ enum { EACH = 3, TEXTS = 2, VALUES = 8, CAUSES = 35 };
 /* which values have the lengths of the texts, and how many bytes of the input were used */
 enum { COUNTS = 5, USED = 7 };
 
+/* for how many calls a match is driven on, or an engine on 2x2; and how many fill a record before */
+enum { SHORT = 60, FILL = 2300 };
+
 /* in place of a number of texts: a list of points is written */
 enum { POINT_LIST = 3 };
 

@@ -1,5 +1,5 @@
 /* Which call is made next, and on which objects: one that is drawn, or the right one for an object that is driven on. A match that is
- * driven goes on as a referee would; a game or an engine is filled with passes until its record has no room. */
+ * driven goes on as a referee would. A game or an engine is filled with passes until its record has no room, or an engine plays on 2x2. */
 #include "draw.h"
 #include <stdlib.h>
 #include <string.h>
@@ -32,8 +32,8 @@ static const call *right_call(world *w) {
 static void start_driving(world *w, enum kind family) {
     bool fill = chance(w, 15000);
     if (!fill && !chance(w, 200)) return;
-    w->driver = !fill ? MATCH : chance(w, 2) ? GAME : ENGINE;
-    w->driven = fill ? 2300 : 60;
+    w->driver = !fill && !chance(w, 4) ? MATCH : fill && chance(w, 2) ? GAME : ENGINE;
+    w->driven = fill ? FILL + SHORT : SHORT;
     w->driven_object = below(w, EACH);
     if (family != KINDS && family != w->driver) w->driven = 0;
 }

@@ -119,11 +119,12 @@ size_t right_answer(world *w, char *room) {
     return at + put(room + at, "\n\n");
 }
 
-/* What an object is given that is driven: an engine adds commands while it is filled. */
+/* What an object is given that is driven: an engine adds commands while it is filled, and then plays on 2x2. */
 static size_t right_input(world *w, enum input input, char *room) {
     if (w->driver == MATCH) return right_answer(w, room);
     if (input == NAMES) return (size_t)sprintf(room, "own-%u", w->driven);
-    return put(room, w->driven > 60 ? "play b pass\n" : "genmove b\n");
+    if (w->driven > SHORT) return put(room, "play b pass\n");
+    return put(room, w->driven == SHORT - 1 ? "boardsize 2\n" : chance(w, 2) ? "genmove b\n" : "genmove w\n");
 }
 
 size_t draw_input(world *w, enum input input, char *room) {

@@ -60,7 +60,8 @@ uint32_t colour(world *w) {
 uint32_t vertex(world *w) {
     static const uint32_t sizes[] = {2, 2, 2, 5, 25};
     uint32_t most = sizes[below(w, 5)];
-    if (w->right && w->driver != MATCH) return VINTSAKY_PASS;
+    if (w->right && w->driver != MATCH && w->driven > SHORT) return VINTSAKY_PASS;
+    if (w->right && w->driver != MATCH) return (1 + below(w, 2)) << 8 | (1 + below(w, 2));
     switch (below(w, 12)) {
     case 0: return VINTSAKY_PASS;
     case 1: return number(w, 0, 65535);

@@ -164,12 +164,13 @@ static void draw_arguments(world *w) {
     if (c->texts == POINT_LIST) give(w, &w->points, rooms[0] * sizeof(uint32_t));
 }
 
-/* A text that has so many bytes was written with a NUL where there is room for both, else nothing was. */
+/* A text that has so many bytes was written with a NUL where there is room for both, else nothing was. What an engine wrote may have
+ * NULs in it; it is the second text of its calls. */
 static void check_text(world *w, buffer *b, size_t length) {
     size_t written = length < b->length ? length + 1 : 0;
     if (length > w->call->most) failed(w, "a text is longer than any");
     if (written && b->at[length] != 0) failed(w, "there is no NUL after a text");
-    if (written && memchr(b->at, 0, length)) failed(w, "there is a NUL in a text");
+    if (written && b == &w->texts[0] && memchr(b->at, 0, length)) failed(w, "there is a NUL in a text");
     mix(w, b->at, written);
     check_buffer(w, b, written);
 }
