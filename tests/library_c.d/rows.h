@@ -13,9 +13,9 @@ ROW(komi_text, 8, NONE, CAUSE, 12, C(BAD_KOMI), NOTHING, 1, vintsaky_komi_text(k
 ROW(write_command, 12, NONE, CAUSE, 64,
     C(BAD_ID) | C(BAD_COMMAND) | C(BAD_SIZE) | C(BAD_KOMI) | C(BAD_HANDICAP) | C(BAD_COLOUR) | C(BAD_VERTEX), NOTHING, 1,
     vintsaky_write_command(
-        (int32_t)number(w, 0, 99) - 1, number(w, 1, 8), (int32_t)number(w, 1, 2 + 23 * below(w, 2)), vertex(w), TEXT(0), COUNT(0)))
+        (int32_t)(number(w, 0, 99) - 1), number(w, 1, 8), (int32_t)number(w, 1, 2 + 23 * below(w, 2)), vertex(w), TEXT(0), COUNT(0)))
 ROW(write_reply, 8, NONE, CAUSE, 2014, C(BAD_ID) | C(BAD_TEXT), SAID, 1,
-    vintsaky_write_reply((int32_t)number(w, 0, 99) - 1, number(w, 0, 1), INPUT, TEXT(0), COUNT(0)))
+    vintsaky_write_reply((int32_t)(number(w, 0, 99) - 1), number(w, 0, 1), INPUT, TEXT(0), COUNT(0)))
 
 ROW(game_place, 1, ON(GAME, CHANGES), NUMBER, 0, 0, NOTHING, 0, (vintsaky_game_place(GAME0, w->held[0]->at), 0))
 ROW(game_size, 4, ON(GAME, READS), NUMBER, 25, 0, NOTHING, 0, vintsaky_game_size(GAME0))
