@@ -61,7 +61,7 @@ pub trait Player {
     }
 
     /// The names of the commands that [`command`](Self::command) answers, at most 32. `known_command` and
-    /// `list_commands` tell them.
+    /// `list_commands` have them.
     fn commands(&self) -> &[&str] {
         &[]
     }
