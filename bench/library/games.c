@@ -35,7 +35,8 @@ static uint64_t now(void) {
 }
 
 static bool is_eye(uint32_t colour, uint32_t vertex) {
-    return is_own(colour, vertex - COLUMN) && is_own(colour, vertex + COLUMN) && is_own(colour, vertex - ROW) && is_own(colour, vertex + ROW);
+    return is_own(colour, vertex - COLUMN) && is_own(colour, vertex + COLUMN) && is_own(colour, vertex - ROW)
+        && is_own(colour, vertex + ROW);
 }
 
 /* Makes one move of this colour. Returns whether it is a pass. */
@@ -66,7 +67,8 @@ static void play_game(uint32_t lines) {
 }
 
 static void print_games(uint32_t lines, const char *what, uint64_t time) {
-    printf("%" PRIu32 " %s %" PRIu64 " %" PRIu64 " %" PRIu64 "-%" PRIu64 "-%" PRId64 "\n", lines, what, time, moves, moves, refused, scores);
+    printf("%" PRIu32 " %s %" PRIu64 " %" PRIu64 " ", lines, what, time, moves);
+    printf("%" PRIu64 "-%" PRIu64 "-%" PRId64 "\n", moves, refused, scores);
 }
 
 static void run_games(uint32_t lines, uint32_t games) {

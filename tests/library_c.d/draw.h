@@ -67,6 +67,12 @@ typedef struct {
     bool given;
 } buffer;
 
+/* the arguments that were drawn last, each of which a call has once at most */
+typedef struct {
+    uint32_t rule, size, colour, vertex;
+    int32_t komi;
+} drawn;
+
 struct call;
 typedef struct {
     uint64_t state, digest, made;
@@ -76,6 +82,7 @@ typedef struct {
     const struct call *call;         /* the call that is made, and on which objects */
     object *held[2];
     uint32_t side;
+    drawn drawn;
     long room;       /* the room of the first text or of the points, where it isn't to be drawn: else -1 */
     bool right;      /* Is the call the right one for the object that is driven? */
     unsigned driven; /* how many more calls are made while an object is driven */
@@ -124,6 +131,9 @@ void make_call(world *w);
 void make_calls(world *w, uint64_t count, enum kind family);
 uint32_t *value32(world *w, unsigned which);
 size_t *value_size(world *w, unsigned which);
+
+/* causes */
+bool agrees_with_arguments(const world *w, uint64_t result);
 
 /* memory between guard pages */
 region guarded(size_t bytes);

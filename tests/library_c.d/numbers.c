@@ -34,30 +34,33 @@ uint32_t number(world *w, uint32_t low, uint32_t high) {
     }
 }
 
-int32_t komi(world *w) {
+static int32_t draw_komi(world *w) {
     if (!chance(w, 4)) return (int32_t)below(w, 30) - 10;
     uint32_t half_points = chance(w, 2) ? 2000000000 : number(w, 1999999999, 1999999999);
     return (int32_t)(chance(w, 2) ? half_points : 0 - half_points);
+}
+
+int32_t komi(world *w) {
+    return w->drawn.komi = draw_komi(w);
 }
 
 /* The size of a board, small most often: on 2x2 boards come back, which positional superko forbids. */
 uint32_t size(world *w) {
     static const uint32_t limits[] = {2, 2, 3, 25};
     uint32_t most = limits[below(w, 4)];
-    return number(w, most == 2 ? 2 : 1, most);
+    return w->drawn.size = number(w, most == 2 ? 2 : 1, most);
 }
 
 uint32_t rule(world *w) {
-    return chance(w, 2) ? VINTSAKY_POSITIONAL : number(w, 1, 2);
+    return w->drawn.rule = chance(w, 2) ? VINTSAKY_POSITIONAL : number(w, 1, 2);
 }
 
 uint32_t colour(world *w) {
-    if (w->right && w->driver != MATCH) return VINTSAKY_BLACK;
-    return number(w, 1, 2);
+    return w->drawn.colour = w->right && w->driver != MATCH ? VINTSAKY_BLACK : number(w, 1, 2);
 }
 
 /* A point of a small board or of any; now and then a pass, or what is none. */
-uint32_t vertex(world *w) {
+static uint32_t draw_vertex(world *w) {
     static const uint32_t sizes[] = {2, 2, 2, 5, 25};
     uint32_t most = sizes[below(w, 5)];
     if (w->right && w->driver != MATCH && w->driven > SHORT) return VINTSAKY_PASS;
@@ -69,4 +72,8 @@ uint32_t vertex(world *w) {
     case 3: return chance(w, 2) ? VINTSAKY_RESIGN : VINTSAKY_RESIGN - 1 + below(w, 3);
     default: return (1 + below(w, most)) << 8 | (1 + below(w, most));
     }
+}
+
+uint32_t vertex(world *w) {
+    return w->drawn.vertex = draw_vertex(w);
 }

@@ -155,6 +155,7 @@ static void draw_arguments(world *w) {
     if (w->room >= 0) rooms[0] = (size_t)w->room;
     if (w->right) rooms[0] = MOST_ROOM;
     if (c->kinds[0] == MATCH && (next_of(w, &w->side), !w->right && (w->side == 0 || chance(w, 3)))) w->side = colour(w);
+    if (c->kinds[0] == MATCH) w->drawn.colour = w->side;
     if (c->input != NOTHING) {
         size_t length = draw_input(w, c->input, (char *)w->given);
         give(w, &w->input, length);
@@ -216,6 +217,7 @@ static size_t check_result(world *w, uint64_t result) {
     const call *c = w->call;
     bool done = c->shape != CAUSE || result == 0;
     if (c->shape == CAUSE && result != 0 && (result >= CAUSES || !(c->causes >> result & 1))) failed(w, "this is no cause of it");
+    if (c->shape == CAUSE && !agrees_with_arguments(w, result)) failed(w, "the arguments have another cause");
     if (c->shape == NUMBER && result > c->most) failed(w, "the number is too great");
     size_t length = c->shape == CAUSE ? 0 : (size_t)result;
     if (done && c->texts && c->shape == CAUSE) length = *(size_t *)(void *)w->values[COUNTS].at;

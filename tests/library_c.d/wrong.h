@@ -138,6 +138,25 @@ static uint64_t wrong_hash(vintsaky_game *game) {
 }
 #define vintsaky_game_hash wrong_hash
 
+#elif WRONG == 18 /* game_legal: looks at the vertex before the colour */
+static uint32_t wrong_legal(vintsaky_game *game, uint32_t colour, uint32_t vertex) {
+    uint32_t cause = vintsaky_game_legal(game, VINTSAKY_BLACK, vertex);
+    return cause == VINTSAKY_BAD_VERTEX ? cause : vintsaky_game_legal(game, colour, vertex);
+}
+#define vintsaky_game_legal wrong_legal
+
+#elif WRONG == 19 /* game_set_komi: takes a komi that is one half point too great */
+static uint32_t wrong_set_komi(vintsaky_game *game, int32_t half_komi) {
+    return vintsaky_game_set_komi(game, half_komi == 2000000000 ? 1999999999 : half_komi);
+}
+#define vintsaky_game_set_komi wrong_set_komi
+
+#elif WRONG == 20 /* game_stone_at: takes a resignation for a point */
+static uint32_t wrong_stone_at(vintsaky_game *game, uint32_t vertex, uint32_t *colour) {
+    return vintsaky_game_stone_at(game, vertex == VINTSAKY_RESIGN ? 257 : vertex, colour);
+}
+#define vintsaky_game_stone_at wrong_stone_at
+
 #else
 #error "there is no such copy"
 #endif
