@@ -294,6 +294,7 @@ impl<S: Starter> Check<S> {
     }
 
     /// An engine is started, where one may be.
+    #[inline(never)]
     fn start(&mut self, plan: &Plan<'_>, starter: &mut S) -> Result<Option<Over>, Failure>
         ensures begins { IfOk result (λ over. Begins S.Process.Process plan.now
             (state_of self.old) (S.asked starter.old) over
@@ -326,6 +327,7 @@ impl<S: Starter> Check<S> {
     }
 
     /// The engine, which owes nothing, is sent `quit` and ended.
+    #[inline(never)]
     fn restart(&mut self)
         ensures quits { QuitsIfAny S.Process.Process (process_of self.old.engine) }
         ensures leads { state_of self.new ≡ without_engine (state_of self.old) }
@@ -335,6 +337,7 @@ impl<S: Starter> Check<S> {
     }
 
     /// The engine, which owes nothing, is ended without `quit`.
+    #[inline(never)]
     fn kill(&mut self)
         ensures ends { IsEnded S.Process.Process (process_of self.old.engine) }
         ensures leads { state_of self.new ≡ without_engine (state_of self.old) }
@@ -351,6 +354,7 @@ impl<S: Starter> Check<S> {
     }
 
     /// The first line is written once the version is known, or something is wrong.
+    #[inline(never)]
     fn write_first<O: WriteOnce, E: WriteOnce>(
         &mut self,
         is_wrong: bool,

@@ -34,6 +34,7 @@ const FEW_COMMANDS: usize = 20;
 impl<S: Starter> Check<S> {
     /// Something is wrong with the engine, which is ended. The complaint is written, unless its like was shown often
     /// enough, and the part of the lesson is left.
+    #[inline(never)]
     pub fn complain<O: WriteOnce, E: WriteOnce>(
         &mut self,
         fault: Fault,

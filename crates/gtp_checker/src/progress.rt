@@ -69,6 +69,9 @@ impl<S: Starter> Check<S> {
         ensures { IsShown E.WriteOnce progress (waiting plan.now (state_of self.now))
             errors.old errors.new }
     {
+        if !progress {
+            return;
+        }
         let Some(engine) = &self.engine else {
             return;
         };

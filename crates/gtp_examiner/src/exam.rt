@@ -142,7 +142,7 @@ impl Exam {
         if self.unanswered.len() == 0 {
             return true;
         }
-        !is_awaited(command) && !self.unanswered.awaits() && self.unanswered.len() < MOST_UNANSWERED
+        self.unanswered.len() < MOST_UNANSWERED && !is_awaited(command) && !self.unanswered.awaits()
     }
 
     /// The engine is asked a command. Returns the bytes of its line.

@@ -44,15 +44,20 @@ impl Default for Asked {
 #[derive(Drop)]
 pub struct Unanswered {
     list: ArrayVec<Asked, MOST_UNANSWERED>,
+    /// Whether a `genmove` or a `boardsize` is among them, which is asked for each command.
+    has_awaited: bool,
 }
 
 impl Model for Unanswered {
-    ghost use Rattle.std.specs.Prelude.{List};
+    ghost use Rattle.std.specs.Prelude.{List, ◌≡◌};
+    ghost use Rattle.gtp_examiner.specs.Judging.{awaits};
     ghost use Rattle.gtp_examiner.specs.declared.unanswered.Asked.{Asked};
 
     ghost Value = { List Asked };
 
     ghost view = { λ o. o.list.items };
+
+    ghost invariant = { λ o. o.has_awaited ≡ awaits o.list.items };
 }
 
 impl Unanswered {
@@ -62,6 +67,7 @@ impl Unanswered {
     {
         Unanswered {
             list: ArrayVec::new(),
+            has_awaited: false,
         }
     }
 
@@ -85,6 +91,7 @@ impl Unanswered {
         requires { length self.old < most_unanswered }
         ensures { self.new ≡ self.old ++ record { id = id; command = command; due = due } ∷ [] }
     {
+        self.has_awaited = self.has_awaited || is_awaited(&command);
         self.list.push(Asked { id, command, due });
     }
 
@@ -94,6 +101,7 @@ impl Unanswered {
     {
         if !self.list.is_empty() {
             self.list.remove(0);
+            self.has_awaited = self.has_awaited && any_awaited(&self.list);
         }
     }
 
@@ -101,8 +109,15 @@ impl Unanswered {
     pub fn awaits(&self) -> bool
         ensures { result ≡ awaits self.now }
     {
-        self.list.iter().any(|asked| is_awaited(&asked.command))
+        self.has_awaited
     }
+}
+
+/// Whether a `genmove` or a `boardsize` is among these commands.
+fn any_awaited(list: &[Asked]) -> bool
+    ensures { result ≡ awaits list.now }
+{
+    list.iter().any(|asked| is_awaited(&asked.command))
 }
 
 /// Whether the game isn't known before the answer to a command: a `genmove` or a `boardsize`.
