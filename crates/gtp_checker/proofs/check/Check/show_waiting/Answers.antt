@@ -1,7 +1,11 @@
 use Rattle.std.proofs.Common.{◌∙◌, sym}
 use Rattle.gtp_checker.specs.Dialogues.{dialogue}
+use Rattle.gtp_checker.specs.Progress.{no_text}
 use Rattle.gtp_checker.proofs.Progressing.{none_shown, placed_cut, waits_for, waits_for_none, waits_not}
 use Rattle.gtp_checker.proofs.check.Check.show_waiting.Goals as goal
+
+pub returns-then-not-progress : goal.returns-then-not-progress
+returns-then-not-progress g c = rw c.if-not-progress.true no_text
 
 pub returns-in_default : goal.returns-in_default
 returns-in_default g c = rw c.in_default.is (none_shown g.E.WriteOnce c.args.progress c.args.errors.now)
