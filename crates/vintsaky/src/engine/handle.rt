@@ -2,7 +2,7 @@
 ghost use Rattle.gtp_session.specs.Steps.{StepsState};
 ghost use Rattle.gtp_session.specs.contracts.steps.Steps.{the_row};
 
-use std::marker::Model;
+use std::marker::{Model, Send};
 
 /// An engine in steps in memory that the caller gave.
 #[repr(C)]
@@ -18,3 +18,5 @@ impl Model for EngineHandle {
 
     ghost also_owns = { λ h. lies_at engine_row full_share h.at h.value };
 }
+
+unsafe impl Send for EngineHandle {}

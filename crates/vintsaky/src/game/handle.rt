@@ -2,7 +2,7 @@
 ghost use Rattle.go_board.specs.Game.{GameRecord};
 ghost use Rattle.go_board.specs.contracts.game.Game.{the_row};
 
-use std::marker::Model;
+use std::marker::{Model, Send};
 
 /// A game in memory that the caller gave.
 #[repr(C)]
@@ -18,3 +18,5 @@ impl Model for GameHandle {
 
     ghost also_owns = { λ h. lies_at game_row full_share h.at h.value };
 }
+
+unsafe impl Send for GameHandle {}

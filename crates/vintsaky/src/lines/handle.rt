@@ -2,7 +2,7 @@
 ghost use Rattle.vintsaky_calls.specs.declared.lines.Lines.{Lines};
 ghost use Rattle.vintsaky_calls.specs.contracts.lines.Lines.{the_row};
 
-use std::marker::Model;
+use std::marker::{Model, Send};
 
 /// A reader of command lines in memory that the caller gave.
 #[repr(C)]
@@ -18,3 +18,5 @@ impl Model for LinesHandle {
 
     ghost also_owns = { λ h. lies_at lines_row full_share h.at h.value };
 }
+
+unsafe impl Send for LinesHandle {}

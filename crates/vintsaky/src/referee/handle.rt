@@ -2,7 +2,7 @@
 ghost use Rattle.gtp_match.specs.declared.controller.Controller.{Controller};
 ghost use Rattle.gtp_match.specs.contracts.matches.Match.{the_row};
 
-use std::marker::Model;
+use std::marker::{Model, Send};
 
 /// A match in memory that the caller gave.
 #[repr(C)]
@@ -18,3 +18,5 @@ impl Model for MatchHandle {
 
     ghost also_owns = { λ h. lies_at match_row full_share h.at h.value };
 }
+
+unsafe impl Send for MatchHandle {}

@@ -2,7 +2,7 @@
 ghost use Rattle.vintsaky_calls.specs.declared.replies.Replies.{Replies};
 ghost use Rattle.vintsaky_calls.specs.contracts.replies.Replies.{the_row};
 
-use std::marker::Model;
+use std::marker::{Model, Send};
 
 /// A reader of replies in memory that the caller gave.
 #[repr(C)]
@@ -18,3 +18,5 @@ impl Model for RepliesHandle {
 
     ghost also_owns = { λ h. lies_at replies_row full_share h.at h.value };
 }
+
+unsafe impl Send for RepliesHandle {}
