@@ -11,7 +11,8 @@ library_version = 65536 * 1 + 256 * 0 + 0
 -- the sentence of each cause
 abbrev pub sentence : Cause → List ℕ
 sentence cause.BadColour = codes "The number is no colour and no side: it is neither 1, Black, nor 2, White."
-sentence cause.BadVertex = codes "The number is no vertex: neither 0, a pass, nor a row times 256 and a column, both from 1 to 25."
+sentence cause.BadVertex =
+    codes "The number is no vertex: neither 0, a pass, nor a row times 256 and a column, both from 1 to 25."
 sentence cause.BadRule = codes "The number is no ko rule: it is neither 1, simple ko, nor 2, positional superko."
 sentence cause.BadSize = codes "The size isn't from 1 to 25."
 sentence cause.BadKomi = codes "The komi isn't from -1,999,999,999 to 1,999,999,999 half points."

@@ -16,7 +16,8 @@ pub fn version() -> u32
 /// Writes a sentence that says what a cause means. How many bytes it has. Each number has one: also 0, and what is no
 /// cause.
 pub fn cause_text(cause: u32, text: &mut [u8]) -> usize
-    ensures { (said : List ℕ) × Says cause said × (result ≡ length said) × Puts said text.old text.new }
+    ensures { (said : List ℕ) × Says cause said × (result ≡ length said)
+        × Puts said text.old text.new }
 {
     put(said_of(cause), text)
 }

@@ -314,8 +314,8 @@ pub fn taking_back(held: &Match) -> u32
     number_of_side(held.taking_back())
 }
 
-/// Writes how a match ended, the side that it says it of, or 0, and the score in half points, positive where Black leads,
-/// or 0.
+/// Writes how a match ended, the side that it says it of, or 0, and the score in half points, positive where Black
+/// leads, or 0.
 ///
 /// # Errors
 ///

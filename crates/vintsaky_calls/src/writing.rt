@@ -17,8 +17,8 @@ use gtp_wire::{Command, is_reply_text};
 /// Writes the line of a command, with its newline, and its length: 64 bytes at most.
 ///
 /// The id is -1 for none. The value is the size of `boardsize`, the half points of `komi`, the number of stones of
-/// `fixed_handicap`, the colour of `play` and `genmove`; the vertex is that of `play`. What a command doesn't have isn't
-/// looked at.
+/// `fixed_handicap`, the colour of `play` and `genmove`; the vertex is that of `play`. What a command doesn't have
+/// isn't looked at.
 ///
 /// # Errors
 ///
