@@ -2,8 +2,8 @@
  *
  * Each object lies in memory that the caller gives: as many bytes and the alignment that its _bytes and _align return. The memory is
  * the object's alone and stays where it is, and so does the handle, as long as it is used. Two arguments of a call are two objects.
- * One thread at a time uses an object. No pointer is NULL. No call takes memory, blocks, or reads or writes anything but its object
- * and the caller's buffers.
+ * One thread at a time uses an object; it may be another one each time, where something orders the uses, as a lock does. No pointer is
+ * NULL. No call takes memory, blocks, or reads or writes anything but its object and the caller's buffers.
  *
  * A call that may be refused returns 0 where it was done, and else a cause: then its object is as it was, and it has written nothing.
  * A text is written with a NUL after it, where the buffer has room for both, else not at all; its length is without the NUL. */
