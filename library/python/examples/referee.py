@@ -3,36 +3,32 @@
 
 usage: referee.py SIZE HALF_KOMI BLACK WHITE
 """
-import contextlib
 import subprocess
 import sys
 from typing import Any, Dict
 
 from vintsaky import BLACK, WHITE, Colour, Match, Next
 
+PIPE = subprocess.PIPE
 processes: Dict[Colour, Any] = {}
-
-
-def start(side: Colour, command: str) -> None:
-    """Starts a side's engine. A command is cut at spaces."""
-    processes[side] = subprocess.Popen(command.split(), bufsize=0, stdin=subprocess.PIPE, stdout=subprocess.PIPE)
 
 
 def end(side: Colour) -> None:
     """Ends a side's engine, if there is one."""
     if side in processes:
         with processes.pop(side) as process:
-            with contextlib.suppress(OSError):
-                process.stdin.write(b"quit\n")
-            process.kill()
+            try:
+                process.communicate(b"quit\n", 5)
+            except subprocess.TimeoutExpired:
+                process.kill()
 
 
 def take_turn(match: Match, kind: Next, side: Colour, command: str) -> None:
-    """Does what is next. Where the side is gone, an OSError or an EOFError says so."""
+    """Does what is next. Where the side is gone, an OSError or an EOFError says so. A command is cut at spaces."""
     if kind is Next.START:
         end(side)
         match.started(side)
-        start(side, command)
+        processes[side] = subprocess.Popen(command.split(), bufsize=0, stdin=PIPE, stdout=PIPE)
     elif kind is Next.SEND:
         processes[side].stdin.write(match.send(side))
     elif written := processes[side].stdout.read(4096):
@@ -41,19 +37,24 @@ def take_turn(match: Match, kind: Next, side: Colour, command: str) -> None:
         raise EOFError
 
 
-def main(size: str, half_komi: str, black: str, white: str) -> None:
-    """Plays a match, and prints its line."""
-    match = Match(int(size), int(half_komi) / 2, max_moves=1000, max_restarts=2)
-    commands = {BLACK: black, WHITE: white}
+def play(match: Match, commands: Dict[Colour, str]) -> str:
+    """Plays the match. Returns its line."""
     while (action := match.next()).side is not None:
         try:
             take_turn(match, action.kind, action.side, commands[action.side])
         except (OSError, EOFError):
             match.lost(action.side)
-    print(match.result())
-    end(BLACK)
-    end(WHITE)
+    return match.result()
 
 
 if __name__ == "__main__":
-    main(*sys.argv[1:])
+    try:
+        size, half_komi, black, white = sys.argv[1:]
+        if not black.split() or not white.split():
+            raise ValueError("a command has no word")
+        match = Match(int(size), int(half_komi) / 2, max_moves=1000, max_restarts=2)
+    except (ValueError, OverflowError) as problem:
+        sys.exit(f"referee: {problem}; usage: referee.py SIZE HALF_KOMI BLACK WHITE")
+    print(play(match, {BLACK: black, WHITE: white}))
+    end(BLACK)
+    end(WHITE)

@@ -11,6 +11,7 @@ import sys
 import textwrap
 import threading
 import unittest
+from ctypes.util import find_library
 from pathlib import Path
 
 import vintsaky
@@ -174,7 +175,7 @@ class Loading(unittest.TestCase):
             ("/nosuch/library", "its library can't be loaded: /nosuch/library: cannot open shared object file"),
             (__file__, "can't be loaded: .*: (invalid ELF header|file too short)"),
             ("libc.so.6", "libc.so.6 has another interface than 1"),
-            ("", "its library can't be loaded: libvintsaky.so.1: .*VINTSAKY_LIBRARY"),
+            *([] if find_library("vintsaky") else [("", "can't be loaded: libvintsaky.so.1: .*VINTSAKY_LIBRARY")]),
         ):
             status, line = self.loaded(VINTSAKY_LIBRARY=place)
             self.assertEqual(status, 1)
