@@ -137,8 +137,8 @@ class InSteps(Refusing):
 
 class Served(unittest.TestCase):
     def test_any_cuts(self):
-        said = b"boardsize 2\n1 genmove b\n2 genmove w\n name\n3 version\n4 nosuch\n5 kgs-chat a  b\n6 nothing\nfails\nstones\n"
-        said += b"quit\nname\n"
+        said = b"boardsize 2\n1 genmove b\n2 genmove w\n name\n3 version\n4 nosuch\n5 kgs-chat a  b\n6 nothing\nfails\n"
+        said += b"stones\nquit\nname\n"
         replies = b"=\n\n=1 A1\n\n=2 B1\n\n= first\n\n=3 2.5\n\n?4 unknown command\n\n=5 a b\n\n=6\n\n? not today\n\n"
         replies += b"= 2\n\n=\n\n"
         self.assertEqual(served(First(), said), replies)
@@ -192,6 +192,19 @@ class Served(unittest.TestCase):
             sink = io.BytesIO()
             self.assertRaises(kind, Says().serve, io.BytesIO(b"name\nbad %s\n" % word.encode()), sink)
             self.assertEqual(sink.getvalue(), b"= first\n\n")
+
+    def test_streams_that_do_not_block(self):
+        source, sink = io.BytesIO(b"name\n"), io.BytesIO()
+        source.read1 = lambda most: None
+        self.assertRaises(BlockingIOError, First().serve, source, sink)
+        sink.write = lambda data: None
+        self.assertRaises(BlockingIOError, First().serve, io.BytesIO(b"name\n"), sink)
+
+    def test_outputs_that_take_some_bytes(self):
+        sink, taken = io.BytesIO(), []
+        sink.write = lambda data: taken.append(bytes(data[:3])) or min(len(data), 3)
+        First().serve(io.BytesIO(b"1 name\n"), sink)
+        self.assertEqual(taken, [b"=1 ", b"fir", b"st\n", b"\n"])
 
     def test_bad_names_come_out_at_once(self):
         class Named(First):

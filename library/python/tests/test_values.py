@@ -103,7 +103,7 @@ class Komis(Refusing):
     def test_writes_one_spelling(self):
         for komi, text in (
             (6.5, "6.5"), (7, "7"), (0.5, "0.5"), (-0.5, "-0.5"), (-0.0, "0"), (Fraction(-7, 2), "-3.5"),
-            (Decimal("7.50"), "7.5"), (999999999.5, "999999999.5"),
+            (Fraction("7.5"), "7.5"), (999999999.5, "999999999.5"),
         ):  # fmt: skip
             self.assertEqual(vintsaky.komi_text(komi), text)
 
@@ -114,9 +114,9 @@ class Komis(Refusing):
             self.assertRaises(OverflowError, vintsaky.komi_text, komi)
 
     def test_whole_half_points_alone(self):
-        for komi in (6.7, 0.25, Fraction(1, 3), Decimal("0.1"), 5e-324, float("nan")):
+        for komi in (6.7, 0.25, Fraction(1, 3), 5e-324, float("nan")):
             self.assertRaises(ValueError, vintsaky.komi_text, komi)
-        for komi in (None, "6.5", b"6.5", 1j, [6]):
+        for komi in (None, "6.5", b"6.5", 1j, [6], Decimal("6.5")):
             self.assertRaises(TypeError, vintsaky.komi_text, komi)
 
 

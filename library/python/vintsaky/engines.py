@@ -14,9 +14,7 @@ from ._held import Bytes, Held, ascii_of, bytes_of, whole
 from ._library import Cause, done, library, or_none, text_of
 from .games import Game
 from .lines import CommandLine, words_of
-from .values import RESIGN, AnyVertex, Colour, KoRule, vertex_number
-
-__all__ = ["RESIGN", "Engine", "Event", "Failure", "Steps", "command"]
+from .values import AnyVertex, Colour, KoRule, vertex_number
 
 PIECE = 4096  # the most bytes that are read at a time
 Method = TypeVar("Method", bound=Callable[..., Any])
@@ -154,6 +152,7 @@ class Engine:
     """An engine of one's own: a class that says what it chooses.
 
     >>> import io
+    >>> from vintsaky import RESIGN
     >>> class Resigns(Engine):
     ...     name = "resigns"
     ...     def choose(self, game, colour):
@@ -200,7 +199,8 @@ class Engine:
         with contextlib.ExitStack() as stack:
             if source is None or sink is None:
                 standard = stack.enter_context(standard_streams())
-                source, sink = source or standard[0], sink or standard[1]
+                source = standard[0] if source is None else source
+                sink = standard[1] if sink is None else sink
             self._steps = self._started()
             try:
                 self._answer_all(self._steps, source, sink)
@@ -229,8 +229,7 @@ class Engine:
     def _answer_all(self, steps: Steps, source: Any, sink: Any) -> None:
         """Reads and answers, until the session or the input ends."""
         commands = self._commands()
-        read = getattr(source, "read1", source.read)
-        while data := read(PIECE):
+        while data := read_some(source):
             while data:
                 used, event = steps.feed(data)
                 data = data[used:]
@@ -258,11 +257,22 @@ class Engine:
             steps.answer("" if text is None else text)
 
 
+def read_some(source: Any) -> bytes:
+    """The next bytes as they come; none at the end of the input."""
+    data: Optional[bytes] = getattr(source, "read1", source.read)(PIECE)
+    if data is None:
+        raise BlockingIOError("the input doesn't block, and has nothing to read")
+    return data
+
+
 def write_whole(sink: Any, data: bytes) -> None:
     """Writes all of the bytes, and flushes them."""
     left = memoryview(data)
     while left:
-        left = left[sink.write(left) :]
+        count = sink.write(left)
+        if count is None:
+            raise BlockingIOError("the output doesn't block, and takes no bytes")
+        left = left[count:]
     sink.flush()
 
 

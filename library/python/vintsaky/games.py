@@ -124,8 +124,8 @@ class Game(Held):
 
     @property
     def komi(self) -> float:
-        """The komi in points, a multiple of 0.5, which a float has exactly. It can be set to an int, a float, a
-        Fraction or a Decimal; board and record stay. Causes: BAD_KOMI."""
+        """The komi in points, a multiple of 0.5, which a float has exactly. It can be set to an int, a float or a
+        Fraction; board and record stay. Causes: BAD_KOMI."""
         halves: int = library.vintsaky_game_komi(self._held())
         return halves / 2
 

@@ -2,7 +2,6 @@
 from __future__ import annotations
 
 import ctypes
-from decimal import Decimal
 from enum import Enum, IntEnum
 from fractions import Fraction
 from typing import Any, Dict, List, NamedTuple, Tuple, Union
@@ -86,7 +85,7 @@ RESIGN = NoPoint.RESIGN
 Vertex = Union[Point, NoPoint]
 AnyColour = Union[Colour, int, str, bytes]
 AnyVertex = Union[Point, NoPoint, Tuple[int, int], str, bytes]
-Komi = Union[int, float, Fraction, Decimal]
+Komi = Union[int, float, Fraction]
 
 POINTS: Dict[int, Point] = {row << 8 | column: Point(column, row) for row in range(1, 26) for column in range(1, 26)}
 VERTICES: Dict[int, Vertex] = {_library.PASS: PASS, **POINTS}
@@ -168,8 +167,8 @@ def vertex_text(vertex: AnyVertex) -> str:
 def half_points(komi: Komi) -> int:
     """A komi in points as half points. Errors: TypeError where it is no number, ValueError where it is no whole number
     of half points, and OverflowError where 32 bits don't have it."""
-    if not isinstance(komi, (int, float, Fraction, Decimal)):
-        raise TypeError(f"the komi is a {type(komi).__name__}, and no number")
+    if not isinstance(komi, (int, float, Fraction)):
+        raise TypeError(f"the komi is a {type(komi).__name__}, and no int, float or Fraction")
     halves = Fraction(komi) * 2
     if halves.denominator != 1:
         raise ValueError(f"the komi is {komi}, and no whole number of half points")
