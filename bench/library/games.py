@@ -38,7 +38,8 @@ class Board:
     def is_eye(self, colour, place):
         """Has each neighbour the colour's own stone, or is it off the board?"""
         stones, own, row = self.stones, (colour, EDGE), self.row
-        return stones[place - 1] in own and stones[place + 1] in own and stones[place - row] in own and stones[place + row] in own
+        in_row = stones[place - 1] in own and stones[place + 1] in own
+        return in_row and stones[place - row] in own and stones[place + row] in own
 
     def turn(self, colour, draws, counts):
         """Makes one move of this colour."""

@@ -45,12 +45,17 @@ fn place(point: Point) -> usize {
 }
 
 fn number(colour: Colour) -> u8 {
-    if colour == Colour::Black { 1 } else { 2 }
+    if colour == Colour::Black {
+        1
+    } else {
+        2
+    }
 }
 
 impl Board {
     fn new(lines: u32) -> Board {
-        let points = (1..=lines).flat_map(|row| (1..=lines).map(move |column| Point::new(column, row).unwrap())).collect();
+        let in_row = |row| (1..=lines).map(move |column| Point::new(column, row).unwrap());
+        let points = (1..=lines).flat_map(in_row).collect();
         let mut board = Board { game: Game::new(), stones: [EDGE; 27 * ROW], points, lines };
         board.begin();
         board
