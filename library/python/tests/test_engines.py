@@ -16,6 +16,9 @@ OURS = (
 ).split()
 
 
+OWN = ["kgs-chat", "nothing", "fails", "stones"]
+
+
 class First(Engine):
     """Plays the first legal point, and has commands of its own."""
 
@@ -47,6 +50,10 @@ class Second(First):
 
     def say(self, words):
         return "second"
+
+    @command("last")
+    def say_last(self, words):
+        return "at last"
 
 
 def served(engine, said):
@@ -150,9 +157,9 @@ class Served(unittest.TestCase):
             self.assertEqual(sink.getvalue(), replies)
 
     def test_own_commands_are_listed(self):
-        for engine, answer in ((First(), b"= a"), (Second(), b"= second")):
+        for engine, answer, more in ((First(), b"= a", []), (Second(), b"= second", ["last"])):
             listed, known, own, _ = served(engine, b"list_commands\nknown_command fails\nkgs-chat a\n").split(b"\n\n")
-            self.assertEqual(listed.decode()[2:].split("\n"), [*OURS, "kgs-chat", "nothing", "fails", "stones"])
+            self.assertEqual(listed.decode()[2:].split("\n"), [*OURS, *OWN, *more])
             self.assertEqual((known, own), (b"= true", answer))
 
     def test_an_unfinished_line_is_never_executed(self):
@@ -271,7 +278,7 @@ class Standard(unittest.TestCase):
     def test_what_else_is_printed_goes_to_standard_error(self):
         status, output, errors = run(NOISY, b"1 genmove b\n2 quit\n")
         self.assertEqual((status, output), (0, f"=1 pass\n\n=2\n\noutput is back{os.linesep}".encode()))
-        self.assertEqual(sorted(errors.split()), sorted("before print file number child after".split()))
+        self.assertEqual(errors.split(), "before print number child file after".split())
 
     def test_a_choose_that_raises(self):
         for choice in ('raise ValueError("a fault of its author")', 'return "Z25"', "return None"):

@@ -2,8 +2,9 @@
 import copy
 import pickle
 import unittest
+from unittest import mock
 
-from vintsaky import BLACK, PASS, RESIGN, WHITE, Cause, Game, KoRule, Move, Point, read_vertex
+from vintsaky import BLACK, PASS, RESIGN, WHITE, Cause, Game, KoRule, Move, Point, _library, read_vertex
 
 from .test_values import Refusing
 
@@ -236,7 +237,9 @@ class Copies(Refusing):
     def test_becomes_another(self):
         game, other = Game(9), played(3, "b A1")
         game.become(other)
-        game.become(game)
+        with mock.patch.object(_library.library, "vintsaky_game_copy") as call:
+            game.become(game)
+        call.assert_not_called()  # whose two arguments are two objects
         self.assertEqual((game.size, game["A1"]), (3, BLACK))
         self.assertRaises(TypeError, game.become, None)
 
