@@ -1,12 +1,18 @@
 /* vintsaky.h: the rules of Go, the referee of a match and the engine of the Go Text Protocol, as a library.
  *
  * Each object lies in memory that the caller gives: as many bytes and the alignment that its _bytes and _align return. The memory is
- * the object's alone and stays where it is, and so does the handle, as long as it is used. Two arguments of a call are two objects.
- * One thread at a time uses an object; it may be another one each time, where something orders the uses, as a lock does. No pointer is
- * NULL. No call takes memory, blocks, or reads or writes anything but its object and the caller's buffers.
+ * the object's alone and stays where it is, and so does the handle, as long as it is used. A handle isn't copied. An object is placed
+ * before it is used, and may be placed anew; it needs no end. One thread at a time uses an object; it may be another one each time,
+ * where something orders the uses, as a lock does.
  *
- * A call that may be refused returns 0 where it was done, and else a cause: then its object is as it was, and it has written nothing.
- * A text is written with a NUL after it, where the buffer has room for both, else not at all; its length is without the NUL. */
+ * No pointer is NULL, also where its length or room is 0, and it has as many bytes or numbers as that says. What the pointers of one
+ * call lead to doesn't overlap: objects, handles, buffers, numbers. All other arguments may be anything. No call takes memory, blocks,
+ * or reads or writes anything but its object and the caller's buffers. A call takes at most 192 kB of stack, and all but
+ * vintsaky_match_begin at most 64 kB.
+ *
+ * A call that may be refused returns 0 where it was done, and else a cause, the first that holds in the order that it names: then its
+ * object is as it was, and it has written nothing. A text is written with a NUL after it, where the buffer has room for both, else not
+ * at all; its length is without the NUL. What an engine wrote may have a NUL in it. */
 #ifndef VINTSAKY_H
 #define VINTSAKY_H
 
@@ -34,15 +40,34 @@ static void (*const vintsaky_interface)(void) = vintsaky_interface_1;
 
 /* ---- numbers ---- */
 
+/* The memory of an object, for who wants it before he runs: what its _bytes and _align return. */
+#define VINTSAKY_GAME_BYTES ((size_t)19616)
+#define VINTSAKY_ENGINE_BYTES ((size_t)25448)
+#define VINTSAKY_MATCH_BYTES ((size_t)46568)
+#define VINTSAKY_LINES_BYTES ((size_t)2056)
+#define VINTSAKY_REPLIES_BYTES ((size_t)16432)
+#define VINTSAKY_ALIGN ((size_t)8)
+
+/* Room for each text of its kind, with its NUL: the line of a command, a reply, what a side wrote since its last whole reply, a board,
+ * the result line of a match, its moves. And the most points of a board, and the most moves of a record. */
+#define VINTSAKY_COMMAND_ROOM ((size_t)65)
+#define VINTSAKY_REPLY_ROOM ((size_t)2049)
+#define VINTSAKY_WROTE_ROOM ((size_t)81)
+#define VINTSAKY_BOARD_ROOM ((size_t)2001)
+#define VINTSAKY_RESULT_ROOM ((size_t)97)
+#define VINTSAKY_RECORD_ROOM ((size_t)10001)
+#define VINTSAKY_MOST_POINTS ((size_t)625)
+#define VINTSAKY_MOST_MOVES ((size_t)2000)
+
 /* why a call is refused */
 enum {
     VINTSAKY_DONE = 0,
     VINTSAKY_BAD_COLOUR = 1, /* The number is no colour and no side: it is neither 1, Black, nor 2, White. */
-    VINTSAKY_BAD_VERTEX = 2, /* The number is no vertex: neither 0, a pass, nor a row times 256 and a column, both from 1 to 25. */
+    VINTSAKY_BAD_VERTEX = 2, /* The number is no vertex for the call: a row times 256 and a column, 1 to 25 each, or of a move 0, a pass. */
     VINTSAKY_BAD_RULE = 3, /* The number is no ko rule: it is neither 1, simple ko, nor 2, positional superko. */
     VINTSAKY_BAD_SIZE = 4, /* The size isn't from 1 to 25. */
     VINTSAKY_BAD_KOMI = 5, /* The komi isn't from -1,999,999,999 to 1,999,999,999 half points. */
-    VINTSAKY_BAD_TEXT = 6, /* The text is none that can be read. */
+    VINTSAKY_BAD_TEXT = 6, /* The text is none that can be read, or that a reply may have. */
     VINTSAKY_NO_ROOM = 7, /* The buffer is too short. */
     VINTSAKY_FULL = 8, /* The record has 2,000 moves. */
     VINTSAKY_OFF_BOARD = 9, /* The point isn't on a board of this size. */
@@ -51,12 +76,12 @@ enum {
     VINTSAKY_KO = 12, /* The board would be one that the ko rule forbids. */
     VINTSAKY_NOTHING_TO_UNDO = 13, /* There is no move to take back. */
     VINTSAKY_NOT_EMPTY = 14, /* A stone is on the board, or a move is in the record. */
-    VINTSAKY_BAD_HANDICAP = 15, /* The size doesn't allow this number of handicap stones. */
+    VINTSAKY_BAD_HANDICAP = 15, /* The size doesn't allow this number of handicap stones, or the number is negative. */
     VINTSAKY_NO_MOVE = 16, /* The record has no move of this number. */
     VINTSAKY_NO_STONE = 17, /* No stone is on the point. */
     VINTSAKY_NOT_ASKED = 18, /* Nothing is asked for that the call hands in. */
     VINTSAKY_NO_WORD = 19, /* The line has no word of this number. */
-    VINTSAKY_NO_ID = 20, /* The line has no id. */
+    VINTSAKY_NO_ID = 20, /* The line or the reply has no id. */
     VINTSAKY_BAD_LENGTH = 21, /* The name of the command has no byte, or more than 32. */
     VINTSAKY_BAD_BYTE = 22, /* A byte of the name is #, or is none of 33 to 126. */
     VINTSAKY_ONLY_DIGITS = 23, /* The name has digits alone, as an id. */
@@ -67,7 +92,7 @@ enum {
     VINTSAKY_BAD_MAX_RESTARTS = 28, /* The limit of restarts is more than 1,000. */
     VINTSAKY_NOT_NEXT = 29, /* The call is not what the match says next. */
     VINTSAKY_NOT_OVER = 30, /* The match is not over. */
-    VINTSAKY_NO_LINE = 31, /* No line of a command was read. */
+    VINTSAKY_NO_LINE = 31, /* No line of a command was read, or the last one was too long. */
     VINTSAKY_BAD_COMMAND = 32, /* The number is no command: it isn't from 1 to 8. */
     VINTSAKY_BAD_ID = 33, /* The id is negative, and not -1, which is none. */
     VINTSAKY_DOWN = 34, /* The side was not started or went down, or the match is over. */
@@ -86,22 +111,22 @@ enum { VINTSAKY_SIMPLE = 1, VINTSAKY_POSITIONAL = 2 };
 
 /* what vintsaky_engine_feed returns: VINTSAKY_BLACK or VINTSAKY_WHITE, whose choice is asked for, or one of these */
 enum {
-    VINTSAKY_MORE = 0,  /* all bytes were used: read on */
-    VINTSAKY_OTHER = 3, /* a line of another command: answer or decline it */
-    VINTSAKY_REPLY = 4, /* a line was answered: write the reply */
-    VINTSAKY_ENDED = 5  /* the session has ended, by a quit */
+    VINTSAKY_MORE = 0,  /* all bytes were used: read on. Only now */
+    VINTSAKY_OTHER = 3, /* a line of another command: answer or decline it, and write the reply */
+    VINTSAKY_REPLY = 4, /* a line was answered: write the reply. A quit is answered so too */
+    VINTSAKY_ENDED = 5  /* a quit was answered before: stop */
 };
 
 /* what vintsaky_match_next returns: start this side's engine, send it a command, wait for what it writes; or the match is over */
 enum { VINTSAKY_START = 1, VINTSAKY_SEND = 2, VINTSAKY_WAIT = 3, VINTSAKY_OVER = 4 };
 
-/* why a side fails by what it writes, where it isn't 0 */
+/* why a side fails by what it writes, where it isn't 0. A match ends before a record is full, so VINTSAKY_LOSS_FULL doesn't come. */
 enum {
     VINTSAKY_LOSS_NO_STATUS = 1,    /* What it wrote is no reply: it begins with neither = nor ?. It goes down. */
     VINTSAKY_LOSS_OVERLONG = 2,     /* More than 8,192 bytes came since its last reply. It goes down. */
     VINTSAKY_LOSS_WRONG_ID = 3,     /* The reply hasn't the id of the oldest unanswered command. It goes down. */
     VINTSAKY_LOSS_UNASKED = 4,      /* A reply came where no command is unanswered. It goes down. */
-    VINTSAKY_LOSS_UNFIT = 5,        /* It failed at a command that brings it to the record, or placed another handicap. It is unfit. */
+    VINTSAKY_LOSS_UNFIT = 5,        /* It failed at a command of its script but a play, or placed another handicap. It is unfit. */
     VINTSAKY_LOSS_REFUSES_PLAY = 6, /* It refused a play that isn't retaken. It forfeits. */
     VINTSAKY_LOSS_KEEPS_MOVE = 7,   /* It didn't take back its move, which the other side refused. The other side forfeits. */
     VINTSAKY_LOSS_NO_MOVE = 8,      /* It failed at a genmove. It forfeits. */
@@ -118,7 +143,7 @@ enum {
     VINTSAKY_BY_SCORE = 1,        /* by two passes */
     VINTSAKY_BY_RESIGNATION = 2,  /* the side resigned */
     VINTSAKY_BY_LIMIT = 3,        /* the record has as many moves as the match allows */
-    VINTSAKY_BY_REFUSED_PLAY = 4, /* the side refused a legal play, or kept a move that the other side refused: it forfeits */
+    VINTSAKY_BY_REFUSED_PLAY = 4, /* the side refused a play that isn't retaken, or that the other side didn't take back: it forfeits */
     VINTSAKY_BY_NO_MOVE = 5,      /* the side failed to answer with a move: it forfeits */
     VINTSAKY_BY_NO_VERTEX = 6,    /* the side answered with what is no move: it forfeits */
     VINTSAKY_BY_ILLEGAL_MOVE = 7, /* the side answered with a move that isn't legal: it forfeits */
@@ -199,7 +224,9 @@ uint32_t vintsaky_komi_text(int32_t half_points, char *text, size_t text_room, s
 uint32_t vintsaky_write_command(
     int32_t id, uint32_t command, int32_t value, uint32_t vertex, char *text, size_t text_room, size_t *count);
 
-/* Writes a reply: a success where ok isn't 0, else a failure, and its length: 2,014 bytes at most. The id is -1 for none.
+/* Writes a reply: a success where ok isn't 0, else a failure, and its length: 2,014 bytes at most. The id is -1 for none. A reply may
+ * have a text of at most 2,000 bytes, each a newline or 32 to 126, with no two newlines in a row, and no space or newline at its
+ * beginning or its end.
  * Causes: VINTSAKY_BAD_ID, or else VINTSAKY_BAD_TEXT where no reply may have the text. Nothing is written. */
 uint32_t vintsaky_write_reply(
     int32_t id, uint32_t ok, const char *said, size_t said_length, char *text, size_t text_room, size_t *count);
@@ -244,9 +271,8 @@ void vintsaky_game_copy(vintsaky_game *game, vintsaky_game *other);
 uint32_t vintsaky_game_begin(vintsaky_game *game, uint32_t rule, uint32_t size, int32_t half_komi);
 
 /* Makes a move.
- * Causes: VINTSAKY_BAD_COLOUR or VINTSAKY_BAD_VERTEX, and else why the move is refused: VINTSAKY_FULL, VINTSAKY_OFF_BOARD,
- * VINTSAKY_OCCUPIED, VINTSAKY_SUICIDE or VINTSAKY_KO. The
- * game stays as it was. */
+ * Causes: VINTSAKY_BAD_COLOUR, or else VINTSAKY_BAD_VERTEX, or else why the move is refused: VINTSAKY_FULL, VINTSAKY_OFF_BOARD,
+ * VINTSAKY_OCCUPIED, VINTSAKY_SUICIDE or VINTSAKY_KO. The game stays as it was. */
 uint32_t vintsaky_game_play(vintsaky_game *game, uint32_t colour, uint32_t vertex);
 
 /* Whether a colour may make a move next.
@@ -293,7 +319,7 @@ uint32_t vintsaky_game_captured(vintsaky_game *game, uint32_t colour, uint32_t *
 /* The number of the ko rule. */
 uint32_t vintsaky_game_rule(vintsaky_game *game);
 
-/* Writes the board as text, as Game::show returns it. */
+/* Writes the board as text, as an engine answers showboard. */
 size_t vintsaky_game_board_text(vintsaky_game *game, char *text, size_t text_room);
 
 /* ---- engines ---- */
@@ -310,20 +336,21 @@ size_t vintsaky_engine_align(void);
 /* Whether the session has ended, by a quit. */
 bool vintsaky_engine_ended(vintsaky_engine *engine);
 
-/* Begins the engine anew, under a ko rule.
+/* Begins the engine anew, under a ko rule. It loses its name, its version and its own commands.
  * Causes: VINTSAKY_BAD_RULE. The engine stays as it was. */
 uint32_t vintsaky_engine_begin(vintsaky_engine *engine, uint32_t rule);
 
-/* Takes the next piece. How many bytes of it were used is written. Returns the number of what came of them. */
+/* Takes the next piece, up to and with the newline of the first line that has a word, or all of it. How many bytes were used is
+ * written: feed the others next. Returns what came of them. While a choice or an answer is waited for, and after the end, no byte is
+ * used, and the same comes again. A line of more than 1,000 bytes of words is answered by a failure. */
 uint32_t vintsaky_engine_feed(vintsaky_engine *engine, const void *bytes, size_t bytes_length, size_t *used);
 
-/* The number of what is waited for. */
+/* What is waited for: 0 for nothing, VINTSAKY_BLACK or VINTSAKY_WHITE for a choice, VINTSAKY_OTHER for an answer. */
 uint32_t vintsaky_engine_wait(vintsaky_engine *engine);
 
 /* Makes the choice that is asked for.
- * Causes: VINTSAKY_BAD_VERTEX, VINTSAKY_NOT_ASKED, or else why the move is refused: VINTSAKY_FULL, VINTSAKY_OFF_BOARD,
- * VINTSAKY_OCCUPIED, VINTSAKY_SUICIDE or VINTSAKY_KO. The
- * engine stays as it was, and a choice that was asked for is still asked for. */
+ * Causes: VINTSAKY_BAD_VERTEX, or else VINTSAKY_NOT_ASKED, or else why the move is refused: VINTSAKY_OFF_BOARD, VINTSAKY_OCCUPIED,
+ * VINTSAKY_SUICIDE or VINTSAKY_KO. The engine stays as it was, and a choice that was asked for is still asked for. */
 uint32_t vintsaky_engine_choose(vintsaky_engine *engine, uint32_t vertex);
 
 /* Answers the line of another command: by a success, where ok isn't 0, or else by a failure.
@@ -344,14 +371,13 @@ uint32_t vintsaky_engine_set_version(vintsaky_engine *engine, const char *text, 
 
 /* Adds a command of the author's own.
  * Causes: VINTSAKY_BAD_LENGTH, VINTSAKY_BAD_BYTE, VINTSAKY_ONLY_DIGITS, VINTSAKY_IN_TABLE, VINTSAKY_ADDED_BEFORE or
- * VINTSAKY_TOO_MANY, the first of these that holds. The
- * engine stays as it was. */
+ * VINTSAKY_TOO_MANY, the first of these that holds. The engine stays as it was. */
 uint32_t vintsaky_engine_add_command(vintsaky_engine *engine, const char *name, size_t name_length);
 
-/* Copies the engine's game. */
+/* Copies the engine's game into another one. */
 void vintsaky_engine_copy_game(vintsaky_engine *engine, vintsaky_game *game);
 
-/* Writes the last reply. How many bytes it has: none before the first. */
+/* Writes the last reply. How many bytes it has: none before the first, and 2,048 at most. */
 size_t vintsaky_engine_reply(vintsaky_engine *engine, char *text, size_t text_room);
 
 /* Writes a word of the line that is waited for, counted from 0 after the id, and its length.
@@ -383,24 +409,25 @@ uint32_t vintsaky_match_begin(
 /* What is to be done next, as a number. The number of the side with which it is done is written, or 0. */
 uint32_t vintsaky_match_next(vintsaky_match *held, uint32_t *side);
 
-/* A side was started.
+/* A side was started. Where its start fails, vintsaky_match_lost comes next.
  * Causes: VINTSAKY_BAD_COLOUR, or else VINTSAKY_NOT_NEXT where its start isn't what is next. The match stays as it was. */
 uint32_t vintsaky_match_started(vintsaky_match *held, uint32_t side);
 
 /* Writes the next command for a side, and its length. It counts as sent.
  * Causes: VINTSAKY_BAD_COLOUR, or else VINTSAKY_NOT_NEXT where that isn't what is next, or else VINTSAKY_NO_ROOM where the buffer
- * has fewer than 65
- * bytes. The match stays as it was, and nothing is written. */
+ * has fewer than 65 bytes, also for a shorter line. The match stays as it was, and nothing is written. */
 uint32_t vintsaky_match_send(vintsaky_match *held, uint32_t side, char *text, size_t text_room, size_t *count);
 
-/* Hears what a side wrote, in any pieces. Why the side fails by it is written, or 0.
+/* Hears what a side wrote, in any pieces. Why the side fails by it is written, or 0. Of a side that is down, and after the end of the
+ * match, nothing is heard.
  * Causes: VINTSAKY_BAD_COLOUR. The match stays as it was, and nothing is written. */
 uint32_t vintsaky_match_hear(vintsaky_match *held, uint32_t side, const void *bytes, size_t bytes_length, uint32_t *loss);
 
 /* Hears what a side wrote as vintsaky_match_hear does, and writes more of what it reports: which retake of its number of a move it is,
  * 1 to 3, where the side refused a play that is retaken, or 0; and of the loss, or else of the retake, how many commands the side hadn't
- * answered, the oldest of them, as it was sent but without its newline, and the first 80 bytes that it wrote since its last whole
- * reply, each with its length. Where there is neither, these are 0 and the texts empty.
+ * answered, with the one that this reply answers; the oldest of them, as it was sent but without its newline; and the first 80 bytes
+ * of the reply, or where it is none, of all that came since the last whole reply. Each text comes with its length. Where there is
+ * neither a loss nor a retake, these are 0 and the texts empty.
  * Causes: VINTSAKY_BAD_COLOUR. The match stays as it was, and nothing is written. */
 uint32_t vintsaky_match_hear_reporting(vintsaky_match *held, uint32_t side, const void *bytes, size_t bytes_length, uint32_t *loss,
     uint32_t *retake, uint32_t *unanswered, char *command, size_t command_room, size_t *command_count, char *wrote, size_t wrote_room,
@@ -417,11 +444,11 @@ uint32_t vintsaky_match_owed(vintsaky_match *held, uint32_t side, uint32_t *unan
  * Causes: VINTSAKY_BAD_COLOUR, or else VINTSAKY_DOWN. Nothing is written. */
 uint32_t vintsaky_match_status(vintsaky_match *held, uint32_t side, uint32_t *confirmed, uint32_t *unanswered, uint32_t *asked);
 
-/* A side is gone.
+/* A side is gone: its output has ended, a read or a write failed, or its start did.
  * Causes: VINTSAKY_BAD_COLOUR. The match stays as it was. */
 uint32_t vintsaky_match_lost(vintsaky_match *held, uint32_t side);
 
-/* Whether a side is in step: 1 where it is, else 0.
+/* Whether a side is in step: 1 where it is up, owes no answer and has confirmed all commands that bring it to the record, else 0.
  * Causes: VINTSAKY_BAD_COLOUR. Nothing is written. */
 uint32_t vintsaky_match_in_step(vintsaky_match *held, uint32_t side, uint32_t *holds);
 
@@ -429,7 +456,8 @@ uint32_t vintsaky_match_in_step(vintsaky_match *held, uint32_t side, uint32_t *h
  * Causes: VINTSAKY_BAD_COLOUR. Nothing is written. */
 uint32_t vintsaky_match_restarts(vintsaky_match *held, uint32_t side, uint32_t *restarts);
 
-/* How many refusals of the move of this number, counted from 1, were met by a retake: 3 at most. */
+/* How many refusals of the move of this number, counted from 1, were met by a retake: 3 at most, and 0 for a number that has
+ * none. */
 uint32_t vintsaky_match_retakes(vintsaky_match *held, uint32_t number);
 
 /* The side whose last move is to be taken back, because the other side refused it, or 0. */
@@ -439,14 +467,14 @@ uint32_t vintsaky_match_taking_back(vintsaky_match *held);
  * Causes: VINTSAKY_NOT_OVER. Nothing is written. */
 uint32_t vintsaky_match_verdict(vintsaky_match *held, uint32_t *ending, uint32_t *side, int32_t *half_points);
 
-/* Copies the match's game. */
+/* Copies the match's game into another one. */
 void vintsaky_match_copy_game(vintsaky_match *held, vintsaky_game *game);
 
-/* Writes the line of a match that is over, and its length.
+/* Writes the result line of a match that is over, without its newline, and its length. The number is that of the game in it.
  * Causes: VINTSAKY_NOT_OVER. Nothing is written. */
 uint32_t vintsaky_match_result(vintsaky_match *held, uint32_t number, char *text, size_t text_room, size_t *count);
 
-/* Writes the moves of a match. How many bytes they have. */
+/* Writes the moves of a match, as --record of twogtp prints them, without the newline. How many bytes they have. */
 size_t vintsaky_match_record(vintsaky_match *held, char *text, size_t text_room);
 
 /* ---- readers of command lines ---- */
@@ -460,16 +488,16 @@ size_t vintsaky_lines_bytes(void);
 /* Of what number the address of such a reader is a multiple. */
 size_t vintsaky_lines_align(void);
 
-/* Takes the next piece up to and with the newline that ends a line, or all of it. How many bytes were used is written.
- * Returns 0 where none ended a line, 1 for a command line, and 2 for one that is too long. */
+/* Takes the next piece up to and with the newline that ends a line with a word, or all of it. How many bytes were used is written.
+ * Returns 0 where none ended a line, VINTSAKY_LINE for a command line, and VINTSAKY_TOO_LONG for one of more than 1,000 bytes of words. */
 uint32_t vintsaky_lines_feed(vintsaky_lines *lines, const void *bytes, size_t bytes_length, size_t *used);
 
-/* The id of the command line that was read last.
- * Causes: VINTSAKY_NO_LINE, or else VINTSAKY_NO_ID. Nothing is written. */
+/* The id of the line that was read last.
+ * Causes: VINTSAKY_NO_LINE where none was read, or it is too long, or else VINTSAKY_NO_ID. Nothing is written. */
 uint32_t vintsaky_lines_id(vintsaky_lines *lines, uint32_t *id);
 
-/* Writes a word of the command line that was read last, counted from 0 after the id, and its length.
- * Causes: VINTSAKY_NO_LINE, or else VINTSAKY_NO_WORD. Nothing is written. */
+/* Writes a word of the line that was read last, counted from 0 after the id, and its length.
+ * Causes: VINTSAKY_NO_LINE where none was read, or it is too long, or else VINTSAKY_NO_WORD. Nothing is written. */
 uint32_t vintsaky_lines_word(vintsaky_lines *lines, size_t number, char *text, size_t text_room, size_t *count);
 
 /* ---- readers of replies ---- */
@@ -484,17 +512,18 @@ size_t vintsaky_replies_bytes(void);
 size_t vintsaky_replies_align(void);
 
 /* Takes the next piece up to and with the byte that ends a reply or shows a fault, or all of it. How many bytes were
- * used is written. Returns 0 where none did, 1 for a reply, 2 where what came is no reply, and 3 where it is too long. */
+ * used is written. Returns 0 where none did, VINTSAKY_READ for a reply, VINTSAKY_NO_REPLY where what came is none, and VINTSAKY_LONG_REPLY
+ * where more than 8,192 bytes came since the last reply. After a fault no byte is used, and the same comes again: place it anew. */
 uint32_t vintsaky_replies_feed(vintsaky_replies *replies, const void *bytes, size_t bytes_length, size_t *used);
 
-/* Whether the reply that was read last is a success. */
+/* Whether the reply that was read last is a success: false before the first. */
 bool vintsaky_replies_ok(vintsaky_replies *replies);
 
 /* The id of the reply that was read last.
- * Causes: VINTSAKY_NO_ID. Nothing is written. */
+ * Causes: VINTSAKY_NO_ID, also before the first. Nothing is written. */
 uint32_t vintsaky_replies_id(vintsaky_replies *replies, uint32_t *id);
 
-/* Writes the text of the reply that was read last. How many bytes it has. */
+/* Writes the text of the reply that was read last. How many bytes it has: none before the first, and 8,192 at most. */
 size_t vintsaky_replies_text(vintsaky_replies *replies, char *text, size_t text_room);
 
 /* ---- in memory of malloc ---- */

@@ -31,6 +31,16 @@ static void says(int line, const char *wanted, size_t length) {
 static void of_the_library(void) {
     vintsaky_interface_1();
     IS(VINTSAKY_VERSION, vintsaky_version());
+    IS(VINTSAKY_GAME_BYTES, vintsaky_game_bytes());
+    IS(VINTSAKY_ENGINE_BYTES, vintsaky_engine_bytes());
+    IS(VINTSAKY_MATCH_BYTES, vintsaky_match_bytes());
+    IS(VINTSAKY_LINES_BYTES, vintsaky_lines_bytes());
+    IS(VINTSAKY_REPLIES_BYTES, vintsaky_replies_bytes());
+    IS(VINTSAKY_ALIGN, vintsaky_game_align());
+    IS(VINTSAKY_ALIGN, vintsaky_engine_align());
+    IS(VINTSAKY_ALIGN, vintsaky_match_align());
+    IS(VINTSAKY_ALIGN, vintsaky_lines_align());
+    IS(VINTSAKY_ALIGN, vintsaky_replies_align());
     SAYS("The record has 2,000 moves.", vintsaky_cause_text(VINTSAKY_FULL, TEXT));
 }
 

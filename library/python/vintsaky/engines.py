@@ -99,7 +99,7 @@ class Steps(Held):
         return game
 
     def choose(self, choice: AnyVertex) -> None:
-        """Makes the choice that is asked for: a vertex, or RESIGN. Causes: BAD_VERTEX, NOT_ASKED, FULL, OFF_BOARD,
+        """Makes the choice that is asked for: a vertex, or RESIGN. Causes: BAD_VERTEX, NOT_ASKED, OFF_BOARD,
         OCCUPIED, SUICIDE or KO; the choice is still asked for."""
         done(library.vintsaky_engine_choose(self._held(), vertex_number(choice)))
 

@@ -50,7 +50,7 @@ class Ending(IntEnum):
     BY_SCORE = 1  # by two passes
     BY_RESIGNATION = 2  # the side resigned
     BY_LIMIT = 3  # the record has as many moves as the match allows
-    BY_REFUSED_PLAY = 4  # the side refused a legal play, or kept a move that the other side refused: it forfeits
+    BY_REFUSED_PLAY = 4  # the side refused a play that isn't retaken, or that the other side didn't take back
     BY_NO_MOVE = 5  # the side failed to answer with a move: it forfeits
     BY_NO_VERTEX = 6  # the side answered with what is no move: it forfeits
     BY_ILLEGAL_MOVE = 7  # the side answered with a move that isn't legal: it forfeits

@@ -108,7 +108,7 @@ impl Engine {
     ///
     /// # Errors
     ///
-    /// [`Refusal::NotAsked`], or else [`Refusal::Full`], [`Refusal::OffBoard`], [`Refusal::Occupied`],
+    /// [`Refusal::NotAsked`], or else [`Refusal::OffBoard`], [`Refusal::Occupied`],
     /// [`Refusal::Suicide`] or [`Refusal::Ko`]. A choice that was asked for is still asked for.
     pub fn choose(&mut self, choice: impl Into<Choice>) -> Result<(), Refusal> {
         Refusal::check(unsafe { vintsaky_engine_choose(self.handle(), choice.into().number()) })

@@ -155,7 +155,7 @@ pub enum Verdict {
     Resignation(Colour),
     /// The record has as many moves as the match allows.
     Limit,
-    /// This side refused a legal play, or kept a move that the other side refused: it forfeits.
+    /// This side refused a play that isn't retaken, or that the other side didn't take back: it forfeits.
     RefusedPlay(Colour),
     /// This side failed to answer with a move: it forfeits.
     NoMove(Colour),
