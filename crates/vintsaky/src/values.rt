@@ -1,5 +1,5 @@
 //! Colours, vertices and komis, and their texts.
-ghost use Rattle.std.specs.Prelude.{◌≡◌, ◌≢◌, ◌≤◌, ◌↔◌, ℤ, [], Some, None, length, false, Result, OnOk, OnErr, IfErr, IsTrue};
+ghost use Rattle.std.specs.Prelude.{◌≡◌, ℤ, length, Result, OnOk, OnErr, IfErr};
 ghost use Rattle.vintsaky_calls.specs.Codes.{result_code};
 ghost use Rattle.vintsaky_calls.specs.declared.causes.Cause.{Cause};
 ghost use Rattle.go_base.specs.Colour.{SpellsColour};

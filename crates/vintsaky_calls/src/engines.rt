@@ -6,7 +6,7 @@ ghost use Rattle.vintsaky_calls.specs.declared.causes.Cause.TheVariants as cause
 ghost use Rattle.vintsaky_calls.specs.Codes.{NoRule, choice_cause, answer_cause, command_cause};
 ghost use Rattle.vintsaky_calls.specs.Engines.{BeginsEngine, Feeds, event_code, wait_code, ChoosesBy, RefusesNumber};
 ghost use Rattle.vintsaky_calls.specs.Engines.{is_success, RefusesText, RefusesCommand, PutsWord, LacksWord, HasId, LacksId};
-ghost use Rattle.vintsaky_calls.specs.Engines.{IsChoiceOf, NoChoice, choice_code};
+ghost use Rattle.vintsaky_calls.specs.Engines.{IsChoiceOf, NoChoice};
 ghost use Rattle.vintsaky_calls.specs.Texts.{Puts};
 
 use crate::causes::Cause;

@@ -4,7 +4,7 @@ ghost use Rattle.go_base.specs.Komi.{IsKomi};
 ghost use Rattle.go_board.specs.Game.{IsLegal, without_last};
 ghost use Rattle.go_board.specs.Show.{board_text};
 ghost use Rattle.vintsaky_calls.specs.declared.causes.Cause.TheVariants as cause;
-ghost use Rattle.vintsaky_calls.specs.Codes.{NoColour, point_code, rule_code};
+ghost use Rattle.vintsaky_calls.specs.Codes.{NoColour, rule_code};
 ghost use Rattle.vintsaky_calls.specs.Games.{Begins, RefusesToBegin, Makes, RefusesMove, IsPlay, IsIllegal};
 ghost use Rattle.vintsaky_calls.specs.Games.{PlacesHandicap, RefusesStones, ListsLegal, ListsTaken, PutsPoints};
 ghost use Rattle.vintsaky_calls.specs.Games.{IsPointOn, RefusesPointCode, HasAt, HasChain, RefusesChain, HasMove, HasCaptured};

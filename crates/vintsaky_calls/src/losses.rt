@@ -1,10 +1,9 @@
 //! Why a side fails, and what it owes, in numbers and texts.
-ghost use Rattle.std.specs.Prelude.{◌≡◌, ◌≤◌, length, IfSome};
+ghost use Rattle.std.specs.Prelude.{◌≡◌, IfSome};
 ghost use Rattle.gtp_match.specs.Losing.{CanBeShown};
 ghost use Rattle.gtp_wire.specs.Commands.{IsWritable};
 ghost use Rattle.vintsaky_calls.specs.Matches.{fault_code, rule_loss_code, loss_cause_code, loss_code, retake_code};
 ghost use Rattle.vintsaky_calls.specs.Matches.{oldest_text, reported_owed, PutsOwed};
-ghost use Rattle.vintsaky_calls.specs.Texts.{Puts};
 
 use crate::texts::put;
 use arrayvec::ArrayVec;

@@ -1,5 +1,5 @@
 //! The calls of a match: the referee between two engines.
-ghost use Rattle.std.specs.Prelude.{◌≡◌, length, Option, Some, None, MatchOption, OnOk, OnErr, IfOk, IfErr};
+ghost use Rattle.std.specs.Prelude.{◌≡◌, length, Option, Some, None, MatchOption, OnOk, OnErr, IfErr};
 ghost use Rattle.gtp_match.specs.Controller.{lost, in_step};
 ghost use Rattle.gtp_match.specs.Losing.{owed};
 ghost use Rattle.gtp_match.specs.Next.{next};

@@ -1,15 +1,17 @@
 //! The calls of an engine in steps.
-ghost use Rattle.std.specs.Prelude.{◌≡◌, ◌≢◌, ◌≤◌, ◌↔◌, ℤ, [], Some, None, length, false, Result, OnOk, OnErr, IfErr, IsTrue};
+ghost use Rattle.std.specs.Prelude.{◌≡◌, length, false, Result, OnOk, OnErr, IfErr};
 ghost use Rattle.vintsaky_calls.specs.Codes.{result_code};
 ghost use Rattle.vintsaky_calls.specs.declared.causes.Cause.{Cause};
 ghost use Rattle.gtp_session.specs.Steps.{AnswersOther, declined_text, SetsName, SetsVersion, AddsCommand, IsTitle};
 ghost use Rattle.gtp_session.specs.declared.events.Event.{Event};
 ghost use Rattle.vintsaky_calls.specs.declared.causes.Cause.TheVariants as cause;
-ghost use Rattle.vintsaky_calls.specs.Codes.{NoRule, choice_cause, answer_cause, command_cause};
+ghost use Rattle.vintsaky_calls.specs.Codes.{NoRule};
 ghost use Rattle.vintsaky_calls.specs.Engines.{BeginsEngine, Feeds, event_code, wait_code, ChoosesBy, RefusesNumber};
 ghost use Rattle.vintsaky_calls.specs.Engines.{is_success, RefusesText, RefusesCommand, PutsWord, LacksWord, HasId, LacksId};
-ghost use Rattle.vintsaky_calls.specs.Engines.{IsChoiceOf, NoChoice, choice_code};
 ghost use Rattle.vintsaky_calls.specs.Texts.{Puts};
+ghost use Rattle.std.specs.Align.{type_align};
+ghost use Rattle.std.specs.Mem.{type_size};
+ghost use Rattle.gtp_session.specs.contracts.steps.Steps.{the_row as engine_row};
 
 use crate::engine::handle::EngineHandle;
 use crate::game::handle::GameHandle;
@@ -19,13 +21,17 @@ use vintsaky_calls::{code_of, engines};
 
 /// How many bytes an engine takes.
 #[unsafe(no_mangle)]
-pub extern "C" fn vintsaky_engine_bytes() -> usize {
+pub extern "C" fn vintsaky_engine_bytes() -> usize
+    ensures { result ≡ type_size engine_row }
+{
     size_of::<Steps>()
 }
 
 /// Of what number the address of an engine is a multiple.
 #[unsafe(no_mangle)]
-pub extern "C" fn vintsaky_engine_align() -> usize {
+pub extern "C" fn vintsaky_engine_align() -> usize
+    ensures { result ≡ type_align engine_row }
+{
     align_of::<Steps>()
 }
 

@@ -1,5 +1,5 @@
 //! The calls of a game.
-ghost use Rattle.std.specs.Prelude.{◌≡◌, ◌≢◌, ◌≤◌, ◌↔◌, ℤ, [], Some, None, length, false, Result, OnOk, OnErr, IfErr, IsTrue};
+ghost use Rattle.std.specs.Prelude.{◌≡◌, ◌≢◌, ◌≤◌, ◌↔◌, [], length, Result, OnOk, OnErr, IfErr, IsTrue};
 ghost use Rattle.go_board.specs.Area.{score};
 ghost use Rattle.go_board.specs.Game.{IsFinished, board_of};
 ghost use Rattle.go_board.specs.Hash.{hash_of};
@@ -9,11 +9,14 @@ ghost use Rattle.go_base.specs.Komi.{IsKomi};
 ghost use Rattle.go_board.specs.Game.{IsLegal, without_last};
 ghost use Rattle.go_board.specs.Show.{board_text};
 ghost use Rattle.vintsaky_calls.specs.declared.causes.Cause.TheVariants as cause;
-ghost use Rattle.vintsaky_calls.specs.Codes.{NoColour, point_code, rule_code};
+ghost use Rattle.vintsaky_calls.specs.Codes.{NoColour, rule_code};
 ghost use Rattle.vintsaky_calls.specs.Games.{Begins, RefusesToBegin, Makes, RefusesMove, IsPlay, IsIllegal};
-ghost use Rattle.vintsaky_calls.specs.Games.{PlacesHandicap, RefusesStones, ListsLegal, ListsTaken, PutsPoints};
-ghost use Rattle.vintsaky_calls.specs.Games.{IsPointOn, RefusesPointCode, HasAt, HasChain, RefusesChain, HasMove, HasCaptured};
+ghost use Rattle.vintsaky_calls.specs.Games.{PlacesHandicap, RefusesStones, ListsLegal, ListsTaken};
+ghost use Rattle.vintsaky_calls.specs.Games.{RefusesPointCode, HasAt, HasChain, RefusesChain, HasMove, HasCaptured};
 ghost use Rattle.vintsaky_calls.specs.Texts.{Puts};
+ghost use Rattle.std.specs.Align.{type_align};
+ghost use Rattle.std.specs.Mem.{type_size};
+ghost use Rattle.go_board.specs.contracts.game.Game.{the_row as game_row};
 
 use crate::game::handle::GameHandle;
 use go_board::Game;
@@ -22,13 +25,17 @@ use vintsaky_calls::{code_of, games};
 
 /// How many bytes a game takes.
 #[unsafe(no_mangle)]
-pub extern "C" fn vintsaky_game_bytes() -> usize {
+pub extern "C" fn vintsaky_game_bytes() -> usize
+    ensures { result ≡ type_size game_row }
+{
     size_of::<Game>()
 }
 
 /// Of what number the address of a game is a multiple.
 #[unsafe(no_mangle)]
-pub extern "C" fn vintsaky_game_align() -> usize {
+pub extern "C" fn vintsaky_game_align() -> usize
+    ensures { result ≡ type_align game_row }
+{
     align_of::<Game>()
 }
 

@@ -1,11 +1,13 @@
 //! The calls of a reader of command lines.
-ghost use Rattle.std.specs.Prelude.{◌≡◌, ◌≢◌, ◌⊎◌, Some, None, length, Result, OnOk, OnErr, IfErr};
+ghost use Rattle.std.specs.Prelude.{◌≡◌, ◌⊎◌, length, Result, OnOk, OnErr, IfErr};
 ghost use Rattle.vintsaky_calls.specs.Codes.{result_code};
 ghost use Rattle.vintsaky_calls.specs.declared.causes.Cause.{Cause};
 ghost use Rattle.gtp_wire.specs.Lines.{ReadsLine};
 ghost use Rattle.gtp_wire.specs.declared.lines.Line.TheVariants as line;
-ghost use Rattle.vintsaky_calls.specs.declared.causes.Cause.TheVariants as cause;
 ghost use Rattle.vintsaky_calls.specs.Lines.{line_code, line_unless, PutsLineWord, LacksLineWord, HasLineId, LacksLineId};
+ghost use Rattle.std.specs.Align.{type_align};
+ghost use Rattle.std.specs.Mem.{type_size};
+ghost use Rattle.vintsaky_calls.specs.contracts.lines.Lines.{the_row as lines_row};
 
 use crate::lines::handle::LinesHandle;
 use std::mem::{align_of, size_of};
@@ -14,13 +16,17 @@ use vintsaky_calls::{code_of, lines};
 
 /// How many bytes such a reader takes.
 #[unsafe(no_mangle)]
-pub extern "C" fn vintsaky_lines_bytes() -> usize {
+pub extern "C" fn vintsaky_lines_bytes() -> usize
+    ensures { result ≡ type_size lines_row }
+{
     size_of::<Lines>()
 }
 
 /// Of what number the address of such a reader is a multiple.
 #[unsafe(no_mangle)]
-pub extern "C" fn vintsaky_lines_align() -> usize {
+pub extern "C" fn vintsaky_lines_align() -> usize
+    ensures { result ≡ type_align lines_row }
+{
     align_of::<Lines>()
 }
 

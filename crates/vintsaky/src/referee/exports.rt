@@ -19,6 +19,9 @@ ghost use Rattle.vintsaky_calls.specs.Matches.{Sends, RefusesSend, Hears, IsSide
 ghost use Rattle.vintsaky_calls.specs.Matches.{HearsReport, loss_code, retake_code, reported_owed, PutsOwed, LacksOwed};
 ghost use Rattle.vintsaky_calls.specs.Matches.{HasStatus, LacksStatus, maybe_side_code, EndsAs};
 ghost use Rattle.vintsaky_calls.specs.Texts.{Puts};
+ghost use Rattle.std.specs.Align.{type_align};
+ghost use Rattle.std.specs.Mem.{type_size};
+ghost use Rattle.gtp_match.specs.contracts.matches.Match.{the_row as match_row};
 
 use crate::game::handle::GameHandle;
 use crate::referee::handle::MatchHandle;
@@ -28,13 +31,17 @@ use vintsaky_calls::{code_of, matches};
 
 /// How many bytes a match takes.
 #[unsafe(no_mangle)]
-pub extern "C" fn vintsaky_match_bytes() -> usize {
+pub extern "C" fn vintsaky_match_bytes() -> usize
+    ensures { result ≡ type_size match_row }
+{
     size_of::<Match>()
 }
 
 /// Of what number the address of a match is a multiple.
 #[unsafe(no_mangle)]
-pub extern "C" fn vintsaky_match_align() -> usize {
+pub extern "C" fn vintsaky_match_align() -> usize
+    ensures { result ≡ type_align match_row }
+{
     align_of::<Match>()
 }
 

@@ -1,10 +1,13 @@
 //! The calls of a reader of replies.
-ghost use Rattle.std.specs.Prelude.{◌≡◌, ◌≢◌, ◌⊎◌, Some, None, length, Result, OnOk, OnErr, IfErr};
+ghost use Rattle.std.specs.Prelude.{◌≡◌, ◌≢◌, Some, None, length, Result, OnOk, OnErr, IfErr};
 ghost use Rattle.vintsaky_calls.specs.Codes.{result_code};
 ghost use Rattle.vintsaky_calls.specs.declared.causes.Cause.{Cause};
 ghost use Rattle.vintsaky_calls.specs.declared.causes.Cause.TheVariants as cause;
 ghost use Rattle.vintsaky_calls.specs.Replies.{ReadsReply};
 ghost use Rattle.vintsaky_calls.specs.Texts.{Puts};
+ghost use Rattle.std.specs.Align.{type_align};
+ghost use Rattle.std.specs.Mem.{type_size};
+ghost use Rattle.vintsaky_calls.specs.contracts.replies.Replies.{the_row as replies_row};
 
 use crate::replies::handle::RepliesHandle;
 use std::mem::{align_of, size_of};
@@ -13,13 +16,17 @@ use vintsaky_calls::{code_of, replies};
 
 /// How many bytes such a reader takes.
 #[unsafe(no_mangle)]
-pub extern "C" fn vintsaky_replies_bytes() -> usize {
+pub extern "C" fn vintsaky_replies_bytes() -> usize
+    ensures { result ≡ type_size replies_row }
+{
     size_of::<Replies>()
 }
 
 /// Of what number the address of such a reader is a multiple.
 #[unsafe(no_mangle)]
-pub extern "C" fn vintsaky_replies_align() -> usize {
+pub extern "C" fn vintsaky_replies_align() -> usize
+    ensures { result ≡ type_align replies_row }
+{
     align_of::<Replies>()
 }
 
