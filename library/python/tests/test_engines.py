@@ -219,6 +219,18 @@ class Served(unittest.TestCase):
 
         self.assertRaises(vintsaky.Refused, served, Named(), b"name\n")
 
+    def test_bad_commands_come_out_at_once(self):
+        said = {"play": "'play': The protocol's table", "a b": "'a b': A byte of the name", "é": "not ASCII"}
+        for name, text in said.items():
+
+            class Commanded(First):
+                @command(name)
+                def say_more(self, words):
+                    return ""
+
+            with self.assertRaisesRegex(ValueError, text):
+                served(Commanded(), b"name\n")
+
     def test_the_game_is_a_copy(self):
         class Plays(First):
             def choose(self, game, colour):

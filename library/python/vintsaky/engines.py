@@ -11,7 +11,7 @@ from typing import Any, Callable, ClassVar, Dict, Iterator, List, Optional, Tupl
 
 from . import _library
 from ._held import Bytes, Held, ascii_of, bytes_of, whole
-from ._library import Cause, done, library, or_none, text_of
+from ._library import Cause, Refused, done, library, or_none, text_of
 from .games import Game
 from .lines import CommandLine, words_of
 from .values import AnyVertex, Colour, KoRule, vertex_number
@@ -151,6 +151,9 @@ def command(name: str) -> Callable[[Method], Method]:
 class Engine:
     """An engine of one's own: a class that says what it chooses.
 
+    `name` and `version` are its answers to these commands, at most 200 bytes each, and `rule` is its ko rule. A class
+    or an object sets them before it serves.
+
     >>> import io
     >>> from vintsaky import RESIGN
     >>> class Resigns(Engine):
@@ -195,7 +198,8 @@ class Engine:
         standard input finds it empty.
 
         Errors: what `choose` or an own command raises, Refused of a choice or an answer that may not be, and what the
-        files raise. Nothing is written then; the reply to each earlier line was."""
+        files raise. Nothing is written then; the reply to each earlier line was. A name or an own command that may not
+        be is a ValueError at once."""
         with contextlib.ExitStack() as stack:
             if source is None or sink is None:
                 standard = stack.enter_context(standard_streams())
@@ -213,7 +217,10 @@ class Engine:
         steps.set_name(self.name)
         steps.set_version(self.version)
         for name in self._commands():
-            steps.add_command(name)
+            try:
+                steps.add_command(name)
+            except Refused as refused:
+                raise ValueError(f"there can't be an own command {name!r}: {refused}") from None
         return steps
 
     def _commands(self) -> Dict[str, str]:
