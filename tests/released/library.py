@@ -106,7 +106,8 @@ def check_archive(tree, copies, room):
     text, notices = (tree / "PROVENANCE").read_text(), (tree / "notices/README").read_text()
     lost = [it for it in LIBRARY if sum_of(TOP / "bin" / it) not in text]
     check("PROVENANCE has the sums of the library", [], lost)
-    check("the notices say that it has no licence", True, "neither that of the programs nor that of the library" in notices)
+    said = "neither that of the programs nor that of the library"
+    check("the notices say that it has no licence", True, said in notices)
     check_archive_flags(tree, room)
     for place in ("examples", "rust", "python/examples"):
         if (copies[0] / "library" / place).is_dir():
