@@ -63,7 +63,7 @@ static void (*const vintsaky_interface)(void) = vintsaky_interface_1;
 enum {
     VINTSAKY_DONE = 0,
     VINTSAKY_BAD_COLOUR = 1, /* The number is no colour and no side: it is neither 1, Black, nor 2, White. */
-    VINTSAKY_BAD_VERTEX = 2, /* The number is no vertex for the call: a row times 256 and a column, 1 to 25 each, or of a move 0, a pass. */
+    VINTSAKY_BAD_VERTEX = 2, /* The number is no vertex: a row times 256 and a column, 1 to 25 each, or where the call takes a pass, 0. */
     VINTSAKY_BAD_RULE = 3, /* The number is no ko rule: it is neither 1, simple ko, nor 2, positional superko. */
     VINTSAKY_BAD_SIZE = 4, /* The size isn't from 1 to 25. */
     VINTSAKY_BAD_KOMI = 5, /* The komi isn't from -1,999,999,999 to 1,999,999,999 half points. */

@@ -29,6 +29,8 @@ use Rattle.vintsaky_calls.specs.declared.causes.Cause.TheVariants as cause
 pub record Begins (rule size : ℕ) (komi : ℤ) (new : GameRecord) : Type 0 where
   pub by : KoRule
   pub rule_is : rule ≡ rule_code by
+  pub size_is : IsSize size
+  pub komi_is : IsKomi komi
   pub new_is : new ≡ record { size = size; komi = komi; rule = by; handicap = 0; moves = [] }
 
 -- why it isn't: the first that is none, of the ko rule, the size and the komi

@@ -1,5 +1,5 @@
 -- The calls of a match.
-use Rattle.std.specs.Prelude.{◌≡◌, ◌≢◌, ℕ, ℤ, pos, Bool, List, [], ◌∷◌, ◌++◌, ◌≤◌, length}
+use Rattle.std.specs.Prelude.{◌≡◌, ◌≢◌, ℕ, ℤ, pos, Bool, List, [], ◌∷◌, ◌++◌, ◌<◌, ◌≤◌, length}
 use Rattle.std.specs.Prelude.{Option, Some, None, MatchOption, if◌then◌else◌}
 use Rattle.std.specs.List.{join_with_byte}
 use Rattle.std.specs.Option.{option_to_list}
@@ -96,21 +96,22 @@ abbrev pub IsNextText : Controller → Colour → List ℕ → Type 0
 IsNextText old side bytes =
     MatchOption (side_of old.sides side).up ⊥ (λ engine. bytes ≡ controller.next_text old side engine)
 
+-- the most bytes of a command's line
+abbrev pub most_command : ℕ
+most_command = 64
+
 -- the next command is put into the caller's buffer, and counts as sent
 pub record Sends (old : Controller) (number : ℕ) (before after : List ℕ) (count : ℕ) (new : Controller)
     : Type 0 where
   pub side : Colour
   pub number_is : number ≡ colour_code side
   pub due : next old ≡ action.Send side
+  pub room : most_command < length before
   pub new_is : new ≡ controller.sent old side
   pub text : List ℕ
   pub is : IsNextText old side text
   pub puts : Puts text before after
   pub count_is : count ≡ length text
-
--- the most bytes of a command's line
-abbrev pub most_command : ℕ
-most_command = 64
 
 -- why it isn't: the number is no side, something else is next, or the buffer may be too short
 abbrev pub RefusesSend : Controller → ℕ → List ℕ → Cause → Type 0

@@ -7,7 +7,7 @@ ghost use Rattle.vintsaky_calls.specs.Codes.{cause_code, result_code, NoCause};
 pub enum Cause {
     /// The number is no colour and no side: it is neither 1, Black, nor 2, White.
     BadColour,
-    /// The number is no vertex: neither 0, a pass, nor a row times 256 and a column, both from 1 to 25.
+    /// The number is no vertex: a row times 256 and a column, 1 to 25 each, or where the call takes a pass, 0.
     BadVertex,
     /// The number is no ko rule: it is neither 1, simple ko, nor 2, positional superko.
     BadRule,
@@ -15,7 +15,7 @@ pub enum Cause {
     BadSize,
     /// The komi isn't from -1,999,999,999 to 1,999,999,999 half points.
     BadKomi,
-    /// The text is none that can be read.
+    /// The text is none that can be read, or that a reply may have.
     BadText,
     /// The buffer is too short.
     NoRoom,
@@ -33,7 +33,7 @@ pub enum Cause {
     NothingToUndo,
     /// A stone is on the board, or a move is in the record.
     NotEmpty,
-    /// The size doesn't allow this number of handicap stones.
+    /// The size doesn't allow this number of handicap stones, or the number is negative.
     BadHandicap,
     /// The record has no move of this number.
     NoMove,
@@ -43,7 +43,7 @@ pub enum Cause {
     NotAsked,
     /// The line has no word of this number.
     NoWord,
-    /// The line has no id.
+    /// The line or the reply has no id.
     NoId,
     /// The name of the command has no byte, or more than 32.
     BadLength,
@@ -65,7 +65,7 @@ pub enum Cause {
     NotNext,
     /// The match is not over.
     NotOver,
-    /// No line of a command was read.
+    /// No line of a command was read, or the last one was too long.
     NoLine,
     /// The number is no command: it isn't from 1 to 8.
     BadCommand,

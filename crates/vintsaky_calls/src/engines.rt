@@ -71,7 +71,7 @@ pub fn wait(engine: &Steps) -> u32
 ///
 /// # Errors
 ///
-/// `BadVertex`, `NotAsked`, or else why the move is refused: `Full`, `OffBoard`, `Occupied`, `Suicide` or `Ko`. The
+/// `BadVertex`, or else `NotAsked`, or else why the move is refused: `OffBoard`, `Occupied`, `Suicide` or `Ko`. The
 /// engine stays as it was, and a choice that was asked for is still asked for.
 pub fn choose(engine: &mut Steps, vertex: u32) -> Result<(), Cause>
     ensures made { OnOk result (ChoosesBy engine.old vertex engine.new) }
@@ -137,7 +137,8 @@ fn cause_of_answer(fault: AnswerFault) -> Cause
 pub fn decline(engine: &mut Steps) -> Result<(), Cause>
     ensures made { OnOk result (AnswersOther engine.old false declined_text engine.new) }
     ensures kept { OnErr result (engine.new ≡ engine.old) }
-    ensures why { IfErr result (RefusesText engine.old declined_text) }
+    ensures why { IfErr result (λ why. (why ≡ cause.NotAsked)
+        × RefusesText engine.old declined_text why) }
 {
     engine.decline().map_err(cause_of_answer)
 }

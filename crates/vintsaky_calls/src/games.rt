@@ -151,13 +151,11 @@ pub fn taken_by_last_move(game: &Game, points: &mut [u32]) -> usize
 fn put_points(points: &ArrayVec<Point, MOST_POINTS>, numbers: &mut [u32]) -> usize
     ensures { PutsPoints points.now.items numbers.old numbers.new result }
 {
-    let mut codes = ArrayVec::<u32, MOST_POINTS>::new();
-    for point in points.as_slice() {
-        codes.push(number_of_point(*point));
-    }
-    let count = codes.len();
+    let count = points.len();
     if count <= numbers.len() {
-        numbers[..count].copy_from_slice(&codes);
+        for (place, point) in points.as_slice().iter().enumerate() {
+            numbers[place] = number_of_point(*point);
+        }
     }
     count
 }

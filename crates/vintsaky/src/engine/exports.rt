@@ -84,7 +84,7 @@ pub extern "C" fn vintsaky_engine_wait(engine: &mut EngineHandle) -> u32
 ///
 /// # Errors
 ///
-/// `BadVertex`, `NotAsked`, or else why the move is refused: `Full`, `OffBoard`, `Occupied`, `Suicide` or `Ko`. The
+/// `BadVertex`, or else `NotAsked`, or else why the move is refused: `OffBoard`, `Occupied`, `Suicide` or `Ko`. The
 /// engine stays as it was, and a choice that was asked for is still asked for.
 #[unsafe(no_mangle)]
 pub extern "C" fn vintsaky_engine_choose(engine: &mut EngineHandle, vertex: u32) -> u32
@@ -121,7 +121,7 @@ pub extern "C" fn vintsaky_engine_decline(engine: &mut EngineHandle) -> u32
     ensures call { (made : Result (Unit {0}) Cause) × (result ≡ result_code made)
         × OnOk made (AnswersOther engine.old.value false declined_text engine.new.value)
         × OnErr made (engine.new.value ≡ engine.old.value)
-        × IfErr made (RefusesText engine.old.value declined_text) }
+        × IfErr made (λ why. (why ≡ cause.NotAsked) × RefusesText engine.old.value declined_text why) }
 {
     code_of(engines::decline(engine.lend()))
 }
