@@ -50,11 +50,11 @@ pub enum Wait {
 /// # Ok::<(), Refusal>(())
 /// ```
 ///
-/// An engine stays on its thread:
+/// An engine may go to another thread:
 ///
-/// ```compile_fail,E0277
+/// ```
 /// let engine = vintsaky::Engine::new();
-/// std::thread::spawn(move || engine.is_ended());
+/// assert_eq!(std::thread::spawn(move || engine.is_ended()).join().ok(), Some(false));
 /// ```
 pub struct Engine {
     held: Held<crate::ffi::Engine>,

@@ -28,14 +28,14 @@ const MOST_POINTS: usize = 625;
 /// # Ok::<(), Refusal>(())
 /// ```
 ///
-/// A game stays on its thread:
+/// A game may go to another thread:
 ///
-/// ```compile_fail,E0277
+/// ```
 /// let game = vintsaky::Game::new();
-/// std::thread::spawn(move || game.size());
+/// assert_eq!(std::thread::spawn(move || game.size()).join().ok(), Some(19));
 /// ```
 ///
-/// Nor do two threads share one:
+/// But two threads don't share one:
 ///
 /// ```compile_fail,E0277
 /// let game = vintsaky::Game::new();

@@ -49,11 +49,15 @@ pub(crate) const REPLIES: Kind<ffi::Replies> = Kind {
 /// An object of the library. Its handle and its memory stay where they are, also where this value is moved.
 ///
 /// The memory is held by an `Rc` that is never cloned. A `Box` would claim that no other pointer reaches what it
-/// holds, and the library has one. So the type is neither `Send` nor `Sync`, and reading calls may take `&self`.
+/// holds, and the library has one. The cell keeps the type from being `Sync`, so reading calls may take `&self`.
 pub(crate) struct Held<H> {
     handle: Box<UnsafeCell<MaybeUninit<H>>>,
     _memory: Rc<[Cell<u64>]>,
 }
+
+// SAFETY: an object and its handle own nothing that another thread reaches: of each handle of the library it is proved
+// that it may go to another thread. The `Rc` has no second owner, and handle and memory go together.
+unsafe impl<H> Send for Held<H> {}
 
 impl<H> Held<H> {
     /// A fresh object.

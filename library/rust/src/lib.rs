@@ -20,8 +20,7 @@
 //! ```
 //!
 //! No call panics, whatever it is given; only a fresh object does where a library asks for an alignment of more than 8.
-//! The types are neither `Send` nor `Sync`: an object stays on its thread, and
-//! each thread may have its own.
+//! The types are `Send` and not `Sync`: an object may go to another thread, and one thread at a time has it.
 //!
 //! The build script finds the archive `libvintsaky.a` in the folder that the variable `VINTSAKY_LIB_DIR` names, or else
 //! in the one that `pkg-config --variable=libdir vintsaky` prints.

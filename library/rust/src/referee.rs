@@ -57,11 +57,12 @@ impl Default for Setup {
 /// # Ok::<(), Refusal>(())
 /// ```
 ///
-/// A match stays on its thread:
+/// A match may go to another thread:
 ///
-/// ```compile_fail,E0277
+/// ```
 /// let held = vintsaky::Match::new();
-/// std::thread::spawn(move || held.next_action());
+/// let next = std::thread::spawn(move || held.next_action()).join().ok();
+/// assert_eq!(next, Some(vintsaky::Action::Start(vintsaky::Colour::Black)));
 /// ```
 pub struct Match {
     held: Held<crate::ffi::Match>,
