@@ -12,7 +12,8 @@
  *
  * A call that may be refused returns 0 where it was done, and else a cause, the first that holds in the order that it names: then its
  * object is as it was, and it has written nothing. A text is written with a NUL after it, where the buffer has room for both, else not
- * at all; its length is without the NUL. What an engine wrote may have a NUL in it. */
+ * at all; its length is without the NUL, and a greater room may be given then. So a short buffer is no cause, but of vintsaky_match_send,
+ * whose command would be lost. What an engine wrote may have a NUL in it. */
 #ifndef VINTSAKY_H
 #define VINTSAKY_H
 
@@ -198,7 +199,7 @@ uint32_t vintsaky_colour_text(uint32_t colour, char *text, size_t text_room, siz
  * Causes: VINTSAKY_BAD_VERTEX. Nothing is written. */
 uint32_t vintsaky_point(uint32_t column, uint32_t row, uint32_t *vertex);
 
-/* Reads a vertex, as the protocol spells it.
+/* Reads a vertex, as the protocol spells it: pass, or a letter and a row, in any case.
  * Causes: VINTSAKY_BAD_TEXT. Nothing is written. */
 uint32_t vintsaky_read_vertex(const char *text, size_t text_length, uint32_t *vertex);
 
@@ -254,7 +255,7 @@ uint32_t vintsaky_game_handicap(vintsaky_game *game);
 /* How many moves the record has. */
 size_t vintsaky_game_length(vintsaky_game *game);
 
-/* The score in half points, positive where Black leads. */
+/* The score by area with every stone alive, and after the komi, in half points: positive where Black leads. */
 int32_t vintsaky_game_score(vintsaky_game *game);
 
 /* Whether the last two moves are passes. */
@@ -263,14 +264,14 @@ bool vintsaky_game_finished(vintsaky_game *game);
 /* A hash of the board: equal boards have equal hashes. */
 uint64_t vintsaky_game_hash(vintsaky_game *game);
 
-/* Becomes a copy of another game. */
+/* Becomes a copy of another game, with its record, its komi and its ko rule. */
 void vintsaky_game_copy(vintsaky_game *game, vintsaky_game *other);
 
 /* Begins the game anew, on an empty board.
  * Causes: VINTSAKY_BAD_RULE, VINTSAKY_BAD_SIZE or VINTSAKY_BAD_KOMI, the first of these that holds. The game stays as it was. */
 uint32_t vintsaky_game_begin(vintsaky_game *game, uint32_t rule, uint32_t size, int32_t half_komi);
 
-/* Makes a move.
+/* Makes a move of either colour, whoever moved last.
  * Causes: VINTSAKY_BAD_COLOUR, or else VINTSAKY_BAD_VERTEX, or else why the move is refused: VINTSAKY_FULL, VINTSAKY_OFF_BOARD,
  * VINTSAKY_OCCUPIED, VINTSAKY_SUICIDE or VINTSAKY_KO. The game stays as it was. */
 uint32_t vintsaky_game_play(vintsaky_game *game, uint32_t colour, uint32_t vertex);
@@ -380,7 +381,7 @@ void vintsaky_engine_copy_game(vintsaky_engine *engine, vintsaky_game *game);
 /* Writes the last reply. How many bytes it has: none before the first, and 2,048 at most. */
 size_t vintsaky_engine_reply(vintsaky_engine *engine, char *text, size_t text_room);
 
-/* Writes a word of the line that is waited for, counted from 0 after the id, and its length.
+/* Writes a word of the line that is waited for, counted from 0 after the id, and its length: at most 1,000 bytes.
  * Causes: VINTSAKY_NOT_ASKED where no line is waited for, or else VINTSAKY_NO_WORD. Nothing is written. */
 uint32_t vintsaky_engine_word(vintsaky_engine *engine, size_t number, char *text, size_t text_room, size_t *count);
 
@@ -496,7 +497,7 @@ uint32_t vintsaky_lines_feed(vintsaky_lines *lines, const void *bytes, size_t by
  * Causes: VINTSAKY_NO_LINE where none was read, or it is too long, or else VINTSAKY_NO_ID. Nothing is written. */
 uint32_t vintsaky_lines_id(vintsaky_lines *lines, uint32_t *id);
 
-/* Writes a word of the line that was read last, counted from 0 after the id, and its length.
+/* Writes a word of the line that was read last, counted from 0 after the id, and its length: at most 1,000 bytes.
  * Causes: VINTSAKY_NO_LINE where none was read, or it is too long, or else VINTSAKY_NO_WORD. Nothing is written. */
 uint32_t vintsaky_lines_word(vintsaky_lines *lines, size_t number, char *text, size_t text_room, size_t *count);
 

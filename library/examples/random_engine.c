@@ -17,7 +17,8 @@ static bool is_eye(uint32_t colour, uint32_t vertex) {
     return is_own(colour, vertex + 1) && is_own(colour, vertex - 1) && is_own(colour, vertex + 256) && is_own(colour, vertex - 256);
 }
 
-static uint32_t choice(vintsaky_engine *engine, uint32_t colour) {
+/* The vertex that is chosen for a colour: a search of one's own comes here. */
+static uint32_t choose(vintsaky_engine *engine, uint32_t colour) {
     uint32_t points[625];
     size_t count = 0, kept = 0;
     vintsaky_engine_copy_game(engine, &game);
@@ -27,11 +28,18 @@ static uint32_t choice(vintsaky_engine *engine, uint32_t colour) {
     return kept ? points[(size_t)rand() % kept] : VINTSAKY_PASS;
 }
 
-/* Takes what came of a piece of the input, and writes the reply. Returns false where it can't be written. */
+/* Takes what came of a piece of the input, and writes the reply. Returns false where it can't be written, or the choice is refused:
+ * then there is no reply yet, since the choice is still asked for. */
 static bool reply(vintsaky_engine *engine, uint32_t came) {
-    char text[4096];
-    if (came == VINTSAKY_OTHER) vintsaky_engine_decline(engine);
-    if (came == VINTSAKY_BLACK || came == VINTSAKY_WHITE) vintsaky_engine_choose(engine, choice(engine, came));
+    char text[VINTSAKY_REPLY_ROOM];
+    uint32_t cause = VINTSAKY_DONE;
+    if (came == VINTSAKY_OTHER) cause = vintsaky_engine_decline(engine);
+    if (came == VINTSAKY_BLACK || came == VINTSAKY_WHITE) cause = vintsaky_engine_choose(engine, choose(engine, came));
+    if (cause != VINTSAKY_DONE) {
+        vintsaky_cause_text(cause, text, sizeof text);
+        fprintf(stderr, "random_engine: the choice is refused: %s\n", text);
+        return false;
+    }
     return fwrite(text, 1, vintsaky_engine_reply(engine, text, sizeof text), stdout) > 0 && fflush(stdout) == 0;
 }
 
