@@ -153,16 +153,8 @@ enum {
 };
 
 /* the commands that vintsaky_write_command writes */
-enum {
-    VINTSAKY_BOARDSIZE = 1,
-    VINTSAKY_KOMI = 2,
-    VINTSAKY_CLEAR_BOARD = 3,
-    VINTSAKY_FIXED_HANDICAP = 4,
-    VINTSAKY_PLAY = 5,
-    VINTSAKY_GENMOVE = 6,
-    VINTSAKY_UNDO = 7,
-    VINTSAKY_QUIT = 8
-};
+enum { VINTSAKY_BOARDSIZE = 1, VINTSAKY_KOMI = 2, VINTSAKY_CLEAR_BOARD = 3, VINTSAKY_FIXED_HANDICAP = 4 };
+enum { VINTSAKY_PLAY = 5, VINTSAKY_GENMOVE = 6, VINTSAKY_UNDO = 7, VINTSAKY_QUIT = 8 };
 
 /* what vintsaky_lines_feed returns, where it is not 0: a command line, or one that is too long */
 enum { VINTSAKY_LINE = 1, VINTSAKY_TOO_LONG = 2 };
@@ -237,10 +229,8 @@ uint32_t vintsaky_write_reply(
 /* Puts a game into the memory, and its handle. It has size 19, no komi and simple ko. */
 void vintsaky_game_place(vintsaky_game *out, void *at);
 
-/* How many bytes a game takes. */
+/* How many bytes a game takes, and of what number its address is a multiple. */
 size_t vintsaky_game_bytes(void);
-
-/* Of what number the address of a game is a multiple. */
 size_t vintsaky_game_align(void);
 
 /* The size of the board, from 1 to 25. */
@@ -328,10 +318,8 @@ size_t vintsaky_game_board_text(vintsaky_game *game, char *text, size_t text_roo
 /* Puts an engine in steps into the memory, and its handle. It has simple ko, and was given nothing. */
 void vintsaky_engine_place(vintsaky_engine *out, void *at);
 
-/* How many bytes an engine takes. */
+/* How many bytes an engine takes, and of what number its address is a multiple. */
 size_t vintsaky_engine_bytes(void);
-
-/* Of what number the address of an engine is a multiple. */
 size_t vintsaky_engine_align(void);
 
 /* Whether the session has ended, by a quit. */
@@ -394,10 +382,8 @@ uint32_t vintsaky_engine_id(vintsaky_engine *engine, uint32_t *id);
 /* Puts a match into the memory, and its handle. It has size 19, no komi, no handicap, 2,000 moves at most, and no restart. */
 void vintsaky_match_place(vintsaky_match *out, void *at);
 
-/* How many bytes a match takes. */
+/* How many bytes a match takes, and of what number its address is a multiple. */
 size_t vintsaky_match_bytes(void);
-
-/* Of what number the address of a match is a multiple. */
 size_t vintsaky_match_align(void);
 
 /* Begins a match between two engines that are not started yet.
@@ -483,10 +469,8 @@ size_t vintsaky_match_record(vintsaky_match *held, char *text, size_t text_room)
 /* Puts a reader of command lines into the memory, and its handle. It was given nothing. */
 void vintsaky_lines_place(vintsaky_lines *out, void *at);
 
-/* How many bytes such a reader takes. */
+/* How many bytes such a reader takes, and of what number its address is a multiple. */
 size_t vintsaky_lines_bytes(void);
-
-/* Of what number the address of such a reader is a multiple. */
 size_t vintsaky_lines_align(void);
 
 /* Takes the next piece up to and with the newline that ends a line with a word, or all of it. How many bytes were used is written.
@@ -506,10 +490,8 @@ uint32_t vintsaky_lines_word(vintsaky_lines *lines, size_t number, char *text, s
 /* Puts a reader of replies into the memory, and its handle. It was given nothing. */
 void vintsaky_replies_place(vintsaky_replies *out, void *at);
 
-/* How many bytes such a reader takes. */
+/* How many bytes such a reader takes, and of what number its address is a multiple. */
 size_t vintsaky_replies_bytes(void);
-
-/* Of what number the address of such a reader is a multiple. */
 size_t vintsaky_replies_align(void);
 
 /* Takes the next piece up to and with the byte that ends a reply or shows a fault, or all of it. How many bytes were
@@ -529,70 +511,26 @@ size_t vintsaky_replies_text(vintsaky_replies *replies, char *text, size_t text_
 
 /* ---- in memory of malloc ---- */
 
-/* Puts a game into memory of malloc, as vintsaky_game_place does. Returns false where there is no memory. */
-static inline bool vintsaky_game_new(vintsaky_game *out) {
-    void *at = malloc(vintsaky_game_bytes());
-    if (at != NULL) vintsaky_game_place(out, at);
-    return at != NULL;
-}
+/* For each kind of object, as vintsaky_game_new and vintsaky_game_free:
+ * - _new puts one into memory of malloc, as its _place does. It returns false where there is no memory.
+ * - _free gives back the memory of one that _new put there, which can't be used then. */
+#define VINTSAKY_IN_MALLOC(kind)                                         \
+    static inline bool vintsaky_##kind##_new(vintsaky_##kind *out) {     \
+        void *at = malloc(vintsaky_##kind##_bytes());                    \
+        if (at != NULL) vintsaky_##kind##_place(out, at);                \
+        return at != NULL;                                               \
+    }                                                                    \
+    static inline void vintsaky_##kind##_free(vintsaky_##kind *held) {   \
+        free(held->at);                                                  \
+        held->at = NULL;                                                 \
+    }
 
-/* Gives back the memory of one that vintsaky_game_new put there. It can't be used then. */
-static inline void vintsaky_game_free(vintsaky_game *held) {
-    free(held->at);
-    held->at = NULL;
-}
-
-/* Puts an engine into memory of malloc, as vintsaky_engine_place does. Returns false where there is no memory. */
-static inline bool vintsaky_engine_new(vintsaky_engine *out) {
-    void *at = malloc(vintsaky_engine_bytes());
-    if (at != NULL) vintsaky_engine_place(out, at);
-    return at != NULL;
-}
-
-/* Gives back the memory of one that vintsaky_engine_new put there. It can't be used then. */
-static inline void vintsaky_engine_free(vintsaky_engine *held) {
-    free(held->at);
-    held->at = NULL;
-}
-
-/* Puts a match into memory of malloc, as vintsaky_match_place does. Returns false where there is no memory. */
-static inline bool vintsaky_match_new(vintsaky_match *out) {
-    void *at = malloc(vintsaky_match_bytes());
-    if (at != NULL) vintsaky_match_place(out, at);
-    return at != NULL;
-}
-
-/* Gives back the memory of one that vintsaky_match_new put there. It can't be used then. */
-static inline void vintsaky_match_free(vintsaky_match *held) {
-    free(held->at);
-    held->at = NULL;
-}
-
-/* Puts a reader of command lines into memory of malloc, as vintsaky_lines_place does. Returns false where there is no memory. */
-static inline bool vintsaky_lines_new(vintsaky_lines *out) {
-    void *at = malloc(vintsaky_lines_bytes());
-    if (at != NULL) vintsaky_lines_place(out, at);
-    return at != NULL;
-}
-
-/* Gives back the memory of one that vintsaky_lines_new put there. It can't be used then. */
-static inline void vintsaky_lines_free(vintsaky_lines *held) {
-    free(held->at);
-    held->at = NULL;
-}
-
-/* Puts a reader of replies into memory of malloc, as vintsaky_replies_place does. Returns false where there is no memory. */
-static inline bool vintsaky_replies_new(vintsaky_replies *out) {
-    void *at = malloc(vintsaky_replies_bytes());
-    if (at != NULL) vintsaky_replies_place(out, at);
-    return at != NULL;
-}
-
-/* Gives back the memory of one that vintsaky_replies_new put there. It can't be used then. */
-static inline void vintsaky_replies_free(vintsaky_replies *held) {
-    free(held->at);
-    held->at = NULL;
-}
+VINTSAKY_IN_MALLOC(game)
+VINTSAKY_IN_MALLOC(engine)
+VINTSAKY_IN_MALLOC(match)
+VINTSAKY_IN_MALLOC(lines)
+VINTSAKY_IN_MALLOC(replies)
+#undef VINTSAKY_IN_MALLOC
 
 #ifdef __cplusplus
 }
