@@ -90,12 +90,14 @@ class InSteps(Refusing):
 
     def test_choices(self):
         steps = Steps()
-        for choice, reply in ((RESIGN, b"= resign\n\n"), ("pass", b"= pass\n\n"), ("a1", b"= A1\n\n")):
+        resigns = b"= resign\n\n"
+        for choice, reply in ((RESIGN, resigns), ("Resign", resigns), ("pass", b"= pass\n\n"), ("a1", b"= A1\n\n")):
             steps.feed(b"genmove b\n")
             steps.choose(choice)
             self.assertEqual(steps.reply, reply)
         steps.feed(b"genmove b\n")
         self.refused(Cause.OCCUPIED, steps.choose, "A1")
+        self.assertRaisesRegex(vintsaky.Refused, "^the choice A1: A stone is on the point.$", steps.choose, "A1")
         self.refused(Cause.BAD_VERTEX, steps.choose, (26, 1))
         self.refused(Cause.BAD_TEXT, steps.choose, "resigned")
         self.assertRaises(OverflowError, steps.choose, (2**32 + 1, 1))

@@ -136,6 +136,19 @@ class Objects(unittest.TestCase):
             self.assertRegex(str(problem), "^a (Game|Steps|Match|CommandLines|Replies) is used by another thread")
         self.assertEqual((len(game.moves), steps.reply), (0, b""))
 
+    def test_a_thread_adopts_a_copy(self):
+        game, handed = Game(9), []
+        copy = game.copy()
+
+        def plays():
+            copy.adopt()
+            copy.play("b", "C3")
+            handed.append(len(copy.moves))
+
+        self.assertIsNone(self.in_thread(plays))
+        self.assertEqual((handed, len(game.moves)), ([1], 0))
+        self.assertRaisesRegex(RuntimeError, "adopt", lambda: copy.moves[:])
+
     def test_each_method_asks_for_the_thread(self):
         """Each call with a handle gets it from the method that looks at the thread."""
         for name in ("games", "lines", "engines", "matches"):

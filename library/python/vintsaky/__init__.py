@@ -21,8 +21,8 @@ and `Replies` read the protocol's lines in any cuts; `write_command` and `write_
 - A call that is refused raises `Refused`, a ValueError whose `cause` says why, and has changed nothing.
 - A number that the library's type doesn't have is an OverflowError, and a wrong type a TypeError. Texts are ASCII.
 - Komis and scores are in points: floats, of which each is a multiple of 0.5.
-- Only the thread that made an object may use it; another one gets a RuntimeError. Each call holds the interpreter's
-  lock.
+- Only the thread that made an object may use it, or the one that called its `adopt` last; another one gets a
+  RuntimeError. Each call holds the interpreter's lock.
 - An object can't be pickled. `Game.copy` makes a copy of a game.
 
 The library is the file libvintsaky.so.1 in this package, or else the one that the variable VINTSAKY_LIBRARY names, or

@@ -12,7 +12,8 @@ Bytes = Union[bytes, bytearray, memoryview]
 
 
 class Held:
-    """An object of the library. It lives in memory that it keeps, and only the thread that made it may use it."""
+    """An object of the library. It lives in memory that it keeps, and only the thread that made it may use it, or
+    the one that adopted it last."""
 
     __slots__ = ("_memory", "_handle", "_place", "_thread")
     _kind: ClassVar[str]
@@ -31,8 +32,13 @@ class Held:
     def _held(self) -> Any:
         """The handle, for a call. Each call of an object asks for it here."""
         if get_ident() != self._thread:
-            raise RuntimeError(f"a {type(self).__name__} is used by another thread than the one that made it")
+            raise RuntimeError(f"a {type(self).__name__} is used by another thread than its own: adopt() takes it over")
         return self._place
+
+    def adopt(self) -> None:
+        """From now on this thread may use the object, and no other one. That which had it has to be done with it, and
+        something has to order the two, as a queue does."""
+        self._thread = get_ident()
 
     def __reduce_ex__(self, protocol: Any) -> NoReturn:
         raise TypeError(f"a {type(self).__name__} can't be copied or pickled so")

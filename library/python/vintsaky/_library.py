@@ -297,20 +297,22 @@ class Cause(IntEnum):
 
 
 class Refused(ValueError):
-    """A call is refused, and has changed nothing. `cause` says why; the text is the cause's."""
+    """A call is refused, and has changed nothing. `cause` says why; the text is the cause's, after what is refused
+    where that is known."""
 
-    def __init__(self, cause: Cause) -> None:
-        super().__init__(cause)
+    def __init__(self, cause: Cause, what: str = "") -> None:
+        super().__init__(cause, what)
         self.cause = cause
+        self.what = what
 
     def __str__(self) -> str:
-        return self.cause.text
+        return f"{self.what}: {self.cause.text}" if self.what else self.cause.text
 
 
-def done(cause: int) -> None:
-    """Raises Refused where this is a cause."""
+def done(cause: int, what: str = "") -> None:
+    """Raises Refused where this is a cause, with what is refused."""
     if cause:
-        raise Refused(Cause(cause))
+        raise Refused(Cause(cause), what)
 
 
 def version() -> Tuple[int, int, int]:

@@ -99,9 +99,12 @@ class Steps(Held):
         return game
 
     def choose(self, choice: AnyVertex) -> None:
-        """Makes the choice that is asked for: a vertex, or RESIGN. Causes: BAD_VERTEX, NOT_ASKED, OFF_BOARD,
-        OCCUPIED, SUICIDE or KO; the choice is still asked for."""
-        done(library.vintsaky_engine_choose(self._held(), vertex_number(choice)))
+        """Makes the choice that is asked for: a vertex, RESIGN, or the text of either. Causes: BAD_VERTEX, NOT_ASKED,
+        OFF_BOARD, OCCUPIED, SUICIDE or KO; the choice is still asked for."""
+        is_text = isinstance(choice, (str, bytes))
+        resigns = is_text and ascii_of(choice, "the choice").lower() == b"resign"  # type: ignore[arg-type]
+        number = _library.RESIGN if resigns else vertex_number(choice)
+        done(library.vintsaky_engine_choose(self._held(), number), f"the choice {choice}")
 
     def answer(self, text: Union[str, bytes] = "", ok: bool = True) -> None:
         """Answers the line of another command: by a success, or by a failure. Causes: NOT_ASKED, or BAD_TEXT where no
@@ -139,7 +142,14 @@ def command(name: str) -> Callable[[Method], Method]:
     """Marks a method of an Engine as the answer to a command of the author's own, of this name.
 
     The method gets the words after the name, a list of str, and returns the text of the reply, or None for an empty
-    one. Where it raises Failure, the reply is a failure with that text. No own command changes the game."""
+    one. Where it raises Failure, the reply is a failure with that text. No own command changes the game.
+
+    A text has at most 2,000 bytes, each a newline or 32 to 126. No two newlines follow each other, and it begins and
+    ends with neither a space nor a newline. Another one ends `serve` by Refused.
+
+    Errors: TypeError where the name is no str, as after `@command` without a name."""
+    if not isinstance(name, str):
+        raise TypeError("a command has a name: @command(\"NAME\")")
 
     def marked(method: Method) -> Method:
         setattr(method, "gtp_command", name)
@@ -176,7 +186,7 @@ class Engine:
 
     def choose(self, game: Game, colour: Colour) -> AnyVertex:
         """What the engine plays: a legal Point, PASS or RESIGN, or the text of one. The game is a copy, on which it may
-        play as it likes.
+        play as it likes: up to 2,000 moves, those that it has among them. Then `play` raises Refused, with FULL.
 
         Where it raises an exception, or its choice isn't lawful, that comes out of `serve`, and the genmove isn't
         answered."""

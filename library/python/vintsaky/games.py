@@ -93,7 +93,7 @@ class Game(Held):
         done(library.vintsaky_game_begin(self._held(), whole(rule, "the ko rule"), whole(size, "the size"), halves))
 
     def copy(self) -> Game:
-        """A copy: a game of its own, which the thread that makes it uses."""
+        """A copy: a game of its own. To hand it to another thread, have that one call its `adopt`."""
         copied = Game()
         copied.become(self)
         return copied

@@ -98,11 +98,25 @@ class Status:
 
 @dataclass(frozen=True)
 class Verdict:
-    """How a match ended, the side that the ending says it of, and the score in points where it ended by one."""
+    """How a match ended, and the score in points where it ended by one. `side` is who resigned, forfeited, is unfit or
+    was abandoned: never who won."""
 
     ending: Ending
     side: Optional[Colour]
     score: Optional[float]
+
+    @property
+    def winner(self) -> Optional[Colour]:
+        """Who won: by the score, or since the other side resigned or forfeited. Else None.
+
+        >>> Verdict(Ending.BY_RESIGNATION, Colour.BLACK, None).winner
+        <Colour.WHITE: 2>
+        """
+        if self.score:
+            return Colour.BLACK if self.score > 0 else Colour.WHITE
+        if self.side is None or self.ending in (Ending.BY_UNFIT, Ending.BY_ABANDONED):
+            return None
+        return self.side.other
 
 
 class OwedRoom:
@@ -128,7 +142,7 @@ class Match(Held):
     """A match between two engines that are not started yet. Sides may be given as the texts of their colours.
 
     What is refused raises Refused, and the match stays as it was: BAD_COLOUR of a side that is none, and what each
-    method names.
+    method names. The defaults aren't those of twogtp: these are a komi of 6.5, 1,000 moves and 2 restarts.
 
     >>> match = Match(size=9, komi=6.5)
     >>> match.next()
@@ -171,7 +185,8 @@ class Match(Held):
         return Action(Next(kind), Colour(side.value) if side.value else None)
 
     def started(self, side: AnyColour) -> None:
-        """The side was started. Causes: NOT_NEXT where its start isn't what is next."""
+        """The side was started, or its start failed: then `lost` comes next. Causes: NOT_NEXT where its start isn't
+        what is next."""
         done(library.vintsaky_match_started(self._held(), colour_number(side)))
 
     def send(self, side: AnyColour) -> bytes:
@@ -210,7 +225,8 @@ class Match(Held):
         return Status(confirmed.value, unanswered.value, bool(asked.value))
 
     def lost(self, side: AnyColour) -> None:
-        """The side is gone: its output ended, or it couldn't be started or written to."""
+        """The side is gone: its output ended, or a read or a write failed. Where its start failed, this comes after
+        `started`. After a loss that is heard it isn't needed."""
         done(library.vintsaky_match_lost(self._held(), colour_number(side)))
 
     def in_step(self, side: AnyColour) -> bool:
