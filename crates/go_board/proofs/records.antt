@@ -5,3 +5,4 @@ pub mod TakenCounts
 pub mod TakenStack
 pub mod EveryGame
 pub mod LegalPoints
+pub mod RowsOfPoints

@@ -10,3 +10,4 @@ pub mod Legal
 pub mod Kept
 pub mod Stones
 pub mod HashChange
+pub mod Columns

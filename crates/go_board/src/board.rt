@@ -1,9 +1,10 @@
 //! A board as an array of places with edge round the points.
-ghost use Rattle.std.specs.Prelude.{◌≡◌, ◌≢◌, ℕ, ◌<◌, ◌≤◌, ◌↔◌, ◌⊎◌, if◌then◌else◌, IsTrue, All, ◌+◌, Contains};
+ghost use Rattle.std.specs.Prelude.{◌≡◌, ◌≢◌, ℕ, ◌<◌, ◌≤◌, ◌↔◌, ◌⊎◌, if◌then◌else◌, IsTrue, All, ◌+◌, ◌*◌, Contains};
 ghost use Rattle.go_base.specs.Point.{IsOn};
 ghost use Rattle.go_base.specs.Size.{most_size, IsSize};
 ghost use Rattle.go_board.specs.Board.{is_point};
 
+use crate::columns::Columns;
 use crate::hashes::key_of;
 use crate::places::Places;
 use crate::taken_stack::TakenStone;
@@ -87,6 +88,19 @@ pub fn point_at(place: usize) -> Point
     }
 }
 
+/// The point of a row and a column, where it is one.
+#[inline]
+pub fn point_in(row: usize, column: usize) -> Point
+    requires point { IsOn most_size (26 * row + column) }
+    requires column { column < 26 }
+    ensures { result ≡ 26 * row + column }
+{
+    match Point::new(column as u32, row as u32) {
+        Some(point) => point,
+        None => unreachable!(),
+    }
+}
+
 /// What a place of an empty board holds: nothing where it is one of the points of `lines` lines each way, and edge
 /// elsewhere.
 #[inline]
@@ -128,6 +142,7 @@ impl Board {
     ghost use Rattle.std.specs.Prelude.{slice_set};
     ghost use Rattle.go_board.specs.private.ChainId.{IsChainOf, empty_at, empty_beside};
     ghost use Rattle.go_board.specs.Board.{place_count, at, stone, empty_board, with_black, HasStone};
+    ghost use Rattle.go_board.specs.private.Columns.{AreEmptyIn};
     ghost use Rattle.go_board.specs.private.Frame.{HasSize, SameEdge};
     ghost use Rattle.go_base.specs.Colour.{other};
     ghost use Rattle.go_base.specs.Handicap.{AllowsHandicap};
@@ -193,6 +208,20 @@ impl Board {
         ensures { result ≡ at self.now place }
     {
         self.cells[place]
+    }
+
+    /// The columns of a row where it has empty points.
+    #[inline]
+    pub fn empty_in_row(&self, row: usize) -> Columns
+        requires { row < 27 }
+        ensures { AreEmptyIn self.now row result }
+    {
+        // The places of the row are the lanes of a vector, so that all are compared at once.
+        let mut lanes = [0; 32];
+        for column in 0..ROW {
+            lanes[column] = (self.cells[ROW * row + column] == Cell::Empty) as u8;
+        }
+        Columns::from_lanes(lanes)
     }
 
     /// Changes what a point holds.

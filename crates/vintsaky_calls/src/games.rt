@@ -135,7 +135,9 @@ pub fn legal_points(
     ensures why { IfErr result (λ why. (why ≡ cause.BadColour) × NoColour colour) }
 {
     let colour = colour_of(colour)?;
-    *count = put_points(&game.legal_points(colour), points);
+    let mut legal = ArrayVec::new();
+    game.legal_points_into(colour, &mut legal);
+    *count = put_points(&legal, points);
     Ok(())
 }
 

@@ -1,8 +1,7 @@
 -- The list of the points on which a colour may play, place by place.
-use Rattle.std.proofs.Common.{◌≡◌, ℕ, ◌+◌, ◌-◌, ◌*◌, ◌/◌, ◌%◌, ◌<◌, ◌≤◌, List, [], ◌∷◌, ◌++◌, length, get_or, Contains}
+use Rattle.std.proofs.Common.{◌≡◌, ℕ, ◌+◌, ◌<◌, ◌≤◌, List, [], ◌∷◌, ◌++◌, get_or, Contains}
 use Rattle.std.proofs.Common.{sym, subst, arith, inl, inr}
-use Rattle.std.specs.Prelude.{◌↔◌}
-use Rattle.std.specs.List.{AllPairs}
+use Rattle.std.proofs.lemmas.Bool.{cases_lt}
 use Rattle.std.proofs.lemmas.List.{length_push}
 use Rattle.std.proofs.lemmas.List.Elements.{Contains-push, Contains-push_cases, Contains-append_left, Contains-get_or}
 use Rattle.std.proofs.lemmas.List.Quantifiers.{all_pairs_push}
@@ -11,18 +10,8 @@ use Rattle.go_base.specs.Size.{most_size}
 use Rattle.go_base.specs.declared.colours.Colour.{Colour}
 use Rattle.go_base.specs.declared.vertices.Vertex.TheVariants.{At}
 use Rattle.go_board.specs.Game.{GameRecord, IsGame, IsLegal}
+use Rattle.go_board.specs.private.Columns.{AreLegalBefore}
 use Rattle.go_board.proofs.General.{earlier_or_last}
-
--- how many points of the largest board are before this place
-abbrev pub points_before : ℕ → ℕ
-points_before n = 25 * (n / 26 - 1) + (n % 26 - 1)
-
--- the list has the points before a place on which the colour may play, in order
-pub record AreLegalBefore (game : GameRecord) (c : Colour) (n : ℕ) (points : List ℕ) : Type 0 where
-  pub each : (p : ℕ) → Contains points p ↔ ((p < n) × IsLegal game c (At p))
-  pub in_order : AllPairs (λ p q. p < q) points
-  pub few : length points ≤ points_before n
-  pub begun : 27 ≤ n
 
 -- a point on which the colour may play is one of the largest board
 pub legal-on : (game : GameRecord) (c : Colour) (p : ℕ) → IsGame game → IsLegal game c (At p) → IsOn most_size p
@@ -60,18 +49,18 @@ legal-one game c n points new g a legal pushed = subst (AreLegalBefore game c (n
   begun = let begun = a.begun in omega (arith, begun);
 })
 
--- the place isn't
-pub legal-none : (game : GameRecord) (c : Colour) (n : ℕ) (points : List ℕ) → AreLegalBefore game c n points
-    → ¬ IsLegal game c (At n) → AreLegalBefore game c (n + 1) points
-legal-none game c n points a illegal = record {
+-- no point from one place up to another is legal
+pub legal-skip : (game : GameRecord) (c : Colour) (n m : ℕ) (points : List ℕ) → n ≤ m → AreLegalBefore game c n points
+    → ((p : ℕ) → n ≤ p → p < m → ¬ IsLegal game c (At p)) → AreLegalBefore game c m points
+legal-skip game c n m points up a none = record {
   each = λ p. (
-    (λ h. let was = (a.each p).0 h in let below = was.0 in (omega (arith, below), was.1)),
-    (λ h. elim (earlier_or_last p n h.0) [
-      | inl earlier ↦ (a.each p).1 (earlier, h.1)
-      | inr last ↦ absurd (illegal (subst (λ (q : ℕ). IsLegal game c (At q)) last h.1))
+    (λ h. let was = (a.each p).0 h in let below = was.0 in (omega (arith, below, up), was.1)),
+    (λ h. elim (cases_lt p n) [
+      | inl before ↦ (a.each p).1 (before, h.1)
+      | inr from ↦ absurd (none p from h.0 h.1)
     ]),
   );
   in_order = a.in_order;
-  few = let few = a.few in let begun = a.begun in omega (arith, few, begun);
-  begun = let begun = a.begun in omega (arith, begun);
+  few = let few = a.few in let begun = a.begun in omega (arith, few, begun, up);
+  begun = let begun = a.begun in omega (arith, begun, up);
 }

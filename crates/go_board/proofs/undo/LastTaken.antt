@@ -32,7 +32,7 @@ use Rattle.go_board.proofs.captures.CapturedStones.{holds-yes, holds-true, in_li
 use Rattle.go_board.proofs.ids.Paths.{IsStone-filled}
 use Rattle.go_board.proofs.of_laws.BoardsAndScores.{play-leaves}
 use Rattle.go_board.proofs.records.EveryGame.{IsOrderly-game, board-with_move, framed-game}
-use Rattle.go_board.proofs.records.LegalPoints.{points_before}
+use Rattle.go_board.specs.private.Columns.{points_before}
 use Rattle.go_board.proofs.records.Moves.{IsBeforeMove, by_moves, without_last-with_move}
 use Rattle.go_board.proofs.records.TakenStack.{stack_of-with_move}
 use Rattle.go_board.proofs.scores.HowMany.{listed}

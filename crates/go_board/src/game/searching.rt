@@ -1,11 +1,13 @@
 //! What a search asks of a game beside its board: all legal points, the chain of a stone, the stones that the last move
 //! took, and a hash of the board.
-ghost use Rattle.std.specs.Prelude.{◌≡◌, ◌<◌, ◌↔◌, IsTrue, MatchOption};
+ghost use Rattle.std.specs.Prelude.{◌≡◌, ◌+◌, ◌*◌, ◌<◌, ◌↔◌, IsTrue, MatchOption};
 ghost use Rattle.go_board.specs.Board.{place_count};
 
 use super::Game;
-use crate::board::{Cell, ROW, place_of, point_at};
+use crate::board::{Cell, ROW, place_of, point_at, point_in};
+use crate::columns::Columns;
 use crate::places::Places;
+use crate::rules::KoRule;
 use arrayvec::ArrayVec;
 use go_base::{Colour, Point, Vertex};
 
@@ -31,20 +33,96 @@ impl Game {
     ghost use Rattle.go_board.specs.LastTaken.{AreTakenByLast};
     ghost use Rattle.go_board.specs.LegalPoints.{AreLegalPoints};
     ghost use Rattle.go_board.specs.Liberties.{IsChainAt};
+    ghost use Rattle.go_board.specs.private.Columns.{AreEmptyIn, AreOpenIn, AreSureIn, AreLegalIn, AreLegalBefore};
 
     /// The points on which a colour may play next, in the order A1, B1, .., A2, B2, ...: those for which `legal`
-    /// returns true. Places without an empty point are passed over.
+    /// returns true.
     pub fn legal_points(&self, colour: Colour) -> ArrayVec<Point, MOST_POINTS>
         ensures { AreLegalPoints self.now colour result.items }
     {
-        let lines = self.size().get() as usize;
         let mut points = ArrayVec::new();
-        for place in ROW + 1..ROW * (lines + 1) {
-            if self.is_legal_at(colour, place) {
-                points.push(point_at(place));
+        self.legal_points_into(colour, &mut points);
+        points
+    }
+
+    /// Makes a list that of the points on which a colour may play next, as `legal_points` returns it. What the list had
+    /// goes. A search that asks again and again needs no new list each time.
+    pub fn legal_points_into(&self, colour: Colour, points: &mut ArrayVec<Point, MOST_POINTS>)
+        ensures { AreLegalPoints self.now colour points.new.items }
+    {
+        let lines = self.size().get() as usize;
+        let board = self.chains.board();
+        points.clear();
+        let mut below = Columns::none();
+        let mut here = board.empty_in_row(1);
+        for row in 1..lines + 1 {
+            let above = board.empty_in_row(row + 1);
+            let sure = self.sure_in_row(row, here.beside_any(below, above));
+            self.push_legal(colour, row, here, sure, points);
+            below = here;
+            here = above;
+        }
+    }
+
+    /// The columns of a row where either colour may surely play, among those of its empty points that have another one
+    /// beside them. There a new stone has a liberty, and simple ko forbids no point but the ko point. Under positional
+    /// ko no point is sure.
+    #[inline]
+    fn sure_in_row(&self, row: usize, open_points: Columns) -> Columns
+        requires { AreOpenIn (board_of self.now) row open_points }
+        ensures { AreSureIn self.now row result }
+    {
+        let mut sure = match self.rule {
+            KoRule::Simple => open_points,
+            KoRule::Positional => return Columns::none(),
+        };
+        if let Some(ko) = self.ko {
+            if ko.point / ROW == row {
+                sure.remove(ko.point % ROW);
             }
         }
-        points
+        sure
+    }
+
+    /// The columns of a row where a colour may play: the sure ones, and those of the other empty points for which
+    /// `legal` returns true.
+    #[inline]
+    fn legal_in_row(&self, colour: Colour, row: usize, empty: Columns, sure: Columns) -> Columns
+        requires row { row < 27 }
+        requires empty { AreEmptyIn (board_of self.now) row empty }
+        requires sure { AreSureIn self.now row sure }
+        ensures { AreLegalIn self.now colour row result }
+    {
+        let mut legal = sure;
+        let mut left = empty.without(sure);
+        while let Some(column) = left.pop_first() {
+            legal.add_if(self.is_legal_at(colour, ROW * row + column), column);
+        }
+        legal
+    }
+
+    /// Pushes the points of a row on which a colour may play.
+    #[inline]
+    fn push_legal(
+        &self,
+        colour: Colour,
+        row: usize,
+        empty: Columns,
+        sure: Columns,
+        points: &mut ArrayVec<Point, MOST_POINTS>,
+    )
+        requires row { row < 27 }
+        requires empty { AreEmptyIn (board_of self.now) row empty }
+        requires sure { AreSureIn self.now row sure }
+        requires before { AreLegalBefore self.now colour (26 * row) points.old.items }
+        ensures { AreLegalBefore self.now colour (26 * (row + 1)) points.new.items }
+    {
+        // A look: this is a game.
+        let _ = &self.size;
+        let mut legal = self.legal_in_row(colour, row, empty, sure);
+        while let Some(column) = legal.pop_first() {
+            points.push(point_in(row, column));
+        }
     }
 
     /// Whether a place is a point on which a colour may play next.
@@ -53,7 +131,9 @@ impl Game {
         requires { place < place_count }
         ensures { IsTrue result ↔ IsLegal self.now colour (At place) }
     {
-        self.chains.at(place) == Cell::Empty && self.legal(colour, Vertex::At(point_at(place)))
+        self.chains.at(place) == Cell::Empty
+            && self.chains.would_be_free(colour, place)
+            && !self.repeats(colour, point_at(place))
     }
 
     /// The chain of the stone on a point: `None` where the point is empty or off the board.

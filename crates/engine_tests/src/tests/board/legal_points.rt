@@ -1,8 +1,8 @@
 //! The points on which a colour may play, all in one call.
-use super::{new_game, play_all};
+use super::{new_game, new_game_under, play_all};
 use crate::equal::{assert_equal, assert_equal_for, some};
 use go_base::{Colour, Point, Vertex};
-use go_board::Game;
+use go_board::{Game, KoRule};
 use std::process::Abort;
 
 /// The points are these: their names, with spaces between.
@@ -39,8 +39,25 @@ fn each_legal_point_is_listed(rt: HostRuntime) {
     for (lines, moves, black, white) in &POSITIONS {
         let mut game = new_game(&rt, *lines);
         play_all(&rt, &mut game, moves);
-        assert_points(&rt, moves, &game.legal_points(Colour::Black), black);
+        let mut points = game.legal_points(Colour::Black);
+        assert_points(&rt, moves, &points, black);
         assert_points(&rt, moves, &game.legal_points(Colour::White), white);
+        // What the list had goes.
+        game.legal_points_into(Colour::White, &mut points);
+        assert_points(&rt, moves, &points, white);
+    }
+}
+
+/// White takes three stones by one on B1. Black's play on A1 would then make the board of the first two moves again,
+/// which only positional superko forbids. The point beside A1 is empty.
+#[test]
+fn superko_forbids_a_point_beside_an_empty_one(rt: HostRuntime) {
+    for (rule, black) in [(KoRule::Simple, "A1 A2 B2"), (KoRule::Positional, "A2 B2")] {
+        let mut game = new_game_under(&rt, 2, rule);
+        let moves = "bA1 wB1 bA2 wpass bB2 wB1";
+        play_all(&rt, &mut game, moves);
+        assert_points(&rt, moves, &game.legal_points(Colour::Black), black);
+        assert_points(&rt, moves, &game.legal_points(Colour::White), "A1 A2 B2");
     }
 }
 
