@@ -7,8 +7,8 @@ use Rattle.std.specs.Int.{bit_at}
 use Rattle.std.proofs.lemmas.Bool.{cases_eq, cases_lt, cases_order, eqb-true, eq-eqb}
 use Rattle.std.proofs.lemmas.Nat.{and_le_l, and_le_r, or_lt, one_shl, pow_pos, pow-add, shr-shr, shr_split, mod-pow-add}
 use Rattle.std.proofs.lemmas.Nat.Bits.{bit_at-suc, bit_at-zero, bit_at_and, bit_at_or, bit_at_not, bit_at-lt}
-use Rattle.std.proofs.lemmas.Nat.Bits.{bit_at-trailing_zeros, bit_at_set_same, bit_at_set_other, bit_at_clear_same}
-use Rattle.std.proofs.lemmas.Nat.Bits.{bit_at_clear_other, bit_at_above, bit_at_cat_low, bit_at_cat_high}
+use Rattle.std.proofs.lemmas.Nat.Bits.{bit_at-trailing_zeros, bit_at_set_same, bit_at_set_other}
+use Rattle.std.proofs.lemmas.Nat.Bits.{bit_at_above, bit_at_cat_low, bit_at_cat_high}
 use Rattle.std.proofs.lemmas.Nat.Bits.{bit_at_ones_above, same_from_bits, same_from_bits_below}
 use Rattle.std.proofs.lemmas.Simd.{bitmask_splat, bit_mask_l}
 use Rattle.std.proofs.Math.ListN.{get_or-map}
@@ -173,27 +173,6 @@ small-with_one columns true one small below =
     let in_word : 1 * 2 ^ one % 4294967296 ≡ 2 ^ one = one_shl one 32 (omega (arith, below)) in
     or_lt 26 columns (1 * 2 ^ one % 4294967296) small (subst (λ (n : ℕ). n < 2 ^ 26) (sym in_word) (pow-lt below))
 small-with_one columns false one small below = or_lt 26 columns (0 * 2 ^ one % 4294967296) small (omega arith)
-
-abbrev pub without_one : ℕ → ℕ → ℕ
-without_one columns k = bit_and columns (4294967295 - 1 * 2 ^ k % 4294967296)
-
-pub has-without_one : (columns one k : ℕ) → AreColumns columns → one < 26
-    → Has (without_one columns one) k ↔ (Has columns k × (k ≢ one))
-has-without_one columns one k small below =
-    let in_word : one < 32 = omega (arith, below) in (
-      (λ h. elim (cases_eq k one) [
-        | inl same ↦
-            unequal (Has columns k × (k ≢ one)) (bit_at (without_one columns one) k)
-            (ap (bit_at (without_one columns one)) same ∙ bit_at_clear_same w32 columns one in_word) h
-        | inr other ↦
-            let low = within (without_one columns one) k
-            (lt_of_le_of_lt (and_le_l columns (4294967295 - 1 * 2 ^ one % 4294967296)) small) h in
-            (sym (bit_at_clear_other w32 columns one in_word k (omega (arith, low)) other) ∙ h, other)
-      ]),
-      (λ h.
-          let low = within columns k small h.0 in
-          bit_at_clear_other w32 columns one in_word k (omega (arith, low)) h.1 ∙ h.0),
-    )
 
 -- ---- the first column
 

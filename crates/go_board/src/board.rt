@@ -88,7 +88,7 @@ pub fn point_at(place: usize) -> Point
     }
 }
 
-/// The point of a row and a column, where it is one.
+/// The point of a row and a column that have one.
 #[inline]
 pub fn point_in(row: usize, column: usize) -> Point
     requires point { IsOn most_size (26 * row + column) }
@@ -216,7 +216,7 @@ impl Board {
         requires { row < 27 }
         ensures { AreEmptyIn self.now row result }
     {
-        // The places of the row are the lanes of a vector, so that all are compared at once.
+        // A byte for each place, so that the compiler can make a vector of them.
         let mut lanes = [0; 32];
         for column in 0..ROW {
             lanes[column] = (self.cells[ROW * row + column] == Cell::Empty) as u8;

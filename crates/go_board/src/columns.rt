@@ -8,7 +8,7 @@ use std::simd::prelude::*;
 /// Columns of a row of places. A search of all points looks at a whole row at once in this way.
 #[derive(Clone, Copy)]
 pub struct Columns {
-    /// One for each column, the first in the lowest.
+    /// A bit for each column, the first in the lowest.
     bits: u32,
 }
 
@@ -58,15 +58,6 @@ impl Columns {
         self.bits |= (wanted as u32) << column;
     }
 
-    /// Removes a column.
-    #[inline]
-    pub fn remove(&mut self, column: usize)
-        requires { column < 26 }
-        ensures { (k : ℕ) → Has self.new k ↔ (Has self.old k × (k ≢ column)) }
-    {
-        self.bits &= !(1 << column);
-    }
-
     /// Removes the first column, and returns it: `None` where there is none.
     #[inline]
     pub fn pop_first(&mut self) -> Option<usize>
@@ -90,7 +81,7 @@ impl Columns {
         }
     }
 
-    /// Those columns that have one of these columns beside them, or one of the rows below and above.
+    /// Those columns that have another of them beside them, or that are also in the row below or above.
     #[inline]
     pub fn beside_any(self, below: Columns, above: Columns) -> Self
         ensures { (k : ℕ) → Has result k ↔ (Has self k × IsBesideAny self below above k) }

@@ -1,8 +1,8 @@
 -- The points of a row on which a colour may play.
-use Rattle.std.proofs.Common.{◌≡◌, ◌≢◌, ℕ, ◌+◌, ◌-◌, ◌*◌, ◌<◌, ◌≤◌, List, ◌∷◌, [], ◌++◌}
+use Rattle.std.proofs.Common.{◌≡◌, ℕ, ◌+◌, ◌-◌, ◌*◌, ◌<◌, ◌≤◌, List, ◌∷◌, [], ◌++◌}
 use Rattle.std.proofs.Common.{sym, ◌∙◌, subst, arith, inl, inr}
 use Rattle.std.specs.Int.{bit_at}
-use Rattle.std.specs.Prelude.{◌↔◌, ◌⊎◌, Option, Some, None}
+use Rattle.std.specs.Prelude.{◌↔◌, ◌⊎◌, Some, None}
 use Rattle.std.proofs.lemmas.Bool.{cases_eq}
 use Rattle.go_base.specs.declared.colours.Colour.{Colour}
 use Rattle.go_base.specs.declared.vertices.Vertex.TheVariants.{At}
@@ -13,51 +13,38 @@ use Rattle.go_board.specs.Play.{play}
 use Rattle.go_board.specs.declared.board.Cell.{Cell}
 use Rattle.go_board.specs.declared.board.Cell.TheVariants.{Empty}
 use Rattle.go_board.specs.declared.game.Game.TheInside.{Inside}
-use Rattle.go_board.specs.declared.ko.Ko.{Ko}
 use Rattle.go_board.specs.declared.rules.KoRule.{KoRule}
 use Rattle.go_board.specs.declared.rules.KoRule.TheVariants.{Simple}
 use Rattle.go_board.specs.private.Columns.{Has, IsFirst, IsBesideAny, AreEmptyIn, AreOpenIn, AreSureIn}
 use Rattle.go_board.specs.private.Columns.{AreLegalBefore}
 use Rattle.go_board.specs.private.Kept.{record_of, IsKept}
 use Rattle.go_board.specs.private.ChainId.{AreFree}
-use Rattle.go_board.specs.private.Ko.{IsKoPlay}
 use Rattle.go_board.proofs.captures.FreeStones.{free-beside}
+use Rattle.go_board.proofs.ko_rules.KoPoints.{never-repeats}
 use Rattle.go_board.proofs.records.LegalPoints.{legal-one, legal-skip}
 
 -- ---- sure points
 
 abbrev SurelyLegal : Inside → Colour → ℕ → GameRecord → Type 0
 SurelyLegal f c p game =
-    at (board_of game) p ≡ Empty → HasBeside (board_of game) p Empty → ¬ IsKoPlay f.ko (board_of game) c p
-    → IsLegal game c (At p)
+    at (board_of game) p ≡ Empty → HasBeside (board_of game) p Empty → IsLegal game c (At p)
 
--- under simple ko a play on an empty point with another one beside it is legal, unless it is at the ko point
+-- under simple ko a play on an empty point with another one beside it is legal
 surely-kept : (f : Inside) (c : Colour) (p : ℕ) → IsKept f → f.rule ≡ Simple → SurelyLegal f c p (record_of f)
-surely-kept f c p kept rule empty beside no_ko =
+surely-kept f c p kept rule empty beside =
     let here : at f.chains p ≡ Empty = subst (λ (b : List Cell). at b p ≡ Empty) (sym kept.board_is) empty in
     record {
       on_board = (kept.has_size p).0 (λ edge. let both = sym here ∙ edge in cc);
       empty = empty;
-      free =
-          free-beside (board_of (record_of f)) c p empty
-          (subst AreFree kept.board_is kept.free) beside;
+      free = free-beside (board_of (record_of f)) c p empty (subst AreFree kept.board_is kept.free) beside;
       no_ko = λ repeats.
-          no_ko ((kept.ko_is c p empty).0
-          (subst (λ (r : KoRule). RepeatsBy r (record_of f) (play (board_of (record_of f)) c p)) rule repeats));
+          never-repeats (record_of f) kept.game c p empty beside
+          (subst (λ (r : KoRule). RepeatsBy r (record_of f) (play (board_of (record_of f)) c p)) rule repeats);
     }
 
 pub surely-legal : (f : Inside) (game : GameRecord) (c : Colour) (p : ℕ) → record_of f ≡ game → IsKept f
     → f.rule ≡ Simple → SurelyLegal f c p game
 surely-legal f game c p is kept rule = subst (SurelyLegal f c p) is (surely-kept f c p kept rule)
-
--- no play is at the ko point, where there is none
-pub no-ko : (ko : Option Ko) (board : List Cell) (c : Colour) (p : ℕ) → ko ≡ None → ¬ IsKoPlay ko board c p
-no-ko ko board c p none play = subst (λ (k : Option Ko). IsKoPlay k board c p) none play
-
--- one on another point isn't
-pub not-at_ko : (ko : Option Ko) (one : Ko) (board : List Cell) (c : Colour) (p : ℕ) → ko ≡ Some one → p ≢ one.point
-    → ¬ IsKoPlay ko board c p
-not-at_ko ko one board c p is other play = other ((subst (λ (k : Option Ko). IsKoPlay k board c p) is play).0)
 
 -- ---- open points
 
@@ -103,7 +90,7 @@ open-from board row below here above columns some is_below is_here is_above is k
 
 -- ---- the legal points of a row
 
--- so far: the columns found so are legal, and each legal one is found or left
+-- so far: the columns found are legal, and each legal one is found or left
 pub record AreSorted (game : GameRecord) (c : Colour) (row legal left : ℕ) : Type 0 where
   pub found : (k : ℕ) → Has legal k → (k < 26) × IsLegal game c (At (26 * row + k))
   pub each : (k : ℕ) → k < 26 → IsLegal game c (At (26 * row + k)) → Has legal k ⊎ Has left k
@@ -184,7 +171,8 @@ pushed-all game c row old left points a is =
 
 -- ---- all rows
 
--- so far: the list has the legal points of the rows before, and the empty points of two rows are known
+-- so far: the list has the legal points of the rows before; the columns below are of empty points, and those of this
+-- row are all its empty points
 pub record AreWalked (game : GameRecord) (c : Colour) (row below here : ℕ) (points : List ℕ) : Type 0 where
   pub under : AreOfEmpty (board_of game) (row - 1) below
   pub row_is : AreEmptyIn (board_of game) row here

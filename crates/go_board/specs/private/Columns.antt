@@ -1,4 +1,4 @@
--- Sets of columns of a row of places. (Own: how a search of all points passes over those that hold no point.)
+-- Sets of columns of a row of places. (Own: how a search of all points looks at a row at once.)
 --
 -- A set is a number of 26 bits, one for each place of the row.
 use Rattle.std.specs.Prelude.{◌≡◌, ◌≢◌, ℕ, ◌+◌, ◌-◌, ◌*◌, ◌/◌, ◌%◌, ◌^◌, ◌<◌, ◌≤◌, ◌↔◌, ◌⊎◌, List, Option, Some, None}
@@ -25,15 +25,15 @@ AreColumns columns = columns < 2 ^ 26
 abbrev pub AreLanes : List ℕ → Type 0
 AreLanes lanes = (length lanes ≡ 32) × ((k : ℕ) → get_or lanes k 0 ≡ 1 → k < 26)
 
--- the first column of a set left it, and the others stayed; a set without a column stays as it was
+-- The first column of a set left it, and the others stayed. It is one of a row, and the set's number fell. A set
+-- without a column stayed as it was.
 abbrev pub IsFirst : ℕ → ℕ → Option ℕ → Type 0
 IsFirst old new None = (new ≡ old) × ((k : ℕ) → ¬ Has old k)
 IsFirst old new (Some first) =
     Has old first × (first < 26) × (new < old) × ((k : ℕ) → Has old k → first ≤ k)
     × ((k : ℕ) → Has new k ↔ (Has old k × (k ≢ first)))
 
--- beside a column of a row, or below or above it, is one of these sets: those of its own row, the row below and the row
--- above
+-- the set of its own row has a column beside this one, or the set of the row below or above has this one
 abbrev pub IsBesideAny : ℕ → ℕ → ℕ → ℕ → Type 0
 IsBesideAny row below above k =
     ((j : ℕ) × (k ≡ j + 1) × Has row j) ⊎ (Has row (k + 1) ⊎ (Has below k ⊎ Has above k))
@@ -57,11 +57,13 @@ AreSureIn game row columns =
 abbrev pub AreLegalIn : GameRecord → Colour → ℕ → ℕ → Type 0
 AreLegalIn game c row columns = (k : ℕ) → Has columns k ↔ ((k < 26) × IsLegal game c (At (26 * row + k)))
 
--- how many points of the largest board are before this place
+-- how many points of the largest board are before this place, which is past the lowest row of edge and at most the
+-- first place after the points
 abbrev pub points_before : ℕ → ℕ
 points_before n = 25 * (n / 26 - 1) + (n % 26 - 1)
 
--- the list has the points before a place on which the colour may play, in order
+-- The list has each point before a place on which the colour may play, and no other, in order. They are at most as many
+-- as the largest board has there. The place is past the lowest row of edge.
 pub record AreLegalBefore (game : GameRecord) (c : Colour) (n : ℕ) (points : List ℕ) : Type 0 where
   pub each : (p : ℕ) → Contains points p ↔ ((p < n) × IsLegal game c (At p))
   pub in_order : AllPairs (λ p q. p < q) points

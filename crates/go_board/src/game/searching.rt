@@ -9,7 +9,7 @@ use crate::columns::Columns;
 use crate::places::Places;
 use crate::rules::KoRule;
 use arrayvec::ArrayVec;
-use go_base::{Colour, Point, Vertex};
+use go_base::{Colour, Point};
 
 /// As many points as the largest board has, 25 to a row.
 pub const MOST_POINTS: usize = 625;
@@ -45,8 +45,8 @@ impl Game {
         points
     }
 
-    /// Makes a list that of the points on which a colour may play next, as `legal_points` returns it. What the list had
-    /// goes. A search that asks again and again needs no new list each time.
+    /// Makes a list the one that `legal_points` returns. What it had goes. A search that asks again and again needs no
+    /// new list each time.
     pub fn legal_points_into(&self, colour: Colour, points: &mut ArrayVec<Point, MOST_POINTS>)
         ensures { AreLegalPoints self.now colour points.new.items }
     {
@@ -64,24 +64,18 @@ impl Game {
         }
     }
 
-    /// The columns of a row where either colour may surely play, among those of its empty points that have another one
-    /// beside them. There a new stone has a liberty, and simple ko forbids no point but the ko point. Under positional
-    /// ko no point is sure.
+    /// The columns where either colour may surely play, among a row's empty points with another one beside them. There
+    /// a new stone has a liberty, and a play never brings back the board before the last move, for the ko point has no
+    /// empty point beside it. Under positional ko no point is sure.
     #[inline]
     fn sure_in_row(&self, row: usize, open_points: Columns) -> Columns
         requires { AreOpenIn (board_of self.now) row open_points }
         ensures { AreSureIn self.now row result }
     {
-        let mut sure = match self.rule {
+        match self.rule {
             KoRule::Simple => open_points,
-            KoRule::Positional => return Columns::none(),
-        };
-        if let Some(ko) = self.ko {
-            if ko.point / ROW == row {
-                sure.remove(ko.point % ROW);
-            }
+            KoRule::Positional => Columns::none(),
         }
-        sure
     }
 
     /// The columns of a row where a colour may play: the sure ones, and those of the other empty points for which

@@ -48,8 +48,8 @@ fn each_legal_point_is_listed(rt: HostRuntime) {
     }
 }
 
-/// White takes three stones by one on B1. Black's play on A1 would then make the board of the first two moves again,
-/// which only positional superko forbids. The point beside A1 is empty.
+/// White's play on B1 takes three stones. Black's play on A1 would then make the board of the first two moves again,
+/// which only positional superko forbids. A2, beside it, is empty.
 #[test]
 fn superko_forbids_a_point_beside_an_empty_one(rt: HostRuntime) {
     for (rule, black) in [(KoRule::Simple, "A1 A2 B2"), (KoRule::Positional, "A2 B2")] {
