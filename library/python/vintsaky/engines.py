@@ -104,7 +104,8 @@ class Steps(Held):
         is_text = isinstance(choice, (str, bytes))
         resigns = is_text and ascii_of(choice, "the choice").lower() == b"resign"  # type: ignore[arg-type]
         number = _library.RESIGN if resigns else vertex_number(choice)
-        done(library.vintsaky_engine_choose(self._held(), number), f"the choice {choice}")
+        shown = choice.decode() if isinstance(choice, bytes) else choice
+        done(library.vintsaky_engine_choose(self._held(), number), f"the choice {shown}")
 
     def answer(self, text: Union[str, bytes] = "", ok: bool = True) -> None:
         """Answers the line of another command: by a success, or by a failure. Causes: NOT_ASKED, or BAD_TEXT where no

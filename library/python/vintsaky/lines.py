@@ -3,7 +3,7 @@ from __future__ import annotations
 
 import ctypes
 from enum import IntEnum
-from typing import Any, ClassVar, List, NamedTuple, Optional, Tuple, Union
+from typing import Any, ClassVar, Dict, List, NamedTuple, Optional, Tuple, Union
 
 from . import _library
 from ._held import Bytes, Held, ascii_of, bytes_of, whole
@@ -167,7 +167,8 @@ def write_command(command: Command, *arguments: Any, id: Optional[int] = None) -
     b'5 play b D4\\n'
     """
     kind, number = whole(command, "the command"), id_number(id)
-    wanted = {Command.PLAY: 2, Command.CLEAR_BOARD: 0, Command.UNDO: 0, Command.QUIT: 0}.get(kind, 1)
+    counts: Dict[int, int] = {Command.PLAY: 2, Command.CLEAR_BOARD: 0, Command.UNDO: 0, Command.QUIT: 0}
+    wanted = counts.get(kind, 1)
     if kind in list(Command) and len(arguments) != wanted:
         raise TypeError(f"{Command(kind).name} has {wanted} arguments, and not {len(arguments)}")
     value = vertex = 0
