@@ -1,0 +1,131 @@
+"""The manifests of the workspace."""
+import re
+
+# The other crates: what a member's manifest says of each, and what the workspace's does. The kit's ports of the last three have
+# another interface, which a shim has over them.
+OTHERS = {
+    "arrayvec": 'version = "0.7.2", default-features = false',
+    "thiserror": 'version = "1.0.38"',
+    "rand_pcg": 'version = "0.3.1", default-features = false',
+    "rand_core": 'version = "0.6.3", default-features = false',
+    "hex": 'version = "0.4.3", default-features = false, features = ["alloc"]',
+    "clap": 'version = "4.0.32", default-features = false, features = ["std", "help", "usage", "error-context", "suggestions", "string"]',
+}
+SHIMMED = ("rand_core", "hex", "clap")
+SHIMS = ("kit_ffi", "kit_simd", "kit_std")
+# Why each lint of clippy is allowed. The sources are proved as they are, and a change has to make them better in itself.
+LINTS = """\
+[workspace.lints.rust]
+unexpected_cfgs = { level = "warn", check-cfg = ["cfg(kit_portable)"] }
+# The check wants an import, or a field, that Rust has no use for.
+unused_imports = "allow"
+dead_code = "allow"
+# A test is given the runtime, which it needs for an assertion in the kit alone.
+unused_variables = "allow"
+# A function of the library is unsafe as a whole where a C caller passes pointers.
+unsafe_op_in_unsafe_fn = "allow"
+mismatched_lifetime_syntaxes = "allow"
+
+[workspace.lints.clippy]
+# The check proves a `match` or an `if` without help. In a closure it wants clauses.
+manual_map = "allow"
+manual_ok_err = "allow"
+match_like_matches_macro = "allow"
+collapsible_if = "allow"
+single_match = "allow"
+manual_contains = "allow"
+# The kit's numbers lack these calls, or they aren't proved as plainly.
+manual_is_multiple_of = "allow"
+manual_range_contains = "allow"
+manual_div_ceil = "allow"
+len_zero = "allow"
+# Memory is taken nowhere, so no variant can be boxed.
+large_enum_variant = "allow"
+# A `Default` is an impl more to prove, which nobody calls.
+new_without_default = "allow"
+# An index is proved to be in its bounds, and is used for more than one list.
+needless_range_loop = "allow"
+# The check wants the reference to be followed, and the lifetime to be named.
+explicit_auto_deref = "allow"
+needless_lifetimes = "allow"
+needless_question_mark = "allow"
+# A record of arguments would say the same.
+too_many_arguments = "allow"
+type_complexity = "allow"
+"""
+WORKSPACE = """\
+# Made by cargo/strip. Change the sources, and make it anew.
+[workspace]
+resolver = "3"
+members = [{members}]
+exclude = ["others"]
+
+[workspace.package]
+version = "{version}"
+edition = "2024"
+rust-version = "1.87"
+publish = false
+
+[workspace.dependencies]
+{others}
+{lints}
+[profile.release]
+lto = "fat"
+codegen-units = 1
+panic = "abort"
+
+# The tests look for overflows, and are not slow.
+[profile.dev]
+opt-level = 1
+debug = false
+"""
+
+
+def rows_of(listing):
+    """The rows of crates.txt: a name, whether it is a static library, and what it depends on."""
+    for line in listing.splitlines():
+        head, colon, needs = line.split("#")[0].partition(":")
+        if colon:
+            name, *kind = head.split()
+            yield name, "staticlib" in kind, needs.split()
+
+
+def dependency(name):
+    """What a crate's manifest says of one that it depends on."""
+    if name in SHIMMED:
+        return f'{name} = {{ package = "kit_{name}", path = "../../shims/{name}" }}'
+    if name in OTHERS:
+        return f"{name}.workspace = true"
+    return f'{name} = {{ path = "../{"../shims/" if name in SHIMS else ""}{name}" }}'
+
+
+def manifest(name, is_library_of_c, is_program, needs, test_needs):
+    """The manifest of a crate."""
+    package = f"{name}_c" if is_library_of_c else name
+    inherited = "".join(f"{key}.workspace = true\n" for key in ("version", "edition", "rust-version", "publish"))
+    text = f'[package]\nname = "{package}"\n{inherited}\n[lints]\nworkspace = true\n'
+    if is_library_of_c:
+        text += f'\n[lib]\nname = "{name}"\ncrate-type = ["staticlib", "cdylib"]\ndoc = false\n'
+    if is_program:
+        text += f'\n[[bin]]\nname = "{name}"\npath = "src/main.rs"\ntest = false\n'
+    text += "\n[dependencies]\n" + "".join(f"{dependency(need)}\n" for need in needs)
+    if test_needs:
+        text += "\n[dev-dependencies]\n" + "".join(f"{dependency(need)}\n" for need in test_needs)
+    return text
+
+
+def workspace(members, version, paths):
+    """The manifest of the workspace. `paths` has where each of the other crates lies, or nothing, where cargo finds them."""
+    others = ""
+    for name, wanted in OTHERS.items():
+        where = f', path = "{paths[name]}"' if paths else ""
+        others += f"{name} = {{ {wanted}{where} }}\n"
+    quoted = ", ".join(f'"{member}"' for member in members)
+    return WORKSPACE.format(members=quoted, version=version, others=others, lints=LINTS)
+
+
+def version_of(go_board):
+    """The version of all crates, which the text of one has, as Cargo writes it."""
+    found = re.search(r'pub const VERSION: &str = "([0-9.]+)";', go_board)
+    numbers = found.group(1).split(".")
+    return ".".join((numbers + ["0", "0"])[:3])

@@ -1,0 +1,130 @@
+"""The parts of a Rattle source: what Rust reads too, the clauses of contracts, and the ghosts, which are left out."""
+import re
+from typing import NamedTuple
+
+from .refused import Refused
+
+WORD = re.compile(r"[A-Za-z_][A-Za-z0-9_]*")
+NUMBER = re.compile(r"[0-9][A-Za-z0-9_]*(\.[0-9][A-Za-z0-9_]*)?")
+RAW = re.compile(r'(?:b|c)?r(#*)"')
+QUOTED = re.compile(r'(?:b|c)?"(?:[^"\\]|\\.)*"', re.S)
+CHARACTER = re.compile(r"b?'(?:[^'\\\n]|\\(?:x[0-9a-fA-F]{2}|u\{[0-9a-fA-F_]+\}|.))'")
+SPACE = re.compile(r"\s+")
+CLAUSE = re.compile(r"(?:requires|ensures)\*?\s*(?:[\w«»]+\s*)?(?=\{)")
+MODEL = re.compile(r"impl\b[^{};]*?\bModel\s+for\b[^{};]*(?=\{)")
+GHOST = re.compile(r"(?:pub(?:\([^)]*\))?\s+)?ghost\b")
+GHOST_USE = re.compile(r"\s+use\b")
+BY = re.compile(r"\s*by\s*(?=\{)")
+HIDDEN = ("doc", "note", "text")  # kinds of parts in which no code stands
+
+
+class Part(NamedTuple):
+    """A part of a source."""
+
+    kind: str  # space, doc, note, text, lifetime, word, number, mark, or clause
+    text: str
+    line: int
+
+
+def end_of_braces(text, at):
+    """Where the braced term ends that begins here. A term has primes, and no character literals."""
+    depth = 0
+    while at < len(text):
+        char = text[at]
+        if char == '"':
+            at = QUOTED.match(text, at).end()
+            continue
+        if text.startswith("--", at) and text[at - 1] in " \n":
+            at = text.index("\n", at)
+        if char in "{}":
+            depth += 1 if char == "{" else -1
+            if depth == 0:
+                return at + 1
+        at += 1
+    raise Refused("open brace", "a brace is not closed")
+
+
+def end_of_member(text, at):
+    """Where a ghost member or field ends: after its `;` or `,`, or at the brace that closes the struct."""
+    while at < len(text):
+        char = text[at]
+        if char == "{":
+            at = end_of_braces(text, at)
+        elif char in ";,":
+            return at + 1
+        elif char == "}":
+            return at
+        else:
+            at += 1
+    raise Refused("open ghost", "a ghost member has no end")
+
+
+def end_of_ghost(text, at):
+    """Where the ghost ends that is here: an import, a member, a clause or a model; None where there is none."""
+    if ghost := GHOST.match(text, at):
+        is_import = GHOST_USE.match(text, ghost.end())
+        return text.index(";", ghost.end()) + 1 if is_import else end_of_member(text, ghost.end())
+    if model := MODEL.match(text, at):
+        return end_of_braces(text, model.end())
+    if clause := CLAUSE.match(text, at):
+        end = end_of_braces(text, clause.end())
+        while by := BY.match(text, end):
+            end = end_of_braces(text, by.end())
+        return end
+    return None
+
+
+def comment(text, at):
+    """The kind of the comment that begins here, and its end."""
+    if text.startswith("/*", at):
+        return "note", text.index("*/", at) + 2
+    end = text.find("\n", at)
+    is_doc = text.startswith(("///", "//!"), at) and not text.startswith("////", at)
+    return ("doc" if is_doc else "note"), (len(text) if end < 0 else end)
+
+
+def part_of_rust(text, at):
+    """The kind of the part of Rust that begins here, and its end."""
+    if space := SPACE.match(text, at):
+        return "space", space.end()
+    if text.startswith(("//", "/*"), at):
+        return comment(text, at)
+    if raw := RAW.match(text, at):
+        close = '"' + raw.group(1)
+        return "text", text.index(close, raw.end()) + len(close)
+    for kind, form in (("text", QUOTED), ("text", CHARACTER), ("word", WORD), ("number", NUMBER)):
+        if found := form.match(text, at):
+            return kind, found.end()
+    if text[at] == "'" and (name := WORD.match(text, at + 1)):
+        return "lifetime", name.end()
+    return "mark", at + 1
+
+
+def notes_above(parts):
+    """Takes the plain comments off the end of the parts, which speak of what comes next, and returns them."""
+    notes = []
+    while parts and parts[-1].kind in ("space", "note"):
+        if parts[-1].kind == "space" and parts[-1].text.count("\n") > 1:
+            break
+        part = parts.pop()
+        if part.kind == "note":
+            notes.insert(0, part.text)
+    return notes
+
+
+def parts_of(text):
+    """The parts of a source. Of the ghosts there are the clauses alone, with the comments above them."""
+    parts = []
+    at, line = 0, 1
+    while at < len(text):
+        end = None if at and (text[at - 1].isalnum() or text[at - 1] == "_") else end_of_ghost(text, at)
+        if end is not None:
+            notes = notes_above(parts)
+            if CLAUSE.match(text, at):
+                parts.append(Part("clause", "\n".join([*notes, text[at:end]]), line))
+        else:
+            kind, end = part_of_rust(text, at)
+            parts.append(Part(kind, text[at:end], line))
+        line += text.count("\n", at, end)
+        at = end
+    return parts

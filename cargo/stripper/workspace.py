@@ -1,0 +1,84 @@
+"""The Cargo workspace: each crate of crates.txt as Rust, the shims, the crate for authors of Rust, and the other crates."""
+import shutil
+from pathlib import Path
+
+from . import manifests, others
+from .refused import Refused
+from .sources import files_of, stripped
+
+TOP = Path(__file__).resolve().parents[2]
+MADE = ("crates", "shims", "vintsaky")  # the folders of the workspace in which no other file may lie
+WHERE = {"registry": "cargo's registry", "debian": "Debian's packages"}
+
+
+def crates_of(top):
+    """Each file of the crates, by its path in the workspace."""
+    files = {}
+    for name, is_library_of_c, needs in manifests.rows_of((top / "crates.txt").read_text()):
+        folder = top / "crates" / name / "src"
+        shims, test_shims = set(), set()
+        for path, is_test in files_of(folder).items():
+            try:
+                text = stripped((folder / path).read_text(), is_test)
+            except Refused as refused:
+                refused.where = f"crates/{name}/src/{path}"
+                raise
+            named = {shim for shim in manifests.SHIMS if f"{shim}::" in text}
+            (test_shims if is_test else shims).update(named)
+            files[f"crates/{name}/src/{path.with_suffix('.rs')}"] = text
+        is_program = (folder / "main.rt").is_file()
+        files[f"crates/{name}/Cargo.toml"] = manifests.manifest(
+            name, is_library_of_c, is_program, [*needs, *sorted(shims)], sorted(test_shims - shims)
+        )
+    return files
+
+
+def copies_of(folder, at):
+    """Each file below a folder, by its path in the workspace."""
+    paths = (path for path in sorted(folder.rglob("*")) if path.is_file() and "target" not in path.relative_to(folder).parts)
+    return {f"{at}/{path.relative_to(folder)}": path.read_text() for path in paths}
+
+
+def files_of_workspace(top):
+    """Each file of the workspace but its manifest, by its path."""
+    return {**crates_of(top), **copies_of(top / "cargo/shims", "shims"), **copies_of(top / "library/rust", "vintsaky")}
+
+
+def write(path, text):
+    """Writes a file where it has another text, so that cargo builds anew what has changed."""
+    if not path.is_file() or path.read_text() != text:
+        path.parent.mkdir(parents=True, exist_ok=True)
+        path.write_text(text)
+
+
+def lay(workspace, files):
+    """Makes the files those of the workspace, and removes what else lies in its folders."""
+    for path, text in files.items():
+        write(workspace / path, text)
+    for folder in MADE:
+        for path in (workspace / folder).rglob("*"):
+            if path.is_file() and str(path.relative_to(workspace)) not in files:
+                path.unlink()
+    for path in sorted(workspace.glob("*/**"), reverse=True):
+        if path.relative_to(workspace).parts[0] in MADE and path.is_dir() and not any(path.iterdir()):
+            path.rmdir()
+
+
+def make(workspace, where=None):
+    """Writes the workspace, and returns where the other crates are from, by name and version."""
+    workspace = Path(workspace)
+    files = files_of_workspace(TOP)
+    members = sorted({"/".join(path.split("/")[:-1]) for path in files if path.count("/") <= 2 and path.endswith("/Cargo.toml")})
+    version = manifests.version_of((TOP / "crates/go_board/src/lib.rt").read_text())
+    lay(workspace, files)
+    before = (workspace / "Cargo.toml").read_text() if (workspace / "Cargo.toml").is_file() else ""
+    write(workspace / "Cargo.toml", manifests.workspace(members, version, {}))
+    if where != "debian" and others.are_fetched(workspace):
+        shutil.rmtree(workspace / "others", ignore_errors=True)
+        return "registry"
+    if where == "registry":
+        raise others.Missing("cargo doesn't reach its registry")
+    taken = others.taken_of_debian(workspace)
+    paths = others.copy(workspace, taken)
+    write(workspace / "Cargo.toml", manifests.workspace(members, version, paths))
+    return "debian"
