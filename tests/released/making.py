@@ -43,7 +43,7 @@ def copy_of(folder):
         (folder / name).parent.mkdir(parents=True, exist_ok=True)
         shutil.copy(TOP / name, folder / name, follow_symlinks=False)
     # nothing is to be proved here
-    (folder / "build").write_text(f'#!/bin/bash\n[ "$*" = "--needed {" ".join(PROGRAMS)} library" ]\n')
+    (folder / "build").write_text(f'#!/bin/bash\n[ "$*" = "--needed --proved {" ".join(PROGRAMS)} library" ]\n')
     subprocess.run(["git", "init", "-q"], cwd=folder, check=True, stderr=subprocess.DEVNULL)
     commit(folder, "What is released")
     (folder / "bin").mkdir()
