@@ -43,13 +43,13 @@ class Figures:
         self.statuses[ran.status] += 1
 
 
-def run(folder, trial):
+def run(folder, trial, limit=LIMIT):
     """What comes of a trial with the programs of this folder."""
     command = [f"./{trial.program}", *trial.words]
     try:
-        done = subprocess.run(command, cwd=folder, input=trial.text, capture_output=True, timeout=LIMIT)
+        done = subprocess.run(command, cwd=folder, input=trial.text, capture_output=True, timeout=limit)
     except subprocess.TimeoutExpired as late:
-        return Ran(late.stdout or b"", late.stderr or b"", f"none: still running after {LIMIT} seconds")
+        return Ran(late.stdout or b"", late.stderr or b"", f"none: still running after {limit} seconds")
     return Ran(done.stdout, done.stderr, done.returncode)
 
 
@@ -58,7 +58,18 @@ def differ(one, other):
     return one != other or isinstance(one.status, str)
 
 
-def compare(one, other, trials, workers=None):
+def is_of_clap(ran):
+    """Is what came of a trial a text of clap's own: the help, or a mistake in the arguments? One version of clap words it otherwise than
+    another."""
+    return (ran.status == 0 and b"\nUsage: " in b"\n" + ran.output) or (ran.status == 2 and not ran.output and ran.errors.startswith(b"error: "))
+
+
+def differ_but_for_clap(one, other):
+    """The same for builds with two versions of clap, whose texts are not compared."""
+    return differ(one, other) and not (is_of_clap(one) and is_of_clap(other))
+
+
+def compare(one, other, trials, workers=None, differ=differ):
     """Runs the trials with the programs of two folders, some at once. The differences, and the figures."""
     differences, figures = [], Figures()
     with ThreadPoolExecutor(workers or max(1, (os.cpu_count() or 2) // 2)) as pool:

@@ -3,6 +3,8 @@
 The kit's page FROM_RUST.md lists the forms that both take and that mean two things. What a form is of can't always be seen in
 the text. Then more is refused than differs, and the source has to say the same in another way.
 """
+import bisect
+import math
 import re
 from typing import NamedTuple
 
@@ -97,30 +99,36 @@ def refuse_methods_of_std(code, refuse):
             refuse(Form("method of std", "", f"the trait {trait.group(1)} has a method {named[0]}, as a trait of std has"), trait.start())
 
 
-def code_of(parts):
-    """The code without comments and texts, and the line of each character of it."""
-    code = ""
-    lines = []
-    for part in parts:
-        text = part.text
-        if part.kind in HIDDEN:
-            text = ("0" if part.kind == "text" else " ") + re.sub(r"[^\n]", " ", text[1:])
-        lines += [part.line + text.count("\n", 0, at) for at in range(len(text))]
-        code += text
-    return code, lines
+class Plain:
+    """Code in which comments are blank and each text is a 0."""
+
+    def __init__(self, parts):
+        self.text = ""
+        self.starts = []  # where each part begins, and its line
+        for part in parts:
+            self.starts.append((len(self.text), part.line))
+            shown = part.text
+            if part.kind in HIDDEN:
+                shown = ("0" if part.kind == "text" else "") + "\n" * part.text.count("\n")
+            self.text += shown
+
+    def line(self, at):
+        """The line of the source of a place in the text."""
+        start, line = self.starts[bisect.bisect(self.starts, (at, math.inf)) - 1]
+        return line + self.text.count("\n", start, at)
 
 
 def refuse_what_differs(parts):
     """Refuses a source, without its ghosts, that has a form which Rust takes with another meaning."""
-    code, lines = code_of(parts)
+    code = Plain(parts)
 
     def refuse(form, at):
-        raise Refused(form.name, form.why, lines[at])
+        raise Refused(form.name, form.why, code.line(at))
 
     for form in SILENT:
-        if found := re.search(form.known_by, code):
+        if found := re.search(form.known_by, code.text):
             refuse(form, found.start())
-    refuse_methods_of_std(code, refuse)
+    refuse_methods_of_std(code.text, refuse)
 
 
 def refuse_what_is_unknown(code, is_test):

@@ -53,6 +53,17 @@ needless_question_mark = "allow"
 too_many_arguments = "allow"
 type_complexity = "allow"
 """
+# The name by which programs load the library, which cargo doesn't give it.
+BUILD_OF_LIBRARY = """\
+//! Gives the shared library its name for programs, where the linker takes one.
+
+fn main() {
+    if std::env::var("CARGO_CFG_TARGET_OS").as_deref() == Ok("linux") {
+        println!("cargo::rustc-cdylib-link-arg=-Wl,-soname,lib%s.so.1");
+    }
+    println!("cargo::rerun-if-changed=build.rs");
+}
+"""
 WORKSPACE = """\
 # Made by cargo/strip. Change the sources, and make it anew.
 [workspace]

@@ -4,12 +4,22 @@ from typing import NamedTuple
 
 from .refused import Refused
 
-WORD = re.compile(r"[A-Za-z_][A-Za-z0-9_]*")
-NUMBER = re.compile(r"[0-9][A-Za-z0-9_]*(\.[0-9][A-Za-z0-9_]*)?")
-RAW = re.compile(r'(?:b|c)?r(#*)"')
 QUOTED = re.compile(r'(?:b|c)?"(?:[^"\\]|\\.)*"', re.S)
-CHARACTER = re.compile(r"b?'(?:[^'\\\n]|\\(?:x[0-9a-fA-F]{2}|u\{[0-9a-fA-F_]+\}|.))'")
-SPACE = re.compile(r"\s+")
+RAW = re.compile(r'(?:b|c)?r(#*)"')
+# The parts of Rust, by kind, the first that is found. A raw text ends where its own quote does.
+RUST = re.compile(
+    r"""(?P<space>\s+)
+    | (?P<doc>//[/!](?!/)[^\n]*)
+    | (?P<note>//[^\n]*|/\*.*?\*/)
+    | (?P<raw>(?:b|c)?r\#*")
+    | (?P<text>(?:b|c)?"(?:[^"\\]|\\.)*"|b?'(?:[^'\\\n]|\\(?:x[0-9a-fA-F]{2}|u\{[0-9a-fA-F_]+\}|.))')
+    | (?P<lifetime>'[A-Za-z_]\w*)
+    | (?P<word>[A-Za-z_][A-Za-z0-9_]*)
+    | (?P<number>[0-9][A-Za-z0-9_]*(?:\.[0-9][A-Za-z0-9_]*)?)
+    | (?P<mark>.)""",
+    re.S | re.X,
+)
+GHOSTS_BEGIN = re.compile(r"(?:pub|ghost|impl|requires|ensures)\b")
 CLAUSE = re.compile(r"(?:requires|ensures)\*?\s*(?:[\w«»]+\s*)?(?=\{)")
 MODEL = re.compile(r"impl\b[^{};]*?\bModel\s+for\b[^{};]*(?=\{)")
 GHOST = re.compile(r"(?:pub(?:\([^)]*\))?\s+)?ghost\b")
@@ -74,30 +84,13 @@ def end_of_ghost(text, at):
     return None
 
 
-def comment(text, at):
-    """The kind of the comment that begins here, and its end."""
-    if text.startswith("/*", at):
-        return "note", text.index("*/", at) + 2
-    end = text.find("\n", at)
-    is_doc = text.startswith(("///", "//!"), at) and not text.startswith("////", at)
-    return ("doc" if is_doc else "note"), (len(text) if end < 0 else end)
-
-
 def part_of_rust(text, at):
     """The kind of the part of Rust that begins here, and its end."""
-    if space := SPACE.match(text, at):
-        return "space", space.end()
-    if text.startswith(("//", "/*"), at):
-        return comment(text, at)
-    if raw := RAW.match(text, at):
-        close = '"' + raw.group(1)
-        return "text", text.index(close, raw.end()) + len(close)
-    for kind, form in (("text", QUOTED), ("text", CHARACTER), ("word", WORD), ("number", NUMBER)):
-        if found := form.match(text, at):
-            return kind, found.end()
-    if text[at] == "'" and (name := WORD.match(text, at + 1)):
-        return "lifetime", name.end()
-    return "mark", at + 1
+    found = RUST.match(text, at)
+    if found.lastgroup == "raw":
+        close = '"' + RAW.match(text, at).group(1)
+        return "text", text.index(close, found.end()) + len(close)
+    return found.lastgroup, found.end()
 
 
 def notes_above(parts):
@@ -117,7 +110,7 @@ def parts_of(text):
     parts = []
     at, line = 0, 1
     while at < len(text):
-        end = None if at and (text[at - 1].isalnum() or text[at - 1] == "_") else end_of_ghost(text, at)
+        end = end_of_ghost(text, at) if GHOSTS_BEGIN.match(text, at) else None
         if end is not None:
             notes = notes_above(parts)
             if CLAUSE.match(text, at):

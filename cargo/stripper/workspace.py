@@ -26,6 +26,8 @@ def crates_of(top):
             named = {shim for shim in manifests.SHIMS if f"{shim}::" in text}
             (test_shims if is_test else shims).update(named)
             files[f"crates/{name}/src/{path.with_suffix('.rs')}"] = text
+        if is_library_of_c:
+            files[f"crates/{name}/build.rs"] = manifests.BUILD_OF_LIBRARY % name
         is_program = (folder / "main.rt").is_file()
         files[f"crates/{name}/Cargo.toml"] = manifests.manifest(
             name, is_library_of_c, is_program, [*needs, *sorted(shims)], sorted(test_shims - shims)

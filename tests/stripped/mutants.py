@@ -1,0 +1,190 @@
+"""Mistakes planted in the shims and in the stripper, each of which a probe has to notice, and the probes."""
+import os
+import shutil
+import signal
+import subprocess
+from typing import NamedTuple
+
+from compared import comparing
+from compared.conversations import conversation
+from compared.matches import match
+
+from .building import cargo, copy_of
+from .checks import TOP, run
+
+PROFILE = """
+[profile.planted]
+inherits = "dev"
+opt-level = 0
+"""
+WAITS = """#!/bin/sh
+echo wrong
+exec sleep 20
+"""
+SECONDS = 10  # that a probe may take: an engine that isn't killed runs longer
+
+
+class Mutant(NamedTuple):
+    """A mistake: what it is, the file, the text that it changes, what it becomes, and the probe that has to notice it."""
+
+    name: str
+    file: str
+    old: str
+    new: str
+    probe: str
+
+
+IO, PROCESS = "cargo/shims/kit_std/src/io.rs", "cargo/shims/kit_std/src/process.rs"
+IN_SHIMS = [
+    Mutant("an error of a write is swallowed", IO, "files::standard($number).write(text)", "files::standard($number).write(text).or(Ok(text.len()))", "full"),
+    Mutant("an error of a read is the end", IO, "files::standard(0).read(buffer)", "files::standard(0).read(buffer).or(Ok(0))", "no_input"),
+    Mutant("half of what is read is lost", IO, "files::standard(0).read(buffer)", "files::standard(0).read(buffer).map(|n| n - n / 2)", "conversations"),
+    Mutant("a kind of error is another", IO, 'kind.to_string() == "uncategorized error"', "kind == ErrorKind::NotFound", "not_started"),
+    Mutant("a signal ends what writes to a closed pipe", "cargo/shims/kit_std/src/runtime.rs", "signal(SIGPIPE, SIG_IGN);", "signal(SIGPIPE, 0);", "closed"),
+    Mutant("the arguments of an engine are out of order", PROCESS, "self.0.args(words);", "self.0.args(words.iter().rev());", "matches"),
+    Mutant("an engine is not killed", PROCESS, "self.child.kill()", "Ok(())", "killed"),
+    Mutant("a status is another", PROCESS, "ExitCode(status)\n", "ExitCode(status.min(2))\n", "full"),
+    Mutant("an argument that is no text is taken", "cargo/shims/kit_std/src/env.rs", "Err(_) =>", "Err(it) if true => words.push(String::of(it.to_string_lossy().into_owned())),\n            Err(_) =>", "no_text"),
+    Mutant("the greatest value of an option is refused", "cargo/shims/clap/src/lib.rs", "range(least..=most)", "range(least..most)", "limits"),
+    Mutant("the halves of a row change places", "cargo/shims/kit_simd/src/lib.rs", "(_mm_movemask_epi8(low) as u32) | ((_mm_movemask_epi8(high) as u32) << 16)", "(_mm_movemask_epi8(high) as u32) | ((_mm_movemask_epi8(low) as u32) << 16)", "conversations"),
+    Mutant("half of a generator's word is drawn", "cargo/shims/rand_core/src/lib.rs", "rand_core::RngCore::next_u64(self)", "u64::from(rand_core::RngCore::next_u32(self))", "conversations"),
+    Mutant("a buffer of C has an item less", "cargo/shims/kit_ffi/src/lib.rs", "core::slice::from_raw_parts(at, count)", "core::slice::from_raw_parts(at, count - 1)", "library"),
+]  # fmt: skip
+IN_STRIPPER = [
+    Mutant("a length stands before its pointer", "cargo/stripper/rewriting.py", '" {name}: {pointer} {item}, {name}_len: usize"', '" {name}_len: usize, {name}: {pointer} {item}"', "library"),
+    Mutant("texts change places", "cargo/stripper/rewriting.py", "for part in parts if part.kind in HIDDEN]", "for part in reversed(parts) if part.kind in HIDDEN]", "build"),
+    Mutant("each kind of error has no kind of its own", "cargo/stripper/rewriting.py", '"kind if kit_std::io::is_uncategorized(kind) =>"', '"_ if true =>"', "not_started"),
+]  # fmt: skip
+
+
+def trial(words, text=b"", program="gtp_engine"):
+    """A trial of a probe."""
+    return comparing.Trial("", program, words, text)
+
+
+class Probes:
+    """What one build does, beside the programs that are proved."""
+
+    def __init__(self, proved, room):
+        self.proved = proved
+        self.room = room
+        self.wanted = {}
+        self.trials = {
+            "conversations": [conversation("planted", number) for number in range(1, 26)],
+            "matches": [match("planted", number) for number in range(1, 11)],
+            "limits": [trial(["--seed=4294967295"], b"quit\n"), trial(["--seed=0"], b"quit\n")],
+            "no_text": [trial([b"--book=\xff"], b"quit\n")],
+            "not_started": [trial(["--black", at, "--white", at, "--why"], program="twogtp") for at in (self.script("no_program", "\1"), "/", "/etc/passwd")],
+            "killed": [trial(["--black", self.script("waits", WAITS), "--white", "./gtp_engine", "--restarts", "0"], program="twogtp")],
+        }
+
+    def script(self, name, text):
+        """A file that may be executed."""
+        path = self.room / name
+        path.write_text(text)
+        path.chmod(0o755)
+        return str(path)
+
+    def seen(self, folder, probe):
+        """What a probe sees in a build."""
+        if probe in self.trials:
+            return [comparing.run(folder, trial, SECONDS) for trial in self.trials[probe]]
+        return getattr(self, probe)(folder)
+
+    def full(self, folder):
+        """How the engine ends, where its output is a full disk."""
+        with open("/dev/full", "wb") as output:
+            return self.ended(folder, input=b"name\n", stdout=output, stderr=subprocess.PIPE)
+
+    def ended(self, folder, **options):
+        """How the engine ends: its status, its output and its errors."""
+        done = subprocess.run([folder / "gtp_engine"], timeout=SECONDS, check=False, **options)
+        return done.returncode, done.stdout, done.stderr
+
+    def no_input(self, folder):
+        """The same, where its input can't be read."""
+        at = os.open("/", os.O_RDONLY)
+        try:
+            return self.ended(folder, stdin=at, capture_output=True)
+        finally:
+            os.close(at)
+
+    def closed(self, folder):
+        """The same, where nobody reads its output."""
+        end, start = os.pipe()
+        os.close(end)
+        try:
+            return self.ended(
+                folder, input=b"name\n", stdout=start, stderr=subprocess.PIPE, preexec_fn=lambda: signal.signal(signal.SIGPIPE, signal.SIG_DFL)
+            )
+        finally:
+            os.close(start)
+
+    def library(self, folder):
+        """What a program in C writes that calls the library: a match between two engines."""
+        made = self.room / f"referee_{len(list(self.room.glob('referee_*')))}"
+        source = TOP / "library/examples/referee.c"
+        status, said = run(["cc", "-I", TOP / "library", "-o", made, source, folder / "libvintsaky.a", "-lpthread", "-ldl", "-lm"])
+        if status:
+            return said[-500:]
+        engine = str(self.proved / "gtp_engine")
+        done = subprocess.run([made, "5", "1", engine, engine], capture_output=True, timeout=SECONDS, check=False)
+        return done.returncode, done.stdout, done.stderr
+
+    def notices(self, folder, probe):
+        """Does a probe see something in a build that it doesn't in the proved programs?"""
+        if probe not in self.wanted:
+            self.wanted[probe] = self.seen(self.proved, probe)
+        try:
+            return self.seen(folder, probe) != self.wanted[probe]
+        except subprocess.TimeoutExpired:
+            return True
+
+
+class Planted:
+    """A copy of the repository in which mistakes are planted, one at a time, and built without being made fast."""
+
+    def __init__(self, room):
+        self.clone = copy_of(room / "planted", 0o022)
+        self.workspace = self.clone / "cargo/workspace"
+        self.programs = self.workspace / "target/planted"
+
+    def build(self, probe):
+        """Builds what a probe runs. Returns what cargo says where it can't be built."""
+        status, said = run([self.clone / "cargo/strip"])
+        if status == 0:
+            manifest = self.workspace / "Cargo.toml"
+            manifest.write_text(manifest.read_text() + PROFILE)
+            packages = ["vintsaky_c"] if probe == "library" else ["twogtp", "gtp_engine"]
+            status, said = cargo("build", "--profile", "planted", "--quiet", *(it for name in packages for it in ("-p", name)), workspace=self.workspace)
+        return said if status else ""
+
+    def is_noticed(self, mutant, probes):
+        """Is the mistake noticed by its probe, or, where that is `build`, can't it be built?"""
+        path = self.clone / mutant.file
+        right = path.read_text()
+        if right.count(mutant.old) < 1:
+            return f"the text isn't there: {mutant.old}"
+        path.write_text(right.replace(mutant.old, mutant.new))
+        try:
+            said = self.build(mutant.probe)
+            if mutant.probe == "build":
+                return bool(said)
+            return said[-1500:] or probes.notices(self.programs, mutant.probe)
+        finally:
+            path.write_text(right)
+
+
+def check_mutants(checks, proved, room):
+    """Is each planted mistake noticed, and none where there is none?"""
+    folder = room / "probes"
+    folder.mkdir()
+    probes, planted = Probes(proved, folder), Planted(room)
+    mutants = [*IN_SHIMS, *IN_STRIPPER]
+    for probe in ("library", "build"):
+        said = planted.build(probe)
+        checks.check(f"what is built without a mistake, for the probe {probe}", "", said[-1500:])
+    seen = [probe for probe in sorted({it.probe for it in mutants} - {"build"}) if probes.notices(planted.programs, probe)]
+    checks.check("no probe notices a mistake where none is planted", [], seen)
+    for mutant in mutants:
+        checks.check(f"noticed by {mutant.probe}: {mutant.name}", True, planted.is_noticed(mutant, probes))
