@@ -24,6 +24,14 @@ static void says(int line, const char *wanted, size_t length) {
 }
 
 #define IS(wanted, got) is(__LINE__, (long long)(wanted), (long long)(got))
+/* The header's sizes are those of the proved library. Cargo lays objects out more tightly: there they are the most. */
+#ifdef AT_MOST
+#define HAS_ROOM(room, size) IS(1, (size) > 0 && (size) <= (room))
+#define HAS_ALIGN(align) IS(0, VINTSAKY_ALIGN % (align))
+#else
+#define HAS_ROOM(room, size) IS(room, size)
+#define HAS_ALIGN(align) IS(VINTSAKY_ALIGN, align)
+#endif
 #define SAYS(wanted, length) says(__LINE__, wanted, length)
 #define TEXT text, sizeof text
 #define GIVEN(words) words, strlen(words)
@@ -31,16 +39,16 @@ static void says(int line, const char *wanted, size_t length) {
 static void of_the_library(void) {
     vintsaky_interface_1();
     IS(VINTSAKY_VERSION, vintsaky_version());
-    IS(VINTSAKY_GAME_BYTES, vintsaky_game_bytes());
-    IS(VINTSAKY_ENGINE_BYTES, vintsaky_engine_bytes());
-    IS(VINTSAKY_MATCH_BYTES, vintsaky_match_bytes());
-    IS(VINTSAKY_LINES_BYTES, vintsaky_lines_bytes());
-    IS(VINTSAKY_REPLIES_BYTES, vintsaky_replies_bytes());
-    IS(VINTSAKY_ALIGN, vintsaky_game_align());
-    IS(VINTSAKY_ALIGN, vintsaky_engine_align());
-    IS(VINTSAKY_ALIGN, vintsaky_match_align());
-    IS(VINTSAKY_ALIGN, vintsaky_lines_align());
-    IS(VINTSAKY_ALIGN, vintsaky_replies_align());
+    HAS_ROOM(VINTSAKY_GAME_BYTES, vintsaky_game_bytes());
+    HAS_ROOM(VINTSAKY_ENGINE_BYTES, vintsaky_engine_bytes());
+    HAS_ROOM(VINTSAKY_MATCH_BYTES, vintsaky_match_bytes());
+    HAS_ROOM(VINTSAKY_LINES_BYTES, vintsaky_lines_bytes());
+    HAS_ROOM(VINTSAKY_REPLIES_BYTES, vintsaky_replies_bytes());
+    HAS_ALIGN(vintsaky_game_align());
+    HAS_ALIGN(vintsaky_engine_align());
+    HAS_ALIGN(vintsaky_match_align());
+    HAS_ALIGN(vintsaky_lines_align());
+    HAS_ALIGN(vintsaky_replies_align());
     SAYS("The record has 2,000 moves.", vintsaky_cause_text(VINTSAKY_FULL, TEXT));
 }
 

@@ -1,4 +1,5 @@
 """The Cargo workspace: each crate of crates.txt as Rust, the shims, the crate for authors of Rust, and the other crates."""
+import re
 import shutil
 from pathlib import Path
 
@@ -14,6 +15,7 @@ WHERE = {"registry": "cargo's registry", "debian": "Debian's packages"}
 def crates_of(top):
     """Each file of the crates, by its path in the workspace."""
     files = {}
+    header = (top / "library/vintsaky.h").read_text()
     for name, is_library_of_c, needs in manifests.rows_of((top / "crates.txt").read_text()):
         folder = top / "crates" / name / "src"
         shims, test_shims = set(), set()
@@ -23,6 +25,7 @@ def crates_of(top):
             except Refused as refused:
                 refused.where = f"crates/{name}/src/{path}"
                 raise
+            text = with_room(text, header) if is_library_of_c else text
             named = {shim for shim in manifests.SHIMS if f"{shim}::" in text}
             (test_shims if is_test else shims).update(named)
             files[f"crates/{name}/src/{path.with_suffix('.rs')}"] = text
@@ -33,6 +36,16 @@ def crates_of(top):
             name, is_library_of_c, is_program, [*needs, *sorted(shims)], sorted(test_shims - shims)
         )
     return files
+
+
+def with_room(text, header):
+    """The calls of an object, which compile only where the memory that the header tells C to give is enough for it."""
+    lines = ""
+    for name, size, align in re.findall(r"fn vintsaky_(\w+)_bytes\(\)[^{]*\{\s*size_of::<(\w+)>\(\)\s*\}.*?align_of::<(\w+)>\(\)", text, re.S):
+        most = re.search(rf"#define VINTSAKY_{name.upper()}_BYTES \(\(size_t\)(\d+)\)", header)[1]
+        multiple = re.search(r"#define VINTSAKY_ALIGN \(\(size_t\)(\d+)\)", header)[1]
+        lines += f"const _: () = assert!(size_of::<{size}>() <= {most} && {multiple} % align_of::<{align}>() == 0);\n"
+    return f"{text}\n// vintsaky.h says how much memory a caller gives.\n{lines}" if lines else text
 
 
 def copies_of(folder, at):

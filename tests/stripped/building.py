@@ -21,7 +21,7 @@ SHOWN = "go_base/struct.Size.html"  # a page of the documentation whose function
 
 def copy_of(folder, umask):
     """A copy of what the stripper reads, as another clone may have it."""
-    names = subprocess.run(["git", "ls-files", "-z", "crates.txt", "crates/*.rt", "cargo", "library/rust"], cwd=TOP, capture_output=True, text=True)
+    names = subprocess.run(["git", "ls-files", "-z", "crates.txt", "crates/*.rt", "cargo", "library"], cwd=TOP, capture_output=True, text=True)
     for name in names.stdout.split("\0")[:-1]:
         if (TOP / name).is_file():
             (folder / name).parent.mkdir(parents=True, exist_ok=True)

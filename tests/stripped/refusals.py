@@ -128,7 +128,7 @@ def check_files(checks, room):
 def check_message(checks, room):
     """Does a refusal say the file, the line and what is wrong?"""
     copy = room / "refused"
-    names = subprocess.run(["git", "ls-files", "-z", "crates.txt", "crates/*.rt", "cargo", "library/rust"], cwd=TOP, capture_output=True, text=True)
+    names = subprocess.run(["git", "ls-files", "-z", "crates.txt", "crates/*.rt", "cargo", "library"], cwd=TOP, capture_output=True, text=True)
     for name in names.stdout.split("\0")[:-1]:
         if (TOP / name).is_file():
             (copy / name).parent.mkdir(parents=True, exist_ok=True)
