@@ -46,7 +46,7 @@ IN_SHIMS = [
     Mutant("a status is another", PROCESS, "ExitCode(status)\n", "ExitCode(status.min(2))\n", "full"),
     Mutant("an argument that is no text is taken", "cargo/shims/kit_std/src/env.rs", "Err(_) =>", "Err(it) if true => words.push(String::of(it.to_string_lossy().into_owned())),\n            Err(_) =>", "no_text"),
     Mutant("the greatest value of an option is refused", "cargo/shims/clap/src/lib.rs", "range(least..=most)", "range(least..most)", "limits"),
-    Mutant("the halves of a row change places", "cargo/shims/kit_simd/src/lib.rs", "(_mm_movemask_epi8(low) as u32) | ((_mm_movemask_epi8(high) as u32) << 16)", "(_mm_movemask_epi8(high) as u32) | ((_mm_movemask_epi8(low) as u32) << 16)", "conversations"),
+    Mutant("the halves of a row change places", "cargo/shims/kit_simd/src/lib.rs", "(_mm_movemask_epi8(low) as u32) | ((_mm_movemask_epi8(high) as u32) << 16)", "(_mm_movemask_epi8(high) as u32) | ((_mm_movemask_epi8(low) as u32) << 16)", "library"),
     Mutant("half of a generator's word is drawn", "cargo/shims/rand_core/src/lib.rs", "rand_core::RngCore::next_u64(self)", "u64::from(rand_core::RngCore::next_u32(self))", "conversations"),
     Mutant("a buffer of C has an item less", "cargo/shims/kit_ffi/src/lib.rs", "core::slice::from_raw_parts(at, count)", "core::slice::from_raw_parts(at, count - 1)", "library"),
 ]  # fmt: skip
@@ -74,9 +74,15 @@ class Probes:
             "matches": [match("planted", number) for number in range(1, 11)],
             "limits": [trial(["--seed=4294967295"], b"quit\n"), trial(["--seed=0"], b"quit\n")],
             "no_text": [trial([b"--book=\xff"], b"quit\n")],
-            "not_started": [trial(["--black", at, "--white", at, "--why"], program="twogtp") for at in (self.script("no_program", "\1"), "/", "/etc/passwd")],
+            "not_started": [trial(["--black", at, "--white", at, "--why"], program="twogtp") for at in self.no_programs()],
             "killed": [trial(["--black", self.script("waits", WAITS), "--white", "./gtp_engine", "--restarts", "0"], program="twogtp")],
         }
+
+    def no_programs(self):
+        """What can't be started, each for a reason of its own."""
+        link = self.room / "link_to_itself"
+        link.symlink_to(link)
+        return [self.script("no_program", "\1"), str(link), "/", "/etc/passwd", "/etc/passwd/x"]
 
     def script(self, name, text):
         """A file that may be executed."""
@@ -121,14 +127,19 @@ class Probes:
             os.close(start)
 
     def library(self, folder):
-        """What a program in C writes that calls the library: a match between two engines."""
-        made = self.room / f"referee_{len(list(self.room.glob('referee_*')))}"
-        source = TOP / "library/examples/referee.c"
-        status, said = run(["cc", "-I", TOP / "library", "-o", made, source, folder / "libvintsaky.a", "-lpthread", "-ldl", "-lm"])
+        """What the examples in C write: the referee of a match between two engines, and the engine that asks for all legal points."""
+        engine = str(self.proved / "gtp_engine")
+        talk = "boardsize 19\n" + "genmove b\ngenmove w\n" * 40 + "showboard\n"
+        return [self.example(folder, "referee", ["5", "1", engine, engine], ""), self.example(folder, "random_engine", ["7"], talk)]
+
+    def example(self, folder, name, words, text):
+        """What an example writes that is linked with a build's library."""
+        made = self.room / f"{name}_{len(list(self.room.glob(f'{name}_*')))}"
+        source = TOP / f"library/examples/{name}.c"
+        status, said = run(["cc", "-I", TOP / "library", "-o", made, source, folder / "libvintsaky.a"])
         if status:
             return said[-500:]
-        engine = str(self.proved / "gtp_engine")
-        done = subprocess.run([made, "5", "1", engine, engine], capture_output=True, timeout=SECONDS, check=False)
+        done = subprocess.run([made, *words], input=text.encode(), capture_output=True, timeout=SECONDS, check=False)
         return done.returncode, done.stdout, done.stderr
 
     def notices(self, folder, probe):
@@ -136,9 +147,12 @@ class Probes:
         if probe not in self.wanted:
             self.wanted[probe] = self.seen(self.proved, probe)
         try:
-            return self.seen(folder, probe) != self.wanted[probe]
+            seen = self.seen(folder, probe)
         except subprocess.TimeoutExpired:
             return True
+        if probe in self.trials:
+            return any(map(comparing.differ_but_for_clap, self.wanted[probe], seen))
+        return seen != self.wanted[probe]
 
 
 class Planted:
