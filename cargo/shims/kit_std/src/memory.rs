@@ -1,9 +1,9 @@
 //! Memory that is refused.
 //!
-//! The kit's calls return a refusal. Those of this crate do so too: they ask for memory in [`asked`]. What Rust's library
-//! or `clap` ask for themselves can't be returned, and Rust would abort. So [`main!`](crate::main) gives a program an
+//! The kit's calls return a refusal. Those of this crate do so too: they ask for memory in [`asked`]. What Rust's
+//! library or `clap` ask for themselves can't be returned: Rust aborts. So [`main!`](crate::main) gives a program an
 //! allocator, [`Reporting`], by which such a refusal ends it as the kit's programs end: with the line
-//! `NAME: out of memory` and the status 3. A library has no such allocator, and so never ends its caller.
+//! `NAME: out of memory` and the status 3. A library has no such allocator.
 use crate::alloc::AllocError;
 use crate::io::{Stderr, Write};
 use crate::process::running;
@@ -45,7 +45,7 @@ impl Reporting {
         block
     }
 
-    /// Ends the processes that the program has started, reports the refusal, and ends the program. This takes no memory.
+    /// Ends the processes that the program has started, reports the refusal, and ends the program. It takes no memory.
     #[cold]
     fn end(&self) -> ! {
         // Were memory asked for here all the same, it would be refused without another end.
@@ -68,7 +68,7 @@ fn exit() -> ! {
     std::process::exit(STATUS)
 }
 
-// SAFETY: each call is that of the system's allocator. Where it has no block, null is returned, or the call doesn't return.
+// SAFETY: each call is that of the system's allocator. Where that has no block, null is returned, or nothing is.
 unsafe impl GlobalAlloc for Reporting {
     #[inline]
     unsafe fn alloc(&self, layout: Layout) -> *mut u8 {

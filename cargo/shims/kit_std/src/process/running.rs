@@ -23,10 +23,13 @@ impl Place {
 
 /// Notes a process, if there is room for one more.
 pub(crate) fn note(process: u32) -> Option<Place> {
-    let is_free = |place: &&AtomicU32| {
-        place.compare_exchange(NONE, process, Ordering::Relaxed, Ordering::Relaxed).is_ok()
-    };
-    RUNNING.iter().find(is_free).map(Place)
+    let free = RUNNING.iter().find(|place| takes(place, process))?;
+    Some(Place(free))
+}
+
+/// Whether a place was free, and has the process now.
+fn takes(place: &AtomicU32, process: u32) -> bool {
+    place.compare_exchange(NONE, process, Ordering::Relaxed, Ordering::Relaxed).is_ok()
 }
 
 /// Kills the processes that are noted, and waits for them.
