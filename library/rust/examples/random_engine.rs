@@ -3,7 +3,7 @@
 //! usage: random_engine [SEED]
 
 use std::io::{stdin, stdout};
-use vintsaky::{serve, Choice, Colour, Game, Player, Point, ServeError, Vertex};
+use vintsaky::{Choice, Colour, Game, Player, Point, ServeError, Vertex, serve};
 
 /// The engine, by the state of its generator, which is never 0.
 struct Random(u64);

@@ -1,10 +1,13 @@
 //! An engine of the protocol, in steps.
 
 use std::fmt;
+use std::marker::PhantomData;
 
-use crate::ffi::*;
+use gtp_session::steps::{self, Event, Steps};
+use gtp_wire::CommandLine;
+
+use crate::NotSync;
 use crate::game::Game;
-use crate::held::{Held, ENGINE};
 use crate::refusal::Refusal;
 use crate::texts;
 use crate::values::{Choice, Colour, KoRule};
@@ -24,6 +27,18 @@ pub enum Fed {
     Ended,
 }
 
+impl Fed {
+    fn of(event: Event) -> Self {
+        match event {
+            Event::More => Self::More,
+            Event::Reply => Self::Reply,
+            Event::Asked(colour) => Self::Asked(Colour::of(colour)),
+            Event::Other => Self::Other,
+            Event::Ended => Self::Ended,
+        }
+    }
+}
+
 /// What an engine waits for.
 #[derive(Clone, Copy, Debug, PartialEq, Eq, Hash)]
 pub enum Wait {
@@ -31,6 +46,16 @@ pub enum Wait {
     Choice(Colour),
     /// An answer to a line of a command that isn't the library's.
     Answer,
+}
+
+impl Wait {
+    fn of(wait: steps::Wait) -> Option<Self> {
+        match wait {
+            steps::Wait::Nothing => None,
+            steps::Wait::Choice(colour) => Some(Self::Choice(Colour::of(colour))),
+            steps::Wait::Answer => Some(Self::Answer),
+        }
+    }
 }
 
 /// An engine of the Go Text Protocol, in steps: it reads lines, keeps the game and writes replies, and asks its caller
@@ -57,51 +82,36 @@ pub enum Wait {
 /// assert_eq!(std::thread::spawn(move || engine.is_ended()).join().ok(), Some(false));
 /// ```
 pub struct Engine {
-    held: Held<crate::ffi::Engine>,
+    inner: Box<Steps>,
+    _not_sync: NotSync,
 }
 
 impl Engine {
     /// An engine by simple ko that was given nothing.
     pub fn new() -> Self {
-        Self { held: Held::new(&ENGINE) }
-    }
-
-    fn handle(&self) -> *mut crate::ffi::Engine {
-        self.held.get()
+        Self { inner: Box::new(Steps::new(KoRule::Simple.inner())), _not_sync: PhantomData }
     }
 
     /// Begins the engine anew, under a ko rule.
     pub fn begin(&mut self, rule: KoRule) {
-        let refused = unsafe { vintsaky_engine_begin(self.handle(), rule.number()) };
-        debug_assert_eq!(refused, VINTSAKY_DONE);
+        *self.inner = Steps::new(rule.inner());
     }
 
     /// Whether the session has ended, by a `quit`.
     pub fn is_ended(&self) -> bool {
-        unsafe { vintsaky_engine_ended(self.handle()) }
+        self.inner.ended()
     }
 
     /// Takes the next bytes up to the end of a line that is to be answered, or all of them. Returns what came of them,
     /// and how many were used. While something is waited for, none is used.
     pub fn feed(&mut self, bytes: &[u8]) -> (Fed, usize) {
-        let mut used = 0;
-        let came = unsafe { vintsaky_engine_feed(self.handle(), bytes.as_ptr(), bytes.len(), &mut used) };
-        let came = match came {
-            VINTSAKY_OTHER => Fed::Other,
-            VINTSAKY_REPLY => Fed::Reply,
-            VINTSAKY_ENDED => Fed::Ended,
-            VINTSAKY_MORE => Fed::More,
-            number => Colour::of(number).map_or(Fed::More, Fed::Asked),
-        };
-        (came, used)
+        let fed = self.inner.feed(bytes);
+        (Fed::of(fed.event), fed.used)
     }
 
     /// What is waited for: nothing where none.
     pub fn wait(&self) -> Option<Wait> {
-        match unsafe { vintsaky_engine_wait(self.handle()) } {
-            VINTSAKY_OTHER => Some(Wait::Answer),
-            number => Colour::of(number).map(Wait::Choice),
-        }
+        Wait::of(self.inner.wait())
     }
 
     /// Makes the choice that is asked for.
@@ -111,7 +121,7 @@ impl Engine {
     /// [`Refusal::NotAsked`], or else [`Refusal::OffBoard`], [`Refusal::Occupied`],
     /// [`Refusal::Suicide`] or [`Refusal::Ko`]. A choice that was asked for is still asked for.
     pub fn choose(&mut self, choice: impl Into<Choice>) -> Result<(), Refusal> {
-        Refusal::check(unsafe { vintsaky_engine_choose(self.handle(), choice.into().number()) })
+        self.inner.choose(choice.into().inner()).map_err(Refusal::of_choice)
     }
 
     /// Answers the line of another command: by a success with this text, or a failure.
@@ -121,11 +131,8 @@ impl Engine {
     /// [`Refusal::NotAsked`], or else [`Refusal::BadText`] where no reply may have the text: it has more than 2,000
     /// bytes, a byte that is neither a newline nor 32 to 126, an empty line, or a space or a newline at an end.
     pub fn answer(&mut self, answer: Result<&str, &str>) -> Result<(), Refusal> {
-        let (ok, text) = match answer {
-            Ok(text) => (1, text),
-            Err(text) => (0, text),
-        };
-        Refusal::check(unsafe { vintsaky_engine_answer(self.handle(), ok, text.as_ptr(), text.len()) })
+        let (Ok(text) | Err(text)) = answer;
+        self.inner.answer(answer.is_ok(), text.as_bytes()).map_err(Refusal::of_answer)
     }
 
     /// Answers the line of another command by a failure: `unknown command`.
@@ -134,7 +141,7 @@ impl Engine {
     ///
     /// [`Refusal::NotAsked`].
     pub fn decline(&mut self) -> Result<(), Refusal> {
-        Refusal::check(unsafe { vintsaky_engine_decline(self.handle()) })
+        self.inner.decline().map_err(Refusal::of_answer)
     }
 
     /// Answers `name` by this text from now on.
@@ -143,7 +150,7 @@ impl Engine {
     ///
     /// [`Refusal::BadText`] where it has more than 200 bytes, or no reply may have it.
     pub fn set_name(&mut self, text: &str) -> Result<(), Refusal> {
-        Refusal::check(unsafe { vintsaky_engine_set_name(self.handle(), text.as_ptr(), text.len()) })
+        self.inner.set_name(text.as_bytes()).map_err(|_no_title| Refusal::BadText)
     }
 
     /// Answers `version` by this text from now on.
@@ -152,7 +159,7 @@ impl Engine {
     ///
     /// As those of [`set_name`](Self::set_name).
     pub fn set_version(&mut self, text: &str) -> Result<(), Refusal> {
-        Refusal::check(unsafe { vintsaky_engine_set_version(self.handle(), text.as_ptr(), text.len()) })
+        self.inner.set_version(text.as_bytes()).map_err(|_no_title| Refusal::BadText)
     }
 
     /// Adds a command of the author's own, which `known_command` and `list_commands` then name.
@@ -162,25 +169,22 @@ impl Engine {
     /// [`Refusal::BadLength`], [`Refusal::BadByte`], [`Refusal::OnlyDigits`], [`Refusal::InTable`],
     /// [`Refusal::AddedBefore`] or [`Refusal::TooMany`], the first of these that holds.
     pub fn add_command(&mut self, name: &str) -> Result<(), Refusal> {
-        Refusal::check(unsafe { vintsaky_engine_add_command(self.handle(), name.as_ptr(), name.len()) })
+        self.inner.add_command(name.as_bytes()).map_err(Refusal::of_command)
     }
 
     /// A copy of the engine's game.
     pub fn game(&self) -> Game {
-        let mut game = Game::new();
-        self.copy_game(&mut game);
-        game
+        Game::copy_of(self.inner.game())
     }
 
     /// Copies the engine's game into one that is there already.
     pub fn copy_game(&self, game: &mut Game) {
-        unsafe { vintsaky_engine_copy_game(self.handle(), game.handle()) }
+        game.copy(self.inner.game());
     }
 
     /// The last reply, with its two newlines: empty before the first.
     pub fn reply(&self) -> String {
-        let text = texts::bytes_of(|text, room| unsafe { vintsaky_engine_reply(self.handle(), text, room) });
-        texts::string_of(text)
+        texts::string_of(self.reply_bytes())
     }
 
     /// A word of the line that is waited for, counted from 0 after the id.
@@ -189,9 +193,7 @@ impl Engine {
     ///
     /// [`Refusal::NotAsked`] where no line is waited for, or else [`Refusal::NoWord`].
     pub fn word(&self, number: usize) -> Result<Vec<u8>, Refusal> {
-        texts::bytes_or_refusal(|text, room, count| unsafe {
-            vintsaky_engine_word(self.handle(), number, text, room, count)
-        })
+        self.line()?.word(number).map(<[u8]>::to_vec).ok_or(Refusal::NoWord)
     }
 
     /// The words of the line that is waited for, after the id. There are none where no line is.
@@ -205,9 +207,17 @@ impl Engine {
     ///
     /// [`Refusal::NotAsked`] where no line is waited for, or else [`Refusal::NoId`].
     pub fn id(&self) -> Result<u32, Refusal> {
-        let mut id = 0;
-        Refusal::check(unsafe { vintsaky_engine_id(self.handle(), &mut id) })?;
-        Ok(id)
+        self.line()?.id().ok_or(Refusal::NoId)
+    }
+
+    /// The last reply as bytes.
+    pub(crate) fn reply_bytes(&self) -> &[u8] {
+        self.inner.reply()
+    }
+
+    /// The line that is waited for.
+    fn line(&self) -> Result<&CommandLine, Refusal> {
+        self.inner.line().ok_or(Refusal::NotAsked)
     }
 }
 

@@ -1,18 +1,15 @@
 //! A game of Go.
 
 use std::fmt;
+use std::marker::PhantomData;
 
-use crate::ffi::*;
-use crate::held::{Held, GAME};
+use crate::NotSync;
 use crate::refusal::Refusal;
 use crate::texts;
-use crate::values::{Colour, KoRule, Komi, Move, Point, Score, Vertex};
+use crate::values::{Colour, KoRule, Komi, Move, Point, Score, Vertex, checked_size};
 
-/// An iterator of points that holds them all.
-type Points = std::iter::Map<std::vec::IntoIter<u32>, fn(u32) -> Point>;
-
-/// How many points a board has at most.
-const MOST_POINTS: usize = 625;
+/// The size of a game that was given none.
+const FIRST_SIZE: u32 = 19;
 
 /// A game of Go: its ko rule, its size, its komi, its board and the record of its moves. Any colour may move at any
 /// time. All stones count as alive, and the score is by area.
@@ -44,7 +41,8 @@ const MOST_POINTS: usize = 625;
 /// });
 /// ```
 pub struct Game {
-    held: Held<crate::ffi::Game>,
+    inner: Box<go_board::Game>,
+    _not_sync: NotSync,
 }
 
 /// A chain, by what it has.
@@ -59,7 +57,7 @@ pub struct Chain {
 impl Game {
     /// A game of size 19, without komi, by simple ko.
     pub fn new() -> Self {
-        Self { held: Held::new(&GAME) }
+        Self::with(KoRule::Simple, FIRST_SIZE, Komi::default()).expect("19 is a size")
     }
 
     /// A game by these rules.
@@ -68,13 +66,7 @@ impl Game {
     ///
     /// [`Refusal::BadSize`] where the size isn't from 1 to 25.
     pub fn with(rule: KoRule, size: u32, komi: Komi) -> Result<Self, Refusal> {
-        let mut game = Self::new();
-        game.begin(rule, size, komi)?;
-        Ok(game)
-    }
-
-    pub(crate) fn handle(&self) -> *mut crate::ffi::Game {
-        self.held.get()
+        Ok(Self::of(go_board::Game::with_rule(checked_size(size)?, komi.inner(), rule.inner())))
     }
 
     /// Begins the game anew, on an empty board.
@@ -83,8 +75,8 @@ impl Game {
     ///
     /// [`Refusal::BadSize`] where the size isn't from 1 to 25.
     pub fn begin(&mut self, rule: KoRule, size: u32, komi: Komi) -> Result<(), Refusal> {
-        let (rule, komi) = (rule.number(), komi.half_points());
-        Refusal::check(unsafe { vintsaky_game_begin(self.handle(), rule, size, komi) })
+        *self.inner = go_board::Game::with_rule(checked_size(size)?, komi.inner(), rule.inner());
+        Ok(())
     }
 
     /// Makes a move.
@@ -103,8 +95,7 @@ impl Game {
     ///
     /// [`Refusal::Full`], [`Refusal::OffBoard`], [`Refusal::Occupied`], [`Refusal::Suicide`] or [`Refusal::Ko`].
     pub fn play(&mut self, colour: Colour, vertex: impl Into<Vertex>) -> Result<(), Refusal> {
-        let (colour, vertex) = (colour.number(), vertex.into().number());
-        Refusal::check(unsafe { vintsaky_game_play(self.handle(), colour, vertex) })
+        self.inner.play(colour.inner(), vertex.into().inner()).map_err(Refusal::of_play)
     }
 
     /// Whether a colour may make a move next. It isn't looked at whether the record has room.
@@ -113,8 +104,8 @@ impl Game {
     ///
     /// [`Refusal::OffBoard`], [`Refusal::Occupied`], [`Refusal::Suicide`] or [`Refusal::Ko`].
     pub fn legal(&self, colour: Colour, vertex: impl Into<Vertex>) -> Result<(), Refusal> {
-        let (colour, vertex) = (colour.number(), vertex.into().number());
-        Refusal::check(unsafe { vintsaky_game_legal(self.handle(), colour, vertex) })
+        let fault = self.inner.refusal(colour.inner(), vertex.into().inner());
+        fault.map_or(Ok(()), |fault| Err(Refusal::of_play(fault)))
     }
 
     /// Takes back the last move.
@@ -123,13 +114,12 @@ impl Game {
     ///
     /// [`Refusal::NothingToUndo`] where the record has no move.
     pub fn undo(&mut self) -> Result<(), Refusal> {
-        Refusal::check(unsafe { vintsaky_game_undo(self.handle()) })
+        self.inner.undo().map(|_last| ()).map_err(|_none| Refusal::NothingToUndo)
     }
 
     /// Sets the komi. The board and the record stay.
     pub fn set_komi(&mut self, komi: Komi) {
-        let refused = unsafe { vintsaky_game_set_komi(self.handle(), komi.half_points()) };
-        debug_assert_eq!(refused, VINTSAKY_DONE);
+        self.inner.set_komi(komi.inner());
     }
 
     /// Puts handicap stones on their fixed points.
@@ -138,55 +128,52 @@ impl Game {
     ///
     /// [`Refusal::NotEmpty`], or else [`Refusal::BadHandicap`].
     pub fn place_handicap(&mut self, stones: u32) -> Result<(), Refusal> {
-        Refusal::check(unsafe { vintsaky_game_place_handicap(self.handle(), stones) })
+        self.inner.place_handicap(stones).map(|_points| ()).map_err(Refusal::of_handicap)
     }
 
     /// The ko rule.
     pub fn rule(&self) -> KoRule {
-        KoRule::of(unsafe { vintsaky_game_rule(self.handle()) })
+        KoRule::of(self.inner.rule())
     }
 
     /// The size of the board, from 1 to 25.
     pub fn size(&self) -> u32 {
-        unsafe { vintsaky_game_size(self.handle()) }
+        self.inner.size().get()
     }
 
     /// The komi.
     pub fn komi(&self) -> Komi {
-        Komi::of(unsafe { vintsaky_game_komi(self.handle()) })
+        Komi::of(self.inner.komi())
     }
 
     /// How many handicap stones were placed, or 0.
     pub fn handicap(&self) -> u32 {
-        unsafe { vintsaky_game_handicap(self.handle()) }
+        self.inner.handicap()
     }
 
     /// How many moves the record has.
     pub fn length(&self) -> usize {
-        unsafe { vintsaky_game_length(self.handle()) }
+        self.inner.moves().len()
     }
 
     /// The score by area, after the komi.
     pub fn score(&self) -> Score {
-        Score::of(unsafe { vintsaky_game_score(self.handle()) })
+        Score::of(self.inner.score())
     }
 
     /// Whether the last two moves are passes.
     pub fn is_finished(&self) -> bool {
-        unsafe { vintsaky_game_finished(self.handle()) }
+        self.inner.finished()
     }
 
     /// A hash of the board: equal boards have equal hashes.
     pub fn board_hash(&self) -> u64 {
-        unsafe { vintsaky_game_hash(self.handle()) }
+        self.inner.board_hash()
     }
 
     /// How many stones a colour has taken.
     pub fn captured(&self, colour: Colour) -> u32 {
-        let mut stones = 0;
-        let refused = unsafe { vintsaky_game_captured(self.handle(), colour.number(), &mut stones) };
-        debug_assert_eq!(refused, VINTSAKY_DONE);
-        stones
+        self.inner.captured(colour.inner())
     }
 
     /// The colour of the stone on a point: none where it is empty.
@@ -195,9 +182,7 @@ impl Game {
     ///
     /// [`Refusal::OffBoard`].
     pub fn stone_at(&self, point: Point) -> Result<Option<Colour>, Refusal> {
-        let mut colour = 0;
-        Refusal::check(unsafe { vintsaky_game_stone_at(self.handle(), point.number(), &mut colour) })?;
-        Ok(Colour::of(colour))
+        Ok(self.inner.at(self.on_board(point)?).map(Colour::of))
     }
 
     /// The chain of the stone on a point.
@@ -206,9 +191,8 @@ impl Game {
     ///
     /// [`Refusal::OffBoard`], or else [`Refusal::NoStone`].
     pub fn chain(&self, point: Point) -> Result<Chain, Refusal> {
-        let (mut stones, mut liberties) = (0, 0);
-        let answer = unsafe { vintsaky_game_chain(self.handle(), point.number(), &mut stones, &mut liberties) };
-        Refusal::check(answer).map(|()| Chain { stones, liberties })
+        let chain = self.inner.chain(self.on_board(point)?).ok_or(Refusal::NoStone)?;
+        Ok(Chain { stones: chain.stones, liberties: chain.liberties })
     }
 
     /// The points on which a colour may play next, row by row from A1. They are those of the game as it is now.
@@ -225,27 +209,18 @@ impl Game {
     /// assert_eq!(game.legal_points(Colour::White).next(), Some("B2".parse()?));
     /// # Ok::<(), Refusal>(())
     /// ```
-    pub fn legal_points(&self, colour: Colour) -> impl ExactSizeIterator<Item = Point> + DoubleEndedIterator {
-        points_of(|points, room| {
-            let mut count = 0;
-            let number = colour.number();
-            let refused = unsafe { vintsaky_game_legal_points(self.handle(), number, points, room, &mut count) };
-            debug_assert_eq!(refused, VINTSAKY_DONE);
-            count
-        })
+    pub fn legal_points(&self, colour: Colour) -> impl ExactSizeIterator<Item = Point> + DoubleEndedIterator + use<> {
+        self.inner.legal_points(colour.inner()).into_iter().map(Point::of)
     }
 
     /// The points whose stones the last move took, row by row from A1.
-    pub fn taken_by_last_move(&self) -> impl ExactSizeIterator<Item = Point> + DoubleEndedIterator {
-        points_of(|points, room| unsafe { vintsaky_game_taken_by_last_move(self.handle(), points, room) })
+    pub fn taken_by_last_move(&self) -> impl ExactSizeIterator<Item = Point> + DoubleEndedIterator + use<> {
+        self.inner.taken_by_last_move().into_iter().map(Point::of)
     }
 
     /// A move of the record, counted from 0: none where the record has no such move.
     pub fn made(&self, number: usize) -> Option<Move> {
-        let (mut colour, mut vertex) = (0, 0);
-        let answer = unsafe { vintsaky_game_made(self.handle(), number, &mut colour, &mut vertex) };
-        Refusal::check(answer).ok()?;
-        Some(Move { colour: Colour::of(colour)?, vertex: Vertex::of(vertex) })
+        self.inner.moves().get(number).copied().map(Move::of)
     }
 
     /// The moves of the record, the first one first.
@@ -261,16 +236,28 @@ impl Game {
     /// # Ok::<(), Refusal>(())
     /// ```
     pub fn moves(&self) -> impl DoubleEndedIterator<Item = Move> + '_ {
-        (0..self.length()).filter_map(|number| self.made(number))
+        self.inner.moves().iter().copied().map(Move::of)
     }
-}
 
-/// The points whose numbers `write` writes into a buffer of this length. It returns how many these are.
-fn points_of(write: impl FnOnce(*mut u32, usize) -> usize) -> Points {
-    let mut numbers = vec![0; MOST_POINTS];
-    let count = write(numbers.as_mut_ptr(), numbers.len());
-    numbers.truncate(count);
-    numbers.into_iter().map(Point::of)
+    /// The point, where the board has it.
+    fn on_board(&self, point: Point) -> Result<go_base::Point, Refusal> {
+        let point = point.inner();
+        point.on(self.inner.size()).then_some(point).ok_or(Refusal::OffBoard)
+    }
+
+    fn of(game: go_board::Game) -> Self {
+        Self { inner: Box::new(game), _not_sync: PhantomData }
+    }
+
+    /// Becomes a copy of a game, and takes no memory.
+    pub(crate) fn copy(&mut self, game: &go_board::Game) {
+        self.inner.copy_from(game);
+    }
+
+    /// A copy of a game.
+    pub(crate) fn copy_of(game: &go_board::Game) -> Self {
+        Self::of(game.copied())
+    }
 }
 
 impl Default for Game {
@@ -281,21 +268,18 @@ impl Default for Game {
 
 impl Clone for Game {
     fn clone(&self) -> Self {
-        let mut copy = Self::new();
-        copy.clone_from(self);
-        copy
+        Self::copy_of(&self.inner)
     }
 
     /// Becomes a copy of another game, and takes no memory.
     fn clone_from(&mut self, other: &Self) {
-        unsafe { vintsaky_game_copy(self.handle(), other.handle()) }
+        self.copy(&other.inner);
     }
 }
 
 impl fmt::Display for Game {
     fn fmt(&self, out: &mut fmt::Formatter<'_>) -> fmt::Result {
-        let text = texts::bytes_of(|text, room| unsafe { vintsaky_game_board_text(self.handle(), text, room) });
-        out.write_str(&texts::string_of(text))
+        out.write_str(&texts::string_of(&self.inner.show()))
     }
 }
 

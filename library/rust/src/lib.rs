@@ -1,5 +1,4 @@
-//! The rules of Go, the referee of a match, and engines of the Go Text Protocol (GTP), over the library `vintsaky`,
-//! whose calls are proved.
+//! The rules of Go, the referee of a match, and engines of the Go Text Protocol (GTP), over crates that are proved.
 //!
 //! - [`Game`] has the rules: moves, legality, undo, captures and the score.
 //! - [`serve`] and [`Player`] make an engine of whoever chooses moves. [`Engine`] is the same in steps.
@@ -19,18 +18,17 @@
 //! }
 //! ```
 //!
-//! No call panics, whatever it is given; only a fresh object does where a library asks for an alignment of more than 8.
-//! The types are `Send` and not `Sync`: an object may go to another thread, and one thread at a time has it.
-//!
-//! The build script finds the archive `libvintsaky.a` in the folder that the variable `VINTSAKY_LIB_DIR` names, or else
-//! in the one that `pkg-config --variable=libdir vintsaky` prints.
+//! No call panics, whatever it is given. The types are `Send` and not `Sync`: an object may go to another thread, and
+//! one thread at a time has it.
 
 #![deny(missing_docs)]
+#![forbid(unsafe_code)]
+
+use std::cell::Cell;
+use std::marker::PhantomData;
 
 mod engine;
-mod ffi;
 mod game;
-mod held;
 mod outcomes;
 mod player;
 mod readers;
@@ -43,21 +41,20 @@ mod writers;
 pub use engine::{Engine, Fed, Wait};
 pub use game::{Chain, Game};
 pub use outcomes::{Action, Loss, Owed, Report, Status, Verdict};
-pub use player::{serve, Player, ServeError};
+pub use player::{Player, ServeError, serve};
 pub use readers::{CommandLines, LineEvent, Replies, ReplyEvent};
 pub use referee::{Match, Setup};
 pub use refusal::Refusal;
 pub use values::{Choice, Colour, KoRule, Komi, Move, Point, Score, Vertex};
-pub use writers::{reply, Command};
+pub use writers::{Command, reply};
 
 /// The version of the library that this crate is made for, as [`version`] returns that of the library it has.
-pub const VERSION: u32 = ffi::VINTSAKY_VERSION;
+pub const VERSION: u32 = 0x010000;
 
 /// The version of the library: 65536 times the first number, 256 times the second, and the third.
 pub fn version() -> u32 {
-    unsafe { ffi::vintsaky_version() }
+    vintsaky_calls::library::version()
 }
 
-/// A program that has this crate links with a library of the same interface alone.
-#[used]
-static INTERFACE: unsafe extern "C" fn() = ffi::vintsaky_interface_1;
+/// What keeps a type from being `Sync`, and leaves it `Send`.
+type NotSync = PhantomData<Cell<()>>;

@@ -2,7 +2,11 @@
 
 use std::fmt;
 
-use crate::ffi::*;
+use go_board::PlayFault;
+use gtp_match::{ForfeitCause, LossCause, SideFault};
+use gtp_wire::write_command;
+
+use crate::texts;
 use crate::values::{Colour, Score};
 
 /// What is to be done next in a match.
@@ -19,14 +23,12 @@ pub enum Action {
 }
 
 impl Action {
-    /// The action of these numbers.
-    pub(crate) fn of(next: u32, side: u32) -> Self {
-        match (next, Colour::of(side)) {
-            (VINTSAKY_START, Some(side)) => Self::Start(side),
-            (VINTSAKY_SEND, Some(side)) => Self::Send(side),
-            (VINTSAKY_WAIT, Some(side)) => Self::Wait(side),
-            (VINTSAKY_OVER, _) => Self::Over,
-            _ => Self::Over,
+    pub(crate) fn of(action: gtp_match::Action) -> Self {
+        match action {
+            gtp_match::Action::Start(side) => Self::Start(Colour::of(side)),
+            gtp_match::Action::Send(side) => Self::Send(Colour::of(side)),
+            gtp_match::Action::Wait(side) => Self::Wait(Colour::of(side)),
+            gtp_match::Action::Done(_verdict) => Self::Over,
         }
     }
 }
@@ -63,31 +65,40 @@ pub enum Loss {
     Suicide,
     /// Its move is ko. It forfeits.
     Ko,
-    /// A number that this crate doesn't know: the library is newer.
+    /// A loss of another release, by its number. No call of this crate returns it.
     Unknown(u32),
 }
 
 impl Loss {
-    /// The loss of a number: none where it is 0.
-    pub(crate) fn of(number: u32) -> Option<Self> {
-        Some(match number {
-            0 => return None,
-            VINTSAKY_LOSS_NO_STATUS => Self::NoStatus,
-            VINTSAKY_LOSS_OVERLONG => Self::Overlong,
-            VINTSAKY_LOSS_WRONG_ID => Self::WrongId,
-            VINTSAKY_LOSS_UNASKED => Self::Unasked,
-            VINTSAKY_LOSS_UNFIT => Self::Unfit,
-            VINTSAKY_LOSS_REFUSES_PLAY => Self::RefusesPlay,
-            VINTSAKY_LOSS_KEEPS_MOVE => Self::KeepsMove,
-            VINTSAKY_LOSS_NO_MOVE => Self::NoMove,
-            VINTSAKY_LOSS_NO_VERTEX => Self::NoVertex,
-            VINTSAKY_LOSS_FULL => Self::Full,
-            VINTSAKY_LOSS_OFF_BOARD => Self::OffBoard,
-            VINTSAKY_LOSS_OCCUPIED => Self::Occupied,
-            VINTSAKY_LOSS_SUICIDE => Self::Suicide,
-            VINTSAKY_LOSS_KO => Self::Ko,
-            _ => Self::Unknown(number),
-        })
+    pub(crate) fn of(loss: &gtp_match::Loss) -> Self {
+        match loss.cause {
+            LossCause::Shows(fault) => Self::of_side(fault),
+            LossCause::Unfit => Self::Unfit,
+            LossCause::RefusesPlay => Self::RefusesPlay,
+            LossCause::KeepsMove => Self::KeepsMove,
+            LossCause::NoMove => Self::NoMove,
+            LossCause::NoVertex => Self::NoVertex,
+            LossCause::Illegal(fault) => Self::of_play(fault),
+        }
+    }
+
+    fn of_side(fault: SideFault) -> Self {
+        match fault {
+            SideFault::NoStatus => Self::NoStatus,
+            SideFault::Overlong => Self::Overlong,
+            SideFault::WrongId => Self::WrongId,
+            SideFault::Unasked => Self::Unasked,
+        }
+    }
+
+    fn of_play(fault: PlayFault) -> Self {
+        match fault {
+            PlayFault::Full => Self::Full,
+            PlayFault::OffBoard => Self::OffBoard,
+            PlayFault::Occupied => Self::Occupied,
+            PlayFault::Suicide => Self::Suicide,
+            PlayFault::Ko => Self::Ko,
+        }
     }
 }
 
@@ -124,6 +135,14 @@ pub struct Owed {
     pub wrote: Vec<u8>,
 }
 
+impl Owed {
+    pub(crate) fn of(owed: &gtp_match::Owed) -> Self {
+        let mut command = owed.oldest.map(|sent| write_command(Some(sent.id), &sent.command)).unwrap_or_default();
+        let _newline = command.pop();
+        Self { unanswered: owed.unanswered, command: texts::string_of(&command), wrote: owed.bytes.to_vec() }
+    }
+}
+
 /// What is reported of bytes that a side wrote.
 #[derive(Clone, Debug, Default, PartialEq, Eq, Hash)]
 pub struct Report {
@@ -135,6 +154,14 @@ pub struct Report {
     pub owed: Option<Owed>,
 }
 
+impl Report {
+    pub(crate) fn of(report: &gtp_match::Report) -> Self {
+        let (loss, retake) = (report.loss.as_ref(), report.retake.as_ref());
+        let owed = loss.map(|loss| &loss.owed).or(retake.map(|retake| &retake.owed));
+        Self { loss: loss.map(Loss::of), retake: retake.map(|retake| retake.count), owed: owed.map(Owed::of) }
+    }
+}
+
 /// How far a side is.
 #[derive(Clone, Copy, Debug, PartialEq, Eq, Hash)]
 pub struct Status {
@@ -144,6 +171,16 @@ pub struct Status {
     pub unanswered: u32,
     /// Whether a genmove is among these.
     pub asked: bool,
+}
+
+impl Status {
+    /// How far a side is that is up.
+    pub(crate) fn of(status: gtp_match::Status) -> Option<Self> {
+        match status {
+            gtp_match::Status::Down => None,
+            gtp_match::Status::Up { confirmed, unanswered, asked } => Some(Self { confirmed, unanswered, asked }),
+        }
+    }
 }
 
 /// How a match ended.
@@ -170,20 +207,24 @@ pub enum Verdict {
 }
 
 impl Verdict {
-    /// The verdict of these numbers: none where this crate doesn't know them.
-    pub(crate) fn of(ending: u32, side: u32, half_points: i32) -> Option<Self> {
-        Some(match (ending, Colour::of(side)) {
-            (VINTSAKY_BY_SCORE, _) => Self::Score(Score::of(half_points)),
-            (VINTSAKY_BY_LIMIT, _) => Self::Limit,
-            (VINTSAKY_BY_RESIGNATION, Some(side)) => Self::Resignation(side),
-            (VINTSAKY_BY_REFUSED_PLAY, Some(side)) => Self::RefusedPlay(side),
-            (VINTSAKY_BY_NO_MOVE, Some(side)) => Self::NoMove(side),
-            (VINTSAKY_BY_NO_VERTEX, Some(side)) => Self::NoVertex(side),
-            (VINTSAKY_BY_ILLEGAL_MOVE, Some(side)) => Self::IllegalMove(side),
-            (VINTSAKY_BY_UNFIT, Some(side)) => Self::Unfit(side),
-            (VINTSAKY_BY_ABANDONED, Some(side)) => Self::Abandoned(side),
-            _ => return None,
-        })
+    pub(crate) fn of(verdict: gtp_match::Verdict) -> Self {
+        match verdict {
+            gtp_match::Verdict::Score(half_points) => Self::Score(Score::of(half_points)),
+            gtp_match::Verdict::Resign(side) => Self::Resignation(Colour::of(side)),
+            gtp_match::Verdict::Limit => Self::Limit,
+            gtp_match::Verdict::Forfeit(side, cause) => Self::of_forfeit(Colour::of(side), cause),
+            gtp_match::Verdict::Unfit(side) => Self::Unfit(Colour::of(side)),
+            gtp_match::Verdict::Abandoned(side) => Self::Abandoned(Colour::of(side)),
+        }
+    }
+
+    fn of_forfeit(side: Colour, cause: ForfeitCause) -> Self {
+        match cause {
+            ForfeitCause::RefusedPlay => Self::RefusedPlay(side),
+            ForfeitCause::NoMove => Self::NoMove(side),
+            ForfeitCause::NoVertex => Self::NoVertex(side),
+            ForfeitCause::IllegalMove => Self::IllegalMove(side),
+        }
     }
 
     /// Who won: none where nobody did.

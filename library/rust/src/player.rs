@@ -7,12 +7,13 @@ use std::io::{self, ErrorKind, Read, Write};
 use crate::engine::{Engine, Fed};
 use crate::game::Game;
 use crate::refusal::Refusal;
-use crate::values::{Choice, Colour};
+use crate::values::{Choice, Colour, KoRule};
 
 /// How many bytes of the input are read at once.
 const PIECE: usize = 4096;
 
-/// An engine of its author's: what it chooses, and what it says of itself. A closure that chooses is one too.
+/// An engine of its author's: what it chooses, and what it says of itself. A closure that chooses is one too, by simple
+/// ko.
 ///
 /// ```
 /// use vintsaky::{Choice, Colour, Game, Player, Vertex};
@@ -64,6 +65,35 @@ pub trait Player {
     /// `list_commands` have them.
     fn commands(&self) -> &[&str] {
         &[]
+    }
+
+    /// The ko rule of the session's game: simple ko, where the player doesn't say another. It is asked for once, before
+    /// anything is read.
+    ///
+    /// ```
+    /// use vintsaky::{Choice, Colour, Game, KoRule, Player};
+    ///
+    /// struct Last;
+    ///
+    /// impl Player for Last {
+    ///     fn choose(&mut self, game: &Game, colour: Colour) -> Choice {
+    ///         game.legal_points(colour).last().map_or(Choice::Resign, Choice::from)
+    ///     }
+    ///
+    ///     fn rule(&self) -> KoRule {
+    ///         KoRule::Positional
+    ///     }
+    /// }
+    ///
+    /// // Black's stone on A2 would take White's, and make the board of the second move again.
+    /// let input = "boardsize 2\nplay b A1\nplay b A2\nplay w B1\nplay w B2\nplay b A1\n7 genmove b\n";
+    /// let mut written = Vec::new();
+    /// vintsaky::serve(&mut Last, input.as_bytes(), &mut written)?;
+    /// assert!(written.ends_with(b"\n\n=7 resign\n\n"));
+    /// # Ok::<(), vintsaky::ServeError>(())
+    /// ```
+    fn rule(&self) -> KoRule {
+        KoRule::default()
     }
 
     /// Answers a command that isn't the library's, by a success or a failure with a text; or declines it, and the reply
@@ -158,7 +188,7 @@ where
     P: Player + ?Sized,
 {
     let mut engine = engine_of(player)?;
-    let mut game = Game::new();
+    let mut game = engine.game();
     let mut buffer = [0; PIECE];
     while !engine.is_ended() {
         let mut rest = match input.read(&mut buffer) {
@@ -171,9 +201,8 @@ where
             let (came, used) = engine.feed(rest);
             rest = rest.get(used..).unwrap_or_default();
             if came != Fed::More {
-                engine.copy_game(&mut game);
-                answer(player, &mut engine, &game, came)?;
-                output.write_all(engine.reply().as_bytes())?;
+                answer(player, &mut engine, &mut game, came)?;
+                output.write_all(engine.reply_bytes())?;
                 output.flush()?;
             }
         }
@@ -181,9 +210,10 @@ where
     Ok(())
 }
 
-/// An engine that says of itself what the player does.
+/// An engine by the player's ko rule, which says of itself what the player does.
 fn engine_of<P: Player + ?Sized>(player: &P) -> Result<Engine, ServeError> {
     let mut engine = Engine::new();
+    engine.begin(player.rule());
     engine.set_name(player.name()).map_err(|_| ServeError::Title(player.name().to_string()))?;
     engine.set_version(player.version()).map_err(|_| ServeError::Title(player.version().to_string()))?;
     for name in player.commands() {
@@ -192,17 +222,19 @@ fn engine_of<P: Player + ?Sized>(player: &P) -> Result<Engine, ServeError> {
     Ok(engine)
 }
 
-/// Hands in what the player chooses or answers, where that is asked for.
-fn answer<P>(player: &mut P, engine: &mut Engine, game: &Game, came: Fed) -> Result<(), ServeError>
+/// Hands in what the player chooses or answers, where that is asked for. The player sees the game as a copy.
+fn answer<P>(player: &mut P, engine: &mut Engine, game: &mut Game, came: Fed) -> Result<(), ServeError>
 where
     P: Player + ?Sized,
 {
     match came {
         Fed::Asked(colour) => {
+            engine.copy_game(game);
             let choice = player.choose(game, colour);
             engine.choose(choice).map_err(|refusal| ServeError::Choice { choice, colour, refusal })
         }
         Fed::Other => {
+            engine.copy_game(game);
             let words: Vec<String> = engine.words().map(|word| String::from_utf8_lossy(&word).into_owned()).collect();
             let words: Vec<&str> = words.iter().map(String::as_str).collect();
             let said = player.command(game, &words);

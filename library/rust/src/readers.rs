@@ -1,11 +1,12 @@
 //! Readers of command lines and of replies.
 
 use std::fmt;
+use std::marker::PhantomData;
 
-use crate::ffi::*;
-use crate::held::{Held, LINES, REPLIES};
+use gtp_wire::{CommandLine, Line, LineReader, Reply, ReplyFault, ReplyReader};
+
+use crate::NotSync;
 use crate::refusal::Refusal;
-use crate::texts;
 
 /// What came of bytes that a reader of command lines was fed.
 #[derive(Clone, Copy, Debug, PartialEq, Eq, Hash)]
@@ -31,26 +32,36 @@ pub enum LineEvent {
 /// assert!(lines.words().eq([b"play".to_vec(), b"b".to_vec(), b"D4".to_vec()]));
 /// ```
 pub struct CommandLines {
-    held: Held<Lines>,
+    reader: Box<LineReader>,
+    /// The line that was read last: one that is too long before the first.
+    last: Box<Line>,
+    _not_sync: NotSync,
 }
 
 impl CommandLines {
     /// A reader that was given nothing.
     pub fn new() -> Self {
-        Self { held: Held::new(&LINES) }
+        Self { reader: Box::default(), last: Box::new(Line::TooLong), _not_sync: PhantomData }
     }
 
     /// Takes the next bytes up to and with the newline that ends a line, or all of them. Returns what came of them, and
     /// how many were used.
     pub fn feed(&mut self, bytes: &[u8]) -> (LineEvent, usize) {
-        let mut used = 0;
-        let came = unsafe { vintsaky_lines_feed(self.held.get(), bytes.as_ptr(), bytes.len(), &mut used) };
-        let came = match came {
-            VINTSAKY_LINE => LineEvent::Line,
-            VINTSAKY_TOO_LONG => LineEvent::TooLong,
-            _ => LineEvent::More,
+        let read = self.reader.feed_into(bytes, &mut self.last);
+        let came = match *self.last {
+            _ if !read.found => LineEvent::More,
+            Line::Command(_) => LineEvent::Line,
+            Line::TooLong => LineEvent::TooLong,
         };
-        (came, used)
+        (came, read.used)
+    }
+
+    /// The command line that was read last.
+    fn line(&self) -> Result<&CommandLine, Refusal> {
+        match &*self.last {
+            Line::Command(line) => Ok(line),
+            Line::TooLong => Err(Refusal::NoLine),
+        }
     }
 
     /// The id of the command line that was read last.
@@ -59,9 +70,7 @@ impl CommandLines {
     ///
     /// [`Refusal::NoLine`], or else [`Refusal::NoId`].
     pub fn id(&self) -> Result<u32, Refusal> {
-        let mut id = 0;
-        Refusal::check(unsafe { vintsaky_lines_id(self.held.get(), &mut id) })?;
-        Ok(id)
+        self.line()?.id().ok_or(Refusal::NoId)
     }
 
     /// A word of the command line that was read last, counted from 0 after the id.
@@ -70,9 +79,7 @@ impl CommandLines {
     ///
     /// [`Refusal::NoLine`], or else [`Refusal::NoWord`].
     pub fn word(&self, number: usize) -> Result<Vec<u8>, Refusal> {
-        texts::bytes_or_refusal(|text, room, count| unsafe {
-            vintsaky_lines_word(self.held.get(), number, text, room, count)
-        })
+        self.line()?.word(number).map(<[u8]>::to_vec).ok_or(Refusal::NoWord)
     }
 
     /// The words of the command line that was read last, after the id. There are none where no line was.
@@ -119,44 +126,44 @@ pub enum ReplyEvent {
 /// assert_eq!(replies.text(), b"D4");
 /// ```
 pub struct Replies {
-    held: Held<crate::ffi::Replies>,
+    reader: Box<ReplyReader>,
+    /// The reply that was read last: a failure without an id and a text before the first.
+    last: Box<Reply>,
+    _not_sync: NotSync,
 }
 
 impl Replies {
     /// A reader that was given nothing.
     pub fn new() -> Self {
-        Self { held: Held::new(&REPLIES) }
+        Self { reader: Box::new(ReplyReader::new()), last: Box::default(), _not_sync: PhantomData }
     }
 
     /// Takes the next bytes up to and with the byte that ends a reply or shows a fault, or all of them. Returns what
     /// came of them, and how many were used.
     pub fn feed(&mut self, bytes: &[u8]) -> (ReplyEvent, usize) {
-        let mut used = 0;
-        let came = unsafe { vintsaky_replies_feed(self.held.get(), bytes.as_ptr(), bytes.len(), &mut used) };
-        let came = match came {
-            VINTSAKY_READ => ReplyEvent::Reply,
-            VINTSAKY_NO_REPLY => ReplyEvent::NoReply,
-            VINTSAKY_LONG_REPLY => ReplyEvent::TooLong,
-            _ => ReplyEvent::More,
+        let read = self.reader.feed_into(bytes, &mut self.last);
+        let came = match read.got {
+            None => ReplyEvent::More,
+            Some(Ok(())) => ReplyEvent::Reply,
+            Some(Err(ReplyFault::NoStatus)) => ReplyEvent::NoReply,
+            Some(Err(ReplyFault::Overlong)) => ReplyEvent::TooLong,
         };
-        (came, used)
+        (came, read.used)
     }
 
     /// Whether the reply that was read last is a success.
     pub fn is_ok(&self) -> bool {
-        unsafe { vintsaky_replies_ok(self.held.get()) }
+        self.last.ok
     }
 
     /// The id of the reply that was read last: none where it has none.
     pub fn id(&self) -> Option<u32> {
-        let mut id = 0;
-        let answer = unsafe { vintsaky_replies_id(self.held.get(), &mut id) };
-        Refusal::check(answer).ok().map(|()| id)
+        self.last.id
     }
 
     /// The text of the reply that was read last.
     pub fn text(&self) -> Vec<u8> {
-        texts::bytes_of(|text, room| unsafe { vintsaky_replies_text(self.held.get(), text, room) })
+        self.last.text.to_vec()
     }
 }
 

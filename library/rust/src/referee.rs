@@ -1,19 +1,16 @@
 //! The referee of a match.
 
 use std::fmt;
+use std::marker::PhantomData;
 
-use crate::ffi::*;
+use gtp_match::{record_line, result_line};
+
+use crate::NotSync;
 use crate::game::Game;
-use crate::held::{Held, MATCH};
 use crate::outcomes::{Action, Loss, Owed, Report, Status, Verdict};
 use crate::refusal::Refusal;
 use crate::texts;
-use crate::values::{Colour, Komi};
-
-/// How many bytes a command has at most, and how many of those that a side wrote are reported, each with room for a
-/// NUL.
-const COMMAND_ROOM: usize = 65;
-const WROTE_ROOM: usize = 81;
+use crate::values::{Colour, Komi, checked_size};
 
 /// What a match is about.
 #[derive(Clone, Copy, Debug, PartialEq, Eq, Hash)]
@@ -28,6 +25,14 @@ pub struct Setup {
     pub max_moves: u32,
     /// How often a side may be started again, from 0 to 1,000.
     pub max_restarts: u32,
+}
+
+impl Setup {
+    fn inner(self) -> Result<gtp_match::Setup, Refusal> {
+        let Self { size, komi, handicap, max_moves, max_restarts } = self;
+        gtp_match::Setup::new(checked_size(size)?, komi.inner(), handicap, max_moves, max_restarts)
+            .map_err(Refusal::of_setup)
+    }
 }
 
 impl Default for Setup {
@@ -65,13 +70,14 @@ impl Default for Setup {
 /// assert_eq!(next, Some(vintsaky::Action::Start(vintsaky::Colour::Black)));
 /// ```
 pub struct Match {
-    held: Held<crate::ffi::Match>,
+    inner: Box<gtp_match::Match>,
+    _not_sync: NotSync,
 }
 
 impl Match {
     /// A match of the default [`Setup`], whose engines are not started yet.
     pub fn new() -> Self {
-        Self { held: Held::new(&MATCH) }
+        Self::with(Setup::default()).expect("the default setup is one")
     }
 
     /// A match about this, whose engines are not started yet.
@@ -80,13 +86,8 @@ impl Match {
     ///
     /// As those of [`begin`](Self::begin).
     pub fn with(setup: Setup) -> Result<Self, Refusal> {
-        let mut held = Self::new();
-        held.begin(setup)?;
-        Ok(held)
-    }
-
-    fn handle(&self) -> *mut crate::ffi::Match {
-        self.held.get()
+        let inner = Box::new(gtp_match::Match::new(setup.inner()?));
+        Ok(Self { inner, _not_sync: PhantomData })
     }
 
     /// Begins a match anew, between two engines that are not started yet.
@@ -96,17 +97,18 @@ impl Match {
     /// [`Refusal::BadSize`], [`Refusal::BadHandicap`], [`Refusal::BadMaxMoves`] or [`Refusal::BadMaxRestarts`], the
     /// first of these that holds.
     pub fn begin(&mut self, setup: Setup) -> Result<(), Refusal> {
-        let Setup { size, komi, handicap, max_moves, max_restarts } = setup;
-        Refusal::check(unsafe {
-            vintsaky_match_begin(self.handle(), size, komi.half_points(), handicap, max_moves, max_restarts)
-        })
+        *self.inner = gtp_match::Match::new(setup.inner()?);
+        Ok(())
     }
 
     /// What is to be done next. Ask each time.
     pub fn next_action(&self) -> Action {
-        let mut side = 0;
-        let next = unsafe { vintsaky_match_next(self.handle(), &mut side) };
-        Action::of(next, side)
+        Action::of(self.inner.next())
+    }
+
+    /// Whether this is what is next.
+    fn is_next(&self, action: Action) -> Result<(), Refusal> {
+        (self.next_action() == action).then_some(()).ok_or(Refusal::NotNext)
     }
 
     /// A side's engine was started; also where it couldn't be, and [`lost`](Self::lost) comes next.
@@ -115,7 +117,9 @@ impl Match {
     ///
     /// [`Refusal::NotNext`] where its start isn't what is next.
     pub fn started(&mut self, side: Colour) -> Result<(), Refusal> {
-        Refusal::check(unsafe { vintsaky_match_started(self.handle(), side.number()) })
+        self.is_next(Action::Start(side))?;
+        self.inner.started(side.inner());
+        Ok(())
     }
 
     /// The next command for a side, with its newline. It counts as sent.
@@ -124,47 +128,18 @@ impl Match {
     ///
     /// [`Refusal::NotNext`] where that isn't what is next.
     pub fn send(&mut self, side: Colour) -> Result<String, Refusal> {
-        let mut text = vec![0; COMMAND_ROOM];
-        let mut length = 0;
-        Refusal::check(unsafe {
-            vintsaky_match_send(self.handle(), side.number(), text.as_mut_ptr(), text.len(), &mut length)
-        })?;
-        text.truncate(length);
-        Ok(texts::string_of(text))
+        self.is_next(Action::Send(side))?;
+        Ok(texts::string_of(&self.inner.send(side.inner())))
     }
 
     /// Hears what a side wrote, in any pieces. Returns why the side fails by it, where it does.
     pub fn hear(&mut self, side: Colour, bytes: &[u8]) -> Option<Loss> {
-        let (side, mut loss) = (side.number(), 0);
-        let refused = unsafe { vintsaky_match_hear(self.handle(), side, bytes.as_ptr(), bytes.len(), &mut loss) };
-        debug_assert_eq!(refused, VINTSAKY_DONE);
-        Loss::of(loss)
+        self.inner.hear_reporting(side.inner(), bytes).loss.as_ref().map(Loss::of)
     }
 
     /// Hears what a side wrote as [`hear`](Self::hear) does, and reports more of it.
     pub fn hear_reporting(&mut self, side: Colour, bytes: &[u8]) -> Report {
-        let (mut loss, mut retake, mut owed) = (0, 0, OwedRoom::new());
-        let (side, command, wrote) = (side.number(), &mut owed.command, &mut owed.wrote);
-        let refused = unsafe {
-            vintsaky_match_hear_reporting(
-                self.handle(),
-                side,
-                bytes.as_ptr(),
-                bytes.len(),
-                &mut loss,
-                &mut retake,
-                &mut owed.unanswered,
-                command.as_mut_ptr(),
-                command.len(),
-                &mut owed.command_length,
-                wrote.as_mut_ptr(),
-                wrote.len(),
-                &mut owed.wrote_length,
-            )
-        };
-        debug_assert_eq!(refused, VINTSAKY_DONE);
-        let (loss, retake) = (Loss::of(loss), Some(retake).filter(|number| *number != 0));
-        Report { loss, retake, owed: (loss.is_some() || retake.is_some()).then(|| owed.read()) }
+        Report::of(&self.inner.hear_reporting(side.inner(), bytes))
     }
 
     /// What a side owes.
@@ -173,22 +148,7 @@ impl Match {
     ///
     /// [`Refusal::Down`].
     pub fn owed(&self, side: Colour) -> Result<Owed, Refusal> {
-        let mut owed = OwedRoom::new();
-        let (command, wrote) = (&mut owed.command, &mut owed.wrote);
-        Refusal::check(unsafe {
-            vintsaky_match_owed(
-                self.handle(),
-                side.number(),
-                &mut owed.unanswered,
-                command.as_mut_ptr(),
-                command.len(),
-                &mut owed.command_length,
-                wrote.as_mut_ptr(),
-                wrote.len(),
-                &mut owed.wrote_length,
-            )
-        })?;
-        Ok(owed.read())
+        self.inner.owed(side.inner()).as_ref().map(Owed::of).ok_or(Refusal::Down)
     }
 
     /// How far a side is. It doesn't matter whether the match is over.
@@ -197,43 +157,32 @@ impl Match {
     ///
     /// [`Refusal::Down`] where the side was not started or went down.
     pub fn status(&self, side: Colour) -> Result<Status, Refusal> {
-        let (mut confirmed, mut unanswered, mut asked) = (0, 0, 0);
-        Refusal::check(unsafe {
-            vintsaky_match_status(self.handle(), side.number(), &mut confirmed, &mut unanswered, &mut asked)
-        })?;
-        Ok(Status { confirmed, unanswered, asked: asked != 0 })
+        Status::of(self.inner.status(side.inner())).ok_or(Refusal::Down)
     }
 
     /// A side is gone: it can't be started, written to or read any more.
     pub fn lost(&mut self, side: Colour) {
-        let refused = unsafe { vintsaky_match_lost(self.handle(), side.number()) };
-        debug_assert_eq!(refused, VINTSAKY_DONE);
+        self.inner.lost(side.inner());
     }
 
     /// Whether a side is in step: it has confirmed all that brings it to the record.
     pub fn is_in_step(&self, side: Colour) -> bool {
-        let mut holds = 0;
-        let refused = unsafe { vintsaky_match_in_step(self.handle(), side.number(), &mut holds) };
-        debug_assert_eq!(refused, VINTSAKY_DONE);
-        holds != 0
+        self.inner.in_step(side.inner())
     }
 
     /// How often a side was started again.
     pub fn restarts(&self, side: Colour) -> u32 {
-        let mut restarts = 0;
-        let refused = unsafe { vintsaky_match_restarts(self.handle(), side.number(), &mut restarts) };
-        debug_assert_eq!(refused, VINTSAKY_DONE);
-        restarts
+        self.inner.restarts(side.inner())
     }
 
     /// How many refusals of the move of this number, counted from 1, were met by a retake: 3 at most.
     pub fn retakes(&self, number: u32) -> u32 {
-        unsafe { vintsaky_match_retakes(self.handle(), number) }
+        self.inner.retakes(number)
     }
 
     /// The side whose last move is to be taken back, because the other side refused it.
     pub fn taking_back(&self) -> Option<Colour> {
-        Colour::of(unsafe { vintsaky_match_taking_back(self.handle()) })
+        self.inner.taking_back().map(Colour::of)
     }
 
     /// How the match ended.
@@ -242,21 +191,20 @@ impl Match {
     ///
     /// [`Refusal::NotOver`].
     pub fn verdict(&self) -> Result<Verdict, Refusal> {
-        let (mut ending, mut side, mut half_points) = (0, 0, 0);
-        Refusal::check(unsafe { vintsaky_match_verdict(self.handle(), &mut ending, &mut side, &mut half_points) })?;
-        Verdict::of(ending, side, half_points).ok_or(Refusal::Unknown(ending))
+        match self.inner.next() {
+            gtp_match::Action::Done(verdict) => Ok(Verdict::of(verdict)),
+            _ => Err(Refusal::NotOver),
+        }
     }
 
     /// A copy of the match's game.
     pub fn game(&self) -> Game {
-        let mut game = Game::new();
-        self.copy_game(&mut game);
-        game
+        Game::copy_of(self.inner.game())
     }
 
     /// Copies the match's game into one that is there already.
     pub fn copy_game(&self, game: &mut Game) {
-        unsafe { vintsaky_match_copy_game(self.handle(), game.handle()) }
+        game.copy(self.inner.game());
     }
 
     /// The line of a match that is over, with this number: that of `twogtp`.
@@ -265,16 +213,12 @@ impl Match {
     ///
     /// [`Refusal::NotOver`].
     pub fn result(&self, number: u32) -> Result<String, Refusal> {
-        let text = texts::bytes_or_refusal(|text, room, count| unsafe {
-            vintsaky_match_result(self.handle(), number, text, room, count)
-        })?;
-        Ok(texts::string_of(text))
+        result_line(number, &self.inner).map(|line| texts::string_of(&line)).ok_or(Refusal::NotOver)
     }
 
     /// The moves of the match: their vertices, with a space between any two.
     pub fn record(&self) -> String {
-        let text = texts::bytes_of(|text, room| unsafe { vintsaky_match_record(self.handle(), text, room) });
-        texts::string_of(text)
+        texts::string_of(&record_line(&self.inner))
     }
 }
 
@@ -288,28 +232,5 @@ impl fmt::Debug for Match {
     fn fmt(&self, out: &mut fmt::Formatter<'_>) -> fmt::Result {
         let mut shown = out.debug_struct("Match");
         shown.field("next_action", &self.next_action()).field("record", &self.record()).finish_non_exhaustive()
-    }
-}
-
-/// Room for what a side owes.
-struct OwedRoom {
-    unanswered: u32,
-    command: Vec<u8>,
-    command_length: usize,
-    wrote: Vec<u8>,
-    wrote_length: usize,
-}
-
-impl OwedRoom {
-    fn new() -> Self {
-        let (command, wrote) = (vec![0; COMMAND_ROOM], vec![0; WROTE_ROOM]);
-        Self { unanswered: 0, command, command_length: 0, wrote, wrote_length: 0 }
-    }
-
-    /// What was written into it.
-    fn read(mut self) -> Owed {
-        self.command.truncate(self.command_length);
-        self.wrote.truncate(self.wrote_length);
-        Owed { unanswered: self.unanswered, command: texts::string_of(self.command), wrote: self.wrote }
     }
 }

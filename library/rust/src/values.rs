@@ -1,9 +1,13 @@
-//! Colours, points, vertices, komis and moves.
+//! Colours, points, vertices, komis and moves. Each is made `of` the inner value of its name, that of the proved crates,
+//! and returns it by `inner`.
 
+use std::cmp::Ordering;
 use std::fmt;
+use std::hash::{Hash, Hasher};
 use std::str::FromStr;
 
-use crate::ffi::*;
+use go_base::{Size, write_score};
+
 use crate::refusal::Refusal;
 use crate::texts;
 
@@ -35,29 +39,24 @@ impl Colour {
         }
     }
 
-    pub(crate) fn number(self) -> u32 {
-        match self {
-            Self::Black => VINTSAKY_BLACK,
-            Self::White => VINTSAKY_WHITE,
+    pub(crate) fn of(colour: go_base::Colour) -> Self {
+        match colour {
+            go_base::Colour::Black => Self::Black,
+            go_base::Colour::White => Self::White,
         }
     }
 
-    /// The colour of a number, or none where it is 0.
-    pub(crate) fn of(number: u32) -> Option<Self> {
-        match number {
-            VINTSAKY_BLACK => Some(Self::Black),
-            VINTSAKY_WHITE => Some(Self::White),
-            _ => None,
+    pub(crate) fn inner(self) -> go_base::Colour {
+        match self {
+            Self::Black => go_base::Colour::Black,
+            Self::White => go_base::Colour::White,
         }
     }
 }
 
 impl fmt::Display for Colour {
     fn fmt(&self, out: &mut fmt::Formatter<'_>) -> fmt::Result {
-        let number = self.number();
-        let text =
-            texts::bytes_or_refusal(|text, room, count| unsafe { vintsaky_colour_text(number, text, room, count) });
-        padded(out, text)
+        texts::pad(out, &[self.inner().write()])
     }
 }
 
@@ -66,9 +65,7 @@ impl FromStr for Colour {
 
     /// Reads `b`, `w`, `black` or `white`, where each letter may be small or capital.
     fn from_str(text: &str) -> Result<Self, Refusal> {
-        let mut number = 0;
-        Refusal::check(unsafe { vintsaky_read_colour(text.as_ptr(), text.len(), &mut number) })?;
-        Self::of(number).ok_or(Refusal::BadColour)
+        go_base::Colour::read(text.as_bytes()).map(Self::of).ok_or(Refusal::BadText)
     }
 }
 
@@ -82,28 +79,23 @@ impl FromStr for Colour {
 /// assert_eq!("d16".parse(), Ok(d16));
 /// assert_eq!(Point::new(4, 26), None);
 /// ```
-#[derive(Clone, Copy, Debug, PartialEq, Eq, Hash, PartialOrd, Ord)]
-pub struct Point {
-    row: u8,
-    column: u8,
-}
+#[derive(Clone, Copy, PartialEq, Eq)]
+pub struct Point(go_base::Point);
 
 impl Point {
     /// The point of a column and a row: none where one of them isn't from 1 to 25.
     pub fn new(column: u32, row: u32) -> Option<Self> {
-        let mut number = 0;
-        let answer = unsafe { vintsaky_point(column, row, &mut number) };
-        Refusal::check(answer).ok().map(|()| Self::of(number))
+        go_base::Point::new(column, row).map(Self)
     }
 
     /// The column, from 1 to 25.
     pub fn column(self) -> u32 {
-        self.column.into()
+        self.0.column()
     }
 
     /// The row, from 1 to 25.
     pub fn row(self) -> u32 {
-        self.row.into()
+        self.0.row()
     }
 
     /// The points that share a side with this one: below, to the left, to the right and above, as far as they are on
@@ -114,14 +106,41 @@ impl Point {
         places.into_iter().filter_map(|(column, row)| Self::new(column, row))
     }
 
-    pub(crate) fn number(self) -> u32 {
-        self.row() << 8 | self.column()
+    pub(crate) fn of(point: go_base::Point) -> Self {
+        Self(point)
     }
 
-    /// The point of a number that the library wrote.
-    pub(crate) fn of(number: u32) -> Self {
-        let [column, row, ..] = number.to_le_bytes();
-        Self { row, column }
+    pub(crate) fn inner(self) -> go_base::Point {
+        self.0
+    }
+
+    /// What points are ordered by.
+    fn key(self) -> (u32, u32) {
+        (self.row(), self.column())
+    }
+}
+
+impl Ord for Point {
+    fn cmp(&self, other: &Self) -> Ordering {
+        self.key().cmp(&other.key())
+    }
+}
+
+impl PartialOrd for Point {
+    fn partial_cmp(&self, other: &Self) -> Option<Ordering> {
+        Some(self.cmp(other))
+    }
+}
+
+impl Hash for Point {
+    fn hash<H: Hasher>(&self, state: &mut H) {
+        self.key().hash(state);
+    }
+}
+
+impl fmt::Debug for Point {
+    fn fmt(&self, out: &mut fmt::Formatter<'_>) -> fmt::Result {
+        out.debug_struct("Point").field("row", &self.row()).field("column", &self.column()).finish()
     }
 }
 
@@ -161,18 +180,17 @@ pub enum Vertex {
 }
 
 impl Vertex {
-    pub(crate) fn number(self) -> u32 {
-        match self {
-            Self::Pass => VINTSAKY_PASS,
-            Self::At(point) => point.number(),
+    pub(crate) fn of(vertex: go_base::Vertex) -> Self {
+        match vertex {
+            go_base::Vertex::Pass => Self::Pass,
+            go_base::Vertex::At(point) => Self::At(Point::of(point)),
         }
     }
 
-    /// The vertex of a number that the library wrote.
-    pub(crate) fn of(number: u32) -> Self {
-        match number {
-            VINTSAKY_PASS => Self::Pass,
-            _ => Self::At(Point::of(number)),
+    pub(crate) fn inner(self) -> go_base::Vertex {
+        match self {
+            Self::Pass => go_base::Vertex::Pass,
+            Self::At(point) => go_base::Vertex::At(point.inner()),
         }
     }
 }
@@ -185,10 +203,7 @@ impl From<Point> for Vertex {
 
 impl fmt::Display for Vertex {
     fn fmt(&self, out: &mut fmt::Formatter<'_>) -> fmt::Result {
-        let number = self.number();
-        let text =
-            texts::bytes_or_refusal(|text, room, count| unsafe { vintsaky_vertex_text(number, text, room, count) });
-        padded(out, text)
+        texts::pad(out, &self.inner().write())
     }
 }
 
@@ -197,9 +212,7 @@ impl FromStr for Vertex {
 
     /// Reads a vertex as the protocol spells it, where each letter may be small or capital.
     fn from_str(text: &str) -> Result<Self, Refusal> {
-        let mut number = 0;
-        Refusal::check(unsafe { vintsaky_read_vertex(text.as_ptr(), text.len(), &mut number) })?;
-        Ok(Self::of(number))
+        go_base::Vertex::read(text.as_bytes()).map(Self::of).ok_or(Refusal::BadText)
     }
 }
 
@@ -213,10 +226,10 @@ pub enum Choice {
 }
 
 impl Choice {
-    pub(crate) fn number(self) -> u32 {
+    pub(crate) fn inner(self) -> go_base::Choice {
         match self {
-            Self::Play(vertex) => vertex.number(),
-            Self::Resign => VINTSAKY_RESIGN,
+            Self::Play(vertex) => go_base::Choice::Play(vertex.inner()),
+            Self::Resign => go_base::Choice::Resign,
         }
     }
 }
@@ -264,18 +277,18 @@ impl Komi {
         self.0
     }
 
-    /// The komi that the library returns.
-    pub(crate) fn of(half_points: i32) -> Self {
-        Self(half_points)
+    pub(crate) fn of(komi: go_base::Komi) -> Self {
+        Self(komi.half_points())
+    }
+
+    pub(crate) fn inner(self) -> go_base::Komi {
+        go_base::Komi::from_half_points(self.0).expect("a komi is made within its limits")
     }
 }
 
 impl fmt::Display for Komi {
     fn fmt(&self, out: &mut fmt::Formatter<'_>) -> fmt::Result {
-        let half_points = self.0;
-        let text =
-            texts::bytes_or_refusal(|text, room, count| unsafe { vintsaky_komi_text(half_points, text, room, count) });
-        padded(out, text)
+        texts::pad(out, &self.inner().write())
     }
 }
 
@@ -284,9 +297,7 @@ impl FromStr for Komi {
 
     /// Reads a komi in points, as the protocol spells it.
     fn from_str(text: &str) -> Result<Self, Refusal> {
-        let mut half_points = 0;
-        Refusal::check(unsafe { vintsaky_read_komi(text.as_ptr(), text.len(), &mut half_points) })?;
-        Ok(Self(half_points))
+        go_base::Komi::read(text.as_bytes()).map(Self::of).ok_or(Refusal::BadText)
     }
 }
 
@@ -301,18 +312,17 @@ pub enum KoRule {
 }
 
 impl KoRule {
-    pub(crate) fn number(self) -> u32 {
-        match self {
-            Self::Simple => VINTSAKY_SIMPLE,
-            Self::Positional => VINTSAKY_POSITIONAL,
+    pub(crate) fn of(rule: go_board::KoRule) -> Self {
+        match rule {
+            go_board::KoRule::Simple => Self::Simple,
+            go_board::KoRule::Positional => Self::Positional,
         }
     }
 
-    /// The rule of a number that the library wrote.
-    pub(crate) fn of(number: u32) -> Self {
-        match number {
-            VINTSAKY_POSITIONAL => Self::Positional,
-            _ => Self::Simple,
+    pub(crate) fn inner(self) -> go_board::KoRule {
+        match self {
+            Self::Simple => go_board::KoRule::Simple,
+            Self::Positional => go_board::KoRule::Positional,
         }
     }
 }
@@ -324,6 +334,16 @@ pub struct Move {
     pub colour: Colour,
     /// Where.
     pub vertex: Vertex,
+}
+
+impl Move {
+    pub(crate) fn of(made: go_base::Move) -> Self {
+        Self { colour: Colour::of(made.colour), vertex: Vertex::of(made.vertex) }
+    }
+
+    pub(crate) fn inner(self) -> go_base::Move {
+        go_base::Move { colour: self.colour.inner(), vertex: self.vertex.inner() }
+    }
 }
 
 impl fmt::Display for Move {
@@ -368,17 +388,11 @@ impl Score {
 
 impl fmt::Display for Score {
     fn fmt(&self, out: &mut fmt::Formatter<'_>) -> fmt::Result {
-        let mark = match self.leader() {
-            None => return out.pad("0"),
-            Some(Colour::Black) => 'B',
-            Some(Colour::White) => 'W',
-        };
-        let lead = self.0.unsigned_abs();
-        out.pad(&format!("{mark}+{}{}", lead / 2, if lead % 2 == 1 { ".5" } else { "" }))
+        texts::pad(out, &write_score(self.0))
     }
 }
 
-/// Writes a text of a value, which the library refuses for none.
-fn padded(out: &mut fmt::Formatter<'_>, text: Result<Vec<u8>, Refusal>) -> fmt::Result {
-    out.pad(&texts::string_of(text.unwrap_or_default()))
+/// The size of a board, where it is from 1 to 25.
+pub(crate) fn checked_size(size: u32) -> Result<Size, Refusal> {
+    Size::new(size).ok_or(Refusal::BadSize)
 }

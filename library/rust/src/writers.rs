@@ -1,9 +1,13 @@
 //! Lines that are written: commands and replies.
 
-use crate::ffi::*;
+use gtp_wire::{is_reply_text, write_command, write_reply};
+
 use crate::refusal::Refusal;
 use crate::texts;
-use crate::values::{Colour, Komi, Vertex};
+use crate::values::{Colour, Komi, Move, Vertex, checked_size};
+
+/// The greatest int of the protocol.
+const MOST_INT: u32 = 2_147_483_647;
 
 /// A command that a controller sends.
 ///
@@ -44,28 +48,22 @@ impl Command {
     /// [`Refusal::BadId`] where the id is more than 2,147,483,647; or else [`Refusal::BadSize`] where the size isn't
     /// from 1 to 25, or [`Refusal::BadHandicap`] where the number of stones is more than 2,147,483,647.
     pub fn line(self, id: Option<u32>) -> Result<String, Refusal> {
-        let id = number_of_id(id)?;
-        let (command, value, vertex) = self.numbers();
-        let text = texts::bytes_or_refusal(|text, room, count| unsafe {
-            vintsaky_write_command(id, command, value, vertex, text, room, count)
-        })?;
-        Ok(texts::string_of(text))
+        let id = checked_id(id)?;
+        Ok(texts::string_of(&write_command(id, &self.inner()?)))
     }
 
-    /// The numbers of the command, of its value, and of its vertex. What it doesn't have is 0, and what no number has
-    /// is -1.
-    fn numbers(self) -> (u32, i32, u32) {
-        let of_colour = |colour: Colour| i32::try_from(colour.number()).unwrap_or(-1);
-        match self {
-            Self::Boardsize(size) => (VINTSAKY_BOARDSIZE, i32::try_from(size).unwrap_or(-1), 0),
-            Self::Komi(komi) => (VINTSAKY_KOMI, komi.half_points(), 0),
-            Self::ClearBoard => (VINTSAKY_CLEAR_BOARD, 0, 0),
-            Self::FixedHandicap(stones) => (VINTSAKY_FIXED_HANDICAP, i32::try_from(stones).unwrap_or(-1), 0),
-            Self::Play(colour, vertex) => (VINTSAKY_PLAY, of_colour(colour), vertex.number()),
-            Self::Genmove(colour) => (VINTSAKY_GENMOVE, of_colour(colour), 0),
-            Self::Undo => (VINTSAKY_UNDO, 0, 0),
-            Self::Quit => (VINTSAKY_QUIT, 0, 0),
-        }
+    fn inner(self) -> Result<gtp_wire::Command, Refusal> {
+        Ok(match self {
+            Self::Boardsize(size) => gtp_wire::Command::Boardsize(checked_size(size)?),
+            Self::Komi(komi) => gtp_wire::Command::Komi(komi.inner()),
+            Self::ClearBoard => gtp_wire::Command::ClearBoard,
+            Self::FixedHandicap(stones) if stones > MOST_INT => return Err(Refusal::BadHandicap),
+            Self::FixedHandicap(stones) => gtp_wire::Command::FixedHandicap(stones),
+            Self::Play(colour, vertex) => gtp_wire::Command::Play(Move { colour, vertex }.inner()),
+            Self::Genmove(colour) => gtp_wire::Command::Genmove(colour.inner()),
+            Self::Undo => gtp_wire::Command::Undo,
+            Self::Quit => gtp_wire::Command::Quit,
+        })
     }
 }
 
@@ -81,18 +79,15 @@ impl Command {
 /// [`Refusal::BadId`] where the id is more than 2,147,483,647; or else [`Refusal::BadText`] where no reply may have the
 /// text, as [`Engine::answer`](crate::Engine::answer) says it.
 pub fn reply(id: Option<u32>, answer: Result<&str, &str>) -> Result<String, Refusal> {
-    let id = number_of_id(id)?;
-    let (ok, said) = match answer {
-        Ok(said) => (1, said),
-        Err(said) => (0, said),
-    };
-    let text = texts::bytes_or_refusal(|text, room, count| unsafe {
-        vintsaky_write_reply(id, ok, said.as_ptr(), said.len(), text, room, count)
-    })?;
-    Ok(texts::string_of(text))
+    let id = checked_id(id)?;
+    let (Ok(text) | Err(text)) = answer;
+    if !is_reply_text(text.as_bytes()) {
+        return Err(Refusal::BadText);
+    }
+    Ok(texts::string_of(&write_reply(answer.is_ok(), id, text.as_bytes())))
 }
 
-/// The number of an id: -1 where there is none.
-fn number_of_id(id: Option<u32>) -> Result<i32, Refusal> {
-    id.map_or(Ok(-1), |id| i32::try_from(id).map_err(|_| Refusal::BadId))
+/// The id, where it is an int of the protocol or none.
+fn checked_id(id: Option<u32>) -> Result<Option<u32>, Refusal> {
+    if id.is_some_and(|id| id > MOST_INT) { Err(Refusal::BadId) } else { Ok(id) }
 }

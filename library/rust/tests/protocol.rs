@@ -2,10 +2,10 @@
 
 use std::io::{self, ErrorKind, Read, Write};
 
+use vintsaky::{Choice, Colour, Game, KoRule, Player, ServeError, serve};
 use vintsaky::{
-    reply, Command, CommandLines, Engine, Fed, Komi, LineEvent, Refusal, Replies, ReplyEvent, Vertex, Wait,
+    Command, CommandLines, Engine, Fed, Komi, LineEvent, Refusal, Replies, ReplyEvent, Vertex, Wait, reply,
 };
-use vintsaky::{serve, Choice, Colour, Game, Player, ServeError};
 
 /// Always makes this choice, and has a name and a command.
 struct Fixed(Choice);
@@ -75,6 +75,51 @@ fn a_closure_is_a_player() {
     let (output, done) = served(&mut last, "boardsize 2\ngenmove b\ngenmove w\nquit\nname\n");
     assert!(done.is_ok());
     assert_eq!(output, "=\n\n= B2\n\n= A2\n\n=\n\n");
+}
+
+/// Chooses this, by this ko rule.
+struct Ruled(KoRule, Choice);
+
+impl Player for Ruled {
+    fn choose(&mut self, _game: &Game, _colour: Colour) -> Choice {
+        self.1
+    }
+
+    fn rule(&self) -> KoRule {
+        self.0
+    }
+}
+
+/// A conversation after which Black's stone on A2 takes White's, and makes the board of the second move again.
+const REPEATED: &str = "boardsize 2\nplay b A1\nplay b A2\nplay w B1\nplay w B2\nplay b A1\n";
+
+#[test]
+fn the_ko_rule_is_that_of_the_player() {
+    // Each new board of the session is by the same rule.
+    let input = format!("{REPEATED}play b A2\n").repeat(2);
+    for (rule, wanted) in [(KoRule::Simple, "=\n\n"), (KoRule::Positional, "? illegal move\n\n")] {
+        let (output, done) = served(&mut Ruled(rule, Choice::Resign), &input);
+        assert!(done.is_ok());
+        assert_eq!(output, format!("{}{wanted}", "=\n\n".repeat(6)).repeat(2), "{rule:?}");
+    }
+}
+
+#[test]
+fn a_choice_is_judged_by_the_ko_rule_of_the_player() {
+    let a2: Vertex = "A2".parse().expect("a vertex");
+    let input = format!("{REPEATED}genmove b\n");
+    let (output, done) = served(&mut Ruled(KoRule::Simple, a2.into()), &input);
+    assert!(done.is_ok() && output.ends_with("=\n\n= A2\n\n"), "{output}");
+    let (_, done) = served(&mut Ruled(KoRule::Positional, a2.into()), &input);
+    assert!(matches!(done, Err(ServeError::Choice { refusal: Refusal::Ko, .. })), "{done:?}");
+}
+
+#[test]
+fn a_player_that_names_no_ko_rule_has_simple_ko() {
+    let mut last = |game: &Game, colour: Colour| game.legal_points(colour).last().map_or(Choice::Resign, Choice::from);
+    assert_eq!((last.rule(), Fixed(Choice::Resign).rule()), (KoRule::Simple, KoRule::Simple));
+    let (output, _) = served(&mut last, &format!("{REPEATED}genmove b\n"));
+    assert!(output.ends_with("=\n\n= A2\n\n"), "{output}");
 }
 
 /// An input whose reads are interrupted, and that can't be read after its bytes.
