@@ -1,0 +1,1 @@
+"""What the texts declare that name the library's calls and numbers."""

@@ -1,0 +1,224 @@
+"""What the Rust crate has of each call of the library: its name, its arguments, and for which causes it is refused.
+
+The crate calls no C. So the compiler doesn't see whether it has all that the library has for others, by these names.
+"""
+import re
+
+from .texts import LINES, bare, once, snake
+
+OBJECTS = {"game": "Game", "engine": "Engine", "match": "Match", "lines": "CommandLines", "replies": "Replies"}
+# what is called otherwise in Rust
+NAMES = {
+    "place": "new",
+    "finished": "is_finished",
+    "hash": "board_hash",
+    "ended": "is_ended",
+    "next": "next_action",
+    "in_step": "is_in_step",
+    "ok": "is_ok",
+}
+ELSEWHERE = {
+    "vintsaky_version": ["version"],
+    "vintsaky_cause_text": ["Display for Refusal"],
+    "vintsaky_point": ["Point::new"],
+    "vintsaky_write_command": ["Command::line"],
+    "vintsaky_write_reply": ["reply"],
+    "vintsaky_game_copy": ["Clone for Game"],
+    "vintsaky_game_board_text": ["Display for Game"],
+    "vintsaky_game_begin": ["Game::begin", "Game::with"],
+    "vintsaky_match_begin": ["Match::begin", "Match::with"],
+    **{f"vintsaky_read_{name}": [f"FromStr for {name.title()}"] for name in ("colour", "vertex", "komi")},
+    **{f"vintsaky_{name}_text": [f"Display for {name.title()}"] for name in ("colour", "vertex", "komi")},
+}
+# what Rust has alone
+OWN = {
+    "serve", "Player::choose", "Player::name", "Player::version", "Player::commands", "Player::rule", "Player::command",
+    "Colour::other", "Point::column", "Point::row", "Point::neighbours", "Komi::new", "Komi::half_points",
+    "Score::half_points", "Score::leader", "Verdict::winner", "Game::moves", "Engine::words", "Engine::game",
+    "Match::game", "CommandLines::words",
+}  # fmt: skip
+# the arguments: by what an argument is called, and those of calls that take one for several
+TYPES = {"uint32_t": "u32", "int32_t": "i32", "size_t": "usize"}
+ARGUMENTS = {
+    "colour": "colour: Colour",
+    "side": "side: Colour",
+    "rule": "rule: KoRule",
+    "half_komi": "komi: Komi",
+    "vertex": "vertex: impl Into<Vertex>",
+    "bytes": "bytes: &[u8]",
+    "text": "text: &str",
+    "name": "name: &str",
+}
+OTHER_ARGUMENTS = {
+    "vintsaky_game_stone_at": "point: Point",
+    "vintsaky_game_chain": "point: Point",
+    "vintsaky_engine_choose": "choice: impl Into<Choice>",
+    "vintsaky_engine_answer": "answer: Result<&str, &str>",
+    "vintsaky_engine_copy_game": "game: &mut Game",
+    "vintsaky_match_copy_game": "game: &mut Game",
+    "vintsaky_write_command": "id: Option<u32>",
+    "vintsaky_write_reply": "id: Option<u32>, answer: Result<&str, &str>",
+}
+# the causes that types leave out in Rust
+LEFT_OUT = {"BAD_COLOUR", "BAD_VERTEX", "BAD_RULE", "BAD_KOMI", "NO_ROOM", "BAD_COMMAND"}
+# the enums of numbers: what the header's names begin with, and the variants that have other names there, or none
+ENUMS = {
+    "Colour": ("", {}),
+    "KoRule": ("", {}),
+    "Vertex": ("", {"At": None}),
+    "Choice": ("", {"Play": None}),
+    "Fed": ("", {"Asked": None}),
+    "Action": ("", {}),
+    "Loss": ("LOSS_", {"Unknown": None}),
+    "Verdict": ("BY_", {}),
+    "Command": ("", {}),
+    "LineEvent": ("", {}),
+    "ReplyEvent": ("", {"Reply": "READ", "TooLong": "LONG_REPLY"}),
+}
+NOT_IN_RUST = {"DONE", "INTERFACE"}
+DOCUMENTED = r"(?P<said>(?: *///[^\n]*\n)*)(?P<before> *)(?P<pub>pub )?"
+FUNCTION = DOCUMENTED + r"fn (?P<name>\w+)(?:<\w+>)?\((?P<given>[^)]*)\)(?P<result>[^{;]*)"
+# what is made wrong in copies, where, and the comments in which nothing is
+REGIONS = "|".join([
+    r"^(?:    )?(?:/// # Errors\n(?: *///[^\n]*\n)+(?:    )?)?pub fn \w+\([^)]*\)",
+    r"^    \w+ = \d+ \"",
+    r"^pub const VERSION[^\n]*",
+    r"^pub struct Setup \{.*?^\}",
+    rf"^pub enum (?:{'|'.join(ENUMS)}) \{{.*?^\}}",
+])  # fmt: skip
+KINDS = r"(?:Colour|KoRule|Komi|Point|Setup|usize|u32|impl Into<\w+>|&\[u8\]|&str|&mut Game|Option<u32>)(?=[,)\n])"
+WRONG = [
+    (r"(?<=pub fn )\w+(?=\()", lambda it: it + "s"),
+    (rf"(?<=: ){KINDS}", lambda it: {"u32": "u64"}.get(it, "u32")),
+    (rf"\w+(?=: {KINDS})", lambda it: it + "s"),
+    (r"(?<=Refusal::)\w+(?=`)", lambda it: it + "s"),
+    (r"(?<= = )\d+(?= \")", lambda it: str(int(it) + 1)),
+    (r"(?<= = )0x\w+(?=;)", lambda it: it[:-1] + "1"),
+    (r"(?<=^    )[A-Z]\w*(?=[,({])", lambda it: it + "s"),
+]
+COMMENTS = r"(?<!/)//(?![/!])[^\n]*"  # what documentation says of errors is looked at
+
+
+# ---- what the crate has
+
+
+@once
+def functions(text):
+    """The public functions by their paths: of each the arguments, the result, and what is said of it."""
+    found = {it["name"]: it for it in re.finditer(f"^{FUNCTION}", text, re.MULTILINE) if it["pub"] and not it["before"]}
+    for block in re.finditer(r"^(impl|pub trait) (\w+) \{\n(.*?)^\}", text, re.MULTILINE | re.DOTALL):
+        for it in re.finditer(f"^{FUNCTION}", block[3], re.MULTILINE):
+            if it["pub"] or block[1] == "pub trait":
+                found[f"{block[2]}::{it['name']}"] = it
+    return found
+
+
+@once
+def traits(text):
+    """The traits that types have, each as `Trait for Type`."""
+    return {f"{it[1]} for {it[2]}" for it in re.finditer(r"^impl (?:\w+::)*(\w+) for (\w+) \{", text, re.MULTILINE)}
+
+
+@once
+def fields_of_setup(text):
+    """The fields of the struct that stands for five arguments."""
+    block = re.search(r"^pub struct Setup \{(.*?)^\}", bare(text, LINES), re.MULTILINE | re.DOTALL)
+    return ", ".join(re.findall(r"pub (\w+: [^,\n]+),", block[1] if block else ""))
+
+
+def arguments_of(text, function):
+    """The arguments of a function but its receiver, with those of a setup in its place."""
+    parts = [" ".join(it.split()) for it in function["given"].split(", ") if "self" not in it]
+    given = ", ".join(parts).rstrip(", ")
+    return fields_of_setup(text) if given == "setup: Setup" else given
+
+
+def refused_for(found, path):
+    """The causes for which a function is refused, in the order in which it names them, as the header calls them."""
+    said = found[path]["said"].partition("# Errors")[2] if path in found else "Refusal::Missing"
+    other = re.search(r"As those of \[`\w+`\]\(Self::(\w+)\)", said)
+    if other:
+        return refused_for(found, f"{path.partition('::')[0]}::{other[1]}")
+    return [snake(it) for it in re.findall(r"Refusal::(\w+)", said)]
+
+
+# ---- what it should have
+
+
+def paths_of(call):
+    """The paths of what Rust has of a call: none of one that is about memory or linking."""
+    found = re.fullmatch(r"vintsaky_([a-z]+)_(\w+)", call)
+    if call in ELSEWHERE:
+        return ELSEWHERE[call]
+    if not found or found[1] not in OBJECTS or found[2] in ("bytes", "align"):
+        return []
+    return [f"{OBJECTS[found[1]]}::{NAMES.get(found[2], found[2])}"]
+
+
+def wanted_arguments(call, arguments):
+    """The arguments of a call as Rust has them: without its object, what it writes, and lengths."""
+    if call in OTHER_ARGUMENTS:
+        return OTHER_ARGUMENTS[call]
+    given = [(name, kind) for name, kind in arguments if kind.startswith("const ") or not kind.endswith("*")]
+    given = [(name, kind) for name, kind in given if not name.endswith(("_length", "_room"))]
+    return ", ".join(ARGUMENTS.get(name, f"{name}: {TYPES.get(kind, kind)}") for name, kind in given)
+
+
+@once
+def causes_in(header):
+    """The causes of each call, in the order in which the header names them, without those that no call in Rust has."""
+    causes = {}
+    for said, call in re.findall(r"/\*((?:(?!\*/).)*)\*/\s*\w+ (vintsaky_\w+)\(", header, re.DOTALL):
+        listed = said.partition("Causes:")[2]
+        other = re.search(r"As those of (\w+)", listed)
+        named = re.findall(r"VINTSAKY_(\w+)", listed)
+        if other:
+            begun = call[: call.index("_", len("vintsaky_")) + 1]
+            named = [it for it in causes.get(begun + other[1], ["?"]) if it not in named]
+        causes[call] = [it for it in named if it not in LEFT_OUT]
+    return causes
+
+
+def differing_call(text, call, wanted, refused, path):
+    """The lines on what Rust has of a call by this path."""
+    found = functions(text)
+    if path in traits(text):
+        return []
+    if path not in found:
+        return [f"{call} is in the exports, and no {path} in Rust"]
+    lines, got = [], arguments_of(text, found[path])
+    if got != wanted:
+        lines.append(f"{path} has the arguments '{got}', and has to have '{wanted}', as {call}")
+    may_be = "Refusal>" in found[path]["result"]
+    causes = refused_for(found, path)
+    if may_be != bool(causes) or (may_be and causes != refused):
+        lines.append(f"{path} is refused for {causes}, and {call} for {refused}")
+    if refused and not may_be and not re.search(r"-> Option<", found[path]["result"]):
+        lines.append(f"{path} is never refused, and {call} is, for {refused}")
+    return lines
+
+
+def differing_calls(text, exports, header):
+    """The lines on all calls of the exports, and on what Rust has alone."""
+    lines, met = [], set(OWN)
+    for call, (_, arguments) in exports.items():
+        for path in paths_of(call):
+            wanted = "" if path.endswith("::new") and path != "Point::new" else wanted_arguments(call, arguments)
+            lines += differing_call(text, call, wanted, causes_in(header).get(call, []), path)
+            met.add(path)
+    lines += [f"{path} is in Rust, and no call has its name" for path in functions(text) if path not in met]
+    return lines + [f"{path} was in Rust, and isn't" for path in OWN if path not in functions(text)]
+
+
+@once
+def numbers(text):
+    """The names of the header's numbers that Rust has, each with its number where it has that too."""
+    text = bare(text, LINES)
+    found = {snake(it): int(number) for it, number in re.findall(r"^    (\w+) = (\d+) \"", text, re.MULTILINE)}
+    found |= {"VERSION": int(it, 0) for it in re.findall(r"^pub const VERSION: u32 = (\w+);", text, re.MULTILINE)}
+    for enum, (start, others) in ENUMS.items():
+        block = re.search(rf"^pub enum {enum} \{{(.*?)^\}}", text, re.MULTILINE | re.DOTALL)
+        for name in re.findall(r"^    ([A-Z]\w*)[,({]", block[1] if block else "", re.MULTILINE):
+            if others.get(name, name):
+                found.setdefault(start + snake(others.get(name, name)), None)
+    return found
