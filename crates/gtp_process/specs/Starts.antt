@@ -5,7 +5,7 @@ use Rattle.std.specs.Borrow.{Bor}
 use Rattle.std.specs.declared.io.ErrorKind.{ErrorKind}
 use Rattle.std.specs.declared.io.ErrorKind.TheVariants.{NotFound, PermissionDenied, NotADirectory, ExecutableFileBusy}
 use Rattle.std.specs.declared.io.ErrorKind.TheVariants.{ArgumentListTooLong, InvalidFilename, OutOfMemory}
-use Rattle.std.specs.declared.io.ErrorKind.TheVariants.{Uncategorized}
+use Rattle.std.specs.declared.io.ErrorKind.TheVariants.{WouldBlock, Uncategorized}
 use Rattle.gtp_process.specs.declared.starter.StartFault.{StartFault}
 use Rattle.gtp_process.specs.declared.starter.StartFault.TheVariants as start_fault
 use Rattle.gtp_process.specs.declared.starter.StartReason.{StartReason}
@@ -26,19 +26,18 @@ first_word (word ∷ words) = word
 
 -- ---- why a program is not started
 
--- The limit that the system has come to, by the number of its error: 11 where it starts no process more, 23 and 24
--- where it opens no file more.
+-- The limit of files that the system has come to, by the number of its error: 23 or 24 where it opens no file more, on
+-- Linux, the BSDs and macOS.
 abbrev pub limit_at : ℕ → Option StartReason
-limit_at number =
-    if number == 11 then Some reason.NoProcesses
-    else (if number == 23 || number == 24 then Some reason.NoFiles else None)
+limit_at number = if number == 23 || number == 24 then Some reason.NoFiles else None
 
 abbrev pub limit_of : Option ℤ → Option StartReason
 limit_of None = None
 limit_of (Some (pos number)) = limit_at number
 limit_of (Some (negsuc number)) = None
 
--- why the system doesn't start a program, by the kind of its error
+-- Why the system doesn't start a program, by the kind of its error. Where it starts no process more, that is
+-- `WouldBlock`, on every system.
 abbrev pub kind_reason : ErrorKind → StartReason
 kind_reason NotFound = reason.NotFound
 kind_reason PermissionDenied = reason.NotAllowed
@@ -46,10 +45,11 @@ kind_reason NotADirectory = reason.NotADirectory
 kind_reason ExecutableFileBusy = reason.Busy
 kind_reason ArgumentListTooLong = reason.TooLong
 kind_reason InvalidFilename = reason.TooLong
+kind_reason WouldBlock = reason.NoProcesses
 kind_reason Uncategorized = reason.NoProgram
 kind_reason _ = reason.Other
 
--- why it doesn't, by the number of its error, where it has one that is a limit's, and else by its kind
+-- why it doesn't, by the number of its error, where it has one that is of a limit of files, and else by its kind
 abbrev pub reason_of : Option ℤ → ErrorKind → StartReason
 reason_of number kind = unwrap_or (limit_of number) (kind_reason kind)
 

@@ -14,13 +14,11 @@ use std::os::unix::process::ExitStatusExt;
 use std::process::{Child, Command, ExitStatus, OpenProcess, Processes, Stdio};
 use std::time::Clock;
 
-/// The number of the system's error where no process can be started any more.
-const EAGAIN: i32 = 11;
-
-/// The number of its error where no file can be opened any more in the whole system.
+/// The number of the system's error where no file can be opened any more in the whole system: the same on Linux, the
+/// BSDs and macOS.
 const ENFILE: i32 = 23;
 
-/// The number of its error where no file can be opened any more in this process.
+/// The number of its error where no file can be opened any more in this process: the same on these systems too.
 const EMFILE: i32 = 24;
 
 /// Starts processes of the operating system. Their standard error is the program's own.
@@ -111,7 +109,8 @@ pub fn start_fault_of(error: &io::Error) -> StartFault
     }
 }
 
-/// Why the system doesn't start a program, by the number of its error where that is a limit's, and else by its kind.
+/// Why the system doesn't start a program, by the number of its error where that is of a limit of files, and else by
+/// its kind.
 fn reason_of(number: Option<i32>, kind: ErrorKind) -> StartReason
     ensures { result ≡ reason_of number kind }
 {
@@ -121,20 +120,19 @@ fn reason_of(number: Option<i32>, kind: ErrorKind) -> StartReason
     }
 }
 
-/// The limit that the system has come to, by the number of its error, if it is one. The kind doesn't show which: files
-/// have none of their own, and that of processes is another's too.
+/// The limit of files that the system has come to, by the number of its error, if it is one. Rust has no kind for it.
 fn limit_of(number: Option<i32>) -> Option<StartReason>
     ensures { result ≡ limit_of number }
 {
     match number {
-        Some(EAGAIN) => Some(StartReason::NoProcesses),
         Some(ENFILE | EMFILE) => Some(StartReason::NoFiles),
         _ => None,
     }
 }
 
-/// Why the system doesn't start a program, by the kind of its error. What has no kind of its own is mostly that the
-/// file is no program.
+/// Why the system doesn't start a program, by the kind of its error. Where no process can be started any more, that is
+/// `EAGAIN`: its number differs from system to system, but its kind is `WouldBlock` on each, and no other error of a
+/// start is of that kind. What has no kind of its own is mostly that the file is no program.
 fn kind_reason(kind: ErrorKind) -> StartReason
     ensures { result ≡ kind_reason kind }
 {
@@ -144,6 +142,7 @@ fn kind_reason(kind: ErrorKind) -> StartReason
         ErrorKind::NotADirectory => StartReason::NotADirectory,
         ErrorKind::ExecutableFileBusy => StartReason::Busy,
         ErrorKind::ArgumentListTooLong | ErrorKind::InvalidFilename => StartReason::TooLong,
+        ErrorKind::WouldBlock => StartReason::NoProcesses,
         ErrorKind::Uncategorized => StartReason::NoProgram,
         _ => StartReason::Other,
     }

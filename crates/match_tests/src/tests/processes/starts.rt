@@ -37,6 +37,7 @@ fn only_want_of_memory_ends_the_program_at_a_start(rt: HostRuntime) -> Result<()
         (ErrorKind::ExecutableFileBusy, StartReason::Busy),
         (ErrorKind::ArgumentListTooLong, StartReason::TooLong),
         (ErrorKind::InvalidFilename, StartReason::TooLong),
+        (ErrorKind::WouldBlock, StartReason::NoProcesses),
         (ErrorKind::Uncategorized, StartReason::NoProgram),
         (ErrorKind::IsADirectory, StartReason::Other),
         (ErrorKind::Interrupted, StartReason::Other),
@@ -48,7 +49,7 @@ fn only_want_of_memory_ends_the_program_at_a_start(rt: HostRuntime) -> Result<()
 }
 
 #[test]
-fn limits_of_the_system_differ_by_their_numbers(rt: HostRuntime) -> Result<(), Fail> {
+fn errors_of_the_system_have_reasons_by_their_numbers(rt: HostRuntime) -> Result<(), Fail> {
     let refused = io::Error::from_raw_os_error(12);
     assert_equal(&rt, start_fault_of(&refused), StartFault::OutOfMemory);
     for (number, reason) in [
@@ -68,12 +69,5 @@ fn limits_of_the_system_differ_by_their_numbers(rt: HostRuntime) -> Result<(), F
         let error = io::Error::from_raw_os_error(number);
         assert_equal(&rt, start_fault_of(&error), StartFault::NotStarted(reason));
     }
-    // What would block is no limit where the system gave no number.
-    let blocks = io::Error::from(ErrorKind::WouldBlock);
-    assert_equal(
-        &rt,
-        start_fault_of(&blocks),
-        StartFault::NotStarted(StartReason::Other),
-    );
     Ok(())
 }
