@@ -1,6 +1,5 @@
 -- Calls of a process's pipes: which are tried again, and when a process counts as cut off.
-use Rattle.std.specs.Prelude.{◌≡◌, ℕ, ◌+◌, List, ◌++◌, Option}
-use Rattle.std.specs.Io.KnownBytes.{Appends}
+use Rattle.std.specs.Prelude.{ℕ, ◌+◌}
 use Rattle.byte_streams.specs.declared.calls.CallFault.{CallFault}
 use Rattle.byte_streams.specs.declared.calls.CallFault.TheVariants.{Interrupted, Other}
 
