@@ -14,7 +14,7 @@ use std::os::fd::AsFd;
 /// What each closed stream becomes.
 const NULL_DEVICE: &str = "/dev/null";
 
-/// The error number of a call that names a closed number, Linux's `EBADF`.
+/// The error number of a call that names a closed number, `EBADF`: the same on all Unixes.
 const NOT_OPEN: i32 = 9;
 
 /// Keeps the numbers of the closed standard streams, as long as it lives.
