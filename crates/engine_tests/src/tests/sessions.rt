@@ -2,7 +2,7 @@
 use crate::equal::assert_equal;
 use arrayvec::ArrayVec;
 use gtp_session::first::First;
-use gtp_session::serve::{Served, serve};
+use gtp_session::serve::{ServeFault, Served, serve};
 use gtp_session::session::Session;
 use gtp_session::streams::Counted;
 use memory::{Limited, Pieces};
@@ -16,18 +16,23 @@ mod memory;
 mod policies;
 mod replies;
 
-/// A reader of this text in pieces of these sizes, which fails the read of one number.
+/// This text in pieces of these sizes, where the read of one number fails.
+pub fn pieces_of<'a>(text: &'a [u8], sizes: &'a [usize], failing: Option<usize>) -> Pieces<'a> {
+    Pieces {
+        rest: text,
+        sizes,
+        turn: 0,
+        failing,
+    }
+}
+
+/// A reader of it.
 pub fn reader_of<'a>(
     text: &'a [u8],
     sizes: &'a [usize],
     failing: Option<usize>,
 ) -> Counted<Pieces<'a>> {
-    Counted::new(Pieces {
-        rest: text,
-        sizes,
-        turn: 0,
-        failing,
-    })
+    Counted::new(pieces_of(text, sizes, failing))
 }
 
 /// A writer that takes `room` bytes, at most `step` of them in a write, and then fails.
@@ -39,6 +44,27 @@ pub fn writer_of<'a>(
     Counted::new(Limited { taken, room, step })
 }
 
+/// What a fresh engine with the first policy answers to the input, in pieces of these sizes, where the read of one number
+/// fails and the writer takes `room` bytes. The conversation ends like this, and the session is what it left.
+pub fn assert_comes_to(
+    rt: &impl Abort,
+    input: &[u8],
+    sizes: &[usize],
+    failing: Option<usize>,
+    room: usize,
+    output: &[u8],
+    served: Result<Served, ServeFault>,
+) -> Session<First> {
+    let mut taken = ArrayVec::new();
+    let mut session = Session::new(First);
+    let mut reader = reader_of(input, sizes, failing);
+    let mut writer = writer_of(&mut taken, room, 100);
+    let answer = serve(&mut reader, &mut writer, &mut session);
+    assert_equal(rt, answer, served);
+    assert_equal(rt, taken.as_slice(), output);
+    session
+}
+
 /// A fresh engine with the first policy answers the input, in pieces of these sizes, with the output, and ends like
 /// this.
 pub fn assert_serves(
@@ -48,14 +74,8 @@ pub fn assert_serves(
     output: &[u8],
     served: Served,
 ) {
-    let mut taken = ArrayVec::new();
-    let mut session = Session::new(First);
-    let mut reader = reader_of(input, sizes, None);
-    let mut writer = writer_of(&mut taken, 4096, 100);
-    let answer = serve(&mut reader, &mut writer, &mut session);
-    assert_equal(rt, answer, Ok(served));
+    let session = assert_comes_to(rt, input, sizes, None, 4096, output, Ok(served));
     assert_equal(rt, session.ended(), served == Served::Quit);
-    assert_equal(rt, taken.as_slice(), output);
 }
 
 /// The same in one piece, in each two pieces, and byte after byte.

@@ -1,9 +1,7 @@
 //! Conversations whose streams break, over memory.
 use crate::equal::assert_equal;
-use crate::tests::sessions::memory::{
-    Limited, Pieces, Reporting, Stuck, StuckOnce, Unflushed, Waiting,
-};
-use crate::tests::sessions::reader_of;
+use crate::tests::sessions::memory::{Pieces, Reporting, Stuck, StuckOnce, Unflushed, Waiting};
+use crate::tests::sessions::{pieces_of, reader_of, writer_of};
 use arrayvec::ArrayVec;
 use gtp_session::fault::Fault;
 use gtp_session::first::First;
@@ -12,6 +10,7 @@ use gtp_session::session::Session;
 use gtp_session::streams::Counted;
 use std::alloc::Global;
 use std::cell::Cell;
+use std::process::Abort;
 use std::rc::Rc;
 use std::test::Fail;
 
@@ -89,35 +88,54 @@ fn whole_replies(bytes: usize) -> usize {
     whole
 }
 
+/// The session executed the first `lines` lines, and this is what it answered.
+fn assert_answered<R: Abort + AllocGlobal>(
+    rt: &R,
+    session: &Session<First>,
+    taken: &[u8],
+    lines: usize,
+) -> Result<(), Fail> {
+    assert_equal(rt, taken, replies(rt.alloc(), lines)?.as_slice());
+    assert_equal(rt, session.game().moves().len(), moves_after(lines));
+    Ok(())
+}
+
+/// A writer with this room breaks. The line whose reply broke was executed, and none was read after it.
+fn assert_breaks(rt: &impl Abort, input: &[u8], sizes: &[usize], output: &[u8], room: usize) {
+    let mut pieces = pieces_of(input, sizes, None);
+    let mut taken = ArrayVec::new();
+    let mut session = Session::new(First);
+    let mut reader = Counted::new(&mut pieces);
+    let mut writer = writer_of(&mut taken, room, 7);
+    let answer = serve_within(&mut reader, &mut writer, &mut session, 1000);
+    let executed = whole_replies(room).saturating_add(1);
+    assert_equal(rt, answer, Err(ServeFault::Write));
+    assert_equal(rt, taken.as_slice(), output);
+    assert_equal(rt, session.game().moves().len(), moves_after(executed));
+    assert_equal(rt, pieces.turn, executed);
+}
+
 #[test]
 fn a_writer_breaks_after_each_number_of_bytes(rt: HostRuntime) -> Result<(), Fail> {
     let input = input(rt.alloc())?;
     let sizes = sizes(rt.alloc())?;
     let output = replies(rt.alloc(), 12)?;
     for room in 0..output.len() {
-        let mut pieces = Pieces {
-            rest: &input,
-            sizes: &sizes,
-            turn: 0,
-            failing: None,
-        };
-        let mut taken = ArrayVec::new();
-        let mut session = Session::new(First);
-        let mut reader = Counted::new(&mut pieces);
-        let mut writer = Counted::new(Limited {
-            taken: &mut taken,
-            room,
-            step: 7,
-        });
-        let answer = serve_within(&mut reader, &mut writer, &mut session, 1000);
-        // The line whose reply broke was executed, and none was read after it.
-        let executed = whole_replies(room).saturating_add(1);
-        assert_equal(&rt, answer, Err(ServeFault::Write));
-        assert_equal(&rt, taken.as_slice(), &output[..room]);
-        assert_equal(&rt, session.game().moves().len(), moves_after(executed));
-        assert_equal(&rt, pieces.turn, executed);
+        assert_breaks(&rt, &input, &sizes, &output[..room], room);
     }
     Ok(())
+}
+
+/// The engine answers what these pieces give, adds it to what was taken, and ends like this.
+fn assert_serves_on(
+    rt: &impl Abort,
+    pieces: &mut Pieces,
+    taken: &mut Vec<u8>,
+    session: &mut Session<First>,
+    served: Result<Served, ServeFault>,
+) {
+    let answer = serve(&mut Counted::new(pieces), &mut Counted::new(taken), session);
+    assert_equal(rt, answer, served);
 }
 
 #[test]
@@ -125,66 +143,48 @@ fn a_reader_fails_at_each_line_and_the_next_call_goes_on(rt: HostRuntime) -> Res
     let input = input(rt.alloc())?;
     let sizes = sizes(rt.alloc())?;
     for failing in 0..13usize {
-        let mut pieces = Pieces {
-            rest: &input,
-            sizes: &sizes,
-            turn: 0,
-            failing: Some(failing),
-        };
+        let mut pieces = pieces_of(&input, &sizes, Some(failing));
         let mut taken = Vec::new(rt.alloc());
         let mut session = Session::new(First);
-        let answer = serve(
-            &mut Counted::new(&mut pieces),
-            &mut Counted::new(&mut taken),
-            &mut session,
-        );
-        assert_equal(&rt, answer, Err(ServeFault::Read));
-        assert_equal(
-            &rt,
-            taken.as_slice(),
-            replies(rt.alloc(), failing)?.as_slice(),
-        );
-        assert_equal(&rt, session.game().moves().len(), moves_after(failing));
+        let failed = Err(ServeFault::Read);
+        assert_serves_on(&rt, &mut pieces, &mut taken, &mut session, failed);
+        assert_answered(&rt, &session, &taken, failing)?;
         assert_equal(&rt, pieces.turn, failing.saturating_add(1));
-        let answer = serve(
-            &mut Counted::new(&mut pieces),
-            &mut Counted::new(&mut taken),
-            &mut session,
-        );
-        assert_equal(&rt, answer, Ok(Served::EndOfInput));
-        assert_equal(&rt, taken.as_slice(), replies(rt.alloc(), 12)?.as_slice());
+        let end = Ok(Served::EndOfInput);
+        assert_serves_on(&rt, &mut pieces, &mut taken, &mut session, end);
+        assert_answered(&rt, &session, &taken, 12)?;
     }
     Ok(())
+}
+
+/// The read of one byte fails, before which so many lines were read.
+fn assert_fails_at<R: Abort + AllocGlobal>(
+    rt: &R,
+    input: &[u8],
+    failing: usize,
+    lines: usize,
+) -> Result<(), Fail> {
+    let mut pieces = pieces_of(input, &[1; 512], Some(failing));
+    let mut taken = Vec::new(rt.alloc());
+    let mut session = Session::new(First);
+    let answer = serve_within(
+        &mut Counted::new(&mut pieces),
+        &mut Counted::new(&mut taken),
+        &mut session,
+        1000,
+    );
+    assert_equal(rt, answer, Err(ServeFault::Read));
+    assert_equal(rt, pieces.turn, failing.saturating_add(1));
+    assert_answered(rt, &session, &taken, lines)
 }
 
 #[test]
 fn a_reader_fails_after_each_byte(rt: HostRuntime) -> Result<(), Fail> {
     let input = input(rt.alloc())?;
     let mut lines = 0usize;
-    for failing in 0..input.len() {
-        let mut pieces = Pieces {
-            rest: &input,
-            sizes: &[1; 512],
-            turn: 0,
-            failing: Some(failing),
-        };
-        let mut taken = Vec::new(rt.alloc());
-        let mut session = Session::new(First);
-        let answer = serve_within(
-            &mut Counted::new(&mut pieces),
-            &mut Counted::new(&mut taken),
-            &mut session,
-            1000,
-        );
-        assert_equal(&rt, answer, Err(ServeFault::Read));
-        assert_equal(
-            &rt,
-            taken.as_slice(),
-            replies(rt.alloc(), lines)?.as_slice(),
-        );
-        assert_equal(&rt, session.game().moves().len(), moves_after(lines));
-        assert_equal(&rt, pieces.turn, failing.saturating_add(1));
-        if input[failing] == b'\n' {
+    for (failing, byte) in input.iter().enumerate() {
+        assert_fails_at(&rt, &input, failing, lines)?;
+        if *byte == b'\n' {
             lines = lines.saturating_add(1);
         }
     }
@@ -205,26 +205,15 @@ fn a_flush_that_fails_is_a_write_fault(rt: HostRuntime) -> Result<(), Fail> {
             }),
             &mut session,
         );
-        let executed = flushes.saturating_add(1);
         assert_equal(&rt, answer, Err(ServeFault::Write));
-        assert_equal(
-            &rt,
-            taken.as_slice(),
-            replies(rt.alloc(), executed)?.as_slice(),
-        );
-        assert_equal(&rt, session.game().moves().len(), moves_after(executed));
+        assert_answered(&rt, &session, &taken, flushes.saturating_add(1))?;
     }
     Ok(())
 }
 
 #[test]
 fn a_write_that_takes_nothing_is_a_write_fault(rt: HostRuntime) {
-    let mut pieces = Pieces {
-        rest: b"play b D4\nplay w E5\n",
-        sizes: &[10],
-        turn: 0,
-        failing: None,
-    };
+    let mut pieces = pieces_of(b"play b D4\nplay w E5\n", &[10], None);
     let mut session = Session::new(First);
     let answer = serve(
         &mut Counted::new(&mut pieces),
@@ -275,25 +264,24 @@ fn several_reads_of_one_call_wait_for_the_replies(rt: HostRuntime) -> Result<(),
     Ok(())
 }
 
+/// The engine stops at this fault after one read.
+fn assert_stops<R: Abort + AllocGlobal>(rt: &R, fault: Fault) {
+    let mut pieces = pieces_of(b"genmove b\nname\n", &[10], Some(1));
+    let mut session = Session::new(First);
+    let mut taken = Vec::new(rt.alloc());
+    let answer = serve_with(
+        &mut Counted::new(&mut pieces),
+        &mut Counted::new(&mut taken),
+        &mut session,
+        10,
+        fault,
+    );
+    assert_equal(rt, answer, Ok(Served::Stopped));
+    assert_equal(rt, pieces.turn, 1);
+}
+
 #[test]
 fn nothing_is_read_after_a_stop(rt: HostRuntime) {
-    for fault in [Fault::Stop(1), Fault::Cut(1, 2)] {
-        let mut pieces = Pieces {
-            rest: b"genmove b\nname\n",
-            sizes: &[10],
-            turn: 0,
-            failing: Some(1),
-        };
-        let mut session = Session::new(First);
-        let mut taken = Vec::new(rt.alloc());
-        let answer = serve_with(
-            &mut Counted::new(&mut pieces),
-            &mut Counted::new(&mut taken),
-            &mut session,
-            10,
-            fault,
-        );
-        assert_equal(&rt, answer, Ok(Served::Stopped));
-        assert_equal(&rt, pieces.turn, 1);
-    }
+    assert_stops(&rt, Fault::Stop(1));
+    assert_stops(&rt, Fault::Cut(1, 2));
 }

@@ -6,22 +6,20 @@ use arrayvec::ArrayVec;
 use gtp_session::first::First;
 use gtp_session::serve::{Served, serve};
 use gtp_session::session::Session;
-use std::alloc::{Allocator, Global};
+use std::alloc::{AllocError, Global};
 use std::process::Abort;
 use std::test::Fail;
 
 /// A command and the reply to it, without the newlines that end them.
-type Answered<'a> = (&'a [u8], &'a [u8]);
+type Answered = (&'static [u8], &'static [u8]);
 
 /// Each command is answered by the reply beside it, in a fresh session with the first policy, in any cuts.
 fn assert_answers(rt: &impl Abort, alloc: Global, lines: &[Answered]) -> Result<(), Fail> {
     let mut input = Vec::new(alloc);
     let mut output = Vec::new(alloc);
     for (command, reply) in lines {
-        input.extend_from_slice(command)?;
-        input.push(b'\n')?;
-        output.extend_from_slice(reply)?;
-        output.extend_from_slice(b"\n\n")?;
+        add_all(&mut input, &[command, b"\n"])?;
+        add_all(&mut output, &[reply, b"\n\n"])?;
     }
     assert_serves_in_any_cuts(rt, &input, &output, Served::EndOfInput);
     Ok(())
@@ -85,90 +83,105 @@ pub static CONVERSATIONS: [(&str, &[u8], &[u8]); 9] = [
     ),
 ];
 
-#[test]
-fn conversations_are_answered(rt: HostRuntime) {
-    for (name, input, output) in &CONVERSATIONS {
-        let mut taken = ArrayVec::new();
-        let mut session = Session::new(First);
-        let mut reader = reader_of(input, &[], None);
-        let mut writer = writer_of(&mut taken, 4096, 100);
-        let answer = serve(&mut reader, &mut writer, &mut session);
-        assert_equal_for(&rt, *name, answer, Ok(Served::EndOfInput));
-        assert_equal_for(&rt, *name, taken.as_slice(), *output);
-    }
+/// A fresh engine answers the conversation of this name, of one piece.
+fn assert_conversation(rt: &impl Abort, name: &str, input: &[u8], output: &[u8]) {
+    let mut taken = ArrayVec::new();
+    let mut session = Session::new(First);
+    let mut reader = reader_of(input, &[], None);
+    let mut writer = writer_of(&mut taken, 4096, 100);
+    let answer = serve(&mut reader, &mut writer, &mut session);
+    assert_equal_for(rt, name, answer, Ok(Served::EndOfInput));
+    assert_equal_for(rt, name, taken.as_slice(), output);
 }
 
 #[test]
-fn each_name_that_is_listed_is_a_known_command(rt: HostRuntime) -> Result<(), Fail> {
-    let names: [&[u8]; 15] = [
-        b"protocol_version",
-        b"name",
-        b"version",
-        b"known_command",
-        b"list_commands",
-        b"quit",
-        b"boardsize",
-        b"clear_board",
-        b"komi",
-        b"play",
-        b"genmove",
-        b"fixed_handicap",
-        b"undo",
-        b"final_score",
-        b"showboard",
-    ];
-    let mut input = Vec::new(rt.alloc());
-    let mut output = Vec::new(rt.alloc());
-    let mut listed = Vec::new(rt.alloc());
-    for name in names {
-        input.extend_from_slice(b"known_command ")?;
-        input.extend_from_slice(name)?;
-        input.push(b'\n')?;
-        output.extend_from_slice(b"= true\n\n")?;
-        listed.push(if listed.is_empty() { b' ' } else { b'\n' })?;
-        listed.extend_from_slice(name)?;
+fn conversations_are_answered(rt: HostRuntime) {
+    for (name, input, output) in &CONVERSATIONS {
+        assert_conversation(&rt, name, input, output);
     }
-    input.extend_from_slice(b"list_commands\n")?;
-    output.push(b'=')?;
-    output.extend_from_slice(&listed)?;
-    output.extend_from_slice(b"\n\n")?;
-    assert_serves_in_any_cuts(&rt, &input, &output, Served::EndOfInput);
+}
+
+/// The names, in the order in which they are listed.
+static NAMES: [&[u8]; 15] = [
+    b"protocol_version",
+    b"name",
+    b"version",
+    b"known_command",
+    b"list_commands",
+    b"quit",
+    b"boardsize",
+    b"clear_board",
+    b"komi",
+    b"play",
+    b"genmove",
+    b"fixed_handicap",
+    b"undo",
+    b"final_score",
+    b"showboard",
+];
+
+/// Adds the parts to the text.
+fn add_all(text: &mut Vec<u8>, parts: &[&[u8]]) -> Result<(), AllocError> {
+    for part in parts {
+        text.extend_from_slice(part)?;
+    }
     Ok(())
 }
 
 #[test]
-fn further_words_are_ignored(rt: HostRuntime) -> Result<(), Fail> {
-    let lines: [Answered; 11] = [
-        (b"protocol_version 1", b"= 2"),
-        (b"version 9", b"= 1.0"),
-        (b"boardsize 9 19", b"="),
-        (b"komi 5 6.7", b"="),
-        (b"play b A1 A2", b"="),
-        (b"genmove w b", b"= B1"),
-        (b"undo 2", b"="),
-        (b"version", b"= 1.0"),
-        (b"final_score now", b"= B+76"),
-        (b"clear_board 9", b"="),
-        (b"fixed_handicap 2 3", b"= C3 G7"),
-    ];
-    assert_answers(&rt, rt.alloc(), &lines)
+fn each_name_that_is_listed_is_a_known_command(rt: HostRuntime) -> Result<(), Fail> {
+    let mut input = Vec::new(rt.alloc());
+    let mut output = Vec::new(rt.alloc());
+    let mut listed = Vec::new(rt.alloc());
+    for name in &NAMES {
+        let before: &[u8] = if listed.is_empty() { b"= " } else { b"\n" };
+        add_all(&mut input, &[b"known_command ", name, b"\n"])?;
+        add_all(&mut output, &[b"= true\n\n"])?;
+        add_all(&mut listed, &[before, name])?;
+    }
+    add_all(&mut input, &[b"list_commands\n"])?;
+    add_all(&mut output, &[&listed, b"\n\n"])?;
+    assert_serves_in_any_cuts(&rt, &input, &output, Served::EndOfInput);
+    Ok(())
 }
+
+/// Commands with more words than they need.
+static FURTHER_WORDS: [Answered; 11] = [
+    (b"protocol_version 1", b"= 2"),
+    (b"version 9", b"= 1.0"),
+    (b"boardsize 9 19", b"="),
+    (b"komi 5 6.7", b"="),
+    (b"play b A1 A2", b"="),
+    (b"genmove w b", b"= B1"),
+    (b"undo 2", b"="),
+    (b"version", b"= 1.0"),
+    (b"final_score now", b"= B+76"),
+    (b"clear_board 9", b"="),
+    (b"fixed_handicap 2 3", b"= C3 G7"),
+];
+
+#[test]
+fn further_words_are_ignored(rt: HostRuntime) -> Result<(), Fail> {
+    assert_answers(&rt, rt.alloc(), &FURTHER_WORDS)
+}
+
+/// Handicaps, and why others are refused.
+static HANDICAPS: [Answered; 12] = [
+    (b"fixed_handicap 3", b"= D4 Q16 D16"),
+    (b"fixed_handicap 1", b"? board not empty"),
+    (b"boardsize 9", b"="),
+    (b"fixed_handicap 1", b"? invalid number of stones"),
+    (b"fixed_handicap 10", b"? invalid number of stones"),
+    (b"fixed_handicap 9", b"= C3 G7 C7 G3 C5 G5 E3 E7 E5"),
+    (b"boardsize 8", b"="),
+    (b"fixed_handicap 5", b"? invalid number of stones"),
+    (b"fixed_handicap 4", b"= C3 F6 C6 F3"),
+    (b"clear_board", b"="),
+    (b"play b pass", b"="),
+    (b"fixed_handicap 2", b"? board not empty"),
+];
 
 #[test]
 fn fixed_handicaps_and_their_refusals(rt: HostRuntime) -> Result<(), Fail> {
-    let lines: [Answered; 12] = [
-        (b"fixed_handicap 3", b"= D4 Q16 D16"),
-        (b"fixed_handicap 1", b"? board not empty"),
-        (b"boardsize 9", b"="),
-        (b"fixed_handicap 1", b"? invalid number of stones"),
-        (b"fixed_handicap 10", b"? invalid number of stones"),
-        (b"fixed_handicap 9", b"= C3 G7 C7 G3 C5 G5 E3 E7 E5"),
-        (b"boardsize 8", b"="),
-        (b"fixed_handicap 5", b"? invalid number of stones"),
-        (b"fixed_handicap 4", b"= C3 F6 C6 F3"),
-        (b"clear_board", b"="),
-        (b"play b pass", b"="),
-        (b"fixed_handicap 2", b"? board not empty"),
-    ];
-    assert_answers(&rt, rt.alloc(), &lines)
+    assert_answers(&rt, rt.alloc(), &HANDICAPS)
 }

@@ -1,7 +1,7 @@
 //! Conversations from the bytes in to the bytes out, what `serve` returns, and the game that it leaves.
-use crate::equal::{assert_equal, assert_true};
+use crate::equal::{assert_equal, assert_true, some};
 use crate::tests::sessions::memory::{Reporting, Strict, Waiting};
-use crate::tests::sessions::{assert_serves_in_any_cuts, reader_of, writer_of};
+use crate::tests::sessions::{assert_comes_to, assert_serves_in_any_cuts, reader_of, writer_of};
 use arrayvec::ArrayVec;
 use go_base::{Colour, Point};
 use gtp_session::first::First;
@@ -10,6 +10,7 @@ use gtp_session::session::Session;
 use gtp_session::streams::Counted;
 use std::alloc::Global;
 use std::cell::Cell;
+use std::process::Abort;
 use std::rc::Rc;
 use std::test::Fail;
 
@@ -40,47 +41,38 @@ fn nothing_is_executed_after_quit(rt: HostRuntime) {
 
 #[test]
 fn nothing_is_executed_after_a_writer_that_breaks(rt: HostRuntime) {
+    let broken = Err(ServeFault::Write);
+    let session = assert_comes_to(&rt, b"1 name\n2 quit\n", &[], None, 3, b"=1 ", broken);
+    assert_true(&rt, !session.ended());
+}
+
+/// In so many reads at most a fresh engine answers the input with the output, and would read on.
+fn assert_reads_no_more(rt: &impl Abort, input: &[u8], reads: u32, output: &[u8]) {
     let mut taken = ArrayVec::new();
     let mut session = Session::new(First);
-    let mut reader = reader_of(b"1 name\n2 quit\n", &[], None);
-    let mut writer = writer_of(&mut taken, 3, 100);
-    let answer = serve(&mut reader, &mut writer, &mut session);
-    assert_equal(&rt, answer, Err(ServeFault::Write));
-    assert_equal(&rt, taken.as_slice(), b"=1 ".as_slice());
-    assert_true(&rt, !session.ended());
+    let mut reader = reader_of(input, &[], None);
+    let mut writer = writer_of(&mut taken, 4096, 100);
+    let answer = serve_within(&mut reader, &mut writer, &mut session, reads);
+    assert_equal(rt, answer, Err(ServeFault::TooManyReads));
+    assert_equal(rt, taken.as_slice(), output);
 }
 
 #[test]
 fn no_read_is_allowed(rt: HostRuntime) {
-    let mut taken = ArrayVec::new();
-    let mut session = Session::new(First);
-    let mut reader = reader_of(b"name\n", &[], None);
-    let mut writer = writer_of(&mut taken, 4096, 100);
-    let answer = serve_within(&mut reader, &mut writer, &mut session, 0);
-    assert_equal(&rt, answer, Err(ServeFault::TooManyReads));
-    assert_equal(&rt, taken.len(), 0);
+    assert_reads_no_more(&rt, b"name\n", 0, b"");
 }
 
 #[test]
 fn a_read_that_fails_ends_the_conversation(rt: HostRuntime) {
-    let mut taken = ArrayVec::new();
-    let mut session = Session::new(First);
-    let mut reader = reader_of(b"name\nquit\n", &[], Some(0));
-    let mut writer = writer_of(&mut taken, 4096, 100);
-    let answer = serve(&mut reader, &mut writer, &mut session);
-    assert_equal(&rt, answer, Err(ServeFault::Read));
-    assert_equal(&rt, taken.len(), 0);
+    let failed = Err(ServeFault::Read);
+    assert_comes_to(&rt, b"name\nquit\n", &[], Some(0), 4096, b"", failed);
 }
 
 #[test]
 fn nothing_is_read_after_quit(rt: HostRuntime) {
-    let mut taken = ArrayVec::new();
-    let mut session = Session::new(First);
-    let mut reader = reader_of(b"name\nquit\nname\n", &[10], Some(1));
-    let mut writer = writer_of(&mut taken, 4096, 100);
-    let answer = serve(&mut reader, &mut writer, &mut session);
-    assert_equal(&rt, answer, Ok(Served::Quit));
-    assert_equal(&rt, taken.as_slice(), b"= stepgo\n\n=\n\n".as_slice());
+    let input = b"name\nquit\nname\n";
+    let quit = Ok(Served::Quit);
+    assert_comes_to(&rt, input, &[10], Some(1), 4096, b"= stepgo\n\n=\n\n", quit);
 }
 
 #[test]
@@ -103,48 +95,36 @@ fn each_line_is_answered_and_flushed_before_the_next_is_read(rt: HostRuntime) ->
     Ok(())
 }
 
+/// One move was made: Black has a stone on this point.
+fn assert_one_stone(rt: &impl Abort, session: &Session<First>, column: u32, row: u32) {
+    let point = some(rt, Point::new(column, row));
+    assert_equal(rt, session.game().moves().len(), 1);
+    assert_equal(rt, session.game().at(point), Some(Colour::Black));
+}
+
 #[test]
-fn comments_and_control_characters_in_a_play(rt: HostRuntime) -> Result<(), Fail> {
+fn comments_and_control_characters_in_a_play(rt: HostRuntime) {
     let input = b"# a game\n\t\n3\tpl\x01ay b D4 # corner\r\n";
     assert_serves_in_any_cuts(&rt, input, b"=3\n\n", Served::EndOfInput);
-    let mut taken = ArrayVec::new();
-    let mut session = Session::new(First);
-    let mut reader = reader_of(input, &[], None);
-    let mut writer = writer_of(&mut taken, 4096, 100);
-    let answer = serve(&mut reader, &mut writer, &mut session);
-    assert_equal(&rt, answer, Ok(Served::EndOfInput));
-    assert_equal(&rt, session.game().moves().len(), 1);
-    let point = Point::new(4, 4).ok_or("no point")?;
-    assert_equal(&rt, session.game().at(point), Some(Colour::Black));
-    Ok(())
+    let end = Ok(Served::EndOfInput);
+    let session = assert_comes_to(&rt, input, &[], None, 4096, b"=3\n\n", end);
+    assert_one_stone(&rt, &session, 4, 4);
 }
 
 #[test]
 fn an_unfinished_play_is_not_executed(rt: HostRuntime) {
     assert_serves_in_any_cuts(&rt, b"play b D1", b"", Served::EndOfInput);
-    let mut taken = ArrayVec::new();
-    let mut session = Session::new(First);
-    let mut reader = reader_of(b"play b D1", &[], None);
-    let mut writer = writer_of(&mut taken, 4096, 100);
-    let answer = serve(&mut reader, &mut writer, &mut session);
-    assert_equal(&rt, answer, Ok(Served::EndOfInput));
+    let end = Ok(Served::EndOfInput);
+    let session = assert_comes_to(&rt, b"play b D1", &[], None, 4096, b"", end);
     assert_equal(&rt, session.game().moves().len(), 0);
-    assert_equal(&rt, taken.len(), 0);
 }
 
 #[test]
-fn a_play_whose_reply_breaks_was_made_and_the_next_was_not(rt: HostRuntime) -> Result<(), Fail> {
-    let mut taken = ArrayVec::new();
-    let mut session = Session::new(First);
-    let mut reader = reader_of(b"1 play b A1\n2 play b B1\n", &[], None);
-    let mut writer = writer_of(&mut taken, 3, 100);
-    let answer = serve(&mut reader, &mut writer, &mut session);
-    assert_equal(&rt, answer, Err(ServeFault::Write));
-    assert_equal(&rt, taken.as_slice(), b"=1\n".as_slice());
-    assert_equal(&rt, session.game().moves().len(), 1);
-    let point = Point::new(1, 1).ok_or("no point")?;
-    assert_equal(&rt, session.game().at(point), Some(Colour::Black));
-    Ok(())
+fn a_play_whose_reply_breaks_was_made_and_the_next_was_not(rt: HostRuntime) {
+    let input = b"1 play b A1\n2 play b B1\n";
+    let broken = Err(ServeFault::Write);
+    let session = assert_comes_to(&rt, input, &[], None, 3, b"=1\n", broken);
+    assert_one_stone(&rt, &session, 1, 1);
 }
 
 #[test]
@@ -168,12 +148,6 @@ fn one_read_has_room_for_4096_bytes(rt: HostRuntime) -> Result<(), Fail> {
     input.extend_from_slice(b"name")?;
     input.resize(4095, b' ')?;
     input.push(b'\n')?;
-    let mut taken = ArrayVec::new();
-    let mut session = Session::new(First);
-    let mut reader = reader_of(&input, &[], None);
-    let mut writer = writer_of(&mut taken, 4096, 100);
-    let answer = serve_within(&mut reader, &mut writer, &mut session, 1);
-    assert_equal(&rt, answer, Err(ServeFault::TooManyReads));
-    assert_equal(&rt, taken.as_slice(), b"= stepgo\n\n".as_slice());
+    assert_reads_no_more(&rt, &input, 1, b"= stepgo\n\n");
     Ok(())
 }

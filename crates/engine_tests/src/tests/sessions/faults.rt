@@ -1,7 +1,6 @@
 //! Faults that are asked for, over memory.
-use crate::equal::{assert_equal, assert_equal_for};
-use crate::tests::sessions::memory::Limited;
-use crate::tests::sessions::reader_of;
+use crate::equal::{assert_equal, assert_equal_for, some};
+use crate::tests::sessions::{reader_of, writer_of};
 use arrayvec::ArrayVec;
 use gtp_session::book::Book;
 use gtp_session::fault::Fault;
@@ -59,16 +58,19 @@ fn without_a_fault_nothing_is_bent(rt: HostRuntime) {
     assert_bends_in_any_cuts(&rt, Fault::Junk(3), output, Served::EndOfInput);
 }
 
+/// Faults that no genmove meets.
+static UNMET: [Fault; 4] = [
+    Fault::Stop(0),
+    Fault::Cut(0, 3),
+    Fault::Junk(0),
+    Fault::Flood(0),
+];
+
 #[test]
 fn a_fault_with_number_0_meets_no_genmove(rt: HostRuntime) {
     let output = b"? syntax error\n\n=1 A1\n\n=2 stepgo\n\n=3 B1\n\n=4 stepgo\n\n";
-    for fault in [
-        Fault::Stop(0),
-        Fault::Cut(0, 3),
-        Fault::Junk(0),
-        Fault::Flood(0),
-    ] {
-        assert_bends_in_any_cuts(&rt, fault, output, Served::EndOfInput);
+    for fault in &UNMET {
+        assert_bends_in_any_cuts(&rt, *fault, output, Served::EndOfInput);
     }
 }
 
@@ -110,8 +112,8 @@ fn a_flood_goes_out_and_the_conversation_goes_on(rt: HostRuntime) -> Result<(), 
 }
 
 #[test]
-fn a_resignation_is_a_genmove_that_succeeds(rt: HostRuntime) -> Result<(), Fail> {
-    let book = Book::read(b"resign").ok_or("no book")?;
+fn a_resignation_is_a_genmove_that_succeeds(rt: HostRuntime) {
+    let book = some(&rt, Book::read(b"resign"));
     assert_bends(
         &rt,
         book,
@@ -121,67 +123,66 @@ fn a_resignation_is_a_genmove_that_succeeds(rt: HostRuntime) -> Result<(), Fail>
         b"",
         Served::Stopped,
     );
-    Ok(())
+}
+
+/// A fresh engine with this fault answers the input, by a writer with this room that takes `step` bytes at a time, and
+/// ends like this.
+fn assert_bends_into(
+    rt: &impl Abort,
+    fault: Fault,
+    input: &[u8],
+    room: usize,
+    step: usize,
+    output: &[u8],
+    served: Result<Served, ServeFault>,
+) -> Session<First> {
+    let mut taken = ArrayVec::new();
+    let mut session = Session::new(First);
+    let mut reader = reader_of(input, &[], None);
+    let mut writer = writer_of(&mut taken, room, step);
+    let answer = serve_with(&mut reader, &mut writer, &mut session, 10, fault);
+    assert_equal(rt, answer, served);
+    assert_equal(rt, taken.as_slice(), output);
+    session
 }
 
 #[test]
 fn nothing_is_executed_after_a_stop(rt: HostRuntime) {
-    let mut taken = ArrayVec::new();
-    let mut session = Session::new(First);
-    let mut reader = reader_of(b"genmove b\nplay w D4\nquit\n", &[], None);
-    let mut writer = Counted::new(Limited {
-        taken: &mut taken,
-        room: 4096,
-        step: 100,
-    });
-    let answer = serve_with(&mut reader, &mut writer, &mut session, 10, Fault::Stop(1));
-    assert_equal(&rt, answer, Ok(Served::Stopped));
+    let input = b"genmove b\nplay w D4\nquit\n";
+    let stopped = Ok(Served::Stopped);
+    let session = assert_bends_into(&rt, Fault::Stop(1), input, 4096, 100, b"", stopped);
     assert_equal(&rt, session.game().moves().len(), 1);
     assert_equal(&rt, session.ended(), false);
-    assert_equal(&rt, taken.len(), 0);
 }
 
 #[test]
 fn a_writer_breaks_in_a_flood(rt: HostRuntime) {
-    let mut taken = ArrayVec::new();
-    let mut session = Session::new(First);
-    let mut reader = reader_of(b"genmove b\nplay w D4\n", &[], None);
-    let mut writer = Counted::new(Limited {
-        taken: &mut taken,
-        room: 4001,
-        step: 7,
-    });
-    let answer = serve_with(&mut reader, &mut writer, &mut session, 10, Fault::Flood(1));
-    assert_equal(&rt, answer, Err(ServeFault::Write));
+    let input = b"genmove b\nplay w D4\n";
+    let broken = Err(ServeFault::Write);
+    let newlines = [b'\n'; 4001];
+    let session = assert_bends_into(&rt, Fault::Flood(1), input, 4001, 7, &newlines, broken);
     assert_equal(&rt, session.game().moves().len(), 1);
-    assert_equal(&rt, taken.as_slice(), [b'\n'; 4001].as_slice());
 }
+
+/// Faults, and what is written with each.
+static BENT: [(Fault, &[u8]); 2] = [
+    (
+        Fault::Cut(2, 6),
+        b"? syntax error\n\n=1 A1\n\n=2 stepgo\n\n=3 B1\n",
+    ),
+    (
+        Fault::Junk(1),
+        b"? syntax error\n\nhello\n\n=2 stepgo\n\n=3 B1\n\n=4 stepgo\n\n",
+    ),
+];
 
 #[test]
 fn a_writer_breaks_after_each_number_of_bytes(rt: HostRuntime) {
-    let cases: [(Fault, &[u8]); 2] = [
-        (
-            Fault::Cut(2, 6),
-            b"? syntax error\n\n=1 A1\n\n=2 stepgo\n\n=3 B1\n",
-        ),
-        (
-            Fault::Junk(1),
-            b"? syntax error\n\nhello\n\n=2 stepgo\n\n=3 B1\n\n=4 stepgo\n\n",
-        ),
-    ];
-    for (fault, output) in cases {
+    for (fault, output) in &BENT {
         for room in 0..output.len() {
-            let mut taken = ArrayVec::new();
-            let mut session = Session::new(First);
-            let mut reader = reader_of(INPUT, &[], None);
-            let mut writer = Counted::new(Limited {
-                taken: &mut taken,
-                room,
-                step: 3,
-            });
-            let answer = serve_with(&mut reader, &mut writer, &mut session, 10, fault);
-            assert_equal(&rt, answer, Err(ServeFault::Write));
-            assert_equal(&rt, taken.as_slice(), &output[..room]);
+            let front = &output[..room];
+            let broken = Err(ServeFault::Write);
+            assert_bends_into(&rt, *fault, INPUT, room, 3, front, broken);
         }
     }
 }
@@ -191,14 +192,10 @@ fn each_call_counts_its_own_genmoves(rt: HostRuntime) {
     let mut taken = ArrayVec::new();
     let mut session = Session::new(First);
     let mut reader = reader_of(b"genmove b\ngenmove w\ngenmove b\n", &[10], None);
-    let mut writer = Counted::new(Limited {
-        taken: &mut taken,
-        room: 4096,
-        step: 100,
-    });
+    let mut writer = writer_of(&mut taken, 4096, 100);
     let first = serve_with(&mut reader, &mut writer, &mut session, 1, Fault::Stop(2));
-    assert_equal(&rt, first, Err(ServeFault::TooManyReads));
     let second = serve_with(&mut reader, &mut writer, &mut session, 1, Fault::Stop(2));
+    assert_equal(&rt, first, Err(ServeFault::TooManyReads));
     assert_equal(&rt, second, Ok(Served::Stopped));
     assert_equal(&rt, session.game().moves().len(), 3);
     assert_equal(&rt, taken.as_slice(), b"= A1\n\n= B1\n\n".as_slice());
@@ -218,25 +215,26 @@ fn an_ended_session_meets_no_fault(rt: HostRuntime) {
     );
 }
 
+/// Lines, and whether the reply to each is that of a genmove that succeeded.
+static GENMOVES: [(&[u8], bool); 8] = [
+    (b"name\n", false),
+    (b"genmove\n", false),
+    (b"genmove b\n", true),
+    (b"genmove w\n", true),
+    (b"play w D4\n", false),
+    (b"\n", false),
+    (b"quit\n", false),
+    (b"genmove b\n", false),
+];
+
 #[test]
-fn a_session_shows_which_replies_answer_a_genmove(rt: HostRuntime) -> Result<(), Fail> {
-    let book = Book::read(b"C3,resign").ok_or("no book")?;
+fn a_session_shows_which_replies_answer_a_genmove(rt: HostRuntime) {
+    let book = some(&rt, Book::read(b"C3,resign"));
     let mut session = Session::new(book);
-    let cases: [(&[u8], bool); 8] = [
-        (b"name\n", false),
-        (b"genmove\n", false),
-        (b"genmove b\n", true),
-        (b"genmove w\n", true),
-        (b"play w D4\n", false),
-        (b"\n", false),
-        (b"quit\n", false),
-        (b"genmove b\n", false),
-    ];
-    for (line, genmove) in cases {
-        assert_equal(&rt, session.feed(line).genmove, genmove);
+    for (line, genmove) in &GENMOVES {
+        assert_equal(&rt, session.feed(line).genmove, *genmove);
     }
     assert_equal(&rt, session.game().moves().len(), 2);
-    Ok(())
 }
 
 #[test]
@@ -250,55 +248,64 @@ fn a_genmove_on_a_full_record_is_none(rt: HostRuntime) {
     assert_equal(&rt, fed.genmove, false);
 }
 
-#[test]
-fn texts_of_faults_are_read(rt: HostRuntime) {
-    let read: [(&str, Fault); 10] = [
-        ("none", Fault::Off),
-        ("stop:1", Fault::Stop(1)),
-        ("stop:2000", Fault::Stop(2000)),
-        ("stop:007", Fault::Stop(7)),
-        ("cut:2:6", Fault::Cut(2, 6)),
-        ("cut:2000:2048", Fault::Cut(2000, 2048)),
-        ("cut:1:0", Fault::Cut(1, 0)),
-        ("junk:2", Fault::Junk(2)),
-        ("flood:2", Fault::Flood(2)),
-        ("flood:02000", Fault::Flood(2000)),
-    ];
-    for (text, fault) in read {
-        assert_equal_for(&rt, text, Fault::read(text.as_bytes()), Some(fault));
-    }
+/// Texts of faults.
+static READ: [(&str, Fault); 10] = [
+    ("none", Fault::Off),
+    ("stop:1", Fault::Stop(1)),
+    ("stop:2000", Fault::Stop(2000)),
+    ("stop:007", Fault::Stop(7)),
+    ("cut:2:6", Fault::Cut(2, 6)),
+    ("cut:2000:2048", Fault::Cut(2000, 2048)),
+    ("cut:1:0", Fault::Cut(1, 0)),
+    ("junk:2", Fault::Junk(2)),
+    ("flood:2", Fault::Flood(2)),
+    ("flood:02000", Fault::Flood(2000)),
+];
+
+/// This is read of the text.
+fn assert_reads(rt: &impl Abort, text: &str, fault: Option<Fault>) {
+    assert_equal_for(rt, text, Fault::read(text.as_bytes()), fault);
 }
 
 #[test]
+fn texts_of_faults_are_read(rt: HostRuntime) {
+    for (text, fault) in &READ {
+        assert_reads(&rt, text, Some(*fault));
+    }
+}
+
+/// Texts that name no fault.
+static REFUSED: [&str; 24] = [
+    "",
+    "None",
+    "none:",
+    "none:1",
+    "stop",
+    "stop:",
+    "stop:0",
+    "stop:2001",
+    "stop:-1",
+    "stop:+1",
+    "stop:1:",
+    "stop:1:2",
+    " stop:1",
+    "stop:1 ",
+    "Stop:1",
+    "cut:1",
+    "cut:1:",
+    "cut:1:2049",
+    "cut:0:1",
+    "cut::1",
+    "cut:1:2:3",
+    "junk:",
+    "flood:2001",
+    "flood:1:1",
+];
+
+#[test]
 fn other_texts_are_no_faults(rt: HostRuntime) {
-    let refused: [&str; 24] = [
-        "",
-        "None",
-        "none:",
-        "none:1",
-        "stop",
-        "stop:",
-        "stop:0",
-        "stop:2001",
-        "stop:-1",
-        "stop:+1",
-        "stop:1:",
-        "stop:1:2",
-        " stop:1",
-        "stop:1 ",
-        "Stop:1",
-        "cut:1",
-        "cut:1:",
-        "cut:1:2049",
-        "cut:0:1",
-        "cut::1",
-        "cut:1:2:3",
-        "junk:",
-        "flood:2001",
-        "flood:1:1",
-    ];
-    for text in refused {
-        assert_equal_for(&rt, text, Fault::read(text.as_bytes()), None);
+    for text in &REFUSED {
+        assert_reads(&rt, text, None);
     }
 }
 
