@@ -44,8 +44,8 @@ pub fn writer_of<'a>(
     Counted::new(Limited { taken, room, step })
 }
 
-/// What a fresh engine with the first policy answers to the input, in pieces of these sizes, where the read of one number
-/// fails and the writer takes `room` bytes. The conversation ends like this, and the session is what it left.
+/// What a fresh engine with the first policy answers to the input, in pieces of these sizes, where the read of one
+/// number fails and the writer takes `room` bytes. The conversation ends like this, and the session is what it left.
 pub fn assert_comes_to(
     rt: &impl Abort,
     input: &[u8],

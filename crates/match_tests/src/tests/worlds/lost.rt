@@ -1,7 +1,7 @@
 //! Engines that are gone, and writes that break.
 use super::recorded::{Recorded, black_lost, black_moved};
 use super::same::assert_same_world;
-use crate::equal::{assert_equal, assert_true};
+use crate::equal::assert_equal;
 use go_base::Side;
 use gtp_match::{Action, Status};
 use gtp_world::Event;
@@ -11,23 +11,14 @@ use std::process::Abort;
 fn a_move_that_was_made_and_not_heard_is_lost_with_its_engine(rt: HostRuntime) {
     let mut recorded = black_lost(&rt);
     recorded.step(&rt, Event::Act);
-    assert_true(&rt, recorded.world.running(Side::Black).is_some());
-    assert_true(&rt, !recorded.in_step(Side::Black));
+    recorded.assert_runs(&rt, Side::Black, true);
+    recorded.assert_in_step(&rt, false, true);
     recorded.rounds(&rt, Side::Black, 3);
-    assert_true(&rt, recorded.in_step(Side::Black));
-    assert_true(&rt, recorded.in_step(Side::White));
+    recorded.assert_in_step(&rt, true, true);
     assert_equal(&rt, recorded.world.controller().restarts(Side::Black), 1);
-    assert_equal(
-        &rt,
-        recorded.world.controller().next(),
-        Action::Send(Side::Black),
-    );
+    recorded.assert_next(&rt, Action::Send(Side::Black));
     recorded.step(&rt, Event::Act);
-    assert_equal(
-        &rt,
-        recorded.world.to_engine(Side::Black),
-        b"4 genmove b\n".as_slice(),
-    );
+    recorded.assert_sent(&rt, Side::Black, b"4 genmove b\n");
     recorded.assert_one_run(&rt);
 }
 
@@ -35,26 +26,18 @@ fn a_move_that_was_made_and_not_heard_is_lost_with_its_engine(rt: HostRuntime) {
 fn a_reply_that_a_crash_cut_short_answers_nothing(rt: HostRuntime) {
     let mut recorded = black_moved(&rt);
     recorded.step(&rt, Event::Crash(Side::Black, 6));
-    assert_equal(
-        &rt,
-        recorded.world.to_controller(Side::Black),
-        b"=4 A1\n".as_slice(),
-    );
+    recorded.assert_written(&rt, Side::Black, b"=4 A1\n");
     recorded.step(&rt, Event::ToController(Side::Black, 100));
-    assert_equal(
-        &rt,
-        recorded.world.to_controller(Side::Black),
-        b"".as_slice(),
-    );
+    recorded.assert_written(&rt, Side::Black, b"");
     let asked = Status::Up {
         confirmed: 3,
         unanswered: 1,
         asked: true,
     };
-    assert_equal(&rt, recorded.status(Side::Black), asked);
+    recorded.assert_status(&rt, Side::Black, asked);
     recorded.step(&rt, Event::End(Side::Black));
-    assert_equal(&rt, recorded.status(Side::Black), Status::Down);
-    assert_equal(&rt, recorded.record_len(), 0);
+    recorded.assert_status(&rt, Side::Black, Status::Down);
+    recorded.assert_moves(&rt, 0);
     recorded.assert_one_run(&rt);
 }
 
@@ -62,12 +45,11 @@ fn a_reply_that_a_crash_cut_short_answers_nothing(rt: HostRuntime) {
 fn the_last_byte_of_a_reply_answers(rt: HostRuntime) {
     let mut recorded = black_moved(&rt);
     recorded.step(&rt, Event::ToController(Side::Black, 6));
-    assert_equal(&rt, recorded.record_len(), 0);
-    assert_true(&rt, !recorded.in_step(Side::Black));
+    recorded.assert_moves(&rt, 0);
+    recorded.assert_in_step(&rt, false, true);
     recorded.step(&rt, Event::ToController(Side::Black, 1));
-    assert_equal(&rt, recorded.record_len(), 1);
-    assert_true(&rt, recorded.in_step(Side::Black));
-    assert_true(&rt, !recorded.in_step(Side::White));
+    recorded.assert_moves(&rt, 1);
+    recorded.assert_in_step(&rt, true, false);
     recorded.assert_one_run(&rt);
 }
 
@@ -82,13 +64,12 @@ fn broken_after(rt: &impl Abort, sent: usize) -> Recorded {
 #[test]
 fn a_write_that_broke_anywhere_loses_the_side_alike(rt: HostRuntime) {
     let none_sent = broken_after(&rt, 0);
-    assert_equal(&rt, none_sent.status(Side::White), Status::Down);
-    let world = &none_sent.world;
-    assert_equal(&rt, world.controller().next(), Action::Start(Side::White));
-    assert_true(&rt, world.running(Side::White).is_none());
-    assert_equal(&rt, none_sent.record_len(), 1);
+    none_sent.assert_status(&rt, Side::White, Status::Down);
+    none_sent.assert_next(&rt, Action::Start(Side::White));
+    none_sent.assert_runs(&rt, Side::White, false);
+    none_sent.assert_moves(&rt, 1);
     none_sent.assert_one_run(&rt);
     for sent in 1..=64 {
-        assert_same_world(&rt, world, &broken_after(&rt, sent).world);
+        assert_same_world(&rt, &none_sent.world, &broken_after(&rt, sent).world);
     }
 }

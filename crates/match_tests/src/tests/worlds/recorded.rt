@@ -1,9 +1,9 @@
 //! A world, and the events that led to it.
 use super::same::assert_same_world;
 use super::{Firsts, small_setup};
-use crate::equal::{assert_equal, assert_true, some};
+use crate::equal::{assert_equal, some};
 use go_base::Side;
-use gtp_match::Status;
+use gtp_match::{Action, Status};
 use gtp_world::{Event, World};
 use std::process::Abort;
 
@@ -74,47 +74,68 @@ impl Recorded {
         assert_same_world(rt, &self.world, &world);
     }
 
-    pub fn record_len(&self) -> usize {
-        self.world.controller().game().moves().len()
+    /// The record has so many moves.
+    pub fn assert_moves(&self, rt: &impl Abort, moves: usize) {
+        assert_equal(rt, self.world.controller().game().moves().len(), moves);
     }
 
-    pub fn in_step(&self, side: Side) -> bool {
-        self.world.controller().in_step(side)
+    /// Whether Black is in step, and White.
+    pub fn assert_in_step(&self, rt: &impl Abort, black: bool, white: bool) {
+        let played = self.world.controller();
+        let in_step = (played.in_step(Side::Black), played.in_step(Side::White));
+        assert_equal(rt, in_step, (black, white));
     }
 
-    pub fn status(&self, side: Side) -> Status {
-        self.world.controller().status(side)
+    /// The status of a side is this.
+    pub fn assert_status(&self, rt: &impl Abort, side: Side, status: Status) {
+        assert_equal(rt, self.world.controller().status(side), status);
+    }
+
+    /// This comes next.
+    pub fn assert_next(&self, rt: &impl Abort, action: Action) {
+        assert_equal(rt, self.world.controller().next(), action);
+    }
+
+    /// These bytes are on their way to a side.
+    pub fn assert_sent(&self, rt: &impl Abort, side: Side, bytes: &[u8]) {
+        assert_equal(rt, self.world.to_engine(side), bytes);
+    }
+
+    /// These bytes are on their way from a side.
+    pub fn assert_written(&self, rt: &impl Abort, side: Side, bytes: &[u8]) {
+        assert_equal(rt, self.world.to_controller(side), bytes);
+    }
+
+    /// Whether an engine of a side runs.
+    pub fn assert_runs(&self, rt: &impl Abort, side: Side, runs: bool) {
+        assert_equal(rt, self.world.running(side).is_some(), runs);
     }
 }
 
-/// Both sides in step, and Black asked for a move, which its engine made.
-pub fn black_moved(rt: &impl Abort) -> Recorded {
+/// Both sides in step, of which Black was brought there first.
+fn both_in_step(rt: &impl Abort) -> Recorded {
     let mut recorded = Recorded::new(rt);
     recorded.step(rt, Event::Act);
     recorded.step(rt, Event::Act);
     recorded.rounds(rt, Side::Black, 3);
-    assert_true(rt, recorded.in_step(Side::Black));
-    assert_true(rt, !recorded.in_step(Side::White));
+    recorded.assert_in_step(rt, true, false);
     recorded.rounds(rt, Side::White, 3);
-    assert_true(rt, recorded.in_step(Side::Black));
-    assert_true(rt, recorded.in_step(Side::White));
-    assert_equal(rt, recorded.record_len(), 0);
+    recorded.assert_in_step(rt, true, true);
+    recorded.assert_moves(rt, 0);
+    recorded
+}
+
+/// Both sides in step, and Black asked for a move, which its engine made.
+pub fn black_moved(rt: &impl Abort) -> Recorded {
+    let mut recorded = both_in_step(rt);
     recorded.step(rt, Event::Act);
-    assert_equal(
-        rt,
-        recorded.world.to_engine(Side::Black),
-        b"4 genmove b\n".as_slice(),
-    );
+    recorded.assert_sent(rt, Side::Black, b"4 genmove b\n");
     recorded.step(rt, Event::ToEngine(Side::Black, 100));
-    assert_equal(rt, recorded.world.to_engine(Side::Black), b"".as_slice());
-    assert_equal(
-        rt,
-        recorded.world.to_controller(Side::Black),
-        b"=4 A1\n\n".as_slice(),
-    );
+    recorded.assert_sent(rt, Side::Black, b"");
+    recorded.assert_written(rt, Side::Black, b"=4 A1\n\n");
     let game = some(rt, recorded.world.running(Side::Black));
     assert_equal(rt, game.moves().len(), 1);
-    assert_true(rt, !recorded.in_step(Side::Black));
+    recorded.assert_in_step(rt, false, true);
     recorded
 }
 
@@ -122,15 +143,11 @@ pub fn black_moved(rt: &impl Abort) -> Recorded {
 pub fn black_lost(rt: &impl Abort) -> Recorded {
     let mut recorded = black_moved(rt);
     recorded.step(rt, Event::Crash(Side::Black, 0));
-    assert_true(rt, recorded.world.running(Side::Black).is_none());
-    assert_equal(
-        rt,
-        recorded.world.to_controller(Side::Black),
-        b"".as_slice(),
-    );
+    recorded.assert_runs(rt, Side::Black, false);
+    recorded.assert_written(rt, Side::Black, b"");
     recorded.step(rt, Event::End(Side::Black));
-    assert_equal(rt, recorded.record_len(), 0);
-    assert_equal(rt, recorded.status(Side::Black), Status::Down);
-    assert_true(rt, recorded.in_step(Side::White));
+    recorded.assert_moves(rt, 0);
+    recorded.assert_status(rt, Side::Black, Status::Down);
+    recorded.assert_in_step(rt, false, true);
     recorded
 }

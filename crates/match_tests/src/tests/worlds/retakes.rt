@@ -71,6 +71,25 @@ fn go_on(world: &mut World<Onces, Firsts>) {
     }
 }
 
+/// The record has so many moves, and this move is to be taken back, if any.
+fn assert_moves(rt: &impl Abort, world: &World<Onces, Firsts>, moves: usize, back: Option<Side>) {
+    assert_equal(rt, world.controller().game().moves().len(), moves);
+    assert_equal(rt, world.controller().taking_back(), back);
+}
+
+/// Whether Black is in step, and White.
+fn assert_in_step(rt: &impl Abort, world: &World<Onces, Firsts>, black: bool, white: bool) {
+    let played = world.controller();
+    let in_step = (played.in_step(Side::Black), played.in_step(Side::White));
+    assert_equal(rt, in_step, (black, white));
+}
+
+/// This comes next, and so often was the seventh move retaken.
+fn assert_next(rt: &impl Abort, world: &World<Onces, Firsts>, action: Action, retakes: u32) {
+    assert_equal(rt, world.controller().next(), action);
+    assert_equal(rt, world.controller().retakes(7), retakes);
+}
+
 /// Goes on until a move is to be taken back.
 fn refused_world(rt: &impl Abort) -> World<Onces, Firsts> {
     let mut world = refusing_world(rt);
@@ -79,11 +98,9 @@ fn refused_world(rt: &impl Abort) -> World<Onces, Firsts> {
             go_on(&mut world);
         }
     }
-    assert_equal(rt, world.controller().taking_back(), Some(Side::Black));
-    assert_equal(rt, world.controller().game().moves().len(), 7);
-    assert_equal(rt, world.controller().retakes(7), 1);
+    assert_moves(rt, &world, 7, Some(Side::Black));
     assert_true(rt, !world.controller().in_step(Side::White));
-    assert_equal(rt, world.controller().next(), Action::Send(Side::Black));
+    assert_next(rt, &world, Action::Send(Side::Black), 1);
     world
 }
 
@@ -92,22 +109,15 @@ fn a_refused_move_is_taken_back_and_the_match_goes_on(rt: HostRuntime) {
     let mut world = refused_world(&rt);
     world.step(Event::Act);
     assert_equal(&rt, world.to_engine(Side::Black), b"11 undo\n".as_slice());
-    assert_equal(&rt, world.controller().next(), Action::Wait(Side::Black));
+    assert_next(&rt, &world, Action::Wait(Side::Black), 1);
     go_on(&mut world);
-    assert_equal(&rt, world.controller().taking_back(), None);
-    assert_equal(&rt, world.controller().game().moves().len(), 6);
-    assert_true(&rt, world.controller().in_step(Side::Black));
-    assert_true(&rt, world.controller().in_step(Side::White));
+    assert_moves(&rt, &world, 6, None);
+    assert_in_step(&rt, &world, true, true);
     for _ in 0..20 {
         go_on(&mut world);
     }
-    assert_equal(
-        &rt,
-        world.controller().next(),
-        Action::Done(Verdict::Score(-8)),
-    );
-    assert_equal(&rt, world.controller().game().moves().len(), 8);
-    assert_equal(&rt, world.controller().retakes(7), 1);
+    assert_next(&rt, &world, Action::Done(Verdict::Score(-8)), 1);
+    assert_moves(&rt, &world, 8, None);
     assert_equal(&rt, world.controller().retakes(8), 0);
 }
 
@@ -119,46 +129,41 @@ fn undo_read(rt: &impl Abort) -> World<Onces, Firsts> {
     assert_equal(rt, world.to_controller(Side::Black), b"=11\n\n".as_slice());
     let game = some(rt, world.running(Side::Black));
     assert_equal(rt, game.moves().len(), 6);
-    assert_equal(rt, world.controller().game().moves().len(), 7);
-    assert_equal(rt, world.controller().taking_back(), Some(Side::Black));
+    assert_moves(rt, &world, 7, Some(Side::Black));
     world
 }
 
-/// Black, which lost its engine, is started again, and both get in step without the move. Black's new policy is asked
-/// for it.
-fn is_asked_again(rt: &impl Abort, world: &mut World<Onces, Firsts>) {
-    assert_equal(rt, world.controller().taking_back(), None);
-    assert_equal(rt, world.controller().game().moves().len(), 6);
-    assert_true(rt, world.controller().in_step(Side::White));
+/// Goes on until both sides are in step, 60 times at most.
+fn catch_up(world: &mut World<Onces, Firsts>) {
     for _ in 0..60 {
         if !(world.controller().in_step(Side::Black) && world.controller().in_step(Side::White)) {
             go_on(world);
         }
     }
+}
+
+/// Black, which lost its engine, is started again, and both get in step without the move. Black's new policy is asked
+/// for it.
+fn is_asked_again(rt: &impl Abort, world: &mut World<Onces, Firsts>) {
+    assert_moves(rt, world, 6, None);
+    assert_true(rt, world.controller().in_step(Side::White));
+    catch_up(world);
     assert_equal(rt, world.controller().restarts(Side::Black), 1);
-    assert_equal(rt, world.controller().next(), Action::Send(Side::Black));
+    assert_next(rt, world, Action::Send(Side::Black), 1);
     world.step(Event::Act);
-    assert_equal(
-        rt,
-        world.to_engine(Side::Black),
-        b"10 genmove b\n".as_slice(),
-    );
+    let sent = world.to_engine(Side::Black);
+    assert_equal(rt, sent, b"10 genmove b\n".as_slice());
 }
 
 /// The new policy makes the same move, which is refused again and taken back. Then both pass.
 fn is_refused_again(rt: &impl Abort, world: &mut World<Onces, Firsts>) {
     go_on(world);
-    assert_equal(rt, world.controller().game().moves().len(), 7);
+    assert_moves(rt, world, 7, None);
     for _ in 0..20 {
         go_on(world);
     }
-    assert_equal(
-        rt,
-        world.controller().next(),
-        Action::Done(Verdict::Score(-8)),
-    );
-    assert_equal(rt, world.controller().game().moves().len(), 8);
-    assert_equal(rt, world.controller().retakes(7), 2);
+    assert_next(rt, world, Action::Done(Verdict::Score(-8)), 2);
+    assert_moves(rt, world, 8, None);
 }
 
 #[test]

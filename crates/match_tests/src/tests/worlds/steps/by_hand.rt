@@ -28,12 +28,11 @@ impl Played {
         };
         played.happen(rt, Event::Act);
         played.happen(rt, Event::Act);
-        for side in SIDES {
-            played.rounds(rt, side, 3);
-        }
-        for side in SIDES {
-            assert_true(rt, played.world.controller().in_step(side));
-            assert_equal(rt, waits_for(&played.world, side), Some(Wait::Nothing));
+        played.rounds(rt, Side::Black, 3);
+        played.rounds(rt, Side::White, 3);
+        for side in &SIDES {
+            assert_true(rt, played.world.controller().in_step(*side));
+            played.assert_waits_for_nothing(rt, *side);
         }
         played
     }
@@ -90,8 +89,8 @@ impl Played {
     /// The author chooses this, with that reply, and it is heard.
     fn answer(&mut self, rt: &impl Abort, side: Side, text: &[u8], reply: &[u8]) {
         self.choose(rt, side, text);
-        assert_equal(rt, waits_for(&self.world, side), Some(Wait::Nothing));
-        assert_equal(rt, self.world.to_controller(side), reply);
+        self.assert_waits_for_nothing(rt, side);
+        self.assert_written(rt, side, reply);
         let len = self.record_len();
         self.happen(rt, Event::ToController(side, 100));
         assert_equal(rt, self.record_len(), len.saturating_add(1));
@@ -108,6 +107,31 @@ impl Played {
 
     fn record_len(&self) -> usize {
         self.world.controller().game().moves().len()
+    }
+
+    /// This comes next.
+    fn assert_next(&self, rt: &impl Abort, action: Action) {
+        assert_equal(rt, self.world.controller().next(), action);
+    }
+
+    /// The side is down.
+    fn assert_down(&self, rt: &impl Abort, side: Side) {
+        assert_equal(rt, self.world.controller().status(side), Status::Down);
+    }
+
+    /// Its engine waits for nothing.
+    fn assert_waits_for_nothing(&self, rt: &impl Abort, side: Side) {
+        assert_equal(rt, waits_for(&self.world, side), Some(Wait::Nothing));
+    }
+
+    /// A side has written these bytes, which are not heard yet.
+    fn assert_written(&self, rt: &impl Abort, side: Side, bytes: &[u8]) {
+        assert_equal(rt, self.world.to_controller(side), bytes);
+    }
+
+    /// No engine of this side runs.
+    fn assert_gone(&self, rt: &impl Abort, side: Side) {
+        assert_true(rt, self.world.running(side).is_none());
     }
 
     /// All the events once more lead to a world that shows the same.
@@ -130,11 +154,7 @@ fn both_authors_choose_a_whole_game(rt: HostRuntime) {
     played.turn(&rt, Side::White, b"pass", b"=7 pass\n\n");
     played.ask(&rt, Side::Black);
     played.answer(&rt, Side::Black, b"PASS", b"=8 pass\n\n");
-    assert_equal(
-        &rt,
-        played.world.controller().next(),
-        Action::Done(Verdict::Score(8)),
-    );
+    played.assert_next(&rt, Action::Done(Verdict::Score(8)));
     let game = some(&rt, played.world.running(Side::Black)).game();
     assert_equal(&rt, game.moves().len(), 5);
     assert_equal(&rt, game.score(), 8);
@@ -147,17 +167,9 @@ fn an_author_resigns(rt: HostRuntime) {
     played.turn(&rt, Side::Black, b"A1", b"=4 A1\n\n");
     played.ask(&rt, Side::White);
     played.choose(&rt, Side::White, b"resign");
-    assert_equal(
-        &rt,
-        played.world.to_controller(Side::White),
-        b"=5 resign\n\n".as_slice(),
-    );
+    played.assert_written(&rt, Side::White, b"=5 resign\n\n");
     played.happen(&rt, Event::ToController(Side::White, 100));
-    assert_equal(
-        &rt,
-        played.world.controller().next(),
-        Action::Done(Verdict::Resign(Side::White)),
-    );
+    played.assert_next(&rt, Action::Done(Verdict::Resign(Side::White)));
     played.assert_once_more(&rt);
 }
 
@@ -166,25 +178,17 @@ fn an_engine_that_crashes_while_it_waits_is_started_and_asked_again(rt: HostRunt
     let mut played = Played::new(&rt);
     played.ask(&rt, Side::Black);
     played.happen(&rt, Event::Crash(Side::Black, 100));
-    assert_true(&rt, played.world.running(Side::Black).is_none());
+    played.assert_gone(&rt, Side::Black);
     // There is no engine to be called.
     played.choose(&rt, Side::Black, b"A1");
-    assert_true(&rt, played.world.running(Side::Black).is_none());
-    assert_equal(&rt, played.world.to_controller(Side::Black), b"".as_slice());
+    played.assert_gone(&rt, Side::Black);
+    played.assert_written(&rt, Side::Black, b"");
     played.happen(&rt, Event::End(Side::Black));
-    assert_equal(
-        &rt,
-        played.world.controller().status(Side::Black),
-        Status::Down,
-    );
+    played.assert_down(&rt, Side::Black);
     played.happen(&rt, Event::Act);
     // The new one is asked for nothing yet.
     played.choose(&rt, Side::Black, b"A1");
-    assert_equal(
-        &rt,
-        waits_for(&played.world, Side::Black),
-        Some(Wait::Nothing),
-    );
+    played.assert_waits_for_nothing(&rt, Side::Black);
     played.rounds(&rt, Side::Black, 3);
     played.turn(&rt, Side::Black, b"B2", b"=4 B2\n\n");
     played.turn(&rt, Side::White, b"A1", b"=5 A1\n\n");
@@ -193,13 +197,15 @@ fn an_engine_that_crashes_while_it_waits_is_started_and_asked_again(rt: HostRunt
     played.assert_once_more(&rt);
 }
 
+/// Vertices where White may not play once Black has a stone on A1: on that stone, and off the board.
+static NOT_LEGAL: [&[u8]; 2] = [b"A1", b"C1"];
+
 #[test]
 fn a_call_that_is_refused_leaves_the_choice_to_be_made(rt: HostRuntime) {
     let mut played = Played::new(&rt);
     played.turn(&rt, Side::Black, b"A1", b"=4 A1\n\n");
     played.ask(&rt, Side::White);
-    // A stone is there, and the board has no column C.
-    for text in [b"A1", b"C1"] {
+    for text in &NOT_LEGAL {
         played.choose(&rt, Side::White, text);
         played.assert_asked(&rt, Side::White);
     }
@@ -210,41 +216,36 @@ fn a_call_that_is_refused_leaves_the_choice_to_be_made(rt: HostRuntime) {
     played.call(&rt, Side::Black, &Handed::Answer(false, Text::Genmove));
     played.call(&rt, Side::Black, &Handed::Decline);
     played.assert_asked(&rt, Side::White);
-    assert_equal(&rt, played.world.to_controller(Side::Black), b"".as_slice());
+    played.assert_written(&rt, Side::Black, b"");
     assert_equal(&rt, played.record_len(), 1);
     played.answer(&rt, Side::White, b"B1", b"=5 B1\n\n");
     played.assert_once_more(&rt);
 }
 
+/// What may happen while Black's author thinks.
+static MEANWHILE: [Event; 9] = [
+    Event::ToEngine(Side::Black, 100),
+    Event::ToController(Side::Black, 100),
+    Event::Act,
+    Event::BrokenWrite(3),
+    Event::ToEngine(Side::White, 100),
+    Event::Crash(Side::White, 0),
+    Event::ToController(Side::White, 100),
+    Event::End(Side::White),
+    Event::Act,
+];
+
 #[test]
 fn an_author_thinks_while_other_things_happen(rt: HostRuntime) {
     let mut played = Played::new(&rt);
     played.ask(&rt, Side::Black);
-    for event in [
-        Event::ToEngine(Side::Black, 100),
-        Event::ToController(Side::Black, 100),
-        Event::Act,
-        Event::BrokenWrite(3),
-        Event::ToEngine(Side::White, 100),
-        Event::Crash(Side::White, 0),
-        Event::ToController(Side::White, 100),
-        Event::End(Side::White),
-        Event::Act,
-    ] {
-        played.happen(&rt, event);
+    for event in &MEANWHILE {
+        played.happen(&rt, *event);
         played.assert_asked(&rt, Side::Black);
     }
-    assert_equal(
-        &rt,
-        played.world.controller().status(Side::White),
-        Status::Down,
-    );
+    played.assert_down(&rt, Side::White);
     played.answer(&rt, Side::Black, b"A1", b"=4 A1\n\n");
-    assert_equal(
-        &rt,
-        played.world.controller().next(),
-        Action::Start(Side::White),
-    );
+    played.assert_next(&rt, Action::Start(Side::White));
     played.happen(&rt, Event::Act);
     // Three commands of the script, and Black's move.
     played.rounds(&rt, Side::White, 4);
@@ -257,7 +258,7 @@ fn what_an_author_sets_meanwhile_changes_no_move(rt: HostRuntime) {
     let mut played = Played::new(&rt);
     played.call(&rt, Side::White, &Handed::Name(Text::Thinker));
     played.ask(&rt, Side::Black);
-    for handed in [
+    for handed in &[
         Handed::Name(Text::Thinker),
         Handed::Version(Text::Thinker),
         Handed::Command(Text::Thinker),
@@ -266,7 +267,7 @@ fn what_an_author_sets_meanwhile_changes_no_move(rt: HostRuntime) {
         Handed::Version(Text::Long),
         Handed::Command(Text::Genmove),
     ] {
-        played.call(&rt, Side::Black, &handed);
+        played.call(&rt, Side::Black, handed);
         played.assert_asked(&rt, Side::Black);
     }
     played.answer(&rt, Side::Black, b"B1", b"=4 B1\n\n");
