@@ -17,6 +17,10 @@
 #define VALUE(which) value32(w, which)
 #define COUNT(which) value_size(w, COUNTS + which)
 #define USED_BYTES value_size(w, USED)
+/* Numbers are drawn one after the other, before the call: C leaves open in which order its arguments are worked out. */
+#define DRAW(which, drawn) w->arguments[which] = (uint32_t)(drawn)
+#define DRAWN(which) w->arguments[which]
+#define SIGNED(which) (int32_t)w->arguments[which]
 
 #define ROW(name, weight, objects, shape, most, causes, input, texts, made) \
     static uint64_t make_##name(world *w) { \

@@ -18,8 +18,8 @@ enum { IS_PLAIN = 0 };
 
 enum kind { GAME, ENGINE, MATCH, LINES, REPLIES, KINDS, NO_OBJECT = KINDS };
 
-/* how many objects of each kind a world has, how many buffers and values a call is given at most, and causes that there are */
-enum { EACH = 3, TEXTS = 2, VALUES = 8, CAUSES = 35 };
+/* how many objects of each kind a world has; how many buffers, values and drawn numbers a call is given at most; how many causes are */
+enum { EACH = 3, TEXTS = 2, VALUES = 8, CAUSES = 35, ARGUMENTS = 5 };
 
 /* which values have the lengths of the texts, and how many bytes of the input were used */
 enum { COUNTS = 5, USED = 7 };
@@ -81,7 +81,7 @@ typedef struct {
     unsigned char given[ROOM_BYTES]; /* the input's bytes, as they were given */
     const struct call *call;         /* the call that is made, and on which objects */
     object *held[2];
-    uint32_t side;
+    uint32_t side, arguments[ARGUMENTS];
     drawn drawn;
     long room;       /* the room of the first text or of the points, where it isn't to be drawn: else -1 */
     bool right;      /* Is the call the right one for the object that is driven? */

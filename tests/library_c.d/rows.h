@@ -5,17 +5,18 @@ ROW(version, 1, NONE, NUMBER, 0xffffff, 0, NOTHING, 0, vintsaky_version())
 ROW(cause_text, 8, NONE, LENGTH, 200, 0, NOTHING, 1, vintsaky_cause_text(number(w, 0, 34), TEXT(0)))
 ROW(read_colour, 8, NONE, CAUSE, 0, C(BAD_TEXT), COLOURS, 0, vintsaky_read_colour(INPUT, VALUE(0)))
 ROW(colour_text, 8, NONE, CAUSE, 1, C(BAD_COLOUR), NOTHING, 1, vintsaky_colour_text(colour(w), TEXT(0), COUNT(0)))
-ROW(point, 8, NONE, CAUSE, 0, C(BAD_VERTEX), NOTHING, 0, vintsaky_point(number(w, 1, 25), number(w, 1, 25), VALUE(0)))
+ROW(point, 8, NONE, CAUSE, 0, C(BAD_VERTEX), NOTHING, 0,
+    (DRAW(0, number(w, 1, 25)), DRAW(1, number(w, 1, 25)), vintsaky_point(DRAWN(0), DRAWN(1), VALUE(0))))
 ROW(read_vertex, 8, NONE, CAUSE, 0, C(BAD_TEXT), VERTICES, 0, vintsaky_read_vertex(INPUT, VALUE(0)))
 ROW(vertex_text, 8, NONE, CAUSE, 4, C(BAD_VERTEX), NOTHING, 1, vintsaky_vertex_text(vertex(w), TEXT(0), COUNT(0)))
 ROW(read_komi, 8, NONE, CAUSE, 0, C(BAD_TEXT), KOMIS, 0, vintsaky_read_komi(INPUT, (int32_t *)VALUE(0)))
 ROW(komi_text, 8, NONE, CAUSE, 12, C(BAD_KOMI), NOTHING, 1, vintsaky_komi_text(komi(w), TEXT(0), COUNT(0)))
 ROW(write_command, 12, NONE, CAUSE, 64,
     C(BAD_ID) | C(BAD_COMMAND) | C(BAD_SIZE) | C(BAD_KOMI) | C(BAD_HANDICAP) | C(BAD_COLOUR) | C(BAD_VERTEX), NOTHING, 1,
-    vintsaky_write_command(
-        (int32_t)(number(w, 0, 99) - 1), number(w, 1, 8), (int32_t)number(w, 1, 2 + 23 * below(w, 2)), vertex(w), TEXT(0), COUNT(0)))
+    (DRAW(0, number(w, 0, 99) - 1), DRAW(1, number(w, 1, 8)), DRAW(2, number(w, 1, 2 + 23 * below(w, 2))), DRAW(3, vertex(w)),
+        vintsaky_write_command(SIGNED(0), DRAWN(1), SIGNED(2), DRAWN(3), TEXT(0), COUNT(0))))
 ROW(write_reply, 8, NONE, CAUSE, 2014, C(BAD_ID) | C(BAD_TEXT), SAID, 1,
-    vintsaky_write_reply((int32_t)(number(w, 0, 99) - 1), number(w, 0, 1), INPUT, TEXT(0), COUNT(0)))
+    (DRAW(0, number(w, 0, 99) - 1), DRAW(1, number(w, 0, 1)), vintsaky_write_reply(SIGNED(0), DRAWN(1), INPUT, TEXT(0), COUNT(0))))
 
 ROW(game_place, 1, ON(GAME, CHANGES), NUMBER, 0, 0, NOTHING, 0, (vintsaky_game_place(GAME0, w->held[0]->at), 0))
 ROW(game_size, 4, ON(GAME, READS), NUMBER, 25, 0, NOTHING, 0, vintsaky_game_size(GAME0))
@@ -28,11 +29,11 @@ ROW(game_hash, 4, ON(GAME, READS), NUMBER, UINT64_MAX, 0, NOTHING, 0, vintsaky_g
 ROW(game_rule, 4, ON(GAME, READS), NUMBER, 2, 0, NOTHING, 0, vintsaky_game_rule(GAME0))
 ROW(game_copy, 3, BOTH(GAME, CHANGES, GAME, READS), NUMBER, 0, 0, NOTHING, 0, (vintsaky_game_copy(GAME0, GAME1), 0))
 ROW(game_begin, 3, ON(GAME, REFUSES), CAUSE, 0, C(BAD_RULE) | C(BAD_SIZE) | C(BAD_KOMI), NOTHING, 0,
-    vintsaky_game_begin(GAME0, rule(w), size(w), komi(w)))
+    (DRAW(0, rule(w)), DRAW(1, size(w)), DRAW(2, komi(w)), vintsaky_game_begin(GAME0, DRAWN(0), DRAWN(1), SIGNED(2))))
 ROW(game_play, 250, ON(GAME, REFUSES), CAUSE, 0, C(BAD_COLOUR) | C(BAD_VERTEX) | C(FULL) | MOVE, NOTHING, 0,
-    vintsaky_game_play(GAME0, colour(w), vertex(w)))
+    (DRAW(0, colour(w)), DRAW(1, vertex(w)), vintsaky_game_play(GAME0, DRAWN(0), DRAWN(1))))
 ROW(game_legal, 100, ON(GAME, READS), CAUSE, 0, C(BAD_COLOUR) | C(BAD_VERTEX) | MOVE, NOTHING, 0,
-    vintsaky_game_legal(GAME0, colour(w), vertex(w)))
+    (DRAW(0, colour(w)), DRAW(1, vertex(w)), vintsaky_game_legal(GAME0, DRAWN(0), DRAWN(1))))
 ROW(game_undo, 12, ON(GAME, REFUSES), CAUSE, 0, C(NOTHING_TO_UNDO), NOTHING, 0, vintsaky_game_undo(GAME0))
 ROW(game_set_komi, 4, ON(GAME, REFUSES), CAUSE, 0, C(BAD_KOMI), NOTHING, 0, vintsaky_game_set_komi(GAME0, komi(w)))
 ROW(game_place_handicap, 8, ON(GAME, REFUSES), CAUSE, 0, C(NOT_EMPTY) | C(BAD_HANDICAP), NOTHING, 0,
@@ -75,8 +76,9 @@ ROW(engine_id, 20, ON(ENGINE, READS), CAUSE, 0, C(NOT_ASKED) | C(NO_ID), NOTHING
 ROW(match_place, 1, ON(MATCH, CHANGES), NUMBER, 0, 0, NOTHING, 0, (vintsaky_match_place(MATCH0, w->held[0]->at), 0))
 ROW(match_begin, 10, ON(MATCH, REFUSES), CAUSE, 0,
     C(BAD_SIZE) | C(BAD_KOMI) | C(BAD_HANDICAP) | C(BAD_MAX_MOVES) | C(BAD_MAX_RESTARTS), NOTHING, 0,
-    vintsaky_match_begin(MATCH0, size(w), komi(w), chance(w, 4) ? number(w, 2, 9) : 0,
-        number(w, 1, chance(w, 2) ? 8 : 2000), number(w, 0, chance(w, 2) ? 3 : 1000)))
+    (DRAW(0, size(w)), DRAW(1, komi(w)), DRAW(2, chance(w, 4) ? number(w, 2, 9) : 0), DRAW(3, number(w, 1, chance(w, 2) ? 8 : 2000)),
+        DRAW(4, number(w, 0, chance(w, 2) ? 3 : 1000)),
+        vintsaky_match_begin(MATCH0, DRAWN(0), SIGNED(1), DRAWN(2), DRAWN(3), DRAWN(4))))
 ROW(match_next, 8, ON(MATCH, READS), NUMBER, 4, 0, NOTHING, 0, vintsaky_match_next(MATCH0, VALUE(0)))
 ROW(match_started, 20, ON(MATCH, REFUSES), CAUSE, 0, C(BAD_COLOUR) | C(NOT_NEXT), NOTHING, 0, vintsaky_match_started(MATCH0, w->side))
 ROW(match_send, 30, ON(MATCH, REFUSES), CAUSE, 64, C(BAD_COLOUR) | C(NOT_NEXT) | C(NO_ROOM), NOTHING, 1,

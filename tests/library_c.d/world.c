@@ -45,7 +45,10 @@ static void new_object(world *w, unsigned kind, unsigned which) {
         region all = guarded(o->bytes), handle_all = guarded(sizeof *o->handle);
         o->at = which % 2 ? all.low : last_place(all, o->bytes, kinds[kind].align());
         o->handle = which % 2 ? (void *)handle_all.low : last_place(handle_all, sizeof *o->handle, sizeof(void *));
+        uint64_t start = w->state; /* It isn't the same number of bytes on each machine. */
         for (size_t i = 0; i < o->bytes; i++) o->at[i] = (unsigned char)draw(w);
+        w->state = start;
+        draw(w);
     }
     place(o->handle, o->at, kind);
     memcpy(o->copy, o->at, o->bytes);
@@ -190,13 +193,19 @@ static void check_points(world *w, size_t count) {
     check_buffer(w, &w->points, written * sizeof *points);
 }
 
+/* A value of the digest: a length has as many bytes there on each machine. */
+static void mix_value(world *w, const buffer *b, bool is_length) {
+    uint64_t length = is_length ? *(size_t *)(void *)b->at : 0;
+    mix(w, is_length ? (void *)&length : b->at, is_length ? sizeof length : b->length);
+}
+
 /* The values that were written, all of them where the call is done, else none. */
 static void check_values(world *w, bool done) {
     for (unsigned i = 0; i < VALUES; i++) {
         buffer *b = &w->values[i];
         if (!b->given) continue;
         if (done && memcmp(b->at, pattern + (b->at - b->all.low), b->length) == 0) failed(w, "a value wasn't written");
-        if (done) mix(w, b->at, b->length);
+        if (done) mix_value(w, b, i >= COUNTS);
         check_buffer(w, b, done ? b->length : 0);
     }
 }
