@@ -14,9 +14,13 @@ from reference import conversations as reference  # noqa: E402
 from .comparing import Trial  # noqa: E402
 
 FAULTS = ["stop:{n}", "cut:{n}:{k}", "junk:{n}", "flood:{n}"]
-NEARLY_FAULTS = ["none", "bad", "", "stop", "stop:0", "stop:2001", "cut:1", "cut:1:2048", "cut:1:2049", "junk:007", "FLOOD:1", "stop:4294967297"]
+NEARLY_FAULTS = [
+    "none", "bad", "", "stop", "stop:0", "stop:2001", "cut:1", "cut:1:2048", "cut:1:2049", "junk:007", "FLOOD:1", "stop:4294967297",
+]  # fmt: skip
 NEARLY_SEEDS = ["4294967296", "18446744073709551616", "-1", "+1", "", "x", "0x1", "1.0", "007"]
-ODD_WORDS = [b"--help", b"--version", b"-h", b"--", b"-", b"", b"x", b"--x", b"--seed", b"--policy=last", b"--ko", b"--fault=\xff", b"\xc3\x28"]
+ODD_WORDS = [
+    b"--help", b"--version", b"-h", b"--", b"-", b"", b"x", b"--x", b"--seed", b"--policy=last", b"--ko", b"--fault=\xff", b"\xc3\x28",
+]  # fmt: skip
 KINDS = [kind for kind, (_, _, one_in, _) in reference.KINDS.items() if one_in == 1]
 RARE_KINDS = [kind for kind in reference.KINDS if kind not in KINDS]
 
