@@ -18,21 +18,21 @@ ODD_WORDS = [
 ]  # fmt: skip
 
 
-def match(seed, number):
-    """The match of this number that a seed gives."""
+def match(seed, number, engines=None):
+    """The match of this number that a seed gives, between engines that this draws."""
     r = random.Random(f"{seed} {number}")
-    return Trial(f"match {number} of seed {seed}", "twogtp", words_of(r))
+    return Trial(f"match {number} of seed {seed}", "twogtp", words_of(r, engines or engine))
 
 
-def matches(seed, count):
+def matches(seed, count, engines=None):
     """So many matches."""
-    return (match(seed, number) for number in range(1, count + 1))
+    return (match(seed, number, engines) for number in range(1, count + 1))
 
 
-def words_of(r):
+def words_of(r, engines):
     """The words of the command line."""
     size = r.choice(SIZES)
-    options = [["--black", engine(r)], ["--white", engine(r)], ["--size", str(size)]]
+    options = [["--black", engines(r)], ["--white", engines(r)], ["--size", str(size)]]
     if r.random() < 0.5:
         options.append(["--komi=" + r.choice(KOMIS)])
     if r.random() < 0.3:
@@ -51,9 +51,12 @@ def words_of(r):
 
 
 def engine(r):
-    """The command of an engine."""
-    if r.random() < 0.04:
-        return r.choice(NOT_STARTED)
+    """The command of an engine, or now and then of what can't be started."""
+    return r.choice(NOT_STARTED) if r.random() < 0.04 else right_engine(r)
+
+
+def right_engine(r):
+    """The command of an engine of ours, which may fail on request."""
     words = ["./gtp_engine", "--policy", r.choice(["random", "random", "random", "first", "book"]), "--seed", str(r.randint(0, 9999))]
     if r.random() < 0.3:
         words += ["--ko", r.choice(["simple", "positional"])]
