@@ -112,6 +112,14 @@ static void mix(world *w, const void *bytes, size_t length) {
     for (size_t i = 0; i < length; i++) w->digest = (w->digest ^ at[i]) * 0x100000001b3u;
 }
 
+/* The low bytes of a number, the lowest first on each machine. */
+static void mix_number(world *w, uint64_t number, size_t length) {
+    for (size_t i = 0; i < length; i++) {
+        unsigned char byte = (unsigned char)(number >> 8 * i);
+        mix(w, &byte, 1);
+    }
+}
+
 /* ---- worlds ---- */
 
 /* Once, before the first world: what the buffers hold that no call is given. */
@@ -189,14 +197,8 @@ static void check_points(world *w, size_t count) {
         if (row < 1 || row > 25 || column < 1 || column > 25) failed(w, "what was written is no point");
         if (i > 0 && points[i] <= points[i - 1]) failed(w, "the points are in another order");
     }
-    mix(w, points, written * sizeof *points);
+    for (size_t i = 0; i < written; i++) mix_number(w, points[i], sizeof *points);
     check_buffer(w, &w->points, written * sizeof *points);
-}
-
-/* A value of the digest: a length has as many bytes there on each machine. */
-static void mix_value(world *w, const buffer *b, bool is_length) {
-    uint64_t length = is_length ? *(size_t *)(void *)b->at : 0;
-    mix(w, is_length ? (void *)&length : b->at, is_length ? sizeof length : b->length);
 }
 
 /* The values that were written, all of them where the call is done, else none. */
@@ -205,7 +207,8 @@ static void check_values(world *w, bool done) {
         buffer *b = &w->values[i];
         if (!b->given) continue;
         if (done && memcmp(b->at, pattern + (b->at - b->all.low), b->length) == 0) failed(w, "a value wasn't written");
-        if (done) mix_value(w, b, i >= COUNTS);
+        if (done && i < COUNTS) mix_number(w, *(uint32_t *)(void *)b->at, sizeof(uint32_t));
+        if (done && i >= COUNTS) mix_number(w, *(size_t *)(void *)b->at, sizeof(uint64_t));
         check_buffer(w, b, done ? b->length : 0);
     }
 }
@@ -232,7 +235,7 @@ static size_t check_result(world *w, uint64_t result) {
     if (done && c->texts && c->shape == CAUSE) length = *(size_t *)(void *)w->values[COUNTS].at;
     size_t second = done && c->texts == 2 ? *(size_t *)(void *)w->values[COUNTS + 1].at : 0;
     w->came[(size_t)(c - calls) * CAUSES + (c->shape == CAUSE ? result : 0)]++;
-    mix(w, &result, sizeof result);
+    mix_number(w, result, sizeof result);
     check_input(w, result);
     if (c->texts == POINT_LIST && done) check_points(w, length);
     else if (c->texts == POINT_LIST) check_buffer(w, &w->points, 0);
