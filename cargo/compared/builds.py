@@ -34,7 +34,7 @@ class Failed(Exception):
 
 
 def build_for(machine, toolchain, workspace):
-    """What this machine's programs are built with, or an error that says what is missing."""
+    """What this machine's programs are built and run with, where nothing is lacking."""
     return Build(machine, toolchain, toolchains.compiler_of(machine), toolchains.runner_of(machine), workspace)
 
 

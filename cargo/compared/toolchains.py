@@ -12,7 +12,7 @@ from pathlib import Path
 
 from stripper import manifests
 
-LEAST = re.search(r'rust-version = "([0-9.]+)"', manifests.WORKSPACE).group(1)
+LEAST = re.findall(r'rust-version = "([0-9.]+)"', manifests.WORKSPACE)[0]
 RUST = "rustc-web cargo-web rust-web-src (in Debian 12) or rustc cargo rust-src"
 
 # `source` is the folder of the crates that the source of the standard library depends on, or none.
@@ -31,13 +31,6 @@ MACHINES = {
         Machine("s390x", "s390x-unknown-linux-gnu", "", "s390x-linux-gnu", "s390x", "", "libc6-dev-s390x-cross"),
     ]
 }
-
-
-class Missing(Exception):
-    """Something isn't there: what, and which packages have it."""
-
-    def __init__(self, what, packages):
-        super().__init__(f"{what}: apt-get install {packages}")
 
 
 def output_of(*command):
@@ -73,25 +66,19 @@ def has_library(toolchain, machine):
 
 
 def toolchain_for(machines):
-    """The first toolchain that can build for all of these machines."""
-    for toolchain in toolchains():
-        if all(toolchain.source or has_library(toolchain, machine) for machine in machines):
-            return toolchain
-    names = ", ".join(machine.name for machine in machines)
-    raise Missing(f"no rustc here from {LEAST} on has a standard library for {names}, or its source", RUST)
+    """The first toolchain that can build for all of these machines, or none."""
+    ready = (it for it in toolchains() if all(it.source or has_library(it, machine) for machine in machines))
+    return next(ready, None)
 
 
 def compiler_of(machine):
-    """The C compiler of this machine."""
-    name = f"{machine.tools}-gcc" if machine.tools else "cc"
-    found = shutil.which(name)
-    if found is None:
-        raise Missing(f"{name} isn't there", f"gcc-{machine.tools} {machine.packages}" if machine.tools else "gcc libc6-dev")
-    return found
+    """The C compiler of this machine, which finds the headers of its C library; or none."""
+    found = shutil.which(f"{machine.tools}-gcc" if machine.tools else "cc")
+    return found if found and output_of(found, "-fsyntax-only", "-include", "stdio.h", "-x", "c", os.devnull) is not None else None
 
 
 def runner_of(machine):
-    """What a program of this machine is run by: the words before its path."""
+    """What a program of this machine is run by: the words before its path; or none, where nothing does."""
     if machine.target is None:
         return []
     root = Path("/usr") / machine.tools
@@ -99,6 +86,17 @@ def runner_of(machine):
     if machine.loader and output_of(loader, "--version") is not None:
         return [str(loader), "--library-path", str(root / "lib")]
     qemu = shutil.which(f"qemu-{machine.qemu}")
-    if qemu is None:
-        raise Missing(f"qemu-{machine.qemu} isn't there", "qemu-user")
-    return [qemu, "-L", str(root)]
+    return [qemu, "-L", str(root)] if qemu else None
+
+
+def lacking(machines):
+    """What isn't here of all that these machines need, each with the packages that have it."""
+    if toolchain_for(machines) is None:
+        names = ", ".join(machine.name for machine in machines)
+        yield f"no rustc from {LEAST} on that has the standard library of {names}, or its source: apt-get install {RUST}"
+    for machine in machines:
+        if compiler_of(machine) is None:
+            packages = f"gcc-{machine.tools} {machine.packages}" if machine.tools else "gcc libc6-dev"
+            yield f"no C compiler for {machine.name}: apt-get install {packages}"
+        if runner_of(machine) is None:
+            yield f"nothing that runs programs of {machine.name}: apt-get install qemu-user"
