@@ -48,10 +48,16 @@ def called(what, command, environment=None):
     return done.stdout
 
 
+def release_of(build):
+    """The folder in which cargo leaves the programs and the library."""
+    return build.workspace / "target" / build.machine.name / (build.machine.target or "") / "release"
+
+
 def cargo(build, *words):
     """Runs cargo for this machine. What it printed."""
     machine, toolchain = build.machine, build.toolchain
     own = {"RUSTC": toolchain.rustc, "RUSTFLAGS": machine.flags, "CARGO_TARGET_DIR": build.workspace / "target" / machine.name}
+    own["VINTSAKY_LIB_DIR"] = release_of(build)
     command = [toolchain.cargo, *words, "--offline", "--manifest-path", build.workspace / "Cargo.toml"]
     if machine.target:
         key = "CARGO_TARGET_" + machine.target.upper().replace("-", "_")
@@ -67,7 +73,7 @@ def cargo(build, *words):
 
 def made(build):
     """Builds the programs and the library, and those of C with it. The folder in which they run."""
-    target = build.workspace / "target" / build.machine.name / (build.machine.target or "") / "release"
+    target = release_of(build)
     cargo(build, "build", "--release", *PACKAGES)
     folder = build.workspace / "run" / build.machine.name
     shutil.rmtree(folder, ignore_errors=True)
@@ -93,6 +99,6 @@ def lay(build, program, place):
 
 
 def tested(build):
-    """Runs the tests of all crates on this machine. How many passed."""
+    """Runs the tests of all crates on this machine, once its library is built. How many passed."""
     said = cargo(build, "test", "--workspace", "--no-fail-fast")
     return sum(int(line.split()[3]) for line in said.splitlines() if line.startswith("test result: ok. "))
