@@ -11,6 +11,7 @@ OTHERS = {
     "hex": 'version = "0.4.3", default-features = false, features = ["alloc"]',
     "clap": 'version = "4.0.32", default-features = false, features = ["std", "help", "usage", "error-context", "suggestions", "string"]',
 }
+BUILT = ("gtp_check", "gtp_engine", "twogtp", "vintsaky")  # the crates that cargo builds where none is named
 SHIMMED = ("rand_core", "hex", "clap")
 SHIMS = ("kit_ffi", "kit_simd", "kit_std")
 # Why each lint of clippy is allowed. The sources are proved as they are, and a change has to make them better in itself.
@@ -69,6 +70,7 @@ WORKSPACE = """\
 [workspace]
 resolver = "3"
 members = [{members}]
+default-members = [{built}]
 exclude = ["others"]
 
 [workspace.package]
@@ -132,7 +134,8 @@ def workspace(members, version, paths):
         where = f', path = "{paths[name]}"' if paths else ""
         others += f"{name} = {{ {wanted}{where} }}\n"
     quoted = ", ".join(f'"{member}"' for member in members)
-    return WORKSPACE.format(members=quoted, version=version, others=others, lints=LINTS)
+    built = ", ".join(f'"crates/{name}"' for name in BUILT)
+    return WORKSPACE.format(members=quoted, built=built, version=version, others=others, lints=LINTS)
 
 
 def version_of(go_board):

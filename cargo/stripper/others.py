@@ -14,6 +14,7 @@ DEBIAN = Path("/usr/share/cargo/registry")
 PACKAGES = "librust-arrayvec-dev librust-thiserror-dev librust-rand-pcg-dev librust-rand-core-dev librust-hex-dev librust-clap-dev"
 TABLE = re.compile(r'(?m)^\[(?:target\..*\.)?(?:dependencies|build-dependencies)\.(?P<quoted>"?)(?P<name>[\w-]+)(?P=quoted)\]\n(?P<rows>(?:(?!\[).*\n?)*)')
 RENAMED = re.compile(r'(?m)^package = "([^"]+)"')
+CHANGED = "# Changed by cargo/strip: each `path` says where a crate lies, and no warning is shown.\n"
 QUIET = '\n[lints.rust]\nwarnings = "allow"\n'  # cargo shows no warning of a crate of its registry
 LIMIT = 120  # seconds that a call of cargo may take here
 
@@ -64,7 +65,7 @@ def with_paths(manifest, taken):
         head, rest = table.group().split("\n", 1)
         return f'{head}\npath = "../{folders[0]}"\n{rest}'
 
-    text = TABLE.sub(with_path, manifest)
+    text = CHANGED + TABLE.sub(with_path, manifest)
     return text if "[lints" in text else text + QUIET
 
 
