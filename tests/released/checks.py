@@ -25,13 +25,13 @@ def skip(what, why):
 
 def run(words, **how):
     """Runs a command: its status, and what it wrote on both streams."""
-    text = how.pop("input", "")
+    text, limit = how.pop("input", ""), how.pop("limit", LIMIT)
     how.setdefault("stdout", subprocess.PIPE)
     process = subprocess.Popen(
         words, stdin=subprocess.PIPE, stderr=subprocess.PIPE, encoding="utf-8", errors="replace", start_new_session=True, **how
     )
     try:
-        output, errors = process.communicate(text, LIMIT)
+        output, errors = process.communicate(text, limit)
     except subprocess.TimeoutExpired:
         os.killpg(process.pid, signal.SIGKILL)
         output, errors = process.communicate()

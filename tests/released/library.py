@@ -99,7 +99,7 @@ def check_archive_flags(tree, room):
 
 
 def check_archive(tree, copies, room):
-    """The library in the archive, for C, Rust and Python."""
+    """The library in the archive, for C and Python."""
     files = {f"lib/{it}": TOP / "bin" / it for it in LIBRARY}
     check_files("the archive", tree, {"include/vintsaky.h": TOP / "library/vintsaky.h", **files})
     check_link("the archive", tree / "lib")
@@ -109,7 +109,7 @@ def check_archive(tree, copies, room):
     said = "neither that of the programs nor that of the library"
     check("the notices say that it has no licence", True, said in notices)
     check_archive_flags(tree, room)
-    for place in ("examples", "rust", "python/examples"):
+    for place in ("examples", "python/examples"):
         if (copies[0] / "library" / place).is_dir():
             found = sums_below(tree / "share/vintsaky" / place)
             check(f"the archive: {place} is that of the commit", sums_below(copies[0] / "library" / place), found)

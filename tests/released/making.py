@@ -69,6 +69,7 @@ def made(folder):
 def files_of(name):
     """What lies in dist/ after a release of this name, by what it is."""
     files = {"sums": "SHA256SUMS", "archive": f"vintsaky-{name}-linux-x86_64.tar.gz", "programs": f"vintsaky_{name}_amd64.deb"}
+    files |= {"sources": f"vintsaky-{name}-src.tar.gz"}
     files |= {"shared": f"libvintsaky1_{name}_amd64.deb", "header": f"libvintsaky-dev_{name}_amd64.deb"}
     return files | ({"python": f"python3-vintsaky_{name}_all.deb"} if (TOP / "library/python/vintsaky").is_dir() else {})
 
@@ -101,7 +102,7 @@ def check_names(one, third, final):
     commit = run(["git", "rev-parse", "HEAD"], cwd=one)[1].strip()
     name = f"{version}+git.{commit[:12]}"
     for at, wanted in ((one, name), (third, name), (final, version)):
-        check(f"{at.name}: dist/ has the sums, the archive and the packages of {wanted}", sorted(files_of(wanted).values()), made(at))
+        check(f"{at.name}: dist/ has the sums, the archives and the packages of {wanted}", sorted(files_of(wanted).values()), made(at))
     for words in ([name, "gt", version], [name, "lt", f"{version}.1"], [name, "lt", re.sub(r"\d+$", lambda it: str(int(it[0]) + 1), version)]):
         check(f"Debian's order: {' '.join(words)}", 0, run(["dpkg", "--compare-versions", *words])[0])
     return name, version

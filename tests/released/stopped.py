@@ -10,6 +10,10 @@ from pathlib import Path
 from .checks import LIMIT, check, run, skip
 from .making import GATE, commit, made, object_of, release, version_of
 
+# the commands of machines that lack something
+OLD = {"cargo": 'echo "cargo 1.86.0 (x)"', "dpkg-query": "exit 1"}
+NO_LIBRARY = {"cc": 'echo "${1#*=}"'}
+
 
 def path_without(name, folder):
     """A folder for PATH in which one command is missing."""
@@ -21,6 +25,15 @@ def path_without(name, folder):
                 link.unlink(missing_ok=True)
                 link.symlink_to(file)
     return str(folder)
+
+
+def path_with(commands, folder):
+    """What PATH is where these commands are the first to be found."""
+    folder.mkdir()
+    for name, text in commands.items():
+        (folder / name).write_text(f"#!/bin/bash\n{text}\n")
+        (folder / name).chmod(0o755)
+    return f"{folder}:{os.environ['PATH']}"
 
 
 def check_stopped(what, folder, ran, wanted):
@@ -43,10 +56,13 @@ def check_changed(folder):
 def check_missing(folder, room):
     """A tool that is missing, and a C library that can't be linked statically."""
     check_stopped("no dpkg-deb", folder, release(folder, PATH=path_without("dpkg-deb", room / "tools")), "there is no dpkg-deb (dpkg)")
-    (room / "cc").mkdir()
-    (room / "cc/cc").write_text('#!/bin/bash\necho "${1#*=}"\n')
-    (room / "cc/cc").chmod(0o755)
-    ran = release(folder, PATH=f"{room / 'cc'}:{os.environ['PATH']}")
+    ran = release(folder, PATH=path_without("cargo", room / "no-cargo"))
+    check_stopped("no cargo", folder, ran, "there is no cargo (cargo-web)")
+    ran = release(folder, PATH=path_with(OLD, room / "old"))
+    check_stopped("an old cargo", folder, ran, "packaging/source: cargo 1.86.0 (x) is too old: 1.87 or later is needed")
+    wanted = "packaging/source: there is no librust-arrayvec-dev (apt-get install librust-arrayvec-dev librust-thiserror-dev "
+    check_stopped("no crates of Debian either, which is reported at once", folder, ran, wanted)
+    ran = release(folder, PATH=path_with(NO_LIBRARY, room / "cc"))
     check_stopped("no static C library", folder, ran, "no static C library: rcrt1.o is not there (apt-get install gcc libc6-dev)")
 
 
