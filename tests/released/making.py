@@ -77,10 +77,11 @@ def files_of(name):
 def check_same(one, other, third, final):
     """Four copies are released at once, two of them alike."""
     run(["git", "tag", f"v{version_of(final / 'bin/twogtp')}"], cwd=final)
+    home = {"HOME": str(other), "RUSTUP_HOME": os.environ.get("RUSTUP_HOME", str(Path.home() / ".rustup"))}  # where cargo may be from
     with ThreadPoolExecutor(4) as pool:
         runs = [
             pool.submit(release, one),
-            pool.submit(release, other, umask=0o077, TZ="Asia/Tokyo", LC_ALL="C.UTF-8", LANGUAGE="de", HOME=str(other)),
+            pool.submit(release, other, umask=0o077, TZ="Asia/Tokyo", LC_ALL="C.UTF-8", LANGUAGE="de", **home),
             pool.submit(release, third, "--gate", GATE),
             pool.submit(release, final, "--gate", GATE, "--final"),
         ]

@@ -70,10 +70,10 @@ def check_notices(tree):
     crates = sorted(it.name for it in (tree / "others").iterdir())
     check("the sources: the notices have a row for each other crate", (crates, True), (sorted(rows), len(crates) > 5))
     check("the sources: each has its licence", [], [it for it in crates if not list((tree / "others" / it).glob("LICENSE*"))])
-    lost = [it for it in rows.values() if not re.search(r"^License:", (tree / "notices" / it).read_text(), re.MULTILINE)]
-    check("the sources: each has what Debian says of it", [], lost)
-    found = sorted(it.name for it in (tree / "notices").iterdir())
-    check("the sources: no other notice is there", sorted(["README", *rows.values()]), found)
+    found = {it.name: it.read_text() for it in (tree / "notices").iterdir()}
+    check("the sources: each has what Debian says of it, and no other notice is there", sorted(["README", *rows.values()]), sorted(found))
+    lost = [it for it, text in found.items() if it != "README" and not re.search(r"^License:", text, re.MULTILINE)]
+    check("the sources: each of these names a licence", [], lost)
     heads = [(tree / "others" / it / "Cargo.toml").read_text().startswith("# Changed by cargo/strip") for it in crates]
     check("the sources: each manifest that is changed says so", [True] * len(crates), heads)
 
