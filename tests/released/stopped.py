@@ -90,7 +90,7 @@ def check_full(folder):
     if not shutil.which("unshare"):
         skip("a disk that is full", "there is no unshare (apt-get install util-linux)")
         return
-    for size in ("1m", "5m", "8m"):
+    for size in ("1m", "5m", "8m", "28m"):
         script = f'mount -t tmpfs -o size={size} none dist || exit 77; ./release; status=$?; echo "left: $(ls -A dist)"; exit "$status"'
         words = ["unshare", "--mount", *([] if os.geteuid() == 0 else ["--map-root-user"]), "bash", "-c", script]
         (folder / "dist").mkdir(exist_ok=True)
