@@ -40,7 +40,9 @@ IN_SHIMS = [
     Mutant("an error of a read is the end", IO, "files::standard(0).read(buffer)", "files::standard(0).read(buffer).or(Ok(0))", "no_input"),
     Mutant("half of what is read is lost", IO, "files::standard(0).read(buffer)", "files::standard(0).read(buffer).map(|n| n - n / 2)", "conversations"),
     Mutant("a kind of error is another", IO, 'kind.to_string() == "uncategorized error"', "kind == ErrorKind::NotFound", "not_started"),
-    Mutant("a signal ends what writes to a closed pipe", "cargo/shims/kit_std/src/runtime.rs", "signal(SIGPIPE, SIG_IGN);", "signal(SIGPIPE, 0);", "closed"),
+    Mutant("a signal ends what writes to a closed pipe", "cargo/shims/kit_std/src/runtime.rs", "c::signal(c::SIGPIPE, c::SIG_IGN);", "c::signal(c::SIGPIPE, 0);", "closed"),
+    Mutant("an engine gets a file that the program was started with", "cargo/shims/kit_std/src/runtime.rs", "c::syscall(c::SYS_CLOSE_RANGE, 3,", "c::syscall(c::SYS_CLOSE_RANGE, 99,", "inherited"),
+    Mutant("a refusal of memory has the status of a mistake", "cargo/shims/kit_std/src/memory.rs", "const STATUS: i32 = 3;", "const STATUS: i32 = 2;", "refused"),
     Mutant("the arguments of an engine are out of order", PROCESS, "self.0.args(words);", "self.0.args(words.iter().rev());", "matches"),
     Mutant("an engine is not killed", PROCESS, "self.child.kill()", "Ok(())", "killed"),
     Mutant("a status is another", PROCESS, "ExitCode(status)\n", "ExitCode(status.min(2))\n", "full"),
@@ -125,6 +127,24 @@ class Probes:
             )
         finally:
             os.close(start)
+
+    def inherited(self, folder):
+        """How a match ends whose engine says whether it was given a file that the program was started with."""
+        number = os.dup2(os.open("/dev/null", os.O_RDONLY), 39)
+        script = self.script("inherits", f"#!/bin/sh\n[ ! -e /proc/self/fd/{number} ] || echo 'it has the file' >&2\n")
+        words = ["--black", script, "--white", script, "--restarts", "0"]
+        try:
+            done = subprocess.run([folder / "twogtp", *words], pass_fds=[number], capture_output=True, timeout=SECONDS, check=False)
+        finally:
+            os.close(number)
+        return done.returncode, done.stdout, done.stderr
+
+    def refused(self, folder):
+        """How the engine ends, where its first request for memory is refused."""
+        refusing = self.room / "refusing.so"
+        if not refusing.exists():
+            run(["cc", "-shared", "-fPIC", "-o", refusing, TOP / "tests/refusing.c", "-ldl"])
+        return self.ended(folder, input=b"name\n", capture_output=True, env={**os.environ, "LD_PRELOAD": str(refusing), "REFUSED": "1"})
 
     def library(self, folder):
         """What the examples in C write: the referee of a match between two engines, and the engine that asks for all legal points."""
