@@ -1,4 +1,4 @@
-//! Colours, points, vertices, komis and moves. Each is made `of` the inner value of its name, that of the proved crates,
+//! Colours, points, vertices, komis and moves. Each is made `of` an inner value, that of its name in the proved crates,
 //! and returns it by `inner`.
 
 use std::cmp::Ordering;
