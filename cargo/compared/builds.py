@@ -57,7 +57,6 @@ def cargo(build, *words):
     """Runs cargo for this machine. What it printed."""
     machine, toolchain = build.machine, build.toolchain
     own = {"RUSTC": toolchain.rustc, "RUSTFLAGS": machine.flags, "CARGO_TARGET_DIR": build.workspace / "target" / machine.name}
-    own["VINTSAKY_LIB_DIR"] = release_of(build)
     command = [toolchain.cargo, *words, "--offline", "--manifest-path", build.workspace / "Cargo.toml"]
     if machine.target:
         key = "CARGO_TARGET_" + machine.target.upper().replace("-", "_")
@@ -99,6 +98,6 @@ def lay(build, program, place):
 
 
 def tested(build):
-    """Runs the tests of all crates on this machine, once its library is built. How many passed."""
+    """Runs the tests of all crates on this machine. How many passed."""
     said = cargo(build, "test", "--workspace", "--no-fail-fast")
     return sum(int(line.split()[3]) for line in said.splitlines() if line.startswith("test result: ok. "))

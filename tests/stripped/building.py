@@ -67,7 +67,7 @@ def check_tests(checks):
     """Do the crates' own tests pass, which look for overflows? Where clap is another one, those of its texts are left out."""
     left_out = TESTS_OF_CLAP if clap_version() < CLAP_OF_KIT else []
     skips = [word for name in left_out for word in ("--skip", name)]
-    status, said = cargo("test", "--workspace", "--exclude", "vintsaky", "--lib", "--quiet", "--", *skips)
+    status, said = cargo("test", "--workspace", "--lib", "--quiet", "--", *skips)
     passed = sum(map(int, re.findall(r"^test result: ok\. ([0-9]+) passed; 0 failed; 0 ignored", said, re.M)))
     without = f", without {len(left_out)} of clap's texts, since this clap is {'.'.join(map(str, clap_version()))}" if left_out else ""
     right = checks.check(f"{passed} tests of the crates{without}", (0, True), (status, passed >= LEAST_TESTS - len(left_out)))
@@ -82,7 +82,7 @@ def check_clippy(checks):
         print("skipped: there is no clippy (on Debian rust-web-clippy)")
         return
     number = version.split()[1]
-    status, said = cargo("clippy", "--workspace", "--exclude", "vintsaky", "--all-targets", "--quiet")
+    status, said = cargo("clippy", "--workspace", "--all-targets", "--quiet")
     if number in CLIPPY:
         checks.check(f"clippy {number} finds nothing", (0, ""), (status, said[-4000:]))
     else:
