@@ -4,6 +4,7 @@ ghost use Rattle.std.specs.Prelude.{◌≡◌, true};
 
 use std::fmt::Debug;
 use std::process::Abort;
+use std::str;
 
 /// Both are equal.
 pub fn assert_equal<T: PartialEq + Debug + Drop>(rt: &impl Abort, left: T, right: T) {
@@ -25,6 +26,16 @@ pub fn assert_true(rt: &impl Abort, holds: bool)
     ensures { holds ≡ true }
 {
     assert!(rt; holds);
+}
+
+/// What is there.
+pub fn some<T>(rt: &impl Abort, found: Option<T>) -> T {
+    found.expect(rt, "nothing is there")
+}
+
+/// The text of the bytes.
+pub fn text_of<'a>(rt: &impl Abort, bytes: &'a [u8]) -> &'a str {
+    some(rt, str::from_utf8(bytes).ok())
 }
 
 /// It holds in this case.

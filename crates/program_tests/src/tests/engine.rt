@@ -1,11 +1,10 @@
 //! Runs of the program over memory.
-use crate::equal::assert_equal_for;
+use crate::equal::{assert_equal_for, assert_true, some};
 use gtp_session::streams::Counted;
-use std::alloc::Global;
+use std::alloc::{AllocError, Global};
 use std::io;
 use std::io::{ErrorKind, Read, Write};
 use std::process::Abort;
-use std::test::Fail;
 use stepgo::run::run;
 
 mod failures;
@@ -74,8 +73,8 @@ struct Ran {
     errors: Vec<u8>,
 }
 
-/// Runs the program with these arguments after its name, over the input.
-fn run_with(alloc: Global, arguments: &[&str], input: &[u8]) -> Result<Ran, Fail> {
+/// What a run of the program over these streams left, with these arguments after its name.
+fn run_over(alloc: Global, arguments: &[&str], input: &[u8]) -> Result<Ran, AllocError> {
     let mut input = input;
     let mut words = Vec::new(alloc);
     words.push("gtp_engine")?;
@@ -96,30 +95,51 @@ fn run_with(alloc: Global, arguments: &[&str], input: &[u8]) -> Result<Ran, Fail
     })
 }
 
-/// With these arguments the input gets the output, the status is 0 and nothing is reported.
-fn assert_answers<R: Abort + AllocGlobal>(
+/// Runs the program with these arguments after its name, over the input.
+fn run_with<R: Abort + AllocGlobal>(rt: &R, arguments: &[&str], input: &[u8]) -> Ran {
+    some(rt, run_over(rt.alloc(), arguments, input).ok())
+}
+
+/// With these arguments the input gets the output, the status is this, and nothing is reported.
+fn assert_ends<R: Abort + AllocGlobal>(
     rt: &R,
     arguments: &[&str],
     input: &[u8],
     output: &[u8],
-) -> Result<(), Fail> {
-    let ran = run_with(rt.alloc(), arguments, input)?;
+    status: u8,
+) {
+    let ran = run_with(rt, arguments, input);
     assert_equal_for(rt, arguments, ran.output.as_slice(), output);
     assert_equal_for(rt, arguments, ran.errors.as_slice(), b"".as_slice());
-    assert_equal_for(rt, arguments, ran.status, 0);
-    Ok(())
+    assert_equal_for(rt, arguments, ran.status, status);
+}
+
+/// The same, where the status is 0.
+fn assert_answers<R: Abort + AllocGlobal>(rt: &R, arguments: &[&str], input: &[u8], output: &[u8]) {
+    assert_ends(rt, arguments, input, output, 0);
 }
 
 /// With these arguments nothing is answered, the status is 2, and the beginning of this text is reported.
-fn assert_refuses<R: Abort + AllocGlobal>(
-    rt: &R,
-    arguments: &[&str],
-    text: &str,
-) -> Result<(), Fail> {
-    let ran = run_with(rt.alloc(), arguments, b"1 name\n")?;
+fn assert_refuses<R: Abort + AllocGlobal>(rt: &R, arguments: &[&str], text: &str) {
+    let ran = run_with(rt, arguments, b"1 name\n");
     let beginning = ran.errors.get(..text.len());
     assert_equal_for(rt, arguments, ran.output.len(), 0);
     assert_equal_for(rt, arguments, beginning, Some(text.as_bytes()));
     assert_equal_for(rt, arguments, ran.status, 2);
-    Ok(())
+}
+
+/// This writer was handed the text whole, and by one flush.
+fn assert_handed_on(rt: &impl Abort, case: &str, writer: &Holding, text: &[u8]) {
+    assert_equal_for(rt, case, writer.handed_on.as_slice(), text);
+    assert_equal_for(rt, case, writer.held.len(), 0);
+    assert_equal_for(rt, case, writer.flushes, 1);
+}
+
+/// The parts, joined.
+fn joined<R: Abort + AllocGlobal>(rt: &R, parts: &[&[u8]]) -> Vec<u8> {
+    let mut text = Vec::new(rt.alloc());
+    for part in parts {
+        assert_true(rt, text.extend_from_slice(part).is_ok());
+    }
+    text
 }

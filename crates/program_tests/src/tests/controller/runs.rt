@@ -1,29 +1,37 @@
 //! Runs of the program, with engines in memory.
 use super::fakes::{InMemory, Log, Narrow, new_log};
-use crate::equal::{assert_equal_for, assert_true_for};
+use crate::equal::{assert_equal_for, assert_true_for, some, text_of};
 use byte_streams::WriteOnce;
 use gtp_controller::run::run;
-use std::alloc::Global;
+use std::alloc::{AllocError, Global};
 use std::process::Abort;
-use std::str;
-use std::test::Fail;
+
+/// A log of engines with which nothing was done yet.
+pub fn log_of<R: Abort + AllocGlobal>(rt: &R) -> Log {
+    some(rt, new_log(rt.alloc()).ok())
+}
+
+/// The same log.
+fn same_log(rt: &impl Abort, log: &Log) -> Log {
+    some(rt, log.clone().ok())
+}
 
 /// Runs the program with these words and streams; this log has what is done with the engines. Memory is refused for the
 /// start of this number, if it is not 0.
-pub fn run_into<O: WriteOnce, E: WriteOnce>(
-    alloc: Global,
+pub fn run_into<R: Abort + AllocGlobal, O: WriteOnce, E: WriteOnce>(
+    rt: &R,
     words: &[&str],
     output: &mut O,
     errors: &mut E,
     log: &Log,
     refused: u32,
-) -> Result<u8, Fail> {
+) -> u8 {
     let mut starter = InMemory {
-        alloc,
-        log: log.clone()?,
+        alloc: rt.alloc(),
+        log: same_log(rt, log),
         refused,
     };
-    Ok(run(alloc, words, output, errors, &mut starter))
+    run(rt.alloc(), words, output, errors, &mut starter)
 }
 
 /// What a run of the program left.
@@ -35,44 +43,65 @@ pub struct Ran {
     pub log: Log,
 }
 
-/// Runs the program with these arguments after its name. Memory is refused for the start of this number, if it is not
-/// 0.
-pub fn run_refusing(alloc: Global, arguments: &[&str], refused: u32) -> Result<Ran, Fail> {
+impl Ran {
+    /// What it wrote to the output.
+    pub fn written(&self, rt: &impl Abort) -> &str {
+        text_of(rt, self.output.as_slice())
+    }
+
+    /// What it reported.
+    pub fn reported(&self, rt: &impl Abort) -> &str {
+        text_of(rt, self.errors.as_slice())
+    }
+}
+
+/// The words, joined.
+fn joined<'a>(
+    alloc: Global,
+    front: &[&'a str],
+    more: &[&'a str],
+) -> Result<Vec<&'a str>, AllocError> {
     let mut words = Vec::new(alloc);
-    words.push("twogtp")?;
-    words.extend_from_slice(arguments)?;
-    let log = new_log(alloc)?;
-    let mut output = Vec::new(alloc);
-    let mut errors = Vec::new(alloc);
-    let status = run_into(
-        alloc,
-        words.as_slice(),
-        &mut output,
-        &mut errors,
-        &log,
-        refused,
-    )?;
-    Ok(Ran {
+    words.extend_from_slice(front)?;
+    words.extend_from_slice(more)?;
+    Ok(words)
+}
+
+/// Runs the program with these words, the first of which is its name. Memory is refused for the start of this number,
+/// if it is not 0.
+fn run_words<R: Abort + AllocGlobal>(rt: &R, words: &[&str], refused: u32) -> Ran {
+    let log = log_of(rt);
+    let mut output = Vec::new(rt.alloc());
+    let mut errors = Vec::new(rt.alloc());
+    let status = run_into(rt, words, &mut output, &mut errors, &log, refused);
+    Ran {
         status,
         output,
         errors,
         log,
-    })
+    }
+}
+
+/// Runs the program with these arguments after its name. Memory is refused for the start of this number, if it is not
+/// 0.
+pub fn run_refusing<R: Abort + AllocGlobal>(rt: &R, arguments: &[&str], refused: u32) -> Ran {
+    let words = some(rt, joined(rt.alloc(), &["twogtp"], arguments).ok());
+    run_words(rt, words.as_slice(), refused)
 }
 
 /// Runs the program with these arguments after its name.
-pub fn run_with(alloc: Global, arguments: &[&str]) -> Result<Ran, Fail> {
-    run_refusing(alloc, arguments, 0)
+pub fn run_with<R: Abort + AllocGlobal>(rt: &R, arguments: &[&str]) -> Ran {
+    run_refusing(rt, arguments, 0)
 }
 
 /// A stream that has room for so many bytes, with this log.
-pub fn narrow(alloc: Global, room: usize, log: &Log) -> Result<Narrow, Fail> {
-    Ok(Narrow {
-        taken: Vec::new(alloc),
-        flushed: Vec::new(alloc),
+pub fn narrow<R: Abort + AllocGlobal>(rt: &R, room: usize, log: &Log) -> Narrow {
+    Narrow {
+        taken: Vec::new(rt.alloc()),
+        flushed: Vec::new(rt.alloc()),
         room,
-        log: log.clone()?,
-    })
+        log: same_log(rt, log),
+    }
 }
 
 pub const FIRST: &str = "gtp_engine --policy first";
@@ -83,12 +112,25 @@ pub const TO_THE_LIMIT: [&str; 6] = ["--size", "2", "--komi", "0", "--max-moves"
 pub type Engines<'a> = (&'a str, &'a str);
 
 /// Runs the program with these engines and these arguments.
-pub fn run_between(alloc: Global, engines: Engines, more: &[&str]) -> Result<Ran, Fail> {
+pub fn run_between<R: Abort + AllocGlobal>(rt: &R, engines: Engines, more: &[&str]) -> Ran {
     let (black, white) = engines;
-    let mut arguments = Vec::new(alloc);
-    arguments.extend_from_slice(["--black", black, "--white", white].as_slice())?;
-    arguments.extend_from_slice(more)?;
-    run_with(alloc, arguments.as_slice())
+    let front = ["twogtp", "--black", black, "--white", white];
+    let words = some(rt, joined(rt.alloc(), &front, more).ok());
+    run_words(rt, words.as_slice(), 0)
+}
+
+/// This run wrote the output, reported the errors, and has this status.
+pub fn assert_wrote(
+    rt: &impl Abort,
+    case: &str,
+    ran: &Ran,
+    output: &str,
+    errors: &str,
+    status: u8,
+) {
+    assert_equal_for(rt, case, ran.written(rt), output);
+    assert_equal_for(rt, case, ran.reported(rt), errors);
+    assert_equal_for(rt, case, ran.status, status);
 }
 
 /// With these engines and arguments the output and the status are these, nothing is reported, and each engine that was
@@ -99,23 +141,18 @@ pub fn assert_plays<R: Abort + AllocGlobal>(
     more: &[&str],
     output: &str,
     status: u8,
-) -> Result<(), Fail> {
-    let ran = run_between(rt.alloc(), engines, more)?;
-    let written = str::from_utf8(ran.output.as_slice())?;
-    assert_equal_for(rt, engines, written, output);
-    assert_equal_for(rt, engines, ran.errors.as_slice(), b"".as_slice());
-    assert_equal_for(rt, engines, ran.status, status);
+) {
+    let ran = run_between(rt, engines, more);
+    assert_wrote(rt, engines.0, &ran, output, "", status);
     assert_equal_for(rt, engines, ran.log.ended.get(), ran.log.started.get());
-    Ok(())
 }
 
 /// This run wrote nothing to the output and started nothing, its status is 2, and what it reported begins with this
 /// text.
-pub fn assert_refused(rt: &impl Abort, ran: &Ran, beginning: &str) -> Result<(), Fail> {
-    let reported = str::from_utf8(ran.errors.as_slice())?;
+pub fn assert_refused(rt: &impl Abort, ran: &Ran, beginning: &str) {
+    let reported = ran.reported(rt);
     assert_true_for(rt, reported, reported.starts_with(beginning));
     assert_equal_for(rt, reported, ran.output.len(), 0);
     assert_equal_for(rt, reported, ran.status, 2);
     assert_equal_for(rt, reported, ran.log.started.get(), 0);
-    Ok(())
 }

@@ -1,16 +1,14 @@
 //! Why a side failed, as it is reported on standard error.
-use super::fakes::{Full, Talk, new_log};
-use super::runs::{Ran, narrow, run_between, run_into};
-use crate::equal::{assert_equal, assert_equal_for, assert_true_for};
+use super::fakes::{Full, Narrow, Talk};
+use super::runs::{Ran, assert_wrote, log_of, narrow, run_between, run_into};
+use crate::equal::{assert_equal, assert_equal_for, text_of};
 use gtp_controller::laws::{down_sides_have_no_process, lines_are_few, losses_have_lines};
-use std::alloc::Global;
-use std::str;
-use std::test::Fail;
+use std::process::Abort;
 
 /// Plays games between these engines, with `--why` and without another start.
-pub fn play(alloc: Global, black: &str, white: &str, games: &str) -> Result<Ran, Fail> {
+pub fn play<R: Abort + AllocGlobal>(rt: &R, black: &str, white: &str, games: &str) -> Ran {
     let more = ["--why", "--restarts", "0", "--size", "5", "--games", games];
-    run_between(alloc, (black, white), more.as_slice())
+    run_between(rt, (black, white), &more)
 }
 
 /// Engines that fail in their first game, each with what its line says of it.
@@ -80,43 +78,34 @@ static LOSSES: [(&str, &str); 15] = [
     ),
 ];
 
+/// Black's engine fails, and this is said of it.
+fn assert_loss<R: Abort + AllocGlobal>(rt: &R, engine: &str, line: &str) {
+    let ran = play(rt, engine, "gtp_engine", "1");
+    let of_black = ran.reported(rt).strip_prefix("twogtp: game 1: black: ");
+    assert_equal_for(rt, engine, of_black, Some(line));
+}
+
 #[test]
-fn each_loss_is_reported_in_a_line(rt: HostRuntime) -> Result<(), Fail> {
-    for (engine, line) in LOSSES {
-        let ran = play(rt.alloc(), engine, "gtp_engine", "1")?;
-        let reported = str::from_utf8(ran.errors.as_slice())?;
-        assert_equal_for(
-            &rt,
-            engine,
-            reported.strip_prefix("twogtp: game 1: black: "),
-            Some(line),
-        );
+fn each_loss_is_reported_in_a_line(rt: HostRuntime) {
+    for (engine, line) in &LOSSES {
+        assert_loss(&rt, engine, line);
     }
-    Ok(())
 }
 
 #[test]
-fn each_game_is_reported_by_its_number_and_its_side(rt: HostRuntime) -> Result<(), Fail> {
-    let ran = play(rt.alloc(), "gtp_engine", "no_such_program", "2")?;
-    assert_equal(&rt, ran.status, 1);
-    assert_equal(
-        &rt,
-        str::from_utf8(ran.errors.as_slice())?,
-        "twogtp: game 1: white: not started: no such file: \"no_such_program\"\ntwogtp: game 2: white: not started: no such file: \"no_such_program\"\n",
-    );
-    assert_equal(
-        &rt,
-        str::from_utf8(ran.output.as_slice())?,
-        "game 1: abandoned white moves 0 restarts 0 0\ngame 2: abandoned white moves 0 restarts 0 0\n",
-    );
-    Ok(())
+fn each_game_is_reported_by_its_number_and_its_side(rt: HostRuntime) {
+    let ran = play(&rt, "gtp_engine", "no_such_program", "2");
+    let output =
+        "game 1: abandoned white moves 0 restarts 0 0\ngame 2: abandoned white moves 0 restarts 0 0\n";
+    let errors = "twogtp: game 1: white: not started: no such file: \"no_such_program\"\n\
+        twogtp: game 2: white: not started: no such file: \"no_such_program\"\n";
+    assert_wrote(&rt, "two games", &ran, output, errors, 1);
 }
 
 #[test]
-fn a_line_that_can_not_be_written_ends_the_program(rt: HostRuntime) -> Result<(), Fail> {
-    let alloc = rt.alloc();
-    let log = new_log(alloc)?;
-    let mut output = Vec::new(alloc);
+fn a_line_that_can_not_be_written_ends_the_program(rt: HostRuntime) {
+    let log = log_of(&rt);
+    let mut output = Vec::new(rt.alloc());
     let words = [
         "twogtp",
         "--why",
@@ -125,20 +114,34 @@ fn a_line_that_can_not_be_written_ends_the_program(rt: HostRuntime) -> Result<()
         "--white",
         "refuses",
     ];
-    let status = run_into(alloc, words.as_slice(), &mut output, &mut Full, &log, 0)?;
+    let status = run_into(&rt, &words, &mut output, &mut Full, &log, 0);
     assert_equal(&rt, status, 3);
     assert_equal(&rt, output.len(), 0);
     assert_equal(&rt, log.ended.get(), log.started.get());
     assert_equal(&rt, log.quits.get(), 0);
-    Ok(())
+}
+
+/// What is reported of Black each time that it fails.
+const BROKEN: &str =
+    "twogtp: game 1: black: 3 unanswered, the first \"1 boardsize 5\": writing failed, exit status 7; \
+        nothing of it was read\n";
+
+/// What was taken is this line so often, each time flushed by itself.
+fn assert_three_lines(rt: &impl Abort, errors: &Narrow) {
+    let len = BROKEN.len();
+    let flushed = [len, len.saturating_mul(2), len.saturating_mul(3)];
+    assert_equal(rt, errors.flushed.as_slice(), flushed.as_slice());
+    let text = text_of(rt, errors.taken.as_slice());
+    for line in text.lines() {
+        assert_equal(rt, line, BROKEN.trim_end());
+    }
 }
 
 #[test]
-fn each_line_is_flushed_before_the_next_start(rt: HostRuntime) -> Result<(), Fail> {
-    let alloc = rt.alloc();
-    let log = new_log(alloc)?;
-    let mut output = Vec::new(alloc);
-    let mut errors = narrow(alloc, 1000, &log)?;
+fn each_line_is_flushed_before_the_next_start(rt: HostRuntime) {
+    let log = log_of(&rt);
+    let mut output = Vec::new(rt.alloc());
+    let mut errors = narrow(&rt, 1000, &log);
     let words = [
         "twogtp",
         "--why",
@@ -149,28 +152,17 @@ fn each_line_is_flushed_before_the_next_start(rt: HostRuntime) -> Result<(), Fai
         "--white",
         "gtp_engine",
     ];
-    let status = run_into(alloc, words.as_slice(), &mut output, &mut errors, &log, 0)?;
-    let line =
-        "twogtp: game 1: black: 3 unanswered, the first \"1 boardsize 5\": writing failed, exit status 7; \
-                nothing of it was read\n";
-    let len = line.len();
+    let status = run_into(&rt, &words, &mut output, &mut errors, &log, 0);
     assert_equal(&rt, status, 1);
     // Black is started three times, and fails each time. Each has its line, which is flushed by itself.
     assert_equal(&rt, log.started.get(), 4);
+    assert_three_lines(&rt, &errors);
+    // Both are started before anything is written, Black again after the first line, and after the second one.
     assert_equal(
         &rt,
-        errors.flushed.as_slice(),
-        [len, 2 * len, 3 * len].as_slice(),
+        log.flushed_by_starts.get(),
+        BROKEN.len().saturating_mul(3),
     );
-    let text = str::from_utf8(errors.taken.as_slice())?;
-    assert_true_for(
-        &rt,
-        text,
-        text.lines().all(|written| written == line.trim_end()),
-    );
-    // Both are started before anything is written, Black again after the first line, and after the second one.
-    assert_equal(&rt, log.flushed_by_starts.get(), len + 2 * len);
-    Ok(())
 }
 
 #[test]

@@ -1,15 +1,30 @@
 //! Streams that fail, and how failures are reported.
-use super::{Broken, Holding};
+use super::{Broken, Holding, assert_handed_on};
 use crate::equal::{assert_equal, assert_equal_for};
 use gtp_session::serve::ServeFault;
 use gtp_session::streams::Counted;
+use std::alloc::Global;
 use std::io::ErrorKind;
-use std::test::Fail;
+use std::process::Abort;
 use stepgo::failure::{Failure, report};
 use stepgo::run::run;
 
+/// A run whose writes to the output fail has this status and reports this text.
+fn assert_breaks<R: Abort + AllocGlobal>(rt: &R, words: &[&str], status: u8, text: &str) {
+    let mut errors = Vec::new(rt.alloc());
+    let answer = run(
+        rt.alloc(),
+        words,
+        &mut Counted::new(b"1 name\n".as_slice()),
+        &mut Counted::new(Broken),
+        &mut Counted::new(&mut errors),
+    );
+    assert_equal_for(rt, words, answer, status);
+    assert_equal_for(rt, words, errors.as_slice(), text.as_bytes());
+}
+
 #[test]
-fn a_read_that_fails_is_status_3(rt: HostRuntime) -> Result<(), Fail> {
+fn a_read_that_fails_is_status_3(rt: HostRuntime) {
     let mut output = Vec::new(rt.alloc());
     let mut errors = Vec::new(rt.alloc());
     let words = ["gtp_engine"];
@@ -27,53 +42,45 @@ fn a_read_that_fails_is_status_3(rt: HostRuntime) -> Result<(), Fail> {
         errors.as_slice(),
         b"gtp_engine: read fault\n".as_slice(),
     );
-    Ok(())
+}
+
+/// Words of runs that write.
+static WRITE: [&[&str]; 3] = [
+    &["gtp_engine"],
+    &["gtp_engine", "--help"],
+    &["gtp_engine", "--version"],
+];
+
+#[test]
+fn a_write_that_fails_is_status_3(rt: HostRuntime) {
+    for words in &WRITE {
+        assert_breaks(&rt, words, 3, "gtp_engine: write fault\n");
+    }
+}
+
+/// Words of runs that fail, and the status of each.
+static FAIL: [(&[&str], u8); 3] = [
+    (&["gtp_engine", "--policy", "third"], 2),
+    (&["gtp_engine", "--book", "C3,D44"], 2),
+    (&["gtp_engine"], 3),
+];
+
+/// The status of a run of which each read and write fails.
+fn broken_status(alloc: Global, words: &[&str]) -> u8 {
+    run(
+        alloc,
+        words,
+        &mut Counted::new(Broken),
+        &mut Counted::new(Broken),
+        &mut Counted::new(Broken),
+    )
 }
 
 #[test]
-fn a_write_that_fails_is_status_3(rt: HostRuntime) -> Result<(), Fail> {
-    let lists: [&[&str]; 3] = [
-        &["gtp_engine"],
-        &["gtp_engine", "--help"],
-        &["gtp_engine", "--version"],
-    ];
-    for words in lists {
-        let mut errors = Vec::new(rt.alloc());
-        let status = run(
-            rt.alloc(),
-            words,
-            &mut Counted::new(b"1 name\n".as_slice()),
-            &mut Counted::new(Broken),
-            &mut Counted::new(&mut errors),
-        );
-        assert_equal(&rt, status, 3);
-        assert_equal(
-            &rt,
-            errors.as_slice(),
-            b"gtp_engine: write fault\n".as_slice(),
-        );
+fn the_status_stays_where_nothing_can_be_reported(rt: HostRuntime) {
+    for (words, status) in &FAIL {
+        assert_equal(&rt, broken_status(rt.alloc(), words), *status);
     }
-    Ok(())
-}
-
-#[test]
-fn the_status_stays_where_nothing_can_be_reported(rt: HostRuntime) -> Result<(), Fail> {
-    let cases: [(&[&str], u8); 3] = [
-        (&["gtp_engine", "--policy", "third"], 2),
-        (&["gtp_engine", "--book", "C3,D44"], 2),
-        (&["gtp_engine"], 3),
-    ];
-    for (words, wanted) in cases {
-        let status = run(
-            rt.alloc(),
-            words,
-            &mut Counted::new(Broken),
-            &mut Counted::new(Broken),
-            &mut Counted::new(Broken),
-        );
-        assert_equal(&rt, status, wanted);
-    }
-    Ok(())
 }
 
 /// Failures, the status that follows each, and its line.
@@ -116,32 +123,37 @@ fn each_failure_is_reported_in_a_line(rt: HostRuntime) {
     assert_equal(&rt, no_memory, Failure::OutOfMemory);
 }
 
+/// Words of runs whose reads fail, and what each reports.
+static REPORTED: [(&[&str], &str); 3] = [
+    (
+        &["gtp_engine", "--book", "C3,D44"],
+        "gtp_engine: bad book\n",
+    ),
+    (
+        &["gtp_engine", "--fault", "stop"],
+        "gtp_engine: bad fault\n",
+    ),
+    (&["gtp_engine"], "gtp_engine: read fault\n"),
+];
+
+/// What a run whose reads fail reports.
+fn reported_by(alloc: Global, words: &[&str]) -> Holding {
+    let mut errors = Holding::new(alloc);
+    let mut output = Vec::new(alloc);
+    let _ = run(
+        alloc,
+        words,
+        &mut Counted::new(Broken),
+        &mut Counted::new(&mut output),
+        &mut Counted::new(&mut errors),
+    );
+    errors
+}
+
 #[test]
-fn what_is_wrong_is_handed_on_whole_and_once(rt: HostRuntime) -> Result<(), Fail> {
-    let cases: [(&[&str], &str); 3] = [
-        (
-            &["gtp_engine", "--book", "C3,D44"],
-            "gtp_engine: bad book\n",
-        ),
-        (
-            &["gtp_engine", "--fault", "stop"],
-            "gtp_engine: bad fault\n",
-        ),
-        (&["gtp_engine"], "gtp_engine: read fault\n"),
-    ];
-    for (words, text) in cases {
-        let mut errors = Holding::new(rt.alloc());
-        let mut output = Vec::new(rt.alloc());
-        let _ = run(
-            rt.alloc(),
-            words,
-            &mut Counted::new(Broken),
-            &mut Counted::new(&mut output),
-            &mut Counted::new(&mut errors),
-        );
-        assert_equal_for(&rt, text, errors.handed_on.as_slice(), text.as_bytes());
-        assert_equal_for(&rt, text, errors.held.len(), 0);
-        assert_equal_for(&rt, text, errors.flushes, 1);
+fn what_is_wrong_is_handed_on_whole_and_once(rt: HostRuntime) {
+    for (words, text) in &REPORTED {
+        let errors = reported_by(rt.alloc(), words);
+        assert_handed_on(&rt, text, &errors, text.as_bytes());
     }
-    Ok(())
 }

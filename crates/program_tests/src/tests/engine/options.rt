@@ -1,40 +1,36 @@
 //! The options of the command line, and the mistakes in them.
 use super::{assert_answers, assert_refuses};
-use std::test::Fail;
 
 #[test]
-fn the_end_of_the_input_is_status_0(rt: HostRuntime) -> Result<(), Fail> {
-    assert_answers(&rt, &[], b"", b"")?;
-    assert_answers(&rt, &[], b"name\nversi", b"= stepgo\n\n")
+fn the_end_of_the_input_is_status_0(rt: HostRuntime) {
+    assert_answers(&rt, &[], b"", b"");
+    assert_answers(&rt, &[], b"name\nversi", b"= stepgo\n\n");
 }
 
+/// Arguments with each option.
+static TAKEN: [&[&str]; 14] = [
+    &["--policy", "first"],
+    &["--policy", "random"],
+    &["--policy", "book"],
+    &["--policy=random", "--seed=7"],
+    &["--seed", "0"],
+    &["--seed", "4294967295"],
+    &["--book", ""],
+    &["--book="],
+    &["--book", "C3,,resign"],
+    &["--book", "pass,RESIGN,z25"],
+    &["--book=,", "--seed", "2", "--policy", "book"],
+    &["--ko", "simple"],
+    &["--ko", "positional"],
+    &["--fault=none", "--ko=positional", "--policy=random"],
+];
+
 #[test]
-fn each_option_is_taken(rt: HostRuntime) -> Result<(), Fail> {
-    let lists: [&[&str]; 14] = [
-        &["--policy", "first"],
-        &["--policy", "random"],
-        &["--policy", "book"],
-        &["--policy=random", "--seed=7"],
-        &["--seed", "0"],
-        &["--seed", "4294967295"],
-        &["--book", ""],
-        &["--book="],
-        &["--book", "C3,,resign"],
-        &["--book", "pass,RESIGN,z25"],
-        &["--book=,", "--seed", "2", "--policy", "book"],
-        &["--ko", "simple"],
-        &["--ko", "positional"],
-        &["--fault=none", "--ko=positional", "--policy=random"],
-    ];
-    for arguments in lists {
-        assert_answers(
-            &rt,
-            arguments,
-            b"1 name\nquit\nname\n",
-            b"=1 stepgo\n\n=\n\n",
-        )?;
+fn each_option_is_taken(rt: HostRuntime) {
+    for arguments in &TAKEN {
+        let output = b"=1 stepgo\n\n=\n\n";
+        assert_answers(&rt, arguments, b"1 name\nquit\nname\n", output);
     }
-    Ok(())
 }
 
 /// Arguments with a mistake, and how the text that reports it begins.
@@ -98,25 +94,23 @@ static MISTAKES: [(&[&str], &str); 16] = [
 ];
 
 #[test]
-fn a_mistake_in_the_arguments_is_status_2_with_the_text_of_clap(
-    rt: HostRuntime,
-) -> Result<(), Fail> {
+fn a_mistake_in_the_arguments_is_status_2_with_the_text_of_clap(rt: HostRuntime) {
     for (arguments, text) in &MISTAKES {
-        assert_refuses(&rt, arguments, text)?;
+        assert_refuses(&rt, arguments, text);
     }
-    Ok(())
 }
 
+/// Arguments with a bad book.
+static BAD_BOOKS: [&[&str]; 4] = [
+    &["--book", "C3,D44"],
+    &["--book", "C3,D44", "--policy", "first"],
+    &["--policy", "random", "--book=C3,D44"],
+    &["--policy", "book", "--book", "C3,D44"],
+];
+
 #[test]
-fn a_bad_book_is_reported_under_every_policy(rt: HostRuntime) -> Result<(), Fail> {
-    let lists: [&[&str]; 4] = [
-        &["--book", "C3,D44"],
-        &["--book", "C3,D44", "--policy", "first"],
-        &["--policy", "random", "--book=C3,D44"],
-        &["--policy", "book", "--book", "C3,D44"],
-    ];
-    for arguments in lists {
-        assert_refuses(&rt, arguments, "gtp_engine: bad book\n")?;
+fn a_bad_book_is_reported_under_every_policy(rt: HostRuntime) {
+    for arguments in &BAD_BOOKS {
+        assert_refuses(&rt, arguments, "gtp_engine: bad book\n");
     }
-    Ok(())
 }

@@ -1,42 +1,40 @@
 //! The policies, the seed and the ko rule.
-use super::{assert_answers, run_with};
+use super::{assert_answers, joined, run_with};
 use crate::equal::{assert_equal, assert_true};
 use gtp_session::random::Random;
 use gtp_session::serve::serve;
 use gtp_session::session::Session;
 use gtp_session::streams::Counted;
 use std::alloc::Global;
-use std::test::Fail;
+
+/// Arguments with the first policy.
+static FIRST: [&[&str]; 3] = [
+    &["--policy", "first"],
+    &[],
+    &["--seed", "7", "--book", "C3"],
+];
 
 #[test]
-fn the_first_policy_plays_the_first_candidate_and_is_the_default(
-    rt: HostRuntime,
-) -> Result<(), Fail> {
-    let lists: [&[&str]; 3] = [
-        &["--policy", "first"],
-        &[],
-        &["--seed", "7", "--book", "C3"],
-    ];
-    for arguments in lists {
+fn the_first_policy_plays_the_first_candidate_and_is_the_default(rt: HostRuntime) {
+    for arguments in &FIRST {
         assert_answers(
             &rt,
             arguments,
             b"boardsize 2\ngenmove b\ngenmove w\nboardsize 1\ngenmove b\n",
             b"=\n\n= A1\n\n= B1\n\n=\n\n= pass\n\n",
-        )?;
+        );
     }
-    Ok(())
 }
 
 #[test]
-fn the_book_policy_plays_by_the_book(rt: HostRuntime) -> Result<(), Fail> {
+fn the_book_policy_plays_by_the_book(rt: HostRuntime) {
     assert_answers(
         &rt,
         &["--policy", "book", "--book", "C3,,resign"],
         b"boardsize 9\ngenmove b\ngenmove w\ngenmove b\ngenmove b\ngenmove\nplay b C3\n",
         b"=\n\n= C3\n\n= pass\n\n= resign\n\n= resign\n\n? syntax error\n\n? illegal move\n\n",
-    )?;
-    assert_answers(&rt, &["--policy", "book"], b"genmove b\n", b"= pass\n\n")
+    );
+    assert_answers(&rt, &["--policy", "book"], b"genmove b\n", b"= pass\n\n");
 }
 
 /// A board of size 9 and twenty moves.
@@ -66,38 +64,34 @@ static ENDS: [(&str, &[u8]); 2] = [
 ];
 
 #[test]
-fn positional_ko_outlives_two_passes(rt: HostRuntime) -> Result<(), Fail> {
+fn positional_ko_outlives_two_passes(rt: HostRuntime) {
     for (rule, end) in &ENDS {
-        let mut wanted = Vec::new(rt.alloc());
-        wanted.extend_from_slice(FRONT)?;
-        wanted.extend_from_slice(end)?;
-        assert_answers(&rt, &["--ko", *rule], CORNER, wanted.as_slice())?;
+        let wanted = joined(&rt, &[FRONT, end]);
+        assert_answers(&rt, &["--ko", *rule], CORNER, wanted.as_slice());
     }
-    Ok(())
 }
 
 #[test]
-fn one_seed_plays_one_game_and_another_seed_another(rt: HostRuntime) -> Result<(), Fail> {
+fn one_seed_plays_one_game_and_another_seed_another(rt: HostRuntime) {
     let seven = ["--policy", "random", "--seed", "7"];
     let eight = ["--policy", "random", "--seed", "8"];
-    let first = run_with(rt.alloc(), seven.as_slice(), TWENTY_MOVES)?;
-    let again = run_with(rt.alloc(), seven.as_slice(), TWENTY_MOVES)?;
-    let other = run_with(rt.alloc(), eight.as_slice(), TWENTY_MOVES)?;
+    let first = run_with(&rt, seven.as_slice(), TWENTY_MOVES);
+    let again = run_with(&rt, seven.as_slice(), TWENTY_MOVES);
+    let other = run_with(&rt, eight.as_slice(), TWENTY_MOVES);
     assert_equal(&rt, first.status, 0);
     assert_equal(&rt, first.output.as_slice(), again.output.as_slice());
     assert_true(&rt, first.output.as_slice() != other.output.as_slice());
-    Ok(())
 }
 
 /// What a fresh engine writes that draws by this seed.
-fn drawn_with(alloc: Global, seed: u32, input: &[u8]) -> Result<Vec<u8>, Fail> {
+fn drawn_with(alloc: Global, seed: u32, input: &[u8]) -> Vec<u8> {
     let mut input = input;
     let mut output = Vec::new(alloc);
     let mut session = Session::new(Random::new(seed));
     let mut reader = Counted::new(&mut input);
     let mut writer = Counted::new(&mut output);
     let _ = serve(&mut reader, &mut writer, &mut session);
-    Ok(output)
+    output
 }
 
 /// Arguments of the random policy, and the seed that they name.
@@ -113,10 +107,9 @@ static SEEDS: [(&[&str], u32); 5] = [
 ];
 
 #[test]
-fn the_default_seed_is_1(rt: HostRuntime) -> Result<(), Fail> {
+fn the_default_seed_is_1(rt: HostRuntime) {
     for (arguments, seed) in &SEEDS {
-        let drawn = drawn_with(rt.alloc(), *seed, TWENTY_MOVES)?;
-        assert_answers(&rt, arguments, TWENTY_MOVES, drawn.as_slice())?;
+        let drawn = drawn_with(rt.alloc(), *seed, TWENTY_MOVES);
+        assert_answers(&rt, arguments, TWENTY_MOVES, drawn.as_slice());
     }
-    Ok(())
 }

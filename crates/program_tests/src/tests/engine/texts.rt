@@ -1,8 +1,8 @@
 //! The help and the version.
-use super::Holding;
-use crate::equal::assert_equal_for;
+use super::{Holding, assert_handed_on};
+use crate::equal::{assert_equal_for, assert_true};
 use gtp_session::streams::Counted;
-use std::test::Fail;
+use std::process::Abort;
 use stepgo::run::run;
 
 /// The lines of the help.
@@ -56,34 +56,38 @@ static REQUESTS: [(&[&str], bool); 4] = [
     (&["gtp_engine", "-V", "--policy", "third"], false),
 ];
 
-/// It is handed on whole and once.
-#[test]
-fn help_goes_to_the_output_with_status_0(rt: HostRuntime) -> Result<(), Fail> {
+/// The lines of the help, each with its newline.
+fn help<R: Abort + AllocGlobal>(rt: &R) -> Vec<u8> {
     let mut help = Vec::new(rt.alloc());
     for line in &HELP {
-        help.extend_from_slice(line.as_bytes())?;
-        help.push(b'\n')?;
+        assert_true(rt, help.extend_from_slice(line.as_bytes()).is_ok());
+        assert_true(rt, help.push(b'\n').is_ok());
     }
+    help
+}
+
+/// A run with these words writes the text alone, whole and once, and its status is 0.
+fn assert_writes<R: Abort + AllocGlobal>(rt: &R, words: &[&str], text: &[u8]) {
+    let mut output = Holding::new(rt.alloc());
+    let mut errors = Vec::new(rt.alloc());
+    let status = run(
+        rt.alloc(),
+        words,
+        &mut Counted::new(b"1 name\n".as_slice()),
+        &mut Counted::new(&mut output),
+        &mut Counted::new(&mut errors),
+    );
+    assert_equal_for(rt, words, status, 0);
+    assert_handed_on(rt, "the text", &output, text);
+    assert_equal_for(rt, words, errors.len(), 0);
+}
+
+/// It is handed on whole and once.
+#[test]
+fn help_goes_to_the_output_with_status_0(rt: HostRuntime) {
+    let help = help(&rt);
     for (words, is_help) in &REQUESTS {
-        let text = if *is_help {
-            help.as_slice()
-        } else {
-            b"gtp_engine 1.0\n".as_slice()
-        };
-        let mut output = Holding::new(rt.alloc());
-        let mut errors = Vec::new(rt.alloc());
-        let status = run(
-            rt.alloc(),
-            *words,
-            &mut Counted::new(b"1 name\n".as_slice()),
-            &mut Counted::new(&mut output),
-            &mut Counted::new(&mut errors),
-        );
-        assert_equal_for(&rt, words, status, 0);
-        assert_equal_for(&rt, words, output.handed_on.as_slice(), text);
-        assert_equal_for(&rt, words, output.held.len(), 0);
-        assert_equal_for(&rt, words, output.flushes, 1);
-        assert_equal_for(&rt, words, errors.len(), 0);
+        let text: &[u8] = if *is_help { &help } else { b"gtp_engine 1.0\n" };
+        assert_writes(&rt, words, text);
     }
-    Ok(())
 }
