@@ -6,6 +6,7 @@ by their path in the folder: each runs there.
 import os
 import re
 import shlex
+import signal
 import subprocess
 from collections import Counter, namedtuple
 from concurrent.futures import ThreadPoolExecutor
@@ -45,12 +46,13 @@ class Figures:
 
 def run(folder, trial, limit=LIMIT):
     """What comes of a trial with the programs of this folder."""
-    command = [f"./{trial.program}", *trial.words]
-    try:
-        done = subprocess.run(command, cwd=folder, input=trial.text, capture_output=True, timeout=limit)
-    except subprocess.TimeoutExpired as late:
-        return Ran(late.stdout or b"", late.stderr or b"", f"none: still running after {limit} seconds")
-    return Ran(done.stdout, done.stderr, done.returncode)
+    command, pipe = [f"./{trial.program}", *trial.words], subprocess.PIPE
+    with subprocess.Popen(command, cwd=folder, stdin=pipe, stdout=pipe, stderr=pipe, start_new_session=True) as process:
+        try:
+            return Ran(*process.communicate(trial.text, limit), process.returncode)
+        except subprocess.TimeoutExpired:
+            os.killpg(process.pid, signal.SIGKILL)  # the engines too
+            return Ran(*process.communicate(), f"none: still running after {limit} seconds")
 
 
 def differ(one, other):

@@ -69,13 +69,34 @@ def with_paths(manifest, taken):
     return text if "[lints" in text else text + QUIET
 
 
+def files_of(folder, taken):
+    """Each file of a crate as the workspace has it, by its path."""
+    found = {}
+    for path in folder.rglob("*"):
+        inside = path.relative_to(folder)
+        if path.is_file() and path.name != "Cargo.toml.orig" and not any(part.startswith(".") for part in inside.parts):
+            found[inside] = path.read_bytes()
+    found[Path("Cargo.toml")] = with_paths((folder / "Cargo.toml").read_text(), taken).encode()
+    return found
+
+
+def lay(folder, files):
+    """Makes the files those of the folder. One that is the same stays as it is, or cargo would build what stands on it anew."""
+    for path in [it for it in folder.rglob("*") if it.is_file() and it.relative_to(folder) not in files]:
+        path.unlink()
+    for path, data in files.items():
+        at = folder / path
+        if not at.is_file() or at.read_bytes() != data:
+            at.parent.mkdir(parents=True, exist_ok=True)
+            at.write_bytes(data)
+
+
 def copy(workspace, taken):
     """Copies the crates into the workspace, and returns the folder of each by its name."""
-    shutil.rmtree(workspace / "others", ignore_errors=True)
-    paths = {}
+    names = {f"{name}-{version}" for name, version in taken}
+    for folder in (workspace / "others").glob("*"):
+        if folder.name not in names:
+            shutil.rmtree(folder)
     for (name, version), folder in sorted(taken.items()):
-        to = workspace / "others" / f"{name}-{version}"
-        shutil.copytree(folder, to, ignore=shutil.ignore_patterns("Cargo.toml.orig", ".*"))
-        (to / "Cargo.toml").write_text(with_paths((to / "Cargo.toml").read_text(), taken))
-        paths[name] = f"others/{name}-{version}"
-    return paths
+        lay(workspace / "others" / f"{name}-{version}", files_of(folder, taken))
+    return {name: f"others/{name}-{version}" for name, version in taken}
