@@ -32,7 +32,6 @@ mismatched_lifetime_syntaxes = "allow"
 manual_map = "allow"
 manual_ok_err = "allow"
 match_like_matches_macro = "allow"
-collapsible_if = "allow"
 single_match = "allow"
 manual_contains = "allow"
 # The kit's numbers lack these calls, or they aren't proved as plainly.
@@ -49,7 +48,6 @@ needless_range_loop = "allow"
 # The check wants the reference to be followed, and the lifetime to be named.
 explicit_auto_deref = "allow"
 needless_lifetimes = "allow"
-needless_question_mark = "allow"
 # A record of arguments would say the same.
 too_many_arguments = "allow"
 type_complexity = "allow"
