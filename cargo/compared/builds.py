@@ -83,8 +83,8 @@ def made(build):
     for name in PROGRAMS:
         lay(build, target / name, folder / name)
     for name, sources, library, flags in IN_C:
-        command = [build.compiler, *FLAGS, *flags, "-o", folder / "c" / name, *sources, target / library, "-lpthread", f"-Wl,-rpath,{target}"]
-        said = called(f"{build.machine.name}: {name}", command)
+        linked = [target / library, "-lpthread", f"-Wl,-rpath,{target}"]
+        said = called(f"{build.machine.name}: {name}", [build.compiler, *FLAGS, *flags, "-o", folder / "c" / name, *sources, *linked])
         if said:
             raise Failed(f"{build.machine.name}: {name}: the compiler says\n{said}")
         lay(build, folder / "c" / name, folder / name)
