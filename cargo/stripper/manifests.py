@@ -63,6 +63,7 @@ fn main() {
     println!("cargo::rerun-if-changed=build.rs");
 }
 """
+MARK = "# Made by cargo/strip."  # how the workspace's manifest begins
 WORKSPACE = """\
 # Made by cargo/strip. Change the sources, and make it anew.
 [workspace]

@@ -8,6 +8,7 @@ import os
 import re
 import shutil
 import subprocess
+import tempfile
 from pathlib import Path
 
 DEBIAN = Path("/usr/share/cargo/registry")
@@ -16,6 +17,7 @@ TABLE = re.compile(r'(?m)^\[(?:target\..*\.)?(?:dependencies|build-dependencies)
 RENAMED = re.compile(r'(?m)^package = "([^"]+)"')
 CHANGED = "# Changed by cargo/strip: each `path` says where a crate lies, and no warning is shown.\n"
 QUIET = '\n[lints.rust]\nwarnings = "allow"\n'  # cargo shows no warning of a crate of its registry
+LEAST = 87  # the second number of the first cargo, and of the first rustc, that build it
 LIMIT = 120  # seconds that a call of cargo may take here
 
 
@@ -23,34 +25,82 @@ class Missing(Exception):
     """The other crates are nowhere."""
 
 
-def cargo(workspace, *words):
-    """What cargo returns of the workspace, as its status and its output."""
+PROBE = """\
+[package]
+name = "probe"
+version = "0.0.0"
+edition = "2024"
+rust-version = "1.87"
+
+[dependencies]
+"""
+
+
+def cargo(folder, *words):
+    """What cargo returns of a package, as its status and its output."""
     quick = {"CARGO_NET_RETRY": "0", "CARGO_HTTP_TIMEOUT": "20"}
-    command = ["cargo", *words, "--manifest-path", str(workspace / "Cargo.toml")]
-    done = subprocess.run(
-        command, cwd=workspace, env={**os.environ, **quick}, stdin=subprocess.DEVNULL, capture_output=True, text=True, timeout=LIMIT
-    )
+    command = ["cargo", *words, "--manifest-path", str(folder / "Cargo.toml")]
+    try:
+        done = subprocess.run(
+            command, cwd=folder, env={**os.environ, **quick}, stdin=subprocess.DEVNULL, capture_output=True, text=True, timeout=LIMIT
+        )
+    except subprocess.TimeoutExpired:
+        return 1, ""
     return done.returncode, done.stdout
 
 
-def are_fetched(workspace):
-    """Does cargo have the other crates of its registry, or get them?"""
-    if (workspace / "Cargo.lock").is_file() and cargo(workspace, "fetch", "--locked", "--offline")[0] == 0:
-        return True
-    return cargo(workspace, "fetch", "--offline")[0] == 0 or cargo(workspace, "fetch")[0] == 0
+def look_at_cargo():
+    """Is there a cargo that is new enough?"""
+    try:
+        said = subprocess.run(["cargo", "--version"], capture_output=True, text=True, stdin=subprocess.DEVNULL).stdout
+    except FileNotFoundError:
+        raise Missing(f"there is no cargo: 1.{LEAST} or later is needed") from None
+    found = re.match(r"cargo 1\.(\d+)\.", said)
+    if found and int(found[1]) < LEAST:
+        raise Missing(f"{said.strip()} is too old: 1.{LEAST} or later is needed (on Debian rustc-web and cargo-web)")
 
 
-def taken_of_debian(workspace):
-    """The folders of the crates that cargo takes of Debian's for this workspace, by name and version."""
-    source = f'source.debian.directory="{DEBIAN}"'
-    status, output = cargo(
-        workspace, "metadata", "--offline", "--format-version", "1", "--config", 'source.crates-io.replace-with="debian"', "--config", source
-    )
-    (workspace / "Cargo.lock").unlink(missing_ok=True)
+def probe(folder, wanted):
+    """A package that needs the other crates and nothing else, by which cargo is asked for them."""
+    (folder / "src").mkdir()
+    (folder / "src/lib.rs").write_text("")
+    (folder / "Cargo.toml").write_text(PROBE + "".join(f"{name} = {{ {what} }}\n" for name, what in wanted.items()))
+
+
+def packages_of(folder, *words):
+    """The packages of others that cargo takes for the probe: the folder of each by its name and version, or None."""
+    status, output = cargo(folder, "metadata", "--offline", "--format-version", "1", *words)
     if status:
-        raise Missing(f"cargo doesn't reach its registry, and Debian's packages are not all here: apt-get install {PACKAGES}")
-    packages = json.loads(output)["packages"]
-    return {(it["name"], it["version"]): Path(it["manifest_path"]).parent for it in packages if it["source"]}
+        return None
+    return {(it["name"], it["version"]): Path(it["manifest_path"]).parent for it in json.loads(output)["packages"] if it["source"]}
+
+
+def of_registry(folder):
+    """Those of cargo's registry, where cargo has them or gets them."""
+    if cargo(folder, "fetch", "--offline")[0] and cargo(folder, "fetch")[0]:
+        return None
+    return packages_of(folder)
+
+
+def of_debian(folder):
+    """Those of Debian's packages, where these are installed."""
+    source = f'source.debian.directory="{DEBIAN}"'
+    return packages_of(folder, "--config", 'source.crates-io.replace-with="debian"', "--config", source)
+
+
+def find(wanted, where=None):
+    """Where the other crates are from, `registry` or `debian`, and the folder of each by its name and version."""
+    with tempfile.TemporaryDirectory() as name:
+        folder = Path(name)
+        probe(folder, wanted)
+        for kind, packages in (("registry", of_registry), ("debian", of_debian)):
+            found = packages(folder) if where in (None, kind) else None
+            if found is not None:
+                return kind, found
+            (folder / "Cargo.lock").unlink(missing_ok=True)
+    if where == "registry":
+        raise Missing("cargo doesn't reach its registry")
+    raise Missing(f"cargo doesn't reach its registry, and Debian's packages are not all here: apt-get install {PACKAGES}")
 
 
 def with_paths(manifest, taken):

@@ -1,4 +1,6 @@
 """The Cargo workspace: each crate of crates.txt as Rust, the shims, the crate for authors of Rust, and the other crates."""
+import fcntl
+import os
 import re
 import shutil
 from pathlib import Path
@@ -79,21 +81,37 @@ def lay(workspace, files):
             path.rmdir()
 
 
+def look_at(workspace):
+    """Refuses a folder in which other files lie: they would be removed."""
+    made = workspace / "Cargo.toml"
+    is_ours = made.is_file() and made.read_text().startswith(manifests.MARK)
+    if not is_ours and workspace.exists() and (not workspace.is_dir() or any(workspace.iterdir())):
+        raise others.Missing(f"{workspace} has files of others: name a folder that is empty, or that cargo/strip made")
+
+
+def held(workspace):
+    """Holds the workspace, so that nobody else writes it meanwhile. It is let go with what is returned."""
+    workspace.mkdir(parents=True, exist_ok=True)
+    lock = os.open(workspace, os.O_RDONLY)
+    fcntl.flock(lock, fcntl.LOCK_EX)
+    return lock
+
+
 def make(workspace, where=None):
-    """Writes the workspace, and returns where the other crates are from, by name and version."""
+    """Writes the workspace. Returns where the other crates are from, and the version of each that is named in a manifest."""
     workspace = Path(workspace)
+    look_at(workspace)
     files = files_of_workspace(TOP)
     members = sorted({"/".join(path.split("/")[:-1]) for path in files if path.count("/") <= 2 and path.endswith("/Cargo.toml")})
     version = manifests.version_of((TOP / "crates/go_board/src/lib.rt").read_text())
-    lay(workspace, files)
-    before = (workspace / "Cargo.toml").read_text() if (workspace / "Cargo.toml").is_file() else ""
-    write(workspace / "Cargo.toml", manifests.workspace(members, version, {}))
-    if where != "debian" and others.are_fetched(workspace):
-        shutil.rmtree(workspace / "others", ignore_errors=True)
-        return "registry"
-    if where == "registry":
-        raise others.Missing("cargo doesn't reach its registry")
-    taken = others.taken_of_debian(workspace)
-    paths = others.copy(workspace, taken)
-    write(workspace / "Cargo.toml", manifests.workspace(members, version, paths))
-    return "debian"
+    kind, taken = others.find(manifests.OTHERS, where)
+    lock = held(workspace)
+    try:
+        if kind == "registry":
+            shutil.rmtree(workspace / "others", ignore_errors=True)
+        paths = others.copy(workspace, taken) if kind == "debian" else {}
+        write(workspace / "Cargo.toml", manifests.workspace(members, version, paths))
+        lay(workspace, files)
+    finally:
+        os.close(lock)
+    return kind, {name: number for name, number in sorted(taken) if name in manifests.OTHERS}
