@@ -6,6 +6,7 @@ import shutil
 from pathlib import Path
 
 from . import manifests, others
+from .inlining import inlined
 from .refused import Refused
 from .sources import files_of, stripped
 
@@ -28,6 +29,7 @@ def crates_of(top):
                 refused.where = f"crates/{name}/src/{path}"
                 raise
             text = with_room(text, header) if is_library_of_c else text
+            text = text if is_test else inlined(text)
             named = {shim for shim in manifests.SHIMS if f"{shim}::" in text}
             (test_shims if is_test else shims).update(named)
             files[f"crates/{name}/src/{path.with_suffix('.rs')}"] = text

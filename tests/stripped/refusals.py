@@ -8,6 +8,7 @@ TOP = Path(__file__).resolve().parents[2]
 sys.path.insert(0, str(TOP / "cargo"))
 
 from stripper import forms  # noqa: E402
+from stripper.inlining import inlined  # noqa: E402
 from stripper.refused import Refused  # noqa: E402
 from stripper.sources import files_of, stripped  # noqa: E402
 
@@ -105,6 +106,15 @@ def check_refusals(checks):
     checks.check("each form has a source", set(), names - {name for name, _ in REFUSED})
     for source, wanted in TAKEN:
         checks.check(f"taken: {source.splitlines()[0]}", wanted or source, stripped(source))
+
+
+def check_inlined(checks):
+    """Are short functions marked, and no others?"""
+    short, marked = "fn f() -> u8 {\n    1\n}\n", "    #[inline(always)]\n    fn f() {\n        g();\n    }\n"
+    longer = "fn f() {\n" + "    g();\n" * 8 + "}\n"
+    declared = "trait T {\n    fn f(&self) -> [u8; 2];\n\n    fn g(\n        &self,\n    );\n}\n"
+    checks.check("a short function is marked to be inlined", f"#[inline]\n{short}", inlined(short))
+    checks.check("no other one is", marked + longer + declared, inlined(marked + longer + declared))
 
 
 def check_files(checks, room):
