@@ -46,7 +46,7 @@ IN_SHIMS = [
     Mutant("the arguments of an engine are out of order", PROCESS, "self.0.args(words);", "self.0.args(words.iter().rev());", "matches"),
     Mutant("an engine is not killed", PROCESS, "self.child.kill()", "Ok(())", "killed"),
     Mutant("a status is another", PROCESS, "ExitCode(status)\n", "ExitCode(status.min(2))\n", "full"),
-    Mutant("an argument that is no text is taken", "cargo/shims/kit_std/src/env.rs", "Err(_) =>", "Err(it) if true => words.push(String::of(it.to_string_lossy().into_owned())),\n            Err(_) =>", "no_text"),
+    Mutant("an argument that is no text is taken", "cargo/shims/kit_std/src/env.rs", ".to_str()", '.to_str().or(Some("?"))', "no_text"),
     Mutant("the greatest value of an option is refused", "cargo/shims/clap/src/lib.rs", "range(least..=most)", "range(least..most)", "limits"),
     Mutant("the halves of a row change places", "cargo/shims/kit_simd/src/lib.rs", "(_mm_movemask_epi8(low) as u32) | ((_mm_movemask_epi8(high) as u32) << 16)", "(_mm_movemask_epi8(high) as u32) | ((_mm_movemask_epi8(low) as u32) << 16)", "library"),
     Mutant("half of a generator's word is drawn", "cargo/shims/rand_core/src/lib.rs", "rand_core::RngCore::next_u64(self)", "u64::from(rand_core::RngCore::next_u32(self))", "conversations"),
