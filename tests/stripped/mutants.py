@@ -21,7 +21,8 @@ WAITS = """#!/bin/sh
 echo wrong
 exec sleep 20
 """
-SECONDS = 10  # that a probe may take: an engine that isn't killed runs longer
+SECONDS = 60  # that a command of a probe may take, also where the machine is busy
+SECONDS_OF_KILLED = 10  # the same of the probe `killed`: an engine that isn't killed runs longer
 
 
 class Mutant(NamedTuple):
@@ -64,6 +65,10 @@ def trial(words, text=b"", program="gtp_engine"):
     return comparing.Trial("", program, words, text)
 
 
+class Late(Exception):
+    """A command of a probe didn't end in its time."""
+
+
 class Probes:
     """What one build does, beside the programs that are proved."""
 
@@ -96,8 +101,20 @@ class Probes:
     def seen(self, folder, probe):
         """What a probe sees in a build."""
         if probe in self.trials:
-            return [comparing.run(folder, trial, SECONDS) for trial in self.trials[probe]]
+            seconds = SECONDS_OF_KILLED if probe == "killed" else SECONDS
+            return [comparing.run(folder, trial, seconds) for trial in self.trials[probe]]
         return getattr(self, probe)(folder)
+
+    def seen_in_time(self, folder, probe, may_be_late=False):
+        """The same. A command that doesn't end says nothing about the build, but where it may be late."""
+        try:
+            seen = self.seen(folder, probe)
+        except subprocess.TimeoutExpired as late:
+            raise Late(f"{late.cmd[0]} was still running after {late.timeout} seconds") from late
+        unended = [ran.status for ran in seen if isinstance(ran.status, str)] if probe in self.trials else []
+        if unended and not may_be_late:
+            raise Late(f"{len(unended)} of {len(seen)} commands have no status: {unended[0]}")
+        return seen
 
     def full(self, folder):
         """How the engine ends, where its output is a full disk."""
@@ -163,13 +180,13 @@ class Probes:
         return done.returncode, done.stdout, done.stderr
 
     def notices(self, folder, probe):
-        """Does a probe see something in a build that it doesn't in the proved programs?"""
-        if probe not in self.wanted:
-            self.wanted[probe] = self.seen(self.proved, probe)
+        """Does a probe see something in a build that it doesn't in the proved programs? A text says why that isn't known."""
         try:
-            seen = self.seen(folder, probe)
-        except subprocess.TimeoutExpired:
-            return True
+            if probe not in self.wanted:
+                self.wanted[probe] = self.seen_in_time(self.proved, probe)
+            seen = self.seen_in_time(folder, probe, may_be_late=probe == "killed")
+        except Late as late:
+            return f"not known: {late}"
         if probe in self.trials:
             return any(map(comparing.differ_but_for_clap, self.wanted[probe], seen))
         return seen != self.wanted[probe]
@@ -218,7 +235,7 @@ def check_mutants(checks, proved, room):
     for probe in ("library", "build"):
         said = planted.build(probe)
         checks.check(f"what is built without a mistake, for the probe {probe}", "", said[-1500:])
-    seen = [probe for probe in sorted({it.probe for it in mutants} - {"build"}) if probes.notices(planted.programs, probe)]
-    checks.check("no probe notices a mistake where none is planted", [], seen)
+    noticed = {probe: probes.notices(planted.programs, probe) for probe in sorted({it.probe for it in mutants} - {"build"})}
+    checks.check("no probe notices a mistake where none is planted", dict.fromkeys(noticed, False), noticed)
     for mutant in mutants:
         checks.check(f"noticed by {mutant.probe}: {mutant.name}", True, planted.is_noticed(mutant, probes))
