@@ -75,6 +75,14 @@ def check_tests(checks):
         print(said[-4000:])
 
 
+def check_memory(checks):
+    """Does the allocator of the programs end a process as it should? The test that is ignored is that process: another test runs it."""
+    status, said = cargo("test", "-p", "kit_std", "--test", "memory", "--quiet")
+    passed = re.findall(r"^test result: ok\. ([0-9]+) passed; 0 failed; 1 ignored", said, re.M)
+    if not checks.check("2 tests of the programs' allocator", (0, ["2"]), (status, passed)):
+        print(said[-4000:])
+
+
 def check_clippy(checks):
     """Is clippy silent, at the versions that have to be?"""
     status, version = run(["cargo", "clippy", "--version"])
