@@ -43,8 +43,8 @@ def check_clones(checks, room):
 
 
 def cargo(*words, workspace=TOP / "cargo/workspace", **options):
-    """A call of cargo in the workspace, without a network."""
-    return run(["cargo", words[0], "--offline", *words[1:]], workspace, **options)
+    """A call of cargo in the workspace, without a network. What it makes is in the workspace, where the checks look for it."""
+    return run(["cargo", words[0], "--offline", "--target-dir", workspace / "target", *words[1:]], workspace, **options)
 
 
 def check_build(checks):

@@ -5,6 +5,8 @@ from pathlib import Path
 
 TOP = Path(__file__).resolve().parents[2]
 LIMIT = 900  # seconds that a command may take
+# What tells cargo to put what it makes somewhere else. The checks would then look at what was made before.
+PLACES = ("CARGO_TARGET_DIR", "CARGO_BUILD_TARGET_DIR", "CARGO_BUILD_TARGET")
 
 
 class Checks:
@@ -23,8 +25,9 @@ class Checks:
 
 
 def run(command, folder=TOP, **options):
-    """The status of a command, and all that it writes. Cargo reaches no network."""
-    environment = {**os.environ, "CARGO_NET_OFFLINE": "true", "CARGO_TERM_COLOR": "never", **options.pop("env", {})}
+    """The status of a command, and all that it writes. Cargo reaches no network, and PLACES aren't given to it."""
+    inherited = {name: value for name, value in os.environ.items() if name not in PLACES}
+    environment = {**inherited, "CARGO_NET_OFFLINE": "true", "CARGO_TERM_COLOR": "never", **options.pop("env", {})}
     done = subprocess.run(
         [str(word) for word in command], cwd=folder, env=environment, stdin=subprocess.DEVNULL, stdout=subprocess.PIPE,
         stderr=subprocess.STDOUT, timeout=LIMIT, **options,
