@@ -1,6 +1,5 @@
 """Contracts as text in the documentation of what Rust builds, which doesn't look at them."""
-import re
-
+from .refused import Refused
 from .scanner import Part
 
 HEADING = "# Contract"
@@ -34,15 +33,33 @@ def shown(clauses, indent):
     return [f"{indent}/// {line}".rstrip() for line in ["```text", *lines, "```"]]
 
 
+def is_of_a_name(parts, at):
+    """Does a name come next after this part? The `fn` of a type has none."""
+    following = (part.kind for part in parts[at + 1 :] if part.kind not in ("space", "note", "doc"))
+    return next(following, None) == "word"
+
+
+def clauses_by_item(parts):
+    """The clauses of each function, by where its item starts."""
+    clauses_of = {}
+    function, depth = None, 0
+    for at, part in enumerate(parts):
+        if part.kind == "word" and part.text == "fn" and is_of_a_name(parts, at):
+            function, depth = at, 0
+        elif part.kind == "mark":
+            depth += {"(": 1, "[": 1, ")": -1, "]": -1}.get(part.text, 0)
+            if part.text in "{}" or (part.text == ";" and depth <= 0):
+                function = None
+        elif part.kind == "clause":
+            if function is None or depth != 0:
+                raise Refused("clause of a closure", "it would be shown as one of the function around it", part.line)
+            clauses_of.setdefault(item_start(parts, function), []).append(part.text)
+    return clauses_of
+
+
 def documented(parts):
     """The parts without their clauses. These are shown as text under the comment of their function."""
-    clauses_of = {}
-    function = None
-    for at, part in enumerate(parts):
-        if part.kind == "word" and part.text == "fn" and re.match(r"\s", parts[at + 1].text):
-            function = at
-        elif part.kind == "clause" and function is not None:
-            clauses_of.setdefault(item_start(parts, function), []).append(part.text)
+    clauses_of = clauses_by_item(parts)
     made = []
     for at, part in enumerate(parts):
         if at in clauses_of:

@@ -1,6 +1,7 @@
 """The forms of the kit's library that Rust's has otherwise, in code whose ghosts are gone."""
 import re
 
+from .refused import Refused
 from .scanner import HIDDEN
 
 HANDED = r"\(\s*_?rt: HostRuntime,?\s*\)"
@@ -10,8 +11,10 @@ SAFETY = """\
 ///
 /// Each pointer is that of as many items as the length behind it says, or the length is 0.
 """
-EXPORT = re.compile(r"(?P<head>[^\n]*extern\s+\0\d+\0\s+fn\s+\w+)\((?P<inner>[^)]*)\)(?P<rest>[^{;]*)\{")
+EXPORT = re.compile(r"[^\n]*?\bextern\s+(?:\0\d+\0\s+)?fn\s+(?P<name>\w+)\s*")
 LENT = re.compile(r"\s*(\w+):\s*&(mut )?\[(\w+)\]\s*")
+# A slice, a text, a lifetime or a trait object: C has another form of each, or none.
+SLICE = re.compile(r"\[|\bstr\b|\bdyn\b|'|\0")
 
 
 class Code:
@@ -27,12 +30,20 @@ class Code:
         return re.sub("\0(\\d+)\0", lambda number: self.held[int(number.group(1))], self.text)
 
 
+def shown(code):
+    """A piece of code for a refusal, in a line and with dots for comments and literals."""
+    return " ".join(re.sub("\0\\d+\0", "..", code).split())
+
+
 def attributes(code):
     """Without the attributes and derives that Rust doesn't know."""
     code = re.sub(r"[ \t]*#!?\[(?:tactic|cycle)\((?:[^()]|\([^()]*\))*\)\]\n?", "", code)
 
     def derive(found):
-        names = [name for name in re.findall(r"\w+", found.group(2)) if name != "Drop"]
+        named = [name.strip() for name in found.group(2).split(",") if name.strip()]
+        if unknown := [name for name in named if not re.fullmatch(r"\w+", name)]:
+            raise Refused("derive", f"a derive has what is no name alone: {shown(unknown[0])}")
+        names = [name for name in named if name != "Drop"]
         return f"{found.group(1)}#[derive({', '.join(names)})]{found.group(3)}" if names else ""
 
     return re.sub(r"([ \t]*)#\[derive\(([^)]*)\)\](\n?)", derive, code)
@@ -73,9 +84,11 @@ def calls(code):
     return code.replace("ErrorKind::Uncategorized", "kit_std::io::uncategorized()")
 
 
-def parameter(text, lent):
+def parameter(text, function, lent):
     """A parameter of a C function. A slice becomes a pointer and a length, and `lent` gets the line that makes it."""
     found = LENT.fullmatch(text)
+    if not found and SLICE.search(text):
+        raise Refused("slice of C", f"it isn't known what C hands {function} as `{shown(text)}`")
     if not found:
         return text
     name, is_mutable, item = found.groups()
@@ -85,23 +98,49 @@ def parameter(text, lent):
     return f" {name}: {pointer} {item}, {name}_len: usize"
 
 
+def split_at_commas(code, at):
+    """The pieces between the commas of the group that begins here, and where it ends."""
+    pieces, depth, begin = [], 0, at + 1
+    for here in range(at, len(code)):
+        if code[here] == "," and depth == 1:
+            pieces.append(code[begin:here])
+            begin = here + 1
+        depth += {"(": 1, "[": 1, "{": 1, ")": -1, "]": -1, "}": -1}.get(code[here], 0)
+        if depth == 0:
+            return [*pieces, code[begin:here]], here + 1
+    raise Refused("open brace", "a parenthesis is not closed")
+
+
 def exported(code):
     """C functions whose slices are a pointer and a length, which the kit passes in just that way."""
-
-    def export(found):
+    made, done = "", 0
+    for found in EXPORT.finditer(code):
+        head, name = found.group(), found["name"]
+        if code[found.end() : found.end() + 1] != "(":
+            raise Refused("slice of C", f"{name} has parameters of types or lifetimes")
         lent = []
-        inner = ",".join(parameter(text, lent) for text in found["inner"].split(","))
-        if not lent:
-            return found.group()
-        head = found["head"].replace("extern", "unsafe extern", 1)
-        return f"{head}({inner}){found['rest']}{{{''.join(lent)}"
+        pieces, end = split_at_commas(code, found.end())
+        inner = ",".join([parameter(text, name, lent) for text in pieces])
+        rest = re.compile(r"[^{;]*").match(code, end)
+        if SLICE.search(rest.group()):
+            raise Refused("slice of C", f"it isn't known what {name} hands C: `{shown(rest.group())}`")
+        if lent and code[rest.end() : rest.end() + 1] == "{":
+            head = head if re.search(r"\bunsafe\s+extern\b", head) else head.replace("extern", "unsafe extern", 1)
+            made += code[done : found.start()] + f"{head}({inner}){rest.group()}{{{''.join(lent)}"
+            done = rest.end() + 1
+        elif lent:
+            raise Refused("slice of C", f"{name} has no body")
+    return made + code[done:]
 
-    return EXPORT.sub(export, code)
 
+def laid_out(code, held):
+    """The code as it is laid out where a ghost is gone. No brace comes to stand in a comment that ends with its line."""
 
-def laid_out(code):
-    """The code as it is laid out where a ghost is gone."""
-    code = re.sub(r"\s*\n\s*\{\n", " {\n", code)
+    def brace(found):
+        return f"{found['last']}\n{{\n" if held[int(found["number"])].startswith("//") else f"{found['last']} {{\n"
+
+    code = re.sub(r"(?P<last>\0(?P<number>\d+)\0)\s*\n\s*\{\n", brace, code)
+    code = re.sub(r"(?<!\0)(?<!\s)\s*\n\s*\{\n", " {\n", code)
     code = re.sub(r"(?<=[{])\n\s*\n", "\n", code)
     code = re.sub(r"[ \t]+\n", "\n", code)
     return re.sub(r"\n{3,}", "\n\n", code).lstrip("\n")
@@ -112,7 +151,7 @@ def rewrite(code, is_of_kit):
     text = exported(calls(runtime(imports(bounds(attributes(code.text))))))
     if is_of_kit:
         text = re.sub(r"(?<![:\w])std::", "kit_std::", text)
-    code.text = laid_out(text)
+    code.text = laid_out(text, code.held)
 
 
 def safety(code):

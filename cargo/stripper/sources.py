@@ -20,6 +20,9 @@ OWN_MAIN = "#![cfg_attr(all(unix, not(kit_portable)), no_main)]\n"
 
 def files_of(folder):
     """The sources of a crate by their paths below src/, each with whether it is of tests alone."""
+    for path in [folder.parent, folder, *sorted(folder.rglob("*"))]:
+        if path.is_symlink():
+            raise Refused("link", f"{path.name} is a link, and what it leads to may be elsewhere")
     found = {}
 
     def walk(path, below, is_test):
