@@ -3,25 +3,12 @@
 The kit's page FROM_RUST.md lists the forms that both take and that mean two things. What a form is of can't always be seen in
 the text. Then more is refused than differs, and the source has to say the same in another way.
 """
-import bisect
-import math
 import re
-from typing import NamedTuple
+from typing import Callable, NamedTuple
 
+from . import shapes
+from .places import Plain
 from .refused import Refused
-from .scanner import HIDDEN
-
-# Traits of ours that name a method as one of std's, where no type has both: rustc would say that the call is ambiguous.
-ALONE = ("Incoming", "Outgoing", "Process")
-# The methods of the traits of std that are always in scope, or that these sources import.
-METHODS_OF_STD = (
-    "read read_exact read_to_end write write_all flush fmt clone clone_from eq ne cmp partial_cmp lt le gt ge max min clamp default from into"
-    " try_from try_into as_ref as_mut borrow borrow_mut deref deref_mut drop hash to_string to_owned next size_hint map filter collect"
-    " into_iter index add sub mul div neg not source type_id call choose_iter len as_str"
-)
-# The traits that a type may have by a derive, or in the kit and not in Rust.
-DERIVED = "Clone|Copy|Debug|Default|Display|Eq|Hash|Ord|PartialEq|PartialOrd|Send|Sync"
-PATTERN = r"\w\s*\(\s*[^()=]*\["  # an array in a variant
 
 
 class Form(NamedTuple):
@@ -45,90 +32,64 @@ UNKNOWN = [
     Form("right to end the program", r"\bAbort\b", "a program must not end itself"),
 ]
 SILENT = [
-    Form("clones of a map", r"\.map\s*\(\s*\|[^|]*\|\s*[^,;{}]*\.clone\s*\(\s*\)\s*\)", "the items are clones in Rust, and results in the kit"),
-    Form(
-        "error of write!",
-        r"\bwrite(?:ln)?!\s*\((?:[^()]|\((?:[^()]|\([^()]*\))*\))*\)\s*(?!\s*\.is_(?:ok|err)\s*\(|\s*\})(?:\?|\.)",
-        "the error of write! to a String is of another type in the kit",
-    ),
+    Form("text of code", r"\bstringify\b", "a long text may be broken into lines in Rust"),
+    Form("error of write!", r"\bwrite_fmt\b|\bwrite(?:ln)?\s*!\s*[\[{]|\bwrite(?:ln)?\s+as\b", "it isn't seen what becomes of the error"),
+    Form("clones of a map", r"::\s*clone\b(?!\s*(?:\(|::))", "the items are clones in Rust, and results in the kit"),
     Form("anyhow", r"\banyhow\b", "an error of anyhow is printed in another way in the kit"),
-    Form("thread", r"\bthread\s*::\s*(?:\{[^}]*)?(?:spawn|scope|Builder|JoinHandle)\b|\bJoinHandle\b", "the kit never drops what a thread returns"),
-    Form("channel", r"\.try_(?:send|recv)\s*\(", "what is in a channel's other end counts in the kit"),
     Form(
-        "range with no end",
-        r"(?<!get\()(?<!get\(\*)(?<!get_mut\()(?<![.=\w])[\w)\]]+\s*\.\.\s*(?=[),;{])",
-        "it overflows in Rust, and ends in the kit",
+        "thread",
+        r"\bthread\s*::\s*(?!yield_now\b)|\b(?:JoinHandle|JoinInner|ScopedJoinHandle)\b",
+        "the kit never drops what a thread returns",
     ),
-    Form("type of Self in a type", r"<[^<>;{}]*&\s*(?:mut\s+)?Self\b[^<>;{}]*>", "another impl is picked where Self may have no size"),
+    Form("channel", r"\btry_(?:send|recv)\b", "what is in a channel's other end counts in the kit"),
+    Form("range with no end", r"\bRangeFrom\b", "it overflows in Rust, and ends in the kit"),
     Form("bound Index", r":\s*[^,;{}()]*\bIndex(?:Mut)?\s*<", "another impl is picked where an Output may have no size"),
-    Form("iterator of one", r"\biter\s*::\s*(?:\{[^}]*)?\b(?:once|empty)\b", "the kit has one type for three of Rust's"),
-    Form("impl on an iterator of one", r"\bfor\s+(?:[\w:]*::)?(?:Once|Empty|IntoIter)\b", "the kit has one type for three of Rust's"),
+    Form(
+        "iterator of one",
+        r"\biter\s*::\s*(?!zip\b)|\.\s*into_iter\b|\bIntoIterator\s*::|\bOption\s*(?:::\s*<[^()]*>\s*)?::\s*into_iter\b",
+        "the kit has one type for three of Rust's",
+    ),
+    Form("impl on an iterator of one", r"\bimpl\b[^{;]*\b(?:Once|Empty|IntoIter)\b|\boption\s*::\s*(?:\{[^;]*)?\bIntoIter\b", "the kit has one type for three of Rust's"),
     Form("error of try_from", r"\b(?:Infallible|TryFromIntError)\b", "try_from has an error of another type in the kit"),
-    Form(
-        "impl on all types",
-        rf"\bimpl\s*<[^>]*?\b(\w+)\s*:[^>,]*\b(?:{DERIVED})\b[^>]*>[^{{;]*\bfor\s+&?(?:mut\s+)?\1\b",
-        "a type may have the bound in the kit alone",
-    ),
-    Form("size of a value", r"\bsize_of_val\b|\bsize_of::<\s*(?:fn|F|impl)\b", "a closure that is a function pointer has another size"),
-    Form(
-        "array in a variant",
-        rf"\b(?:if|while)\s+let\s+[^=;{{}}]*{PATTERN}|\blet\s+[^=;{{}}]*{PATTERN}[^;{{}}]*=[^;{{}}]*\belse\b",
-        "elements may be dropped in another order where it doesn't match",
-    ),
-    Form("rest of an element", r"[,{]\s*\.\.\s*[\w.]+\[", "the kit doesn't read the element where all fields are written"),
+    Form("size of a value", r"\bsize_of_val\b|\balign_of_val\b|\bfor_value\b", "a closure that is a function pointer has another size"),
+    Form("import by another name", r"\bextern\s+crate\b", "it isn't seen what a name means"),
+    Form("raw name", r"\br#\s*[A-Za-z_]", "it is another name without its mark"),
 ]
-TRAIT = re.compile(r"\btrait\s+(\w+)[^{;]*\{")
-METHOD = re.compile(r"\bfn\s+(\w+)")
 
 
-def end_of_block(code, at):
-    """Where the block ends that begins before this place."""
-    depth = 1
-    while depth and at < len(code):
-        depth += {"{": 1, "}": -1}.get(code[at], 0)
-        at += 1
-    return at
+class Shape(NamedTuple):
+    """A form that no expression finds: its name, what finds its places, and why it is refused."""
+
+    name: str
+    places: Callable
+    why: str
 
 
-def refuse_methods_of_std(code, refuse):
-    """Refuses a trait that names a method as one of std's: some calls run another one than in Rust."""
-    for trait in TRAIT.finditer(code):
-        body = code[trait.end() : end_of_block(code, trait.end())]
-        named = [name for name in METHOD.findall(body) if name in METHODS_OF_STD.split()]
-        if named and trait.group(1) not in ALONE:
-            refuse(Form("method of std", "", f"the trait {trait.group(1)} has a method {named[0]}, as a trait of std has"), trait.start())
+SHAPES = [
+    Shape("range with no end", shapes.ranges_with_no_end, "it overflows in Rust, and ends in the kit"),
+    Shape("error of write!", shapes.errors_of_write, "the error of write! to a String is of another type in the kit"),
+    Shape("clones of a map", shapes.clones_of_a_map, "the items are clones in Rust, and results in the kit"),
+    Shape("impl on all types", shapes.impls_on_all_types, "a type may have the bound in the kit alone"),
+    Shape("type of Self in a type", shapes.types_of_self, "another impl is picked where Self may have no size"),
+    Shape("array in a variant", shapes.arrays_in_variants, "elements may be dropped in another order where it doesn't match"),
+    Shape("rest of an element", shapes.rests_of_elements, "the kit doesn't read the element where all fields are written"),
+    Shape("size of a value", shapes.sizes_of_parameters, "a closure that is a function pointer has another size"),
+    Shape("import by another name", shapes.renames, "it isn't seen what a name means"),
+]
+METHOD_OF_STD = "a trait has a method that a trait or a type of std has"
 
 
-class Plain:
-    """Code in which comments are blank and each text is a 0."""
-
-    def __init__(self, parts):
-        self.text = ""
-        self.starts = []  # where each part begins, and its line
-        for part in parts:
-            self.starts.append((len(self.text), part.line))
-            shown = part.text
-            if part.kind in HIDDEN:
-                shown = ("0" if part.kind == "text" else "") + "\n" * part.text.count("\n")
-            self.text += shown
-
-    def line(self, at):
-        """The line of the source of a place in the text."""
-        start, line = self.starts[bisect.bisect(self.starts, (at, math.inf)) - 1]
-        return line + self.text.count("\n", start, at)
-
-
-def refuse_what_differs(parts):
+def refuse_what_differs(parts, path):
     """Refuses a source, without its ghosts, that has a form which Rust takes with another meaning."""
     code = Plain(parts)
-
-    def refuse(form, at):
-        raise Refused(form.name, form.why, code.line(at))
-
     for form in SILENT:
         if found := re.search(form.known_by, code.text):
-            refuse(form, found.start())
-    refuse_methods_of_std(code.text, refuse)
+            raise Refused(form.name, form.why, code.line(found.start()))
+    for shape in SHAPES:
+        for at in shape.places(code.text):
+            raise Refused(shape.name, shape.why, code.line(at))
+    for at in shapes.methods_of_std(code.text, path):
+        raise Refused("method of std", METHOD_OF_STD, code.line(at))
 
 
 def refuse_what_is_unknown(code, is_test):

@@ -54,10 +54,10 @@ def with_prelude(text):
     return "".join(lines[:at]) + "\n" + PRELUDE + "".join(lines[at:])
 
 
-def stripped(text, is_test=False):
-    """The Rust that a source becomes. Refused where it has a form that the stripper doesn't take."""
+def stripped(text, is_test=False, path=""):
+    """The Rust that a source becomes. Refused where it has a form that the stripper doesn't take. The path is that below crates/."""
     parts = documented(parts_of(text))
-    refuse_what_differs(parts)
+    refuse_what_differs(parts, path)
     code = Code(parts)
     is_of_kit = bool(OF_KIT.search(code.text))
     rewrite(code, is_of_kit)

@@ -24,7 +24,7 @@ def crates_of(top):
         shims, test_shims = set(), set()
         for path, is_test in files_of(folder).items():
             try:
-                text = stripped((folder / path).read_text(), is_test)
+                text = stripped((folder / path).read_text(), is_test, f"{name}/src/{path}")
             except Refused as refused:
                 refused.where = f"crates/{name}/src/{path}"
                 raise

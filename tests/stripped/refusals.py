@@ -7,13 +7,16 @@ from pathlib import Path
 TOP = Path(__file__).resolve().parents[2]
 sys.path.insert(0, str(TOP / "cargo"))
 
+from stripped.differing import DIFFERING, WITH_OUR_TRAITS  # noqa: E402
 from stripper import forms  # noqa: E402
 from stripper.inlining import inlined  # noqa: E402
 from stripper.refused import Refused  # noqa: E402
 from stripper.sources import files_of, stripped  # noqa: E402
 
-# the name of the form, and a source that has it
+# the name of the form, and a source that has it; those that Rust takes with another meaning are in differing.py
 REFUSED = [
+    *DIFFERING,
+
     ("ghost", "fn f() {\n    let ghost_of = 1;\n    let requires = 2;\n}\n"),
     ("ghost", "fn f(«data»: u8) {}\n"),
     ("ghost", "fn f() -> u8\n    ensures result { }\n{\n    let forall = 1;\n    1\n}\n"),
@@ -29,48 +32,76 @@ REFUSED = [
     ("right to end the program", "fn f(rt: &impl Abort) {\n    panic!(rt; \"it ends\");\n}\n"),
     ("open brace", "fn f()\n    ensures { a {\n{\n}\n"),
     ("open ghost", "struct S { ghost kept: 1"),
-    # both Rust and the kit take these, and run different code
-    ("clones of a map", "fn f(v: &[Text]) -> usize {\n    v.iter().map(|s| s.clone()).count()\n}\n"),
-    ("clones of a map", "fn f(v: &[Text]) {\n    let shown = v.iter().map(|it| it.name.clone());\n}\n"),
-    ("error of write!", "fn f(s: &mut String) -> Result<(), Fault> {\n    write!(s, \"{}\", g(1))?;\n    Ok(())\n}\n"),
-    ("error of write!", "fn f(s: &mut String) -> Text {\n    writeln!(s, \"a\").unwrap_err().to_string()\n}\n"),
-    ("anyhow", "use anyhow::Error;\n"),
-    ("thread", "use std::thread;\n\nfn f() {\n    thread::spawn(|| {});\n}\n"),
-    ("thread", "fn f(it: std::thread::JoinHandle<u8>) {}\n"),
-    ("channel", "fn f(sender: &Sender<u8>) {\n    let sent = sender.try_send(1);\n}\n"),
-    ("channel", "fn f(receiver: &Receiver<u8>) {\n    let got = receiver.try_recv();\n}\n"),
-    ("range with no end", "fn f() -> usize {\n    (250u8..).take(9).count()\n}\n"),
-    ("range with no end", "fn f() {\n    for n in first().. {\n        g(n);\n    }\n}\n"),
-    ("range with no end", "fn f(v: &[u8]) {\n    for (a, b) in v.iter().zip(0u8..) {}\n}\n"),
-    ("type of Self in a type", "trait T {\n    fn f(w: W<&Self>) {\n        w.g();\n    }\n}\n"),
-    ("type of Self in a type", "trait T {\n    fn f(w: W<&mut Self>) {}\n}\n"),
-    ("bound Index", "fn f<T: Index<usize>>(w: W<T::Output>) {}\n"),
-    ("bound Index", "fn f<T>(w: W<T::Output>)\nwhere\n    T: Sized + IndexMut<usize>,\n{\n}\n"),
-    ("iterator of one", "fn f() {\n    std::iter::once(1).g();\n}\n"),
-    ("iterator of one", "use std::iter::{empty, zip};\n"),
-    ("impl on an iterator of one", "impl<T> G for Once<T> {}\n"),
-    ("impl on an iterator of one", "impl<T> G for std::option::IntoIter<T> {}\n"),
-    ("error of try_from", "impl From<Infallible> for Fault {}\n"),
-    ("error of try_from", "impl G for std::num::TryFromIntError {}\n"),
-    ("impl on all types", "impl<X: Clone> A for X {}\n"),
-    ("impl on all types", "impl<X: Sized + Debug> A for &X {}\n"),
-    ("size of a value", "fn f<F: Fn()>(f: F) -> usize {\n    size_of_val(&f)\n}\n"),
-    ("size of a value", "fn f() -> usize {\n    size_of::<fn(u8)>()\n}\n"),
-    ("array in a variant", "fn f(x: E, y: Option<u8>) {\n    if let (E::A([p, q]), Some(r)) = (x, y) {}\n}\n"),
-    ("array in a variant", "fn f(x: E) {\n    let E::A([p, q]) = x else {\n        return;\n    };\n}\n"),
-    ("rest of an element", "fn f(v: &[S], i: usize) -> S {\n    S { a: 1, ..v[i] }\n}\n"),
-    ("method of std", "trait Text {\n    fn to_string(&self) -> u8;\n}\n"),
-    ("method of std", "pub trait Source: Sized {\n    fn read(&mut self, to: &mut [u8]) -> usize;\n}\n"),
+    ("comment of a ghost", "struct S {\n    /// It is small.\n    ghost few: { n < 9 },\n    n: u8,\n}\n"),
+    ("comment of a ghost", "/** Held. */\nimpl Model for S {\n    a\n}\n"),
+    ("comment of a ghost", "/// It is small.\n#[cycle(a)]\n// why\nghost use a::b;\nfn f() {}\n"),
+    ("attribute of a ghost", "#[cfg(test)]\nghost use a::b;\nfn f() {}\n"),
+    ("attribute of a ghost", "struct S {\n    #[allow(dead_code)]\n    ghost few: { n < 9 },\n    n: u8,\n}\n"),
+    ("attribute of a ghost", "#[inline]\n#[tactic(auto)]\nimpl Model for S {\n    a\n}\n"),
+    ("clause of a closure", "fn f(n: u8) -> u8\n    requires { n < 9 }\n{\n    let g = |x: u8| requires { x < 9 } { x };\n    n\n}\n"),
+    ("clause of a closure", "const G: F = |x: u8| -> u8 ensures { result < 9 } { x };\n"),
+    ("clause of a closure", "fn f(g: impl Fn(u8) requires { a }) {}\n"),
+    ("open comment", "fn f() {}\n/* a /* b */\n"),
+    ("open text", "fn f() {\n    g(\"a);\n}\n"),
+    ("open text", "fn f() {\n    g(r#\"a\");\n}\n"),
+    ("open text", "fn f()\n    requires { a \" }\n{\n}\n"),
+    ("open brace", "fn f()\n    requires { a -- b }"),
+    ("open ghost", "ghost use a::b\n"),
+    ("model", "impl Model for S /* { */ {\n    fn f() {}\n}\n"),
+    ("derive", "#[derive(Clone, /* why */ Drop)]\nstruct S;\n"),
+    ("derive", "#[derive(std::clone::Clone, Drop)]\nstruct S;\n"),
+    ("slice of C", "pub extern \"C\" fn f(y: &'static [u8]) {}\n"),
+    ("slice of C", "pub extern \"C\" fn f(x: &[u8], mut y: &[u8]) {}\n"),
+    ("slice of C", "pub extern \"C\" fn f(z: &[a::B]) {}\n"),
+    ("slice of C", "pub extern \"C\" fn f(y: Option<&[u8]>) {}\n"),
+    ("slice of C", "pub extern \"C\" fn f(y: &str) {}\n"),
+    ("slice of C", "pub extern \"C\" fn f(y: &[[u8; 2]]) {}\n"),
+    ("slice of C", "pub extern \"C\" fn f(a: (u8, u8), y: &mut [(u8, u8)]) {}\n"),
+    ("slice of C", "pub extern \"C\" fn f<'a>(y: &'a [u8]) {}\n"),
+    ("slice of C", "pub extern \"C\" fn f(y: u8) -> &[u8] {}\n"),
+    ("slice of C", "pub extern fn f(y: /* why */ &[u8]) {}\n"),
 ]
 # sources that are taken, and the Rust that each becomes
 TAKEN = [
+    ("fn f(v: &[u8], it: &S) -> &[u8] {\n    b\"ab\"[it.n().min(2)..].g(&v.h()[it.used..], &v[1 + (2)..])\n}\n", None),
+    ("fn f(v: &[u8], at: &usize) {\n    v.get(*at..).is_some();\n    v.get_mut(1..);\n}\n", None),
+    ("fn f(x: E) {\n    match x {\n        S { a, .. } | T(..) | [a, ..] | U(a, ..) => {}\n    }\n}\n", None),
+    ("fn f(x: i32) {\n    match x {\n        ..0 => {}\n        0..=4 => {}\n        5.. => {}\n    }\n}\n", None),
+    ("fn f(v: &[u8]) {\n    for n in 0..v[..].len() {\n        g(&v[..n], &v[..=n], a..b, ..c);\n    }\n}\n", None),
+    ("fn f(w: &mut W) {\n    let a = write!(w, \"{}\", g(h(1))).map_err(fmt::Error::from);\n    let b = writeln!(w).is_err();\n}\n", None),
+    ("fn fmt(&self, f: &mut fmt::Formatter) -> fmt::Result {\n    g();\n    write!(f, \"{}\", 1)\n}\n", None),
+    ("fn fmt(&self, f: &mut fmt::Formatter) -> fmt::Result {\n    f.write_str(\"a\")\n}\n", None),
+    ("impl Write for S {\n    fn write_str(&mut self, text: &str) -> fmt::Result {\n        Ok(())\n    }\n}\n", None),
+    ("fn f(a: &T) -> T {\n    let n = a.iter().map(|it| it.n).count();\n    a.clone()\n}\n", None),
+    ("use std::fmt::Write as _;\nuse std::iter::zip;\nuse std::thread::yield_now;\nuse gtp_examiner::Board as Known;\n", None),
+    ("trait T {\n    fn f(&self, a: W<u8>, b: &Self) -> Result<Self, u8>;\n    fn g() -> Option<Self::Of>;\n}\n", None),
+    ("impl T for S {\n    fn f(w: W<&Self>) {}\n}\n", None),
+    ("fn f(x: &[u8], y: E) {\n    let S { a: [p, q] } = y;\n    if let [Some(a), ..] | [a] = x {}\n    while let Some(r) = x.g([1]) {}\n}\n", None),
+    ("fn f() -> S {\n    S { a: v[0], ..Default::default() }\n}\n", None),
+    ("fn f<T>() -> usize {\n    size_of::<Game>() + align_of::<Game>()\n}\n", None),
+    ("/* a /* b */ fn */ fn f() {}\n", None),
+    ("fn f() // why\n{\n    g();\n}\n", None),
+    ("impl Tr for S /* a Model for it */ {\n    fn f() {}\n}\n", None),
+    ("//! It is small.\n#![allow(a)]\n\nghost use a::b;\n\nfn f() {}\n", "//! It is small.\n#![allow(a)]\n\nfn f() {}\n"),
+    ("#[cycle(a)]\n#[derive(Drop)]\nghost use a::b;\nfn f() {}\n", "fn f() {}\n"),
+    ("struct S {\n    ghost few: \"{\",\n    n: u8,\n}\n", "struct S {\n    n: u8,\n}\n"),
+    (
+        "fn f(h: fn (u8) -> u8)\n    requires { a }\n{\n}\n",
+        "/// # Contract\n///\n/// ```text\n/// requires { a }\n/// ```\nfn f(h: fn (u8) -> u8) {\n}\n",
+    ),
+    (
+        "pub unsafe extern \"C\" fn f(a: (u8, u8), x: &[u8]) {\n}\n",
+        "pub unsafe extern \"C\" fn f(a: (u8, u8), x: *const u8, x_len: usize) {\n    let x = unsafe { kit_ffi::slice(x, x_len) };\n}\n",
+    ),
     ("fn f(text: &[u8], done: usize) -> &[u8] {\n    &text[done..]\n}\n", None),
     ("fn f(it: &S) -> bool {\n    matches!(it, S { a: 1, .. } | S { a: 2, .. })\n}\n", None),
     ("fn f(v: &[u8]) -> Option<&[u8]> {\n    v.get(1..)\n}\n", None),
     ("fn f(w: &mut W) -> bool {\n    write!(w, \"a\").is_ok()\n}\n", None),
     ("fn f(x: &[u8]) {\n    if let [a, b] = x {}\n}\n", None),
     ("/// requires and ensures: a ghost in a comment\nfn f() -> &'static str {\n    \"ghost ≤\"\n}\n", None),
-    ("impl<T: Source> ReadOnce for T {}\n", None),
+    ("impl<T: Read> ReadOnce for T {}\n", None),
+    ("impl<M: Maker> Seated for M {}\n", None),
+    ("impl<'r, R: Processes + Clock> Starter for SystemStarter<'r, R> {}\n", None),
     ("#[derive(Clone, Drop)]\nstruct S;\n\n#[derive(Drop)]\nstruct R;\n", "#[derive(Clone)]\nstruct S;\n\nstruct R;\n"),
     ("fn f<T: Drop, U: Ord + Drop>(it: T) {}\n", "fn f<T, U: Ord>(it: T) {}\n"),
     ("struct S {\n    n: u8,\n    // It is small.\n    ghost few: { n < 9 },\n}\n", "struct S {\n    n: u8,\n}\n"),
@@ -89,10 +120,10 @@ TAKEN = [
 ]
 
 
-def refused_as(source):
+def refused_as(source, path=""):
     """The name of the form as which a source is refused, or None."""
     try:
-        stripped(source)
+        stripped(source, path=path)
     except Refused as refused:
         return refused.name
     return None
@@ -102,8 +133,10 @@ def check_refusals(checks):
     """Is each form refused, and what is much like one taken?"""
     wrong = [(name, refused_as(source), source) for name, source in REFUSED if refused_as(source) != name]
     checks.check(f"{len(REFUSED)} sources are refused, each as what it is", [], wrong)
-    names = {form.name for form in [*forms.UNKNOWN, *forms.SILENT]}
+    names = {form.name for form in [*forms.UNKNOWN, *forms.SILENT, *forms.SHAPES]}
     checks.check("each form has a source", set(), names - {name for name, _ in REFUSED})
+    for path, source, wanted in WITH_OUR_TRAITS:
+        checks.check(f"a trait in {path or 'a file'}: {source.splitlines()[0]}", wanted, refused_as(source, path))
     for source, wanted in TAKEN:
         checks.check(f"taken: {source.splitlines()[0]}", wanted or source, stripped(source))
 
@@ -133,6 +166,15 @@ def check_files(checks, room):
     except Refused as refused:
         said = refused.why
     checks.check("a file of no module is refused", "no `mod` names lost.rt", said)
+    (folder / "lost.rt").unlink()
+    (folder / "tests/row.rt").unlink()
+    (folder / "tests/row.rt").symlink_to(folder / "code.rt")
+    try:
+        files_of(folder)
+        said = "nothing"
+    except Refused as refused:
+        said = refused.name
+    checks.check("a source that is a link is refused", "link", said)
 
 
 def check_message(checks, room):
