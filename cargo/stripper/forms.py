@@ -28,6 +28,7 @@ UNKNOWN = [
     Form("drop by value", r"\bfn\s+drop\s*\(\s*(?:mut\s+)?self\b", "drop takes `&mut self` in Rust"),
     Form("endless loop", r"\.forever\s*\(", "Rust has no such call"),
     Form("macro", r"\bmacro_rules!|\bderive\s*\(\s*\)", "a macro's code isn't looked at"),
+    Form("code from elsewhere", r"\binclude\s*!|#\s*!?\[\s*path\b", "a file that no `mod` names isn't looked at"),
     Form("attribute of the check", r"#!?\[\s*(?:tactic|cycle)\b", "an attribute of the check is left over"),
     Form("right to end the program", r"\bAbort\b", "a program must not end itself"),
 ]
@@ -44,12 +45,12 @@ SILENT = [
     Form("channel", r"\btry_(?:send|recv)\b", "what is in a channel's other end counts in the kit"),
     Form("range with no end", r"\bRangeFrom\b", "it overflows in Rust, and ends in the kit"),
     Form("bound Index", r":\s*[^,;{}()]*\bIndex(?:Mut)?\s*<", "another impl is picked where an Output may have no size"),
+    Form("iterator of one", r"\biter\s*::\s*(?!zip\b)|(?<!fn )\binto_iter\b", "the kit has one type for three of Rust's"),
     Form(
-        "iterator of one",
-        r"\biter\s*::\s*(?!zip\b)|\.\s*into_iter\b|\bIntoIterator\s*::|\bOption\s*(?:::\s*<[^()]*>\s*)?::\s*into_iter\b",
+        "impl on an iterator of one",
+        r"\bimpl\b[^{;]*\b(?:Once|Empty|IntoIter)\b|\boption\s*::\s*(?:\{[^;]*)?\bIntoIter\b",
         "the kit has one type for three of Rust's",
     ),
-    Form("impl on an iterator of one", r"\bimpl\b[^{;]*\b(?:Once|Empty|IntoIter)\b|\boption\s*::\s*(?:\{[^;]*)?\bIntoIter\b", "the kit has one type for three of Rust's"),
     Form("error of try_from", r"\b(?:Infallible|TryFromIntError)\b", "try_from has an error of another type in the kit"),
     Form("size of a value", r"\bsize_of_val\b|\balign_of_val\b|\bfor_value\b", "a closure that is a function pointer has another size"),
     Form("import by another name", r"\bextern\s+crate\b", "it isn't seen what a name means"),

@@ -113,6 +113,8 @@ def split_at_commas(code, at):
 
 def exported(code):
     """C functions whose slices are a pointer and a length, which the kit passes in just that way."""
+    if len(re.findall(r"\bextern\b", code)) != len(EXPORT.findall(code)):
+        raise Refused("slice of C", "an `extern` isn't that of a function with a name")
     made, done = "", 0
     for found in EXPORT.finditer(code):
         head, name = found.group(), found["name"]

@@ -21,27 +21,34 @@ FMT = re.compile(r"\bfn\s+fmt\s*\([^{};]*->\s*(?:std::)?fmt::Result\s*$")
 # What a blanket impl may ask of a type: traits whose impls are the same in both.
 BLANKET = {"Read", "Write", "Maker", "?Sized"}
 # The traits that a type may have by a derive, or in the kit and not in Rust.
-DERIVED = r"\b(?:Clone|Copy|Debug|Default|Display|Eq|Hash|Ord|PartialEq|PartialOrd|Send|Sync|From|Into|TryFrom|TryInto|ToString|Error)\b"
+DERIVED = (
+    r"\b(?:Clone|Copy|Debug|Default|Display|Eq|Hash|Ord|PartialEq|PartialOrd|Send|Sync|From|Into|TryFrom|TryInto|ToString|Error)\b"
+)
 RESULT = re.compile(r"\b(?:Option|Result)\s*(?:::\s*)?$")
 IMPL = re.compile(r"\bimpl\s*(?=<)")
 TRAIT = r"\btrait\s+(\w+)[^{;]*\{"
 SIZE = re.compile(r"\b(?:size_of|align_of|needs_drop|Layout\s*::\s*(?:new|array))\s*::\s*(?=<)")
 
 # Traits of ours that name a method as one of std's, where no type has both: rustc would say that the call is ambiguous.
-ALONE = {("byte_streams/src/streams.rt", "Incoming"), ("byte_streams/src/streams.rt", "Outgoing"), ("gtp_process/src/starter.rt", "Process")}
+ALONE = {
+    ("byte_streams/src/streams.rt", "Incoming"),
+    ("byte_streams/src/streams.rt", "Outgoing"),
+    ("gtp_process/src/starter.rt", "Process"),
+}
 METHODS_OF_STD = set(
     (
-        "read read_exact read_to_end read_to_string read_line write write_all write_str write_char write_fmt flush seek by_ref bytes chain take"
-        " fmt clone clone_from clone_into cloned copied eq ne cmp partial_cmp lt le gt ge max min clamp default from into try_from try_into"
-        " as_ref as_mut borrow borrow_mut deref deref_mut drop hash finish to_string to_owned as_str as_bytes as_slice as_mut_slice"
-        " as_ptr as_deref next next_back size_hint map filter filter_map flat_map flatten fold collect sum product count last first nth"
-        " zip enumerate rev skip step_by peekable scan all any find position rposition cycle inspect partition reduce unzip"
-        " into_iter iter iter_mut from_iter extend index index_mut add sub mul div rem neg not shl shr bitand bitor bitxor add_assign sub_assign"
-        " mul_assign div_assign source description cause provide type_id call call_mut call_once len is_empty get get_mut push pop insert"
-        " remove append truncate resize clear contains contains_key starts_with ends_with split split_at swap sort sort_by reverse join concat"
-        " repeat trim parse chars lines is_some is_none is_ok is_err ok err unwrap expect unwrap_or unwrap_or_default map_err and_then or_else"
-        " replace lock send recv try_send try_recv wait kill spawn id close abs pow wrapping_add checked_add saturating_add"
-        " choose_iter from_str to_vec to_bits is_positive start_bound end_bound chunks windows copy_from_slice fill capacity reserve drain retain"
+        "read read_exact read_to_end read_to_string read_line write write_all write_str write_char write_fmt flush seek by_ref bytes"
+        " chain take fmt clone clone_from clone_into cloned copied eq ne cmp partial_cmp lt le gt ge max min clamp default from into"
+        " try_from try_into as_ref as_mut borrow borrow_mut deref deref_mut drop hash finish to_string to_owned as_str as_bytes"
+        " as_slice as_mut_slice as_ptr as_deref next next_back size_hint map filter filter_map flat_map flatten fold collect sum"
+        " product count last first nth zip enumerate rev skip step_by peekable scan all any find position rposition cycle inspect"
+        " partition reduce unzip into_iter iter iter_mut from_iter extend index index_mut add sub mul div rem neg not shl shr bitand"
+        " bitor bitxor add_assign sub_assign mul_assign div_assign source description cause provide type_id call call_mut call_once len"
+        " is_empty get get_mut push pop insert remove append truncate resize clear contains contains_key starts_with ends_with split"
+        " split_at swap sort sort_by reverse join concat repeat trim parse chars lines is_some is_none is_ok is_err ok err unwrap"
+        " expect unwrap_or unwrap_or_default map_err and_then or_else replace lock send recv try_send try_recv wait kill spawn id close"
+        " abs pow wrapping_add checked_add saturating_add choose_iter from_str to_vec to_bits is_positive start_bound end_bound chunks"
+        " windows copy_from_slice fill capacity reserve drain retain"
     ).split()
 )
 
@@ -91,7 +98,7 @@ def impls_on_all_types(code):
         end = end_of_angles(code, found.end())
         header, _, where = re.sub(r"\bwhere\b", "\n", " ".join(code[end : until(code, end, "{;")].split())).partition("\n")
         trait, _, target = re.sub(r"\bfor\b(?!\s*<)", "\n", header).rpartition("\n")
-        target = re.sub(r"^(?:&\s*(?:'\w+\s*)?(?:mut\s+)?|\s)*", "", target).strip()
+        target = re.sub(r"^(?:&\s*(?:'\w+\s*)?(?:mut\s+)?|\s)*", "", target).strip("() ")
         for piece in split(where):
             name, _, bounds = piece.partition(":")
             bounds_of[name.strip()] = bounds_of.get(name.strip(), "") + "+" + bounds

@@ -60,6 +60,11 @@ REFUSED = [
     ("slice of C", "pub extern \"C\" fn f<'a>(y: &'a [u8]) {}\n"),
     ("slice of C", "pub extern \"C\" fn f(y: u8) -> &[u8] {}\n"),
     ("slice of C", "pub extern fn f(y: /* why */ &[u8]) {}\n"),
+    ("slice of C", "pub extern \"C\" fn /* why */ f(y: &[u8]) {}\n"),
+    ("slice of C", "unsafe extern \"C\" {\n    fn f(y: &[u8]);\n}\n"),
+    ("slice of C", "struct S {\n    call: extern \"C\" fn(&[u8]),\n}\n"),
+    ("code from elsewhere", "include!(\"x.rs\");\n"),
+    ("code from elsewhere", "#[path = \"x.rt\"]\nmod a;\n"),
 ]
 # sources that are taken, and the Rust that each becomes
 TAKEN = [
