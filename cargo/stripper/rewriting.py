@@ -139,7 +139,7 @@ def laid_out(code, held):
     """The code as it is laid out where a ghost is gone. No brace comes to stand in a comment that ends with its line."""
 
     def brace(found):
-        return f"{found['last']}\n{{\n" if held[int(found["number"])].startswith("//") else f"{found['last']} {{\n"
+        return found.group() if held[int(found["number"])].startswith("//") else f"{found['last']} {{\n"
 
     code = re.sub(r"(?P<last>\0(?P<number>\d+)\0)\s*\n\s*\{\n", brace, code)
     code = re.sub(r"(?<!\0)(?<!\s)\s*\n\s*\{\n", " {\n", code)

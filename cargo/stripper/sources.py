@@ -61,6 +61,6 @@ def stripped(text, is_test=False, path=""):
     code = Code(parts)
     is_of_kit = bool(OF_KIT.search(code.text))
     rewrite(code, is_of_kit)
-    refuse_what_is_unknown(re.sub("\0\\d+\0", "", code.text), is_test)
+    refuse_what_is_unknown(re.sub("\0\\d+\0", " ", code.text), is_test)
     safety(code)
     return with_prelude(code.whole()) if is_of_kit else code.whole()
