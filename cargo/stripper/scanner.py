@@ -70,7 +70,9 @@ def end_of_braces(text, at):
         if char == '"':
             at = end_of_text(text, at)
             continue
-        if text.startswith("--", at) and text[at - 1] in " \n":
+        if text.startswith("/-", at) or (text.startswith("--", at) and text[at - 1] not in " \n"):
+            raise Refused("comment of a term", "it isn't known where it ends")
+        if text.startswith("--", at):
             at = found_or_refused(text.find("\n", at), "open brace", "a brace is not closed")
         if char in "{}":
             depth += 1 if char == "{" else -1

@@ -51,6 +51,8 @@ REFUSED = [
     ("open text", "fn f()\n    requires { a \" }\n{\n}\n"),
     ("open brace", "fn f()\n    requires { a -- b }"),
     ("open ghost", "ghost use a::b\n"),
+    ("comment of a term", "fn f()\n    requires { a /- } -/ b }\n{\n}\n"),
+    ("comment of a term", "fn f()\n    requires { a-- }\n    }\n{\n}\n"),
     ("model", "impl Model for S /* { */ {\n    fn f() {}\n}\n"),
     ("derive", "#[derive(Clone, /* why */ Drop)]\nstruct S;\n"),
     ("derive", "#[derive(std::clone::Clone, Drop)]\nstruct S;\n"),
@@ -85,7 +87,11 @@ TAKEN = [
     ("use std::fmt::Write as _;\nuse std::iter::zip;\nuse std::thread::yield_now;\nuse gtp_examiner::Board as Known;\n", None),
     ("trait T {\n    fn f(&self, a: W<u8>, b: &Self) -> Result<Self, u8>;\n    fn g() -> Option<Self::Of>;\n}\n", None),
     ("impl T for S {\n    fn f(w: W<&Self>) {}\n}\n", None),
-    ("fn f(x: &[u8], y: E) {\n    let S { a: [p, q] } = y;\n    if let [Some(a), ..] | [a] = x {}\n    while let Some(r) = x.g([1]) {}\n}\n", None),
+    (
+        "fn f(x: &[u8], y: E) {\n    let S { a: [p, q] } = y;\n    if let [Some(a), ..] | [a] = x {}\n"
+        "    while let Some(r) = x.g([1]) {}\n}\n",
+        None,
+    ),
     ("fn f() -> S {\n    S { a: v[0], ..Default::default() }\n}\n", None),
     ("fn f<T>() -> usize {\n    size_of::<Game>() + align_of::<Game>()\n}\n", None),
     ("/* a /* b */ fn */ fn f() {}\n", None),
@@ -119,13 +125,16 @@ TAKEN = [
     ("struct S {\n    n: u8,\n    // It is small.\n    ghost few: { n < 9 },\n}\n", "struct S {\n    n: u8,\n}\n"),
     ("use a::b;\nghost use c::{d};\n\nfn f() {}\n", "use a::b;\n\nfn f() {}\n"),
     (
-        "/// Adds.\n#[inline]\npub fn f(n: u8) -> u8\n    requires { n < 9 }\n    // It is more.\n    ensures more { result ≡ n + 1 }\n{\n    n + 1\n}\n",
-        "/// Adds.\n///\n/// # Contract\n///\n/// ```text\n/// requires { n < 9 }\n/// // It is more.\n/// ensures more { result ≡ n + 1 }\n"
+        "/// Adds.\n#[inline]\npub fn f(n: u8) -> u8\n    requires { n < 9 }\n"
+        "    // It is more.\n    ensures more { result ≡ n + 1 }\n{\n    n + 1\n}\n",
+        "/// Adds.\n///\n/// # Contract\n///\n/// ```text\n/// requires { n < 9 }\n"
+        "/// // It is more.\n/// ensures more { result ≡ n + 1 }\n"
         "/// ```\n#[inline]\npub fn f(n: u8) -> u8 {\n    n + 1\n}\n",
     ),
     (
         "#[unsafe(no_mangle)]\npub extern \"C\" fn f(at: &mut S, to: &mut [u8], from: &[u8]) -> usize {\n    0\n}\n",
-        "///\n/// # Safety\n///\n/// Each pointer is that of as many items as the length behind it says, or the length is 0.\n#[unsafe(no_mangle)]\n"
+        "///\n/// # Safety\n///\n/// Each pointer is that of as many items as the length behind it says, or the length is 0.\n"
+        "#[unsafe(no_mangle)]\n"
         "pub unsafe extern \"C\" fn f(at: &mut S, to: *mut u8, to_len: usize, from: *const u8, from_len: usize) -> usize {\n"
         "    let to = unsafe { kit_ffi::slice_mut(to, to_len) };\n    let from = unsafe { kit_ffi::slice(from, from_len) };\n    0\n}\n",
     ),
