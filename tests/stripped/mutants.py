@@ -51,7 +51,7 @@ IN_SHIMS = [
     Mutant("the greatest value of an option is refused", "cargo/shims/clap/src/lib.rs", "range(least..=most)", "range(least..most)", "limits"),
     Mutant("the halves of a row change places", "cargo/shims/kit_simd/src/lib.rs", "(_mm_movemask_epi8(low) as u32) | ((_mm_movemask_epi8(high) as u32) << 16)", "(_mm_movemask_epi8(high) as u32) | ((_mm_movemask_epi8(low) as u32) << 16)", "library"),
     Mutant("half of a generator's word is drawn", "cargo/shims/rand_core/src/lib.rs", "rand_core::RngCore::next_u64(self)", "u64::from(rand_core::RngCore::next_u32(self))", "conversations"),
-    Mutant("a buffer of C has an item less", "cargo/shims/kit_ffi/src/lib.rs", "core::slice::from_raw_parts(at, count)", "core::slice::from_raw_parts(at, count - 1)", "library"),
+    Mutant("a buffer of C begins an item later", "cargo/shims/kit_ffi/src/lib.rs", "core::slice::from_raw_parts(at, count)", "core::slice::from_raw_parts(at.wrapping_add(1), count)", "library"),
 ]  # fmt: skip
 IN_STRIPPER = [
     Mutant("a length stands before its pointer", "cargo/stripper/rewriting.py", '" {name}: {pointer} {item}, {name}_len: usize"', '" {name}_len: usize, {name}: {pointer} {item}"', "library"),
@@ -157,17 +157,21 @@ class Probes:
         return done.returncode, done.stdout, done.stderr
 
     def refused(self, folder):
-        """How the engine ends, where its first request for memory is refused."""
+        """How the engine ends, where a request for memory is refused: some that it returns, and some that it doesn't."""
         refusing = self.room / "refusing.so"
         if not refusing.exists():
             run(["cc", "-shared", "-fPIC", "-o", refusing, TOP / "tests/refusing.c", "-ldl"])
-        return self.ended(folder, input=b"name\n", capture_output=True, env={**os.environ, "LD_PRELOAD": str(refusing), "REFUSED": "1"})
+        loaded = {**os.environ, "LD_PRELOAD": str(refusing)}
+        return [self.ended(folder, input=b"name\n", capture_output=True, env={**loaded, "REFUSED": number}) for number in ("1", "5", "8")]
 
     def library(self, folder):
-        """What the examples in C write: the referee of a match between two engines, and the engine that asks for all legal points."""
+        """What the example of an engine in C writes, which asks for all legal points."""
+        return self.example(folder, "random_engine", ["7"], "boardsize 19\n" + "genmove b\ngenmove w\n" * 40 + "showboard\n")
+
+    def referee(self, folder):
+        """What the example of a referee in C writes of a match."""
         engine = str(self.proved / "gtp_engine")
-        talk = "boardsize 19\n" + "genmove b\ngenmove w\n" * 40 + "showboard\n"
-        return [self.example(folder, "referee", ["5", "1", engine, engine], ""), self.example(folder, "random_engine", ["7"], talk)]
+        return self.example(folder, "referee", ["5", "1", engine, engine], "")
 
     def example(self, folder, name, words, text):
         """What an example writes that is linked with a build's library."""
@@ -200,25 +204,31 @@ class Planted:
         self.workspace = self.clone / "cargo/workspace"
         self.programs = self.workspace / "target/planted"
 
-    def build(self, probe):
-        """Builds what a probe runs. Returns what cargo says where it can't be built."""
+    def strip(self):
+        """Writes the workspace. Returns what is said where that fails."""
         status, said = run([self.clone / "cargo/strip"])
         if status == 0:
             manifest = self.workspace / "Cargo.toml"
             manifest.write_text(manifest.read_text() + PROFILE)
-            packages = ["vintsaky_c"] if probe == "library" else ["twogtp", "gtp_engine"]
-            status, said = cargo("build", "--profile", "planted", "--quiet", *(it for name in packages for it in ("-p", name)), workspace=self.workspace)
+        return said if status else ""
+
+    def build(self, probe):
+        """Builds what a probe runs. Returns what cargo says where it can't be built."""
+        packages = ["vintsaky_c"] if probe in ("library", "referee") else ["twogtp", "gtp_engine"]
+        words = [word for name in packages for word in ("-p", name)]
+        status, said = cargo("build", "--profile", "planted", "--quiet", *words, workspace=self.workspace)
         return said if status else ""
 
     def is_noticed(self, mutant, probes):
         """Is the mistake noticed by its probe, or, where that is `build`, can't it be built?"""
-        path = self.clone / mutant.file
+        is_shim = mutant.file.startswith("cargo/shims/")
+        path = self.workspace / mutant.file[len("cargo/") :] if is_shim else self.clone / mutant.file
         right = path.read_text()
-        if right.count(mutant.old) < 1:
+        if mutant.old not in right:
             return f"the text isn't there: {mutant.old}"
         path.write_text(right.replace(mutant.old, mutant.new))
         try:
-            said = self.build(mutant.probe)
+            said = ("" if is_shim else self.strip()) or self.build(mutant.probe)
             if mutant.probe == "build":
                 return bool(said)
             return said[-1500:] or probes.notices(self.programs, mutant.probe)
@@ -232,8 +242,9 @@ def check_mutants(checks, proved, room):
     folder.mkdir()
     probes, planted = Probes(proved, folder), Planted(room)
     mutants = [*IN_SHIMS, *IN_STRIPPER]
+    said = planted.strip()
     for probe in ("library", "build"):
-        said = planted.build(probe)
+        said = said or planted.build(probe)
         checks.check(f"what is built without a mistake, for the probe {probe}", "", said[-1500:])
     noticed = {probe: probes.notices(planted.programs, probe) for probe in sorted({it.probe for it in mutants} - {"build"})}
     checks.check("no probe notices a mistake where none is planted", dict.fromkeys(noticed, False), noticed)
