@@ -38,6 +38,10 @@ def check_clones(checks, room):
         status, said = run([clone / "cargo/strip"], room)
         checks.check(f"{name}: the workspace is written", 0, status)
         made.append(files_below(clone / "cargo/workspace", "Cargo.lock", "target") if status == 0 else said)
+    before = files_below(clone)
+    status, said = run([clone / "cargo/strip", clone], room)
+    wanted = f"strip: {clone} has files of others: name a folder that is empty, or that cargo/strip made\n"
+    checks.check("a folder with files of others is left alone", (1, wanted, True), (status, said, files_below(clone) == before))
     different = [name for name in made[0] if made[0][name] != made[1].get(name)] if isinstance(made[0], dict) else made
     checks.check("two clones make the same workspace", ([], True), (different, len(made[0]) > 300))
 
