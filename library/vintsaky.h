@@ -41,7 +41,7 @@ static void (*const vintsaky_interface)(void) = vintsaky_interface_1;
 
 /* ---- numbers ---- */
 
-/* The memory of an object, for who wants it before he runs: what its _bytes and _align return. */
+/* The memory of an object as constants: what its _bytes and _align return, or more where cargo built the library. */
 #define VINTSAKY_GAME_BYTES ((size_t)19616)
 #define VINTSAKY_ENGINE_BYTES ((size_t)25448)
 #define VINTSAKY_MATCH_BYTES ((size_t)46568)
