@@ -1,6 +1,6 @@
 """An engine in steps by the reference: the calls of `Steps` (crates/gtp_session/CALLING.md) in Python, and drawn lists of calls.
 
-A call and what it returns are a line each, as `crates/steps_calls` has them.
+A call and what it returns are a line each, as `crates/tests_steps_engine` has them.
 """
 from . import conversations, engine, values
 from . import game as rules

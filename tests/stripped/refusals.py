@@ -84,7 +84,7 @@ TAKEN = [
     ("fn fmt(&self, f: &mut fmt::Formatter) -> fmt::Result {\n    f.write_str(\"a\")\n}\n", None),
     ("impl Write for S {\n    fn write_str(&mut self, text: &str) -> fmt::Result {\n        Ok(())\n    }\n}\n", None),
     ("fn f(a: &T) -> T {\n    let n = a.iter().map(|it| it.n).count();\n    a.clone()\n}\n", None),
-    ("use std::fmt::Write as _;\nuse std::iter::zip;\nuse std::thread::yield_now;\nuse gtp_examiner::Board as Known;\n", None),
+    ("use std::fmt::Write as _;\nuse std::iter::zip;\nuse std::thread::yield_now;\nuse gtp_check_judge::Board as Known;\n", None),
     ("trait T {\n    fn f(&self, a: W<u8>, b: &Self) -> Result<Self, u8>;\n    fn g() -> Option<Self::Of>;\n}\n", None),
     ("impl T for S {\n    fn f(w: W<&Self>) {}\n}\n", None),
     (

@@ -1,12 +1,12 @@
 //! Checks one engine that speaks the Go Text Protocol, version 2.
 #![tactic(auto)]
 
-use gtp_checker::failure::{Mistake, NAME};
-use gtp_checker::run::run;
+use cli::failure::{Failure, PlanError};
+use cli::standard::hold_closed;
+use cli::words::arguments;
+use gtp_check_app::failure::{Mistake, NAME};
+use gtp_check_app::run::run;
 use gtp_process::SystemStarter;
-use programs::failure::{Failure, PlanError};
-use programs::standard::hold_closed;
-use programs::words::arguments;
 use std::io::IsTerminal;
 use std::process::ExitCode;
 

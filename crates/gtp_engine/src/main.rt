@@ -1,12 +1,12 @@
 //! An engine that speaks the Go Text Protocol, version 2, on its standard input and output.
 #![tactic(auto)]
 
+use cli::standard::hold_closed;
+use cli::words::arguments;
+use gtp_engine_app::failure::{Failure, report};
+use gtp_engine_app::run::run;
 use gtp_session::streams::Counted;
-use programs::standard::hold_closed;
-use programs::words::arguments;
 use std::process::ExitCode;
-use stepgo::failure::{Failure, report};
-use stepgo::run::run;
 
 /// Holds the standard streams that are closed, runs the engine, and ends with its status.
 fn main(rt: HostRuntime) -> ExitCode {

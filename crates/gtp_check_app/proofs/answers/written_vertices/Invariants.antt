@@ -1,0 +1,11 @@
+use Rattle.std.proofs.Common.{◌≡◌, ◌*◌, ◌≤◌, length, take}
+use Rattle.gtp_session.specs.Commands.{written_vertices}
+use Rattle.gtp_check_app.proofs.answers.written_vertices.Given as goal
+
+-- the first points are written, by five bytes each at most
+abbrev pub invariant-loop-point : goal.invariant-loop-point
+invariant-loop-point l = record {
+  few : length l.points ≤ 9;
+  short : length l.text.items ≤ 5 * l.point-index;
+  written : l.text.items ≡ written_vertices (take l.point-index l.points);
+}

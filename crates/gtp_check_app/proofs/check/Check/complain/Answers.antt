@@ -1,0 +1,102 @@
+use Rattle.std.proofs.Common.{◌∙◌, refl, inl, inr, [], ◌∷◌}
+use Rattle.std.proofs.lemmas.Result.{err_from_is_err_and}
+use Rattle.byte_streams.specs.Writing.{line_out, no_line}
+use Rattle.gtp_check_app.specs.Complaints.{complaint_lines}
+use Rattle.gtp_check_app.specs.Dialogues.{wrong_of}
+use Rattle.gtp_check_app.specs.Shortening.{shortenings}
+use Rattle.gtp_check_app.specs.Progress.{cleared, looking_line}
+use Rattle.gtp_check_app.specs.private.Steps.{complaint_broke, complaint_refused}
+use Rattle.gtp_check_app.proofs.Progressing.{both_shown}
+use Rattle.gtp_check_app.proofs.Settling.{complained, is_hidden}
+use Rattle.gtp_check_app.proofs.Gathering.{where_err, where_ok}
+use Rattle.gtp_check_app.proofs.Shortening.{shortens_asks}
+use Rattle.gtp_check_app.proofs.check.Check.complain.Goals as goal
+
+pub returns-then-not-find-clause-goes_out : goal.returns-then-not-find-clause-goes_out
+returns-then-not-find-clause-goes_out g c =
+    is_hidden g.S.Process.Process c.args.plan.now _ _ (g.S.Starter.asked c.args.starter.now) c.args.fault
+    (wrong_of c.in-Some.found) c.purpose-lesson.result c.find.new.self c.in-Some.ensures.closes c.purpose-lesson.ensures
+    c.find.ensures.found g.O.WriteOnce g.E.WriteOnce c.args.progress c.find.result c.find.ensures.shown
+    c.if-not-find.true c.args.output.now c.args.errors.now
+
+pub returns-in_err-shorter-clause-stops : goal.returns-in_err-shorter-clause-stops
+returns-in_err-shorter-clause-stops g c =
+    let exit = c.from_residual in
+    let failed = err_from_is_err_and exit.result exit.ensures.1 in
+    let refused = c.in_err-shorter.ensures.refused in
+    rw (failed.1, failed.2, refused.0)
+    (complaint_refused c.in-Some.ensures.closes refused.1 refl c.show_looking.ensures
+    (c.shorter.ensures.engine ∙ c.close.ensures.gone))
+
+pub returns-in-Some-2-clause-goes_out : goal.returns-in-Some-2-clause-goes_out
+returns-in-Some-2-clause-goes_out g c =
+    rw c.write.ensures.same
+    (where_ok c.write.result c.write.ensures.goes_out (λ out. record {
+      said = complaint_lines out.0 ∷ [];
+      complains = complained g.S.Process.Process c.args.plan.now _ _ (g.S.Starter.asked c.args.starter.now) c.args.fault
+          (wrong_of c.in-Some.found) c.purpose-lesson.result c.find.new.self c.in-Some.ensures.closes
+          c.purpose-lesson.ensures c.find.ensures.found c.find.result c.find.ensures.shown c.if-not-find.false
+          (rw c.in-Some-2.is at c.in_ok-shorter.ensures.shortens) out.0 out.1;
+      goes_out = line_out out.2 no_line;
+      shown = both_shown g.E.WriteOnce c.args.progress (looking_line ∷ []) (cleared ∷ []) _ _ _
+          c.show_looking.ensures out.3;
+    }))
+
+pub returns-in-Some-2-clause-stops : goal.returns-in-Some-2-clause-stops
+returns-in-Some-2-clause-stops g c =
+    let gone = c.shorter.ensures.engine ∙ c.close.ensures.gone in
+    let shortens = rw c.in-Some-2.is at c.in_ok-shorter.ensures.shortens in
+    rw c.write.ensures.same
+    (where_err c.write.result c.write.ensures.refused c.write.ensures.broke (λ why refused broke. elim refused [
+      | inl is ↦ rw is
+          (complaint_broke
+          (complained g.S.Process.Process c.args.plan.now _ _ (g.S.Starter.asked c.args.starter.now) c.args.fault
+          (wrong_of c.in-Some.found) c.purpose-lesson.result c.find.new.self c.in-Some.ensures.closes
+          c.purpose-lesson.ensures c.find.ensures.found c.find.result c.find.ensures.shown c.if-not-find.false
+          shortens (broke is).0 (broke is).1)
+          (broke is).2
+          (both_shown g.E.WriteOnce c.args.progress (looking_line ∷ []) (cleared ∷ []) _ _ _ c.show_looking.ensures
+          (broke is).3)
+          gone)
+      | inr kept ↦ rw (kept.0, kept.1, kept.2)
+          (complaint_refused c.in-Some.ensures.closes
+          (shortens_asks g.S.Process.Process c.args.plan.now (wrong_of c.in-Some.found) shortenings shortens) refl
+          c.show_looking.ensures gone)
+    ]))
+
+pub returns-clause-goes_out : goal.returns-clause-goes_out
+returns-clause-goes_out g c =
+    rw c.write-in-None.ensures.same
+    (where_ok c.write-in-None.result c.write-in-None.ensures.goes_out (λ out. record {
+      said = complaint_lines out.0 ∷ [];
+      complains = complained g.S.Process.Process c.args.plan.now _ _ (g.S.Starter.asked c.args.starter.now) c.args.fault
+          (wrong_of c.in-Some.found) c.purpose-lesson.result c.find.new.self c.in-Some.ensures.closes
+          c.purpose-lesson.ensures c.find.ensures.found c.find.result c.find.ensures.shown c.if-not-find.false
+          (rw c.in-None.is at c.in_ok-shorter.ensures.shortens) out.0 out.1;
+      goes_out = line_out out.2 no_line;
+      shown = both_shown g.E.WriteOnce c.args.progress (looking_line ∷ []) (cleared ∷ []) _ _ _
+          c.show_looking.ensures out.3;
+    }))
+
+pub returns-clause-stops : goal.returns-clause-stops
+returns-clause-stops g c =
+    let gone = c.shorter.ensures.engine ∙ c.close.ensures.gone in
+    let shortens = rw c.in-None.is at c.in_ok-shorter.ensures.shortens in
+    rw c.write-in-None.ensures.same
+    (where_err c.write-in-None.result c.write-in-None.ensures.refused c.write-in-None.ensures.broke
+    (λ why refused broke. elim refused [
+      | inl is ↦ rw is
+          (complaint_broke
+          (complained g.S.Process.Process c.args.plan.now _ _ (g.S.Starter.asked c.args.starter.now) c.args.fault
+          (wrong_of c.in-Some.found) c.purpose-lesson.result c.find.new.self c.in-Some.ensures.closes
+          c.purpose-lesson.ensures c.find.ensures.found c.find.result c.find.ensures.shown c.if-not-find.false
+          shortens (broke is).0 (broke is).1)
+          (broke is).2
+          (both_shown g.E.WriteOnce c.args.progress (looking_line ∷ []) (cleared ∷ []) _ _ _ c.show_looking.ensures
+          (broke is).3)
+          gone)
+      | inr kept ↦ rw (kept.0, kept.1, kept.2)
+          (complaint_refused c.in-Some.ensures.closes
+          (shortens_asks g.S.Process.Process c.args.plan.now (wrong_of c.in-Some.found) shortenings shortens) refl
+          c.show_looking.ensures gone)
+    ]))

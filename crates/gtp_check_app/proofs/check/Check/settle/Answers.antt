@@ -1,0 +1,76 @@
+use Rattle.std.proofs.Common.{◌≡◌, Bool, Option, Some, [], refl, true, false}
+use Rattle.std.specs.Prelude.{IsSome}
+use Rattle.std.proofs.lemmas.Result.{err_from_is_err_and}
+use Rattle.byte_streams.specs.Writing.{no_line}
+use Rattle.gtp_check_app.specs.Progress.{clearing, looking}
+use Rattle.gtp_check_app.specs.Turns.{nothing, state}
+use Rattle.gtp_check_app.proofs.Settling.{both_out, complains_down, complaint_stops, first_stops}
+use Rattle.gtp_check_app.proofs.Progressing.{both_shown, none_shown}
+use Rattle.gtp_check_app.proofs.Gathering.{where_failed, where_ok}
+use Rattle.gtp_check_app.proofs.check.Check.settle.Goals as goal
+
+-- an engine that is down need not be there
+paired_down : {A : Type 0} (up : Bool) (engine : Option A) → up ≡ false → up ≡ true → IsSome engine
+paired_down up engine down is = absurd (cc (down, is))
+
+pub returns-in_err-write_first-clause-stops : goal.returns-in_err-write_first-clause-stops
+returns-in_err-write_first-clause-stops g c =
+    let exit = c.from_residual in
+    let failed = err_from_is_err_and exit.result exit.ensures.1 in
+    let new = c.write_first.new.self in
+    rw (failed.1, failed.2)
+    (first_stops g.S.Process.Process c.args.plan.now g.O.WriteOnce g.E.WriteOnce c.args.progress _
+    (state new.examiner new.course new.engine new.tally new.notes) (g.S.Starter.asked c.args.starter.now) c.args.fault
+    c.args.output.now c.write_first.new.output c.args.errors.now c.write_first.new.errors _
+    (rw c.is_some.ensures at c.in_err-write_first.ensures.stops))
+
+pub returns-in-Some-clause-goes_out : goal.returns-in-Some-clause-goes_out
+returns-in-Some-clause-goes_out g c =
+    let first = rw (c.is_some.ensures, c.in-Some.is) at c.in_ok-write_first.ensures.goes_out in
+    let new = c.write_first.new.self in
+    rw c.in-Some.is
+    (where_ok c.complain.result c.complain.ensures.goes_out (λ out. record {
+      next = state new.examiner new.course new.engine new.tally new.notes;
+      line = first.line;
+      said = out.said;
+      first = first.first;
+      complains = out.complains;
+      goes_out = both_out g.O.WriteOnce first.line out.said _ _ _ first.goes_out out.goes_out;
+      shown = both_shown g.E.WriteOnce c.args.progress (clearing first.line) (looking out.said) _ _ _ first.shown
+          out.shown;
+    }))
+
+pub returns-in-Some-clause-stops : goal.returns-in-Some-clause-stops
+returns-in-Some-clause-stops g c =
+    let first = rw (c.is_some.ensures, c.in-Some.is) at c.in_ok-write_first.ensures.goes_out in
+    let new = c.write_first.new.self in
+    let last = c.complain.new.self in
+    rw c.in-Some.is
+    (where_failed c.complain.result c.complain.ensures.stops (λ why stops.
+    complaint_stops g.S.Process.Process c.args.plan.now g.O.WriteOnce g.E.WriteOnce c.args.progress _
+    (state new.examiner new.course new.engine new.tally new.notes)
+    (state last.examiner last.course last.engine last.tally last.notes) (g.S.Starter.asked c.args.starter.now)
+    (g.S.Starter.asked c.complain.new.starter) c.in-Some.fault c.args.output.now c.write_first.new.output
+    c.complain.new.output c.args.errors.now c.write_first.new.errors c.complain.new.errors why first stops))
+
+pub returns-in-Some-clause-paired : goal.returns-in-Some-clause-paired
+returns-in-Some-clause-paired g c =
+    where_ok c.complain.result c.complain.ensures.goes_out (λ out.
+    paired_down _ _ (complains_down g.S.Process.Process c.args.plan.now _ (g.S.Starter.asked c.args.starter.now)
+    c.in-Some.fault (Some c.in-Some.fault) refl out.complains))
+
+pub returns-in-None-clause-goes_out : goal.returns-in-None-clause-goes_out
+returns-in-None-clause-goes_out g c =
+    let first = rw (c.is_some.ensures, c.in-None.is) at c.in_ok-write_first.ensures.goes_out in
+    let new = c.write_first.new.self in
+    rw c.in-None.is
+    (record {
+      next = state new.examiner new.course new.engine new.tally new.notes;
+      line = first.line;
+      said = [];
+      first = first.first;
+      complains = nothing;
+      goes_out = both_out g.O.WriteOnce first.line [] _ _ _ first.goes_out no_line;
+      shown = both_shown g.E.WriteOnce c.args.progress (clearing first.line) [] _ _ _ first.shown
+          (none_shown g.E.WriteOnce c.args.progress c.write_first.new.errors);
+    })

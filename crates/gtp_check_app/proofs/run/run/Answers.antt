@@ -1,0 +1,55 @@
+use Rattle.std.proofs.Common.{sym}
+use Rattle.gtp_check_app.specs.Checks.{checked, listed, stopped}
+use Rattle.gtp_check_app.proofs.Running.{clap_ran, held_status, no_plan_ran, shown_status}
+use Rattle.gtp_check_app.proofs.run.run.Goals as goal
+
+pub returns-in-Err-clause-ran : goal.returns-in-Err-clause-ran
+returns-in-Err-clause-ran g c =
+    clap_ran g.S.Process.Process g.O.WriteOnce g.E.WriteOnce _ c.args.progress (g.S.Starter.asked c.args.starter.now)
+    c.args.output.now
+    c.args.errors.now c.kind.result (rw (sym c.kind.ensures) at c.in-Err.ensures.fault) c.answer_error.result
+    c.answer_error.new.output c.answer_error.new.errors c.answer_error.ensures
+
+pub returns-then-options-clause-ran : goal.returns-then-options-clause-ran
+returns-then-options-clause-ran g c =
+    listed (record { options = c.in-Ok.options; asked = c.in-Ok.ensures.asked; list = c.if-options.true })
+    c.list.ensures
+
+pub returns-in-Err-plan_of-clause-ran : goal.returns-in-Err-plan_of-clause-ran
+returns-in-Err-plan_of-clause-ran g c =
+    no_plan_ran g.S.Process.Process g.O.WriteOnce g.E.WriteOnce _ c.args.progress (g.S.Starter.asked c.args.starter.now)
+    c.args.output.now c.args.errors.now c.in-Ok.options c.in-Ok.ensures.asked c.in-Err-plan_of.error
+    c.in-Err-plan_of.ensures.no_plan c.report.result c.report.new.errors c.report.ensures
+
+pub returns-in-Ok-check-clause-ran : goal.returns-in-Ok-check-clause-ran
+returns-in-Ok-check-clause-ran g c =
+    checked c.in-Ok-plan_of.plan
+    (record {
+      options = c.in-Ok.options;
+      asked = c.in-Ok.ensures.asked;
+      no_list = c.if-options.false;
+      come_to = c.in-Ok-plan_of.ensures.plan;
+    })
+    c.in-Ok-check.ensures
+
+pub returns-clause-ran : goal.returns-clause-ran
+returns-clause-ran g c =
+    rw c.report-in-Err-check.ensures.status
+    (stopped c.in-Ok-plan_of.plan c.in-Err-check.failure
+    (record {
+      options = c.in-Ok.options;
+      asked = c.in-Ok.ensures.asked;
+      no_list = c.if-options.false;
+      come_to = c.in-Ok-plan_of.ensures.plan;
+    })
+    c.in-Err-check.ensures c.report-in-Err-check.ensures.written)
+
+pub returns-then-options-clause-status : goal.returns-then-options-clause-status
+returns-then-options-clause-status g c =
+    shown_status g.S.Process.Process g.O.WriteOnce g.E.WriteOnce c.args.progress (g.S.Starter.asked c.args.starter.now)
+    c.args.output.now c.args.errors.now _ c.list.result c.list.new.output c.list.new.errors c.list.ensures
+
+pub returns-in-Ok-check-clause-status : goal.returns-in-Ok-check-clause-status
+returns-in-Ok-check-clause-status g c =
+    held_status g.S.Process.Process g.O.WriteOnce g.E.WriteOnce c.args.progress (g.S.Starter.asked c.args.starter.now)
+    c.args.output.now c.args.errors.now c.in-Ok-plan_of.plan c.in-Ok-check.status _ _ _ c.in-Ok-check.ensures

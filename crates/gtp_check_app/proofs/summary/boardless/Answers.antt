@@ -1,0 +1,19 @@
+use Rattle.std.proofs.Common.{arith}
+use Rattle.gtp_check_app.specs.Summary.{is_boardless}
+use Rattle.gtp_check_app.proofs.LessonLoops.{AreKept-more, AreKept-all}
+use Rattle.gtp_check_app.proofs.summary.boardless.Goals as goal
+
+pub add_if-requires : goal.add_if-requires
+add_if-requires c = omega (arith, c.loop-lesson.invariant.few, c.loop-lesson-test.true)
+
+pub loop-lesson-preserved : goal.loop-lesson-preserved
+loop-lesson-preserved c =
+    AreKept-more (is_boardless c.args.lessons.now c.args.missed.now c.args.asked.now) c.loop-lesson.lesson-index _
+    c.loop-lesson.kept c.add_if.new.lessons _
+    c.loop-lesson-test.true c.loop-lesson.invariant c.is_boardless.ensures c.add_if.ensures.items
+    c.add_if.ensures.few
+
+pub returns : goal.returns
+returns c = AreKept-all (is_boardless c.args.lessons.now c.args.missed.now c.args.asked.now) c.loop-lesson.lesson-index
+    c.loop-lesson.kept c.loop-lesson.invariant
+    (omega (arith, c.loop-lesson-test.false, c.loop-lesson.auto.lesson-index-end))

@@ -1,0 +1,179 @@
+-- What the program does, from its words to its end. (Own.)
+use Rattle.std.specs.Prelude.{codes}
+use Rattle.std.specs.Prelude.{◌≡◌, ◌⊎◌, ℕ, ◌==◌, Bool, true, false, List, [], ◌∷◌, length, drop, min, Option}
+use Rattle.std.specs.Prelude.{Result, Ok, Err}
+use Rattle.clap.specs.Words.{Text}
+use Rattle.clap.specs.declared.error.kind.ErrorKind.{ErrorKind}
+use Rattle.byte_streams.specs.declared.calls.WriteOnce.{Ghosts as WriterGhosts}
+use Rattle.byte_streams.specs.Writing.{BreaksAt, GoesOut, IsWritten}
+use Rattle.gtp_process.specs.declared.causes.Unstarted.{Unstarted}
+use Rattle.gtp_process.specs.declared.starter.Process.{Ghosts}
+use Rattle.gtp_process.specs.Endings.{IsEnded}
+use Rattle.gtp_process.specs.Quitting.{QuitsIfAny}
+use Rattle.gtp_process.specs.Shown.{unstarted_text}
+use Rattle.gtp_process.specs.Starts.{Attempts}
+use Rattle.cli.specs.Status.{IsRequest, done, error_line, own_failure, usage_failure}
+use Rattle.cli.specs.declared.failure.Failure.{Failure}
+use Rattle.cli.specs.declared.failure.Failure.TheVariants.{OutOfMemory, Write}
+use Rattle.gtp_check_app.specs.declared.failure.Mistake.{Mistake}
+use Rattle.cli.specs.declared.failure.PlanError.TheVariants.{BadWords}
+use Rattle.gtp_check_app.specs.declared.options.Options.{Options}
+use Rattle.gtp_check_app.specs.declared.plan.Plan.{Plan}
+use Rattle.gtp_check_app.specs.declared.summary.Ending.{Ending}
+use Rattle.gtp_check_app.specs.declared.summary.Over.{Over}
+use Rattle.gtp_check_app.specs.declared.summary.Over.TheVariants as over
+use Rattle.gtp_check_app.specs.declared.tally.Tally.{Tally}
+use Rattle.gtp_check_app.specs.Listing.{list_lines}
+use Rattle.gtp_check_app.specs.Options.{AsksFor, AsksForText, HasFault}
+use Rattle.gtp_check_app.specs.Plans.{HasNoPlan, IsPlanOf}
+use Rattle.gtp_check_app.specs.Progress.{IsShown, cleared}
+use Rattle.gtp_check_app.specs.Status.{ReportsFailure, ReportsMistake, status_of}
+use Rattle.gtp_check_app.specs.Summary.{last_lines}
+use Rattle.gtp_check_app.specs.Turns.{HasStopped, State, TurnsAreOver, before_all, process_of}
+
+-- ---- the end of a check
+
+-- An engine that owes nothing is sent `quit` and ended; any other is ended at once.
+abbrev pub IsClosedWhere : {P : Type 0} → Ghosts P → Bool → Option P → Type 0
+IsClosedWhere known true process = QuitsIfAny known process
+IsClosedWhere known false process = IsEnded known process
+
+abbrev pub IsClosed : {P : Type 0} → Ghosts P → State P → Type 0
+IsClosed known last = IsClosedWhere known (length last.check.exam.unanswered == 0) (process_of last.engine)
+
+-- What the last lines say of a check that is over for this reason: the lessons from the one on in which the course is,
+-- what isn't shown, the starts and the complaints.
+pub record IsEnding (plan : Plan) (tally : Tally) (lesson starts : ℕ) (why : Over) (ending : Ending) : Type 0 where
+  pub over : ending.over.now ≡ why
+  pub missed : ending.missed.now ≡ drop (min lesson (length plan.lessons.items)) plan.lessons.items
+  pub hidden : ending.hidden.now ≡ tally.hidden
+  pub starts_are : ending.starts ≡ starts
+  pub complaints : ending.complaints ≡ tally.complaints
+
+-- the last lines of a check
+pub record AreLastLines {P : Type 0} (plan : Plan) (last : State P) (why : Over) (text : List ℕ) : Type 0 where
+  pub ending : Ending
+  pub is : IsEnding plan last.tally last.course.place.lesson last.check.starts why ending
+  pub text_is : text ≡ last_lines plan last.notes ending
+
+-- ---- a check
+
+-- a check is over since the engine wasn't started at the first try, for this cause
+pub record IsFirstFailure (why : Over) (starts : ℕ) (start : Unstarted) : Type 0 where
+  pub not_started : why ≡ over.NotStarted start
+  pub first : starts ≡ 0
+
+module _ {P O E : Type 0} (known : Ghosts P) (outs : WriterGhosts O) (errs : WriterGhosts E) (plan : Plan)
+    (progress : Bool) (asked : Attempts P) (out : O) (errors : E) where
+  -- A check was held to its end, and the line of its progress is cleared. The last lines went out, and the status says
+  -- whether something was found. Or the engine wasn't started at the first try: that is reported on standard error, and
+  -- the status is that of a mistake.
+  pub data IsHeld : ℕ → Attempts P → O → E → Type 0 where
+    is_over : {why : Over} {last : State P} {has : Attempts P} {between written : O} {seen sees : E} {text : List ℕ}
+        → TurnsAreOver known plan outs errs progress (before_all plan) asked out errors why last has between seen
+        → IsShown errs progress (cleared ∷ []) seen sees
+        → ((start : Unstarted) → IsFirstFailure why last.check.starts start → ⊥)
+        → IsClosed known last → AreLastLines plan last why text → GoesOut outs text between written
+        → IsHeld (status_of last.tally.complaints) has written sees
+    not_started : {why : Over} {start : Unstarted} {last : State P} {has : Attempts P} {written : O}
+        {seen sees reported : E}
+        → TurnsAreOver known plan outs errs progress (before_all plan) asked out errors why last has written seen
+        → IsShown errs progress (cleared ∷ []) seen sees
+        → IsFirstFailure why last.check.starts start → IsClosed known last
+        → IsWritten errs (error_line (codes "gtp_check") (unstarted_text start)) sees reported
+        → IsHeld usage_failure has written reported
+
+  -- A check stopped: in its turns; or at its last lines, for which memory was refused, or at which the output broke.
+  -- Every process was ended, and the line of the progress is cleared.
+  pub data IsStopped : Failure → Attempts P → O → E → Type 0 where
+    in_turns : {process : Option P} {has : Attempts P} {written : O} {seen sees : E} {failure : Failure}
+        → HasStopped known plan outs errs progress (before_all plan) asked out errors process has written seen failure
+        → IsShown errs progress (cleared ∷ []) seen sees
+        → IsEnded known process → IsStopped failure has written sees
+    refused_at_end : {why : Over} {last : State P} {has : Attempts P} {written : O} {seen sees : E}
+        → TurnsAreOver known plan outs errs progress (before_all plan) asked out errors why last has written seen
+        → IsShown errs progress (cleared ∷ []) seen sees
+        → IsClosed known last → IsStopped OutOfMemory has written sees
+    broke_at_end : {why : Over} {last : State P} {has : Attempts P} {between written : O} {seen sees : E}
+        {text : List ℕ}
+        → TurnsAreOver known plan outs errs progress (before_all plan) asked out errors why last has between seen
+        → IsShown errs progress (cleared ∷ []) seen sees
+        → IsClosed known last → AreLastLines plan last why text → BreaksAt outs text between written
+        → IsStopped Write has written sees
+
+  -- so a check ends
+  abbrev pub Ends : Result ℕ Failure → Attempts P → O → E → Type 0
+  Ends (Ok status) has written reported = IsHeld status has written reported
+  Ends (Err failure) has written reported = IsStopped failure has written reported
+
+-- ---- the words of the command line
+
+-- the words have no mistake, and ask for this plan, or for the list of lessons
+pub record AsksForPlan (words : List Text) (plan : Plan) : Type 0 where
+  pub options : Options
+  pub asked : AsksFor words options
+  pub no_list : options.list ≡ false
+  pub come_to : IsPlanOf options plan
+
+pub record AsksForList (words : List Text) : Type 0 where
+  pub options : Options
+  pub asked : AsksFor words options
+  pub list : options.list ≡ true
+
+-- A text that was asked for went out, with status 0. Or the output broke at it, or memory was refused for it: that is
+-- reported, with status 3.
+pub data Shows {O E : Type 0} (outs : WriterGhosts O) (errs : WriterGhosts E) (text : List ℕ) (out : O) (errors : E)
+    : ℕ → O → E → Type 0 where
+  went_out : {written : O} → GoesOut outs text out written → Shows outs errs text out errors done written errors
+  broke : {written : O} {reported : E} → BreaksAt outs text out written
+      → ReportsFailure errs Write errors reported
+      → Shows outs errs text out errors own_failure written reported
+  refused : {reported : E} → ReportsFailure errs OutOfMemory errors reported
+      → Shows outs errs text out errors own_failure out reported
+
+-- The options that the words ask for have no word of a command. That is reported.
+pub record AsksWrongly {E : Type 0} (errs : WriterGhosts E) (words : List Text) (before after : E) : Type 0 where
+  pub options : Options
+  pub asked : AsksFor words options
+  pub what : Mistake
+  pub mistake : HasNoPlan options (BadWords what)
+  pub reported : ReportsMistake errs what before after
+
+-- The words have a mistake. One text is written.
+pub record IsRefusedByClap {E : Type 0} (errs : WriterGhosts E) (words : List Text) (before after : E) : Type 0 where
+  pub kind : ErrorKind
+  pub mistake : ¬ IsRequest kind
+  pub has : HasFault words kind
+  pub text : List ℕ
+  pub written : IsWritten errs text before after
+
+-- the words have a mistake, or what they ask for has one
+abbrev pub HasMistake : {E : Type 0} → WriterGhosts E → List Text → E → E → Type 0
+HasMistake errs words before after = IsRefusedByClap errs words before after ⊎ AsksWrongly errs words before after
+
+-- ---- a run
+
+module _ {P O E : Type 0} (known : Ghosts P) (outs : WriterGhosts O) (errs : WriterGhosts E) (words : List Text)
+    (progress : Bool) (asked : Attempts P) (out : O) (errors : E) where
+  -- What the program did, and with what status it ends. It held the check that the words ask for. Or that stopped, and
+  -- why is reported. Or it showed the help, the version or the list of lessons. Or the words have a mistake, which is
+  -- reported. Or memory was refused before anything was done. Only a check starts anything.
+  pub data HasRun : ℕ → Attempts P → O → E → Type 0 where
+    checked : {status : ℕ} {has : Attempts P} {written : O} {reported : E} (plan : Plan) → AsksForPlan words plan
+        → IsHeld known outs errs plan progress asked out errors status has written reported
+        → HasRun status has written reported
+    stopped : {has : Attempts P} {written : O} {sees reported : E} (plan : Plan) (failure : Failure)
+        → AsksForPlan words plan
+        → IsStopped known outs errs plan progress asked out errors failure has written sees
+        → ReportsFailure errs failure sees reported
+        → HasRun own_failure has written reported
+    shown : {status : ℕ} {written : O} {reported : E} (text : List ℕ) → AsksForText words
+        → Shows outs errs text out errors status written reported
+        → HasRun status asked written reported
+    listed : {status : ℕ} {written : O} {reported : E} → AsksForList words
+        → Shows outs errs list_lines out errors status written reported
+        → HasRun status asked written reported
+    mistaken : {reported : E} → HasMistake errs words errors reported
+        → HasRun usage_failure asked out reported
+    no_memory : {reported : E} → ReportsFailure errs OutOfMemory errors reported
+        → HasRun own_failure asked out reported

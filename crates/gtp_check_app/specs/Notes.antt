@@ -1,0 +1,123 @@
+-- What is noted of right answers. (Own.)
+use Rattle.std.specs.Prelude.{ℕ, ◌==◌, ◌||◌, Bool, true, false, if◌then◌else◌, List, [], length, take}
+use Rattle.std.specs.Prelude.{Option, None, Some}
+use Rattle.std.specs.List.{list_any}
+use Rattle.gtp_check_questions.specs.Lessons.{all_lessons}
+use Rattle.gtp_check_questions.specs.declared.lessons.Lesson.{Lesson}
+use Rattle.gtp_check_judge.specs.declared.asking.CheckCommand.{CheckCommand}
+use Rattle.gtp_check_judge.specs.declared.asking.CheckCommand.TheVariants.{Match, FinalScore, Name, Version}
+use Rattle.gtp_check_judge.specs.declared.asking.CheckCommand.TheVariants.{KnownCommand}
+use Rattle.gtp_check_judge.specs.declared.skills.Skill.{Skill}
+use Rattle.gtp_check_judge.specs.declared.skills.Skill.TheVariants.{Unasked, Has, Lacks}
+use Rattle.gtp_check_judge.specs.declared.skills.Skills.{Skills}
+use Rattle.gtp_check_judge.specs.declared.unanswered.Asked.{Asked}
+use Rattle.gtp_wire.specs.Replies.{most_shown}
+use Rattle.gtp_wire.specs.declared.commands.Command.{Command}
+use Rattle.gtp_wire.specs.declared.commands.Command.TheVariants.{Boardsize, Komi, ClearBoard, FixedHandicap, Play}
+use Rattle.gtp_wire.specs.declared.commands.Command.TheVariants.{Genmove, Undo, Quit}
+use Rattle.gtp_wire.specs.declared.replies.Reply.{Reply}
+use Rattle.gtp_check_app.specs.Plans.{is_among}
+use Rattle.gtp_check_app.specs.Tally.{one_more, with_more}
+use Rattle.gtp_check_app.specs.declared.notes.Notes.{Notes}
+
+-- before the first start
+abbrev pub nothing_noted : Notes
+nothing_noted = record {
+  name = None;
+  version = None;
+  refused = record { items = [] };
+  lacks_handicap = false;
+  lacks_undo = false;
+  lacks_score = false;
+  has_answered = false;
+  fruitless = 0;
+  commands = 0;
+  asked = record { items = [] };
+}
+
+-- the engine was started
+abbrev pub started : Notes → Notes
+started notes = record notes { has_answered = false; fruitless = one_more notes.fruitless }
+
+-- a command of a match is asked on a board, of a size that was taken
+abbrev pub match_on_board : Command → Bool
+match_on_board (Boardsize size) = false
+match_on_board (Komi komi) = true
+match_on_board ClearBoard = true
+match_on_board (FixedHandicap stones) = true
+match_on_board (Play move) = true
+match_on_board (Genmove colour) = true
+match_on_board Undo = true
+match_on_board Quit = false
+
+-- the same of any command
+abbrev pub is_on_board : CheckCommand → Bool
+is_on_board (Match command) = match_on_board command
+is_on_board FinalScore = true
+is_on_board Name = false
+is_on_board Version = false
+is_on_board (KnownCommand known) = false
+
+-- something was asked on a board in the lesson, which is noted once
+abbrev pub with_lesson : Lesson → Notes → Notes
+with_lesson lesson notes =
+    if is_among notes.asked.items lesson then notes
+    else record notes { asked = record { items = with_more (length all_lessons) notes.asked.items lesson } }
+
+-- a command was asked in the lesson
+abbrev pub counted : Lesson → CheckCommand → Notes → Notes
+counted lesson command notes =
+    let more = record notes { commands = one_more notes.commands } in
+    if is_on_board command then with_lesson lesson more else more
+
+-- a right answer came
+abbrev pub with_answer : Notes → Notes
+with_answer notes = record notes { has_answered = true; fruitless = 0 }
+
+-- the engine said that it lacks the command
+abbrev pub lacks : Skill → Bool
+lacks Unasked = false
+lacks Has = false
+lacks Lacks = true
+
+-- what it said that it lacks is noted, and stays
+abbrev pub with_lacks : Notes → Skills → Notes
+with_lacks notes skills = record notes {
+  lacks_handicap = notes.lacks_handicap || lacks skills.fixed_handicap;
+  lacks_undo = notes.lacks_undo || lacks skills.undo;
+  lacks_score = notes.lacks_score || lacks skills.final_score;
+}
+
+-- the beginning of the text of a success, and nothing of a failure
+abbrev pub beginning_of : Reply → List ℕ
+beginning_of reply = if reply.ok then take most_shown reply.text.items else []
+
+-- what is noted of the reply to a command
+abbrev pub noted_of : CheckCommand → Reply → Skills → Notes → Notes
+noted_of Name reply skills notes = record notes { name = Some (record { items = beginning_of reply }) }
+noted_of Version reply skills notes = record notes { version = Some (record { items = beginning_of reply }) }
+noted_of (KnownCommand known) reply skills notes = with_lacks notes skills
+noted_of (Match command) reply skills notes = notes
+noted_of FinalScore reply skills notes = notes
+
+-- the size was refused before
+abbrev pub is_refused : Notes → ℕ → Bool
+is_refused notes size = list_any (λ known. known == size) notes.refused.items
+
+-- a size that was refused is noted, once
+abbrev pub with_size : Notes → ℕ → Notes
+with_size notes size =
+    if is_refused notes size then notes
+    else record notes { refused = record { items = with_more 25 notes.refused.items size } }
+
+-- a size is noted, if one was refused
+abbrev pub with_refusal : Notes → Option ℕ → Notes
+with_refusal notes None = notes
+with_refusal notes (Some size) = with_size notes size
+
+-- What is noted where this command was answered rightly, if any, by this reply, and this size was refused, if any.
+-- Where none was answered nothing is noted, whatever the reply.
+abbrev pub noted : Notes → Option Asked → Option ℕ → Reply → Skills → Notes
+noted notes None refused reply skills = notes
+noted notes (Some asked) refused reply skills =
+    with_refusal (noted_of asked.command reply skills (with_answer notes)) refused

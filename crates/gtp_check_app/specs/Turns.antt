@@ -1,0 +1,437 @@
+-- A check, turn by turn: what the engine is asked, when it is started and ended, and what is written. (Own.)
+use Rattle.std.specs.Prelude.{min, ◌^◌, ◌-◌}
+use Rattle.std.specs.Prelude.{IsTrue, ◌↔◌, ◌≡◌, ◌⊎◌, ℕ, ◌+◌, ◌<◌, ◌≤◌, Bool, true, false, not, ◌&&◌, ◌||◌, List, []}
+use Rattle.std.specs.Prelude.{◌∷◌, ◌++◌, length}
+use Rattle.std.specs.Prelude.{Option, None, Some, IfSome, is_some, option_map, unwrap_or, Ok, Err}
+use Rattle.byte_streams.specs.declared.calls.WriteOnce.{Ghosts as WriterGhosts}
+use Rattle.byte_streams.specs.Writing.{BreaksAt, LinesGoOut}
+use Rattle.gtp_process.specs.declared.starter.Process.{Ghosts}
+use Rattle.gtp_process.specs.declared.starter.Ending.{Ending}
+use Rattle.gtp_process.specs.declared.starter.StartFault.TheVariants as start_fault
+use Rattle.gtp_process.specs.declared.starter.StartReason.{StartReason}
+use Rattle.gtp_process.specs.Endings.{IsEnded}
+use Rattle.gtp_process.specs.Quitting.{QuitsIfAny}
+use Rattle.gtp_process.specs.Shown.{unstarted}
+use Rattle.gtp_process.specs.Starts.{Attempts, Tries, program_line}
+use Rattle.gtp_check_judge.specs.declared.asking.CheckCommand.{CheckCommand}
+use Rattle.gtp_check_judge.specs.declared.asking.CheckCommand.TheVariants.{Name}
+use Rattle.gtp_check_judge.specs.declared.exam.Exam.{Exam}
+use Rattle.gtp_check_judge.specs.declared.judging.Kind.TheVariants.{Refused}
+use Rattle.go_board.specs.declared.rules.KoRule.{KoRule}
+use Rattle.go_board.specs.declared.rules.KoRule.TheVariants.{Simple}
+use Rattle.gtp_check_judge.specs.Check.{Check, after_loss, opening, started, with_exam}
+use Rattle.gtp_check_judge.specs.Exam.{HasRoomFor}
+use Rattle.gtp_check_questions.specs.declared.actions.Action.{Action}
+use Rattle.gtp_check_questions.specs.declared.actions.Action.TheVariants.{Ask, Done, Kill, Restart, Skip, Start}
+use Rattle.gtp_check_questions.specs.declared.lessons.Lesson.{Lesson}
+use Rattle.gtp_check_questions.specs.declared.lessons.Lesson.TheVariants as lesson
+use Rattle.gtp_check_questions.specs.Asking.{IsTurn, Renews, lesson_of}
+use Rattle.gtp_check_questions.specs.Course.{Course, GoesTo, Leaves, begun, part_over, with_finding}
+use Rattle.gtp_check_questions.specs.Course.{IsOver as CourseIsOver}
+use Rattle.gtp_check_app.specs.declared.check.Check.{Check as Going}
+use Rattle.gtp_check_app.specs.declared.complaint.Complaint.{Complaint}
+use Rattle.gtp_check_app.specs.declared.engine.Engine.{Engine}
+use Rattle.gtp_check_app.specs.declared.engine.Fault.{Fault}
+use Rattle.cli.specs.declared.failure.Failure.{Failure}
+use Rattle.cli.specs.declared.failure.Failure.TheVariants.{OutOfMemory, TooManyTurns, Write}
+use Rattle.gtp_check_app.specs.declared.engine.Fault.TheVariants.{Wrote}
+use Rattle.gtp_check_app.specs.declared.flat.Shortening.{Shortening}
+use Rattle.gtp_check_app.specs.declared.notes.Notes.{Notes}
+use Rattle.gtp_check_app.specs.declared.plan.Plan.{Plan}
+use Rattle.gtp_check_app.specs.declared.summary.Over.{Over}
+use Rattle.gtp_check_app.specs.declared.summary.Over.TheVariants as over
+use Rattle.gtp_check_app.specs.declared.talk.Purpose.{Purpose}
+use Rattle.gtp_check_app.specs.declared.tally.Tally.{Tally}
+use Rattle.gtp_check_app.specs.Complaints.{complaint_lines}
+use Rattle.gtp_check_app.specs.Dialogues.{AsksForMore, EndsLike, IsAsked, IsExchanged, IsTrial, Wrong, begun_with}
+use Rattle.gtp_check_app.specs.Dialogues.{dialogue, is_same_lesson, is_same_purpose, wrong_purpose, wrong_talk}
+use Rattle.gtp_check_app.specs.Dialogues.{wrong_with}
+use Rattle.gtp_check_app.specs.Notes.{nothing_noted}
+use Rattle.gtp_check_app.specs.Notes.{started as noted_start}
+use Rattle.gtp_check_app.specs.Progress.{IsShown, before_read, cleared, clearing, looking, looking_line}
+use Rattle.gtp_check_app.specs.Shortening.{games_in, shortened, shortenings}
+use Rattle.gtp_check_app.specs.Summary.{first_line}
+use Rattle.gtp_check_app.specs.Superko.{IsPositional}
+use Rattle.gtp_check_app.specs.Tally.{found, is_shown, nothing_found, started_again, without_start}
+
+-- how many turns a check has at most; no check within the limits has this number
+abbrev pub most_turns : ℕ
+most_turns = 1000000000000
+
+-- after so many starts in a row without a right answer the check is over
+abbrev pub most_fruitless : ℕ
+most_fruitless = 3
+
+-- a conversation of so many commands isn't shortened
+abbrev pub few_commands : ℕ
+few_commands = 20
+
+-- how often an engine is started that is found right: less than this (both together within 32 bits)
+abbrev pub ordinary_starts : ℕ
+ordinary_starts = 32
+
+-- ---- between two turns
+
+-- A check between two turns: the exam of its engine and the starts, the course, the engine, if one is there, and what
+-- was found and noted so far.
+pub record State (P : Type 0) : Type 0 where
+  pub check : Check
+  pub course : Course
+  pub engine : Option (Engine P)
+  pub tally : Tally
+  pub notes : Notes
+
+abbrev pub state : {P : Type 0} → Check → Course → Option (Engine P) → Tally → Notes → State P
+state check course engine tally notes =
+    record { check = check; course = course; engine = engine; tally = tally; notes = notes }
+
+-- the state of a program's check, as its fields have it
+abbrev pub state_of : {S P : Type 0} → Going S P → State P
+state_of going = state going.examiner going.course going.engine going.tally going.notes
+
+-- its engine was ended
+abbrev pub without_engine : {P : Type 0} → State P → State P
+without_engine before = record before { check = after_loss before.check; engine = None }
+
+-- before the first turn
+abbrev pub before_all : {P : Type 0} → Plan → State P
+before_all plan = record {
+  check = opening plan.rule (min (plan.restarts + ordinary_starts) (2 ^ 32 - 1));
+  course = begun plan.lessons.items plan.scene_size;
+  engine = None;
+  tally = nothing_found plan.restarts;
+  notes = nothing_noted;
+}
+
+-- the process of an engine, if there is one
+abbrev pub process_of : {P : Type 0} → Option (Engine P) → Option P
+process_of engine = option_map (λ one. one.process) engine
+
+-- ---- what comes next in the course
+
+-- what a course does next, of an engine with this exam, and the course after it
+pub record IsNext (old : Course) (exam : Exam) (action : Action) (new : Course) : Type 0 where
+  pub goes : GoesTo old exam action new
+  pub over : CourseIsOver old → action ≡ Done
+  pub starts : IfSome (lesson_of old) (λ lesson. exam.up ≡ false → action ≡ Start)
+  pub rests : IfSome (lesson_of old) (λ lesson. exam.up ≡ true → (HasRoomFor exam Name → ⊥)
+      → Renews lesson old exam action new)
+  pub turns : IfSome (lesson_of old) (λ lesson. HasRoomFor exam Name → IsTurn lesson old exam action new)
+
+-- the rest of the part was left: something was found in it
+pub record HasLeft (old new : Course) : Type 0 where
+  pub leaves : Leaves old new
+  pub found : IfSome (lesson_of old) (λ lesson. new ≡ part_over lesson (with_finding old))
+
+-- for what a command is asked now: the lesson and the part in which the course is
+abbrev pub purpose_in : Course → Purpose
+purpose_in course = record {
+  lesson = unwrap_or (lesson_of course) lesson.Restarts;
+  part = course.place.part;
+}
+
+-- Something was found in what was asked for this purpose: that part is left, if the course is in it. Where it is
+-- another part of the lesson, it counts in that all the same.
+pub record HasNoted (purpose : Purpose) (old new : Course) : Type 0 where
+  pub leaves : is_same_purpose purpose (purpose_in old) ≡ true → HasLeft old new
+  pub counts : is_same_purpose purpose (purpose_in old) ≡ false → is_same_lesson purpose (purpose_in old) ≡ true
+      → new ≡ with_finding old
+  pub stays : is_same_purpose purpose (purpose_in old) ≡ false → is_same_lesson purpose (purpose_in old) ≡ false
+      → new ≡ old
+
+-- the engine is asked a command, for this purpose
+pub record AsksEngine {P : Type 0} (purpose : Purpose) (before : State P) (command : CheckCommand) (after : State P)
+    : Type 0 where
+  pub engine : Engine P
+  pub had : before.engine ≡ Some engine
+  pub exam : Exam
+  pub now : Engine P
+  pub notes : Notes
+  pub asked : IsAsked purpose before.check.exam (dialogue engine before.notes) command exam (dialogue now notes)
+  pub leads : after ≡ record before { check = with_exam before.check exam; engine = Some now; notes = notes }
+
+-- Steps of the course were taken: each passed over one of its steps, or asked the engine a command, which isn't sent
+-- yet. Where each command is asked alone, the one before was answered.
+pub data Asks {P : Type 0} (singly : Bool) (before : State P) : State P → Type 0 where
+  nothing : Asks singly before before
+  passes : {mid : State P} (course : Course) → Asks singly before mid
+      → IsNext mid.course mid.check.exam Skip course
+      → Asks singly before (record mid { course = course })
+  asks : {mid after : State P} (command : CheckCommand) (course : Course)
+      → Asks singly before mid
+      → IsNext mid.course mid.check.exam (Ask command) course
+      → (singly ≡ true → length mid.check.exam.unanswered ≡ 0)
+      → AsksEngine (purpose_in mid.course) (record mid { course = course }) command after
+      → Asks singly before after
+
+-- An engine may be started: not past the most starts, and after something was found only where a start is left.
+pub record MayStart (check : Check) (tally : Tally) : Type 0 where
+  pub few : check.starts < check.most_starts
+  pub left : tally.is_after_fault ≡ true → 0 < tally.starts_left
+
+-- The first line is due once the version is known, or something is wrong, and it isn't written.
+abbrev pub is_first_due : Tally → Notes → Bool → Bool
+is_first_due tally notes is_wrong = not tally.has_first_line && (is_wrong || is_some notes.version)
+
+-- ---- progress on a terminal
+
+-- before this engine, if one is there, is heard: what is waited for
+abbrev pub waiting_for : {P : Type 0} → Plan → State P → Option (Engine P) → List (List ℕ)
+waiting_for plan now None = []
+waiting_for plan now (Some engine) = before_read plan.lessons.items now.check (dialogue engine now.notes)
+
+abbrev pub waiting : {P : Type 0} → Plan → State P → List (List ℕ)
+waiting plan now = waiting_for plan now now.engine
+
+-- ---- the text of a complaint
+
+-- Positional ko explains what is wrong: by simple ko it was a wrong refusal, and by that rule a right one.
+pub record IsExplained (rule : KoRule) (wrong : Wrong) : Type 0 where
+  pub simple : rule ≡ Simple
+  pub refused : wrong.fault ≡ Wrote Refused
+  pub positional : IsPositional (wrong_talk wrong)
+
+-- A complaint with this number is of this lesson and of a conversation that ended so, with an engine of this ko rule.
+pub record IsComplaint (rule : KoRule) (number : ℕ) (lesson : Lesson) (wrong : Wrong) (complaint : Complaint)
+    : Type 0 where
+  pub number_is : complaint.number ≡ number
+  pub lesson_is : complaint.lesson ≡ lesson
+  pub fault : complaint.fault ≡ wrong.fault
+  pub sent : complaint.sent.now ≡ wrong.sent
+  pub talk : complaint.talk.now ≡ wrong.talk
+  pub answered : complaint.answered ≡ wrong.answered
+  pub wrote : complaint.wrote.now ≡ wrong.wrote
+  pub ending : complaint.ending ≡ wrong.ending
+  pub hint : IsTrue complaint.is_positional ↔ IsExplained rule wrong
+
+-- It was found in the lesson of that command.
+abbrev pub found_in : {P : Type 0} → State P → Wrong → Fault → State P
+found_in before wrong fault =
+    record before { tally = found before.tally (wrong_purpose wrong).lesson fault }
+
+module _ {P : Type 0} (known : Ghosts P) where
+  -- What was asked was sent, and the engine was heard.
+  pub record IsHeardOut (before : State P) (fault : Option Fault) (after : State P) : Type 0 where
+    pub engine : Engine P
+    pub had : before.engine ≡ Some engine
+    pub exam : Exam
+    pub heard : Engine P
+    pub notes : Notes
+    pub exchanged : IsExchanged known before.check.exam (dialogue engine before.notes) fault exam (dialogue heard notes)
+    pub leads : after ≡ record before { check = with_exam before.check exam; engine = Some heard; notes = notes }
+
+  -- The engine, in which this is wrong, was ended. The part is left in which the command was asked that it answered
+  -- wrongly, if the course is in it still.
+  pub record Closes (fault : Fault) (before : State P) (wrong : Wrong) (after : State P) : Type 0 where
+    pub engine : Engine P
+    pub had : before.engine ≡ Some engine
+    pub ending : Ending
+    pub ended : known.leaves engine.process ending
+    pub is : wrong ≡ wrong_with fault before.check.exam (dialogue engine before.notes) ending
+    pub course : Course
+    pub notes : HasNoted (wrong_purpose wrong) before.course course
+    pub leads : after ≡ record before { check = after_loss before.check; course = course; engine = None }
+
+module _ {P : Type 0} (known : Ghosts P) (plan : Plan) where
+  -- ---- a shorter conversation
+
+  -- A shorter conversation may be tried: the whole one has more commands than are few, and more games than this one is
+  -- for; this one has fewer commands than it; and a start is left.
+  pub record MayTry (found : Wrong) (how : Shortening) (before : State P) : Type 0 where
+    pub long : few_commands < length (wrong_talk found)
+    pub games : how.more_than < games_in (wrong_talk found)
+    pub shorter : length (shortened how (wrong_talk found)) < length (wrong_talk found)
+    pub few : before.check.starts < before.check.most_starts
+    pub left : 0 < before.tally.starts_left
+
+  -- It was tried on another engine, for what the command was asked that was answered wrongly. That takes one of the
+  -- starts that are left.
+  pub record IsTried (found : Wrong) (how : Shortening) (before : State P) (had : Attempts P) (result : Option Wrong)
+      (after : State P) (has : Attempts P) : Type 0 where
+    pub trial : IsTrial known (program_line plan.words.items) (wrong_purpose found) (shortened how (wrong_talk found))
+        before.check had before.notes result after.check has after.notes
+    pub leads : after ≡ record before {
+      check = after.check;
+      tally = without_start before.tally;
+      notes = after.notes;
+    }
+
+  -- One shorter conversation: it may not be tried; or it was, and ended otherwise, or like the one that was found.
+  pub data TriesShorter (found : Wrong) (how : Shortening) (before : State P) (had : Attempts P)
+      : Option Wrong → State P → Attempts P → Type 0 where
+    left_out : (MayTry found how before → ⊥) → TriesShorter found how before had None before had
+    right : {after : State P} {has : Attempts P} → MayTry found how before
+        → IsTried found how before had None after has
+        → TriesShorter found how before had None after has
+    other : {tried : Wrong} {after : State P} {has : Attempts P} → MayTry found how before
+        → IsTried found how before had (Some tried) after has
+        → (EndsLike tried found → ⊥)
+        → TriesShorter found how before had None after has
+    alike : {tried : Wrong} {after : State P} {has : Attempts P} → MayTry found how before
+        → IsTried found how before had (Some tried) after has
+        → EndsLike tried found
+        → TriesShorter found how before had (Some tried) after has
+
+  -- These shorter conversations were tried in their order, up to the first that ended like the one that was found.
+  pub data Shortens (found : Wrong)
+      : List Shortening → State P → Attempts P → Option Wrong → State P → Attempts P → Type 0 where
+    none_left : {before : State P} {had : Attempts P} → Shortens found [] before had None before had
+    missed : {how : Shortening} {later : List Shortening} {before mid after : State P} {had between has : Attempts P}
+        {result : Option Wrong} → TriesShorter found how before had None mid between
+        → Shortens found later mid between result after has
+        → Shortens found (how ∷ later) before had result after has
+    shortened_so : {how : Shortening} {later : List Shortening} {before after : State P} {had has : Attempts P}
+        {tried : Wrong} → TriesShorter found how before had (Some tried) after has
+        → Shortens found (how ∷ later) before had (Some tried) after has
+
+  -- ---- a complaint
+
+  -- What is wrong with the engine, if anything, is complained of: with its own conversation, or with a shorter one that
+  -- ended with the same; or not, where its like was shown often enough.
+  pub data Complains (before : State P) (had : Attempts P)
+      : Option Fault → State P → Attempts P → List (List ℕ) → Type 0 where
+    nothing : Complains before had None before had []
+    hidden : {fault : Fault} {mid : State P} (wrong : Wrong) → Closes known fault before wrong mid
+        → is_shown mid.tally (wrong_purpose wrong).lesson fault ≡ false
+        → Complains before had (Some fault) (found_in mid wrong fault) had []
+    shown : {fault : Fault} {mid after : State P} {has : Attempts P} {shorter : Option Wrong} (wrong : Wrong)
+        (complaint : Complaint) → Closes known fault before wrong mid
+        → is_shown mid.tally (wrong_purpose wrong).lesson fault ≡ true
+        → Shortens wrong shortenings (found_in mid wrong fault) had shorter after has
+        → IsComplaint plan.rule after.tally.complaints (wrong_purpose wrong).lesson (unwrap_or shorter wrong) complaint
+        → Complains before had (Some fault) after has (complaint_lines complaint ∷ [])
+
+  -- The first line is written where it is due.
+  pub data WritesFirst (before : State P) (is_wrong : Bool) : State P → List (List ℕ) → Type 0 where
+    not_due : is_first_due before.tally before.notes is_wrong ≡ false → WritesFirst before is_wrong before []
+    due : is_first_due before.tally before.notes is_wrong ≡ true
+        → WritesFirst before is_wrong (record before { tally = record before.tally { has_first_line = true } })
+        (first_line plan before.notes ∷ [])
+
+  -- ---- a turn
+
+  -- Steps of the course were taken, what was asked was sent, and the engine was heard.
+  pub record Exchanges (before : State P) (fault : Option Fault) (after : State P) : Type 0 where
+    pub mid : State P
+    pub asks : Asks plan.singly before mid
+    pub heard : IsHeardOut known mid fault after
+
+  -- A turn takes steps of the course. Then it starts the engine; or it sends it `quit` and ends it, or ends it at
+  -- once; or it sends what was asked, hears the engine, and writes what is due. These texts are written to the output,
+  -- and these of the progress, in their order.
+  pub data Turn (before : State P) (had : Attempts P)
+      : State P → Attempts P → List (List ℕ) → List (List ℕ) → Type 0 where
+    starts : {mid : State P} {course : Course} {has : Attempts P} {engine : Engine P} (process : P)
+        → Asks plan.singly before mid → IsNext mid.course mid.check.exam Start course
+        → mid.notes.fruitless < most_fruitless → MayStart mid.check mid.tally
+        → Tries had has (program_line plan.words.items) (Ok process)
+        → QuitsIfAny known (process_of mid.engine)
+        → ((notes : Notes) → dialogue engine notes ≡ begun_with process notes)
+        → Turn before had
+        (state (started mid.check) course (Some engine) (started_again mid.tally) (noted_start mid.notes)) has []
+        []
+    restarts : {mid : State P} {course : Course} → Asks plan.singly before mid
+        → IsNext mid.course mid.check.exam Restart course
+        → QuitsIfAny known (process_of mid.engine)
+        → Turn before had (record mid { check = after_loss mid.check; course = course; engine = None }) had [] []
+    kills : {mid : State P} {course : Course} → Asks plan.singly before mid
+        → IsNext mid.course mid.check.exam Kill course
+        → IsEnded known (process_of mid.engine)
+        → Turn before had (record mid { check = after_loss mid.check; course = course; engine = None }) had [] []
+    exchanges : {mid next after : State P} {has : Attempts P} {fault : Option Fault} {line said : List (List ℕ)}
+        → (heard : Exchanges before fault mid) → WritesFirst mid (is_some fault) next line
+        → Complains next had fault after has said
+        → Turn before had after has (line ++ said) (waiting plan heard.mid ++ (clearing line ++ looking said))
+
+  -- ---- why it is over
+
+  -- Why a check is over, where its course does this next. Each lesson was asked, and no answer is waited for. Or the
+  -- engine would be started: it was three times in a row, and gave no right answer; or no start is left; or it was
+  -- asked for, and wasn't started.
+  pub data IsOverBy (now : State P) (had : Attempts P) : Action → Over → Attempts P → Type 0 where
+    done : (now.check.exam.up ≡ false) ⊎ (length now.check.exam.unanswered ≡ 0)
+        → IsOverBy now had Done over.Done had
+    no_right_answer : most_fruitless ≤ now.notes.fruitless → IsOverBy now had Start over.NoRightAnswer had
+    no_more_starts : now.notes.fruitless < most_fruitless → (MayStart now.check now.tally → ⊥)
+        → IsOverBy now had Start over.NoMoreStarts had
+    not_started : {has : Attempts P} (reason : StartReason) → now.notes.fruitless < most_fruitless
+        → MayStart now.check now.tally
+        → Tries had has (program_line plan.words.items) (Err (start_fault.NotStarted reason))
+        → IsOverBy now had Start (over.NotStarted (unstarted (program_line plan.words.items) reason)) has
+
+  -- the check is over, after steps of the course
+  pub record IsOver (before : State P) (had : Attempts P) (why : Over) (after : State P) (has : Attempts P)
+      : Type 0 where
+    pub mid : State P
+    pub asks : Asks plan.singly before mid
+    pub action : Action
+    pub course : Course
+    pub next : IsNext mid.course mid.check.exam action course
+    pub over : IsOverBy after had action why has
+    pub leads : after ≡ record mid { course = course }
+
+  -- ---- turns, one after another
+
+  module _ {O E : Type 0} (outs : WriterGhosts O) (errs : WriterGhosts E) (progress : Bool) where
+    -- This number of turns was taken, from a first state on. What is due in each was written in it, and its progress
+    -- where that is asked for.
+    pub data Turns (first : State P) (asked : Attempts P) (out : O) (errors : E)
+        : ℕ → State P → Attempts P → O → E → Type 0 where
+      not_yet : Turns first asked out errors 0 first asked out errors
+      turns : {count : ℕ} {before after : State P} {had has : Attempts P} {between written : O} {seen sees : E}
+          {texts shows : List (List ℕ)} → Turns first asked out errors count before had between seen
+          → Turn before had after has texts shows → LinesGoOut outs texts between written
+          → IsShown errs progress shows seen sees
+          → Turns first asked out errors (count + 1) after has written sees
+
+    -- the check is over, after turns
+    pub record TurnsAreOver (first : State P) (asked : Attempts P) (out : O) (errors : E) (why : Over) (last : State P)
+        (has : Attempts P) (written : O) (sees : E) : Type 0 where
+      pub count : ℕ
+      pub before : State P
+      pub had : Attempts P
+      pub turns : Turns first asked out errors count before had written sees
+      pub over : IsOver before had why last has
+
+    -- Why a turn stopped. The output broke at what was due in it. Or memory was refused: for a start; for a command;
+    -- for the first line; or after something wrong was found, for its complaint. The process that the check had then,
+    -- if any, the starts that were asked for, and what was written of the progress.
+    pub data StopsIn (before : State P) (had : Attempts P) (out : O) (errors : E)
+        : Option P → Attempts P → O → E → Failure → Type 0 where
+      first_line_broke : {mid next : State P} {written : O} {sees : E} {fault : Option Fault} {line : List ℕ}
+          → (heard : Exchanges before fault mid) → WritesFirst mid (is_some fault) next (line ∷ [])
+          → BreaksAt outs line out written
+          → IsShown errs progress (waiting plan heard.mid ++ cleared ∷ []) errors sees
+          → StopsIn before had out errors (process_of mid.engine) had written sees Write
+      complaint_broke : {mid next after : State P} {has : Attempts P} {then written : O} {sees : E}
+          {fault : Option Fault} {line : List (List ℕ)} {text : List ℕ} → (heard : Exchanges before fault mid)
+          → WritesFirst mid (is_some fault) next line → LinesGoOut outs line out then
+          → Complains next had fault after has (text ∷ []) → BreaksAt outs text then written
+          → IsShown errs progress (waiting plan heard.mid ++ (clearing line ++ looking (text ∷ []))) errors sees
+          → StopsIn before had out errors None has written sees Write
+      no_memory_to_start : {mid : State P} {course : Course} {has : Attempts P} → Asks plan.singly before mid
+          → IsNext mid.course mid.check.exam Start course
+          → Tries had has (program_line plan.words.items) (Err start_fault.OutOfMemory)
+          → StopsIn before had out errors (process_of mid.engine) has out errors OutOfMemory
+      no_memory_to_ask : StopsIn before had out errors (process_of before.engine) had out errors OutOfMemory
+      no_memory_for_first_line : {mid : State P} {sees : E} {fault : Option Fault}
+          → (heard : Exchanges before fault mid)
+          → IsShown errs progress (waiting plan heard.mid) errors sees
+          → StopsIn before had out errors (process_of mid.engine) had out sees OutOfMemory
+      no_memory_to_complain : {mid next closed : State P} {has : Attempts P} {written : O} {sees : E} {fault : Fault}
+          {line : List (List ℕ)} {wrong : Wrong} → (heard : Exchanges before (Some fault) mid)
+          → WritesFirst mid true next line → LinesGoOut outs line out written → Closes known fault next wrong closed
+          → AsksForMore (program_line plan.words.items) had has
+          → IsShown errs progress (waiting plan heard.mid ++ (clearing line ++ looking_line ∷ [])) errors sees
+          → StopsIn before had out errors None has written sees OutOfMemory
+
+    -- a check stopped after turns: in the next one, or since there were too many
+    pub data HasStopped (first : State P) (asked : Attempts P) (out : O) (errors : E)
+        : Option P → Attempts P → O → E → Failure → Type 0 where
+      stopped : {count : ℕ} {before : State P} {had has : Attempts P} {between written : O} {seen sees : E}
+          {process : Option P} {failure : Failure} → Turns first asked out errors count before had between seen
+          → StopsIn before had between seen process has written sees failure
+          → HasStopped first asked out errors process has written sees failure
+      too_many_turns : {last : State P} {has : Attempts P} {written : O} {sees : E}
+          → Turns first asked out errors most_turns last has written sees
+          → HasStopped first asked out errors (process_of last.engine) has written sees TooManyTurns

@@ -1,0 +1,476 @@
+//! A check: the course of questions is asked of an engine, and what is found is written.
+ghost use Rattle.std.specs.Prelude.{◌≡◌, ◌+◌, ◌<◌, ◌≤◌, ◌⊎◌, true, false, None, IfOk, IfErr, IfSome, IsSome};
+ghost use Rattle.std.specs.Prelude.{length, OnOk};
+ghost use Rattle.arrayvec.specs.ArrayVec.{array_vec_len};
+ghost use Rattle.gtp_process.specs.Endings.{IsEnded};
+ghost use Rattle.gtp_process.specs.Quitting.{QuitsIfAny};
+ghost use Rattle.gtp_check_judge.specs.Exam.{HasRoomFor};
+ghost use Rattle.gtp_check_app.specs.Checks.{AreLastLines, IsClosed, IsEnding};
+ghost use Rattle.gtp_check_app.specs.Turns.{AsksEngine, HasStopped, IsHeardOut, StopsIn};
+ghost use Rattle.gtp_check_app.specs.Turns.{MayStart, TurnsAreOver, before_all, is_first_due, process_of};
+ghost use Rattle.gtp_check_app.specs.Turns.{purpose_in, state_of, without_engine};
+ghost use Rattle.gtp_check_app.specs.private.Steps.{Begins, EndsTurn, FirstGoesOut, FirstStops, Gathers};
+ghost use Rattle.gtp_check_app.specs.private.Steps.{IsPaired, IsRefused, Settles, StopsAfter};
+ghost use Rattle.gtp_check_app.specs.declared.engine.TheConstants.{LINES_ROOM};
+
+use crate::closing::{close, end_now, quit};
+use crate::engine::{Engine, Fault, Room};
+use crate::notes::Notes;
+use crate::plan::Plan;
+use crate::progress::clear;
+use crate::summary::{Ending, Over, first_line, last_lines};
+use crate::talk::Purpose;
+use crate::tally::Tally;
+use byte_streams::{WriteOnce, write_text};
+use cli::failure::Failure;
+use gtp_check_judge::{CheckCommand, Examiner};
+use gtp_check_questions::{Action, Course, Lesson, Lessons};
+use gtp_process::{Process, StartFault, Starter, Unstarted};
+use std::alloc::{AllocError, Global};
+
+/// How many turns a check has at most. No check within the limits has this number.
+const MOST_TURNS: u64 = 1_000_000_000_000;
+
+/// How many steps of the course are taken in one turn at most.
+const MOST_STEPS: u32 = 64;
+
+/// How often an engine is started that is found right: less than this.
+const ORDINARY_STARTS: u32 = 32;
+
+/// After so many starts in a row without a right answer the check is over.
+const MOST_FRUITLESS: u32 = 3;
+
+/// A check that goes on. It is not `Drop`: its process has to be ended.
+pub struct Check<S: Starter> {
+    /// What hands out memory.
+    pub alloc: Global,
+    /// What is due to each command, and what was started.
+    pub examiner: Examiner,
+    /// What comes next.
+    pub course: Course,
+    /// The engine, if there is one.
+    pub engine: Option<Engine<S::Process>>,
+    /// What is noted of right answers.
+    pub notes: Notes,
+    /// What was found.
+    pub tally: Tally,
+    /// The room for what is read.
+    pub room: Room,
+}
+
+/// What comes next in a turn.
+#[derive(Clone, Copy, Debug, PartialEq, Eq)]
+enum Next {
+    /// An engine is started.
+    Start,
+    /// The engine is sent `quit` and ended, and a new one is started.
+    Restart,
+    /// The engine is ended at once, and a new one is started.
+    Kill,
+    /// What was asked is sent, and the engine is heard.
+    Exchange,
+    /// Each lesson was asked.
+    Over,
+}
+
+impl<S: Starter> Check<S> {
+    /// Before the first start.
+    pub fn new(alloc: Global, plan: &Plan<'_>) -> Self
+        ensures first { state_of result ≡ before_all plan.now }
+        ensures down { result.examiner.exam.up ≡ false }
+    {
+        Check {
+            alloc,
+            examiner: Examiner::new(plan.rule, plan.restarts.saturating_add(ORDINARY_STARTS)),
+            course: Course::new(copied(&plan.lessons), plan.scene_size, plan.seed),
+            engine: None,
+            notes: Notes::new(),
+            tally: Tally::new(plan.restarts),
+            room: Room::new(),
+        }
+    }
+
+    /// Takes turns until the check is over, and returns why it is.
+    ///
+    /// # Errors
+    ///
+    /// Where memory is refused, or what was found can't be written.
+    pub fn take_turns<O: WriteOnce, E: WriteOnce>(
+        &mut self,
+        plan: &Plan<'_>,
+        progress: bool,
+        output: &mut O,
+        errors: &mut E,
+        starter: &mut S,
+    ) -> Result<Over, Failure>
+        requires { IsPaired (state_of self.old) }
+        ensures over { IfOk result (λ over.
+            TurnsAreOver S.Process.Process plan.now O.WriteOnce E.WriteOnce progress
+            (state_of self.old) (S.asked starter.old) output.old errors.old
+            over (state_of self.new) (S.asked starter.new) output.new errors.new) }
+        ensures stopped { IfErr result (λ why.
+            HasStopped S.Process.Process plan.now O.WriteOnce E.WriteOnce progress
+            (state_of self.old) (S.asked starter.old) output.old errors.old
+            (process_of self.new.engine) (S.asked starter.new) output.new errors.new why) }
+    {
+        for _turn in 0..MOST_TURNS {
+            if let Some(over) = self.take_turn(plan, progress, output, errors, starter)? {
+                return Ok(over);
+            }
+        }
+        Err(Failure::TooManyTurns)
+    }
+
+    /// Takes the next steps of the course, up to an answer that has to come first.
+    fn take_turn<O: WriteOnce, E: WriteOnce>(
+        &mut self,
+        plan: &Plan<'_>,
+        progress: bool,
+        output: &mut O,
+        errors: &mut E,
+        starter: &mut S,
+    ) -> Result<Option<Over>, Failure>
+        requires { IsPaired (state_of self.old) }
+        ensures turn { IfOk result (λ over.
+            EndsTurn S.Process.Process plan.now O.WriteOnce E.WriteOnce progress
+            (state_of self.old) (S.asked starter.old) output.old errors.old
+            over (state_of self.new) (S.asked starter.new) output.new errors.new) }
+        ensures stops { IfErr result (λ why.
+            StopsIn S.Process.Process plan.now O.WriteOnce E.WriteOnce progress
+            (state_of self.old) (S.asked starter.old) output.old errors.old
+            (process_of self.new.engine) (S.asked starter.new) output.new errors.new why) }
+        ensures paired { OnOk result (IsPaired (state_of self.new)) }
+    {
+        match self.gather(plan.singly)? {
+            Next::Start => self.start(plan, starter),
+            Next::Restart => {
+                self.restart();
+                Ok(None)
+            }
+            Next::Kill => {
+                self.kill();
+                Ok(None)
+            }
+            Next::Over => Ok(Some(Over::Done)),
+            Next::Exchange => {
+                self.show_waiting(progress, plan, errors);
+                let fault = self.exchange();
+                self.settle(fault, plan, progress, output, errors, starter)?;
+                Ok(None)
+            }
+        }
+    }
+
+    /// The engine is asked what comes next, as much as may be asked before it answers.
+    fn gather(&mut self, singly: bool) -> Result<Next, AllocError>
+        requires paired { IsPaired (state_of self.old) }
+        ensures gathers { IfOk result (λ next.
+            Gathers singly (state_of self.old) next (state_of self.new)) }
+        ensures paired { IsPaired (state_of self.new) }
+        ensures process { process_of self.new.engine ≡ process_of self.old.engine }
+    {
+        for _step in 0..MOST_STEPS {
+            if !self.has_room(singly) {
+                return Ok(Next::Exchange);
+            }
+            let purpose = self.purpose();
+            match self.course.next(&self.examiner) {
+                Action::Start => return Ok(Next::Start),
+                Action::Restart => return Ok(Next::Restart),
+                Action::Kill => return Ok(Next::Kill),
+                Action::Ask(command) => self.ask(command, purpose)?,
+                Action::Wait => return Ok(Next::Exchange),
+                Action::Skip => {}
+                Action::Done => {
+                    return Ok(if self.is_owed() {
+                        Next::Exchange
+                    } else {
+                        Next::Over
+                    });
+                }
+            }
+        }
+        Ok(Next::Exchange)
+    }
+
+    /// Whether another command may be asked before the engine is heard.
+    fn has_room(&self, singly: bool) -> bool
+        ensures room { result ≡ true → IfSome self.now.engine (λ engine.
+            array_vec_len engine.waiting + 64 ≤ LINES_ROOM) }
+        ensures alone { result ≡ true → IsSome self.now.engine → singly ≡ true
+            → length self.now.examiner.exam.unanswered ≡ 0 }
+        ensures full { result ≡ false → IsSome self.now.engine }
+        ensures why { result ≡ false → IfSome self.now.engine (λ engine.
+            (LINES_ROOM < array_vec_len engine.waiting + 64)
+            ⊎ ((singly ≡ true) × (0 < length self.now.examiner.exam.unanswered))) }
+    {
+        match &self.engine {
+            Some(engine) => engine.has_room() && !(singly && self.examiner.unanswered() > 0),
+            None => true,
+        }
+    }
+
+    /// Whether an answer of an engine that is up is waited for.
+    fn is_owed(&self) -> bool
+        ensures owed { result ≡ true → self.now.examiner.exam.up ≡ true }
+        ensures some { result ≡ true → 0 < length self.now.examiner.exam.unanswered }
+        ensures not_owed { result ≡ false → (self.now.examiner.exam.up ≡ false)
+            ⊎ (length self.now.examiner.exam.unanswered ≡ 0) }
+    {
+        self.examiner.is_up() && self.examiner.unanswered() > 0
+    }
+
+    /// What the next command is asked for.
+    pub fn purpose(&self) -> Purpose
+        ensures { result ≡ purpose_in self.now.course }
+    {
+        purpose_in(&self.course)
+    }
+
+    /// The engine is asked a command.
+    fn ask(&mut self, command: CheckCommand, purpose: Purpose) -> Result<(), AllocError>
+        requires may { HasRoomFor self.old.examiner.exam command }
+        requires there { IsSome self.old.engine }
+        requires room { IfSome self.old.engine (λ engine.
+            array_vec_len engine.waiting + 64 ≤ LINES_ROOM) }
+        ensures asks { OnOk result
+            (AsksEngine purpose (state_of self.old) command (state_of self.new)) }
+        ensures there { IsSome self.new.engine }
+        ensures process { process_of self.new.engine ≡ process_of self.old.engine }
+    {
+        match &mut self.engine {
+            Some(engine) => engine.ask(&mut self.examiner, command, purpose, &mut self.notes),
+            None => Ok(()),
+        }
+    }
+
+    /// What was asked is sent, and the engine is heard.
+    fn exchange(&mut self) -> Option<Fault>
+        requires { IsSome self.old.engine }
+        ensures heard { IsHeardOut S.Process.Process (state_of self.old) result (state_of self.new) }
+        ensures there { IsSome self.new.engine }
+    {
+        match &mut self.engine {
+            Some(engine) => { engine.exchange(&mut self.examiner, &mut self.room, &mut self.notes) }
+            None => None,
+        }
+    }
+
+    /// Whether the engine may be started once more.
+    fn may_start(&self) -> bool
+        ensures yes { result ≡ true → MayStart self.now.examiner self.now.tally }
+        ensures no { result ≡ false → MayStart self.now.examiner self.now.tally → ⊥ }
+    {
+        self.examiner.may_start() && self.tally.may_start()
+    }
+
+    /// What is due after an exchange is written: the first line, and what is wrong.
+    fn settle<O: WriteOnce, E: WriteOnce>(
+        &mut self,
+        fault: Option<Fault>,
+        plan: &Plan<'_>,
+        progress: bool,
+        output: &mut O,
+        errors: &mut E,
+        starter: &mut S,
+    ) -> Result<(), Failure>
+        requires { IsSome self.old.engine }
+        ensures goes_out { OnOk result
+            (Settles S.Process.Process plan.now O.WriteOnce E.WriteOnce progress
+            (state_of self.old) (S.asked starter.old) fault
+            (state_of self.new) (S.asked starter.new)
+            output.old output.new errors.old errors.new) }
+        ensures stops { IfErr result (λ why.
+            StopsAfter S.Process.Process plan.now O.WriteOnce E.WriteOnce progress
+            (state_of self.old) (S.asked starter.old) fault (process_of self.new.engine)
+            (S.asked starter.new) output.old output.new errors.old errors.new why) }
+        ensures paired { OnOk result (IsPaired (state_of self.new)) }
+    {
+        self.write_first(fault.is_some(), plan, progress, output, errors)?;
+        match fault {
+            Some(fault) => self.complain(fault, plan, progress, output, errors, starter),
+            None => Ok(()),
+        }
+    }
+
+    /// An engine is started, where one may be.
+    #[inline(never)]
+    fn start(&mut self, plan: &Plan<'_>, starter: &mut S) -> Result<Option<Over>, Failure>
+        ensures begins { IfOk result (λ over. Begins S.Process.Process plan.now
+            (state_of self.old) (S.asked starter.old) over
+            (state_of self.new) (S.asked starter.new)) }
+        ensures refused { IfErr result (λ why. IsRefused plan.now
+            (state_of self.old) (S.asked starter.old) why
+            (state_of self.new) (S.asked starter.new)) }
+    {
+        if self.notes.fruitless >= MOST_FRUITLESS {
+            return Ok(Some(Over::NoRightAnswer));
+        }
+        if !self.may_start() {
+            return Ok(Some(Over::NoMoreStarts));
+        }
+        match starter.start(plan.words.as_slice()) {
+            Ok(process) => {
+                self.examiner.started();
+                self.notes.start();
+                self.tally.start();
+                let engine = Engine::new(self.alloc, process);
+                quit(self.engine.replace(engine), &mut self.room);
+                Ok(None)
+            }
+            Err(StartFault::OutOfMemory) => Err(Failure::OutOfMemory),
+            Err(StartFault::NotStarted(reason)) => {
+                let unstarted = Unstarted::new(plan.words.as_slice(), reason);
+                Ok(Some(Over::NotStarted(unstarted)))
+            }
+        }
+    }
+
+    /// The engine, which owes nothing, is sent `quit` and ended.
+    #[inline(never)]
+    fn restart(&mut self)
+        ensures quits { QuitsIfAny S.Process.Process (process_of self.old.engine) }
+        ensures leads { state_of self.new ≡ without_engine (state_of self.old) }
+    {
+        self.examiner.lost();
+        quit(self.engine.take(), &mut self.room);
+    }
+
+    /// The engine, which owes nothing, is ended without `quit`.
+    #[inline(never)]
+    fn kill(&mut self)
+        ensures ends { IsEnded S.Process.Process (process_of self.old.engine) }
+        ensures leads { state_of self.new ≡ without_engine (state_of self.old) }
+    {
+        self.examiner.lost();
+        end_now(self.engine.take());
+    }
+
+    /// Whether the first line is due: once the version is known, or something is wrong.
+    fn is_first_due(&self, is_wrong: bool) -> bool
+        ensures { result ≡ is_first_due self.now.tally self.now.notes is_wrong }
+    {
+        !self.tally.has_first_line && (is_wrong || self.notes.version.is_some())
+    }
+
+    /// The first line is written once the version is known, or something is wrong.
+    #[inline(never)]
+    fn write_first<O: WriteOnce, E: WriteOnce>(
+        &mut self,
+        is_wrong: bool,
+        plan: &Plan<'_>,
+        progress: bool,
+        output: &mut O,
+        errors: &mut E,
+    ) -> Result<(), Failure>
+        ensures goes_out { OnOk result
+            (FirstGoesOut S.Process.Process plan.now O.WriteOnce E.WriteOnce progress
+            (state_of self.old) is_wrong (state_of self.new)
+            output.old output.new errors.old errors.new) }
+        ensures stops { IfErr result (λ why.
+            FirstStops S.Process.Process plan.now O.WriteOnce E.WriteOnce progress
+            (state_of self.old) is_wrong (state_of self.new)
+            output.old output.new errors.old errors.new why) }
+        ensures engine { self.new.engine ≡ self.old.engine }
+    {
+        if !self.is_first_due(is_wrong) {
+            return Ok(());
+        }
+        let line = first_line(self.alloc, plan, &self.notes)?;
+        self.tally.has_first_line = true;
+        clear(progress, errors);
+        write_text(output, line.as_slice())?;
+        Ok(())
+    }
+
+    /// How many complaints there are.
+    pub fn complaints(&self) -> u32
+        ensures { result ≡ self.now.tally.complaints }
+    {
+        self.tally.complaints
+    }
+
+    /// How many engines were started.
+    pub fn starts(&self) -> u32
+        ensures { result ≡ self.now.examiner.starts }
+    {
+        self.examiner.starts()
+    }
+
+    /// The engine is ended at once.
+    pub fn end_at_once(self)
+        ensures { IsEnded S.Process.Process (process_of self.engine) }
+    {
+        let Check {
+            alloc: _,
+            examiner: _,
+            course: _,
+            engine,
+            notes: _,
+            tally: _,
+            room: _,
+        } = self;
+        end_now(engine);
+    }
+
+    /// The engine is ended: one that owes nothing after it was sent `quit`, and any other at once.
+    pub fn end(self, plan: &Plan<'_>, over: &Over) -> Result<Vec<u8>, AllocError>
+        ensures closed { IsClosed S.Process.Process (state_of self) }
+        ensures text { IfOk result (λ text.
+            AreLastLines plan.now (state_of self) over.now text.items) }
+    {
+        let Check {
+            alloc,
+            examiner,
+            course,
+            engine,
+            notes,
+            tally,
+            mut room,
+        } = self;
+        close(engine, examiner.unanswered() == 0, &mut room);
+        let lesson = course.place().lesson;
+        let ending = ending_of(plan, &tally, lesson, examiner.starts(), over);
+        last_lines(alloc, plan, &notes, &ending)
+    }
+}
+
+/// What the last lines say of a check that is over for this reason in this lesson of the course, after so many starts.
+fn ending_of<'c>(
+    plan: &'c Plan<'_>,
+    tally: &'c Tally,
+    lesson: usize,
+    starts: u32,
+    over: &'c Over,
+) -> Ending<'c>
+    ensures { IsEnding plan.now tally.now lesson starts over.now result }
+{
+    let done = lesson.min(plan.lessons.len());
+    Ending {
+        over,
+        missed: &plan.lessons[done..],
+        hidden: tally.hidden.as_slice(),
+        starts,
+        complaints: tally.complaints,
+    }
+}
+
+/// What the course asks for next.
+pub fn purpose_in(course: &Course) -> Purpose
+    ensures { result ≡ purpose_in course.now }
+{
+    Purpose {
+        lesson: course.lesson().unwrap_or(Lesson::Restarts),
+        part: course.place().part,
+    }
+}
+
+/// The same lessons.
+fn copied(lessons: &Lessons) -> Lessons
+    ensures { result.items ≡ lessons.now.items }
+{
+    let mut copy = Lessons::new();
+    // All fit.
+    let _ = copy.try_extend_from_slice(lessons);
+    copy
+}

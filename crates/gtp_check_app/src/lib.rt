@@ -1,0 +1,31 @@
+//! What the program `gtp_check` does: a check of one engine that speaks the Go Text Protocol, version 2. Here are its
+//! options, its plan, its turns and its texts; `gtp_check_questions` asks, and `gtp_check_judge` judges.
+//!
+//! [`run::run`] is the whole check. The program calls it with the arguments, the standard streams and the
+//! system's processes.
+#![tactic(auto)]
+
+mod answers;
+mod check;
+mod closing;
+mod complaining;
+pub mod complaint;
+pub mod engine;
+pub mod failure;
+pub mod flat;
+mod held;
+mod kinds;
+pub mod laws;
+pub mod listing;
+pub mod notes;
+pub mod options;
+pub mod plan;
+pub mod progress;
+mod rules;
+pub mod run;
+pub mod summary;
+pub mod superko;
+pub mod talk;
+pub mod tally;
+mod texts;
+mod trial;

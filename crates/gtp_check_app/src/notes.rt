@@ -1,0 +1,190 @@
+//! What is noted of right answers.
+ghost use Rattle.std.specs.Prelude.{◌≡◌};
+ghost use Rattle.gtp_check_app.specs.Notes.{beginning_of, counted, is_on_board, is_refused, lacks, match_on_board};
+ghost use Rattle.gtp_check_app.specs.Notes.{noted, noted_of, nothing_noted, started, with_answer, with_lacks};
+ghost use Rattle.gtp_check_app.specs.Notes.{with_lesson, with_size};
+
+use crate::plan::is_among;
+use arrayvec::ArrayVec;
+use go_base::{Size, push};
+use gtp_check_judge::{CheckCommand, Examiner, Heard, Skill, Skills};
+use gtp_check_questions::{Lesson, Lessons};
+use gtp_wire::{Command, MOST_SHOWN, Reply};
+
+/// The beginning of what an engine wrote: 80 bytes at most.
+pub type Beginning = ArrayVec<u8, MOST_SHOWN>;
+
+/// What is noted of the right answers of an engine, over all its starts.
+#[derive(Drop)]
+pub struct Notes {
+    /// The beginning of its name, once it has answered.
+    pub name: Option<Beginning>,
+    /// The beginning of its version.
+    pub version: Option<Beginning>,
+    /// The sizes that it refused, each once.
+    pub refused: ArrayVec<u32, 25>,
+    /// Whether it said that it lacks `fixed_handicap`.
+    pub lacks_handicap: bool,
+    /// Whether it said that it lacks `undo`.
+    pub lacks_undo: bool,
+    /// Whether it said that it lacks `final_score`.
+    pub lacks_score: bool,
+    /// Whether it gave a right answer since it was started.
+    pub has_answered: bool,
+    /// How often in a row it was started and gave no right answer.
+    pub fruitless: u32,
+    /// How many commands were asked.
+    pub commands: u32,
+    /// The lessons in which something was asked that needs a board of a size that is set, each once.
+    pub asked: Lessons,
+}
+
+impl Notes {
+    /// Before the first start.
+    pub fn new() -> Notes
+        ensures { result ≡ nothing_noted }
+    {
+        Notes {
+            name: None,
+            version: None,
+            refused: ArrayVec::new(),
+            lacks_handicap: false,
+            lacks_undo: false,
+            lacks_score: false,
+            has_answered: false,
+            fruitless: 0,
+            commands: 0,
+            asked: Lessons::new(),
+        }
+    }
+
+    /// The engine was started.
+    pub fn start(&mut self)
+        ensures { self.new ≡ started self.old }
+    {
+        self.has_answered = false;
+        self.fruitless = self.fruitless.saturating_add(1);
+    }
+
+    /// A command was asked in a lesson.
+    pub fn count(&mut self, lesson: Lesson, command: &CheckCommand)
+        ensures { self.new ≡ counted lesson command.now self.old }
+    {
+        self.commands = self.commands.saturating_add(1);
+        if is_on_board(command) {
+            self.ask(lesson);
+        }
+    }
+
+    /// Something was asked on a board in a lesson.
+    fn ask(&mut self, lesson: Lesson)
+        ensures { self.new ≡ with_lesson lesson self.old }
+    {
+        if !is_among(&self.asked, lesson) {
+            // All lessons fit.
+            let _ = self.asked.try_push(lesson);
+        }
+    }
+
+    /// What was heard without a finding. The reply is read only where a command was answered.
+    pub fn take(&mut self, heard: &Heard, reply: &Reply, examiner: &Examiner)
+        ensures { self.new ≡ noted self.old
+            heard.now.answered heard.now.refused reply.now examiner.now.exam.skills }
+    {
+        let Some(asked) = heard.answered else {
+            return;
+        };
+        self.answer(&asked.command, reply, examiner.skills());
+        if let Some(size) = heard.refused {
+            self.refuse(size);
+        }
+    }
+
+    /// A right answer to a command.
+    fn answer(&mut self, command: &CheckCommand, reply: &Reply, skills: Skills)
+        ensures { self.new ≡ noted_of command.now reply.now skills (with_answer self.old) }
+    {
+        self.has_answered = true;
+        self.fruitless = 0;
+        match command {
+            CheckCommand::Name => self.name = Some(beginning_of(reply)),
+            CheckCommand::Version => self.version = Some(beginning_of(reply)),
+            CheckCommand::KnownCommand(_) => self.take_skills(skills),
+            CheckCommand::Match(_) | CheckCommand::FinalScore => {}
+        }
+    }
+
+    /// What the engine said that it lacks.
+    fn take_skills(&mut self, skills: Skills)
+        ensures { self.new ≡ with_lacks self.old skills }
+    {
+        self.lacks_handicap = self.lacks_handicap || lacks(skills.fixed_handicap);
+        self.lacks_undo = self.lacks_undo || lacks(skills.undo);
+        self.lacks_score = self.lacks_score || lacks(skills.final_score);
+    }
+
+    /// It refused a size.
+    fn refuse(&mut self, size: Size)
+        ensures { self.new ≡ with_size self.old size }
+    {
+        let lines = size.get();
+        if !self.is_refused(lines) {
+            // There are 25 sizes.
+            let _ = self.refused.try_push(lines);
+        }
+    }
+
+    /// Whether it refused a size before.
+    fn is_refused(&self, lines: u32) -> bool
+        ensures { result ≡ is_refused self.now lines }
+    {
+        self.refused.iter().any(|known| *known == lines)
+    }
+}
+
+/// Whether a command is asked on a board, of a size that was taken.
+fn is_on_board(command: &CheckCommand) -> bool
+    ensures { result ≡ is_on_board command.now }
+{
+    match command {
+        CheckCommand::Match(command) => match_on_board(command),
+        CheckCommand::FinalScore => true,
+        CheckCommand::Name | CheckCommand::Version | CheckCommand::KnownCommand(_) => false,
+    }
+}
+
+/// The same of a command of a match.
+fn match_on_board(command: &Command) -> bool
+    ensures { result ≡ match_on_board command.now }
+{
+    match command {
+        Command::Boardsize(_) | Command::Quit => false,
+        Command::Komi(_)
+        | Command::ClearBoard
+        | Command::FixedHandicap(_)
+        | Command::Play(_)
+        | Command::Genmove(_)
+        | Command::Undo => true,
+    }
+}
+
+/// Whether an engine said that it lacks a command.
+fn lacks(skill: Skill) -> bool
+    ensures { result ≡ lacks skill }
+{
+    match skill {
+        Skill::Lacks => true,
+        Skill::Unasked | Skill::Has => false,
+    }
+}
+
+/// The beginning of the text of a reply, and nothing of a failure.
+fn beginning_of(reply: &Reply) -> Beginning
+    ensures { result.items ≡ beginning_of reply.now }
+{
+    let mut text = ArrayVec::new();
+    if reply.ok {
+        push(&mut text, &reply.text[..MOST_SHOWN.min(reply.text.len())]);
+    }
+    text
+}

@@ -1,0 +1,394 @@
+//! The options of the command line.
+ghost use Rattle.std.specs.Prelude.{◌≡◌, ◌⊎◌, ◌<◌, ◌+◌, ◌≤◌, [], ◌∷◌, ◌++◌, codes, length, map, unwrap_or};
+ghost use Rattle.std.specs.Prelude.{false, if◌then◌else◌, option_map, IfOk, IfErr};
+ghost use Rattle.std.specs.List.{list_any};
+ghost use Rattle.std.specs.Str.{bytes_eq};
+ghost use Rattle.arrayvec.specs.ArrayVec.{array_vec_len};
+ghost use Rattle.clap.specs.Words.{all_of, app_of, first_of, first_value, found_of, kind_of, rows_of, rule_of};
+ghost use Rattle.clap.specs.declared.error.kind.ErrorKind.TheVariants.{OutOfMemory};
+ghost use Rattle.clap.specs.declared.builder.value_parser.ValueParser.TheVariants as the_parser;
+ghost use Rattle.gtp_check_app.specs.Options.{Ask, AsksFor, HasFault, HasFlag, HasNumber, default_rule, flag_rule};
+ghost use Rattle.gtp_check_app.specs.Options.{is_named, ko_rule_named, lessons_named, lessons_of, list_rule, program};
+ghost use Rattle.gtp_check_app.specs.Options.{value_rule, word_rule};
+ghost use Rattle.gtp_check_app.specs.private.CommandLine.{IsCommandLine, rule_of_row, with_options};
+
+use clap::builder::ValueParser;
+use clap::{Arg, ArgAction, ArgMatches, Command, Error};
+use go_board::{KoRule, VERSION};
+use gtp_check_questions::{LESSONS, Lesson, Lessons};
+use std::alloc::{AllocError, Global};
+use std::convert::AsStr;
+
+/// What the help says below the options: what is written, the statuses, and an example.
+const AFTER_OPTIONS: &str = "\
+Each complaint is a block of lines: the conversation since the engine was
+started, as it was sent, and what was wrong. The other lines begin with #,
+which is a comment, so a block can be pasted into the engine as it is.
+The last line is: check: N commands, M starts, K complaints
+An engine that doesn't answer is waited for; put timeout before its command.
+
+Status:
+  0  nothing was found
+  1  something was found
+  2  the arguments have a mistake, or the engine could not be started
+  3  the program could not go on: write fault, out of memory, too many turns
+
+Example:
+  gtp_check 'gnugo --mode gtp --chinese-rules'
+
+More: man gtp_check";
+
+/// What the command line asks for.
+#[derive(Drop)]
+pub struct Options<'a> {
+    /// The command of the engine, which is not split yet; empty where the words don't say.
+    pub command: &'a str,
+    /// The size of the boards of scenes, 5 to 25; 0 where the words don't say.
+    pub size: u32,
+    /// The ko rule; `simple` where the words don't say.
+    pub rule: KoRule,
+    /// The seed of what is drawn; 1 where the words don't say.
+    pub seed: u32,
+    /// Whether only the lessons up to the scenes are asked.
+    pub quick: bool,
+    /// The lessons that are asked alone; none where the words don't say.
+    pub only: Lessons,
+    /// The lessons that are left out.
+    pub skip: Lessons,
+    /// Whether the lessons are listed, and nothing is asked.
+    pub list: bool,
+    /// Whether each command is asked only once the one before is answered.
+    pub singly: bool,
+    /// How often the engine is started after something was found, 0 to 1,000.
+    pub restarts: u32,
+}
+
+/// An option of the command line.
+#[derive(Clone, Copy)]
+struct OptionRow<'a> {
+    /// The name that follows the two dashes.
+    name: &'a str,
+    /// What follows the name.
+    takes: Takes<'a>,
+    /// What the help says.
+    help: &'a str,
+}
+
+/// What an option takes.
+#[derive(Clone, Copy)]
+enum Takes<'a> {
+    /// No value.
+    Nothing,
+    /// A whole number, from the first to the second; what the text spells where the words don't say.
+    Number(i64, i64, &'a str),
+    /// A whole number, from the first to the second, or none.
+    MaybeNumber(i64, i64),
+    /// One of these names; the second where the words don't say.
+    Name(&'a [&'a str], &'a str),
+    /// One of these names, any number of times.
+    Names(&'a [&'a str]),
+}
+
+/// The options, in the order of the help.
+static OPTIONS: [OptionRow<'static>; 9] = [
+    OptionRow {
+        name: "size",
+        takes: Takes::MaybeNumber(5, 25),
+        help: "Size of the boards of scenes, 5 to 25 [default: the\n\
+            smallest from 5 that the engine takes]",
+    },
+    OptionRow {
+        name: "ko",
+        takes: Takes::Name(&["simple", "positional"], "simple"),
+        help: "Rule of ko: simple or positional",
+    },
+    OptionRow {
+        name: "seed",
+        takes: Takes::Number(0, 4294967295, "1"),
+        help: "Seed of what is drawn, 0 to 4294967295",
+    },
+    OptionRow {
+        name: "quick",
+        takes: Takes::Nothing,
+        help: "End after the scenes, the first six lessons",
+    },
+    OptionRow {
+        name: "only",
+        takes: Takes::Names(&[
+            "start",
+            "sizes",
+            "ko",
+            "captures",
+            "suicide",
+            "joining",
+            "handicaps",
+            "komi",
+            "drawn",
+            "record",
+            "genmoves",
+            "games",
+            "restarts",
+        ]),
+        help: "Ask this lesson, and no others but those that are\n\
+            named so too",
+    },
+    OptionRow {
+        name: "skip",
+        takes: Takes::Names(&[
+            "start",
+            "sizes",
+            "ko",
+            "captures",
+            "suicide",
+            "joining",
+            "handicaps",
+            "komi",
+            "drawn",
+            "record",
+            "genmoves",
+            "games",
+            "restarts",
+        ]),
+        help: "Leave this lesson out",
+    },
+    OptionRow {
+        name: "list",
+        takes: Takes::Nothing,
+        help: "Print the lessons, and ask nothing",
+    },
+    OptionRow {
+        name: "singly",
+        takes: Takes::Nothing,
+        help: "Ask each command once the one before is answered",
+    },
+    OptionRow {
+        name: "restarts",
+        takes: Takes::Number(0, 1000, "200"),
+        help: "Starts after something was found,\n\
+            0 to 1000",
+    },
+];
+
+/// Reads the words of a command line, of which the first is the program's name. The error is a mistake in the words, a
+/// request for help or the version, or want of memory; its `Display` is the text for the user.
+pub fn read_options<'a, S: AsStr>(alloc: Global, words: &'a [S]) -> Result<Options<'a>, Error>
+    ensures asked { IfOk result (AsksFor (map S.text words.entry.now)) }
+    ensures fault { IfErr result (λ error. (kind_of error ≡ OutOfMemory)
+        ⊎ HasFault (map S.text words.entry.now) (kind_of error)) }
+{
+    let matches = command(alloc)?.try_get_matches_from(words)?;
+    Ok(options_of(&matches))
+}
+
+/// The options of a command line. The defaults here aren't met, since the command line has its own.
+fn options_of<'a>(matches: &ArgMatches<'a>) -> Options<'a>
+    ensures { Ask (rows_of (found_of matches.now)) result }
+{
+    Options {
+        command: text_at(matches, "CMD"),
+        size: number_at(matches, "size"),
+        rule: ko_rule_of(matches),
+        seed: number_at(matches, "seed"),
+        quick: flag_at(matches, "quick"),
+        only: lessons_at(matches, "only"),
+        skip: lessons_at(matches, "skip"),
+        list: flag_at(matches, "list"),
+        singly: flag_at(matches, "singly"),
+        restarts: number_at(matches, "restarts"),
+    }
+}
+
+/// The text of an option, and none where it has none.
+fn text_at<'a>(matches: &ArgMatches<'a>, name: &str) -> &'a str
+    ensures { result.now ≡ unwrap_or (first_of name.now (rows_of (found_of matches.now))) [] }
+{
+    matches.get_str(name).unwrap_or("")
+}
+
+/// The number of an option, and 0 where it has none.
+fn number_at(matches: &ArgMatches<'_>, name: &str) -> u32
+    ensures { HasNumber name.now (rows_of (found_of matches.now)) result }
+{
+    matches.get_one::<u32>(name).unwrap_or(0)
+}
+
+/// Whether a flag is used.
+fn flag_at(matches: &ArgMatches<'_>, name: &str) -> bool
+    ensures { HasFlag name.now (rows_of (found_of matches.now)) result }
+{
+    matches.get_flag(name)
+}
+
+/// The ko rule that the matches name.
+fn ko_rule_of(matches: &ArgMatches<'_>) -> KoRule
+    ensures { result ≡ ko_rule_named (first_value (found_of matches.now) (codes "ko")) }
+{
+    match matches.get_str("ko") {
+        Some("positional") => KoRule::Positional,
+        _ => KoRule::Simple,
+    }
+}
+
+/// The lessons that an option names, in the order of a course.
+fn lessons_at(matches: &ArgMatches<'_>, name: &str) -> Lessons
+    ensures { result.items ≡ lessons_of name.now (rows_of (found_of matches.now)) }
+{
+    match matches.get_strs(name) {
+        Some(names) => lessons_named(names),
+        None => Lessons::new(),
+    }
+}
+
+/// The lessons of these names.
+fn lessons_named(names: &[&str]) -> Lessons
+    ensures { result.items ≡ lessons_named (map (λ name. name.now) names.now) }
+{
+    let mut lessons = Lessons::new();
+    for lesson in LESSONS {
+        add_if(&mut lessons, lesson, is_named(names, lesson));
+    }
+    lessons
+}
+
+/// Whether a lesson is named.
+fn is_named(names: &[&str], lesson: Lesson) -> bool
+    ensures { result ≡ is_named (map (λ name. name.now) names.now) lesson }
+{
+    contains(names, lesson.name())
+}
+
+/// Whether a text is among these.
+fn contains(texts: &[&str], wanted: &str) -> bool
+    ensures { result ≡ list_any (λ text. bytes_eq text.now wanted.now) texts.now }
+{
+    texts.iter().any(|text| *text == wanted)
+}
+
+/// Appends a lesson where this is so.
+pub fn add_if(lessons: &mut Lessons, lesson: Lesson, is_so: bool)
+    requires { array_vec_len lessons.old < 13 }
+    ensures items { lessons.new.items
+        ≡ lessons.old.items ++ (if is_so then lesson ∷ [] else []) }
+    ensures few { array_vec_len lessons.new ≤ array_vec_len lessons.old + 1 }
+{
+    if is_so {
+        lessons.push(lesson);
+    }
+}
+
+/// The command line, with its help and its version.
+fn command<'a>(alloc: Global) -> Result<Command<'a>, AllocError>
+    ensures { IfOk result (λ command. IsCommandLine (app_of command)) }
+{
+    with_options(alloc, program(alloc)?, OPTIONS.as_slice())
+}
+
+/// The command line with the engine's command alone.
+fn program<'a>(alloc: Global) -> Result<Command<'a>, AllocError>
+    ensures { IfOk result (λ command. app_of command ≡ program) }
+{
+    Command::new(alloc, "gtp_check")
+        .version(VERSION)
+        .about("Checks an engine of the Go Text Protocol, version 2, beside the rules of play")
+        .after_help(AFTER_OPTIONS)
+        .bin_name("gtp_check")?
+        .arg(engine_word(alloc))
+}
+
+/// The word for the engine's command.
+fn engine_word<'a>(alloc: Global) -> Arg<'a>
+    ensures rule { rule_of result ≡ word_rule (codes "CMD") }
+    ensures local { result.global ≡ false }
+{
+    Arg::new(alloc, "CMD")
+        .value_name("CMD")
+        .help("Command of the engine, split at spaces")
+}
+
+/// A command line, and the options of these rows after its own.
+fn with_options<'a>(
+    alloc: Global,
+    mut command: Command<'a>,
+    rows: &[OptionRow<'a>],
+) -> Result<Command<'a>, AllocError>
+    ensures { IfOk result (λ with. app_of with ≡ with_options (app_of command.entry) rows.now) }
+{
+    for row in rows {
+        command = command.arg(option(alloc, *row))?;
+    }
+    Ok(command)
+}
+
+/// The option of a row.
+fn option<'a>(alloc: Global, row: OptionRow<'a>) -> Arg<'a>
+    ensures rule { rule_of result ≡ rule_of_row row.entry }
+    ensures local { result.global ≡ false }
+{
+    match row.takes {
+        Takes::Number(least, most, default) => {
+            value(
+                alloc,
+                row.name,
+                ValueParser::Signed(least, most),
+                "N",
+                row.help,
+            )
+            .default_value(default)
+        }
+        Takes::MaybeNumber(least, most) => {
+            value(
+                alloc,
+                row.name,
+                ValueParser::Signed(least, most),
+                "N",
+                row.help,
+            )
+        }
+        Takes::Name(names, default) => {
+            value(alloc, row.name, ValueParser::Names(names), "RULE", row.help)
+                .default_value(default)
+                .hide_possible_values(true)
+        }
+        Takes::Names(names) => {
+            value(
+                alloc,
+                row.name,
+                ValueParser::Names(names),
+                "LESSON",
+                row.help,
+            )
+            .action(ArgAction::Append)
+            .hide_possible_values(true)
+        }
+        Takes::Nothing => flag(alloc, row.name, row.help),
+    }
+}
+
+/// An option that takes a value.
+fn value<'a>(
+    alloc: Global,
+    name: &'a str,
+    parser: ValueParser<'a>,
+    value_name: &'a str,
+    help: &'a str,
+) -> Arg<'a>
+    ensures rule { rule_of result ≡ value_rule name.entry.now parser.entry }
+    ensures local { result.global ≡ false }
+{
+    Arg::new(alloc, name)
+        .long(name)
+        .value_name(value_name)
+        .value_parser(parser)
+        .help(help)
+}
+
+/// An option that takes no value.
+fn flag<'a>(alloc: Global, name: &'a str, help: &'a str) -> Arg<'a>
+    ensures rule { rule_of result ≡ flag_rule name.entry.now }
+    ensures local { result.global ≡ false }
+{
+    Arg::new(alloc, name)
+        .long(name)
+        .action(ArgAction::SetTrue)
+        .help(help)
+}

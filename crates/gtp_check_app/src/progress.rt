@@ -1,0 +1,194 @@
+//! What is written of a check's progress on a terminal, in place of the line before.
+ghost use Rattle.std.specs.Prelude.{◌≡◌, ◌++◌, [], ◌∷◌, take};
+ghost use Rattle.gtp_check_app.specs.Dialogues.{dialogue};
+ghost use Rattle.gtp_check_app.specs.Notes.{nothing_noted};
+ghost use Rattle.gtp_check_app.specs.Progress.{IsShown, cleared, in_place, is_read_next, line_at, line_start};
+ghost use Rattle.gtp_check_app.specs.Progress.{looking_line};
+ghost use Rattle.gtp_check_app.specs.Progress.{most_columns, place_among, waiting_text};
+ghost use Rattle.gtp_check_app.specs.Texts.{joined};
+ghost use Rattle.gtp_check_app.specs.Turns.{state_of, waiting};
+
+use crate::check::Check;
+use crate::complaint::without_newline;
+use crate::engine::Engine;
+use crate::plan::Plan;
+use crate::summary::plural;
+use crate::talk::{Said, said_at};
+use arrayvec::ArrayVec;
+use byte_streams::{WriteOnce, write_or_break};
+use go_base::{push, write_int};
+use gtp_check_judge::Examiner;
+use gtp_check_questions::{Lesson, Lessons};
+use gtp_process::{Process, Starter};
+
+/// How many columns of a line are written at most.
+const MOST_COLUMNS: usize = 79;
+
+/// A text of a line.
+type Text = ArrayVec<u8, MOST_COLUMNS>;
+
+/// A text, and what puts it in place of the line before.
+type Line = ArrayVec<u8, 83>;
+
+/// The line is cleared.
+pub fn clear<E: WriteOnce>(progress: bool, errors: &mut E)
+    ensures { IsShown E.WriteOnce progress (cleared ∷ []) errors.old errors.new }
+{
+    show(progress, b"", errors);
+}
+
+/// A line before shorter conversations are tried.
+pub fn show_looking<E: WriteOnce>(progress: bool, errors: &mut E)
+    ensures { IsShown E.WriteOnce progress (looking_line ∷ []) errors.old errors.new }
+{
+    show(progress, b"looking for a shorter conversation", errors);
+}
+
+/// A text takes the place of the line, where that is asked for.
+fn show<E: WriteOnce>(progress: bool, text: &[u8], errors: &mut E)
+    ensures { IsShown E.WriteOnce progress (in_place text.now ∷ []) errors.old errors.new }
+{
+    if progress {
+        write_or_break(errors, in_place(text).as_slice());
+    }
+}
+
+/// A text, and what puts it in place of the line.
+pub fn in_place(text: &[u8]) -> Line
+    ensures { result.items ≡ in_place text.now }
+{
+    let mut line = Line::new();
+    push(&mut line, b"\r");
+    push(&mut line, &text[..MOST_COLUMNS.min(text.len())]);
+    push(&mut line, b"\x1b[K");
+    line
+}
+
+impl<S: Starter> Check<S> {
+    /// Before the engine is read: what is waited for.
+    pub fn show_waiting<E: WriteOnce>(&self, progress: bool, plan: &Plan<'_>, errors: &mut E)
+        ensures { IsShown E.WriteOnce progress (waiting plan.now (state_of self.now))
+            errors.old errors.new }
+    {
+        if !progress {
+            return;
+        }
+        let Some(engine) = &self.engine else {
+            return;
+        };
+        if !is_read_next(engine, &self.examiner) {
+            return;
+        }
+        let number = engine.answered(&self.examiner);
+        let Some(said) = said_at(engine.talk.as_slice(), number) else {
+            return;
+        };
+        let line = line_at(
+            engine.sent.as_slice(),
+            engine.talk.as_slice(),
+            number,
+            &said,
+        );
+        let text = waiting_text(
+            &plan.lessons,
+            line,
+            said.purpose.lesson,
+            self.notes.commands,
+            self.examiner.starts(),
+        );
+        show(progress, text.as_slice(), errors);
+    }
+}
+
+/// Whether the engine is read next: it owes an answer, and nothing that it wrote is held.
+fn is_read_next<P: Process>(engine: &Engine<P>, examiner: &Examiner) -> bool
+    ensures { result ≡ is_read_next (dialogue engine.now nothing_noted) examiner.now.exam }
+{
+    examiner.unanswered() > 0 && engine.held.is_empty()
+}
+
+/// The line of the command with this number, counted from 0, in all that was sent, without its newline.
+pub fn line_at<'s>(sent: &'s [u8], talk: &[Said], number: usize, said: &Said) -> &'s [u8]
+    ensures { result.now ≡ line_at sent.entry.now talk.now number said.now }
+{
+    let lines = &sent[..said.end.min(sent.len())];
+    let start = line_start(talk, number);
+    without_newline(&lines[start.min(lines.len())..])
+}
+
+/// Where the line of the command with this number begins.
+fn line_start(talk: &[Said], number: usize) -> usize
+    ensures { result ≡ line_start talk.now number }
+{
+    match number.checked_sub(1) {
+        Some(before) => match talk.get(before) {
+            Some(said) => said.end,
+            None => 0,
+        },
+        None => 0,
+    }
+}
+
+/// What is waited for: the command with this line, for this lesson, after so many commands and starts.
+pub fn waiting_text(
+    lessons: &Lessons,
+    line: &[u8],
+    lesson: Lesson,
+    commands: u32,
+    starts: u32,
+) -> Text
+    ensures { result.items ≡ take most_columns
+        (waiting_text lessons.now.items line.now lesson commands starts) }
+{
+    cut(
+        b"waits for \"",
+        line,
+        &[
+            b"\", ",
+            lesson.name().as_bytes(),
+            b" (",
+            &write_int(place_among(lessons, lesson)),
+            b" of ",
+            &write_int(lessons.len() as u32),
+            b"), ",
+            &write_int(commands),
+            b" command",
+            plural(commands),
+            b", ",
+            &write_int(starts),
+            b" start",
+            plural(starts),
+        ],
+    )
+}
+
+/// The number of a lesson among these, counted from 1.
+fn place_among(lessons: &Lessons, lesson: Lesson) -> u32
+    ensures { result ≡ place_among lessons.now.items lesson }
+{
+    lessons
+        .iter()
+        .filter(|one| one.number() <= lesson.number())
+        .count() as u32
+}
+
+/// The beginning of these texts, one after the other: as much as fits into a line.
+fn cut(before: &[u8], line: &[u8], parts: &[&[u8]]) -> Text
+    ensures { result.items ≡ take most_columns ((before.now ++ line.now) ++ joined parts.now) }
+{
+    let mut text = Text::new();
+    add(&mut text, before);
+    add(&mut text, line);
+    for part in parts {
+        add(&mut text, part);
+    }
+    text
+}
+
+/// Appends as much of a part as fits into a line.
+fn add(text: &mut Text, part: &[u8])
+    ensures { text.new.items ≡ take most_columns (text.old.items ++ part.now) }
+{
+    let room = MOST_COLUMNS - text.len();
+    push(text, &part[..room.min(part.len())]);
+}

@@ -1,0 +1,180 @@
+//! The program, over any writers and any means to start processes.
+ghost use Rattle.std.specs.Prelude.{◌≡◌, IfNone, IfSome, codes, map};
+ghost use Rattle.gtp_process.specs.declared.causes.Unstarted.{Unstarted};
+ghost use Rattle.byte_streams.specs.Writing.{IsWritten};
+ghost use Rattle.gtp_process.specs.Shown.{unstarted_text};
+ghost use Rattle.cli.specs.Status.{error_line};
+ghost use Rattle.gtp_check_app.specs.Checks.{Ends, HasRun, IsFirstFailure, Shows};
+ghost use Rattle.gtp_check_app.specs.Listing.{list_lines};
+ghost use Rattle.gtp_check_app.specs.Status.{IsStatus, status_of};
+ghost use Rattle.gtp_check_app.specs.private.Answering.{Answers};
+
+use crate::check::Check;
+use crate::failure::NAME;
+use crate::listing::list_text;
+use crate::options::read_options;
+use crate::plan::{Plan, plan_of};
+use crate::progress::clear;
+use crate::summary::Over;
+use arrayvec::ArrayVec;
+use byte_streams::{Broken, WriteOnce, write_or_break, write_text};
+use clap::error::ErrorKind;
+use cli::failure::Failure;
+use cli::words::is_request;
+use go_base::push;
+use gtp_process::{Starter, Unstarted, push_unstarted};
+use std::alloc::{AllocError, Global};
+use std::convert::AsStr;
+
+/// Does what the words of the command line ask for, the first of which is the program's name. Checks the engine that
+/// they name, and writes what is wrong with it to `output`. Returns the status that the program ends with:
+///
+/// - 0 where nothing was found, and where the words ask for help, the version or the list of lessons, which goes to
+///   `output`;
+/// - 1 where something was found;
+/// - 2 where the words have a mistake, or the engine wasn't started at the first try;
+/// - 3 where the output can't be written, memory was refused, or a check had too many turns.
+///
+/// What a status of 2 or 3 means is written to `errors`, and whether that can be written changes nothing. Where
+/// `progress` is asked for, `errors` is a terminal: what is waited for is written to it, each time in place of its
+/// line, which is cleared before anything else is written.
+pub fn run<A: AsStr, O: WriteOnce, E: WriteOnce, S: Starter>(
+    alloc: Global,
+    words: &[A],
+    progress: bool,
+    output: &mut O,
+    errors: &mut E,
+    starter: &mut S,
+) -> u8
+    ensures status { IsStatus result }
+    ensures ran { HasRun S.Process.Process O.WriteOnce E.WriteOnce (map A.text words.now) progress
+        (S.asked starter.old) output.old errors.old result
+        (S.asked starter.new) output.new errors.new }
+{
+    let options = match read_options(alloc, words) {
+        Ok(options) => options,
+        Err(error) => return answer_error(error.kind(), error.to_string(alloc), output, errors),
+    };
+    if options.list {
+        return list(alloc, output, errors);
+    }
+    let plan = match plan_of(alloc, &options) {
+        Ok(plan) => plan,
+        Err(error) => return error.report(NAME, errors),
+    };
+    match check(alloc, &plan, progress, output, errors, starter) {
+        Ok(status) => status,
+        Err(failure) => failure.report(NAME, errors),
+    }
+}
+
+/// Writes the list of lessons, and returns the status.
+fn list<O: WriteOnce, E: WriteOnce>(alloc: Global, output: &mut O, errors: &mut E) -> u8
+    ensures { Shows O.WriteOnce E.WriteOnce list_lines output.old errors.old
+        result output.new errors.new }
+{
+    let Ok(text) = list_text(alloc) else {
+        return Failure::OutOfMemory.report(NAME, errors);
+    };
+    show(text.as_slice(), output, errors)
+}
+
+/// Checks an engine by a plan, and returns the status.
+fn check<O: WriteOnce, E: WriteOnce, S: Starter>(
+    alloc: Global,
+    plan: &Plan<'_>,
+    progress: bool,
+    output: &mut O,
+    errors: &mut E,
+    starter: &mut S,
+) -> Result<u8, Failure>
+    ensures { Ends S.Process.Process O.WriteOnce E.WriteOnce plan.now progress
+        (S.asked starter.old) output.old errors.old result
+        (S.asked starter.new) output.new errors.new }
+{
+    let mut check: Check<S> = Check::new(alloc, plan);
+    let turns = check.take_turns(plan, progress, output, errors, starter);
+    clear(progress, errors);
+    match turns {
+        Ok(over) => {
+            let complaints = check.complaints();
+            let starts = check.starts();
+            let lines = check.end(plan, &over)?;
+            if let Some(unstarted) = first_failure(&over, starts) {
+                report_unstarted(unstarted, errors);
+                return Ok(2);
+            }
+            write_text(output, lines.as_slice())?;
+            Ok(status_of(complaints))
+        }
+        Err(failure) => {
+            check.end_at_once();
+            Err(failure)
+        }
+    }
+}
+
+/// Why the engine wasn't started at the first try, where a check is over for that after so many starts.
+fn first_failure(over: &Over, starts: u32) -> Option<&Unstarted>
+    ensures failed { IfSome result (λ start. IsFirstFailure over.now starts start.now) }
+    ensures none { IfNone result ((start : Unstarted) → IsFirstFailure over.now starts start → ⊥) }
+{
+    match over {
+        Over::NotStarted(unstarted) if starts == 0 => Some(unstarted),
+        _ => None,
+    }
+}
+
+/// The status of a check that is over, with so many complaints.
+fn status_of(complaints: u32) -> u8
+    ensures { result ≡ status_of complaints }
+{
+    if complaints > 0 { 1 } else { 0 }
+}
+
+/// The engine wasn't started at the first try.
+fn report_unstarted<E: WriteOnce>(unstarted: &Unstarted, errors: &mut E)
+    ensures { IsWritten E.WriteOnce
+        (error_line (codes "gtp_check") (unstarted_text unstarted.now)) errors.old errors.new }
+{
+    let mut line: ArrayVec<u8, 420> = ArrayVec::new();
+    push(&mut line, b"gtp_check: ");
+    push_unstarted(&mut line, unstarted);
+    push(&mut line, b"\n");
+    write_or_break(errors, line.as_slice());
+}
+
+/// Writes what `clap` returns in place of options, an error of this kind with this text, and returns the status. Where
+/// memory was refused for the text, that is reported instead.
+fn answer_error<O: WriteOnce, E: WriteOnce>(
+    kind: ErrorKind,
+    text: Result<String, AllocError>,
+    output: &mut O,
+    errors: &mut E,
+) -> u8
+    ensures { Answers O.WriteOnce E.WriteOnce kind output.old errors.old
+        result output.new errors.new }
+{
+    let Ok(text) = text else {
+        return Failure::OutOfMemory.report(NAME, errors);
+    };
+    if kind == ErrorKind::OutOfMemory {
+        return Failure::OutOfMemory.report(NAME, errors);
+    }
+    if !is_request(kind) {
+        write_or_break(errors, text.as_bytes());
+        return 2;
+    }
+    show(text.as_bytes(), output, errors)
+}
+
+/// Writes a text that was asked for, and returns the status.
+fn show<O: WriteOnce, E: WriteOnce>(text: &[u8], output: &mut O, errors: &mut E) -> u8
+    ensures { Shows O.WriteOnce E.WriteOnce text.now output.old errors.old
+        result output.new errors.new }
+{
+    match write_text(output, text) {
+        Ok(()) => 0,
+        Err(Broken) => Failure::Write.report(NAME, errors),
+    }
+}

@@ -1,0 +1,234 @@
+-- What is due is what the table of the engine's commands answers.
+use Rattle.std.proofs.Common.{◌≡◌, ℕ, true, false, List, length, Option, Some, refl, sym, ap, subst}
+use Rattle.std.proofs.Common.{arith}
+use Rattle.std.specs.Prelude.{codes}
+use Rattle.go_base.specs.Size.{IsSize}
+use Rattle.go_base.specs.Vertex.{IsVertex}
+use Rattle.go_base.specs.Handicap.{AllowsHandicap}
+use Rattle.go_base.specs.declared.colours.Colour.{Colour}
+use Rattle.go_base.specs.declared.choices.Choice.{Choice}
+use Rattle.go_base.specs.declared.moves.Move.{Move}
+use Rattle.go_base.specs.declared.vertices.Vertex.{Vertex}
+use Rattle.go_base.specs.declared.vertices.Vertex.TheVariants.{Pass, At}
+use Rattle.go_base.proofs.spellings.ReadBack.{int_reads, colour_reads, vertex_reads}
+use Rattle.go_board.specs.Game.{GameRecord, HasRoom, IsLegal}
+use Rattle.go_board.specs.Refusals.{Refuses, RefusesVertex, IsTouched, RefusesHandicap}
+use Rattle.go_board.specs.declared.faults.PlayFault.{PlayFault}
+use Rattle.go_board.specs.declared.faults.PlayFault.TheVariants.{Full, OffBoard, Occupied, Suicide, Ko}
+use Rattle.go_board.specs.declared.faults.HandicapFault.{HandicapFault}
+use Rattle.go_board.specs.declared.faults.HandicapFault.TheVariants.{NotEmpty, BadNumber}
+use Rattle.gtp_wire.specs.declared.commands.Command.{Command}
+use Rattle.gtp_check_judge.specs.declared.asking.CheckCommand.{CheckCommand}
+use Rattle.gtp_check_judge.specs.declared.asking.CheckCommand.TheVariants.{Match, FinalScore, Name, Version}
+use Rattle.gtp_check_judge.specs.declared.asking.CheckCommand.TheVariants.{KnownCommand}
+use Rattle.gtp_wire.specs.declared.commands.Command.TheVariants.{Boardsize, Komi, ClearBoard, FixedHandicap, Play}
+use Rattle.gtp_wire.specs.declared.commands.Command.TheVariants.{Genmove, Undo, Quit}
+use Rattle.gtp_wire.specs.Commands.{IsWritable, IsInLimits}
+use Rattle.gtp_session.specs.Commands.{Answer, answer, fails, row_of, move_refusal}
+use Rattle.gtp_session.specs.Commands.{handicap_refusal}
+use Rattle.gtp_session.proofs.table.Causes.{Settles, MoveSettles, StonesSettle, refused, move_settles, stones_settle}
+use Rattle.gtp_session.proofs.table.Causes.{undo_settles}
+use Rattle.gtp_session.proofs.table.LinesOfWords.{move_reads}
+use Rattle.gtp_session.proofs.table.Rows.{row_refused}
+use Rattle.gtp_session.specs.CommandAnswers.{line_of_command, after_command, GoesWell}
+use Rattle.gtp_session.proofs.engines.Sent.{well_answer, undo_answer}
+use Rattle.gtp_check_judge.specs.declared.dues.Due.{Due}
+use Rattle.gtp_check_judge.specs.declared.dues.Due.TheVariants.{Succeeds, Fails, Places, Resizes, Scores, AnyReply}
+use Rattle.gtp_check_judge.specs.declared.dues.Due.TheVariants.{Chooses}
+use Rattle.gtp_check_judge.specs.declared.dues.Cause.TheVariants.{BadMove, BadHandicap, NoMoves}
+use Rattle.gtp_check_judge.specs.Asking.{line_of_check, IsCheckWritable, IsCheckInLimits}
+use Rattle.gtp_check_judge.specs.Dues.{IsDue, IsDueTo, after_check}
+use Rattle.gtp_session.specs.declared.commands.CommandName.TheVariants as name
+
+-- ---- a move that is refused is not legal
+
+pub vertex_unlawful : (game : GameRecord) (c : Colour) (v : Vertex) (fault : PlayFault)
+    → RefusesVertex game c v fault → IsLegal game c v → ⊥
+vertex_unlawful game c Pass fault h legal = h
+vertex_unlawful game c (At p) Full h legal = h
+vertex_unlawful game c (At p) OffBoard h legal = h legal.on_board
+vertex_unlawful game c (At p) Occupied h legal = h.1 legal.empty
+vertex_unlawful game c (At p) Suicide h legal = h.1.1 legal.free
+vertex_unlawful game c (At p) Ko h legal = legal.no_ko h.1.1.1
+
+move_unlawful : (game : GameRecord) (c : Colour) (v : Vertex) (fault : PlayFault)
+    → Refuses game c v fault → HasRoom game → IsLegal game c v → ⊥
+move_unlawful game c v Full h room legal = omega (arith, h, room)
+move_unlawful game c v OffBoard h room legal = vertex_unlawful game c v OffBoard h.1 legal
+move_unlawful game c v Occupied h room legal = vertex_unlawful game c v Occupied h.1 legal
+move_unlawful game c v Suicide h room legal = vertex_unlawful game c v Suicide h.1 legal
+move_unlawful game c v Ko h room legal = vertex_unlawful game c v Ko h.1 legal
+
+stones_unlawful : (game : GameRecord) (stones : ℕ) (fault : HandicapFault) → RefusesHandicap game stones fault
+    → (IsTouched game → ⊥) → AllowsHandicap game.size stones → ⊥
+stones_unlawful game stones NotEmpty h un allows = un h
+stones_unlawful game stones BadNumber h un allows = h.1 allows
+
+-- ---- what is due is answered
+
+-- the answer has the status that is due, and leaves the game after it
+abbrev pub AnswersTo : GameRecord → Command → Due → Answer → Type 0
+AnswersTo game command Succeeds given = (given.ok ≡ true) × (given.game ≡ after_command game command)
+AnswersTo game command (Places size stones) given = (given.ok ≡ true) × (given.game ≡ after_command game command)
+AnswersTo game command (Fails cause) given = (given.ok ≡ false) × (given.game ≡ game)
+AnswersTo game command (Resizes size) given = (given.ok ≡ true) × (given.game ≡ after_command game command)
+AnswersTo game command (Scores s) given = (given.ok ≡ true) × (given.game ≡ game)
+AnswersTo game command AnyReply given = (given.ok ≡ true) × (given.game ≡ game)
+AnswersTo game command (Chooses colour) given = Unit {0}
+
+well : (game : GameRecord) (id : Option ℕ) (command : Command) (ch : Choice) → GoesWell game command
+    → AnswersTo game command Succeeds (answer game (line_of_command id command) ch)
+well game id command ch goes =
+    let e = well_answer game id command ch goes in (ap (λ (a : Answer). a.ok) e, ap (λ (a : Answer). a.game) e)
+
+failed : (game : GameRecord) (command : Command) (given : Answer) (cause : List ℕ) → given ≡ fails game cause
+    → AnswersTo game command (Fails NoMoves) given
+failed game command given cause e = (ap (λ (a : Answer). a.ok) e, ap (λ (a : Answer). a.game) e)
+
+refused_play : (game : GameRecord) (id : Option ℕ) (move : Move) (ch : Choice) → IsVertex move.vertex
+    → (HasRoom game → IsLegal game move.colour move.vertex → ⊥)
+    → AnswersTo game (Play move) (Fails NoMoves) (answer game (line_of_command id (Play move)) ch)
+refused_play game id move ch is un = by (move_settles game move)
+  where
+    refused : (cause : List ℕ) → move_refusal game move ≡ Some cause
+        → AnswersTo game (Play move) (Fails NoMoves) (answer game (line_of_command id (Play move)) ch)
+    refused cause why =
+        failed game (Play move) (answer game (line_of_command id (Play move)) ch) cause
+        (row_refused (row_of name.Play) game _ move ch cause
+        (move_reads _ _ move.colour move.vertex (colour_reads move.colour) (vertex_reads move.vertex is)) why)
+
+    by : MoveSettles game move (move_refusal game move)
+        → AnswersTo game (Play move) (Fails NoMoves) (answer game (line_of_command id (Play move)) ch)
+    by (MoveSettles.full fills why) = refused (codes "record full") why
+    by (MoveSettles.room takes (Settles.free legal none)) = absurd (un takes legal)
+    by (MoveSettles.room takes (Settles.against not why)) = refused (codes "illegal move") why
+
+refused_stones : (game : GameRecord) (id : Option ℕ) (stones : ℕ) (ch : Choice) → IsWritable (FixedHandicap stones)
+    → ((IsTouched game → ⊥) → AllowsHandicap game.size stones → ⊥)
+    → AnswersTo game (FixedHandicap stones) (Fails NoMoves) (answer game (line_of_command id (FixedHandicap stones)) ch)
+refused_stones game id stones ch int un = by (stones_settle game stones)
+  where
+    refused : (cause : List ℕ) → handicap_refusal game stones ≡ Some cause
+        → AnswersTo game (FixedHandicap stones) (Fails NoMoves) (answer game (line_of_command id
+        (FixedHandicap stones)) ch)
+    refused cause why =
+        failed game (FixedHandicap stones) (answer game (line_of_command id (FixedHandicap stones)) ch) cause
+        (row_refused (row_of name.FixedHandicap) game _ stones ch cause (int_reads stones int) why)
+
+    by : StonesSettle game stones (handicap_refusal game stones)
+        → AnswersTo game (FixedHandicap stones) (Fails NoMoves) (answer game (line_of_command id
+        (FixedHandicap stones)) ch)
+    by (StonesSettle.touched on why) = refused (codes "board not empty") why
+    by (StonesSettle.empty bare (Settles.free allows none)) = absurd (un bare allows)
+    by (StonesSettle.empty bare (Settles.against not why)) = refused (codes "invalid number of stones") why
+
+undo_nothing : (game : GameRecord) (id : Option ℕ) (ch : Choice) → length game.moves ≡ 0
+    → AnswersTo game Undo (Fails NoMoves) (answer game (line_of_command id Undo) ch)
+undo_nothing game id ch none =
+    failed game Undo (answer game (line_of_command id Undo) ch) (codes "cannot undo")
+    (row_refused (row_of name.Undo) game _ tt ch (codes "cannot undo") refl
+    (refused (undo_settles game) (λ some. omega (arith, some, none))))
+
+-- in a game of one of the sizes the table answers what is due
+pub match_answered : (game : GameRecord) (id : Option ℕ) (command : Command) (due : Due) (ch : Choice)
+    → IsSize game.size
+    → IsWritable command → IsInLimits command → IsDueTo game command due
+    → AnswersTo game command due (answer game (line_of_command id command) ch)
+match_answered game id (Boardsize size) (Resizes s) ch is w l h = well game id (Boardsize size) ch h.1
+match_answered game id (Boardsize size) (Scores s) ch is w l h = absurd (cc (h.0))
+match_answered game id (Boardsize size) AnyReply ch is w l h = absurd (cc (h.0))
+match_answered game id (Boardsize size) Succeeds ch is w l h = absurd (cc (h.0))
+match_answered game id (Boardsize size) (Fails cause) ch is w l h = absurd (cc (h.0))
+match_answered game id (Boardsize size) (Places s n) ch is w l h = absurd (cc (h.0))
+match_answered game id (Boardsize size) (Chooses c) ch is w l h = tt
+match_answered game id (Komi komi) Succeeds ch is w l h = well game id (Komi komi) ch h.1
+match_answered game id (Komi komi) (Fails cause) ch is w l h = absurd (cc (h.0))
+match_answered game id (Komi komi) (Places s n) ch is w l h = absurd (cc (h.0))
+match_answered game id (Komi komi) (Resizes s) ch is w l h = absurd (cc (h.0))
+match_answered game id (Komi komi) (Scores s) ch is w l h = absurd (cc (h.0))
+match_answered game id (Komi komi) AnyReply ch is w l h = absurd (cc (h.0))
+match_answered game id (Komi komi) (Chooses c) ch is w l h = tt
+match_answered game id ClearBoard Succeeds ch is w l h = well game id ClearBoard ch tt
+match_answered game id ClearBoard (Fails cause) ch is w l h = absurd (cc h)
+match_answered game id ClearBoard (Places s n) ch is w l h = absurd (cc h)
+match_answered game id ClearBoard (Resizes s) ch is w l h = absurd (cc h)
+match_answered game id ClearBoard (Scores s) ch is w l h = absurd (cc h)
+match_answered game id ClearBoard AnyReply ch is w l h = absurd (cc h)
+match_answered game id ClearBoard (Chooses c) ch is w l h = tt
+match_answered game id (FixedHandicap stones) (Places size count) ch is w l h =
+    well game id (FixedHandicap stones) ch (h.2, (h.3, is))
+match_answered game id (FixedHandicap stones) (Fails (BadHandicap fault)) ch is w l h =
+    refused_stones game id stones ch w (stones_unlawful game stones fault h)
+match_answered game id (FixedHandicap stones) (Fails (BadMove fault)) ch is w l h = absurd h
+match_answered game id (FixedHandicap stones) (Fails NoMoves) ch is w l h = absurd h
+match_answered game id (FixedHandicap stones) Succeeds ch is w l h = absurd h
+match_answered game id (FixedHandicap stones) (Resizes s) ch is w l h = absurd h
+match_answered game id (FixedHandicap stones) (Scores s) ch is w l h = absurd h
+match_answered game id (FixedHandicap stones) AnyReply ch is w l h = absurd h
+match_answered game id (FixedHandicap stones) (Chooses c) ch is w l h = tt
+match_answered game id (Play move) Succeeds ch is w l h = well game id (Play move) ch (h.1, (h.0, is))
+match_answered game id (Play move) (Fails (BadMove fault)) ch is w l h =
+    refused_play game id move ch l (move_unlawful game move.colour move.vertex fault h)
+match_answered game id (Play move) (Fails (BadHandicap fault)) ch is w l h = absurd h
+match_answered game id (Play move) (Fails NoMoves) ch is w l h = absurd h
+match_answered game id (Play move) (Places s n) ch is w l h = absurd h
+match_answered game id (Play move) (Resizes s) ch is w l h = absurd h
+match_answered game id (Play move) (Scores s) ch is w l h = absurd h
+match_answered game id (Play move) AnyReply ch is w l h = absurd h
+match_answered game id (Play move) (Chooses c) ch is w l h = tt
+match_answered game id (Genmove colour) Succeeds ch is w l h = absurd (cc (h.0))
+match_answered game id (Genmove colour) (Fails cause) ch is w l h = absurd (cc (h.0))
+match_answered game id (Genmove colour) (Places s n) ch is w l h = absurd (cc (h.0))
+match_answered game id (Genmove colour) (Resizes s) ch is w l h = absurd (cc (h.0))
+match_answered game id (Genmove colour) (Scores s) ch is w l h = absurd (cc (h.0))
+match_answered game id (Genmove colour) AnyReply ch is w l h = absurd (cc (h.0))
+match_answered game id (Genmove colour) (Chooses c) ch is w l h = tt
+match_answered game id Undo Succeeds ch is w l h =
+    let e = undo_answer game id ch h in (ap (λ (a : Answer). a.ok) e, ap (λ (a : Answer). a.game) e)
+match_answered game id Undo (Fails NoMoves) ch is w l h =
+    undo_nothing game id ch (ap length h)
+match_answered game id Undo (Fails (BadMove fault)) ch is w l h = absurd h
+match_answered game id Undo (Fails (BadHandicap fault)) ch is w l h = absurd h
+match_answered game id Undo (Places s n) ch is w l h = absurd h
+match_answered game id Undo (Resizes s) ch is w l h = absurd h
+match_answered game id Undo (Scores s) ch is w l h = absurd h
+match_answered game id Undo AnyReply ch is w l h = absurd h
+match_answered game id Undo (Chooses c) ch is w l h = tt
+match_answered game id Quit due ch is w l h = absurd h
+
+-- the same of each command that a check asks
+abbrev pub AnswersSo : GameRecord → CheckCommand → Due → Answer → Type 0
+AnswersSo game command Succeeds given = (given.ok ≡ true) × (given.game ≡ after_check game command)
+AnswersSo game command (Places size stones) given = (given.ok ≡ true) × (given.game ≡ after_check game command)
+AnswersSo game command (Fails cause) given = (given.ok ≡ false) × (given.game ≡ game)
+AnswersSo game command (Resizes size) given = (given.ok ≡ true) × (given.game ≡ after_check game command)
+AnswersSo game command (Scores s) given = (given.ok ≡ true) × (given.game ≡ game)
+AnswersSo game command AnyReply given = (given.ok ≡ true) × (given.game ≡ game)
+AnswersSo game command (Chooses colour) given = Unit {0}
+
+match_so : (game : GameRecord) (command : Command) (due : Due) (given : Answer) → AnswersTo game command due given
+    → AnswersSo game (Match command) due given
+match_so game command Succeeds given h = h
+match_so game command (Places size stones) given h = h
+match_so game command (Fails cause) given h = h
+match_so game command (Resizes size) given h = h
+match_so game command (Scores s) given h = h
+match_so game command AnyReply given h = h
+match_so game command (Chooses colour) given h = h
+
+pub due_answered : (game : GameRecord) (id : ℕ) (command : CheckCommand) (due : Due) (ch : Choice) → IsSize game.size
+    → IsCheckWritable command → IsCheckInLimits command → IsDue game command due
+    → AnswersSo game command due (answer game (line_of_check id command) ch)
+due_answered game id (Match command) due ch is w l h =
+    match_so game command due (answer game (line_of_command (Some id) command) ch)
+    (match_answered game (Some id) command due ch is w l h)
+due_answered game id FinalScore due ch is w l h =
+    subst (λ (d : Due). AnswersSo game FinalScore d (answer game (line_of_check id FinalScore) ch)) (sym h.0)
+    (refl, refl)
+due_answered game id Name due ch is w l h =
+    subst (λ (d : Due). AnswersSo game Name d (answer game (line_of_check id Name) ch)) (sym h) (refl, refl)
+due_answered game id Version due ch is w l h =
+    subst (λ (d : Due). AnswersSo game Version d (answer game (line_of_check id Version) ch)) (sym h) (refl, refl)
+due_answered game id (KnownCommand k) due ch is w l h =
+    subst (λ (d : Due). AnswersSo game (KnownCommand k) d (answer game (line_of_check id (KnownCommand k)) ch)) (sym h)
+    (refl, refl)

@@ -1,0 +1,187 @@
+-- What an engine answers says what it has to.
+use Rattle.std.proofs.Common.{◌≡◌, ℕ, ◌≤◌, Bool, true, false, List, Option, Some}
+use Rattle.std.proofs.Common.{None, refl, sym, ◌∙◌, ap, subst, arith}
+use Rattle.std.specs.Prelude.{IfSome, All}
+use Rattle.go_base.specs.Handicap.{AllowsHandicap, handicap_points}
+use Rattle.go_base.specs.Point.{IsOn}
+use Rattle.go_base.proofs.board_points.HandicapPoints.{handicap_sound}
+use Rattle.gtp_wire.specs.Words.{reply_words}
+use Rattle.go_base.specs.Size.{IsSize, most_size}
+use Rattle.go_base.specs.declared.colours.Colour.{Colour}
+use Rattle.go_base.specs.declared.choices.Choice.{Choice}
+use Rattle.go_board.specs.Game.{GameRecord}
+use Rattle.gtp_wire.specs.declared.commands.Command.{Command}
+use Rattle.gtp_check_judge.specs.declared.asking.CheckCommand.{CheckCommand}
+use Rattle.gtp_check_judge.specs.declared.asking.CheckCommand.TheVariants.{Match, FinalScore, Name, Version}
+use Rattle.gtp_check_judge.specs.declared.asking.CheckCommand.TheVariants.{KnownCommand}
+use Rattle.gtp_wire.specs.declared.commands.Command.TheVariants.{Boardsize, Komi, ClearBoard, FixedHandicap, Play}
+use Rattle.gtp_wire.specs.declared.commands.Command.TheVariants.{Genmove, Undo, Quit}
+use Rattle.gtp_wire.specs.declared.replies.Reply.{Reply}
+use Rattle.gtp_wire.specs.Commands.{IsWritable, IsInLimits}
+use Rattle.gtp_check_judge.specs.Asking.{line_of_check, IsCheckWritable, IsCheckInLimits}
+use Rattle.gtp_session.specs.Policy.{IsLawful}
+use Rattle.gtp_session.specs.Commands.{Answer, answer, asked, answer_choice, written_vertices}
+use Rattle.gtp_session.specs.CommandAnswers.{line_of_command}
+use Rattle.gtp_session.specs.Spoken.{IsLawfulAt, reply_of_answer}
+use Rattle.gtp_session.proofs.table.Asking.{answer-same, answer-asked}
+use Rattle.gtp_session.proofs.engines.Sent.{well_answer, genmove_answer, genmove_asks, vertex_of_legal}
+use Rattle.gtp_check_judge.specs.declared.dues.Due.{Due}
+use Rattle.gtp_check_judge.specs.declared.dues.Due.TheVariants.{Succeeds, Fails, Places, Resizes, Scores, Chooses}
+use Rattle.gtp_check_judge.specs.declared.unanswered.Asked.{Asked}
+use Rattle.gtp_wire.specs.ReplyWords.{choice_of_text, names_points}
+use Rattle.gtp_check_judge.specs.Dues.{IsDue, IsDueTo}
+use Rattle.gtp_check_judge.specs.Laws.{line_of_asked, Says, SaysTo, MayRefuse, IsByTable, IsRight}
+use Rattle.gtp_wire.proofs.texts.ReadBack.{vertex_is_read, resign_is_read, points_are_named}
+use Rattle.go_base.specs.declared.choices.Choice.TheVariants as choice
+use Rattle.gtp_check_judge.specs.declared.dues.Due.TheVariants as due
+use Rattle.gtp_check_judge.proofs.answers.Table.{match_answered}
+use Rattle.gtp_check_judge.proofs.scoring.ReadBack.{fresh_score_reads}
+
+on_largest : (size : ℕ) (points : List ℕ) → size ≤ most_size → All (IsOn size) points → All (IsOn most_size) points
+on_largest size points most on = λ k d less.
+    let here = on k d less in
+    record { left = here.left; right = omega (arith, here.right); bottom = here.bottom; top = omega (arith, here.top) }
+
+handicap_is_named : (size stones : ℕ) → IsSize size → AllowsHandicap size stones
+    → names_points (handicap_points size stones) (reply_words (written_vertices (handicap_points size stones))) ≡ true
+handicap_is_named size stones is allowed =
+    points_are_named (handicap_points size stones)
+    (on_largest size (handicap_points size stones) is.most (handicap_sound size stones is allowed).on_board)
+
+choice_is_read : (game : GameRecord) (colour : Colour) (ch : Choice) → game.size ≤ most_size → IsLawful game colour ch
+    → choice_of_text (answer_choice game colour ch).text ≡ Some ch
+choice_is_read game colour choice.Resign most lawful = resign_is_read
+choice_is_read game colour (choice.Play v) most lawful = vertex_is_read v (vertex_of_legal game colour v lawful most)
+
+pub choice_succeeds : (game : GameRecord) (colour : Colour) (ch : Choice) → (answer_choice game colour ch).ok ≡ true
+choice_succeeds game colour choice.Resign = refl
+choice_succeeds game colour (choice.Play v) = refl
+
+says_choice : (game : GameRecord) (colour : Colour) (ch : Choice) → game.size ≤ most_size → IsLawful game colour ch
+    → SaysTo game (Genmove colour) ch (answer_choice game colour ch).ok (answer_choice game colour ch).text
+says_choice game colour ch most lawful =
+    subst (λ (b : Bool). SaysTo game (Genmove colour) ch b (answer_choice game colour ch).text)
+    (sym (choice_succeeds game colour ch)) (choice_is_read game colour ch most lawful)
+
+-- the colour that is asked for is the one of a `genmove`
+pub asked_genmove : (game : GameRecord) (id : ℕ) (command : CheckCommand) (colour : Colour)
+    → asked game (line_of_check id command) ≡ Some colour → (c : Colour) × (command ≡ Match (Genmove c))
+asked_genmove game id FinalScore colour e = absurd (cc e)
+asked_genmove game id Name colour e = absurd (cc e)
+asked_genmove game id Version colour e = absurd (cc e)
+asked_genmove game id (KnownCommand k) colour e = absurd (cc e)
+asked_genmove game id (Match (Boardsize size)) colour e = absurd (cc e)
+asked_genmove game id (Match (Komi komi)) colour e = absurd (cc e)
+asked_genmove game id (Match ClearBoard) colour e = absurd (cc e)
+asked_genmove game id (Match (FixedHandicap stones)) colour e = absurd (cc e)
+asked_genmove game id (Match (Play move)) colour e = absurd (cc e)
+asked_genmove game id (Match (Genmove c)) colour e = (c, refl)
+asked_genmove game id (Match Undo) colour e = absurd (cc e)
+asked_genmove game id (Match Quit) colour e = absurd (cc e)
+
+-- an answer by the table that an engine gave leaves the engine's game
+tabled_after : (game : GameRecord) (entry : Asked) (reply : Reply) (after : GameRecord) (ch : Choice) → IsSize game.size
+    → IsLawfulAt game (line_of_asked entry) ch → IsByTable game entry reply after
+    → reply ≡ reply_of_answer (Some entry.id) (answer game (line_of_asked entry) ch)
+    → after ≡ (answer game (line_of_asked entry) ch).game
+tabled_after game entry reply after ch size lawful right is = by (asked game (line_of_asked entry)) refl
+  where
+    by : (o : Option Colour) → asked game (line_of_asked entry) ≡ o
+        → after ≡ (answer game (line_of_asked entry) ch).game
+    by None e = right.game ∙ ap (λ (a : Answer). a.game) (answer-same game (line_of_asked entry) right.choice ch e)
+    by (Some colour) e =
+        let command = asked_genmove game entry.id entry.command colour e in
+        let given : answer game (line_of_asked entry) ch ≡ answer_choice game colour ch =
+        answer-asked game (line_of_asked entry) ch colour e in
+        let fair : IsLawful game colour ch =
+        subst (λ (o : Option Colour). IfSome o (λ c. IsLawful game c ch)) e lawful in
+        let text : reply.text.items ≡ (answer_choice game colour ch).text =
+        ap (λ (r : Reply). r.text.items) is ∙ ap (λ (a : Answer). a.text) given in
+        let ok : reply.ok ≡ true =
+        ap (λ (r : Reply). r.ok) is ∙ ap (λ (a : Answer). a.ok) given ∙ choice_succeeds game colour ch in
+        let said : choice_of_text reply.text.items ≡ Some right.choice =
+        subst (λ (k : CheckCommand). Says game k right.choice true reply.text.items) command.1
+        (subst (λ (b : Bool). Says game entry.command right.choice b reply.text.items) ok right.says) in
+        let both : Some right.choice ≡ Some ch =
+        sym said ∙ ap choice_of_text text ∙ choice_is_read game colour ch size.most fair in
+        let same : right.choice ≡ ch = cc both in
+        right.game ∙ ap (λ (c : Choice). (answer game (line_of_asked entry) c).game) same
+
+-- the table refuses none of what may be refused
+pub never_refused : (game : GameRecord) (id : ℕ) (command : CheckCommand) (ch : Choice) → MayRefuse command
+    → IsCheckInLimits command → (answer game (line_of_check id command) ch).ok ≡ true
+never_refused game id (Match (Boardsize s)) ch may limits =
+    ap (λ (a : Answer). a.ok) (well_answer game (Some id) (Boardsize s) ch limits)
+never_refused game id (Match (Komi komi)) ch may limits = absurd may
+never_refused game id (Match ClearBoard) ch may limits = absurd may
+never_refused game id (Match (FixedHandicap stones)) ch may limits = absurd may
+never_refused game id (Match (Play move)) ch may limits = absurd may
+never_refused game id (Match (Genmove colour)) ch may limits = absurd may
+never_refused game id (Match Undo) ch may limits = absurd may
+never_refused game id (Match Quit) ch may limits = absurd may
+never_refused game id FinalScore ch may limits = refl
+never_refused game id Name ch may limits = refl
+never_refused game id Version ch may limits = refl
+never_refused game id (KnownCommand k) ch may limits = refl
+
+-- a right answer that an engine gave leaves the engine's game
+pub one_after : (game : GameRecord) (entry : Asked) (reply : Reply) (after : GameRecord) (ch : Choice)
+    → IsSize game.size
+    → IsCheckInLimits entry.command → IsLawfulAt game (line_of_asked entry) ch → IsRight game entry reply after
+    → reply ≡ reply_of_answer (Some entry.id) (answer game (line_of_asked entry) ch)
+    → after ≡ (answer game (line_of_asked entry) ch).game
+one_after game entry reply after ch size limits lawful (IsRight.by_table right) is =
+    tabled_after game entry reply after ch size lawful right is
+one_after game entry reply after ch size limits lawful (IsRight.by_refusal refuses) is =
+    absurd (let e : false ≡ true =
+    sym refuses.status ∙ ap (λ (r : Reply). r.ok) is
+    ∙ never_refused game entry.id entry.command ch refuses.may limits in cc e)
+
+-- an engine's answer to what was asked says what it has to
+match_says : (game : GameRecord) (id : Option ℕ) (command : Command) (due : Due) (ch : Choice) → IsSize game.size
+    → IsWritable command → IsInLimits command → IsDueTo game command due → IsLawfulAt game
+    (line_of_command id command) ch
+    → SaysTo game command ch (answer game (line_of_command id command) ch).ok
+    (answer game (line_of_command id command) ch).text
+match_says game id (Boardsize size) due ch is w l h lawful = tt
+match_says game id (Komi komi) due ch is w l h lawful = tt
+match_says game id ClearBoard due ch is w l h lawful = tt
+match_says game id (FixedHandicap stones) (Places size count) ch is w l h lawful =
+    subst (λ (a : Answer). SaysTo game (FixedHandicap stones) ch a.ok a.text)
+    (sym (well_answer game id (FixedHandicap stones) ch (h.2, (h.3, is))))
+    (handicap_is_named game.size stones is h.3)
+match_says game id (FixedHandicap stones) (Fails cause) ch is w l h lawful =
+    subst (λ (b : Bool). SaysTo game (FixedHandicap stones) ch b
+    (answer game (line_of_command id (FixedHandicap stones)) ch).text)
+    (sym (match_answered game id (FixedHandicap stones) (Fails cause) ch is w l h).0) tt
+match_says game id (FixedHandicap stones) Succeeds ch is w l h lawful = absurd h
+match_says game id (FixedHandicap stones) (Resizes s) ch is w l h lawful = absurd h
+match_says game id (FixedHandicap stones) (Scores s) ch is w l h lawful = absurd h
+match_says game id (FixedHandicap stones) due.AnyReply ch is w l h lawful = absurd h
+match_says game id (FixedHandicap stones) (Chooses c) ch is w l h lawful = absurd h
+match_says game id (Play move) due ch is w l h lawful = tt
+match_says game id (Genmove colour) due ch is w l h lawful =
+    by (asked game (line_of_command id (Genmove colour))) refl
+  where
+    by : (o : Option Colour) → asked game (line_of_command id (Genmove colour)) ≡ o
+        → SaysTo game (Genmove colour) ch (answer game (line_of_command id (Genmove colour)) ch).ok
+        (answer game (line_of_command id (Genmove colour)) ch).text
+    by None e = absurd (let e2 : Some colour ≡ None = sym (genmove_asks game id colour h.1) ∙ e in cc e2)
+    by (Some c) e =
+        subst (λ (a : Answer). SaysTo game (Genmove colour) ch a.ok a.text)
+        (sym (genmove_answer game id colour ch h.1))
+        (says_choice game colour ch is.most
+        (subst (λ (o : Option Colour). IfSome o (λ d. IsLawful game d ch)) (genmove_asks game id colour h.1) lawful))
+match_says game id Undo due ch is w l h lawful = tt
+match_says game id Quit due ch is w l h lawful = absurd h
+
+pub engine_says : (game : GameRecord) (id : ℕ) (command : CheckCommand) (due : Due) (ch : Choice) → IsSize game.size
+    → IsCheckWritable command → IsCheckInLimits command → IsDue game command due
+    → IsLawfulAt game (line_of_check id command) ch
+    → Says game command ch (answer game (line_of_check id command) ch).ok
+    (answer game (line_of_check id command) ch).text
+engine_says game id (Match command) due ch is w l h lawful = match_says game (Some id) command due ch is w l h lawful
+engine_says game id FinalScore due ch is w l h lawful = fresh_score_reads game h.1 h.2
+engine_says game id Name due ch is w l h lawful = tt
+engine_says game id Version due ch is w l h lawful = tt
+engine_says game id (KnownCommand k) due ch is w l h lawful = tt

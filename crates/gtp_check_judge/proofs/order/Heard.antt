@@ -1,0 +1,206 @@
+-- What is heard keeps an examiner orderly.
+use Rattle.std.proofs.Common.{◌≡◌, ℕ, ◌+◌, Bool, true, false, List, [], ◌∷◌, length, Option, Some, None, refl}
+use Rattle.std.proofs.Common.{sym, ap, subst, arith}
+use Rattle.std.specs.Prelude.{ℤ, IfSome, Result, Ok, Err, drop}
+use Rattle.go_base.specs.declared.colours.Colour.{Colour}
+use Rattle.go_base.specs.declared.vertices.Vertex.{Vertex}
+use Rattle.go_board.specs.Game.{GameRecord, with_move}
+use Rattle.gtp_check_judge.specs.declared.asking.CheckCommand.{CheckCommand}
+use Rattle.gtp_wire.specs.declared.commands.Command.TheVariants.{Boardsize}
+use Rattle.gtp_wire.specs.declared.replies.Reply.{Reply}
+use Rattle.gtp_wire.specs.declared.replies.ReplyFault.{ReplyFault}
+use Rattle.go_base.specs.declared.choices.Choice.{Choice}
+use Rattle.gtp_session.specs.CommandAnswers.{after_command}
+use Rattle.gtp_wire.specs.ReplyWords.{choice_of_text}
+use Rattle.gtp_check_judge.specs.Scores.{score_of_text}
+use Rattle.gtp_check_judge.specs.declared.dues.Due.{Due}
+use Rattle.gtp_check_judge.specs.declared.dues.Due.TheVariants.{Succeeds, Fails, Places, Resizes, Scores, AnyReply}
+use Rattle.gtp_check_judge.specs.declared.dues.Due.TheVariants.{Chooses}
+use Rattle.gtp_check_judge.specs.declared.judging.Judgement.{Judgement}
+use Rattle.gtp_check_judge.specs.declared.judging.Judgement.TheVariants.{Right, Plays, Resized, Wrong}
+use Rattle.gtp_check_judge.specs.declared.unanswered.Asked.{Asked}
+use Rattle.gtp_check_judge.specs.declared.exam.Exam.{Exam}
+use Rattle.gtp_check_judge.specs.declared.exam.Finding.{Finding}
+use Rattle.gtp_check_judge.specs.Judging.{oldest, awaits, is_awaited, has_id, Judged, success_judged, failure_judged}
+use Rattle.gtp_check_judge.specs.Judging.{size_judged, points_judged, ChoiceJudged, ScoreJudged}
+use Rattle.gtp_check_judge.specs.Exam.{Hears, Leaves, ReplyLeaves, IdLeaves, after_judged, with_learned, with_rest}
+use Rattle.gtp_check_judge.specs.Exam.{MayBeTaken, MayReply, MayAllBeTaken, AreOrderly, IsOrderly}
+use Rattle.go_base.specs.declared.choices.Choice.TheVariants as choice
+use Rattle.gtp_check_judge.proofs.order.Asked.{or_true}
+
+pub may_reply : (exam : Exam) → IsOrderly exam → MayReply exam
+may_reply exam o = first exam.unanswered o.judged
+  where
+    first : (list : List Asked) → MayAllBeTaken exam.game list
+        → IfSome (oldest list) (λ asked. MayBeTaken exam.game asked.command asked.due)
+    first [] all = tt
+    first (asked ∷ later) all = all.0
+
+right_parts : (game : GameRecord) (sent : ℕ) (asked : Asked) (later : List Asked)
+    → AreOrderly game sent (asked ∷ later) → AreOrderly game sent later
+right_parts game sent asked later o = record {
+  few = omega (arith, o.few);
+  alone = λ e. rest later e (o.alone (or_true (is_awaited asked.command) (awaits later) e));
+  ints = o.ints;
+  answered = o.answered + 1;
+  count = omega (arith, o.count);
+  numbered = o.numbered.1;
+  judged = o.judged.1;
+}
+  where
+    rest : (list : List Asked) → awaits list ≡ true → length (asked ∷ list) ≡ 1 → length list ≡ 1
+    rest [] e one = absurd (cc e)
+    rest (x ∷ xs) e one = absurd (omega arith)
+
+-- what is awaited is alone, so after its answer nothing is unanswered, whatever the game
+played_parts : (game new : GameRecord) (sent : ℕ) (asked : Asked) (later : List Asked)
+    → is_awaited asked.command ≡ true
+    → AreOrderly game sent (asked ∷ later) → AreOrderly new sent later
+played_parts game new sent asked [] is o = record {
+  few = omega arith;
+  alone = λ e. absurd (cc e);
+  ints = o.ints;
+  answered = sent;
+  count = omega arith;
+  numbered = tt;
+  judged = tt;
+}
+played_parts game new sent asked (x ∷ xs) is o =
+    absurd (let e = o.alone (rw is refl) in omega arith)
+
+-- a move is played only by what chooses
+pub plays_chosen : (game : GameRecord) (due : Due) (reply : Reply) (colour : Colour) (v : Vertex)
+    → Judged game due reply (Plays colour v) → (c : Colour) × (due ≡ Chooses c)
+plays_chosen game (Chooses c) reply colour v j = (c, refl)
+plays_chosen game Succeeds reply colour v j = absurd (never reply.ok j)
+  where
+    never : (b : Bool) → Plays colour v ≡ success_judged b → ⊥
+    never true e = cc e
+    never false e = cc e
+plays_chosen game (Scores s) reply colour v j = absurd (never reply.ok (score_of_text reply.text.items) j)
+  where
+    never : (b : Bool) (said : Option ℤ) → ScoreJudged s b said (Plays colour v) → ⊥
+    never false said e = cc e
+    never true None e = cc e
+    never true (Some n) e = e
+plays_chosen game AnyReply reply colour v j = absurd (cc j)
+plays_chosen game (Fails cause) reply colour v j = absurd (never reply.ok j)
+  where
+    never : (b : Bool) → Plays colour v ≡ failure_judged cause b → ⊥
+    never true e = cc e
+    never false e = cc e
+plays_chosen game (Resizes size) reply colour v j = absurd (never reply.ok j)
+  where
+    never : (b : Bool) → Plays colour v ≡ size_judged size b → ⊥
+    never true e = cc e
+    never false e = cc e
+plays_chosen game (Places size stones) reply colour v j = absurd (never _ reply.ok j)
+  where
+    never : (n b : Bool) → Plays colour v ≡ points_judged n b → ⊥
+    never n false e = cc e
+    never true true e = cc e
+    never false true e = cc e
+
+pub chosen_genmove : (game : GameRecord) (command : CheckCommand) (due : Due) (c : Colour) → due ≡ Chooses c
+    → MayBeTaken game command due → is_awaited command ≡ true
+chosen_genmove game command (Chooses d) c e h = h.0
+chosen_genmove game command Succeeds c e h = absurd (cc e)
+chosen_genmove game command (Fails cause) c e h = absurd (cc e)
+chosen_genmove game command (Places s n) c e h = absurd (cc e)
+chosen_genmove game command (Resizes s) c e h = absurd (cc e)
+chosen_genmove game command (Scores s) c e h = absurd (cc e)
+chosen_genmove game command AnyReply c e h = absurd (cc e)
+
+-- and a board has another size only by what asks for that size
+pub resized_due : (game : GameRecord) (due : Due) (reply : Reply) (size : ℕ)
+    → Judged game due reply (Resized size) → (due ≡ Resizes size) × (reply.ok ≡ true)
+resized_due game (Resizes s) reply size j = by reply.ok j
+  where
+    by : (b : Bool) → Resized size ≡ size_judged s b → (Resizes s ≡ Resizes size) × (b ≡ true)
+    by true e = (let same : s ≡ size = cc e in ap Resizes same, refl)
+    by false e = absurd (cc e)
+resized_due game Succeeds reply size j = absurd (never reply.ok j)
+  where
+    never : (b : Bool) → Resized size ≡ success_judged b → ⊥
+    never true e = cc e
+    never false e = cc e
+resized_due game (Scores s) reply size j = absurd (never reply.ok (score_of_text reply.text.items) j)
+  where
+    never : (b : Bool) (said : Option ℤ) → ScoreJudged s b said (Resized size) → ⊥
+    never false said e = cc e
+    never true None e = cc e
+    never true (Some n) e = e
+resized_due game AnyReply reply size j = absurd (cc j)
+resized_due game (Fails cause) reply size j = absurd (never reply.ok j)
+  where
+    never : (b : Bool) → Resized size ≡ failure_judged cause b → ⊥
+    never true e = cc e
+    never false e = cc e
+resized_due game (Places s stones) reply size j = absurd (never _ reply.ok j)
+  where
+    never : (n b : Bool) → Resized size ≡ points_judged n b → ⊥
+    never n false e = cc e
+    never true true e = cc e
+    never false true e = cc e
+resized_due game (Chooses colour) reply size j = absurd (never reply.ok (choice_of_text reply.text.items) j)
+  where
+    never : (b : Bool) (said : Option Choice) → ChoiceJudged game colour b said (Resized size) → ⊥
+    never false said e = cc e
+    never true None e = cc e
+    never true (Some choice.Resign) e = cc e
+    never true (Some (choice.Play v)) e = e
+
+pub resized_awaited : (game : GameRecord) (command : CheckCommand) (due : Due) (size : ℕ) → due ≡ Resizes size
+    → MayBeTaken game command due → is_awaited command ≡ true
+resized_awaited game command (Resizes s) size e h = h
+resized_awaited game command (Chooses d) size e h = absurd (cc e)
+resized_awaited game command Succeeds size e h = absurd (cc e)
+resized_awaited game command (Scores s) size e h = absurd (cc e)
+resized_awaited game command AnyReply size e h = absurd (cc e)
+resized_awaited game command (Fails cause) size e h = absurd (cc e)
+resized_awaited game command (Places s n) size e h = absurd (cc e)
+
+judged_orderly : (exam : Exam) (asked : Asked) (later : List Asked) (reply : Reply) (got : Judgement)
+    → exam.unanswered ≡ asked ∷ later → AreOrderly exam.game exam.sent (asked ∷ later)
+    → Judged exam.game asked.due reply got → IsOrderly (after_judged exam got)
+judged_orderly exam asked later reply Right is o j =
+    subst (λ (l : List Asked). AreOrderly exam.game exam.sent (drop 1 l)) (sym is)
+    (right_parts exam.game exam.sent asked later o)
+judged_orderly exam asked later reply (Plays colour v) is o j =
+    let chosen = plays_chosen exam.game asked.due reply colour v j in
+    subst (λ (l : List Asked). AreOrderly (with_move exam.game colour v) exam.sent (drop 1 l)) (sym is)
+    (played_parts exam.game (with_move exam.game colour v) exam.sent asked later
+    (chosen_genmove exam.game asked.command asked.due chosen.0 chosen.1 o.judged.0) o)
+judged_orderly exam asked later reply (Resized size) is o j =
+    let due = resized_due exam.game asked.due reply size j in
+    let new : GameRecord = after_command exam.game (Boardsize size) in
+    subst (λ (l : List Asked). AreOrderly new exam.sent (drop 1 l)) (sym is)
+    (played_parts exam.game new exam.sent asked later
+    (resized_awaited exam.game asked.command asked.due size due.0 o.judged.0) o)
+judged_orderly exam asked later reply (Wrong kind) is o j =
+    subst (λ (l : List Asked). AreOrderly exam.game exam.sent l) (sym is) o
+
+id_orderly : (exam : Exam) (asked : Asked) (later : List Asked) (reply : Reply) (b : Bool) (finding : Option Finding)
+    (new : Exam) → exam.unanswered ≡ asked ∷ later → AreOrderly exam.game exam.sent (asked ∷ later)
+    → IdLeaves exam asked reply b finding new → IsOrderly new
+id_orderly exam asked later reply false finding new is o h =
+    subst IsOrderly (sym h.1) (subst (λ (l : List Asked). AreOrderly exam.game exam.sent l) (sym is) o)
+id_orderly exam asked later reply true finding new is o h =
+    subst IsOrderly (sym h.3) (judged_orderly (with_learned exam asked.command reply) asked later reply h.0 is o h.1)
+
+reply_orderly : (exam : Exam) (list : List Asked) (reply : Reply) (finding : Option Finding) (new : Exam)
+    → exam.unanswered ≡ list → IsOrderly exam → ReplyLeaves exam (oldest list) reply finding new → IsOrderly new
+reply_orderly exam [] reply finding new is o h = subst IsOrderly (sym h.1) o
+reply_orderly exam (asked ∷ later) reply finding new is o h =
+    id_orderly exam asked later reply (has_id reply.id asked.id) finding new is
+    (subst (λ (l : List Asked). AreOrderly exam.game exam.sent l) is o) h
+
+leaves_orderly : (exam : Exam) (read : Option (Result Reply ReplyFault)) (finding : Option Finding) (new : Exam)
+    → IsOrderly exam → Leaves exam read finding new → IsOrderly new
+leaves_orderly exam None finding new o h = subst IsOrderly (sym h.1) o
+leaves_orderly exam (Some (Err shown)) finding new o h = subst IsOrderly (sym h.1) o
+leaves_orderly exam (Some (Ok reply)) finding new o h = reply_orderly exam exam.unanswered reply finding new refl o h
+
+pub heard_orderly : (old : Exam) (bytes : List ℕ) (used : ℕ) (read : Option (Result Reply ReplyFault))
+    (finding : Option Finding) (new : Exam) → IsOrderly old → Hears old bytes used read finding new → IsOrderly new
+heard_orderly old bytes used read finding new o h = leaves_orderly (with_rest old h.0) read finding new o h.2

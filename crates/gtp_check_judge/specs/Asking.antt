@@ -1,0 +1,49 @@
+-- The commands that a check asks: those of a match, and four more, which an engine may be without.
+use Rattle.std.specs.Prelude.{ℕ, List, [], ◌∷◌, ◌++◌, Some, codes}
+use Rattle.std.specs.List.{join_with_byte}
+use Rattle.go_base.specs.Bytes.{newline, space}
+use Rattle.gtp_wire.specs.declared.lines.Line.{Line}
+use Rattle.gtp_wire.specs.declared.lines.Line.TheVariants as line
+use Rattle.gtp_wire.specs.Commands.{words_of, IsWritable, IsInLimits}
+use Rattle.gtp_wire.specs.Words.{id_words}
+use Rattle.gtp_check_judge.specs.declared.asking.Known.{Known}
+use Rattle.gtp_check_judge.specs.declared.asking.Known.TheVariants as known
+use Rattle.gtp_check_judge.specs.declared.asking.CheckCommand.{CheckCommand}
+use Rattle.gtp_check_judge.specs.declared.asking.CheckCommand.TheVariants.{Match, FinalScore, Name, Version}
+use Rattle.gtp_check_judge.specs.declared.asking.CheckCommand.TheVariants.{KnownCommand}
+
+abbrev pub known_name : Known → List ℕ
+known_name known.FixedHandicap = codes "fixed_handicap"
+known_name known.Undo = codes "undo"
+known_name known.FinalScore = codes "final_score"
+
+-- the words of a command
+abbrev pub words_of_check : CheckCommand → List (List ℕ)
+words_of_check (Match command) = words_of command
+words_of_check FinalScore = codes "final_score" ∷ []
+words_of_check Name = codes "name" ∷ []
+words_of_check Version = codes "version" ∷ []
+words_of_check (KnownCommand known) = codes "known_command" ∷ known_name known ∷ []
+
+-- the bytes of a command with this id: the words, with single spaces between them, and a newline
+abbrev pub written_check : ℕ → CheckCommand → List ℕ
+written_check id command = join_with_byte space (id_words (Some id) ++ words_of_check command) ++ newline ∷ []
+
+-- the line that it is
+abbrev pub line_of_check : ℕ → CheckCommand → Line
+line_of_check id command = line.Command (record { id = Some id; words = words_of_check command })
+
+-- what may be written, and values in their limits, as of a command of a match
+abbrev pub IsCheckWritable : CheckCommand → Type 0
+IsCheckWritable (Match command) = IsWritable command
+IsCheckWritable FinalScore = Unit {0}
+IsCheckWritable Name = Unit {0}
+IsCheckWritable Version = Unit {0}
+IsCheckWritable (KnownCommand known) = Unit {0}
+
+abbrev pub IsCheckInLimits : CheckCommand → Type 0
+IsCheckInLimits (Match command) = IsInLimits command
+IsCheckInLimits FinalScore = Unit {0}
+IsCheckInLimits Name = Unit {0}
+IsCheckInLimits Version = Unit {0}
+IsCheckInLimits (KnownCommand known) = Unit {0}

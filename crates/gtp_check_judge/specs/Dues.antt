@@ -1,0 +1,126 @@
+-- What is due to a command: what every right engine answers to it, by the rules of the game alone.
+use Rattle.std.specs.Prelude.{◌≡◌, ℕ, ◌≤◌, ◌<◌, [], length}
+use Rattle.go_base.specs.Int.{most_int}
+use Rattle.go_base.specs.Size.{IsSize}
+use Rattle.go_base.specs.Komi.{IsKomi}
+use Rattle.go_base.specs.Handicap.{AllowsHandicap}
+use Rattle.go_base.specs.declared.moves.Move.{Move}
+use Rattle.go_board.specs.Game.{GameRecord, HasRoom, IsLegal, IsFinished}
+use Rattle.go_board.specs.Refusals.{Refuses, IsTouched, RefusesHandicap}
+use Rattle.gtp_wire.specs.declared.commands.Command.{Command}
+use Rattle.gtp_wire.specs.declared.commands.Command.TheVariants.{Boardsize, Komi, ClearBoard, FixedHandicap, Play}
+use Rattle.gtp_wire.specs.declared.commands.Command.TheVariants.{Genmove, Undo, Quit}
+use Rattle.gtp_session.specs.CommandAnswers.{after_command}
+use Rattle.go_board.specs.Area.{score}
+use Rattle.gtp_check_judge.specs.declared.asking.CheckCommand.{CheckCommand}
+use Rattle.gtp_check_judge.specs.declared.asking.CheckCommand.TheVariants.{Match, FinalScore, Name, Version}
+use Rattle.gtp_check_judge.specs.declared.asking.CheckCommand.TheVariants.{KnownCommand}
+use Rattle.gtp_check_judge.specs.declared.dues.Due.{Due}
+use Rattle.gtp_check_judge.specs.declared.dues.Due.TheVariants.{Succeeds, Fails, Places, Resizes, Scores, AnyReply}
+use Rattle.gtp_check_judge.specs.declared.dues.Due.TheVariants.{Chooses}
+use Rattle.gtp_check_judge.specs.declared.dues.Cause.TheVariants.{BadMove, BadHandicap, NoMoves}
+
+-- What may be asked in a game. (What an engine answers is the table of its commands; what a check asks is our own.) A
+-- `play` or a `genmove` is asked only where the record has room: the standard has no limit of a record, and engines may
+-- have one. A `genmove` isn't asked after two passes: then a match is over, and engines differ. A number of handicap
+-- stones is an int. No `quit` is asked, after which nothing is to be heard.
+abbrev pub MayBeSaid : GameRecord → Command → Type 0
+MayBeSaid game (Boardsize size) = Unit {0}
+MayBeSaid game (Komi komi) = Unit {0}
+MayBeSaid game ClearBoard = Unit {0}
+MayBeSaid game (FixedHandicap stones) = stones ≤ most_int
+MayBeSaid game (Play move) = HasRoom game
+MayBeSaid game (Genmove colour) = HasRoom game × ¬ IsFinished game
+MayBeSaid game Undo = Unit {0}
+MayBeSaid game Quit = ⊥
+
+-- no move was made, and no handicap was placed: so no stone is on the board
+pub record IsFresh (game : GameRecord) : Type 0 where
+  pub no_moves : game.moves ≡ []
+  pub no_handicap : game.handicap ≡ 0
+
+-- The score only of an empty board: of others engines judge by rules of their own, as which stones are dead. The rest
+-- always.
+abbrev pub MayBeAsked : GameRecord → CheckCommand → Type 0
+MayBeAsked game (Match command) = MayBeSaid game command
+MayBeAsked game FinalScore = IsFresh game
+MayBeAsked game Name = Unit {0}
+MayBeAsked game Version = Unit {0}
+MayBeAsked game (KnownCommand known) = Unit {0}
+
+-- a `fixed_handicap`: the points, where no stone is on the board, no move was made, and the size allows the number; or
+-- a failure, for its cause
+abbrev pub HandicapDue : GameRecord → ℕ → Due → Type 0
+HandicapDue game stones (Places size count) =
+    (size ≡ game.size) × (count ≡ stones) × (¬ IsTouched game) × AllowsHandicap game.size stones
+HandicapDue game stones (Fails (BadHandicap fault)) = RefusesHandicap game stones fault
+HandicapDue game stones (Fails (BadMove fault)) = ⊥
+HandicapDue game stones (Fails NoMoves) = ⊥
+HandicapDue game stones Succeeds = ⊥
+HandicapDue game stones (Resizes size) = ⊥
+HandicapDue game stones (Scores score) = ⊥
+HandicapDue game stones AnyReply = ⊥
+HandicapDue game stones (Chooses colour) = ⊥
+
+-- a `play`: a success where the move is legal, or a failure, for the rule that it breaks
+abbrev pub PlayDue : GameRecord → Move → Due → Type 0
+PlayDue game move Succeeds = IsLegal game move.colour move.vertex × HasRoom game
+PlayDue game move (Fails (BadMove fault)) = Refuses game move.colour move.vertex fault
+PlayDue game move (Fails (BadHandicap fault)) = ⊥
+PlayDue game move (Fails NoMoves) = ⊥
+PlayDue game move (Places size count) = ⊥
+PlayDue game move (Resizes size) = ⊥
+PlayDue game move (Scores score) = ⊥
+PlayDue game move AnyReply = ⊥
+PlayDue game move (Chooses colour) = ⊥
+
+-- an `undo`: a success where there is a move, or else a failure
+abbrev pub UndoDue : GameRecord → Due → Type 0
+UndoDue game Succeeds = 0 < length game.moves
+UndoDue game (Fails NoMoves) = game.moves ≡ []
+UndoDue game (Fails (BadMove fault)) = ⊥
+UndoDue game (Fails (BadHandicap fault)) = ⊥
+UndoDue game (Places size count) = ⊥
+UndoDue game (Resizes size) = ⊥
+UndoDue game (Scores score) = ⊥
+UndoDue game AnyReply = ⊥
+UndoDue game (Chooses colour) = ⊥
+
+-- What is due to a command of a match in a game. A `boardsize` may be refused: an engine plays the sizes that it likes.
+abbrev pub IsDueTo : GameRecord → Command → Due → Type 0
+IsDueTo game (Boardsize size) due = (due ≡ Resizes size) × IsSize size
+IsDueTo game (Komi komi) due = (due ≡ Succeeds) × IsKomi komi
+IsDueTo game ClearBoard due = due ≡ Succeeds
+IsDueTo game (FixedHandicap stones) due = HandicapDue game stones due
+IsDueTo game (Play move) due = PlayDue game move due
+IsDueTo game (Genmove colour) due = (due ≡ Chooses colour) × HasRoom game
+IsDueTo game Undo due = UndoDue game due
+IsDueTo game Quit due = ⊥
+
+-- What is due to a command in a game. To a `final_score` the score of the board, on which no stone is, or a failure; to
+-- `name`, `version` and `known_command` a reply, whatever it says.
+abbrev pub IsDue : GameRecord → CheckCommand → Due → Type 0
+IsDue game (Match command) due = IsDueTo game command due
+IsDue game FinalScore due = (due ≡ Scores (score game)) × IsFresh game × IsKomi game.komi
+IsDue game Name due = due ≡ AnyReply
+IsDue game Version due = due ≡ AnyReply
+IsDue game (KnownCommand known) due = due ≡ AnyReply
+
+-- the game after a command that goes well
+abbrev pub after_check : GameRecord → CheckCommand → GameRecord
+after_check game (Match command) = after_command game command
+after_check game FinalScore = game
+after_check game Name = game
+after_check game Version = game
+after_check game (KnownCommand known) = game
+
+-- The game of a right engine once it has answered so. What a `genmove` adds, and whether a `boardsize` is refused,
+-- isn't known before.
+abbrev pub after_due : GameRecord → CheckCommand → Due → GameRecord
+after_due game command Succeeds = after_check game command
+after_due game command (Places size count) = after_check game command
+after_due game command (Fails cause) = game
+after_due game command (Resizes size) = game
+after_due game command (Scores score) = game
+after_due game command AnyReply = game
+after_due game command (Chooses colour) = game

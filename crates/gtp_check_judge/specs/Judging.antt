@@ -1,0 +1,187 @@
+-- Whether a reply is what is due.
+use Rattle.std.specs.Prelude.{◌≡◌, ◌≢◌, ℕ, ℤ, ◌==◌, ◌&&◌, Bool, true, false, List, [], ◌∷◌, Option, None, Some}
+use Rattle.std.specs.List.{list_any}
+use Rattle.go_base.specs.Handicap.{AllowsHandicap, handicap_points}
+use Rattle.go_base.specs.declared.colours.Colour.{Colour}
+use Rattle.go_base.specs.declared.vertices.Vertex.{Vertex}
+use Rattle.go_base.specs.declared.choices.Choice.{Choice}
+use Rattle.go_base.specs.declared.choices.Choice.TheVariants as choice
+use Rattle.go_board.specs.Game.{GameRecord, IsLegal}
+use Rattle.go_board.specs.Refusals.{RefusesVertex}
+use Rattle.gtp_wire.specs.declared.commands.Command.{Command}
+use Rattle.gtp_wire.specs.declared.commands.Command.TheVariants as command
+use Rattle.gtp_wire.specs.declared.replies.Reply.{Reply}
+use Rattle.gtp_wire.specs.Words.{reply_words}
+use Rattle.gtp_check_judge.specs.declared.asking.CheckCommand.{CheckCommand}
+use Rattle.gtp_check_judge.specs.declared.asking.CheckCommand.TheVariants.{Match, FinalScore, Name, Version}
+use Rattle.gtp_check_judge.specs.declared.asking.CheckCommand.TheVariants.{KnownCommand}
+use Rattle.gtp_check_judge.specs.declared.dues.Due.{Due}
+use Rattle.gtp_check_judge.specs.declared.dues.Due.TheVariants.{Succeeds, Fails, Places, Resizes, Scores, AnyReply}
+use Rattle.gtp_check_judge.specs.declared.dues.Due.TheVariants.{Chooses}
+use Rattle.gtp_check_judge.specs.declared.dues.Cause.{Cause}
+use Rattle.gtp_check_judge.specs.declared.unanswered.Asked.{Asked}
+use Rattle.gtp_check_judge.specs.declared.judging.Judgement.{Judgement}
+use Rattle.gtp_check_judge.specs.declared.judging.Judgement.TheVariants.{Right, Plays, Resized, Wrong}
+use Rattle.gtp_check_judge.specs.declared.judging.Kind.TheVariants.{Refused, Took, OtherPoints, NoMove, NoVertex}
+use Rattle.gtp_check_judge.specs.declared.judging.Kind.TheVariants.{Unlawful, NoScore, OtherScore, WrongId, Unasked}
+use Rattle.gtp_check_judge.specs.declared.judging.Kind.TheVariants.{NoStatus, Overlong}
+use Rattle.gtp_wire.specs.ReplyWords.{choice_of_text, names_points}
+use Rattle.gtp_check_judge.specs.Scores.{score_of_text}
+
+-- ---- what is unanswered
+
+-- how many commands are unanswered at most
+abbrev pub most_unanswered : ℕ
+most_unanswered = 8
+
+abbrev pub none_unanswered : List Asked → Bool
+none_unanswered [] = true
+none_unanswered (asked ∷ later) = false
+
+abbrev pub oldest : List Asked → Option Asked
+oldest [] = None
+oldest (asked ∷ later) = Some asked
+
+-- The game isn't known before the answer to it, so nothing is asked before that: a `genmove`, whose move is the
+-- engine's, and a `boardsize`, which an engine may refuse.
+abbrev pub changes_freely : Command → Bool
+changes_freely (command.Genmove colour) = true
+changes_freely (command.Boardsize size) = true
+changes_freely (command.Komi komi) = false
+changes_freely command.ClearBoard = false
+changes_freely (command.FixedHandicap stones) = false
+changes_freely (command.Play move) = false
+changes_freely command.Undo = false
+changes_freely command.Quit = false
+
+abbrev pub is_awaited : CheckCommand → Bool
+is_awaited (Match command) = changes_freely command
+is_awaited FinalScore = false
+is_awaited Name = false
+is_awaited Version = false
+is_awaited (KnownCommand known) = false
+
+-- one whose answer has to be awaited is among them
+abbrev pub awaits : List Asked → Bool
+awaits list = list_any (λ asked. is_awaited asked.command) list
+
+-- ---- what a reply is
+
+-- the reply has an id, and it is this one
+abbrev pub has_id : Option ℕ → ℕ → Bool
+has_id None id = false
+has_id (Some n) id = n == id
+
+-- where a success is due
+abbrev pub success_judged : Bool → Judgement
+success_judged true = Right
+success_judged false = Wrong Refused
+
+-- where a failure is due
+abbrev pub failure_judged : Cause → Bool → Judgement
+failure_judged cause true = Wrong (Took cause)
+failure_judged cause false = Right
+
+-- Where a board of this size is due, or a failure: either is right. By a success the board has this size; by a failure
+-- it is as it was.
+abbrev pub size_judged : ℕ → Bool → Judgement
+size_judged size true = Resized size
+size_judged size false = Right
+
+-- where the points of a handicap are due, and whether they are named
+abbrev pub points_judged : Bool → Bool → Judgement
+points_judged named false = Wrong Refused
+points_judged true true = Right
+points_judged false true = Wrong OtherPoints
+
+-- a vertex: the colour plays it where it is legal, and else the answer is wrong, for the rule that it breaks
+abbrev pub VertexJudged : GameRecord → Colour → Vertex → Judgement → Type 0
+VertexJudged game colour v Right = ⊥
+VertexJudged game colour v (Resized size) = ⊥
+VertexJudged game colour v (Plays by at) = (by ≡ colour) × (at ≡ v) × IsLegal game colour v
+VertexJudged game colour v (Wrong (Unlawful fault)) = RefusesVertex game colour v fault
+VertexJudged game colour v (Wrong Refused) = ⊥
+VertexJudged game colour v (Wrong (Took cause)) = ⊥
+VertexJudged game colour v (Wrong OtherPoints) = ⊥
+VertexJudged game colour v (Wrong NoMove) = ⊥
+VertexJudged game colour v (Wrong NoVertex) = ⊥
+VertexJudged game colour v (Wrong NoScore) = ⊥
+VertexJudged game colour v (Wrong OtherScore) = ⊥
+VertexJudged game colour v (Wrong WrongId) = ⊥
+VertexJudged game colour v (Wrong Unasked) = ⊥
+VertexJudged game colour v (Wrong NoStatus) = ⊥
+VertexJudged game colour v (Wrong Overlong) = ⊥
+
+-- what was said by a `genmove` that succeeded: neither a vertex nor `resign`; `resign`; or a vertex
+abbrev pub SaidJudged : GameRecord → Colour → Option Choice → Judgement → Type 0
+SaidJudged game colour None got = got ≡ Wrong NoVertex
+SaidJudged game colour (Some choice.Resign) got = got ≡ Right
+SaidJudged game colour (Some (choice.Play v)) got = VertexJudged game colour v got
+
+-- a reply to a `genmove`: it failed, or succeeded and said this
+abbrev pub ChoiceJudged : GameRecord → Colour → Bool → Option Choice → Judgement → Type 0
+ChoiceJudged game colour false said got = got ≡ Wrong NoMove
+ChoiceJudged game colour true said got = SaidJudged game colour said got
+
+-- a score that was said: the one that is due, or another
+abbrev pub NumberJudged : ℤ → ℤ → Judgement → Type 0
+NumberJudged score said Right = said ≡ score
+NumberJudged score said (Wrong OtherScore) = said ≢ score
+NumberJudged score said (Plays colour v) = ⊥
+NumberJudged score said (Resized size) = ⊥
+NumberJudged score said (Wrong Refused) = ⊥
+NumberJudged score said (Wrong (Took cause)) = ⊥
+NumberJudged score said (Wrong OtherPoints) = ⊥
+NumberJudged score said (Wrong NoMove) = ⊥
+NumberJudged score said (Wrong NoVertex) = ⊥
+NumberJudged score said (Wrong (Unlawful fault)) = ⊥
+NumberJudged score said (Wrong NoScore) = ⊥
+NumberJudged score said (Wrong WrongId) = ⊥
+NumberJudged score said (Wrong Unasked) = ⊥
+NumberJudged score said (Wrong NoStatus) = ⊥
+NumberJudged score said (Wrong Overlong) = ⊥
+
+-- what was said by a `final_score` that succeeded: no score, or this one
+abbrev pub SaidScoreJudged : ℤ → Option ℤ → Judgement → Type 0
+SaidScoreJudged score None got = got ≡ Wrong NoScore
+SaidScoreJudged score (Some said) got = NumberJudged score said got
+
+-- a reply to a `final_score`: it failed, which is right, or succeeded and said this
+abbrev pub ScoreJudged : ℤ → Bool → Option ℤ → Judgement → Type 0
+ScoreJudged score false said got = got ≡ Right
+ScoreJudged score true said got = SaidScoreJudged score said got
+
+-- the words are the points of the handicap, each once, in any order
+abbrev pub are_points : ℕ → ℕ → Reply → Bool
+are_points size stones reply = names_points (handicap_points size stones) (reply_words reply.text.items)
+
+-- A reply, to a command to which this is due. The game is that of a right engine.
+abbrev pub Judged : GameRecord → Due → Reply → Judgement → Type 0
+Judged game Succeeds reply got = got ≡ success_judged reply.ok
+Judged game (Fails cause) reply got = got ≡ failure_judged cause reply.ok
+Judged game (Places size stones) reply got = got ≡ points_judged (reply.ok && are_points size stones reply) reply.ok
+Judged game (Resizes size) reply got = got ≡ size_judged size reply.ok
+Judged game (Scores score) reply got = ScoreJudged score reply.ok (score_of_text reply.text.items) got
+Judged game AnyReply reply got = got ≡ Right
+Judged game (Chooses colour) reply got = ChoiceJudged game colour reply.ok (choice_of_text reply.text.items) got
+
+-- a handicap that is due is one that its size allows
+abbrev pub MayBeJudged : Due → Type 0
+MayBeJudged (Places size stones) = AllowsHandicap size stones
+MayBeJudged Succeeds = Unit {0}
+MayBeJudged (Fails cause) = Unit {0}
+MayBeJudged (Resizes size) = Unit {0}
+MayBeJudged (Scores score) = Unit {0}
+MayBeJudged AnyReply = Unit {0}
+MayBeJudged (Chooses colour) = Unit {0}
+
+-- the size that was asked for and is refused by a reply of this status, if any
+abbrev pub refused_by : Due → Bool → Option ℕ
+refused_by (Resizes size) false = Some size
+refused_by (Resizes size) true = None
+refused_by Succeeds ok = None
+refused_by (Fails cause) ok = None
+refused_by (Places size stones) ok = None
+refused_by (Scores score) ok = None
+refused_by AnyReply ok = None
+refused_by (Chooses colour) ok = None

@@ -1,0 +1,358 @@
+-- Laws of the examiner: what holds of every talk between it and one engine, whatever that is.
+use Rattle.std.specs.Prelude.{◌≡◌, ◌≢◌, ℕ, ℤ, neg_ℤ, Bool, true, false, List, [], ◌∷◌, ◌++◌, take, Option, None, Some}
+use Rattle.std.specs.Prelude.{IfSome, Result, Ok, Err, ◌+◌, ◌⊎◌}
+use Rattle.go_base.specs.Size.{IsSize}
+use Rattle.go_base.specs.Handicap.{handicap_points}
+use Rattle.go_base.specs.declared.choices.Choice.{Choice}
+use Rattle.go_board.specs.Game.{GameRecord, HasRoom, IsLegal, with_move}
+use Rattle.go_board.specs.declared.faults.PlayFault.{PlayFault}
+use Rattle.go_base.specs.declared.moves.Move.{Move}
+use Rattle.gtp_wire.specs.Lines.{lines}
+use Rattle.go_board.specs.declared.rules.KoRule.{KoRule}
+use Rattle.gtp_wire.specs.declared.commands.Command.{Command}
+use Rattle.gtp_check_judge.specs.declared.asking.CheckCommand.{CheckCommand}
+use Rattle.gtp_check_judge.specs.declared.asking.CheckCommand.TheVariants.{Match, FinalScore, Name, Version}
+use Rattle.gtp_check_judge.specs.declared.asking.CheckCommand.TheVariants.{KnownCommand}
+use Rattle.gtp_wire.specs.declared.commands.Command.TheVariants.{Boardsize, Komi, ClearBoard, FixedHandicap, Play}
+use Rattle.gtp_wire.specs.declared.commands.Command.TheVariants.{Genmove, Undo, Quit}
+use Rattle.gtp_wire.specs.Replies.{IsReply, GivesNoAnswer}
+use Rattle.gtp_wire.specs.declared.lines.Line.{Line}
+use Rattle.gtp_wire.specs.declared.replies.Reply.{Reply}
+use Rattle.gtp_wire.specs.declared.replies.ReplyFault.{ReplyFault}
+use Rattle.gtp_wire.specs.declared.replies.ReplyFault.TheVariants as fault
+use Rattle.gtp_check_judge.specs.Asking.{written_check, line_of_check, IsCheckWritable, IsCheckInLimits}
+use Rattle.gtp_check_judge.specs.Scores.{score_of_text}
+use Rattle.go_board.specs.Area.{score}
+use Rattle.gtp_wire.specs.Words.{reply_words}
+use Rattle.gtp_session.specs.Policy.{May, IsLawful}
+use Rattle.gtp_session.specs.Commands.{answer, asked}
+use Rattle.gtp_session.specs.Engine.{Engine, Engages, fresh_under, fresh_game_under}
+use Rattle.gtp_check_judge.specs.declared.unanswered.Asked.{Asked}
+use Rattle.gtp_check_judge.specs.declared.dues.Due.{Due}
+use Rattle.gtp_check_judge.specs.declared.dues.Cause.TheVariants.{BadMove}
+use Rattle.gtp_check_judge.specs.declared.dues.Due.TheVariants.{Succeeds, Fails, Places, Scores, Chooses}
+use Rattle.gtp_check_judge.specs.declared.judging.Kind.{Kind}
+use Rattle.gtp_check_judge.specs.declared.judging.Kind.TheVariants.{Refused, Took, OtherPoints, NoMove, NoVertex}
+use Rattle.gtp_check_judge.specs.declared.judging.Kind.TheVariants.{Unlawful, NoScore, OtherScore, WrongId, Unasked}
+use Rattle.gtp_check_judge.specs.declared.judging.Kind.TheVariants.{NoStatus, Overlong}
+use Rattle.go_base.specs.declared.choices.Choice.TheVariants as choice
+use Rattle.go_base.specs.declared.colours.Colour.{Colour}
+use Rattle.go_base.specs.declared.vertices.Vertex.{Vertex}
+use Rattle.go_board.specs.Refusals.{RefusesVertex}
+use Rattle.gtp_check_judge.specs.declared.exam.Exam.{Exam}
+use Rattle.gtp_check_judge.specs.declared.exam.Finding.{Finding}
+use Rattle.gtp_wire.specs.ReplyWords.{choice_of_text, names_points}
+use Rattle.gtp_check_judge.specs.Dues.{IsDue, after_due}
+use Rattle.gtp_check_judge.specs.Judging.{oldest}
+use Rattle.gtp_check_judge.specs.Exam.{begun, Asks, Hears, HasRoomFor, IsOrderly}
+
+-- ---- right answers, by the table of the engine's commands
+
+-- the line of a command that was asked
+abbrev pub line_of_asked : Asked → Line
+line_of_asked entry = line_of_check entry.id entry.command
+
+-- What the text of a success has to say, where this was chosen: the points of the handicap, each once and in any order;
+-- the choice of a `genmove`; of other commands, and of failures, nothing.
+abbrev pub SaysTo : GameRecord → Command → Choice → Bool → List ℕ → Type 0
+SaysTo game (FixedHandicap stones) choice true text =
+    names_points (handicap_points game.size stones) (reply_words text) ≡ true
+SaysTo game (Genmove colour) choice true text = choice_of_text text ≡ Some choice
+SaysTo game (FixedHandicap stones) choice false text = Unit {0}
+SaysTo game (Genmove colour) choice false text = Unit {0}
+SaysTo game (Boardsize size) choice ok text = Unit {0}
+SaysTo game (Komi komi) choice ok text = Unit {0}
+SaysTo game ClearBoard choice ok text = Unit {0}
+SaysTo game (Play move) choice ok text = Unit {0}
+SaysTo game Undo choice ok text = Unit {0}
+SaysTo game Quit choice ok text = Unit {0}
+
+-- The same of each command: the text of a `final_score` is the score of the game; of a `name`, a `version` and a
+-- `known_command` it is any.
+abbrev pub Says : GameRecord → CheckCommand → Choice → Bool → List ℕ → Type 0
+Says game (Match command) choice ok text = SaysTo game command choice ok text
+Says game FinalScore choice true text = score_of_text text ≡ Some (score game)
+Says game FinalScore choice false text = Unit {0}
+Says game Name choice ok text = Unit {0}
+Says game Version choice ok text = Unit {0}
+Says game (KnownCommand known) choice ok text = Unit {0}
+
+-- The reply is an answer by the table to the command in the game before, and leaves the game after: it has the
+-- command's id, and for some choice, which is lawful where a policy is asked for one, it has the status that the
+-- table answers, and says what it has to.
+pub record IsByTable (before : GameRecord) (entry : Asked) (reply : Reply) (after : GameRecord) : Type 0 where
+  pub id : reply.id ≡ Some entry.id
+  pub choice : Choice
+  pub lawful : IfSome (asked before (line_of_asked entry)) (λ colour. IsLawful before colour choice)
+  pub status : reply.ok ≡ (answer before (line_of_asked entry) choice).ok
+  pub says : Says before entry.command choice reply.ok reply.text.items
+  pub game : after ≡ (answer before (line_of_asked entry) choice).game
+
+-- A right engine may refuse the command, though the table's engine doesn't: a `boardsize`, since it may take fewer
+-- sizes than 1 to 25; and `final_score`, `name`, `version` and `known_command`, which it may be without.
+abbrev pub MayRefuseTo : Command → Type 0
+MayRefuseTo (Boardsize size) = Unit {0}
+MayRefuseTo (Komi komi) = ⊥
+MayRefuseTo ClearBoard = ⊥
+MayRefuseTo (FixedHandicap stones) = ⊥
+MayRefuseTo (Play move) = ⊥
+MayRefuseTo (Genmove colour) = ⊥
+MayRefuseTo Undo = ⊥
+MayRefuseTo Quit = ⊥
+
+abbrev pub MayRefuse : CheckCommand → Type 0
+MayRefuse (Match command) = MayRefuseTo command
+MayRefuse FinalScore = Unit {0}
+MayRefuse Name = Unit {0}
+MayRefuse Version = Unit {0}
+MayRefuse (KnownCommand known) = Unit {0}
+
+-- The reply refuses such a command: it has the command's id, it is a failure, and the game stays.
+pub record IsRefusal (before : GameRecord) (entry : Asked) (reply : Reply) (after : GameRecord) : Type 0 where
+  pub may : MayRefuse entry.command
+  pub id : reply.id ≡ Some entry.id
+  pub status : reply.ok ≡ false
+  pub game : after ≡ before
+
+-- The reply is a right answer to the command in the game before, and leaves the game after: an answer by the table,
+-- or the refusal of a command that may be refused.
+pub data IsRight (before : GameRecord) (entry : Asked) (reply : Reply) (after : GameRecord) : Type 0 where
+  by_table : IsByTable before entry reply after → IsRight before entry reply after
+  by_refusal : IsRefusal before entry reply after → IsRight before entry reply after
+
+-- ---- talks
+
+-- a command and the reply to it
+pub record Exchange : Type 0 where
+  pub entry : Asked
+  pub reply : Reply
+
+-- From a game on, each of the commands has a right answer in the game that those before it leave; the last game is
+-- this.
+pub data AllRight (from : GameRecord) : List Exchange → GameRecord → Type 0 where
+  nothing : AllRight from [] from
+  one_more : {said : List Exchange} {before after : GameRecord} (entry : Asked) (reply : Reply)
+      → AllRight from said before → IsRight before entry reply after
+      → AllRight from (said ++ record { entry = entry; reply = reply } ∷ []) after
+
+-- what was exchanged by what was read, where this is the oldest command
+abbrev pub exchanged : Option Asked → Option (Result Reply ReplyFault) → List Exchange
+exchanged (Some entry) (Some (Ok reply)) = record { entry = entry; reply = reply } ∷ []
+exchanged (Some entry) (Some (Err shown)) = []
+exchanged (Some entry) None = []
+exchanged None read = []
+
+-- A talk with one engine since it was started, without a finding so far: the bytes of all commands, the bytes that were
+-- heard, the commands that were answered with their replies, and the exam as it is then.
+pub data Talks (rule : KoRule) : List ℕ → List ℕ → List Exchange → Exam → Type 0 where
+  start : Talks rule [] [] [] (begun rule true)
+  ask : {sent came : List ℕ} {said : List Exchange} {old new : Exam} (command : CheckCommand)
+      → Talks rule sent came said old → HasRoomFor old command → Asks old command new
+      → Talks rule (sent ++ written_check new.sent command) came said new
+  hear : {sent came : List ℕ} {said : List Exchange} {old new : Exam} (bytes : List ℕ) (used : ℕ)
+      (read : Option (Result Reply ReplyFault))
+      → Talks rule sent came said old → Hears old bytes used read None new
+      → Talks rule sent (came ++ take used bytes) (said ++ exchanged (oldest old.unanswered) read) new
+
+-- a command that was asked in this game
+pub record IsAsked (game : GameRecord) (entry : Asked) : Type 0 where
+  pub writable : IsCheckWritable entry.command
+  pub limits : IsCheckInLimits entry.command
+  pub is_due : IsDue game entry.command entry.due
+
+-- The commands were asked in this game and those after it, and the last is the game ahead.
+abbrev pub Expects : GameRecord → List Asked → GameRecord → Type 0
+Expects game [] ahead = ahead ≡ game
+Expects game (entry ∷ later) ahead = IsAsked game entry × Expects (after_due game entry.command entry.due) later ahead
+
+-- ---- silence says what was seen
+
+-- As long as nothing was found, each answer that was heard is a right one, in the game that those before it leave; and
+-- what is unanswered was asked in the game after them. The exam is orderly.
+pub record IsRightSoFar (rule : KoRule) (said : List Exchange) (exam : Exam) : Type 0 where
+  pub before : GameRecord
+  pub right : AllRight (fresh_game_under rule) said before
+  pub expects : Expects before exam.unanswered exam.game
+  pub size : IsSize before.size
+  pub orderly : IsOrderly exam
+
+abbrev pub SilenceSaysAllIsRight : Type 0
+SilenceSaysAllIsRight = (rule : KoRule) (sent came : List ℕ) (said : List Exchange) (exam : Exam)
+    → Talks rule sent came said exam → IsRightSoFar rule said exam
+
+-- ---- a finding is justified
+
+-- what was read is no right answer to the command, whatever a policy would choose
+abbrev pub NoRightAnswer : GameRecord → Option Asked → Option (Result Reply ReplyFault) → Type 0
+NoRightAnswer before (Some entry) (Some (Ok reply)) = (after : GameRecord) → IsRight before entry reply after → ⊥
+NoRightAnswer before (Some entry) (Some (Err shown)) = Unit {0}
+NoRightAnswer before (Some entry) None = ⊥
+NoRightAnswer before None (Some read) = Unit {0}
+NoRightAnswer before None None = ⊥
+
+-- What a kind says of a reply to a command that was asked, in the game before. Every right answer is a success, since
+-- it may not be refused, and this one failed; every right answer is a failure, for this cause, and this one
+-- succeeded; the words aren't the points that are due; a `genmove` failed; or it succeeded, and said nothing that is
+-- a choice, or a vertex that is refused for this cause; a `final_score` said what is no score, or another than that
+-- of the game; or the id is missing or another.
+abbrev pub KindIsTrue : GameRecord → Asked → Reply → Kind → Type 0
+KindIsTrue before entry reply Refused =
+    (reply.ok ≡ false) × ((choice : Choice) → (answer before (line_of_asked entry) choice).ok ≡ true)
+    × ¬ MayRefuse entry.command
+KindIsTrue before entry reply (Took cause) =
+    (reply.ok ≡ true) × ((choice : Choice) → (answer before (line_of_asked entry) choice).ok ≡ false)
+    × (entry.due ≡ Fails cause)
+KindIsTrue before entry reply OtherPoints =
+    (reply.ok ≡ true) × ((size stones : ℕ) × (entry.due ≡ Places size stones)
+    × (names_points (handicap_points size stones) (reply_words reply.text.items) ≡ false))
+KindIsTrue before entry reply NoMove =
+    (reply.ok ≡ false) × ((colour : Colour) × (entry.due ≡ Chooses colour))
+KindIsTrue before entry reply NoVertex =
+    (reply.ok ≡ true) × ((colour : Colour) × (entry.due ≡ Chooses colour))
+    × (choice_of_text reply.text.items ≡ None)
+KindIsTrue before entry reply (Unlawful fault) =
+    (reply.ok ≡ true) × ((colour : Colour) × (vertex : Vertex) × (entry.due ≡ Chooses colour)
+    × (choice_of_text reply.text.items ≡ Some (choice.Play vertex)) × RefusesVertex before colour vertex fault)
+KindIsTrue before entry reply NoScore =
+    (reply.ok ≡ true) × (entry.due ≡ Scores (score before)) × (score_of_text reply.text.items ≡ None)
+KindIsTrue before entry reply OtherScore =
+    (reply.ok ≡ true) × (entry.due ≡ Scores (score before))
+    × ((said : ℤ) × (score_of_text reply.text.items ≡ Some said) × (said ≢ score before))
+KindIsTrue before entry reply WrongId = reply.id ≢ Some entry.id
+KindIsTrue before entry reply Unasked = ⊥
+KindIsTrue before entry reply NoStatus = ⊥
+KindIsTrue before entry reply Overlong = ⊥
+
+-- a fault of the reader is named: bytes that begin no reply, or more of them than a reply may have
+abbrev pub FaultIsNamed : ReplyFault → Kind → Type 0
+FaultIsNamed fault.NoStatus kind = kind ≡ NoStatus
+FaultIsNamed fault.Overlong kind = kind ≡ Overlong
+
+-- The same of what was read: a fault of the reader is named, and so is a reply where nothing was unanswered. Of a reply
+-- with a missing or another id nothing else is said: it is no reply to the command.
+abbrev pub GivesKind : GameRecord → Option Asked → Option (Result Reply ReplyFault) → Kind → Type 0
+GivesKind before (Some entry) (Some (Ok reply)) kind =
+    KindIsTrue before entry reply kind × (kind ≢ WrongId → reply.id ≡ Some entry.id)
+GivesKind before None (Some (Ok reply)) kind = kind ≡ Unasked
+GivesKind before (Some entry) (Some (Err shown)) kind = FaultIsNamed shown kind
+GivesKind before None (Some (Err shown)) kind = FaultIsNamed shown kind
+GivesKind before (Some entry) None kind = ⊥
+GivesKind before None None kind = ⊥
+
+-- What was found: all answers before were right; it names the oldest command that was unanswered, if any; and what was
+-- read is no right answer to that in the game that the answers before leave: a reply that isn't one, or a fault of the
+-- reader, which is none at all. What was due to the command is so by the rules of the game, and the kind is true.
+pub record IsJustified (rule : KoRule) (said : List Exchange) (exam : Exam) (read : Option (Result Reply ReplyFault))
+    (finding : Finding) : Type 0 where
+  pub before : GameRecord
+  pub right : AllRight (fresh_game_under rule) said before
+  pub names : finding.asked ≡ oldest exam.unanswered
+  pub due : IfSome finding.asked (IsAsked before)
+  pub wrong : NoRightAnswer before finding.asked read
+  pub kind : GivesKind before finding.asked read finding.kind
+
+abbrev pub FindingsAreJustified : Type 0
+FindingsAreJustified = (rule : KoRule) (sent came : List ℕ) (said : List Exchange) (old new : Exam) (bytes : List ℕ)
+    (used : ℕ) (read : Option (Result Reply ReplyFault)) (finding : Finding)
+    → Talks rule sent came said old → Hears old bytes used read (Some finding) new
+    → IsJustified rule said old read finding
+
+-- ---- a score
+
+-- What is due to a `final_score` is the score by komi alone: White leads by it.
+abbrev pub ScoresAreKomiAlone : Type 0
+ScoresAreKomiAlone = (game : GameRecord) (due : Due) → IsDue game FinalScore due → due ≡ Scores (neg_ℤ game.komi)
+
+-- ---- the game that right answers leave
+
+-- The answers that were heard leave one game: no other is left by the same answers.
+abbrev pub RightAnswersLeaveOneGame : Type 0
+RightAnswersLeaveOneGame = (rule : KoRule) (sent came : List ℕ) (said : List Exchange) (exam : Exam)
+    (one other : GameRecord) → Talks rule sent came said exam
+    → AllRight (fresh_game_under rule) said one → AllRight (fresh_game_under rule) said other → one ≡ other
+
+-- ---- what is asked
+
+-- What is written of a command that is asked is one line, with its id and its words, whatever follows it.
+abbrev pub AskedCommandsAreLines : Type 0
+AskedCommandsAreLines = (old new : Exam) (command : CheckCommand) (later : List ℕ)
+    → HasRoomFor old command → Asks old command new
+    → lines (written_check new.sent command ++ later) ≡ line_of_check new.sent command ∷ lines later
+
+-- The move is legal in the game. Its success is due, and a right engine has made it by then.
+pub record IsPlayed (old : Exam) (move : Move) (new : Exam) : Type 0 where
+  pub legal : IsLegal old.game move.colour move.vertex
+  pub asked : new.unanswered ≡ old.unanswered
+      ++ record { id = old.sent + 1; command = Match (Play move); due = Succeeds } ∷ []
+  pub goes_on : new.game ≡ with_move old.game move.colour move.vertex
+
+-- A probe: the move breaks this rule in the game, so that a right engine has to refuse it. Its failure is due, for
+-- that rule, and the game stays.
+pub record IsProbe (old : Exam) (move : Move) (new : Exam) : Type 0 where
+  pub fault : PlayFault
+  pub refused : RefusesVertex old.game move.colour move.vertex fault
+  pub asked : new.unanswered ≡ old.unanswered
+      ++ record { id = old.sent + 1; command = Match (Play move); due = Fails (BadMove fault) } ∷ []
+  pub stays : new.game ≡ old.game
+
+-- A `play` is asked only where the record has room. It is legal in the game that a right engine has by then, or it is a
+-- probe.
+abbrev pub PlaysAreLegalOrProbes : Type 0
+PlaysAreLegalOrProbes = (old new : Exam) (move : Move)
+    → HasRoomFor old (Match (Play move)) → Asks old (Match (Play move)) new
+    → HasRoom old.game × (IsPlayed old move new ⊎ IsProbe old move new)
+
+-- ---- no right engine is blamed
+
+-- A reply that is a right answer to the oldest command, in the game that the answers before leave, has no finding.
+abbrev pub RightAnswersHaveNoFinding : Type 0
+RightAnswersHaveNoFinding = (rule : KoRule) (sent came : List ℕ) (said : List Exchange) (old new : Exam)
+    (bytes : List ℕ) (used : ℕ) (reply : Reply) (finding : Option Finding) (entry : Asked) (before after : GameRecord)
+    → Talks rule sent came said old → Hears old bytes used (Some (Ok reply)) finding new
+    → oldest old.unanswered ≡ Some entry
+    → AllRight (fresh_game_under rule) said before → IsRight before entry reply after
+    → finding ≡ None
+
+-- What may be written by whoever was asked these commands and answers rightly, from this game on: replies, one after
+-- the other, each a right answer in the game that those before it leave. The last commands may have no answer yet. What
+-- is after the answers is none: it may be blank, or the front of a reply.
+pub data AnswersRightly : GameRecord → List Asked → List ℕ → Type 0 where
+  no_more : (game : GameRecord) (unread : List Asked) (rest : List ℕ) → GivesNoAnswer rest
+      → AnswersRightly game unread rest
+  answers : {game after : GameRecord} {unread : List Asked} {out : List ℕ} (entry : Asked) (reply : Reply)
+      (text : List ℕ) → IsReply text reply → IsRight game entry reply after → AnswersRightly after unread out
+      → AnswersRightly game (entry ∷ unread) (text ++ out)
+
+abbrev pub commands_of : List Exchange → List Asked
+commands_of [] = []
+commands_of (exchange ∷ later) = exchange.entry ∷ commands_of later
+
+-- Whatever the engine is, if all that it wrote are right answers to the commands that it was asked, and what was heard
+-- and is heard now are a front of that, nothing is found. So an engine that refuses sizes, one of other texts, and one
+-- without `final_score` aren't blamed.
+abbrev pub WhoAnswersRightlyIsNotBlamed : Type 0
+WhoAnswersRightlyIsNotBlamed = (rule : KoRule) (out sent came : List ℕ) (said : List Exchange) (old new : Exam)
+    (bytes later : List ℕ) (used : ℕ) (read : Option (Result Reply ReplyFault)) (finding : Option Finding)
+    → Talks rule sent came said old → Hears old bytes used read finding new
+    → AnswersRightly (fresh_game_under rule) (commands_of said ++ old.unanswered) out
+    → out ≡ came ++ (bytes ++ later)
+    → finding ≡ None
+
+-- An engine under this ko rule was given just the bytes that were asked, whatever it chose among what its policy may;
+-- what was heard and is heard now are a front of what it wrote. Then nothing is found.
+abbrev pub NoRightEngineIsBlamed : {P : Type 0} → May P → Type 0
+NoRightEngineIsBlamed {P} may = (rule : KoRule) (policy : P) (engine : Engine P) (out : List ℕ)
+    (sent came : List ℕ) (said : List Exchange) (old new : Exam) (bytes later : List ℕ)
+    (used : ℕ) (read : Option (Result Reply ReplyFault)) (finding : Option Finding)
+    → Talks rule sent came said old → Hears old bytes used read finding new
+    → Engages may (fresh_under rule policy) sent engine out → out ≡ came ++ (bytes ++ later)
+    → finding ≡ None
+
+-- ---- what is no answer is found
+
+-- Whatever is read is found wrong, or it is a reply to the oldest unanswered command (a right one then:
+-- SilenceSaysAllIsRight). So no fault in the form of replies is passed over, nor a reply where nothing was unanswered.
+abbrev pub WhatIsReadIsAnswerOrFound : Type 0
+WhatIsReadIsAnswerOrFound = (old new : Exam) (bytes : List ℕ) (used : ℕ) (read : Result Reply ReplyFault)
+    → Hears old bytes used (Some read) None new
+    → (entry : Asked) × (reply : Reply) × (oldest old.unanswered ≡ Some entry) × (read ≡ Ok reply)

@@ -1,0 +1,78 @@
+//! The commands that a check asks.
+ghost use Rattle.std.specs.Prelude.{◌≡◌, ◌≤◌, ◌∷◌, ◌++◌, [], length, codes};
+ghost use Rattle.std.specs.List.{join_with_byte};
+ghost use Rattle.go_base.specs.Bytes.{newline, space};
+ghost use Rattle.go_base.specs.Int.{most_int, written_int};
+ghost use Rattle.gtp_check_judge.specs.Asking.{known_name, written_check, IsCheckWritable};
+
+use arrayvec::ArrayVec;
+use go_base::write_int;
+use gtp_wire::{Command, CommandText, write_command};
+
+/// A command that an engine may be without.
+#[derive(Clone, Copy, Debug, PartialEq, Eq)]
+pub enum Known {
+    /// `fixed_handicap`.
+    FixedHandicap,
+    /// `undo`.
+    Undo,
+    /// `final_score`.
+    FinalScore,
+}
+
+/// A command that a check asks.
+#[derive(Clone, Copy, Debug, PartialEq, Eq)]
+pub enum CheckCommand {
+    /// A command of a match.
+    Match(Command),
+    /// Asks for the score.
+    FinalScore,
+    /// Asks for the engine's name.
+    Name,
+    /// Asks for the engine's version.
+    Version,
+    /// Asks whether the engine knows this command.
+    KnownCommand(Known),
+}
+
+/// Writes a command as a line with this id.
+pub(crate) fn write_check(id: u32, command: &CheckCommand) -> CommandText
+    requires id_fits { id ≤ most_int }
+    requires handicap_fits { IsCheckWritable command.now }
+    ensures { result.items ≡ written_check id command.now }
+{
+    match command {
+        CheckCommand::Match(command) => write_command(Some(id), command),
+        CheckCommand::FinalScore => write_line(id, b"final_score"),
+        CheckCommand::Name => write_line(id, b"name"),
+        CheckCommand::Version => write_line(id, b"version"),
+        CheckCommand::KnownCommand(known) => write_line(id, known_text(*known)),
+    }
+}
+
+/// The words that ask for a command.
+fn known_text(known: Known) -> &'static [u8]
+    ensures text { result.now
+        ≡ join_with_byte space (codes "known_command" ∷ known_name known ∷ []) }
+    ensures few { length result.now ≤ 40 }
+{
+    match known {
+        Known::FixedHandicap => b"known_command fixed_handicap",
+        Known::Undo => b"known_command undo",
+        Known::FinalScore => b"known_command final_score",
+    }
+}
+
+/// A line of an id and this text.
+fn write_line(id: u32, text: &[u8]) -> CommandText
+    requires { length text.now ≤ 40 }
+    ensures { result.items ≡ (written_int id ++ space ∷ text.now) ++ newline ∷ [] }
+{
+    let mut out = ArrayVec::new();
+    // There is room for the ten digits of an id, a space, the text and a newline.
+    let _ = out.try_extend_from_slice(&write_int(id));
+    let _ = out.try_extend_from_slice(b" ");
+    let _ = out.try_extend_from_slice(text);
+    let _ = out.try_extend_from_slice(b"\n");
+    out
+}

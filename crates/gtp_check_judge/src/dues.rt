@@ -1,0 +1,153 @@
+//! What is due to a command: what every right engine answers to it.
+ghost use Rattle.std.specs.Prelude.{◌≡◌, true};
+ghost use Rattle.go_board.specs.Game.{HasRoom};
+ghost use Rattle.gtp_wire.specs.declared.commands.Command.TheVariants as command;
+ghost use Rattle.gtp_check_judge.specs.declared.asking.CheckCommand.TheVariants.{Match};
+ghost use Rattle.gtp_check_judge.specs.Dues.{MayBeAsked, MayBeSaid, IsDue, IsDueTo, PlayDue, HandicapDue, UndoDue};
+ghost use Rattle.gtp_check_judge.specs.Dues.{after_due};
+
+use crate::asking::CheckCommand;
+use go_base::{Colour, Move, Size};
+use go_board::{Game, HandicapFault, MOST_MOVES, PlayFault};
+use gtp_wire::Command;
+
+/// Why a right engine refuses a command.
+#[derive(Clone, Copy, Debug, PartialEq, Eq)]
+pub enum Cause {
+    /// The move isn't legal.
+    BadMove(PlayFault),
+    /// The handicap may not be placed.
+    BadHandicap(HandicapFault),
+    /// There is no move to take back.
+    NoMoves,
+}
+
+/// What is due to a command.
+#[derive(Clone, Copy, Debug, PartialEq, Eq)]
+pub enum Due {
+    /// A success.
+    Succeeds,
+    /// A failure, for this cause.
+    Fails(Cause),
+    /// A success that names the points of this number of handicap stones on a board of this size.
+    Places(Size, u32),
+    /// A success, by which the board has this size; or a failure, by which nothing changes.
+    Resizes(Size),
+    /// A success that is this score in half points, positive where Black leads, in any spelling; or a failure.
+    Scores(i32),
+    /// A success or a failure, of any text.
+    AnyReply,
+    /// A success that is `resign`, or a vertex that is legal for this colour.
+    Chooses(Colour),
+}
+
+/// The greatest int of the protocol.
+const MOST_STONES: u32 = 2_147_483_647;
+
+/// Whether a command may be asked in this game.
+pub(crate) fn may_be_asked(game: &Game, command: &CheckCommand) -> bool
+    ensures may { result ≡ true → MayBeAsked game.now command.now }
+    ensures only { MayBeAsked game.now command.now → result ≡ true }
+{
+    match command {
+        CheckCommand::Match(command) => may_be_said(game, command),
+        CheckCommand::FinalScore => game.moves().len() == 0 && game.handicap() == 0,
+        CheckCommand::Name | CheckCommand::Version | CheckCommand::KnownCommand(_) => true,
+    }
+}
+
+/// Whether a command of a match may be asked in this game.
+fn may_be_said(game: &Game, command: &Command) -> bool
+    ensures may { result ≡ true → MayBeSaid game.now command.now }
+    ensures only { MayBeSaid game.now command.now → result ≡ true }
+{
+    match command {
+        Command::Boardsize(_) | Command::Komi(_) | Command::ClearBoard | Command::Undo => true,
+        Command::FixedHandicap(stones) => *stones <= MOST_STONES,
+        Command::Play(_) => game.moves().len() < MOST_MOVES,
+        Command::Genmove(_) => game.moves().len() < MOST_MOVES && !game.finished(),
+        Command::Quit => false,
+    }
+}
+
+/// What is due to a command in this game, which becomes the one that a right engine has then.
+pub(crate) fn due_to(game: &mut Game, command: &CheckCommand) -> Due
+    requires { MayBeAsked game.old command.now }
+    ensures due { IsDue game.old command.now result }
+    ensures game { game.new ≡ after_due game.old command.now result }
+{
+    match command {
+        CheckCommand::Match(command) => command_due(game, command),
+        CheckCommand::FinalScore => {
+            // Its contract says that komi is in its limits.
+            let _ = game.komi().half_points();
+            Due::Scores(game.score())
+        }
+        CheckCommand::Name | CheckCommand::Version | CheckCommand::KnownCommand(_) => Due::AnyReply,
+    }
+}
+
+/// What is due to a command of a match.
+fn command_due(game: &mut Game, command: &Command) -> Due
+    requires { MayBeSaid game.old command.now }
+    ensures due { IsDueTo game.old command.now result }
+    ensures game { game.new ≡ after_due game.old (Match command.now) result }
+{
+    match command {
+        Command::Boardsize(size) => {
+            // Its contract says that the size is in its limits.
+            let _ = size.get();
+            Due::Resizes(*size)
+        }
+        Command::Komi(komi) => {
+            // Its contract says that komi is in its limits.
+            let _ = komi.half_points();
+            game.set_komi(*komi);
+            Due::Succeeds
+        }
+        Command::ClearBoard => {
+            game.clear();
+            Due::Succeeds
+        }
+        Command::FixedHandicap(stones) => handicap_due(game, *stones),
+        Command::Play(made) => play_due(game, *made),
+        Command::Genmove(colour) => Due::Chooses(*colour),
+        Command::Undo => undo_due(game),
+        Command::Quit => Due::Succeeds,
+    }
+}
+
+/// What is due to a `fixed_handicap`.
+fn handicap_due(game: &mut Game, stones: u32) -> Due
+    ensures due { HandicapDue game.old stones result }
+    ensures game { game.new ≡ after_due game.old (Match (command.FixedHandicap stones)) result }
+{
+    let size = game.size();
+    match game.place_handicap(stones) {
+        Ok(_) => Due::Places(size, stones),
+        Err(fault) => Due::Fails(Cause::BadHandicap(fault)),
+    }
+}
+
+/// What is due to a `play`.
+fn play_due(game: &mut Game, made: Move) -> Due
+    requires { HasRoom game.old }
+    ensures due { PlayDue game.old made result }
+    ensures game { game.new ≡ after_due game.old (Match (command.Play made)) result }
+{
+    match game.play(made.colour, made.vertex) {
+        Ok(()) => Due::Succeeds,
+        Err(fault) => Due::Fails(Cause::BadMove(fault)),
+    }
+}
+
+/// What is due to an `undo`.
+fn undo_due(game: &mut Game) -> Due
+    ensures due { UndoDue game.old result }
+    ensures game { game.new ≡ after_due game.old (Match command.Undo) result }
+{
+    match game.undo() {
+        Ok(_) => Due::Succeeds,
+        Err(_) => Due::Fails(Cause::NoMoves),
+    }
+}

@@ -1,0 +1,349 @@
+//! What the examiner keeps of an engine, and its steps.
+ghost use Rattle.std.specs.Prelude.{◌≡◌, ◌<◌, ◌≤◌, true, false, [], length, option_map, Some};
+ghost use Rattle.go_base.specs.Int.{most_int};
+ghost use Rattle.gtp_session.specs.Engine.{fresh_game_under};
+ghost use Rattle.gtp_wire.specs.Replies.{with_reply};
+ghost use Rattle.gtp_wire.specs.Commands.{IsWritable, IsInLimits};
+ghost use Rattle.gtp_check_judge.specs.Asking.{written_check, IsCheckWritable, IsCheckInLimits};
+ghost use Rattle.go_base.specs.Vertex.{IsVertex};
+ghost use Rattle.gtp_check_judge.specs.declared.setups.Board.TheVariants.{Cleared};
+ghost use Rattle.gtp_check_judge.specs.Setups.{needs_board, is_final_score};
+ghost use Rattle.gtp_check_judge.specs.Dues.{MayBeAsked, MayBeSaid};
+ghost use Rattle.gtp_check_judge.specs.Judging.{most_unanswered, oldest, awaits, is_awaited};
+ghost use Rattle.gtp_check_judge.specs.Exam.{begun, downed, kind_of, Asks, Hears, ReplyLeaves, after_judged};
+ghost use Rattle.gtp_check_judge.specs.Exam.{with_learned, finding_of, MayReply, MayApply, HasRoomFor, answered_by};
+ghost use Rattle.gtp_check_judge.specs.Exam.{refused_size};
+
+use crate::asking::{CheckCommand, write_check};
+use crate::dues::{due_to, may_be_asked};
+use crate::judging::{Judgement, Kind, has_id, judge, refused_by};
+use crate::setups::{
+    Board, board_after, is_clear_board, is_cleared, is_final_score, is_komi, needs_board,
+};
+use crate::skills::{Skills, has_needed, learned, none_asked};
+use crate::unanswered::{Asked, MOST_UNANSWERED, Unanswered, is_awaited};
+use go_base::{Komi, Size, Vertex};
+use go_board::{Game, KoRule};
+use gtp_wire::{Command, CommandText, Reply, ReplyFault, ReplyRead, ReplyReader};
+
+/// The greatest id: the greatest int of the protocol.
+const MOST_ID: u32 = 2_147_483_647;
+
+/// The first wrong answer of an engine since it was started.
+#[derive(Clone, Copy, Debug, PartialEq, Eq)]
+pub struct Finding {
+    /// The command that was to be answered, if any.
+    pub asked: Option<Asked>,
+    /// What is wrong.
+    pub kind: Kind,
+}
+
+/// What was heard in bytes of an engine.
+#[derive(Clone, Copy, Debug, PartialEq, Eq)]
+pub struct Heard {
+    /// How many of the bytes were used.
+    pub used: usize,
+    /// `Ok` where the last of these bytes ended a reply, which was written, or the fault that it showed, if any.
+    pub read: Option<Result<(), ReplyFault>>,
+    /// What is wrong, if anything.
+    pub finding: Option<Finding>,
+    /// The command to which this was a right answer, if any.
+    pub answered: Option<Asked>,
+    /// The size that the engine refused, if any: a right answer, by which nothing changed.
+    pub refused: Option<Size>,
+}
+
+/// The game of a right engine, whether the engine is up, how many commands it was asked since it was started, those
+/// that it hasn't answered, and the reader of its replies.
+#[derive(Drop)]
+pub struct Exam {
+    /// The game of a right engine that has answered all that was asked.
+    pub game: Game,
+    /// Whether the engine was started, and neither lost since nor found wrong.
+    pub up: bool,
+    /// How many commands it was asked since. The last of them has this number as its id.
+    pub sent: u32,
+    /// Those that it hasn't answered.
+    pub unanswered: Unanswered,
+    /// What it wrote since its last whole reply.
+    pub reader: ReplyReader,
+    /// What is known of its board.
+    pub board: Board,
+    /// Whether it was asked to set komi since it was started.
+    pub komi_set: bool,
+    /// What it said of the commands that it may be without.
+    pub skills: Skills,
+}
+
+/// The game of an engine that was given nothing.
+fn fresh_game(rule: KoRule) -> Game
+    ensures { result ≡ fresh_game_under rule }
+{
+    match (Size::new(19), Komi::from_half_points(0)) {
+        (Some(size), Some(komi)) => Game::with_rule(size, komi, rule),
+        _ => unreachable!(),
+    }
+}
+
+impl Exam {
+    /// An engine with this ko rule that is up or not, and was asked nothing.
+    pub fn new(rule: KoRule, up: bool) -> Exam
+        ensures { result ≡ begun rule up }
+    {
+        Exam {
+            game: fresh_game(rule),
+            up,
+            sent: 0,
+            unanswered: Unanswered::new(),
+            reader: ReplyReader::new(),
+            board: Board::Unknown,
+            komi_set: false,
+            skills: none_asked(),
+        }
+    }
+
+    /// Whether the engine may be asked this command now.
+    pub fn has_room(&self, command: &CheckCommand) -> bool
+        ensures may { result ≡ true → HasRoomFor self.now command.now }
+        ensures only { HasRoomFor self.now command.now → result ≡ true }
+    {
+        self.up
+            && self.sent < MOST_ID
+            && self.has_place(command)
+            && may_be_asked(&self.game, command)
+            && self.has_setup(command)
+            && has_needed(&self.skills, command)
+    }
+
+    /// Whether the board and komi are known on which what is due to the command hangs.
+    fn has_setup(&self, command: &CheckCommand) -> bool
+        ensures board { result ≡ true → needs_board command.now ≡ true → self.now.board ≡ Cleared }
+        ensures komi { result ≡ true → is_final_score command.now ≡ true
+            → self.now.komi_set ≡ true }
+        ensures only { (needs_board command.now ≡ true → self.now.board ≡ Cleared)
+            → (is_final_score command.now ≡ true → self.now.komi_set ≡ true)
+            → result ≡ true }
+    {
+        (!needs_board(command) || is_cleared(self.board))
+            && (!is_final_score(command) || self.komi_set)
+    }
+
+    /// Whether the command may be unanswered beside those that are.
+    fn has_place(&self, command: &CheckCommand) -> bool
+        ensures few { result ≡ true → length self.now.unanswered < most_unanswered }
+        ensures none_awaits { result ≡ true → awaits self.now.unanswered ≡ false }
+        ensures alone { result ≡ true → is_awaited command.now ≡ true
+            → self.now.unanswered ≡ [] }
+        ensures only { length self.now.unanswered < most_unanswered
+            → awaits self.now.unanswered ≡ false
+            → (is_awaited command.now ≡ true → self.now.unanswered ≡ [])
+            → result ≡ true }
+    {
+        if self.unanswered.len() == 0 {
+            return true;
+        }
+        self.unanswered.len() < MOST_UNANSWERED && !is_awaited(command) && !self.unanswered.awaits()
+    }
+
+    /// The engine is asked a command. Returns the bytes of its line.
+    pub fn ask(&mut self, command: CheckCommand) -> CommandText
+        requires may { MayBeAsked self.old.game command }
+        requires few { self.old.sent < most_int }
+        requires room { length self.old.unanswered < most_unanswered }
+        ensures asks { Asks self.old command self.new }
+        ensures text { result.items ≡ written_check self.new.sent command }
+    {
+        in_limits(&self.game, &command);
+        self.sent += 1;
+        let due = due_to(&mut self.game, &command);
+        self.unanswered.push(self.sent, command, due);
+        self.board = board_after(self.board, is_clear_board(&command));
+        self.komi_set = self.komi_set || is_komi(&command);
+        write_check(self.sent, &command)
+    }
+
+    /// Bytes of the engine, which is up, are heard. A whole reply is written in place of the one handed in.
+    pub fn hear(&mut self, bytes: &[u8], reply: &mut Reply) -> Heard
+        requires { MayReply self.old }
+        ensures within { result.used ≤ length bytes.now }
+        ensures hears { Hears self.old bytes.now result.used
+            (option_map (with_reply reply.new) result.read) result.finding self.new }
+        ensures answered { result.answered ≡ answered_by (oldest self.old.unanswered)
+            (option_map (with_reply reply.new) result.read) result.finding }
+        ensures refused { result.refused ≡ refused_size (oldest self.old.unanswered)
+            (option_map (with_reply reply.new) result.read) result.finding }
+    {
+        let oldest = self.unanswered.oldest();
+        let ReplyRead { used, got } = self.reader.feed_into(bytes, reply);
+        let finding = match got {
+            None => None,
+            Some(Err(fault)) => Some(self.fault(fault)),
+            Some(Ok(())) => self.take(reply),
+        };
+        Heard {
+            used,
+            answered: answered_by(&oldest, got, reply, &finding),
+            refused: refused_size(&oldest, got, reply, &finding),
+            read: got,
+            finding,
+        }
+    }
+
+    /// The reader showed a fault.
+    fn fault(&mut self, fault: ReplyFault) -> Finding
+        ensures finding { result
+            ≡ record { asked = oldest self.old.unanswered; kind = kind_of fault } }
+        ensures down { self.new ≡ downed self.old }
+    {
+        self.up = false;
+        Finding {
+            asked: self.unanswered.oldest(),
+            kind: kind_of(fault),
+        }
+    }
+
+    /// The engine gave this reply.
+    fn take(&mut self, reply: &Reply) -> Option<Finding>
+        requires { MayReply self.old }
+        ensures { ReplyLeaves self.old (oldest self.old.unanswered) reply.now result self.new }
+    {
+        let Some(asked) = self.unanswered.oldest() else {
+            self.up = false;
+            return Some(Finding {
+                asked: None,
+                kind: Kind::Unasked,
+            });
+        };
+        if !has_id(reply.id, asked.id) {
+            self.up = false;
+            return Some(Finding {
+                asked: Some(asked),
+                kind: Kind::WrongId,
+            });
+        }
+        let judged = judge(&self.game, asked.due, reply);
+        self.apply(asked, reply, judged)
+    }
+
+    /// The reply to its oldest command was judged.
+    fn apply(&mut self, asked: Asked, reply: &Reply, judged: Judgement) -> Option<Finding>
+        requires { MayApply self.old.game judged }
+        ensures finding { result ≡ finding_of asked judged }
+        ensures applied { self.new
+            ≡ after_judged (with_learned self.old asked.command reply.now) judged }
+    {
+        self.skills = learned(&self.skills, &asked.command, reply);
+        match judged {
+            Judgement::Right => {
+                self.unanswered.drop_oldest();
+                None
+            }
+            Judgement::Plays(colour, vertex) => {
+                // It is legal, and the record has room.
+                let _ = self.game.play(colour, vertex);
+                self.unanswered.drop_oldest();
+                None
+            }
+            Judgement::Resized(size) => {
+                self.game.set_size(size);
+                self.board = Board::Sized;
+                self.unanswered.drop_oldest();
+                None
+            }
+            Judgement::Wrong(kind) => {
+                self.up = false;
+                Some(Finding {
+                    asked: Some(asked),
+                    kind,
+                })
+            }
+        }
+    }
+}
+
+/// The command to which what was read is a right answer, where this is the oldest command.
+fn answered_by(
+    asked: &Option<Asked>,
+    read: Option<Result<(), ReplyFault>>,
+    _reply: &Reply,
+    finding: &Option<Finding>,
+) -> Option<Asked>
+    ensures { result ≡ answered_by asked.now (option_map (with_reply _reply.now) read) finding.now }
+{
+    match (asked, read, finding) {
+        (Some(asked), Some(Ok(())), None) => Some(*asked),
+        _ => None,
+    }
+}
+
+/// The size that is refused by what was read, where this is the oldest command.
+fn refused_size(
+    asked: &Option<Asked>,
+    read: Option<Result<(), ReplyFault>>,
+    reply: &Reply,
+    finding: &Option<Finding>,
+) -> Option<Size>
+    ensures { result ≡ refused_size asked.now (option_map (with_reply reply.now) read) finding.now }
+{
+    match (asked, read, finding) {
+        (Some(asked), Some(Ok(())), None) => refused_by(asked.due, reply.ok),
+        _ => None,
+    }
+}
+
+/// Does nothing, and is for the proof alone: a command that may be asked can be written, and its values are in their
+/// limits.
+fn in_limits(game: &Game, command: &CheckCommand)
+    requires { MayBeAsked game.now command.now }
+    ensures writable { IsCheckWritable command.now }
+    ensures limits { IsCheckInLimits command.now }
+{
+    match command {
+        CheckCommand::Match(command) => command_in_limits(game, command),
+        CheckCommand::FinalScore
+        | CheckCommand::Name
+        | CheckCommand::Version
+        | CheckCommand::KnownCommand(_) => {}
+    }
+}
+
+/// The same for a command of a match.
+fn command_in_limits(_game: &Game, command: &Command)
+    requires { MayBeSaid _game.now command.now }
+    ensures writable { IsWritable command.now }
+    ensures limits { IsInLimits command.now }
+{
+    match command {
+        Command::Boardsize(size) => {
+            let _ = size.get();
+        }
+        Command::Komi(komi) => {
+            let _ = komi.half_points();
+        }
+        Command::Play(made) => vertex_in_limits(made.vertex),
+        Command::ClearBoard
+        | Command::FixedHandicap(_)
+        | Command::Genmove(_)
+        | Command::Undo
+        | Command::Quit => {}
+    }
+}
+
+/// The same for a vertex.
+fn vertex_in_limits(vertex: Vertex)
+    ensures { IsVertex vertex }
+{
+    if let Vertex::At(point) = vertex {
+        let _ = point.row();
+    }
+}
+
+/// What a fault of the reader is.
+fn kind_of(fault: ReplyFault) -> Kind
+    ensures { result ≡ kind_of fault }
+{
+    match fault {
+        ReplyFault::NoStatus => Kind::NoStatus,
+        ReplyFault::Overlong => Kind::Overlong,
+    }
+}

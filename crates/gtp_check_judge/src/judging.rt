@@ -1,0 +1,224 @@
+//! Whether a reply is what is due.
+ghost use Rattle.std.specs.Prelude.{◌≡◌};
+ghost use Rattle.go_base.specs.Handicap.{AllowsHandicap, handicap_points};
+ghost use Rattle.gtp_wire.specs.Words.{reply_words};
+ghost use Rattle.gtp_wire.specs.ReplyWords.{choice_of_text, names_points};
+ghost use Rattle.gtp_check_judge.specs.Scores.{score_of_text};
+ghost use Rattle.gtp_check_judge.specs.Judging.{Judged, ChoiceJudged, SaidJudged, VertexJudged, ScoreJudged};
+ghost use Rattle.gtp_check_judge.specs.Judging.{SaidScoreJudged, NumberJudged, MayBeJudged, has_id, success_judged};
+ghost use Rattle.gtp_check_judge.specs.Judging.{failure_judged, size_judged, points_judged, refused_by};
+
+use crate::dues::{Cause, Due};
+use crate::scores::read_score;
+use go_base::{Choice, Colour, Size, Vertex, handicap};
+use go_board::{Game, PlayFault};
+use gtp_wire::{Reply, names_points, read_choice};
+
+/// What is wrong with what an engine wrote.
+#[derive(Clone, Copy, Debug, PartialEq, Eq)]
+pub enum Kind {
+    /// It refused what a right engine does.
+    Refused,
+    /// It did what a right engine refuses for this cause.
+    Took(Cause),
+    /// It named other points than those of the handicap.
+    OtherPoints,
+    /// It failed to answer a `genmove`.
+    NoMove,
+    /// It answered a `genmove` by neither a vertex nor `resign`.
+    NoVertex,
+    /// It answered a `genmove` by a move that isn't legal, for this cause.
+    Unlawful(PlayFault),
+    /// It answered a `final_score` by a success that is no score.
+    NoScore,
+    /// It answered a `final_score` by another score.
+    OtherScore,
+    /// Its reply has no id, or not that of the oldest unanswered command.
+    WrongId,
+    /// It wrote a reply where nothing was unanswered.
+    Unasked,
+    /// It wrote what begins no reply.
+    NoStatus,
+    /// It wrote more bytes than a reply may have.
+    Overlong,
+}
+
+/// What a reply is.
+#[derive(Clone, Copy, Debug, PartialEq, Eq)]
+pub enum Judgement {
+    /// A right answer.
+    Right,
+    /// A right answer to a `genmove`, by which this colour plays this vertex.
+    Plays(Colour, Vertex),
+    /// A right answer to a `boardsize`, by which the board has this size.
+    Resized(Size),
+    /// A wrong one.
+    Wrong(Kind),
+}
+
+/// Whether the reply's id is there, and is this one.
+pub(crate) fn has_id(id: Option<u32>, wanted: u32) -> bool
+    ensures { result ≡ has_id id wanted }
+{
+    match id {
+        None => false,
+        Some(id) => id == wanted,
+    }
+}
+
+/// What a reply is to a command to which this is due. The game is a right engine's.
+pub(crate) fn judge(game: &Game, due: Due, reply: &Reply) -> Judgement
+    requires { MayBeJudged due }
+    ensures { Judged game.now due reply.now result }
+{
+    match due {
+        Due::Succeeds => success_judged(reply.ok),
+        Due::Fails(cause) => failure_judged(cause, reply.ok),
+        Due::Places(size, stones) => points_judged(
+            reply.ok && are_points(size, stones, reply),
+            reply.ok,
+        ),
+        Due::Resizes(size) => size_judged(size, reply.ok),
+        Due::Scores(score) => score_judged(score, reply),
+        Due::AnyReply => Judgement::Right,
+        Due::Chooses(colour) => choice_judged(game, colour, reply),
+    }
+}
+
+/// A reply where a board of this size is due, or a failure.
+fn size_judged(size: Size, ok: bool) -> Judgement
+    ensures { result ≡ size_judged size ok }
+{
+    if ok {
+        Judgement::Resized(size)
+    } else {
+        Judgement::Right
+    }
+}
+
+/// The size that was asked for and is refused by a reply of this status, if any.
+pub(crate) fn refused_by(due: Due, ok: bool) -> Option<Size>
+    ensures { result ≡ refused_by due ok }
+{
+    match due {
+        Due::Resizes(size) => { if ok { None } else { Some(size) } }
+        Due::Succeeds
+        | Due::Fails(_)
+        | Due::Places(..)
+        | Due::Scores(_)
+        | Due::AnyReply
+        | Due::Chooses(_) => None,
+    }
+}
+
+/// A reply where a success is due.
+fn success_judged(ok: bool) -> Judgement
+    ensures { result ≡ success_judged ok }
+{
+    if ok {
+        Judgement::Right
+    } else {
+        Judgement::Wrong(Kind::Refused)
+    }
+}
+
+/// A reply where a failure is due.
+fn failure_judged(cause: Cause, ok: bool) -> Judgement
+    ensures { result ≡ failure_judged cause ok }
+{
+    if ok {
+        Judgement::Wrong(Kind::Took(cause))
+    } else {
+        Judgement::Right
+    }
+}
+
+/// A reply where the points of a handicap are due.
+fn points_judged(named: bool, ok: bool) -> Judgement
+    ensures { result ≡ points_judged named ok }
+{
+    if !ok {
+        return Judgement::Wrong(Kind::Refused);
+    }
+    if named {
+        Judgement::Right
+    } else {
+        Judgement::Wrong(Kind::OtherPoints)
+    }
+}
+
+/// Whether the words of a reply are the points of a handicap.
+fn are_points(size: Size, stones: u32, reply: &Reply) -> bool
+    requires { AllowsHandicap size stones }
+    ensures { result
+        ≡ names_points (handicap_points size stones) (reply_words reply.now.text.items) }
+{
+    match handicap(size, stones) {
+        None => false,
+        Some(points) => names_points(&reply.text, &points),
+    }
+}
+
+/// A reply to a `final_score` on a board with this score.
+fn score_judged(score: i32, reply: &Reply) -> Judgement
+    ensures { ScoreJudged score reply.now.ok (score_of_text reply.now.text.items) result }
+{
+    if !reply.ok {
+        return Judgement::Right;
+    }
+    said_score_judged(score, read_score(&reply.text))
+}
+
+/// What was said by a `final_score` that succeeded.
+fn said_score_judged(score: i32, said: Option<i32>) -> Judgement
+    ensures { SaidScoreJudged score said result }
+{
+    match said {
+        None => Judgement::Wrong(Kind::NoScore),
+        Some(said) => number_judged(score, said),
+    }
+}
+
+/// A score that was said.
+fn number_judged(score: i32, said: i32) -> Judgement
+    ensures { NumberJudged score said result }
+{
+    if said == score {
+        Judgement::Right
+    } else {
+        Judgement::Wrong(Kind::OtherScore)
+    }
+}
+
+/// A reply to a `genmove` of this colour.
+fn choice_judged(game: &Game, colour: Colour, reply: &Reply) -> Judgement
+    ensures { ChoiceJudged game.now colour reply.now.ok
+        (choice_of_text reply.now.text.items) result }
+{
+    if !reply.ok {
+        return Judgement::Wrong(Kind::NoMove);
+    }
+    said_judged(game, colour, read_choice(&reply.text))
+}
+
+/// What was said by a `genmove` that succeeded.
+fn said_judged(game: &Game, colour: Colour, said: Option<Choice>) -> Judgement
+    ensures { SaidJudged game.now colour said result }
+{
+    match said {
+        None => Judgement::Wrong(Kind::NoVertex),
+        Some(Choice::Resign) => Judgement::Right,
+        Some(Choice::Play(vertex)) => vertex_judged(game, colour, vertex),
+    }
+}
+
+/// A vertex that was said.
+fn vertex_judged(game: &Game, colour: Colour, vertex: Vertex) -> Judgement
+    ensures { VertexJudged game.now colour vertex result }
+{
+    let chosen = vertex;
+    match game.refusal(colour, chosen) {
+        None => Judgement::Plays(colour, vertex),
+        Some(fault) => Judgement::Wrong(Kind::Unlawful(fault)),
+    }
+}

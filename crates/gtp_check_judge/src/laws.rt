@@ -1,0 +1,174 @@
+//! Laws of the examiner. Each is the contract of a function that does nothing.
+ghost use Rattle.gtp_check_judge.specs.Laws.{SilenceSaysAllIsRight, FindingsAreJustified, RightAnswersHaveNoFinding};
+ghost use Rattle.gtp_check_judge.specs.Laws.{RightAnswersLeaveOneGame, AskedCommandsAreLines};
+ghost use Rattle.gtp_check_judge.specs.Laws.{PlaysAreLegalOrProbes};
+ghost use Rattle.gtp_check_judge.specs.Laws.{ScoresAreKomiAlone, WhoAnswersRightlyIsNotBlamed, NoRightEngineIsBlamed};
+ghost use Rattle.gtp_check_judge.specs.Laws.{WhatIsReadIsAnswerOrFound};
+ghost use Rattle.gtp_check_judge.specs.Check.{EveryCheckIsBounded, UpIsBetween};
+ghost use Rattle.gtp_check_judge.specs.HistoryLaws.{SkillsAreWhatWasSaid, WhatIsAskedIsKnown, BoardsAreWhatWasSaid};
+ghost use Rattle.gtp_check_judge.specs.HistoryLaws.{BoardsAreKnown, KomisAreSet, CommandsAreNumbered};
+ghost use Rattle.gtp_check_judge.specs.HistoryLaws.{SomeAreAskedAlone};
+ghost use Rattle.gtp_check_judge.specs.HistoryLaws.{ReadyEnginesMayBeAsked, KnownEnginesMayBeAsked};
+ghost use Rattle.gtp_check_judge.specs.ConversationLaws.{EachStartBeginsAnew, ConversationsShowFindings};
+ghost use Rattle.gtp_check_judge.specs.ConversationLaws.{NoRightEngineWroteIt};
+ghost use Rattle.gtp_check_judge.specs.AnswerLaws.{ScoresAreRead, RefusedSizesAreReported};
+ghost use Rattle.gtp_check_judge.specs.StepLaws.{NoneAfterTheEnd, HandicapsArePlacedOrProbes, RightAnswersAreReported};
+
+use gtp_session::policy::Policy;
+
+/// As long as nothing was found, each answer that was heard is a right one, by the table of the engine's commands or as
+/// the refusal of what may be refused, in the game that the commands and answers before it make.
+pub fn silence_says_all_is_right()
+    ensures { SilenceSaysAllIsRight }
+{}
+
+/// A finding is the first wrong answer of its engine: all before it were right, and no right engine, whatever it
+/// chooses, gives this answer in the game that they make.
+pub fn findings_are_justified()
+    ensures { FindingsAreJustified }
+{}
+
+/// The bytes that were asked and heard show a finding: who was asked them and answers rightly writes something else.
+pub fn conversations_show_findings()
+    ensures { ConversationsShowFindings }
+{}
+
+/// No engine that is given the bytes that were asked writes what was found wrong, whatever its policy chooses.
+pub fn no_right_engine_wrote_it<P: Policy>()
+    ensures { NoRightEngineWroteIt P.may }
+{}
+
+/// A right answer has no finding.
+pub fn right_answers_have_no_finding()
+    ensures { RightAnswersHaveNoFinding }
+{}
+
+/// Right answers leave one game, and no other.
+pub fn right_answers_leave_one_game()
+    ensures { RightAnswersLeaveOneGame }
+{}
+
+/// What is known of the commands that an engine may be without is what it said itself, last: it has a command, or it
+/// lacks it.
+pub fn skills_are_what_was_said()
+    ensures { SkillsAreWhatWasSaid }
+{}
+
+/// A `fixed_handicap`, an `undo` or a `final_score` may be asked only of an engine that was asked whether it knows it,
+/// and whose last answer to that wasn't `false`.
+pub fn what_is_asked_is_known()
+    ensures { WhatIsAskedIsKnown }
+{}
+
+/// What is known of an engine's board is what it was asked and took.
+pub fn boards_are_what_was_said()
+    ensures { BoardsAreWhatWasSaid }
+{}
+
+/// A command whose answer hangs on the board may be asked only of an engine that took a size, was asked to clear the
+/// board after the last that it took, and owes no answer to a `boardsize`.
+pub fn boards_are_known()
+    ensures { BoardsAreKnown }
+{}
+
+/// A `final_score` may be asked only once a `komi` was asked since the engine's start.
+pub fn komis_are_set()
+    ensures { KomisAreSet }
+{}
+
+/// The commands that an engine is asked are numbered 1, 2, 3 and so on. So their number is bounded too.
+pub fn commands_are_numbered()
+    ensures { CommandsAreNumbered }
+{}
+
+/// A `genmove` and a `boardsize` are asked alone: only where nothing is unanswered, and nothing before their answer.
+pub fn some_are_asked_alone()
+    ensures { SomeAreAskedAlone }
+{}
+
+/// Of an engine that is up, owes fewer than eight answers and none to a `genmove` or a `boardsize`, a `komi`, a
+/// `clear_board`, a `name`, a `version` and a `known_command` may be asked, as long as there are ids; and a `boardsize`
+/// where it owes nothing.
+pub fn ready_engines_may_be_asked()
+    ensures { ReadyEnginesMayBeAsked }
+{}
+
+/// Where the board of such an engine is known, also what hangs on it may be asked: a `fixed_handicap`, an `undo` and a
+/// `final_score` where it is known to know them, a score where a `komi` was asked.
+pub fn known_engines_may_be_asked()
+    ensures { KnownEnginesMayBeAsked }
+{}
+
+/// An engine that is up is in the talk of what was asked and heard since its own start, so nothing is kept of one
+/// before it.
+pub fn each_start_begins_anew()
+    ensures { EachStartBeginsAnew }
+{}
+
+/// What is written of a command that is asked is one line, with the next id and the command's words.
+pub fn asked_commands_are_lines()
+    ensures { AskedCommandsAreLines }
+{}
+
+/// A move that is asked is legal in the game that a right engine has by then, or it is a probe, which it has to refuse.
+pub fn plays_are_legal_or_probes()
+    ensures { PlaysAreLegalOrProbes }
+{}
+
+/// The score that is asked for is that of komi alone.
+pub fn scores_are_komi_alone()
+    ensures { ScoresAreKomiAlone }
+{}
+
+/// A text is read as a score exactly where it is one word: `B+` or `W+` and a number of points without a sign, or a
+/// zero.
+pub fn scores_are_read()
+    ensures { ScoresAreRead }
+{}
+
+/// A size is reported as refused exactly where a failure to its `boardsize` was heard.
+pub fn refused_sizes_are_reported()
+    ensures { RefusedSizesAreReported }
+{}
+
+/// Whoever wrote right answers alone isn't blamed, in whatever cuts they are heard, and however many of them.
+pub fn who_answers_rightly_is_not_blamed()
+    ensures { WhoAnswersRightlyIsNotBlamed }
+{}
+
+/// An engine that was given just the bytes that were asked is never blamed, whatever its policy chooses, in whatever
+/// cuts its output is heard, and however much of it.
+pub fn no_right_engine_is_blamed<P: Policy>()
+    ensures { NoRightEngineIsBlamed P.may }
+{}
+
+/// Over every list of calls, whatever is heard: there are no more starts than were allowed, at most eight commands are
+/// unanswered, and one engine is asked at most 2,147,483,647 of them.
+pub fn every_check_is_bounded()
+    ensures { EveryCheckIsBounded }
+{}
+
+/// Whatever is read is found wrong, or is a reply to the oldest unanswered command.
+pub fn what_is_read_is_answer_or_found()
+    ensures { WhatIsReadIsAnswerOrFound }
+{}
+
+/// An engine is up from its start until it is lost or found wrong, and only then it is asked.
+pub fn up_is_between()
+    ensures { UpIsBetween }
+{}
+
+/// No `genmove` is asked after two passes, and no `quit`.
+pub fn none_after_the_end()
+    ensures { NoneAfterTheEnd }
+{}
+
+/// A handicap that is asked has its points due where it may be placed, and is a probe where it may not.
+pub fn handicaps_are_placed_or_probes()
+    ensures { HandicapsArePlacedOrProbes }
+{}
+
+/// The command to which a right answer was heard is the oldest one, and it is reported.
+pub fn right_answers_are_reported()
+    ensures { RightAnswersAreReported }
+{}

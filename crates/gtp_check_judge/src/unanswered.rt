@@ -1,0 +1,149 @@
+//! The commands that were asked and aren't answered.
+ghost use Rattle.std.specs.Prelude.{◌≡◌, ◌<◌, ◌≤◌, [], ◌∷◌, ◌++◌, length, drop};
+ghost use Rattle.gtp_check_judge.specs.Judging.{most_unanswered, none_unanswered, oldest, is_awaited, changes_freely};
+ghost use Rattle.gtp_check_judge.specs.Judging.{awaits};
+
+use crate::asking::CheckCommand;
+use crate::dues::Due;
+use arrayvec::ArrayVec;
+use gtp_wire::Command;
+use std::marker::Model;
+
+/// How many commands are unanswered at most.
+pub const MOST_UNANSWERED: usize = 8;
+
+/// A command that was asked, its id, and what is due to it.
+#[derive(Clone, Copy, Debug, PartialEq, Eq)]
+pub struct Asked {
+    /// The number of the command, counted from 1 since the engine was started.
+    pub id: u32,
+    /// The command.
+    pub command: CheckCommand,
+    /// What is due to it.
+    pub due: Due,
+}
+
+impl Default for Asked {
+    ghost use Rattle.std.specs.Prelude.{◌≡◌};
+    ghost use Rattle.gtp_check_judge.specs.declared.asking.CheckCommand.{CheckCommand};
+    ghost use Rattle.gtp_check_judge.specs.declared.dues.Due.{Due};
+
+    ghost is_default = { λ asked. asked
+        ≡ record { id = 0; command = CheckCommand.Name; due = Due.Succeeds } };
+
+    fn default() -> Asked {
+        Asked {
+            id: 0,
+            command: CheckCommand::Name,
+            due: Due::Succeeds,
+        }
+    }
+}
+
+/// Commands that are unanswered, the oldest first.
+#[derive(Drop)]
+pub struct Unanswered {
+    list: ArrayVec<Asked, MOST_UNANSWERED>,
+    /// Whether a `genmove` or a `boardsize` is among them, which is asked for each command.
+    has_awaited: bool,
+}
+
+impl Model for Unanswered {
+    ghost use Rattle.std.specs.Prelude.{List, ◌≡◌};
+    ghost use Rattle.gtp_check_judge.specs.Judging.{awaits};
+    ghost use Rattle.gtp_check_judge.specs.declared.unanswered.Asked.{Asked};
+
+    ghost Value = { List Asked };
+
+    ghost view = { λ o. o.list.items };
+
+    ghost invariant = { λ o. o.has_awaited ≡ awaits o.list.items };
+}
+
+impl Unanswered {
+    /// No commands.
+    pub fn new() -> Unanswered
+        ensures { result ≡ [] }
+    {
+        Unanswered {
+            list: ArrayVec::new(),
+            has_awaited: false,
+        }
+    }
+
+    /// How many there are.
+    pub fn len(&self) -> usize
+        ensures len { result ≡ length self.now }
+        ensures few { result ≤ most_unanswered }
+    {
+        self.list.len()
+    }
+
+    /// The oldest, if any.
+    pub fn oldest(&self) -> Option<Asked>
+        ensures { result ≡ oldest self.now }
+    {
+        self.list.first().copied()
+    }
+
+    /// Adds a command after the others.
+    pub fn push(&mut self, id: u32, command: CheckCommand, due: Due)
+        requires { length self.old < most_unanswered }
+        ensures { self.new ≡ self.old ++ record { id = id; command = command; due = due } ∷ [] }
+    {
+        self.has_awaited = self.has_awaited || is_awaited(&command);
+        self.list.push(Asked { id, command, due });
+    }
+
+    /// Takes the oldest off, if any.
+    pub fn drop_oldest(&mut self)
+        ensures { self.new ≡ drop 1 self.old }
+    {
+        if !self.list.is_empty() {
+            self.list.remove(0);
+            self.has_awaited = self.has_awaited && any_awaited(&self.list);
+        }
+    }
+
+    /// Whether a `genmove` or a `boardsize` is among them.
+    pub fn awaits(&self) -> bool
+        ensures { result ≡ awaits self.now }
+    {
+        self.has_awaited
+    }
+}
+
+/// Whether a `genmove` or a `boardsize` is among these commands.
+fn any_awaited(list: &[Asked]) -> bool
+    ensures { result ≡ awaits list.now }
+{
+    list.iter().any(|asked| is_awaited(&asked.command))
+}
+
+/// Whether the game isn't known before the answer to a command: a `genmove` or a `boardsize`.
+pub(crate) fn is_awaited(command: &CheckCommand) -> bool
+    ensures { result ≡ is_awaited command.now }
+{
+    match command {
+        CheckCommand::Match(command) => changes_freely(command),
+        CheckCommand::FinalScore
+        | CheckCommand::Name
+        | CheckCommand::Version
+        | CheckCommand::KnownCommand(_) => false,
+    }
+}
+
+/// The same of a command of a match.
+fn changes_freely(command: &Command) -> bool
+    ensures { result ≡ changes_freely command.now }
+{
+    match command {
+        Command::Genmove(_) | Command::Boardsize(_) => true,
+        Command::Komi(_)
+        | Command::ClearBoard
+        | Command::FixedHandicap(_)
+        | Command::Play(_)
+        | Command::Undo
+        | Command::Quit => false,
+    }
+}

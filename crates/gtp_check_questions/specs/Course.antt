@@ -1,0 +1,140 @@
+-- A course: its lessons, where it is in them, and what a call of it is.
+use Rattle.std.specs.Prelude.{◌≡◌, ℕ, ◌+◌, ◌<◌, ◌≤◌, min, nat_lt, ◌⊎◌, Bool, true, false, not, ◌&&◌, if◌then◌else◌}
+use Rattle.std.specs.Prelude.{List, [], length, slice_get, Option, None, Some, is_some}
+use Rattle.go_base.specs.Size.{most_size}
+use Rattle.gtp_check_judge.specs.declared.exam.Exam.{Exam}
+use Rattle.gtp_check_judge.specs.Exam.{HasRoomFor}
+use Rattle.gtp_check_questions.specs.declared.lessons.Lesson.{Lesson}
+use Rattle.gtp_check_questions.specs.declared.lessons.Lesson.TheVariants as lesson
+use Rattle.gtp_check_questions.specs.declared.places.Place.{Place}
+use Rattle.gtp_check_questions.specs.declared.openings.Opening.{Opening}
+use Rattle.gtp_check_questions.specs.declared.openings.Opening.TheVariants as opening
+use Rattle.gtp_check_questions.specs.declared.actions.Action.{Action}
+use Rattle.gtp_check_questions.specs.declared.actions.Action.TheVariants.{Start, Restart, Kill, Ask, Wait, Skip, Done}
+use Rattle.gtp_check_questions.specs.Places.{IsPlace, number, first_place, next_step, next_stretch, next_part}
+use Rattle.gtp_check_questions.specs.Places.{next_lesson}
+use Rattle.gtp_check_questions.specs.Openings.{opened}
+use Rattle.gtp_check_questions.specs.Stretches.{steps_if}
+use Rattle.gtp_check_questions.specs.Lessons.{parts_of, stretches_of}
+
+-- The lessons of a course, where it is in them, and what of its opening the engine was asked since it was started. How
+-- much was found in its lesson so far, and the size of the boards of scenes, once it is known.
+pub record Course : Type 0 where
+  pub lessons : List Lesson
+  pub place : Place
+  pub opening : Opening
+  pub findings : ℕ
+  pub scene_size : Option ℕ
+
+-- before the first start
+abbrev pub begun : List Lesson → Option ℕ → Course
+begun lessons scene_size = record {
+  lessons = lessons;
+  place = first_place;
+  opening = opening.Name;
+  findings = 0;
+  scene_size = scene_size;
+}
+
+-- the place is one of the course, or the course is over
+pub record IsIn (lessons : List Lesson) (now : Place) : Type 0 where
+  pub place : IsPlace now
+  pub lesson : now.lesson ≤ length lessons
+  pub few : length lessons ≤ 13
+
+abbrev pub IsOver : Course → Type 0
+IsOver course = length course.lessons ≤ course.place.lesson
+
+abbrev pub IsRunning : Course → Type 0
+IsRunning course = course.place.lesson < length course.lessons
+
+-- ---- what comes next
+
+-- after so many findings in a lesson the next one begins
+abbrev pub most_findings : ℕ
+most_findings = 10
+
+-- one more was found in the lesson
+abbrev pub with_finding : Course → Course
+with_finding course = record course { findings = min (course.findings + 1) most_findings }
+
+-- The start finds the size of scenes, and is over then.
+abbrev pub finds_size : Lesson → Bool
+finds_size lesson.Start = true
+finds_size lesson.Sizes = false
+finds_size lesson.Ko = false
+finds_size lesson.Captures = false
+finds_size lesson.Suicide = false
+finds_size lesson.Joining = false
+finds_size lesson.Handicaps = false
+finds_size lesson.Komi = false
+finds_size lesson.Drawn = false
+finds_size lesson.Record = false
+finds_size lesson.Genmoves = false
+finds_size lesson.Games = false
+finds_size lesson.Restarts = false
+
+-- the size that a part of the start asks for: each from 5 on; other lessons have the smallest
+abbrev pub sought_size : Lesson → ℕ → ℕ
+sought_size lesson part = if finds_size lesson then min (5 + part) most_size else 5
+
+abbrev pub size_in : Lesson → Option ℕ → ℕ → ℕ
+size_in lesson None part = sought_size lesson part
+size_in lesson (Some size) part = size
+
+-- the size of the boards of scenes: the one that is known, or the one that is asked for
+abbrev pub scene_size_of : Lesson → Course → ℕ
+scene_size_of lesson course = size_in lesson course.scene_size course.place.part
+
+-- whether another part of the lesson comes
+abbrev pub has_next_part : Lesson → Course → Bool
+has_next_part lesson course =
+    nat_lt (course.place.part + 1) (parts_of lesson) && not (finds_size lesson && is_some course.scene_size)
+    && nat_lt course.findings most_findings
+
+-- The part is over: its lesson's next one comes, or the next lesson, in which nothing was found yet.
+abbrev pub part_over : Lesson → Course → Course
+part_over lesson course =
+    if has_next_part lesson course then record course { place = next_part course.place }
+    else record course { place = next_lesson course.place; findings = 0 }
+
+abbrev pub has_next_step : Lesson → Place → Bool
+has_next_step lesson place =
+    nat_lt (place.step + 1) (steps_if (slice_get (stretches_of lesson) place.stretch))
+
+-- The step is over: the next one of its stretch comes, or the next stretch, or the part is over too.
+abbrev pub step_over : Lesson → Course → Course
+step_over lesson course =
+    if has_next_step lesson course.place then record course { place = next_step course.place }
+    else if nat_lt (course.place.stretch + 1) (length (stretches_of lesson))
+    then record course { place = next_stretch course.place }
+    else part_over lesson course
+
+-- ---- how far it is
+
+-- how far it is: the number of its place, and how much of the opening was asked
+abbrev pub progress : Course → ℕ
+progress course = number course.place + opened course.opening
+
+-- the same lessons, further on
+pub record GoesOn (old new : Course) : Type 0 where
+  pub lessons : new.lessons ≡ old.lessons
+  pub further : progress old < progress new
+
+-- ---- a call
+
+-- What is to be done next, where the exam of the engine is this one. A command that is asked is one that may be asked.
+-- The engine is waited for only while it owes an answer. What is done goes on with the course; only a start begins the
+-- opening again, and waiting changes nothing.
+abbrev pub GoesTo : Course → Exam → Action → Course → Type 0
+GoesTo old exam Start new = (exam.up ≡ false) × (new ≡ record old { opening = opening.Name })
+GoesTo old exam Restart new = (exam.unanswered ≡ []) × GoesOn old new
+GoesTo old exam Kill new = (exam.unanswered ≡ []) × GoesOn old new
+GoesTo old exam (Ask command) new = HasRoomFor exam command × GoesOn old new
+GoesTo old exam Wait new = (0 < length exam.unanswered) × (new ≡ old)
+GoesTo old exam Skip new = GoesOn old new
+GoesTo old exam Done new = IsOver old × (new ≡ old)
+
+-- The rest of a part is left. A course that is over stays so.
+abbrev pub Leaves : Course → Course → Type 0
+Leaves old new = IsOver old × (new ≡ old) ⊎ GoesOn old new

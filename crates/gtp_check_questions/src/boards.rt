@@ -1,0 +1,151 @@
+//! What each part of a lesson is asked on.
+ghost use Rattle.std.specs.Prelude.{◌≡◌, ◌+◌, ◌<◌, slice_index_or};
+ghost use Rattle.go_base.specs.Komi.{IsKomi};
+ghost use Rattle.gtp_check_questions.specs.Places.{most_parts};
+ghost use Rattle.gtp_check_questions.specs.Boards.{IsBoard, lines_of, size_or, komi_of, stones_of};
+ghost use Rattle.gtp_check_questions.specs.Scenes.{scene_of};
+
+use crate::lessons::Lesson;
+use crate::scenes::{Scene, WAYS, Way};
+use go_base::{Komi, Size};
+
+/// The sizes of the drawn games, of those with moves of the engine's own, of the long records, and of the games in one
+/// process. After them comes the size of scenes, which the engine takes.
+const DRAWN: [u32; 10] = [9, 5, 3, 13, 19, 7, 25, 2, 4, 1];
+
+const GENMOVES: [u32; 8] = [5, 9, 1, 2, 3, 7, 13, 19];
+
+const RECORD: [u32; 2] = [9, 19];
+
+const GAMES: [u32; 4] = [9, 5, 13, 19];
+
+/// What a part is asked on.
+#[derive(Clone, Copy, Debug, PartialEq, Eq)]
+pub struct Board {
+    /// The size of the board.
+    pub size: Size,
+    /// That of a later game.
+    pub other_size: Size,
+    /// Komi.
+    pub komi: Komi,
+    /// That of a later game.
+    pub other_komi: Komi,
+    /// How many handicap stones.
+    pub stones: u32,
+    /// The scene.
+    pub scene: Scene,
+    /// How it is turned.
+    pub way: Way,
+}
+
+/// What a part of a lesson is asked on, where scenes are on boards of this size.
+pub fn board_of(lesson: Lesson, part: u32, scene_size: Size) -> Board
+    requires { part < most_parts }
+    ensures { IsBoard lesson part scene_size result }
+{
+    Board {
+        size: size_or(lines_of(lesson, part, scene_size), scene_size),
+        other_size: scene_size,
+        komi: komi_of(part),
+        other_komi: komi_of(part + 2),
+        stones: stones_of(lesson, part),
+        scene: scene_of(lesson, part),
+        way: Way::of(part % WAYS),
+    }
+}
+
+/// The size that a part asks for.
+fn lines_of(lesson: Lesson, part: u32, scene_size: Size) -> u32
+    requires { part < most_parts }
+    ensures { result ≡ lines_of lesson part scene_size }
+{
+    match lesson {
+        Lesson::Start
+        | Lesson::Ko
+        | Lesson::Captures
+        | Lesson::Suicide
+        | Lesson::Joining
+        | Lesson::Komi => scene_size.get(),
+        Lesson::Sizes => part + 1,
+        Lesson::Handicaps => part / 12 + 1,
+        Lesson::Drawn => entry_or(&DRAWN, part, scene_size),
+        Lesson::Record => entry_or(&RECORD, part, scene_size),
+        Lesson::Genmoves => entry_or(&GENMOVES, part, scene_size),
+        Lesson::Games | Lesson::Restarts => entry_or(&GAMES, part, scene_size),
+    }
+}
+
+/// The entry of this number, and after the last one this size.
+fn entry_or(entries: &[u32], number: u32, size: Size) -> u32
+    ensures { result ≡ slice_index_or entries.now number size }
+{
+    match entries.get(number as usize) {
+        Some(entry) => *entry,
+        None => size.get(),
+    }
+}
+
+/// This size, or the other where it is none.
+fn size_or(lines: u32, other: Size) -> Size
+    ensures { result ≡ size_or lines other }
+{
+    match Size::new(lines) {
+        Some(size) => size,
+        None => other,
+    }
+}
+
+/// Komi of this number.
+fn komi_of(number: u32) -> Komi
+    ensures { result ≡ komi_of number }
+{
+    match Komi::from_half_points(half_points_of(number)) {
+        Some(komi) => komi,
+        None => unreachable!(),
+    }
+}
+
+/// The half points of the komi of this number.
+fn half_points_of(number: u32) -> i32
+    ensures exact { result ≡ komi_of number }
+    ensures komi { IsKomi result }
+{
+    match number % 16 {
+        0 => 13,
+        1 => 0,
+        2 => -7,
+        3 => 15,
+        4 => 1,
+        5 => -1,
+        6 => 2001,
+        7 => -14,
+        8 => 20_000_001,
+        9 => 2_000_000,
+        10 => 201,
+        11 => -2469,
+        12 => 1_999_999_999,
+        13 => -1_999_999_999,
+        14 => 200_001,
+        _ => -65_537,
+    }
+}
+
+/// How many handicap stones a part asks for.
+fn stones_of(lesson: Lesson, part: u32) -> u32
+    ensures { result ≡ stones_of lesson part }
+{
+    match lesson {
+        Lesson::Handicaps => part % 12,
+        _ => 2 + part % 3,
+    }
+}
+
+/// The scene of a part.
+fn scene_of(lesson: Lesson, part: u32) -> Scene
+    ensures { result.now ≡ scene_of lesson part }
+{
+    match lesson.scenes().get((part / WAYS) as usize) {
+        Some(scene) => *scene,
+        None => &[],
+    }
+}

@@ -1,0 +1,24 @@
+//! The course of a check: which command one engine is asked next.
+//!
+//! A [`Course`] goes through its lessons. Its caller asks what `next` returns of an
+//! [`Examiner`](gtp_check_judge::Examiner), starts and ends the engine where that is returned, and calls `leave` where
+//! something was found or the engine was lost.
+#![tactic(auto)]
+
+pub mod actions;
+pub mod boards;
+mod course;
+pub mod draws;
+pub mod laws;
+pub mod lessons;
+mod openings;
+mod places;
+pub mod scenes;
+pub mod stretches;
+mod sweeps;
+
+pub use actions::Action;
+pub use course::Course;
+pub use lessons::{LESSONS, Lesson, Lessons};
+pub use openings::Opening;
+pub use places::Place;

@@ -1,0 +1,420 @@
+//! Stretches of a lesson: what is asked in a step.
+ghost use Rattle.std.specs.Prelude.{◌≡◌, ◌≢◌, ◌<◌, ◌≤◌, ◌/◌, ◌%◌, ◌==◌, length, slice_get, if◌then◌else◌};
+ghost use Rattle.gtp_wire.specs.declared.commands.Command.TheVariants as command;
+ghost use Rattle.gtp_check_questions.specs.Questions.{asks, plays, probes, colour_of, act_asked, last_of, pass_asked};
+ghost use Rattle.gtp_check_questions.specs.Questions.{elsewhere_asked, own_asked, corner_asked, edge_point};
+ghost use Rattle.gtp_check_questions.specs.Questions.{surround_asked, genmove_asked, choice_asked};
+ghost use Rattle.gtp_check_questions.specs.Questions.{is_gap, filled_act, gap_act, swept_act};
+ghost use Rattle.gtp_check_questions.specs.Questions.{star_points, star_asked, IsQuestion};
+ghost use Rattle.gtp_check_questions.specs.Places.{most_steps};
+ghost use Rattle.gtp_check_questions.specs.Stretches.{steps_of};
+
+use crate::actions::Question;
+use crate::boards::Board;
+use crate::draws::{Draws, drawn_move, probed};
+use crate::scenes::crossing;
+use crate::sweeps::{emptied, points, waits};
+use arrayvec::ArrayVec;
+use go_base::{Colour, Move, Point, Size, Vertex, handicap};
+use go_board::Game;
+use gtp_check_judge::CheckCommand;
+use gtp_wire::Command;
+
+/// The number of the move whose stone is taken in the first scene of kos.
+const RETAKEN: usize = 2;
+
+/// The lines of a scene's corner.
+const LINES: u32 = 6;
+
+/// Steps of one kind, one after the other.
+#[derive(Clone, Copy, Debug, PartialEq, Eq)]
+pub enum Stretch {
+    /// `boardsize`, with the part's size.
+    Size,
+    /// The part is left where the size was refused.
+    Taken,
+    /// `boardsize`, with the other size.
+    OtherSize,
+    /// The part is left where the other size was refused.
+    OtherTaken,
+    /// `komi`, with the part's.
+    Komi,
+    /// `komi`, with the other one.
+    OtherKomi,
+    /// `clear_board`.
+    Clear,
+    /// The moves of the scene.
+    Moves,
+    /// Probes of the points of the scene's moves, in both colours.
+    Own,
+    /// Probes of the points of the scene's corner, in both colours.
+    Corner,
+    /// A pass of the colour that didn't act.
+    Pass,
+    /// The last move of the scene.
+    Act,
+    /// A move of the colour that didn't act, in the far corner.
+    Elsewhere,
+    /// `undo`.
+    Undo,
+    /// Probes of the corners, and of two points next to them that the board doesn't have.
+    Edges,
+    /// `fixed_handicap`.
+    Handicap,
+    /// `fixed_handicap`, with so many stones.
+    Stones(u32),
+    /// Probes of the points of handicaps, in both colours.
+    Stars,
+    /// `final_score`.
+    Score,
+    /// White's moves around the first point of a handicap, by which a stone there is captured.
+    Surround,
+    /// A move on each point of the board, a probe of that point by the other colour, and an `undo`.
+    Points,
+    /// So many passes, of Black and of White in turn.
+    Passes(u32),
+    /// So many steps: passes, and after each a probe of the point where the first of all kos may be retaken.
+    Waits(u32),
+    /// So many drawn moves.
+    Drawn(u32),
+    /// So many steps, of which each third is a drawn move, and the others are probes of drawn points.
+    Probed(u32),
+    /// So often `undo`.
+    Back(u32),
+    /// So many steps, each an `undo` while the game has moves.
+    Emptied(u32),
+    /// So many steps, of which each fifth is an `undo`, and the others are moves of the engine's own. Of four, three
+    /// are of the colour whose turn it is.
+    Genmoves(u32),
+    /// A stone of White in the corner, and Black's on all points but three.
+    Filled,
+    /// Black's moves on those three points.
+    Gaps,
+    /// Moves after which White takes all stones of Black by one.
+    Swept,
+    /// A move of the engine's own, of the colour that plays this one's moves.
+    Chosen(Colour),
+    /// A new start, after a `quit`.
+    Restart,
+    /// A new start, without a `quit`.
+    Kill,
+}
+
+impl Stretch {
+    /// How many steps it has.
+    pub fn steps(self) -> u32
+        ensures steps { result ≡ steps_of self }
+        ensures few { result ≤ most_steps }
+    {
+        match self {
+            Stretch::Size
+            | Stretch::Taken
+            | Stretch::OtherSize
+            | Stretch::OtherTaken
+            | Stretch::Komi
+            | Stretch::OtherKomi
+            | Stretch::Clear
+            | Stretch::Pass
+            | Stretch::Act
+            | Stretch::Elsewhere
+            | Stretch::Undo
+            | Stretch::Handicap
+            | Stretch::Stones(_)
+            | Stretch::Score
+            | Stretch::Chosen(_)
+            | Stretch::Restart
+            | Stretch::Kill => 1,
+            Stretch::Moves => 12,
+            Stretch::Own => 24,
+            Stretch::Corner => 2 * LINES * LINES,
+            Stretch::Edges => 6,
+            Stretch::Stars => 18,
+            Stretch::Surround | Stretch::Swept => 4,
+            Stretch::Filled => 625,
+            Stretch::Gaps => 3,
+            Stretch::Points => 1875,
+            Stretch::Passes(steps)
+            | Stretch::Waits(steps)
+            | Stretch::Drawn(steps)
+            | Stretch::Probed(steps)
+            | Stretch::Back(steps)
+            | Stretch::Emptied(steps)
+            | Stretch::Genmoves(steps) => steps.min(2000),
+        }
+    }
+
+    /// What is asked in its step of this number, where the game is this one.
+    pub fn question(self, step: u32, board: &Board, game: &Game, draws: Draws) -> Question
+        ensures { IsQuestion self step board.now game.now result }
+    {
+        match self {
+            Stretch::Size => ask(Command::Boardsize(board.size)),
+            Stretch::Taken => Question::Size(board.size),
+            Stretch::OtherSize => ask(Command::Boardsize(board.other_size)),
+            Stretch::OtherTaken => Question::Size(board.other_size),
+            Stretch::Komi => ask(Command::Komi(board.komi)),
+            Stretch::OtherKomi => ask(Command::Komi(board.other_komi)),
+            Stretch::Clear => ask(Command::ClearBoard),
+            Stretch::Undo | Stretch::Back(_) => ask(Command::Undo),
+            Stretch::Handicap => ask(Command::FixedHandicap(board.stones)),
+            Stretch::Stones(stones) => ask(Command::FixedHandicap(stones)),
+            Stretch::Score => Question::Ask(CheckCommand::FinalScore),
+            Stretch::Restart => Question::Restart,
+            Stretch::Kill => Question::Kill,
+            Stretch::Chosen(colour) => ask(Command::Genmove(board.way.colour(colour))),
+            Stretch::Moves => play_act(act_of(step as usize, board), board),
+            Stretch::Act => play_act(last_of(board), board),
+            Stretch::Filled => play_act(filled_act(step, board.size.get()), board),
+            Stretch::Gaps => play_act(Some(gap_act(step, board.size.get())), board),
+            Stretch::Swept => play_act(Some(swept_act(step, board.size.get())), board),
+            Stretch::Pass => pass_after(last_of(board), board),
+            Stretch::Elsewhere => elsewhere(last_of(board), board),
+            Stretch::Own => own_point(step, board),
+            Stretch::Corner => corner_point(step, board),
+            Stretch::Edges => edge_point(step, board.size.get()),
+            Stretch::Stars => star(step, game.size()),
+            Stretch::Surround => surround(step, star_point(0, game.size())),
+            Stretch::Points => points(step, board.size.get()),
+            Stretch::Waits(_) => waits(step, act_of(RETAKEN, board), board),
+            Stretch::Emptied(_) => emptied(game),
+            Stretch::Passes(_) => play(colour_of(step), Vertex::Pass),
+            Stretch::Drawn(_) => drawn_move(game, &mut draws.generator()),
+            Stretch::Probed(_) => probed(step, game, &mut draws.generator()),
+            Stretch::Genmoves(_) => genmove(step, game),
+        }
+    }
+}
+
+/// The move of this number of the scene, if it has one.
+fn act_of(number: usize, board: &Board) -> Option<(Colour, u32, u32)>
+    ensures { result ≡ slice_get board.now.scene.now number }
+{
+    board.scene.get(number).copied()
+}
+
+/// The last move of the scene.
+fn last_of(board: &Board) -> Option<(Colour, u32, u32)>
+    ensures { result ≡ last_of board.now.scene.now }
+{
+    act_of(board.scene.len().saturating_sub(1), board)
+}
+
+/// A move of the scene, if there is one.
+fn play_act(act: Option<(Colour, u32, u32)>, board: &Board) -> Question
+    ensures { result ≡ act_asked board.now act }
+{
+    match act {
+        Some(act) => ask(Command::Play(board.way.act(act, board.size))),
+        None => Question::Nothing,
+    }
+}
+
+/// A pass of the colour that didn't act.
+fn pass_after(act: Option<(Colour, u32, u32)>, board: &Board) -> Question
+    ensures { result ≡ pass_asked board.now act }
+{
+    match act {
+        Some(act) => play(board.way.act(act, board.size).colour.other(), Vertex::Pass),
+        None => Question::Nothing,
+    }
+}
+
+/// A move of the colour that didn't act, in the far corner.
+fn elsewhere(act: Option<(Colour, u32, u32)>, board: &Board) -> Question
+    ensures { result ≡ elsewhere_asked board.now act }
+{
+    let far = board.size.get();
+    match act {
+        Some(act) => play(
+            board.way.act(act, board.size).colour.other(),
+            board.way.turn(far, far, board.size),
+        ),
+        None => Question::Nothing,
+    }
+}
+
+/// A command of a match.
+pub(crate) fn ask(command: Command) -> Question
+    ensures { result ≡ asks command }
+{
+    Question::Ask(CheckCommand::Match(command))
+}
+
+/// A `play`.
+pub(crate) fn play(colour: Colour, vertex: Vertex) -> Question
+    ensures { result ≡ plays colour vertex }
+{
+    ask(Command::Play(Move { colour, vertex }))
+}
+
+/// A probe of a point, where there is one.
+pub(crate) fn probe(colour: Colour, vertex: Vertex) -> Question
+    ensures { result ≡ probes colour vertex }
+{
+    match vertex {
+        Vertex::At(_) => Question::Probe(Move { colour, vertex }),
+        Vertex::Pass => Question::Nothing,
+    }
+}
+
+/// Black for an even number, and White for an odd one.
+pub(crate) fn colour_of(number: u32) -> Colour
+    ensures { result ≡ colour_of number }
+{
+    if number % 2 == 0 {
+        Colour::Black
+    } else {
+        Colour::White
+    }
+}
+
+/// A probe of the point of a move of the scene, first in the one colour and then in the other.
+fn own_point(step: u32, board: &Board) -> Question
+    ensures { result
+        ≡ own_asked board.now step (slice_get board.now.scene.now (step / 2)) }
+{
+    match board.scene.get((step / 2) as usize) {
+        Some((_, column, row)) => {
+            let vertex = board.way.turn(*column, *row, board.size);
+            probe(colour_of(step), vertex)
+        }
+        None => Question::Nothing,
+    }
+}
+
+/// A probe of a point of the scene's corner, first in the one colour and then in the other.
+fn corner_point(step: u32, board: &Board) -> Question
+    ensures { result ≡ corner_asked board.now step }
+{
+    let size = board.size.get();
+    let column = step / 2 % LINES + 1;
+    let row = step / 2 / LINES + 1;
+    if column > size || row > size {
+        return Question::Nothing;
+    }
+    probe(colour_of(step), board.way.turn(column, row, board.size))
+}
+
+/// A probe of a corner, or of a point next to one that the board doesn't have.
+fn edge_point(step: u32, size: u32) -> Question
+    requires { size ≤ 25 }
+    ensures { result ≡ probes (colour_of step) (edge_point step size) }
+{
+    let past = size + 1;
+    let vertex = match step {
+        0 => crossing(size, size),
+        1 => crossing(past, 1),
+        2 => crossing(1, past),
+        3 => crossing(size, 1),
+        4 => crossing(1, size),
+        _ => crossing(1, 1),
+    };
+    probe(colour_of(step), vertex)
+}
+
+/// A probe of a point of a handicap of this size, first in the one colour and then in the other.
+fn star(step: u32, size: Size) -> Question
+    ensures { result ≡ star_asked step (slice_get (star_points size) (step / 2)) }
+{
+    match star_point(step / 2, size) {
+        Some(point) => probe(colour_of(step), Vertex::At(point)),
+        None => Question::Nothing,
+    }
+}
+
+/// The point of this number among those of the most handicap stones that this size has.
+fn star_point(number: u32, size: Size) -> Option<Point>
+    ensures { result ≡ slice_get (star_points size) number }
+{
+    star_points(size).get(number as usize).copied()
+}
+
+/// The points of the most handicap stones that this size has.
+fn star_points(size: Size) -> ArrayVec<Point, 9>
+    ensures { result.items ≡ star_points size }
+{
+    let most = if size.get() >= 9 && size.get() % 2 == 1 {
+        handicap(size, 9)
+    } else if size.get() >= 7 {
+        handicap(size, 4)
+    } else {
+        None
+    };
+    most.unwrap_or_default()
+}
+
+/// White's move next to a point, if there is one: on its left, on its right, below it and above it.
+fn surround(step: u32, point: Option<Point>) -> Question
+    ensures { result ≡ surround_asked step point }
+{
+    let Some(point) = point else {
+        return Question::Nothing;
+    };
+    let (column, row) = (point.column(), point.row());
+    let vertex = match step {
+        0 => crossing(column - 1, row),
+        1 => crossing(column + 1, row),
+        2 => crossing(column, row - 1),
+        _ => crossing(column, row + 1),
+    };
+    play(Colour::White, vertex)
+}
+
+/// A `genmove` of the colour whose turn it is, or of the other one, or an `undo`.
+fn genmove(step: u32, game: &Game) -> Question
+    ensures { result ≡ genmove_asked step (length game.now.moves) }
+{
+    let moves = game.moves().len() as u32;
+    match step % 5 {
+        4 => ask(Command::Undo),
+        2 => ask(Command::Genmove(colour_of(moves).other())),
+        _ => ask(Command::Genmove(colour_of(moves))),
+    }
+}
+
+/// The move of this number on a board that is filled, if it has one.
+fn filled_act(step: u32, size: u32) -> Option<(Colour, u32, u32)>
+    requires { 0 < size }
+    ensures { result ≡ filled_act step size }
+{
+    let column = step % size + 1;
+    let row = step / size;
+    if row >= size || is_gap(column, row + 1, size) {
+        return None;
+    }
+    if step == 0 {
+        Some((Colour::White, 1, 1))
+    } else {
+        Some((Colour::Black, column, row + 1))
+    }
+}
+
+/// Whether a point is left empty where the others are filled.
+fn is_gap(column: u32, row: u32, size: u32) -> bool
+    ensures { result ≡ is_gap column row size }
+{
+    (column == 2 && row == 1) || (column == size && row == size) || (column == 1 && row == size)
+}
+
+/// Black's move on one of the points that are left empty.
+fn gap_act(step: u32, size: u32) -> (Colour, u32, u32)
+    ensures { result ≡ gap_act step size }
+{
+    match step {
+        0 => (Colour::Black, 2, 1),
+        1 => (Colour::Black, size, size),
+        _ => (Colour::Black, 1, size),
+    }
+}
+
+/// One of the moves after which White takes all stones of Black.
+fn swept_act(step: u32, size: u32) -> (Colour, u32, u32)
+    ensures { result ≡ swept_act step size }
+{
+    match step {
+        0 => (Colour::Black, 2, 1),
+        1 => (Colour::Black, 1, 1),
+        2 => (Colour::Black, size, size),
+        _ => (Colour::White, 1, size),
+    }
+}

@@ -1,8 +1,0 @@
-use Rattle.std.proofs.Common.{◌≡◌, ◌++◌, take}
-use Rattle.gtp_checker.specs.Progress.{most_columns}
-use Rattle.gtp_checker.specs.Texts.{joined}
-use Rattle.gtp_checker.proofs.progress.cut.Given as goal
-
--- as much as fits of the texts so far
-abbrev pub invariant-loop-part : goal.invariant-loop-part
-invariant-loop-part l = l.text.items ≡ take most_columns ((l.before ++ l.line) ++ joined (take l.part-index l.parts))

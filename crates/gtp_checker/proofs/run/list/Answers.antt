@@ -1,5 +1,0 @@
-use Rattle.gtp_checker.specs.Checks.{refused}
-use Rattle.gtp_checker.proofs.run.list.Goals as goal
-
-pub returns-in_default : goal.returns-in_default
-returns-in_default g c = rw c.report.ensures.status (refused c.report.ensures.written)

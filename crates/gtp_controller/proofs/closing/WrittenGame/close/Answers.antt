@@ -1,8 +1,0 @@
-use Rattle.gtp_controller.proofs.matches.Closed.{closed_where}
-use Rattle.gtp_controller.proofs.closing.WrittenGame.close.Goals as goal
-
-pub returns-clause-closed : goal.returns-clause-closed
-returns-clause-closed g c = record {
-  black = closed_where g.S.Process.Process _ _ _ c.end_unless_answered-black.ensures c.quit_and_end.ensures;
-  white = closed_where g.S.Process.Process _ _ _ c.end_unless_answered-white.ensures c.quit_and_end-2.ensures;
-}

@@ -1,9 +1,0 @@
-use Rattle.gtp_controller.specs.Games.{GamesAreWritten, seen}
-use Rattle.gtp_controller.proofs.run.play_games.Given as goal
-
--- the games so far are written
-abbrev pub invariant-loop-index : goal.invariant-loop-index
-invariant-loop-index g l =
-    GamesAreWritten g.S.Process.Process g.O.WriteOnce g.E.WriteOnce l.plan l.fn.output
-    (seen (g.S.Starter.asked l.fn.starter) l.fn.errors) l.index l.status l.output
-    (seen (g.S.Starter.asked l.starter) l.errors)

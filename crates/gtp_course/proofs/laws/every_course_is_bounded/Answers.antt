@@ -1,6 +1,0 @@
-use Rattle.gtp_course.proofs.Bounds.{bounded}
-use Rattle.gtp_course.proofs.laws.every_course_is_bounded.Goals as goal
-
-pub returns : goal.returns
-returns c lessons scene_size asked started course walks inside =
-    bounded lessons scene_size asked started course walks inside

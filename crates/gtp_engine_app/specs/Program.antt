@@ -1,0 +1,109 @@
+-- What the program does between its streams: the conversation that the words of the command line ask for, and what is
+-- reported. (Own.)
+use Rattle.std.specs.Prelude.{◌≡◌, ◌⊎◌, ℕ, List, Result}
+use Rattle.clap.specs.Words.{Text}
+use Rattle.clap.specs.declared.error.kind.ErrorKind.{ErrorKind}
+use Rattle.go_board.specs.declared.rules.KoRule.{KoRule}
+use Rattle.gtp_session.specs.declared.book.Entry.{Entry}
+use Rattle.gtp_session.specs.declared.fault.Fault.{Fault}
+use Rattle.gtp_session.specs.declared.first.First.{First as FirstPolicy}
+use Rattle.gtp_session.specs.declared.serve.Served.{Served}
+use Rattle.gtp_session.specs.declared.serve.ServeFault.{ServeFault}
+use Rattle.gtp_session.specs.declared.serve.ServeFault.TheVariants.{Write}
+use Rattle.gtp_session.specs.Policy.{May}
+use Rattle.gtp_session.specs.Policies.{first_may, random_may, book_may}
+use Rattle.gtp_session.specs.Random.{generator_of}
+use Rattle.gtp_session.specs.Counts.{most_reads}
+use Rattle.gtp_session.specs.Engine.{Engine, fresh_under}
+use Rattle.byte_streams.specs.Streams.{Source, Sink, TookWhole, TookPart}
+use Rattle.gtp_session.specs.Serving.{CameOut}
+use Rattle.gtp_engine_app.specs.declared.failure.Failure.{Failure}
+use Rattle.gtp_engine_app.specs.declared.failure.Failure.TheVariants.{OutOfMemory, Serve}
+use Rattle.gtp_engine_app.specs.declared.options.Options.{Options}
+use Rattle.gtp_engine_app.specs.declared.options.PolicyName.{PolicyName}
+use Rattle.gtp_engine_app.specs.declared.options.PolicyName.TheVariants.{First, Random, Book}
+use Rattle.gtp_engine_app.specs.Options.{AsksFor, AsksForText, HasFault, IsMistake, Spells}
+use Rattle.gtp_engine_app.specs.Status.{status_after, ReportsFailure, ReportsEnd}
+use Rattle.cli.specs.Status.{done, own_failure, IsRequest}
+
+-- what the program's streams show: its input, its output, and its standard error
+pub record Streams : Type 0 where
+  pub input : Source
+  pub output : Sink
+  pub errors : Sink
+
+abbrev pub streams : Source → Sink → Sink → Streams
+streams input output errors = record { input = input; output = output; errors = errors }
+
+-- ---- conversations
+
+-- An engine with this policy and this ko rule, which was given nothing before, held a conversation under the fault, of
+-- as many reads as there may be, which came out so.
+abbrev pub FreshCameOut : {P : Type 0} → May P → Fault → KoRule → P → Result Served ServeFault
+    → Source → Source → Sink → Sink → Type 0
+FreshCameOut {P} may fault rule policy served reader reader_now writer writer_now =
+    (engine : Engine P)
+    × CameOut may fault most_reads (fresh_under rule policy) engine served reader reader_now writer writer_now
+
+-- the conversation of the policy of this name, with this seed or these entries, under this ko rule
+abbrev pub PolicyCameOut : PolicyName → ℕ → List Entry → KoRule → Fault → Result Served ServeFault
+    → Source → Source → Sink → Sink → Type 0
+PolicyCameOut First seed entries rule fault served reader reader_now writer writer_now =
+    (policy : FirstPolicy) × FreshCameOut first_may fault rule policy served reader reader_now writer writer_now
+PolicyCameOut Random seed entries rule fault served reader reader_now writer writer_now =
+    FreshCameOut random_may fault rule (generator_of seed) served reader reader_now writer writer_now
+PolicyCameOut Book seed entries rule fault served reader reader_now writer writer_now =
+    FreshCameOut book_may fault rule entries served reader reader_now writer writer_now
+
+-- The options have a book and a fault. The conversation that they ask for was held, its end has this status, and why it
+-- stopped is reported where it stopped before its end.
+pub record HasConversed (options : Options) (status : ℕ) (before after : Streams) : Type 0 where
+  pub entries : List Entry
+  pub fault : Fault
+  pub spells : Spells options entries fault
+  pub served : Result Served ServeFault
+  pub came_out : PolicyCameOut options.policy options.seed entries options.rule fault served
+      before.input after.input before.output after.output
+  pub status_is : status ≡ status_after served
+  pub reported : ReportsEnd served before.errors after.errors
+
+-- the words ask for such options
+pub record HasServed (words : List Text) (status : ℕ) (before after : Streams) : Type 0 where
+  pub options : Options
+  pub asked : AsksFor words options
+  pub conversed : HasConversed options status before after
+
+-- ---- texts that were asked for
+
+-- With status 0 the output took the text, and nothing is reported. With 3 the output failed in it, which is reported.
+abbrev pub IsShown : List ℕ → ℕ → Sink → Sink → Sink → Sink → Type 0
+IsShown text status output output_now errors errors_now =
+    ((status ≡ done) × TookWhole text output output_now × (errors_now ≡ errors))
+    ⊎ ((status ≡ own_failure) × TookPart text output output_now × ReportsFailure (Serve Write) errors errors_now)
+
+-- the words ask for the help or the version, and one text was written, or the writer failed in it
+pub record HasHelped (words : List Text) (status : ℕ) (before after : Streams) : Type 0 where
+  pub asked : AsksForText words
+  pub text : List ℕ
+  pub shown : IsShown text status before.output after.output before.errors after.errors
+
+-- ---- what else may end a run
+
+-- The program could not go on, and reports that memory was refused.
+pub record IsOutOfMemory (status : ℕ) (before after : Streams) : Type 0 where
+  pub status_is : status ≡ own_failure
+  pub reported : ReportsFailure OutOfMemory before.errors after.errors
+
+-- The words ask for options whose texts have a mistake. The first one is reported.
+pub record AsksWrongly (words : List Text) (errors errors_now : Sink) : Type 0 where
+  pub options : Options
+  pub asked : AsksFor words options
+  pub failure : Failure
+  pub mistake : IsMistake options failure
+  pub reported : ReportsFailure failure errors errors_now
+
+-- The words have a mistake, or the texts that they give as a book and as a fault do. What is reported of a mistake in
+-- the words is not said here.
+abbrev pub HasMistake : List Text → Sink → Sink → Type 0
+HasMistake words errors errors_now =
+    ((kind : ErrorKind) × (¬ IsRequest kind) × HasFault words kind) ⊎ AsksWrongly words errors errors_now

@@ -1,0 +1,78 @@
+//! The failures that the program reports in a line of its own.
+ghost use Rattle.std.specs.Prelude.{◌≡◌, ◌≢◌, ◌≤◌, length};
+ghost use Rattle.gtp_engine_app.specs.Status.{ReportsFailure, failure_text, status_for};
+
+use cli::line::error_line;
+use gtp_session::serve::ServeFault;
+use gtp_session::streams::{Outgoing, send};
+use std::io::ErrorKind;
+
+/// The program's name in the lines of failures.
+const NAME: &[u8] = b"gtp_engine";
+
+/// Why the program ends before its conversation does, where `clap` has no text for it.
+#[derive(Clone, Copy, Debug, PartialEq, Eq, Drop)]
+pub enum Failure {
+    /// An argument is no text.
+    BadArgument,
+    /// The text of `--book` is no book.
+    BadBook,
+    /// The text of `--fault` is no fault.
+    BadFault,
+    /// Memory was refused while the arguments were collected or the options read.
+    OutOfMemory,
+    /// The conversation stopped before its end, or the help or the version could not be written.
+    Serve(ServeFault),
+    /// A standard stream is closed, and the null device that would hold its number can't be opened.
+    NoNullDevice,
+}
+
+impl Failure {
+    /// Why arguments could not be collected, by the kind of the error.
+    pub fn of_arguments(kind: ErrorKind) -> Self
+        ensures memory { kind ≡ ErrorKind.OutOfMemory → result ≡ Failure.OutOfMemory }
+        ensures other { kind ≢ ErrorKind.OutOfMemory → result ≡ Failure.BadArgument }
+    {
+        match kind {
+            ErrorKind::OutOfMemory => Failure::OutOfMemory,
+            _ => Failure::BadArgument,
+        }
+    }
+
+    /// The status that the program ends with: 2 for a mistake in the arguments, 3 for a failure of its own.
+    pub fn status(self) -> u8
+        ensures { result ≡ status_for self }
+    {
+        match self {
+            Failure::BadArgument | Failure::BadBook | Failure::BadFault => 2,
+            Failure::OutOfMemory | Failure::Serve(_) | Failure::NoNullDevice => 3,
+        }
+    }
+
+    /// What it is called.
+    fn text(self) -> &'static [u8]
+        ensures text { result.now ≡ failure_text self }
+        ensures short { length result.now ≤ 100 }
+    {
+        match self {
+            Failure::BadArgument => b"bad argument",
+            Failure::BadBook => b"bad book",
+            Failure::BadFault => b"bad fault",
+            Failure::OutOfMemory => b"out of memory",
+            Failure::Serve(ServeFault::Read) => b"read fault",
+            Failure::Serve(ServeFault::Write) => b"write fault",
+            Failure::Serve(ServeFault::TooManyReads) => b"too many reads",
+            Failure::NoNullDevice => b"a standard stream is closed, and /dev/null can't be opened",
+        }
+    }
+}
+
+/// Reports the failure in one line, and returns the status. A writer that fails doesn't change the status.
+pub fn report<E: Outgoing>(failure: Failure, errors: &mut E) -> u8
+    ensures status { result ≡ status_for failure }
+    ensures reported { ReportsFailure failure (E.shown errors.old) (E.shown errors.new) }
+{
+    let line = error_line(NAME, failure.text());
+    let _ = send(errors, line.as_slice());
+    failure.status()
+}

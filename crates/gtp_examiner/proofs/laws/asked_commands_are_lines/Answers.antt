@@ -1,5 +1,0 @@
-use Rattle.gtp_examiner.proofs.commands.Lines.{asked_line}
-use Rattle.gtp_examiner.proofs.laws.asked_commands_are_lines.Goals as goal
-
-pub returns : goal.returns
-returns c old new command later room asks = asked_line old new command later room asks

@@ -1,5 +1,0 @@
-use Rattle.gtp_examiner.proofs.checks.Bounds.{bounded}
-use Rattle.gtp_examiner.proofs.laws.every_check_is_bounded.Goals as goal
-
-pub returns : goal.returns
-returns c rule most count check calls = bounded rule most count check calls

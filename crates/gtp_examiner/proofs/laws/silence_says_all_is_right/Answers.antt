@@ -1,5 +1,0 @@
-use Rattle.gtp_examiner.proofs.talks.Silence.{right_so_far}
-use Rattle.gtp_examiner.proofs.laws.silence_says_all_is_right.Goals as goal
-
-pub returns : goal.returns
-returns c rule sent came said exam talk = right_so_far rule sent came said exam talk

@@ -1,6 +1,0 @@
-use Rattle.gtp_examiner.proofs.engines.Rightly.{rightly_unblamed}
-use Rattle.gtp_examiner.proofs.laws.who_answers_rightly_is_not_blamed.Goals as goal
-
-pub returns : goal.returns
-returns c rule out sent came said old new bytes later used read finding talk h rightly front =
-    rightly_unblamed rule out sent came said old new bytes later used read finding talk h rightly front

@@ -1,0 +1,6 @@
+//! The tests of what an engine is made of: `go_base`, `gtp_wire`, `go_board` and `gtp_session`. A crate with tests is
+//! proved twice, so they have a crate of their own.
+#![tactic(auto)]
+
+#[cfg(test)]
+mod tests;

@@ -1,0 +1,42 @@
+//! Names and versions that are set at any time.
+use crate::tests::steps::{Taken, assert_replies, feed_all};
+use go_board::KoRule;
+use gtp_session::steps::{NoTitle, Steps};
+use tests_asserts::{assert_equal, assert_equal_for};
+
+/// Two lines of which the first ends after 7 bytes, and the second after 17.
+static LINES: &[u8] = b"1 name\n2 version\n";
+
+#[test]
+fn titles_are_those_at_the_end_of_the_line(rt: HostRuntime) {
+    for count in 0..=LINES.len() {
+        let mut taken = Taken::new();
+        let mut steps = Steps::new(KoRule::Simple);
+        let (front, rest) = LINES.split_at(count.min(LINES.len()));
+        feed_all(&rt, &mut steps, front, &mut taken);
+        assert_equal(&rt, steps.set_name(b"An Engine"), Ok(()));
+        assert_equal(&rt, steps.set_version(b""), Ok(()));
+        feed_all(&rt, &mut steps, rest, &mut taken);
+        let output: &[u8] = match count {
+            0..=6 => b"=1 An Engine\n\n=2\n\n",
+            7..=16 => b"=1 stepgo\n\n=2\n\n",
+            _ => b"=1 stepgo\n\n=2 1.0\n\n",
+        };
+        assert_equal_for(&rt, count, taken.as_slice(), output);
+    }
+}
+
+#[test]
+fn what_is_no_title_is_refused(rt: HostRuntime) {
+    let mut steps = Steps::new(KoRule::Simple);
+    let long = [b'x'; 201];
+    let bad: [&[u8]; 4] = [b"a\n\nb", b" a", b"a\x7f", &long];
+    for text in bad {
+        assert_equal(&rt, steps.set_name(text), Err(NoTitle));
+        assert_equal(&rt, steps.set_version(text), Err(NoTitle));
+    }
+    assert_replies(&rt, &mut steps, b"name", b"= stepgo");
+    assert_replies(&rt, &mut steps, b"version", b"= 1.0");
+    assert_equal(&rt, steps.set_version(&long[1..]), Ok(()));
+    assert_replies(&rt, &mut steps, b"name x", b"= stepgo");
+}

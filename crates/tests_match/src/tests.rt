@@ -1,0 +1,5 @@
+//! Tests of the controller, of processes and of worlds.
+
+mod controller;
+mod processes;
+mod worlds;

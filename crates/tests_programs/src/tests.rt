@@ -1,0 +1,8 @@
+//! Tests of the engine's and of the match's program, of the judge and the questions of a check, and of a check's texts,
+//! options and counts.
+
+mod check;
+mod engine;
+mod judge;
+mod questions;
+mod twogtp;

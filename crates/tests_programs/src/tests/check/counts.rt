@@ -1,0 +1,42 @@
+//! What was found and noted.
+use gtp_check_app::engine::Fault;
+use gtp_check_app::notes::Notes;
+use gtp_check_app::tally::Tally;
+use gtp_check_judge::Kind;
+use gtp_check_questions::Lesson;
+use std::test::Fail;
+use tests_asserts::assert_equal;
+
+#[test]
+fn three_of_a_kind_are_shown_in_a_lesson(rt: HostRuntime) -> Result<(), Fail> {
+    let mut tally = Tally::new(1);
+    let refused = Fault::Wrote(Kind::Refused);
+    let mut shown: u32 = 0;
+    for _time in 0..5u32 {
+        if tally.find(Lesson::Ko, refused) {
+            shown = shown.saturating_add(1);
+        }
+    }
+    assert_equal(&rt, shown, 3);
+    assert_equal(&rt, tally.hidden[2], 2);
+    assert_equal(
+        &rt,
+        tally.find(Lesson::Ko, Fault::Wrote(Kind::NoMove)),
+        true,
+    );
+    assert_equal(&rt, tally.find(Lesson::Komi, refused), true);
+    assert_equal(&rt, tally.complaints, 7);
+    assert_equal(&rt, tally.take_start(), true);
+    assert_equal(&rt, tally.take_start(), false);
+    Ok(())
+}
+
+#[test]
+fn starts_without_a_right_answer_are_counted(rt: HostRuntime) -> Result<(), Fail> {
+    let mut notes = Notes::new();
+    notes.start();
+    notes.start();
+    assert_equal(&rt, notes.fruitless, 2);
+    assert_equal(&rt, notes.has_answered, false);
+    Ok(())
+}

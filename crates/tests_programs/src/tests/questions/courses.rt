@@ -1,0 +1,223 @@
+//! Whole courses.
+use arrayvec::ArrayVec;
+use go_board::KoRule;
+use gtp_check_judge::{CheckCommand, Examiner, Known};
+use gtp_check_questions::{Action, Course, LESSONS, Lesson, Lessons};
+use gtp_session::first::First;
+use gtp_session::session::Session;
+use gtp_wire::{Command, Reply, ReplyText};
+use std::process::Abort;
+use tests_asserts::{assert_equal, assert_true};
+
+/// What an engine wrote that isn't heard yet: eight replies at most.
+type Written = ArrayVec<u8, 65536>;
+
+/// A check of our engine, in memory. It may refuse all sizes but one, and say that it has no `undo`.
+#[derive(Drop)]
+struct Talk {
+    only_size: Option<u32>,
+    has_undo: bool,
+    examiner: Examiner,
+    session: Session<First>,
+    written: Written,
+    starts: u32,
+    kills: u32,
+    asked: u32,
+    /// How many moves were asked in the lesson of each number.
+    moves: [u32; 13],
+}
+
+impl Talk {
+    fn new(only_size: Option<u32>, has_undo: bool) -> Talk {
+        Talk {
+            only_size,
+            has_undo,
+            examiner: Examiner::new(KoRule::Simple, 100),
+            session: Session::new(First),
+            written: Written::new(),
+            starts: 0,
+            kills: 0,
+            asked: 0,
+            moves: [0; 13],
+        }
+    }
+
+    /// A new engine.
+    fn start(&mut self, rt: &impl Abort) {
+        assert_true(rt, self.examiner.may_start());
+        self.examiner.started();
+        self.session = Session::new(First);
+        self.written.clear();
+        self.starts = self.starts.saturating_add(1);
+    }
+
+    /// All that the engine wrote is heard. Nothing is found.
+    fn hear(&mut self, rt: &impl Abort) {
+        let mut bytes = self.written.as_slice();
+        let mut reply = Reply::new();
+        for _piece in 0..65_536u32 {
+            if bytes.is_empty() {
+                break;
+            }
+            let heard = self.examiner.heard(bytes, &mut reply);
+            assert_true(rt, heard.finding.is_none());
+            bytes = bytes.get(heard.used..).unwrap_or_default();
+        }
+        self.written.clear();
+    }
+
+    /// What the engine answers in place of the session, if anything.
+    fn own_answer(&self, command: &CheckCommand) -> Option<(u8, &'static [u8])> {
+        match (command, self.only_size) {
+            (CheckCommand::Match(Command::Boardsize(size)), Some(only)) if size.get() != only => {
+                Some((b'?', b" unacceptable size\n\n"))
+            }
+            (CheckCommand::KnownCommand(Known::Undo), _) if !self.has_undo => {
+                Some((b'=', b" false\n\n"))
+            }
+            _ => None,
+        }
+    }
+
+    /// The engine is asked a command, and answers it.
+    fn ask(&mut self, rt: &impl Abort, command: CheckCommand) {
+        assert_true(rt, self.examiner.has_room(&command));
+        assert_true(
+            rt,
+            self.has_undo || command != CheckCommand::Match(Command::Undo),
+        );
+        let own = self.own_answer(&command);
+        let line = self.examiner.ask(command);
+        let mut text = ReplyText::new();
+        match own {
+            Some((status, words)) => {
+                let _ = text.try_push(status);
+                let id = line.iter().position(|byte| *byte == b' ').unwrap_or(0);
+                let _ = text.try_extend_from_slice(line.get(..id).unwrap_or_default());
+                let _ = text.try_extend_from_slice(words);
+            }
+            None => {
+                let _ = self.session.feed_into(&line, &mut text);
+            }
+        }
+        for byte in text.iter() {
+            let _ = self.written.try_push(*byte);
+        }
+        self.asked = self.asked.saturating_add(1);
+    }
+
+    /// The engine is ended without `quit`.
+    fn kill(&mut self) {
+        self.kills = self.kills.saturating_add(1);
+        self.examiner.lost();
+    }
+
+    /// A move that is asked in a lesson is counted.
+    fn count(&mut self, lesson: Option<Lesson>, command: &CheckCommand) {
+        let is_move = matches!(
+            command,
+            CheckCommand::Match(Command::Play(_) | Command::Genmove(_))
+        );
+        if let (Some(lesson), true) = (lesson, is_move) {
+            let number = lesson.number();
+            self.moves[number] = self.moves[number].saturating_add(1);
+        }
+    }
+
+    /// The engine is asked a command of a lesson.
+    fn ask_in(&mut self, rt: &impl Abort, lesson: Option<Lesson>, command: CheckCommand) {
+        self.count(lesson, &command);
+        self.ask(rt, command);
+    }
+
+    /// Does what a course says, until it is over.
+    fn hold(&mut self, rt: &impl Abort, course: &mut Course) {
+        for _call in 0..1_000_000u32 {
+            let lesson = course.lesson();
+            match course.next(&self.examiner) {
+                Action::Start => self.start(rt),
+                Action::Restart => self.examiner.lost(),
+                Action::Kill => self.kill(),
+                Action::Ask(command) => self.ask_in(rt, lesson, command),
+                Action::Wait => self.hear(rt),
+                Action::Skip => {}
+                Action::Done => break,
+            }
+        }
+        assert_true(rt, course.lesson().is_none());
+        self.hear(rt);
+    }
+}
+
+/// All lessons.
+fn all() -> Lessons {
+    let mut all = Lessons::new();
+    for lesson in LESSONS {
+        let _ = all.try_push(lesson);
+    }
+    all
+}
+
+#[test]
+fn nothing_is_found_of_our_engine(rt: HostRuntime) {
+    let mut talk = Talk::new(None, true);
+    let mut course = Course::new(all(), None, 1);
+    talk.hold(&rt, &mut course);
+    let _ = println!(rt; "{} commands, {} starts", talk.asked, talk.starts);
+    assert_true(&rt, talk.asked > 100_000);
+    assert_equal(&rt, talk.starts, 12);
+    assert_equal(&rt, talk.kills, 5);
+}
+
+#[test]
+fn an_engine_of_a_size_that_no_list_has_is_asked_all_lessons(rt: HostRuntime) {
+    let mut talk = Talk::new(Some(6), true);
+    let mut course = Course::new(all(), None, 1);
+    talk.hold(&rt, &mut course);
+    for moves in talk.moves {
+        assert_true(&rt, moves >= 8);
+    }
+    assert_equal(&rt, talk.kills, 1);
+}
+
+#[test]
+fn an_engine_of_one_size_is_asked_on_that_size(rt: HostRuntime) {
+    let mut talk = Talk::new(Some(19), true);
+    let mut course = Course::new(all(), None, 1);
+    talk.hold(&rt, &mut course);
+    let _ = println!(rt; "{} commands", talk.asked);
+    assert_true(&rt, talk.asked > 50_000);
+}
+
+#[test]
+fn an_engine_without_undo_is_not_asked_for_it(rt: HostRuntime) {
+    let mut talk = Talk::new(None, false);
+    let mut course = Course::new(all(), None, 1);
+    talk.hold(&rt, &mut course);
+    let _ = println!(rt; "{} commands", talk.asked);
+    assert_true(&rt, talk.asked > 20_000);
+}
+
+#[test]
+fn a_part_is_left_after_a_finding_and_a_lesson_after_ten(rt: HostRuntime) {
+    let mut lessons = Lessons::new();
+    let _ = lessons.try_push(Lesson::Handicaps);
+    let _ = lessons.try_push(Lesson::Komi);
+    let mut course = Course::new(lessons, None, 1);
+    for part in 0..10 {
+        assert_equal(&rt, course.lesson(), Some(Lesson::Handicaps));
+        assert_equal(&rt, course.place().part, part);
+        course.leave();
+    }
+    assert_equal(&rt, course.lesson(), Some(Lesson::Komi));
+    assert_equal(&rt, course.place().part, 0);
+}
+
+#[test]
+fn each_lesson_has_a_name_of_its_own(rt: HostRuntime) {
+    for (number, lesson) in LESSONS.iter().enumerate() {
+        for (other, another) in LESSONS.iter().enumerate() {
+            assert_equal(&rt, lesson.name() == another.name(), number == other);
+        }
+    }
+}

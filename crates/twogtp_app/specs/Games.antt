@@ -1,0 +1,172 @@
+-- What the program writes of its games.
+use Rattle.std.specs.Prelude.{◌≡◌, ◌≤◌, ◌⊎◌, ℕ, ◌+◌, Bool, true, false, List, [], ◌∷◌, ◌++◌, Option, None, Some}
+use Rattle.std.specs.Prelude.{Result, Ok, Err}
+use Rattle.go_base.specs.Bytes.{newline}
+use Rattle.clap.specs.Words.{Text}
+use Rattle.clap.specs.declared.error.kind.ErrorKind.{ErrorKind}
+use Rattle.go_board.specs.Show.{board_text}
+use Rattle.gtp_match.specs.declared.controller.Controller.{Controller}
+use Rattle.gtp_match.specs.declared.verdicts.Verdict.{Verdict}
+use Rattle.gtp_match.specs.ResultLine.{result_text, record_text}
+use Rattle.cli.specs.declared.failure.Failure.{Failure}
+use Rattle.cli.specs.declared.failure.Failure.TheVariants.{Write}
+use Rattle.twogtp_app.specs.declared.failure.Mistake.{Mistake}
+use Rattle.twogtp_app.specs.declared.options.Options.{Options}
+use Rattle.byte_streams.specs.declared.calls.WriteOnce.{Ghosts as WriterGhosts}
+use Rattle.twogtp_app.specs.declared.plan.Plan.{Plan}
+use Rattle.gtp_process.specs.declared.starter.Process.{Ghosts}
+use Rattle.twogtp_app.specs.declared.task.Task.{Task}
+use Rattle.twogtp_app.specs.Closing.{AreClosed}
+use Rattle.twogtp_app.specs.Options.{AsksFor, AsksForText, HasFault}
+use Rattle.twogtp_app.specs.Processes.{AreEnded}
+use Rattle.gtp_process.specs.Starts.{Attempts}
+use Rattle.cli.specs.Status.{IsRequest, done, own_failure}
+use Rattle.twogtp_app.specs.Status.{ReportsFailure, ReportsMistake, status_with}
+use Rattle.twogtp_app.specs.Tasks.{IsMistake, IsPlanOf}
+use Rattle.twogtp_app.specs.Turns.{GameState, HasStopped, IsPlayed, opening}
+use Rattle.byte_streams.specs.Writing.{BreaksAt, GoesOut, IsWritten}
+
+-- ---- the text of a game
+
+-- the record's line, where it is asked for
+abbrev pub record_part : Bool → Controller → List ℕ
+record_part false c = []
+record_part true c = record_text c.game ++ newline ∷ []
+
+-- the board and an empty line, where they are asked for
+abbrev pub board_part : Bool → Controller → List ℕ
+board_part false c = []
+board_part true c = board_text c.game ++ newline ∷ newline ∷ []
+
+-- the result line of a match that is over
+abbrev pub result_part : ℕ → Controller → Option Verdict → List ℕ
+result_part number c None = []
+result_part number c (Some verdict) = result_text number c verdict ++ newline ∷ []
+
+-- what is written of a game: its result line, and then the record and the board where they are asked for
+abbrev pub game_lines : Task → ℕ → Controller → List ℕ
+game_lines task number c = result_part number c c.verdict ++ (record_part task.record c ++ board_part task.show c)
+
+-- ---- the games of a plan
+
+-- the starts that were asked for, where they are known, and the stream on which turns are reported
+pub record Seen (P E : Type 0) : Type 0 where
+  pub asked : Attempts P
+  pub errors : E
+
+abbrev pub seen : {P E : Type 0} → Attempts P → E → Seen P E
+seen asked errors = record { asked = asked; errors = errors }
+
+module _ {P O E : Type 0} (known : Ghosts P) (outs : WriterGhosts O) (errs : WriterGhosts E) (plan : Plan) where
+  -- A game was played to its end, from its beginning without processes, and its text under this number went out. After
+  -- that its processes were closed.
+  pub record GameIsWritten (number : ℕ) (before after : O) (had has : Seen P E) (verdict : Verdict) : Type 0 where
+    pub last : GameState P
+    pub played : IsPlayed known errs plan.commands plan.task.why number
+        (opening plan.task.setup had.asked) had.errors last has.errors verdict
+    pub asked : last.asked ≡ has.asked
+    pub out : GoesOut outs (game_lines plan.task number last.game) before after
+    pub closed : AreClosed known last.game last.processes
+
+  -- Why the text of a game isn't written whole. The game stopped before its end, and the output stayed as it was. Or it
+  -- was played to its end, and the output broke at its text. Its processes were ended.
+  pub data GameIsNotWritten (number : ℕ) (before after : O) (had has : Seen P E) : Failure → Type 0 where
+    stopped : {last : GameState P} {failure : Failure}
+        → HasStopped known errs plan.commands plan.task.why number
+        (opening plan.task.setup had.asked) had.errors last has.errors failure
+        → last.asked ≡ has.asked → AreEnded known last.processes → after ≡ before
+        → GameIsNotWritten number before after had has failure
+    broke : {last : GameState P} {verdict : Verdict}
+        → IsPlayed known errs plan.commands plan.task.why number
+        (opening plan.task.setup had.asked) had.errors last has.errors verdict
+        → last.asked ≡ has.asked → AreEnded known last.processes
+        → BreaksAt outs (game_lines plan.task number last.game) before after
+        → GameIsNotWritten number before after had has Write
+
+  -- so a game ends: its text is written, or not
+  abbrev pub GameEnds : ℕ → O → O → Seen P E → Seen P E → Result Verdict Failure → Type 0
+  GameEnds number before after had has (Ok verdict) = GameIsWritten number before after had has verdict
+  GameEnds number before after had has (Err failure) = GameIsNotWritten number before after had has failure
+
+  -- This number of games was played with this status, one after another. The text of each went out in its turn.
+  pub data GamesAreWritten (first : O) (had : Seen P E) : ℕ → ℕ → O → Seen P E → Type 0 where
+    no_game : GamesAreWritten first had 0 done first had
+    game : {number status : ℕ} {before after : O} {between has : Seen P E} {verdict : Verdict}
+        → GamesAreWritten first had number status before between
+        → GameIsWritten (number + 1) before after between has verdict
+        → GamesAreWritten first had (number + 1) (status_with status verdict) after has
+
+  -- Some games were played and written. The next one isn't written whole: it stopped before its end, or it was played
+  -- to its end and the output broke at it. The failure says which, and nothing else was asked for.
+  pub record GamesHaveStopped (before after : O) (had has : Seen P E) (failure : Failure) : Type 0 where
+    pub number : ℕ
+    pub status : ℕ
+    pub within : number + 1 ≤ plan.task.games
+    pub mid : O
+    pub between : Seen P E
+    pub written : GamesAreWritten before had number status mid between
+    pub next : GameIsNotWritten (number + 1) mid after between has failure
+
+  -- so the games of a plan end: all of them were played and written, with this status, or some failure stopped them
+  abbrev pub GamesEnd : O → O → Seen P E → Seen P E → Result ℕ Failure → Type 0
+  GamesEnd before after had has (Ok status) = GamesAreWritten before had plan.task.games status after has
+  GamesEnd before after had has (Err failure) = GamesHaveStopped before after had has failure
+
+-- ---- what the words ask for was done
+
+-- the words have no mistake, and ask for this plan
+pub record AsksForPlan (words : List Text) (plan : Plan) : Type 0 where
+  pub options : Options
+  pub asked : AsksFor words options
+  pub come_to : IsPlanOf options plan
+
+module _ {P O E : Type 0} (known : Ghosts P) (outs : WriterGhosts O) (errs : WriterGhosts E) (words : List Text) where
+  -- all games that the words ask for were played and written, with this status
+  pub record HasDone (status : ℕ) (before after : O) (had has : Seen P E) : Type 0 where
+    pub plan : Plan
+    pub asks : AsksForPlan words plan
+    pub written : GamesAreWritten known outs errs plan before had plan.task.games status after has
+
+  -- Some games that the words ask for were played and written, until a failure. The failure is reported after the lines
+  -- of the turns.
+  pub record HasBegun (before after : O) (had has : Seen P E) : Type 0 where
+    pub plan : Plan
+    pub asks : AsksForPlan words plan
+    pub lines : E
+    pub failure : Failure
+    pub stopped : GamesHaveStopped known outs errs plan before after had (seen has.asked lines) failure
+    pub reported : ReportsFailure errs failure lines has.errors
+
+-- ---- texts that were asked for, and mistakes
+
+-- a text that was asked for went out with status 0, or the output broke at it with status 3
+abbrev pub IsShown : {O : Type 0} → WriterGhosts O → List ℕ → ℕ → O → O → Type 0
+IsShown outs text status before after =
+    ((status ≡ done) × GoesOut outs text before after) ⊎ ((status ≡ own_failure) × BreaksAt outs text before after)
+
+-- the words ask for the help or the version, and a text went out with status 0, or the output broke at it with 3
+pub record HasShown {O : Type 0} (outs : WriterGhosts O) (words : List Text) (status : ℕ) (before after : O)
+    : Type 0 where
+  pub asked : AsksForText words
+  pub text : List ℕ
+  pub shown : IsShown outs text status before after
+
+-- The options that the words ask for have a mistake. The first one is reported.
+pub record AsksWrongly {E : Type 0} (errs : WriterGhosts E) (words : List Text) (before after : E) : Type 0 where
+  pub options : Options
+  pub asked : AsksFor words options
+  pub what : Mistake
+  pub mistake : IsMistake options what
+  pub reported : ReportsMistake errs what before after
+
+-- The words have a mistake. One text is written.
+pub record IsRefusedByClap {E : Type 0} (errs : WriterGhosts E) (words : List Text) (before after : E) : Type 0 where
+  pub kind : ErrorKind
+  pub mistake : ¬ IsRequest kind
+  pub has : HasFault words kind
+  pub text : List ℕ
+  pub written : IsWritten errs text before after
+
+-- the words have a mistake, or what they ask for has one
+abbrev pub HasMistake : {E : Type 0} → WriterGhosts E → List Text → E → E → Type 0
+HasMistake errs words before after = IsRefusedByClap errs words before after ⊎ AsksWrongly errs words before after

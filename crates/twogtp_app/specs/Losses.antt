@@ -1,0 +1,108 @@
+-- What is written of a turn: a line for each `play` that is retaken in it, and one where a side fails. (Own.)
+use Rattle.std.specs.Prelude.{◌≡◌, ◌≢◌, ◌↔◌, ◌≤◌, ◌+◌, ◌*◌, ℕ, Bool, true, List, [], ◌++◌, length, All, Option, None}
+use Rattle.std.specs.Prelude.{Some}
+use Rattle.go_base.specs.declared.colours.Colour.{Colour}
+use Rattle.gtp_match.specs.declared.controller.Controller.{Controller}
+use Rattle.gtp_match.specs.declared.reports.Retake.{Retake}
+use Rattle.gtp_match.specs.declared.verdicts.Action.{Action}
+use Rattle.gtp_match.specs.declared.verdicts.Action.TheVariants.{Start, Send, Wait, Done}
+use Rattle.gtp_match.specs.Controller.{new}
+use Rattle.gtp_match.specs.Losing.{GoesDown, LosesSide}
+use Rattle.gtp_match.specs.Next.{next}
+use Rattle.gtp_match.specs.Retakes.{most_retakes, total_of}
+use Rattle.gtp_match.specs.Retaking.{IsOfLastMove}
+use Rattle.gtp_match.specs.Setup.{IsSetup, SetupRecord}
+use Rattle.gtp_match.specs.Sides.{side_of}
+use Rattle.gtp_match.specs.Sound.{IsSound}
+use Rattle.byte_streams.specs.declared.calls.WriteOnce.{Ghosts as WriterGhosts}
+use Rattle.twogtp_app.specs.declared.processes.Processes.{Processes}
+use Rattle.gtp_process.specs.declared.starter.Ending.{Ending}
+use Rattle.gtp_process.specs.declared.starter.Process.{Ghosts}
+use Rattle.twogtp_app.specs.declared.task.Commands.{Commands}
+use Rattle.twogtp_app.specs.declared.why.SideTurn.{SideTurn}
+use Rattle.twogtp_app.specs.declared.why.TurnLoss.{TurnLoss}
+use Rattle.gtp_process.specs.Starts.{Attempts}
+use Rattle.twogtp_app.specs.Turns.{GameState, IsTurn, Plays, not_yet, state, turns, turn_lines}
+use Rattle.twogtp_app.specs.Why.{loss_line, retake_line}
+
+-- the side whose turn it is
+abbrev pub turn_side : Action → Option Colour
+turn_side (Start side) = Some side
+turn_side (Send side) = Some side
+turn_side (Wait side) = Some side
+turn_side (Done verdict) = None
+
+-- A turn loses a side. A side that was to be started is down after it; or a side that was up is down; or by a new
+-- verdict a side forfeits or is unfit.
+pub data TurnLosesSide (c new : Controller) : Type 0 where
+  is_not_started : {side : Colour} → next c ≡ Start side → (side_of new.sides side).up ≡ None → TurnLosesSide c new
+  is_lost : LosesSide c new → TurnLosesSide c new
+
+-- The line of a retake, under this number of a game. The side that it names is the one whose turn it was. It refused
+-- the last move, which the other side made, and the count is what the move's number has after that.
+pub record IsRetakeLine (number : ℕ) (c new : Controller) (line : List ℕ) : Type 0 where
+  pub side : Colour
+  pub retake : Retake
+  pub is : line ≡ retake_line number side retake
+  pub of_turn : turn_side (next c) ≡ Some side
+  pub of_last : IsOfLastMove c new side retake
+
+-- the line of a loss, which names the side whose turn it was
+pub record IsLossLine (number : ℕ) (c : Controller) (line : List ℕ) : Type 0 where
+  pub side : Colour
+  pub loss : TurnLoss
+  pub ending : Ending
+  pub is : line ≡ loss_line number side loss ending
+  pub of_turn : turn_side (next c) ≡ Some side
+
+-- what is written of a turn
+pub record TurnIsReported (number : ℕ) (c new : Controller) (lines : List (List ℕ)) : Type 0 where
+  -- the lines of a retake, and after them those of a loss: one at most of each
+  pub retakes : List (List ℕ)
+  pub losses : List (List ℕ)
+  pub joined : lines ≡ retakes ++ losses
+  pub one_retake : length retakes ≤ 1
+  pub one_loss : length losses ≤ 1
+  -- there is one of a retake exactly where the match counts one
+  pub counted : IsSound c → total_of new.retakes ≡ total_of c.retakes + length retakes
+  pub each_retake : IsSound c → All (IsRetakeLine number c new) retakes
+  -- there is one of a loss exactly where the turn loses a side
+  pub exact : (losses ≢ []) ↔ TurnLosesSide c new
+  pub each_loss : All (IsLossLine number c) losses
+  -- a side that goes down is the one that the line names
+  pub named : (side : Colour) → GoesDown c new side → turn_side (next c) ≡ Some side
+
+-- So it is of each turn, where turns are reported.
+abbrev pub LossesHaveLines : {P : Type 0} → Ghosts P → Type 0
+LossesHaveLines {P} known =
+    (commands : Commands) (number : ℕ) (before after : GameState P) (turn : SideTurn)
+    → IsTurn known commands before after turn
+    → TurnIsReported number before.game after.game (turn_lines true number turn)
+
+-- ---- a whole game
+
+module _ {P E : Type 0} (known : Ghosts P) (errs : WriterGhosts E) where
+  -- how many lines were written of these turns
+  abbrev pub lines_written : (commands : Commands) (why : Bool) (number : ℕ) (first : GameState P) (had : E) (count : ℕ)
+      (last : GameState P) (has : E) → Plays known errs commands why number first had count last has → ℕ
+  lines_written commands why number first had _ _ _ not_yet = 0
+  lines_written commands why number first had _ _ _
+      (turns {count = count} {before = before} {between = between} turn plays is out) =
+      lines_written commands why number first had count before between plays + length (turn_lines why number turn)
+
+-- as many lines as this are few, after turns that led to this match
+pub record AreFew (setup : SetupRecord) (last : Controller) (lines : ℕ) : Type 0 where
+  -- one for each start of a side at most, and one for each retake
+  pub by_starts : lines ≤ (last.sides.black.starts + last.sides.white.starts) + total_of last.retakes
+  pub retakes : total_of last.retakes ≤ most_retakes * setup.max_moves
+  -- so the options alone limit them
+  pub by_setup : lines ≤ 2 * (setup.max_restarts + 1) + most_retakes * setup.max_moves
+
+-- The turns of a game have few lines, from its new match on, where they are reported.
+abbrev pub LinesAreFew : {P E : Type 0} → Ghosts P → WriterGhosts E → Type 0
+LinesAreFew {P} {E} known errs =
+    (commands : Commands) (number count : ℕ) (setup : SetupRecord) (processes : Processes P) (asked : Attempts P)
+    (last : GameState P) (had has : E) → IsSetup setup
+    → (plays : Plays known errs commands true number (state (new setup) processes asked) had count last has)
+    → AreFew setup last.game
+    (lines_written known errs commands true number (state (new setup) processes asked) had count last has plays)

@@ -1,0 +1,189 @@
+//! A game between two processes.
+ghost use Rattle.std.specs.Prelude.{◌≡◌, None, IfOk, OnErr};
+ghost use Rattle.gtp_match.specs.declared.verdicts.Action.TheVariants as action;
+ghost use Rattle.gtp_match.specs.Controller.{new};
+ghost use Rattle.gtp_match.specs.Next.{next};
+ghost use Rattle.twogtp_app.specs.Games.{GameEnds, seen};
+ghost use Rattle.twogtp_app.specs.Processes.{AreEnded, OtherStays, no_processes};
+ghost use Rattle.twogtp_app.specs.Turns.{Begins, IsRefused, TurnsEnd, state};
+ghost use Rattle.twogtp_app.specs.Why.{ReportCanBeShown};
+ghost use Rattle.twogtp_app.specs.private.Steps.{IsStep};
+
+use crate::plan::Plan;
+use crate::processes::Processes;
+use crate::reports::write_turn;
+use crate::speaking::{hear, send};
+use crate::task::Commands;
+use crate::why::{SideTurn, TurnLoss, TurnReport};
+use byte_streams::WriteOnce;
+use cli::failure::Failure;
+use go_base::Side;
+use gtp_match::{Action, Match, Setup, Verdict};
+use gtp_process::{READ_ROOM, StartFault, Starter, Unstarted, end};
+use std::alloc::AllocError;
+
+/// How many turns a game has at most. No match within the limits has this number.
+const MOST_TURNS: u64 = 1_000_000_000_000;
+
+/// A game that is played. It is not `Drop`: its processes have to be ended.
+pub struct GameInPlay<S: Starter> {
+    /// The match.
+    pub game: Match,
+    /// The processes of its sides.
+    pub processes: Processes<S::Process>,
+    /// The room for what is read of a process at once.
+    pub buffer: [u8; READ_ROOM],
+}
+
+/// What one round of a game's loop does.
+#[derive(Drop)]
+enum Step {
+    /// A turn was taken.
+    Taken(SideTurn),
+    /// The match is over.
+    Over(Verdict),
+}
+
+/// Plays a game of a plan, writes its text, and returns how it ended. The processes are closed once the text is written
+/// and flushed: only then is one sent `quit`. Each process that is started is ended, also after a failure.
+///
+/// # Errors
+///
+/// `OutOfMemory` where the start of a process was refused memory, `TooManyTurns`, `Write`.
+pub fn play_game<O: WriteOnce, E: WriteOnce, S: Starter>(
+    plan: &Plan<'_>,
+    number: u32,
+    output: &mut O,
+    errors: &mut E,
+    starter: &mut S,
+) -> Result<Verdict, Failure>
+    ensures { let had = seen (S.asked starter.old) errors.old in
+        let has = seen (S.asked starter.new) errors.new in
+        GameEnds S.Process.Process O.WriteOnce E.WriteOnce plan.now number output.old output.new
+        had has result }
+{
+    let mut played = GameInPlay::new(plan.task.setup);
+    match played.take_turns(plan, number, errors, starter) {
+        Ok(verdict) => {
+            let written = played.write(&plan.task, number, verdict, output)?;
+            Ok(written.close())
+        }
+        Err(failure) => {
+            played.end();
+            Err(failure)
+        }
+    }
+}
+
+impl<S: Starter> GameInPlay<S> {
+    /// A new match of this setup, without processes.
+    fn new(setup: Setup) -> Self
+        ensures game { result.game ≡ new setup }
+        ensures processes { result.processes ≡ no_processes }
+    {
+        GameInPlay {
+            game: Match::new(setup),
+            processes: Processes::none(),
+            buffer: [0u8; READ_ROOM],
+        }
+    }
+
+    /// Takes turns until the match is over. What is reported of a turn is written after it, under the game's number,
+    /// where the task asks for it.
+    fn take_turns<E: WriteOnce>(
+        &mut self,
+        plan: &Plan<'_>,
+        number: u32,
+        errors: &mut E,
+        starter: &mut S,
+    ) -> Result<Verdict, Failure>
+        ensures { let first = state self.old.game self.old.processes (S.asked starter.old) in
+            let last = state self.new.game self.new.processes (S.asked starter.new) in
+            TurnsEnd S.Process.Process E.WriteOnce plan.now.commands plan.now.task.why number
+            first errors.old last errors.new result }
+    {
+        for _turn in 0..MOST_TURNS {
+            match self.take_turn(&plan.commands, starter)? {
+                Step::Taken(turn) => write_turn(plan.task.why, number, &turn, errors)?,
+                Step::Over(verdict) => return Ok(verdict),
+            }
+        }
+        Err(Failure::TooManyTurns)
+    }
+
+    /// Does what comes next, and ends the process of the side whose turn it was, if the side is down then.
+    fn take_turn(&mut self, commands: &Commands<'_>, starter: &mut S) -> Result<Step, AllocError>
+        ensures step { let before = state self.old.game self.old.processes (S.asked starter.old) in
+            let after = state self.new.game self.new.processes (S.asked starter.new) in
+            IfOk result (IsStep S.Process.Process commands.now before after) }
+        ensures refused { OnErr result (IsRefused commands.now
+            (state self.old.game self.old.processes (S.asked starter.old))
+            (state self.new.game self.new.processes (S.asked starter.new))) }
+    {
+        let (side, report) = match self.game.next() {
+            Action::Start(side) => (side, self.start(side, commands, starter)?),
+            Action::Send(side) => {
+                let process = self.processes.process_mut(side);
+                (side, send(&mut self.game, side, process))
+            }
+            Action::Wait(side) => {
+                let process = self.processes.process_mut(side);
+                (side, hear(&mut self.game, side, process, &mut self.buffer))
+            }
+            Action::Done(verdict) => return Ok(Step::Over(verdict)),
+        };
+        let ending = self.processes.end_if_down(&self.game, side);
+        Ok(Step::Taken(SideTurn {
+            side,
+            report,
+            ending,
+        }))
+    }
+
+    /// Starts a side's process. One that can't be started counts as started and lost.
+    fn start(
+        &mut self,
+        side: Side,
+        commands: &Commands<'_>,
+        starter: &mut S,
+    ) -> Result<TurnReport, AllocError>
+        requires { next self.old.game ≡ action.Start side }
+        ensures begins { let before = state self.old.game self.old.processes (S.asked starter.old) in
+            let after = state self.new.game self.new.processes (S.asked starter.new) in
+            IfOk result (λ report.
+            Begins S.Process.Process commands.now side before after report.loss
+            × (report.retake ≡ None)) }
+        ensures shown { IfOk result ReportCanBeShown }
+        ensures rests { OtherStays side self.old.processes self.new.processes }
+        ensures refused { OnErr result (IsRefused commands.now
+            (state self.old.game self.old.processes (S.asked starter.old))
+            (state self.new.game self.new.processes (S.asked starter.new))) }
+    {
+        match starter.start(commands.of(side)) {
+            Ok(process) => {
+                self.game.started(side);
+                end(self.processes.replace(side, process));
+                Ok(TurnReport::only_loss(None))
+            }
+            Err(StartFault::NotStarted(reason)) => {
+                self.game.started(side);
+                self.game.lost(side);
+                let unstarted = Unstarted::new(commands.of(side), reason);
+                Ok(TurnReport::only_loss(Some(TurnLoss::NotStarted(unstarted))))
+            }
+            Err(StartFault::OutOfMemory) => Err(AllocError),
+        }
+    }
+
+    /// Ends the processes at once.
+    pub fn end(self)
+        ensures { AreEnded S.Process.Process self.processes }
+    {
+        let GameInPlay {
+            game: _,
+            processes,
+            buffer: _,
+        } = self;
+        processes.end();
+    }
+}

@@ -1,0 +1,311 @@
+//! The options of the command line.
+ghost use Rattle.std.specs.Prelude.{◌≡◌, ◌⊎◌, map, Some, None, false, IfOk, IfErr};
+ghost use Rattle.clap.specs.Walk.{rows_of};
+ghost use Rattle.clap.specs.Words.{app_of, found_of, kind_of, rule_of};
+ghost use Rattle.clap.specs.declared.error.kind.ErrorKind.TheVariants.{OutOfMemory};
+ghost use Rattle.twogtp_app.specs.Options.{Ask, AsksFor, HasFault, HasFlag, HasNumber, option_text};
+ghost use Rattle.twogtp_app.specs.Options.{command_line, program};
+ghost use Rattle.twogtp_app.specs.Options.{flag_rule, number_rule, option_rule, required_rule};
+ghost use Rattle.twogtp_app.specs.private.OptionRows.{rule_of_row, with_options};
+
+use clap::builder::ValueParser;
+use clap::{Arg, ArgAction, ArgMatches, Command, Error};
+use go_board::VERSION;
+use std::alloc::{AllocError, Global};
+use std::convert::AsStr;
+
+/// What the help says below the options: a game's line, the verdicts, the statuses, and an example.
+const AFTER_OPTIONS: &str = "\
+A game writes one line: game N: VERDICT moves M restarts RB RW
+M counts its moves, RB and RW the restarts of Black and of White.
+
+Verdicts:
+  B+4.5, W+0.5, 0       two passes; the score by area, every stone alive
+  B+R, W+R              the other side resigned
+  limit                 the game had as many moves as are allowed
+  B+F(CAUSE), W+F(..)   the other side forfeited; CAUSE is illegal move,
+                        no vertex, no move or refused play
+  unfit black, ..       this side refused the size, komi, the empty board or
+                        the handicap, or named other points
+  abandoned black, ..   this side could not be started, ended, broke, or
+                        wrote what is no reply, more often than allowed
+
+Status:
+  0  each game ended by a score, a resignation, the limit or a forfeit
+  1  some game was unfit or abandoned; the others were played all the same
+  2  the arguments have a mistake; nothing was started
+  3  the program could not go on: write fault, out of memory, too many turns
+
+Example:
+  twogtp --size 9 --black gtp_engine --white 'gtp_engine --policy random'
+
+More: man twogtp";
+
+/// What the command line asks for.
+#[derive(Clone, Copy)]
+pub struct Options<'a> {
+    /// The command of Black's engine, which is not split yet.
+    pub black: &'a str,
+    /// The command of White's engine.
+    pub white: &'a str,
+    /// The size of the board, 1 to 25.
+    pub size: u32,
+    /// The text of komi, which is not read yet.
+    pub komi: &'a str,
+    /// The number of handicap stones, 0 to 9.
+    pub handicap: u32,
+    /// How many games are played, 1 to 1,000.
+    pub games: u32,
+    /// The most moves of a game, 1 to 2,000.
+    pub max_moves: u32,
+    /// How often a side is started again at most, 0 to 1,000.
+    pub restarts: u32,
+    /// Whether the record is written.
+    pub record: bool,
+    /// Whether the board is written.
+    pub show: bool,
+    /// Whether it is written why a side failed.
+    pub why: bool,
+}
+
+/// An option of the command line.
+#[derive(Clone, Copy)]
+struct OptionRow<'a> {
+    /// The name that follows the two dashes.
+    name: &'a str,
+    /// What follows the name.
+    takes: Takes<'a>,
+    /// What the help says.
+    help: &'a str,
+}
+
+/// What an option takes.
+#[derive(Clone, Copy)]
+enum Takes<'a> {
+    /// The command of an engine, which has to be there.
+    Engine,
+    /// A komi; this one where the words don't say.
+    Komi(&'a str),
+    /// A whole number, from the first to the second; what the text spells where the words don't say.
+    Number(i64, i64, &'a str),
+    /// No value.
+    Nothing,
+}
+
+/// The options, in the order of the help.
+static OPTIONS: [OptionRow<'static>; 11] = [
+    OptionRow {
+        name: "black",
+        takes: Takes::Engine,
+        help: "Command of Black's engine, split at spaces",
+    },
+    OptionRow {
+        name: "white",
+        takes: Takes::Engine,
+        help: "Command of White's engine, split at spaces",
+    },
+    OptionRow {
+        name: "size",
+        takes: Takes::Number(1, 25, "19"),
+        help: "Size of the board, 1 to 25",
+    },
+    OptionRow {
+        name: "komi",
+        takes: Takes::Komi("6.5"),
+        help: "Komi, such as 6.5 or 7; a negative one is\nwritten --komi=-3.5",
+    },
+    OptionRow {
+        name: "handicap",
+        takes: Takes::Number(0, 9, "0"),
+        help: "Handicap stones: 0, or 2 to 9; on size 7 and even\n\
+            sizes 2 to 4; below size 7 none",
+    },
+    OptionRow {
+        name: "games",
+        takes: Takes::Number(1, 1000, "1"),
+        help: "Number of games, 1 to 1000",
+    },
+    OptionRow {
+        name: "max-moves",
+        takes: Takes::Number(1, 2000, "1000"),
+        help: "Most moves of a game, 1 to 2000",
+    },
+    OptionRow {
+        name: "restarts",
+        takes: Takes::Number(0, 1000, "2"),
+        help: "Restarts of a side in a game, 0 to 1000",
+    },
+    OptionRow {
+        name: "record",
+        takes: Takes::Nothing,
+        help: "Write the moves of each game",
+    },
+    OptionRow {
+        name: "show",
+        takes: Takes::Nothing,
+        help: "Write the last board of each game",
+    },
+    OptionRow {
+        name: "why",
+        takes: Takes::Nothing,
+        help: "Report on standard error why an engine is lost, and each\n\
+            refused move",
+    },
+];
+
+/// Reads the words of a command line, of which the first is the program's name. The error is a mistake in the words, a
+/// request for help or the version, or want of memory; its `Display` is the text for the user.
+pub fn read_options<'a, S: AsStr>(alloc: Global, words: &'a [S]) -> Result<Options<'a>, Error>
+    ensures asked { IfOk result (AsksFor (map S.text words.entry.now)) }
+    ensures fault { IfErr result (λ error. (kind_of error ≡ OutOfMemory)
+        ⊎ HasFault (map S.text words.entry.now) (kind_of error)) }
+{
+    let matches = command(alloc)?.try_get_matches_from(words)?;
+    Ok(options_of(&matches))
+}
+
+/// The options of a command line. The defaults here aren't met, since the command line has its own.
+fn options_of<'a>(matches: &ArgMatches<'a>) -> Options<'a>
+    ensures { Ask (rows_of (found_of matches.now)) result }
+{
+    Options {
+        black: text_at(matches, "black"),
+        white: text_at(matches, "white"),
+        size: number_at(matches, "size"),
+        komi: text_at(matches, "komi"),
+        handicap: number_at(matches, "handicap"),
+        games: number_at(matches, "games"),
+        max_moves: number_at(matches, "max-moves"),
+        restarts: number_at(matches, "restarts"),
+        record: flag_at(matches, "record"),
+        show: flag_at(matches, "show"),
+        why: flag_at(matches, "why"),
+    }
+}
+
+/// The text of an option.
+fn text_at<'a>(matches: &ArgMatches<'a>, name: &str) -> &'a str
+    ensures { result.now ≡ option_text name.now (rows_of (found_of matches.now)) }
+{
+    matches.get_str(name).unwrap_or("")
+}
+
+/// The number of an option.
+fn number_at(matches: &ArgMatches<'_>, name: &str) -> u32
+    ensures { HasNumber name.now (rows_of (found_of matches.now)) result }
+{
+    matches.get_one::<u32>(name).unwrap_or(0)
+}
+
+/// Whether a flag is used.
+fn flag_at(matches: &ArgMatches<'_>, name: &str) -> bool
+    ensures { HasFlag name.now (rows_of (found_of matches.now)) result }
+{
+    matches.get_flag(name)
+}
+
+/// The command line, with its help and its version.
+fn command<'a>(alloc: Global) -> Result<Command<'a>, AllocError>
+    ensures { IfOk result (λ command. app_of command ≡ command_line) }
+{
+    with_options(alloc, program(alloc)?, OPTIONS.as_slice())
+}
+
+/// The command line with no option yet.
+fn program<'a>(alloc: Global) -> Result<Command<'a>, AllocError>
+    ensures { IfOk result (λ command. app_of command ≡ program) }
+{
+    Command::new(alloc, "twogtp")
+        .version(VERSION)
+        .about("Plays two engines of the Go Text Protocol, version 2, against each other")
+        .after_help(AFTER_OPTIONS)
+        .bin_name("twogtp")
+}
+
+/// A command line, and the options of these rows after its own.
+fn with_options<'a>(
+    alloc: Global,
+    mut command: Command<'a>,
+    rows: &[OptionRow<'a>],
+) -> Result<Command<'a>, AllocError>
+    ensures { IfOk result (λ with. app_of with ≡ with_options (app_of command.entry) rows.now) }
+{
+    for row in rows {
+        command = command.arg(option(alloc, *row))?;
+    }
+    Ok(command)
+}
+
+/// The option of a row.
+fn option<'a>(alloc: Global, row: OptionRow<'a>) -> Arg<'a>
+    ensures rule { rule_of result ≡ rule_of_row row.entry }
+    ensures local { result.global ≡ false }
+{
+    match row.takes {
+        Takes::Engine => engine(alloc, row.name, row.help),
+        Takes::Komi(default) => komi(alloc, row.name, default, row.help),
+        Takes::Number(least, most, default) => number(
+            alloc,
+            row.name,
+            ValueParser::Signed(least, most),
+            default,
+            row.help,
+        ),
+        Takes::Nothing => flag(alloc, row.name, row.help),
+    }
+}
+
+/// An option that takes the command of an engine.
+fn engine<'a>(alloc: Global, name: &'a str, help: &'a str) -> Arg<'a>
+    ensures rule { rule_of result ≡ required_rule name.entry.now }
+    ensures local { result.global ≡ false }
+{
+    Arg::new(alloc, name)
+        .long(name)
+        .value_name("CMD")
+        .required(true)
+        .help(help)
+}
+
+/// An option that takes a komi.
+fn komi<'a>(alloc: Global, name: &'a str, default: &'a str, help: &'a str) -> Arg<'a>
+    ensures rule { rule_of result ≡ option_rule name.entry.now None default.entry.now }
+    ensures local { result.global ≡ false }
+{
+    Arg::new(alloc, name)
+        .long(name)
+        .value_name("K")
+        .default_value(default)
+        .help(help)
+}
+
+/// An option that takes a whole number.
+fn number<'a>(
+    alloc: Global,
+    name: &'a str,
+    parser: ValueParser<'a>,
+    default: &'a str,
+    help: &'a str,
+) -> Arg<'a>
+    ensures rule { rule_of result ≡
+        option_rule name.entry.now (Some parser.entry) default.entry.now }
+    ensures local { result.global ≡ false }
+{
+    Arg::new(alloc, name)
+        .long(name)
+        .value_name("N")
+        .value_parser(parser)
+        .default_value(default)
+        .help(help)
+}
+
+/// An option that takes no value.
+fn flag<'a>(alloc: Global, name: &'a str, help: &'a str) -> Arg<'a>
+    ensures rule { rule_of result ≡ flag_rule name.entry.now }
+    ensures local { result.global ≡ false }
+{
+    Arg::new(alloc, name)
+        .long(name)
+        .action(ArgAction::SetTrue)
+        .help(help)
+}

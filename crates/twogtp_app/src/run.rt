@@ -1,0 +1,189 @@
+//! The program, over any writers and any means to start processes.
+ghost use Rattle.std.specs.Prelude.{◌≡◌, ◌⊎◌, map, string_bytes};
+ghost use Rattle.std.specs.Prelude.{IfOk, IsErr, IsOkAnd, OnOk, OnErr};
+ghost use Rattle.twogtp_app.specs.Games.{GamesEnd, HasBegun, HasDone, HasMistake, HasShown, IsShown, seen};
+ghost use Rattle.twogtp_app.specs.Options.{IsWithoutWhy};
+ghost use Rattle.twogtp_app.specs.Status.{IsStatus, ReportsFailure, some_given_up, status_with};
+ghost use Rattle.cli.specs.Status.{IsRequest, done, own_failure, usage_failure};
+ghost use Rattle.byte_streams.specs.Writing.{BreaksAt, GoesOut, IsWritten};
+
+use crate::failure::NAME;
+use crate::game::play_game;
+use crate::options::read_options;
+use crate::plan::{Plan, plan_of};
+use byte_streams::{Broken, WriteOnce, write_or_break, write_text};
+use clap::error::ErrorKind;
+use cli::failure::Failure;
+use cli::words::is_request;
+use gtp_match::Verdict;
+use gtp_process::Starter;
+use std::alloc::{AllocError, Global};
+use std::convert::AsStr;
+
+/// Plays the games that the words of the command line ask for, the first of which is the program's name. Writes the
+/// text of each to `output`, and returns the status that the program ends with:
+///
+/// - 0 where each game ended by the rules, and where the words ask for help or the version, which goes to `output`;
+/// - 1 where in some game a side was unfit or given up;
+/// - 2 where the words have a mistake;
+/// - 3 where the output or a line of `--why` can't be written, memory was refused, or a game had too many turns.
+///
+/// What a status of 2 or 3 means is written to `errors`, and whether that can be written changes nothing.
+pub fn run<A: AsStr, O: WriteOnce, E: WriteOnce, S: Starter>(
+    alloc: Global,
+    words: &[A],
+    output: &mut O,
+    errors: &mut E,
+    starter: &mut S,
+) -> u8
+    ensures status { IsStatus result }
+    // After a mistake in the words nothing was started, and nothing was written to the output. Of
+    // the options the first mistake is reported on standard error.
+    ensures usage { result ≡ usage_failure →
+        HasMistake E.WriteOnce (map A.text words.now) errors.old errors.new
+        × (output.new ≡ output.old) × (starter.new ≡ starter.old) }
+    // Where the status is 0 or 1 and it isn't asked why engines fail, nothing is written to
+    // standard error.
+    ensures quiet { (result ≡ done) ⊎ (result ≡ some_given_up) → IsWithoutWhy (map A.text words.now)
+        → errors.new ≡ errors.old }
+    // All games of the task that the words ask for were played and written; or they ask for help or
+    // the version, that was written, and nothing was started.
+    ensures played { (result ≡ done) ⊎ (result ≡ some_given_up) →
+        ((starter.new ≡ starter.old)
+        × HasShown O.WriteOnce (map A.text words.now) result output.old output.new)
+        ⊎ HasDone S.Process.Process O.WriteOnce E.WriteOnce (map A.text words.now) result
+        output.old output.new
+        (seen (S.asked starter.old) errors.old) (seen (S.asked starter.new) errors.new) }
+    // What was written before the program had to stop is the beginning of the games' texts, or of
+    // the help or the version: then the output broke at it. Why it stopped is reported last on
+    // standard error. Memory that was refused before any game is the one cause that isn't seen here.
+    ensures stopped { result ≡ own_failure →
+        ((starter.new ≡ starter.old) × (output.new ≡ output.old)
+        × ReportsFailure E.WriteOnce Failure.OutOfMemory errors.old errors.new)
+        ⊎ ((starter.new ≡ starter.old)
+        × HasShown O.WriteOnce (map A.text words.now) result output.old output.new
+        × ReportsFailure E.WriteOnce Failure.Write errors.old errors.new)
+        ⊎ HasBegun S.Process.Process O.WriteOnce E.WriteOnce (map A.text words.now)
+        output.old output.new
+        (seen (S.asked starter.old) errors.old) (seen (S.asked starter.new) errors.new) }
+{
+    let options = match read_options(alloc, words) {
+        Ok(options) => options,
+        Err(error) => return answer_error(error.kind(), error.to_string(alloc), output, errors),
+    };
+    let plan = match plan_of(alloc, &options) {
+        Ok(plan) => plan,
+        Err(error) => return error.report(NAME, errors),
+    };
+    match play_games(&plan, output, errors, starter) {
+        Ok(status) => status,
+        Err(failure) => failure.report(NAME, errors),
+    }
+}
+
+/// Plays the games of a plan, and writes the text of each.
+fn play_games<O: WriteOnce, E: WriteOnce, S: Starter>(
+    plan: &Plan<'_>,
+    output: &mut O,
+    errors: &mut E,
+    starter: &mut S,
+) -> Result<u8, Failure>
+    ensures { let had = seen (S.asked starter.old) errors.old in
+        let has = seen (S.asked starter.new) errors.new in
+        GamesEnd S.Process.Process O.WriteOnce E.WriteOnce plan.now output.old output.new
+        had has result }
+{
+    let mut status = 0;
+    for index in 0..plan.task.games {
+        let verdict = play_game(plan, index + 1, output, errors, starter)?;
+        status = with_verdict(status, verdict);
+    }
+    Ok(status)
+}
+
+/// The status after one game more, that ended so.
+fn with_verdict(status: u8, verdict: Verdict) -> u8
+    ensures { result ≡ status_with status verdict }
+{
+    match verdict {
+        Verdict::Unfit(_) | Verdict::Abandoned(_) => 1,
+        Verdict::Score(_) | Verdict::Resign(_) | Verdict::Limit | Verdict::Forfeit(_, _) => status,
+    }
+}
+
+/// Writes what `clap` returns in place of options, an error of this kind with this text, and returns the status. Where
+/// memory was refused for the text, that is reported instead.
+fn answer_error<O: WriteOnce, E: WriteOnce>(
+    kind: ErrorKind,
+    text: Result<String, AllocError>,
+    output: &mut O,
+    errors: &mut E,
+) -> u8
+    ensures status { (result ≡ done) ⊎ (result ≡ usage_failure) ⊎ (result ≡ own_failure) }
+    ensures usage { result ≡ usage_failure → output.new ≡ output.old }
+    ensures quiet { result ≡ done → errors.new ≡ errors.old }
+    ensures mistake { result ≡ usage_failure → ¬ IsRequest kind }
+    ensures memory { kind ≡ ErrorKind.OutOfMemory → result ≡ own_failure }
+    // The text of a mistake is written, once.
+    ensures written { result ≡ usage_failure → IsOkAnd text (λ text.
+        IsWritten E.WriteOnce (string_bytes text) errors.old errors.new) }
+    // A text that was asked for was written once.
+    ensures shown { result ≡ done → IsRequest kind × IsOkAnd text (λ text.
+        GoesOut O.WriteOnce (string_bytes text) output.old output.new) }
+    // A mistake in the words is no failure of the program's own, unless memory was refused for its
+    // text.
+    ensures own { result ≡ own_failure →
+        (((kind ≡ ErrorKind.OutOfMemory) ⊎ IsErr text) × (output.new ≡ output.old)
+        × ReportsFailure E.WriteOnce Failure.OutOfMemory errors.old errors.new)
+        ⊎ (IsRequest kind
+        × IsOkAnd text (λ text. BreaksAt O.WriteOnce (string_bytes text) output.old output.new)
+        × ReportsFailure E.WriteOnce Failure.Write errors.old errors.new) }
+{
+    if kind == ErrorKind::OutOfMemory {
+        return Failure::OutOfMemory.report(NAME, errors);
+    }
+    if is_request(kind) {
+        show(text, output, errors)
+    } else {
+        write_mistake(text, errors)
+    }
+}
+
+/// Writes a text that was asked for, unless memory was refused for it, and returns the status.
+fn show<O: WriteOnce, E: WriteOnce>(
+    text: Result<String, AllocError>,
+    output: &mut O,
+    errors: &mut E,
+) -> u8
+    ensures written { IfOk text (λ text.
+        IsShown O.WriteOnce (string_bytes text) result output.old output.new) }
+    ensures quiet { result ≡ done → errors.new ≡ errors.old }
+    ensures broke { OnOk text
+        (result ≡ own_failure → ReportsFailure E.WriteOnce Failure.Write errors.old errors.new) }
+    ensures refused { OnErr text ((result ≡ own_failure) × (output.new ≡ output.old)
+        × ReportsFailure E.WriteOnce Failure.OutOfMemory errors.old errors.new) }
+{
+    match text {
+        Ok(text) => match write_text(output, text.as_bytes()) {
+            Ok(()) => 0,
+            Err(Broken) => Failure::Write.report(NAME, errors),
+        },
+        Err(AllocError) => Failure::OutOfMemory.report(NAME, errors),
+    }
+}
+
+/// Writes the text of a mistake in the words, unless memory was refused for it, and returns the status.
+fn write_mistake<E: WriteOnce>(text: Result<String, AllocError>, errors: &mut E) -> u8
+    ensures written { IfOk text (λ text. (result ≡ usage_failure)
+        × IsWritten E.WriteOnce (string_bytes text) errors.old errors.new) }
+    ensures refused { OnErr text ((result ≡ own_failure)
+        × ReportsFailure E.WriteOnce Failure.OutOfMemory errors.old errors.new) }
+{
+    match text {
+        Ok(text) => {
+            write_or_break(errors, text.as_bytes());
+            2
+        }
+        Err(AllocError) => Failure::OutOfMemory.report(NAME, errors),
+    }
+}

@@ -1,0 +1,57 @@
+//! What a side is sent at once.
+ghost use Rattle.std.specs.Prelude.{◌≡◌, ◌≢◌, ◌+◌, ◌≤◌, ◌++◌, true, false};
+ghost use Rattle.arrayvec.specs.ArrayVec.{array_vec_len};
+ghost use Rattle.gtp_match.specs.declared.verdicts.Action.TheVariants as action;
+ghost use Rattle.gtp_match.specs.Controller.{sent};
+ghost use Rattle.gtp_match.specs.Next.{next};
+ghost use Rattle.gtp_match.specs.Sound.{IsSound};
+ghost use Rattle.twogtp_app.specs.Speaking.{TakesAllCommands, command_text};
+
+use arrayvec::ArrayVec;
+use go_base::{Side, push};
+use gtp_match::{Action, MOST_UNANSWERED, Match};
+use gtp_wire::MOST_COMMAND_BYTES;
+
+/// The room for the bytes of all commands that a side may have unanswered.
+const TEXT_ROOM: usize = MOST_UNANSWERED * MOST_COMMAND_BYTES;
+
+/// The bytes of commands, joined.
+pub type CommandsText = ArrayVec<u8, TEXT_ROOM>;
+
+/// Counts as sent each command that comes next for a side, until something else comes next, and returns their bytes.
+pub fn take_commands(game: &mut Match, side: Side) -> CommandsText
+    ensures { TakesAllCommands game.old side result.items game.new }
+{
+    let mut text = ArrayVec::new();
+    for _number in 0..MOST_UNANSWERED {
+        if !is_to_send(game, side) {
+            return text;
+        }
+        push_command(&mut text, game, side);
+    }
+    text
+}
+
+/// Whether a command for this side comes next.
+fn is_to_send(game: &Match, side: Side) -> bool
+    ensures yes { result ≡ true → next game.now ≡ action.Send side }
+    ensures no { result ≡ false → next game.now ≢ action.Send side }
+    ensures sound { IsSound game.now }
+{
+    match (game.next(), side) {
+        (Action::Send(Side::Black), Side::Black) | (Action::Send(Side::White), Side::White) => true,
+        _ => false,
+    }
+}
+
+/// Counts the side's next command as sent, and appends its bytes.
+fn push_command(text: &mut CommandsText, game: &mut Match, side: Side)
+    requires next { next game.old ≡ action.Send side }
+    requires room { array_vec_len text.old + MOST_COMMAND_BYTES ≤ TEXT_ROOM }
+    ensures sent { game.new ≡ sent game.old side }
+    ensures text { text.new.items ≡ text.old.items ++ command_text game.old side }
+    ensures few { array_vec_len text.new ≤ array_vec_len text.old + MOST_COMMAND_BYTES }
+{
+    let command = game.send(side);
+    push(text, &command);
+}

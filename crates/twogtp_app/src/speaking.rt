@@ -1,0 +1,131 @@
+//! What a side's process is sent, and what is read of it, in a turn.
+ghost use Rattle.std.specs.Prelude.{◌≡◌, None, Option};
+ghost use Rattle.gtp_match.specs.declared.verdicts.Action.TheVariants as action;
+ghost use Rattle.gtp_match.specs.declared.verdicts.SideFault.{SideFault};
+ghost use Rattle.gtp_match.specs.Controller.{lost};
+ghost use Rattle.gtp_match.specs.Hearing.{HearsAllExactly};
+ghost use Rattle.gtp_match.specs.Next.{next};
+ghost use Rattle.gtp_match.specs.Sides.{side_of, status_of};
+ghost use Rattle.twogtp_app.specs.Speaking.{AreSent, HearsFromSide, IsHeard, ReportedBy, SendsToSide, cut_off};
+ghost use Rattle.twogtp_app.specs.Why.{ReportCanBeShown, only_loss};
+ghost use Rattle.twogtp_app.specs.private.Several.{has_several_unanswered};
+
+use crate::sending::take_commands;
+use crate::why::{TurnLoss, TurnReport};
+use go_base::Side;
+use gtp_match::{Match, Report, Status};
+use gtp_process::{CutOff, PipeCause, Process, READ_ROOM, read_some, write_whole};
+
+/// Sends a side its commands: all that come next for it. A side that has no process fails. It returns why it failed,
+/// if it did.
+pub fn send<P: Process>(game: &mut Match, side: Side, process: &mut Option<P>) -> TurnReport
+    requires { next game.old ≡ action.Send side }
+    ensures sends { SendsToSide P.Process game.old side process.old process.new game.new
+        result.loss }
+    ensures retake { result.retake ≡ None }
+    ensures shown { ReportCanBeShown result }
+{
+    match process {
+        Some(process) => send_to(game, side, process),
+        None => {
+            // Its bytes go nowhere: there is no process to take them.
+            let _ = game.send(side);
+            cut_off(game, side, PipeCause::Writing)
+        }
+    }
+}
+
+/// Writes a side's commands to its process, in one text. A side that is cut off fails.
+fn send_to<P: Process>(game: &mut Match, side: Side, process: &mut P) -> TurnReport
+    ensures sent { AreSent P.Process game.old side process.old process.new game.new result.loss }
+    ensures retake { result.retake ≡ None }
+    ensures shown { ReportCanBeShown result }
+{
+    let text = take_commands(game, side);
+    match write_whole(process, text.as_slice()) {
+        Ok(()) => TurnReport::only_loss(None),
+        Err(CutOff) => cut_off(game, side, PipeCause::Writing),
+    }
+}
+
+/// Hears what a side writes. A side that has no process fails. It returns what is reported of that.
+pub fn hear<P: Process>(
+    game: &mut Match,
+    side: Side,
+    process: &mut Option<P>,
+    buffer: &mut [u8; READ_ROOM],
+) -> TurnReport
+    requires { next game.old ≡ action.Wait side }
+    ensures hears { HearsFromSide P.Process game.old side process.old process.new
+        game.new result }
+    ensures shown { ReportCanBeShown result }
+{
+    match process {
+        Some(process) => hear_from(game, side, process, buffer),
+        None => cut_off(game, side, PipeCause::Reading),
+    }
+}
+
+/// Reads once, and hears all that the process wrote, before anything else is done. A side whose stream has ended or
+/// that is cut off fails. A process that has several commands to answer may run first.
+fn hear_from<P: Process>(
+    game: &mut Match,
+    side: Side,
+    process: &mut P,
+    buffer: &mut [u8; READ_ROOM],
+) -> TurnReport
+    ensures heard { IsHeard P.Process game.old side process.old process.new
+        game.new result }
+    ensures shown { ReportCanBeShown result }
+{
+    if has_several_unanswered(game, side) {
+        process.go_first();
+    }
+    match read_some(process, buffer) {
+        Ok(0) => cut_off(game, side, PipeCause::Ended),
+        Ok(count) => hear_bytes(game, side, &buffer[..count]),
+        Err(CutOff) => cut_off(game, side, PipeCause::Reading),
+    }
+}
+
+/// Hears the bytes of a side, all of them, and returns what is reported of them: the `play` that is retaken, and why
+/// the side failed by them.
+fn hear_bytes(game: &mut Match, side: Side, bytes: &[u8]) -> TurnReport
+    ensures heard { (fault : Option SideFault)
+        × HearsAllExactly side game.old bytes.now fault game.new }
+    ensures reported { ReportedBy side game.old bytes.now game.new result }
+    ensures shown { ReportCanBeShown result }
+{
+    let Report { retake, loss } = game.hear_reporting(side, bytes);
+    TurnReport {
+        retake,
+        loss: match loss {
+            Some(loss) => Some(TurnLoss::Wrote(loss)),
+            None => None,
+        },
+    }
+}
+
+/// A side is cut off, and so fails. It returns why, with what the side owed; nothing else is reported.
+fn cut_off(game: &mut Match, side: Side, cause: PipeCause) -> TurnReport
+    ensures lost { game.new ≡ lost game.old side }
+    ensures report { result ≡ only_loss (cut_off cause game.old side) }
+    ensures shown { ReportCanBeShown result }
+{
+    let owed = game.owed(side);
+    game.lost(side);
+    TurnReport::only_loss(match owed {
+        Some(owed) => Some(TurnLoss::CutOff(cause, owed)),
+        None => None,
+    })
+}
+
+/// Whether a side is up and has more than one unanswered command.
+fn has_several_unanswered(game: &Match, side: Side) -> bool
+    ensures { result ≡ has_several_unanswered (status_of (side_of game.now.sides side).up) }
+{
+    match game.status(side) {
+        Status::Up { unanswered, .. } => unanswered > 1,
+        Status::Down => false,
+    }
+}
