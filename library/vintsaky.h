@@ -1,4 +1,4 @@
-/* vintsaky.h: the rules of Go, the referee of a match and the engine of the Go Text Protocol, as a library.
+/* vintsaky.h: the rules of Go, the controller of a match and the engine of the Go Text Protocol, as a library.
  *
  * Each object lies in memory that the caller gives: as many bytes and the alignment that its _bytes and _align return. The memory is
  * the object's alone and stays where it is, and so does the handle, as long as it is used. A handle isn't copied. An object is placed

@@ -20,7 +20,7 @@ CALLS = [TOP / "tests/library_c.d" / f"{name}.c" for name in ("draw", "calls", "
 # forks may hang in the child, where it has the C library as a shared one.
 IN_C = [
     ("random_engine", [TOP / "library/examples/random_engine.c"], "libvintsaky.so", []),
-    ("referee", [TOP / "library/examples/referee.c"], "libvintsaky.a", ["-static"]),
+    ("play_match", [TOP / "library/examples/play_match.c"], "libvintsaky.a", ["-static"]),
     ("draw", CALLS, "libvintsaky.a", []),
     ("draw_shared", CALLS, "libvintsaky.so", []),
     ("room", [Path(__file__).with_name("room.c")], "libvintsaky.a", []),

@@ -18,11 +18,11 @@ def conversations(seed, count):
 
 
 def games(seed, count):
-    """So many games between engines of ours, of which the example referee is the controller."""
+    """So many games between engines of ours, of which the library's example is the controller."""
     for number in range(1, count + 1):
         r = random.Random(f"{seed} {number}")
         engines = [matches.right_engine(r) if r.random() < 0.7 else f"./random_engine {r.randint(0, 9999)}" for _ in range(2)]
-        yield Trial(f"game {number} of seed {seed}", "referee", [str(r.choice(SIZES)), str(r.choice(KOMIS)), *engines])
+        yield Trial(f"game {number} of seed {seed}", "play_match", [str(r.choice(SIZES)), str(r.choice(KOMIS)), *engines])
 
 
 def calls(seed, count):

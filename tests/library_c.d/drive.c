@@ -1,5 +1,5 @@
 /* Which call is made next, and on which objects: one that is drawn, or the right one for an object that is driven on. A match that is
- * driven goes on as a referee would. A game or an engine is filled with passes until its record has no room, or an engine plays on 2x2. */
+ * driven goes on as a controller would. A game or an engine is filled with passes until its record has no room, or an engine plays on 2x2. */
 #include "draw.h"
 #include <stdlib.h>
 #include <string.h>

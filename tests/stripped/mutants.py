@@ -168,10 +168,10 @@ class Probes:
         """What the example of an engine in C writes, which asks for all legal points."""
         return self.example(folder, "random_engine", ["7"], "boardsize 19\n" + "genmove b\ngenmove w\n" * 40 + "showboard\n")
 
-    def referee(self, folder):
-        """What the example of a referee in C writes of a match."""
+    def play_match(self, folder):
+        """What the example of a match in C writes of a match."""
         engine = str(self.proved / "gtp_engine")
-        return self.example(folder, "referee", ["5", "1", engine, engine], "")
+        return self.example(folder, "play_match", ["5", "1", engine, engine], "")
 
     def example(self, folder, name, words, text):
         """What an example writes that is linked with a build's library."""
@@ -216,7 +216,7 @@ class Planted:
 
     def build(self, probe):
         """Builds what a probe runs. Returns what cargo says where it can't be built."""
-        packages = ["vintsaky_c"] if probe in ("library", "referee") else ["twogtp", "gtp_engine"]
+        packages = ["vintsaky_c"] if probe in ("library", "play_match") else ["twogtp", "gtp_engine"]
         words = [word for name in packages for word in ("-p", name)]
         status, said = cargo("build", "--profile", "planted", "--quiet", *words, workspace=self.workspace)
         return said if status else ""

@@ -1,5 +1,5 @@
-//! What the program `twogtp` does: matches between two engines that speak the Go Text Protocol, version 2. Here are their
-//! options, their turns and their lines; `gtp_match` is the controller.
+//! What the program `twogtp` does: matches between two engines that speak the Go Text Protocol, version 2. Here are
+//! their options, their turns and their lines; `gtp_match` is the controller.
 //!
 //! [`run::run`] plays them all. The program calls it with the arguments, the standard streams and the system's
 //! processes.

@@ -4,8 +4,8 @@ use denote.Ref.{MutBor}
 use denote.Follow.{follows}
 use Rattle.gtp_match.specs.declared.controller.Controller.{Controller}
 use Rattle.gtp_match.specs.contracts.matches.Match.{the_row as match_row}
-use Rattle.vintsaky.specs.declared.referee.handle.MatchHandle.{MatchHandle}
-use Rattle.vintsaky.specs.contracts.referee.handle.MatchHandle.{the_row}
+use Rattle.vintsaky.specs.declared.matches.handle.MatchHandle.{MatchHandle}
+use Rattle.vintsaky.specs.contracts.matches.handle.MatchHandle.{the_row}
 
 -- the handle with another value
 abbrev pub with_match : MatchHandle → Controller → MatchHandle

@@ -8,7 +8,7 @@ pub mod engine;
 pub mod game;
 pub mod library;
 pub mod lines;
-pub mod referee;
+pub mod matches;
 pub mod replies;
 pub mod values;
 pub mod writing;

@@ -1,5 +1,6 @@
 -- The calls of a game.
-use Rattle.std.specs.Prelude.{◌≡◌, ◌≢◌, ℕ, ℤ, ◌<◌, ◌≤◌, List, [], ◌++◌, length, map, drop, Option, Some, None, slice_get}
+use Rattle.std.specs.Prelude.{◌≡◌, ◌≢◌, ℕ, ℤ, ◌<◌, ◌≤◌, List, [], ◌++◌, length, map, drop, Option, Some, None}
+use Rattle.std.specs.Prelude.{slice_get}
 use Rattle.go_base.specs.Handicap.{AllowsHandicap}
 use Rattle.go_base.specs.Komi.{IsKomi}
 use Rattle.go_base.specs.Point.{IsOn}

@@ -5,7 +5,8 @@ ghost use Rattle.gtp_session.specs.declared.events.Event.{Event};
 ghost use Rattle.vintsaky_calls.specs.declared.causes.Cause.TheVariants as cause;
 ghost use Rattle.vintsaky_calls.specs.Codes.{NoRule, choice_cause, answer_cause, command_cause};
 ghost use Rattle.vintsaky_calls.specs.Engines.{BeginsEngine, Feeds, event_code, wait_code, ChoosesBy, RefusesNumber};
-ghost use Rattle.vintsaky_calls.specs.Engines.{is_success, RefusesText, RefusesCommand, PutsWord, LacksWord, HasId, LacksId};
+ghost use Rattle.vintsaky_calls.specs.Engines.{is_success, RefusesText, RefusesCommand, PutsWord, LacksWord, HasId};
+ghost use Rattle.vintsaky_calls.specs.Engines.{LacksId};
 ghost use Rattle.vintsaky_calls.specs.Engines.{IsChoiceOf, NoChoice};
 ghost use Rattle.vintsaky_calls.specs.Texts.{Puts};
 

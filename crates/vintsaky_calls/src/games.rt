@@ -7,7 +7,8 @@ ghost use Rattle.vintsaky_calls.specs.declared.causes.Cause.TheVariants as cause
 ghost use Rattle.vintsaky_calls.specs.Codes.{NoColour, rule_code};
 ghost use Rattle.vintsaky_calls.specs.Games.{Begins, RefusesToBegin, Makes, RefusesMove, IsPlay, IsIllegal};
 ghost use Rattle.vintsaky_calls.specs.Games.{PlacesHandicap, RefusesStones, ListsLegal, ListsTaken, PutsPoints};
-ghost use Rattle.vintsaky_calls.specs.Games.{IsPointOn, RefusesPointCode, HasAt, HasChain, RefusesChain, HasMove, HasCaptured};
+ghost use Rattle.vintsaky_calls.specs.Games.{IsPointOn, RefusesPointCode, HasAt, HasChain, RefusesChain, HasMove};
+ghost use Rattle.vintsaky_calls.specs.Games.{HasCaptured};
 ghost use Rattle.vintsaky_calls.specs.Texts.{Puts};
 
 use crate::causes::Cause;

@@ -3,7 +3,8 @@ ghost use Rattle.std.specs.Prelude.{◌≡◌, ◌⊎◌, [], OnOk, OnErr, IfOk,
 ghost use Rattle.gtp_wire.specs.Lines.{ReadsLine};
 ghost use Rattle.gtp_wire.specs.declared.lines.Line.TheVariants as line;
 ghost use Rattle.vintsaky_calls.specs.declared.causes.Cause.TheVariants as cause;
-ghost use Rattle.vintsaky_calls.specs.Lines.{line_code, line_unless, PutsLineWord, LacksLineWord, HasLineId, LacksLineId};
+ghost use Rattle.vintsaky_calls.specs.Lines.{line_code, line_unless, PutsLineWord, LacksLineWord, HasLineId};
+ghost use Rattle.vintsaky_calls.specs.Lines.{LacksLineId};
 
 use crate::causes::Cause;
 use crate::texts::put;

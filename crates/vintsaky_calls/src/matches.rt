@@ -1,4 +1,4 @@
-//! The calls of a match: the referee between two engines.
+//! The calls of a match: the controller between two engines.
 ghost use Rattle.std.specs.Prelude.{◌≡◌, length, Option, Some, None, MatchOption, OnOk, OnErr, IfErr};
 ghost use Rattle.gtp_match.specs.Controller.{lost, in_step};
 ghost use Rattle.gtp_match.specs.Losing.{owed};
@@ -12,7 +12,8 @@ ghost use Rattle.gtp_match.specs.declared.losses.Loss.{Loss};
 ghost use Rattle.gtp_match.specs.declared.reports.Retake.{Retake};
 ghost use Rattle.vintsaky_calls.specs.declared.causes.Cause.TheVariants as cause;
 ghost use Rattle.vintsaky_calls.specs.Codes.{NoColour};
-ghost use Rattle.vintsaky_calls.specs.Matches.{BeginsMatch, RefusesMatch, action_code, action_side, Starts, RefusesStart};
+ghost use Rattle.vintsaky_calls.specs.Matches.{BeginsMatch, RefusesMatch, action_code, action_side, Starts};
+ghost use Rattle.vintsaky_calls.specs.Matches.{RefusesStart};
 ghost use Rattle.vintsaky_calls.specs.Matches.{Sends, RefusesSend, Hears, IsSide, bool_code, PutsResult};
 ghost use Rattle.vintsaky_calls.specs.Matches.{HearsReport, loss_code, retake_code, reported_owed, PutsOwed, LacksOwed};
 ghost use Rattle.vintsaky_calls.specs.Matches.{HasStatus, LacksStatus, maybe_side_code, EndsAs};

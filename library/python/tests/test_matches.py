@@ -1,4 +1,4 @@
-"""The referee. What is wanted comes from the rules of a match: what is next, what a reply does, how a match ends."""
+"""The controller. What is wanted comes from the rules of a match: what is next, what a reply does, how a match ends."""
 import dataclasses
 import unittest
 

@@ -1,4 +1,4 @@
-"""The rules of Go, the referee of a match and the engine of the Go Text Protocol (GTP), over the library libvintsaky.
+"""The rules of Go, the controller of a match and the engine of the Go Text Protocol (GTP), over the library libvintsaky.
 
 This is an engine of one's own, which `twogtp --black 'python3 engine.py'` plays, say:
 
@@ -15,7 +15,7 @@ This is an engine of one's own, which `twogtp --black 'python3 engine.py'` plays
 
     MyEngine().serve()
 
-`Game` has the rules, `Match` is the referee of a match, `Engine` an engine, and `Steps` one in steps. `CommandLines`
+`Game` has the rules, `Match` is the controller of a match, `Engine` an engine, and `Steps` one in steps. `CommandLines`
 and `Replies` read the protocol's lines in any cuts; `write_command` and `write_reply` write them.
 
 - A call that is refused raises `Refused`, a ValueError whose `cause` says why, and has changed nothing.

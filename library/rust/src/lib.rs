@@ -1,8 +1,8 @@
-//! The rules of Go, the referee of a match, and engines of the Go Text Protocol (GTP), over crates that are proved.
+//! The rules of Go, the controller of a match, and engines of the Go Text Protocol (GTP), over crates that are proved.
 //!
 //! - [`Game`] has the rules: moves, legality, undo, captures and the score.
 //! - [`serve`] and [`Player`] make an engine of whoever chooses moves. [`Engine`] is the same in steps.
-//! - [`Match`] is the referee between two engines.
+//! - [`Match`] is the controller between two engines.
 //! - [`CommandLines`] and [`Replies`] read the protocol's lines; [`Command`] and [`reply`] write them.
 //!
 //! An engine that plays the first legal point:
@@ -32,7 +32,7 @@ mod game;
 mod outcomes;
 mod player;
 mod readers;
-mod referee;
+mod matches;
 mod refusal;
 mod texts;
 mod values;
@@ -43,7 +43,7 @@ pub use game::{Chain, Game};
 pub use outcomes::{Action, Loss, Owed, Report, Status, Verdict};
 pub use player::{Player, ServeError, serve};
 pub use readers::{CommandLines, LineEvent, Replies, ReplyEvent};
-pub use referee::{Match, Setup};
+pub use matches::{Match, Setup};
 pub use refusal::Refusal;
 pub use values::{Choice, Colour, KoRule, Komi, Move, Point, Score, Vertex};
 pub use writers::{Command, reply};

@@ -1,4 +1,4 @@
-//! The referee of a match. What is expected is what the pages of the controller say.
+//! The controller of a match. What is expected is what the pages of the controller say.
 
 use vintsaky::{Action, Colour, Loss, Match, Refusal, Setup, Verdict};
 

@@ -1,5 +1,12 @@
 -- `vintsaky_replies_place` meets its contract: a fresh replies is written into the room, and then its handle.
-use Rattle.vintsaky.proofs.Steps.{◌≡◌, List, [], ◌∷◌, refl, proved, full_share, id⊢, ftrue, fsep, Val, vptr, vunit, tables, fact, ‵, raw, ◌⊛◌, some, later, prop, ◌$◌, ◌∵◌, !, qed, done, move, drop, use1, use2, split, join, fsplit, fjoin, fpack, feq_i, pick, await, rewrite, regoal, suffices, group, enter, of_opd, unit_lit, stop, no_more, and_then, assigns, returns, alloc_all, pass_all, free_all, look_at, get, through, sets, lands_as, yes, shows, part_at, Ptr, RawPtr, block_ptr, room_at, in_a_block, rawptr_vals, rawptr_Tells, plain, nothing, peeks, heard, Struct, shape, Stays, walk_of, stay_dropped, Goes-dropped, ends_at}
+use Rattle.vintsaky.proofs.Steps.{◌≡◌, List, [], ◌∷◌, refl, proved, full_share, id⊢, ftrue, fsep, Val, vptr, vunit}
+use Rattle.vintsaky.proofs.Steps.{tables, fact, ‵, raw, ◌⊛◌, some, later, prop, ◌$◌, ◌∵◌, !, qed, done, move, drop}
+use Rattle.vintsaky.proofs.Steps.{use1, use2, split, join, fsplit, fjoin, fpack, feq_i, pick, await, rewrite, regoal}
+use Rattle.vintsaky.proofs.Steps.{suffices, group, enter, of_opd, unit_lit, stop, no_more, and_then, assigns, returns}
+use Rattle.vintsaky.proofs.Steps.{alloc_all, pass_all, free_all, look_at, get, through, sets, lands_as, yes, shows}
+use Rattle.vintsaky.proofs.Steps.{part_at, Ptr, RawPtr, block_ptr, room_at, in_a_block, rawptr_vals, rawptr_Tells}
+use Rattle.vintsaky.proofs.Steps.{plain, nothing, peeks, heard, Struct, shape, Stays, walk_of, stay_dropped}
+use Rattle.vintsaky.proofs.Steps.{Goes-dropped, ends_at}
 use Rattle.std.proofs.Common.{◌++◌}
 use borrow.Table.OneValue.{part_in}
 use denote.RattleType.{Valss}

@@ -1,5 +1,13 @@
 -- `lend` meets its contract: the game behind the pointer is lent, and the handle follows it.
-use Rattle.vintsaky.proofs.Steps.{◌≡◌, ℕ, List, [], ◌∷◌, refl, sym, ap, ◌∙◌, proved, after, Ura, full_share, id⊢, ent, sep, Fml, GName, ftrue, flft, fsep, named, Val, vptr, tables, Logic, sem, ‵, ◌⊛◌, some, later, at_ret, ◌$◌, ◌∵◌, !, qed, done, move, keep, use1, split, join, fsplit, fsplit3, fjoin, fpack, pick, await, rewrite, suffices, frame, group, whole, sub, look_in, enter, of_opd, addr, load, stop, fld, first, blocks, exec, returns, alloc_all, pass_all, free_all, look_at, get, through, sets, sets_last, env, no, shows, mem, cell_at, Ptr, block_ptr, lies_at, in_a_block, MutRef, mut_vals, mut_Tells, plain, mut_ref_to, nothing, opens, peeks, follows, lends_Part, Struct, shape, Stays, walk_of, says, stay_dropped, Goes-spent_ref, ends_at}
+use Rattle.vintsaky.proofs.Steps.{◌≡◌, ℕ, List, [], ◌∷◌, refl, sym, ap, ◌∙◌, proved, after, Ura, full_share, id⊢, ent}
+use Rattle.vintsaky.proofs.Steps.{sep, Fml, GName, ftrue, flft, fsep, named, Val, vptr, tables, Logic, sem, ‵, ◌⊛◌}
+use Rattle.vintsaky.proofs.Steps.{some, later, at_ret, ◌$◌, ◌∵◌, !, qed, done, move, keep, use1, split, join, fsplit}
+use Rattle.vintsaky.proofs.Steps.{fsplit3, fjoin, fpack, pick, await, rewrite, suffices, frame, group, whole, sub}
+use Rattle.vintsaky.proofs.Steps.{look_in, enter, of_opd, addr, load, stop, fld, first, blocks, exec, returns}
+use Rattle.vintsaky.proofs.Steps.{alloc_all, pass_all, free_all, look_at, get, through, sets, sets_last, env, no, shows}
+use Rattle.vintsaky.proofs.Steps.{mem, cell_at, Ptr, block_ptr, lies_at, in_a_block, MutRef, mut_vals, mut_Tells, plain}
+use Rattle.vintsaky.proofs.Steps.{mut_ref_to, nothing, opens, peeks, follows, lends_Part, Struct, shape, Stays, walk_of}
+use Rattle.vintsaky.proofs.Steps.{says, stay_dropped, Goes-spent_ref, ends_at}
 use types.Kit.{split3}
 use denote.Memory.{part_of}
 use Rattle.go_board.specs.Game.{GameRecord}

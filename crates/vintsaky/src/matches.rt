@@ -1,4 +1,4 @@
-//! The referee of a match, for callers in other languages.
+//! The controller of a match, for callers in other languages.
 
 pub mod exports;
 pub mod handle;

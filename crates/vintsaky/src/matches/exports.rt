@@ -14,7 +14,8 @@ ghost use Rattle.gtp_match.specs.declared.losses.Loss.{Loss};
 ghost use Rattle.gtp_match.specs.declared.reports.Retake.{Retake};
 ghost use Rattle.vintsaky_calls.specs.declared.causes.Cause.TheVariants as cause;
 ghost use Rattle.vintsaky_calls.specs.Codes.{NoColour};
-ghost use Rattle.vintsaky_calls.specs.Matches.{BeginsMatch, RefusesMatch, action_code, action_side, Starts, RefusesStart};
+ghost use Rattle.vintsaky_calls.specs.Matches.{BeginsMatch, RefusesMatch, action_code, action_side, Starts};
+ghost use Rattle.vintsaky_calls.specs.Matches.{RefusesStart};
 ghost use Rattle.vintsaky_calls.specs.Matches.{Sends, RefusesSend, Hears, IsSide, bool_code, PutsResult};
 ghost use Rattle.vintsaky_calls.specs.Matches.{HearsReport, loss_code, retake_code, reported_owed, PutsOwed, LacksOwed};
 ghost use Rattle.vintsaky_calls.specs.Matches.{HasStatus, LacksStatus, maybe_side_code, EndsAs};
@@ -24,7 +25,7 @@ ghost use Rattle.std.specs.Mem.{type_size};
 ghost use Rattle.gtp_match.specs.contracts.matches.Match.{the_row as match_row};
 
 use crate::game::handle::GameHandle;
-use crate::referee::handle::MatchHandle;
+use crate::matches::handle::MatchHandle;
 use gtp_match::Match;
 use std::mem::{align_of, size_of};
 use vintsaky_calls::{code_of, matches};

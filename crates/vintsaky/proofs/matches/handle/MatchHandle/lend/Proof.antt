@@ -1,16 +1,24 @@
 -- `lend` meets its contract: the match behind the pointer is lent, and the handle follows it.
-use Rattle.vintsaky.proofs.Steps.{◌≡◌, ℕ, List, [], ◌∷◌, refl, sym, ap, ◌∙◌, proved, after, Ura, full_share, id⊢, ent, sep, Fml, GName, ftrue, flft, fsep, named, Val, vptr, tables, Logic, sem, ‵, ◌⊛◌, some, later, at_ret, ◌$◌, ◌∵◌, !, qed, done, move, keep, use1, split, join, fsplit, fsplit3, fjoin, fpack, pick, await, rewrite, suffices, frame, group, whole, sub, look_in, enter, of_opd, addr, load, stop, fld, first, blocks, exec, returns, alloc_all, pass_all, free_all, look_at, get, through, sets, sets_last, env, no, shows, mem, cell_at, Ptr, block_ptr, lies_at, in_a_block, MutRef, mut_vals, mut_Tells, plain, mut_ref_to, nothing, opens, peeks, follows, lends_Part, Struct, shape, Stays, walk_of, says, stay_dropped, Goes-spent_ref, ends_at}
+use Rattle.vintsaky.proofs.Steps.{◌≡◌, ℕ, List, [], ◌∷◌, refl, sym, ap, ◌∙◌, proved, after, Ura, full_share, id⊢, ent}
+use Rattle.vintsaky.proofs.Steps.{sep, Fml, GName, ftrue, flft, fsep, named, Val, vptr, tables, Logic, sem, ‵, ◌⊛◌}
+use Rattle.vintsaky.proofs.Steps.{some, later, at_ret, ◌$◌, ◌∵◌, !, qed, done, move, keep, use1, split, join, fsplit}
+use Rattle.vintsaky.proofs.Steps.{fsplit3, fjoin, fpack, pick, await, rewrite, suffices, frame, group, whole, sub}
+use Rattle.vintsaky.proofs.Steps.{look_in, enter, of_opd, addr, load, stop, fld, first, blocks, exec, returns}
+use Rattle.vintsaky.proofs.Steps.{alloc_all, pass_all, free_all, look_at, get, through, sets, sets_last, env, no, shows}
+use Rattle.vintsaky.proofs.Steps.{mem, cell_at, Ptr, block_ptr, lies_at, in_a_block, MutRef, mut_vals, mut_Tells, plain}
+use Rattle.vintsaky.proofs.Steps.{mut_ref_to, nothing, opens, peeks, follows, lends_Part, Struct, shape, Stays, walk_of}
+use Rattle.vintsaky.proofs.Steps.{says, stay_dropped, Goes-spent_ref, ends_at}
 use types.Kit.{split3}
 use denote.Memory.{part_of}
 use Rattle.gtp_match.specs.declared.controller.Controller.{Controller}
 use Rattle.gtp_match.specs.contracts.matches.Match.{the_row as T}
-use Rattle.vintsaky.specs.declared.referee.handle.MatchHandle.{MatchHandle}
+use Rattle.vintsaky.specs.declared.matches.handle.MatchHandle.{MatchHandle}
 use Rattle.vintsaky.specs.MatchLends.{with_match}
-use Rattle.vintsaky.specs.contracts.referee.handle.MatchHandle.lend as f
-use Rattle.vintsaky.proofs.referee.handle.MatchHandle.lend.Statement.{statement}
-use Rattle.vintsaky.proofs.referee.handle.MatchHandle.lend.Code as code
-use Rattle.vintsaky.specs.contracts.referee.handle.MatchHandle.{the_row as R, the_type}
-use Rattle.vintsaky.proofs.referee.handle.MatchHandle.TheLaws.{lowers}
+use Rattle.vintsaky.specs.contracts.matches.handle.MatchHandle.lend as f
+use Rattle.vintsaky.proofs.matches.handle.MatchHandle.lend.Statement.{statement}
+use Rattle.vintsaky.proofs.matches.handle.MatchHandle.lend.Code as code
+use Rattle.vintsaky.specs.contracts.matches.handle.MatchHandle.{the_row as R, the_type}
+use Rattle.vintsaky.proofs.matches.handle.MatchHandle.TheLaws.{lowers}
 
 abbrev stayed : Stays f.ended.signature.params f.ended.kept
 stayed = (stay_dropped (mut_ref_to (0 ∷ []) tt (plain (λ _. R))) no, tt)

@@ -1,5 +1,12 @@
 -- `vintsaky_match_place` meets its contract: a fresh match is written into the room, and then its handle.
-use Rattle.vintsaky.proofs.Steps.{◌≡◌, List, [], ◌∷◌, refl, proved, full_share, id⊢, ftrue, fsep, Val, vptr, vunit, tables, fact, ‵, raw, ◌⊛◌, some, later, prop, ◌$◌, ◌∵◌, !, qed, done, move, drop, use1, use2, split, join, fsplit, fjoin, fpack, feq_i, pick, await, rewrite, regoal, suffices, group, enter, of_opd, unit_lit, stop, no_more, and_then, assigns, returns, alloc_all, pass_all, free_all, look_at, get, through, sets, lands_as, yes, shows, part_at, Ptr, RawPtr, block_ptr, room_at, in_a_block, rawptr_vals, rawptr_Tells, plain, nothing, peeks, heard, Struct, shape, Stays, walk_of, stay_dropped, Goes-dropped, ends_at}
+use Rattle.vintsaky.proofs.Steps.{◌≡◌, List, [], ◌∷◌, refl, proved, full_share, id⊢, ftrue, fsep, Val, vptr, vunit}
+use Rattle.vintsaky.proofs.Steps.{tables, fact, ‵, raw, ◌⊛◌, some, later, prop, ◌$◌, ◌∵◌, !, qed, done, move, drop}
+use Rattle.vintsaky.proofs.Steps.{use1, use2, split, join, fsplit, fjoin, fpack, feq_i, pick, await, rewrite, regoal}
+use Rattle.vintsaky.proofs.Steps.{suffices, group, enter, of_opd, unit_lit, stop, no_more, and_then, assigns, returns}
+use Rattle.vintsaky.proofs.Steps.{alloc_all, pass_all, free_all, look_at, get, through, sets, lands_as, yes, shows}
+use Rattle.vintsaky.proofs.Steps.{part_at, Ptr, RawPtr, block_ptr, room_at, in_a_block, rawptr_vals, rawptr_Tells}
+use Rattle.vintsaky.proofs.Steps.{plain, nothing, peeks, heard, Struct, shape, Stays, walk_of, stay_dropped}
+use Rattle.vintsaky.proofs.Steps.{Goes-dropped, ends_at}
 use Rattle.std.proofs.Common.{◌++◌}
 use borrow.Table.OneValue.{part_in}
 use denote.RattleType.{Valss}
@@ -16,14 +23,14 @@ use Rattle.gtp_match.specs.declared.controller.Controller.{Controller}
 use Rattle.gtp_match.specs.contracts.matches.Match.{the_row as T}
 use Rattle.gtp_match.proofs.matches.Match.TheLaws.{the_row_laws}
 use Rattle.vintsaky.specs.Fresh.{fresh_match}
-use Rattle.vintsaky.specs.declared.referee.handle.MatchHandle.{MatchHandle}
-use Rattle.vintsaky.specs.contracts.referee.handle.MatchHandle.{the_row as R, the_type}
-use Rattle.vintsaky.specs.contracts.referee.place.vintsaky_match_place as f
-use Rattle.vintsaky.proofs.referee.place.vintsaky_match_place.Statement.{statement}
-use Rattle.vintsaky.proofs.referee.place.vintsaky_match_place.Code as code
-use Rattle.vintsaky.specs.contracts.referee.place.fresh_match as g
-use Rattle.vintsaky.proofs.referee.place.fresh_match.Met.{met}
-use Rattle.vintsaky.proofs.referee.handle.MatchHandle.TheLaws.{lowers}
+use Rattle.vintsaky.specs.declared.matches.handle.MatchHandle.{MatchHandle}
+use Rattle.vintsaky.specs.contracts.matches.handle.MatchHandle.{the_row as R, the_type}
+use Rattle.vintsaky.specs.contracts.matches.place.vintsaky_match_place as f
+use Rattle.vintsaky.proofs.matches.place.vintsaky_match_place.Statement.{statement}
+use Rattle.vintsaky.proofs.matches.place.vintsaky_match_place.Code as code
+use Rattle.vintsaky.specs.contracts.matches.place.fresh_match as g
+use Rattle.vintsaky.proofs.matches.place.fresh_match.Met.{met}
+use Rattle.vintsaky.proofs.matches.handle.MatchHandle.TheLaws.{lowers}
 
 abbrev stayed : Stays f.ended.signature.params f.ended.kept
 stayed = (stay_dropped _ yes, (stay_dropped _ yes, tt))
@@ -46,7 +53,7 @@ vintsaky_match_place_spec 𝓤 𝓛 𝓜 𝓡 wired =
     let G = triple_of 𝓛 g.signature (g.spec 𝓛 𝓜.mem 𝓡.returns) in
     let z : G.Ghost = ((tt, tt, tt, tt, tt), tt) in
     nothing ! $ nothing ! $ join ! $ nothing ! $ move ! (1 ∷ 0 ∷ []) $ use2 𝓛 (raw (G.pre z)) (id⊢ 𝓤 _) $
-    calls_at ! (framed 𝓤 𝓛.H 𝓜 𝓣) G (met 𝓤 𝓛 𝓜 𝓡 (code.calls-vintsaky::referee::place::fresh_match 𝓡.env wired)) z (no_more !) (λ v.
+    calls_at ! (framed 𝓤 𝓛.H 𝓜 𝓣) G (met 𝓤 𝓛 𝓜 𝓡 (code.calls-vintsaky::matches::place::fresh_match 𝓡.env wired)) z (no_more !) (λ v.
     use1 𝓛 (later (some (λ (r : Controller). (‵ ftrue ⊛ ‵ (T.own_val r (v ∷ []))) ⊛ some (λ (ws : Unit {0}). ‵ ftrue ⊛ raw (fact 𝓤 (r ≡ fresh_match)))))) (id⊢ 𝓤 _) $
     await ! tt $ pick ! (λ r. split ! $ split ! $ drop ! $ move ! (1 ∷ []) $ pick ! (λ ws. split ! $ drop ! $ heard ! _ (λ is.
     rewrite ! 0 (λ (x : Controller). ‵ (T.own_val x (v ∷ []))) is refl $

@@ -1,4 +1,4 @@
-//! A tournament program: plays two commands against each other. Usage: referee SIZE HALF_KOMI BLACK WHITE
+//! A tournament program: plays two commands against each other. Usage: play_match SIZE HALF_KOMI BLACK WHITE
 
 use std::error::Error;
 use std::io::{self, ErrorKind, Read, Write};

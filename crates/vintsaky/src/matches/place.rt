@@ -4,10 +4,10 @@ ghost use Rattle.std.specs.Borrow.{full_share, sem};
 ghost use Rattle.std.specs.Ptr.{lies_at, room_at};
 ghost use base.Fml.{fsep};
 ghost use Rattle.gtp_match.specs.contracts.matches.Match.{the_row as match_row};
-ghost use Rattle.vintsaky.specs.contracts.referee.handle.MatchHandle.{the_row};
+ghost use Rattle.vintsaky.specs.contracts.matches.handle.MatchHandle.{the_row};
 ghost use Rattle.vintsaky.specs.Fresh.{fresh_match};
 
-use crate::referee::handle::MatchHandle;
+use crate::matches::handle::MatchHandle;
 use go_base::{Komi, Size};
 use gtp_match::{Match, Setup};
 
@@ -24,7 +24,8 @@ pub(crate) fn fresh_match() -> Match
     }
 }
 
-/// Puts a match into the memory, and its handle. It has size 19, no komi, no handicap, 2,000 moves at most, and no restart.
+/// Puts a match into the memory, and its handle. It has size 19, no komi, no handicap, 2,000 moves at most,
+/// and no restart.
 ///
 /// # Safety
 ///

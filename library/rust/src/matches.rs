@@ -1,4 +1,4 @@
-//! The referee of a match.
+//! The controller of a match.
 
 use std::fmt;
 use std::marker::PhantomData;
@@ -42,7 +42,7 @@ impl Default for Setup {
     }
 }
 
-/// A match between two engines, whose referee it is. It starts no process and reads nothing: it says what is to be done
+/// A match between two engines, whose controller it is. It starts no process and reads nothing: it says what is to be done
 /// next, and hears what came of it.
 ///
 /// ```

@@ -1,7 +1,7 @@
 #!/usr/bin/env python3
-"""A tournament program: plays two commands against each other, by the referee of the library.
+"""A tournament program: plays two commands against each other, by the controller of the library.
 
-usage: referee.py SIZE HALF_KOMI BLACK WHITE
+usage: play_match.py SIZE HALF_KOMI BLACK WHITE
 """
 import subprocess
 import sys
@@ -54,7 +54,7 @@ if __name__ == "__main__":
             raise ValueError("a command has no word")
         match = Match(int(size), int(half_komi) / 2, max_moves=1000, max_restarts=2)
     except (ValueError, OverflowError) as problem:
-        sys.exit(f"referee: {problem}; usage: referee.py SIZE HALF_KOMI BLACK WHITE")
+        sys.exit(f"play_match: {problem}; usage: play_match.py SIZE HALF_KOMI BLACK WHITE")
     print(play(match, {BLACK: black, WHITE: white}))
     end(BLACK)
     end(WHITE)

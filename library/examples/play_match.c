@@ -1,5 +1,5 @@
-/* A tournament program: plays two commands against each other, by the referee of the library. An engine that ends or breaks the
- * protocol is started again, at most twice. Why it failed is written to standard error. usage: referee SIZE HALF_KOMI BLACK WHITE */
+/* A tournament program: plays two commands against each other, by the controller of the library. An engine that ends or breaks the
+ * protocol is started again, at most twice. Why it failed is written to standard error. usage: play_match SIZE HALF_KOMI BLACK WHITE */
 #include "vintsaky.h"
 #include <signal.h>
 #include <stdio.h>

@@ -3,7 +3,7 @@ ghost use Rattle.std.specs.Prelude.{◌≡◌};
 ghost use Rattle.std.specs.Borrow.{sem};
 ghost use Rattle.vintsaky.specs.MatchLends.{LendsMatch};
 
-use crate::referee::handle::MatchHandle;
+use crate::matches::handle::MatchHandle;
 use gtp_match::Match;
 
 impl MatchHandle {

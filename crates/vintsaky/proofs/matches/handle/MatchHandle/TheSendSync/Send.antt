@@ -1,7 +1,7 @@
 -- The handle may go to another thread, as the match in its memory may.
 use denote.Param.Send.{IsSend, owning_send}
 use Rattle.gtp_match.specs.contracts.matches.Match.{the_row as T}
-use Rattle.vintsaky.specs.contracts.referee.handle.MatchHandle.{the_row, the_type}
+use Rattle.vintsaky.specs.contracts.matches.handle.MatchHandle.{the_row, the_type}
 use Rattle.vintsaky.proofs.Sends.{pointer_send, lies_keyless, exits_quietly}
 use Rattle.vintsaky.proofs.Sent.{match}
 
