@@ -15,7 +15,7 @@ from . import toolchains
 TOP = Path(__file__).resolve().parents[2]
 PROGRAMS = ("twogtp", "gtp_engine", "gtp_check")
 PACKAGES = [word for name in (*PROGRAMS, "vintsaky_c") for word in ("-p", name)]
-CALLS = [TOP / "tests/library_c.d" / f"{name}.c" for name in ("draw", "calls", "causes", "drive", "guard", "inputs", "numbers", "world")]
+CALLS = [TOP / "tests/stages/of_library_in_c" / f"{name}.c" for name in ("draw", "calls", "causes", "drive", "guard", "inputs", "numbers", "world")]
 # The programs of C: their names, their sources, the file of the library that they are linked with, and flags. Under qemu a program that
 # forks may hang in the child, where it has the C library as a shared one.
 IN_C = [

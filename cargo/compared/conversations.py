@@ -1,15 +1,15 @@
 """Draws conversations with `gtp_engine`: its options, and all of its input.
 
-The input is one of tests/reference, which aims at captures, ko and suicide, at a full record, and at odd lines and values. The options
+The input is one of tests/references/engine, which aims at captures, ko and suicide, at a full record, and at odd lines and values. The options
 are those that belong to it; some have a fault too, and some are wrong, given twice or left out.
 """
 import random
 import sys
 from pathlib import Path
 
-sys.path.insert(0, str(Path(__file__).resolve().parents[2] / "tests"))
+sys.path.insert(0, str(Path(__file__).resolve().parents[2]))
 
-from reference import conversations as reference  # noqa: E402
+from tests.references.engine import conversations as reference  # noqa: E402
 
 from .comparing import Trial  # noqa: E402
 

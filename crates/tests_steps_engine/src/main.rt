@@ -1,5 +1,5 @@
 //! A helper of tests: makes the calls of an engine in steps that its input names, and prints what each returns.
-//! `tests/stepped` compares that with a plain reference. With an argument the engine is under positional ko.
+//! `tests/stages/stepped.py` compares that with a plain reference. With an argument the engine is under positional ko.
 //!
 //! Each line of the input is one call, with its bytes as pairs of hexadecimal digits: `feed BYTES`, `choose BYTES`,
 //! `answer BYTES`, `fail BYTES`, `decline`, `name BYTES`, `version BYTES`, `add BYTES`.

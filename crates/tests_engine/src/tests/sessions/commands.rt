@@ -1,4 +1,4 @@
-//! What commands answer, from the bytes in to the bytes out. Most of it is in `tests/reference/worked.txt`, which the
+//! What commands answer, from the bytes in to the bytes out. Most of it is in `tests/references/engine/worked.txt`, which the
 //! built engine is given.
 use crate::tests::sessions::{assert_serves_in_any_cuts, reader_of, writer_of};
 use arrayvec::ArrayVec;

@@ -1,0 +1,250 @@
+#!/usr/bin/env python3
+"""A small engine that misbehaves where it is asked to, the same way each time.
+
+usage: faulty.py NOTES SEED PASSES STYLE PLAN
+
+It knows no rules of play: asked for a move, it takes the next point, in an order that SEED draws, that nobody has named since the
+board was empty, or passes at about one move in PASSES (never, where that is 0). It replies to each command with success.
+
+STYLE is a template, by which all replies are written, `<reply>` for the plain one. PLAN is `-`, or faults with commas between:
+LIFE/PLACE/TEMPLATE/THEN. LIFE counts the processes that were started with this file NOTES, from 1; `*` is each of them. PLACE is 0
+before the first command, cN at the N-th command of this life, gN at its N-th genmove, pN at its N-th play, uN at its N-th undo, h
+at a handicap, q at quit; pN-M is each play from the N-th to the M-th. There the template is written in place of the reply, in one
+write. THEN is `on`; `ends`, and the process ends; `closes`, and its output ends; `shuts`, and its input is closed before that
+write, and the process goes on; `forgets`, and it does not do what it was sent; or `refuses`, which is the same, but the notes go on.
+
+In a template `_` is a space, \\n \\r \\t and \\xHH are bytes, and in angle brackets are
+
+    <id> <id+1> <id-1> ..  the command's id, or a number beside it
+    <reply> <reply:5>      the plain reply, or its first five bytes
+    <text> <lower>         the plain reply's text, or that in small letters
+    <lines> <reversed>     its words, a line each, or in reverse order
+    <old> <fresh> <off>    a vertex that was named, one that wasn't, one off the board
+    <8193*\\n>              that byte, 8,193 times
+    <fill:8192:\\n>         as many of that byte as make the whole template so long
+
+At its start it adds a line `start` to NOTES, and then each command that it is sent, until a fault came. What it does at an undo is
+to reply: what was taken back was named all the same, so it plays another point.
+
+It is run as a process by `twogtp`, and as an object by the reference. It imports little, so that it starts quickly.
+"""
+import os
+import sys
+import time
+
+COLUMNS = b"ABCDEFGHJKLMNOPQRSTUVWXYZ"
+ENDS, CLOSES, SHUTS, FORGETS, REFUSES = "ends", "closes", "shuts", "forgets", "refuses"
+LONG = 100  # seconds, more than any match takes
+
+
+class Fault:
+    """A fault of the plan."""
+
+    def __init__(self, text):
+        self.life, place, self.template, self.then = text.split("/")
+        first, _, last = place[1:].partition("-")
+        self.places = [f"{place[0]}{number}" for number in range(int(first), int(last) + 1)] if last else [place]
+
+
+def read_plan(text):
+    """The faults of a plan."""
+    return [] if text == "-" else [Fault(fault) for fault in text.split(",")]
+
+
+def mixed(seed, number):
+    """A number that looks drawn, of these two."""
+    word = seed * 1000003 + number * 7919 + 12345
+    for _ in range(3):
+        word = (word * 6364136223846793005 + 1442695040888963407) % 2**64
+    return word >> 33
+
+
+def drawn_order(size, seed):
+    """All points of a board as vertices, in an order that the seed draws."""
+    points = [b"%c%d" % (COLUMNS[column], row) for row in range(1, size + 1) for column in range(size)]
+    return [point for _, point in sorted((mixed(seed, place), point) for place, point in enumerate(points))]
+
+
+class Faulty:
+    """One life of the engine."""
+
+    takes_all = False  # of what it is sent
+    status = 0  # with which it ends
+
+    def __init__(self, seed, passes, style, plan, life):
+        self.seed, self.passes, self.style, self.life = seed, passes, style, life
+        self.plan = read_plan(plan)
+        self.size = 1
+        self.points = []  # of the board, in the order in which it plays there
+        self.named = []  # the vertices since the board was empty
+        self.count = {}  # how many commands of each name there were, and of all
+        self.notes = "*" not in style  # is what it is sent next to be noted? Not where each reply may be too long.
+
+    def begins(self):
+        """What it writes before its first command, and what it does then."""
+        fault = self.fault_at(["0"])
+        return (self.written(fault.template, b"", b""), fault.then) if fault else (b"", "on")
+
+    def answers(self, line):
+        """What it writes when it is sent this, and what it does then."""
+        words = line.split()
+        number = words.pop(0) if words[0].isdigit() else b""
+        fault = self.fault_at(self.places(words[0].decode()))
+        text = b"" if fault and fault.then in (FORGETS, REFUSES) else self.text_of(words[0], words[1:])
+        if fault:
+            return self.written(fault.template, number, text), fault.then
+        return self.written(self.style, number, text), ENDS if words[0] == b"quit" else "on"
+
+    def places(self, name):
+        """The names in a plan of the place of this command, which is counted."""
+        for counted in ("", name):
+            self.count[counted] = self.count.get(counted, 0) + 1
+        places = ["c%d" % self.count[""]]
+        if name in ("genmove", "play", "undo"):
+            places.append("%s%d" % (name[0], self.count[name]))
+        return places + {"fixed_handicap": ["h"], "quit": ["q"]}.get(name, [])
+
+    def fault_at(self, places):
+        """The fault of the plan at one of these places, if there is one. From then on nothing is noted, unless it only refuses."""
+        for fault in self.plan:
+            if fault.life in ("*", str(self.life)) and any(place in fault.places for place in places):
+                self.notes = self.notes and fault.then == REFUSES
+                return fault
+        return None
+
+    # ---- what it plays
+
+    def text_of(self, name, arguments):
+        """The text of the plain reply to a command."""
+        if name == b"boardsize":
+            self.size = int(arguments[0])
+            self.points = drawn_order(self.size, self.seed)
+        elif name == b"clear_board":
+            self.named = []
+        elif name == b"fixed_handicap":
+            self.named = handicap(self.size, int(arguments[0]))
+            return b" ".join(self.named)
+        elif name == b"play":
+            self.named.append(arguments[1])
+        elif name == b"genmove":
+            self.named.append(self.chosen())
+            return self.named[-1]
+        return b""
+
+    def chosen(self):
+        """What it plays."""
+        if self.passes and mixed(self.seed, len(self.named)) % self.passes == 0:
+            return b"pass"
+        return self.fresh() or b"pass"
+
+    def fresh(self):
+        """The next vertex that wasn't named; none where all were."""
+        return next((point for point in self.points if point not in self.named), b"")
+
+    # ---- what it writes
+
+    def written(self, template, number, text):
+        """The bytes of a template, of a command with this id and a plain reply with this text."""
+        filling = None
+        out = b""
+        for part in parts(template):
+            if part.startswith("<fill:"):
+                _, length, filler = part[1:-1].split(":")
+                filling = len(out), int(length), literal(filler)
+            elif part.startswith("<"):
+                out += self.named_part(part[1:-1], number, text)
+            else:
+                out += literal(part)
+        if filling:
+            place, length, filler = filling
+            out = out[:place] + filler * (length - len(out)) + out[place:]
+        return out
+
+    def named_part(self, name, number, text):
+        """The bytes of what is in angle brackets."""
+        reply = b"=" + number + (b" " + text if text else b"") + b"\n\n"
+        if name.startswith("reply"):
+            return reply[: int(name[6:] or len(reply))]
+        if name.startswith("id"):
+            return b"%d" % (int(number) + int(name[2:] or 0)) if number else b""
+        if "*" in name:
+            times, repeated = name.split("*")
+            return literal(repeated) * int(times)
+        return {
+            "text": lambda: text,
+            "lower": lambda: text.lower(),
+            "lines": lambda: b"\n".join(text.split()),
+            "reversed": lambda: b" ".join(reversed(text.split())),
+            "old": lambda: next((vertex for vertex in self.named if vertex not in (b"pass", text)), b"A1"),
+            "fresh": lambda: self.fresh() or b"pass",
+            "off": lambda: b"A%d" % (self.size + 1),
+        }[name]()
+
+
+def parts(template):
+    """A template cut into what is in angle brackets, and what is between."""
+    found = []
+    for piece in template.split("<"):
+        inside, closes, rest = piece.partition(">")
+        found += ["<" + inside + ">", rest] if closes else [piece]
+    return found
+
+
+def literal(text):
+    """The bytes that a text of a template stands for, without what is in angle brackets."""
+    return text.replace("_", " ").encode().decode("unicode_escape").encode("latin-1")
+
+
+def handicap(size, number):
+    """The handicap's vertices; none where the size, which the engine may have forgotten, doesn't allow it. Only here the reference's table
+    is needed."""
+    from tests.references.engine import values
+
+    return [values.write_vertex(point) for point in values.handicap_points(size, number) or []]
+
+
+# ---- as a process
+
+
+def run(notes, seed, passes, style, plan):
+    """Reads commands and answers them, until the input ends or the plan ends it."""
+    book = os.open(notes, os.O_RDWR | os.O_CREAT | os.O_APPEND)
+    os.write(book, b"start\n")
+    life = os.pread(book, 1 << 24, 0).count(b"start\n")
+    engine = Faulty(int(seed), int(passes), style, plan, life)
+    output = Output()
+    output.take(*engine.begins())
+    for line in sys.stdin.buffer:
+        if engine.notes:
+            os.write(book, line)
+        output.take(*engine.answers(line))
+
+
+class Output:
+    """The standard output, until it is closed."""
+
+    def __init__(self):
+        self.is_open = True
+
+    def take(self, text, then):
+        """Writes this text, and does what comes then. A controller that doesn't read it is gone."""
+        if then == SHUTS:
+            os.close(0)
+        try:
+            while text and self.is_open:
+                text = text[os.write(1, text) :]
+        except BrokenPipeError:
+            os._exit(0)
+        if then == ENDS:
+            os._exit(0)
+        if then == CLOSES and self.is_open:
+            os.close(1)
+            self.is_open = False
+        if then == SHUTS:
+            time.sleep(LONG)
+            os._exit(0)
+
+
+if __name__ == "__main__":
+    sys.path[0] = os.path.abspath(os.path.join(os.path.dirname(__file__), "../../.."))
+    run(*sys.argv[1:])

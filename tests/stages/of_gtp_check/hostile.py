@@ -1,0 +1,161 @@
+"""Engines that misbehave, tests/engines/hostile/engine, and programs that can't be started.
+
+What each check has to come to was worked out by hand. An engine is asked `name`, `version`, three times `known_command`, `boardsize 5`,
+`komi 6.5`, `clear_board`, and then, in the lesson of the start, `play b E5`, `undo` and `play w F1`, which is off that board. In the
+lesson of its own moves it is asked `genmove b` after `clear_board`, and then `genmove w`. With `--singly` each is asked once the one
+before is answered. After something was found the engine is started again, and the next part begins: another size.
+
+The lesson of the start is over once a size was taken. Before that, and in the other lesson, a check goes on to the end of
+`--restarts 3`, with four starts. Where an engine gives no right answer, it has three.
+"""
+from .running import AHEAD, TOP, Complaint, checked, quoted, read, run
+
+HOSTILE = f"{TOP}/tests/engines/hostile/engine"
+START = ("--only", "start", "--restarts", "3", "--singly")
+OWN = ("--only", "genmoves", "--size", "5", "--restarts", "3", "--singly")
+NAME = "1 name"
+OFF = "11 play w F1"
+NO_STATUS = "not a GTP reply (it begins with neither = nor ?)"
+NO_ID = "a reply without the id of the command"
+NO_END = "no end of a reply in 8192 bytes"
+TAKEN = "it was taken"
+ENDED = "its output ended, "
+WITHIN = "its output ended within a reply, "
+NO_VERTEX = "neither a vertex nor resign"
+
+# Nothing that they write is a right answer, so there are three starts: the first command is answered wrongly each time.
+FRUITLESS = {
+    "exits": ENDED + "exit status 1",
+    "reads_and_exits": ENDED + "exit status 0",
+    "closes_its_output": ENDED + "signal 9",  # it is killed
+    "greets": NO_STATUS,
+    "junk": NO_STATUS,
+    "echoes": NO_STATUS,
+    "wrong_id": NO_ID,
+    "no_id": NO_ID,
+    "newlines_without_end": NO_END,
+    "a_reply_without_end": NO_END,
+    "half_a_reply": WITHIN + "exit status 0",
+    "all_but_the_last_newline": WITHIN + "exit status 0",
+}
+# Their answer to `name` is right. What they write to the second command has the first one's id.
+SECOND = {"old_id": NO_ID, "twice": NO_ID, "replies_without_end": NO_ID}
+# They answer each command by a success, but those that are named here: the point off the board too.
+POLITE = """move_exits move_half move_without_its_end move_twice move_closes_its_input move_sleeps_closed no_move no_vertex two_vertices
+    empty_move off_the_board always_A1 resigns other_stones quits quit_sleeps quit_stops quit_closes quit_junk
+    quit_newlines quit_late quit_never odd""".split()
+# What they do at their move: the command, what is wrong, how many commands each start has, on 5x5, 9x9, 1x1 and 2x2
+MOVES = {
+    "move_exits": ("9 genmove b", ENDED + "exit status 0", (9, 9, 9, 9)),
+    "move_half": ("9 genmove b", WITHIN + "exit status 0", (9, 9, 9, 9)),
+    "move_without_its_end": ("9 genmove b", WITHIN + "exit status 0", (9, 9, 9, 9)),
+    "move_twice": ("10 genmove w", NO_ID, (10, 10, 10, 10)),
+    "move_sleeps_closed": ("9 genmove b", ENDED + "signal 9", (9, 9, 9, 9)),
+    "no_move": ("9 genmove b", "no move: the genmove failed", (9, 9, 9, 9)),
+    "no_vertex": ("9 genmove b", NO_VERTEX, (9, 9, 9, 9)),
+    "two_vertices": ("9 genmove b", NO_VERTEX, (9, 9, 9, 9)),
+    "empty_move": ("9 genmove b", NO_VERTEX, (9, 9, 9, 9)),
+    "off_the_board": ("9 genmove b", "an illegal move", (9, 9, 9, 9)),
+    # On 1x1 the first A1 is suicide already; elsewhere the second one is on a stone.
+    "always_A1": ("10 genmove w", "an illegal move", (10, 10, 9, 10)),
+    # Nothing is played, so there is nothing to take back: genmove four times, and then `undo` has to fail.
+    "resigns": ("13 undo", TAKEN, (13, 13, 13, 13)),
+}
+
+
+def command(kind, folder):
+    """The command of an engine of this kind, whose processes are noted."""
+    return f"{HOSTILE} {folder}/started {kind}"
+
+
+def rows():
+    """The checks: of each its name, its options, the kind, and what is wanted: the first complaint, how many starts, how many commands."""
+    for kind, fault in FRUITLESS.items():
+        yield kind, START, kind, (NAME, fault, 3, 3)
+    for kind, fault in SECOND.items():
+        yield kind, START, kind, ("2 version", fault, 4, 8)
+    for kind in POLITE:
+        # The replies of `odd` have a text, and its handicap has stones; the others' don't. None of that is asked by then.
+        yield kind, START, kind, (OFF, TAKEN, 1, 11)
+    yield "play_refused", START, "play_refused", ("9 play b E5", "it was refused", 1, 9)
+    yield "play_refused_once", START, "play_refused_once", ("9 play b E5", "it was refused", 1, 9)
+    yield "undo_refused", START, "undo_refused", ("10 undo", "it was refused", 1, 10)
+    yield "undo_exits", START, "undo_exits", ("10 undo", ENDED + "exit status 0", 1, 10)
+    yield "play_half", START, "play_half", ("9 play b E5", WITHIN + "exit status 0", 1, 9)
+    for kind, (line, fault, counts) in MOVES.items():
+        yield f"{kind}, at its move", OWN, kind, (line, fault, 4, sum(counts))
+    # No answer comes: the program waits, and `timeout` ends the engine. Its status is 124 then.
+    yield "silent, under timeout", (*START[:-1],), "silent", (NAME, ENDED + "exit status 124", 3, 15)
+    # It refuses the name, and each size from 5 on, which an engine may: 5 commands and 21 sizes.
+    yield "refuses", ("--only", "start", "--restarts", "3"), "refuses", (None, None, 1, 26)
+
+
+def faults(row, folder):
+    """What is odd about the check of a hostile engine."""
+    _, options, kind, (line, fault, starts, commands) = row
+    engine = command(kind, folder)
+    result = checked(options, f"timeout 1 {engine}" if kind == "silent" else engine, folder=folder)
+    report = read(result.output)
+    if isinstance(report, str):
+        return f"{report}: {result}"
+    first = report.complaints[0].command if report.complaints else None
+    # From the second start on the board is another one, and so may be the point. What `timeout` ends may be gone before `timeout` is,
+    # which is killed then.
+    late = (ENDED + "signal 9", ENDED + "exit status 124") if kind == "silent" else ("", "")
+    others = {(it.command.split()[1], it.fault.replace(*late)) for it in report.complaints}
+    got = (result.status, first, others, report.starts, report.commands, report.count, result.errors)
+    complaints = 0 if line is None else starts
+    wanted = (min(complaints, 1), line, {(line.split()[1], fault)} if line else set(), starts, commands, complaints, "")
+    started = len((folder / "started").read_text().splitlines())
+    if got != wanted or started != starts:
+        return f"wanted {wanted}, got {got}, {started} processes:\n{result.output[:3000]}"
+    return None
+
+
+def unstarted(folder):
+    """Programs that aren't there, and one that is there once."""
+    once = folder / "once"
+    once.write_text('#!/bin/sh\nrm "$0"\nexit 7\n')
+    once.chmod(0o755)
+    for name, engine, status, output, errors in (
+        ("no such program", "./no_such_engine", 2, "", 'gtp_check: not started: no such file: "./no_such_engine"\n'),
+        ("a file that is no program", "./README.md", 2, "", 'gtp_check: not started: not allowed: "./README.md"\n'),
+        ("a path with a space", "my engines/engine", 2, "", 'gtp_check: not started: no such file: "my"\n'),
+    ):
+        result = run([TOP / "bin/gtp_check", engine], folder)
+        yield name, None if (result.status, result.output, result.errors) == (status, output, errors) else result
+    result = run([TOP / "bin/gtp_check", "--only", "start", once], folder)
+    wanted = f"""\
+check: an engine without a name, version unknown, seed 1, simple ko
+# 1 start: "1 name": its output ended, exit status 7
+1 name
+# it wrote: ""
+# right: an engine answers each command, and reads on until quit
+
+check: not asked, as the options say: sizes ko captures suicide joining handicaps komi drawn record genmoves games restarts
+check: the engine was not started: no such file: "{str(once)[:80]}"
+check: not asked, or not to their end, for that: start
+check: 5 commands, 1 start, 1 complaint
+"""
+    same = (result.status, AHEAD.sub("", result.output), result.errors) == (1, wanted, "")
+    yield "a program that is gone after its first start", None if same else result
+
+
+def is_waiting(folder):
+    """A silent engine without `timeout`: the check doesn't end by itself, and what it wrote is nothing."""
+    result = checked(START, command("silent", folder), limit=2, folder=folder)
+    return None if (result.status, result.output, result.errors) == (None, "", "") else result
+
+
+def each(pool, room):
+    """Each check's name, and what is odd about it."""
+    places = []
+    for number, row in enumerate(rows()):
+        places.append((row, room / f"hostile-{number}"))
+        places[-1][1].mkdir()
+    yield from zip([f"hostile: {row[0]}" for row, _ in places], pool.map(lambda it: faults(*it), places))
+    for name, odd in unstarted(room):
+        yield f"not started: {name}", odd
+    place = room / "silent"
+    place.mkdir()
+    yield "hostile: silent, which is waited for", is_waiting(place)

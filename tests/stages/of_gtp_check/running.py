@@ -1,0 +1,137 @@
+"""How tests/stages/gtp_check.py runs gtp_check, and reads what it writes."""
+import os
+import re
+import signal
+import subprocess
+import sys
+import tempfile
+from dataclasses import dataclass
+from pathlib import Path
+
+TOP = Path(__file__).resolve().parents[3]
+PROGRAM = TOP / "bin/gtp_check"
+LIMIT = 60  # seconds that a check may take, on a machine with other work
+MARK = f"CHECKED_BY_{os.getpid()}"  # what every process that is started here has in its environment
+COMPILED = tempfile.TemporaryDirectory()  # what Python compiles for the engines, once
+PYTHON = f"{sys.executable} -S"  # -S leaves out what a machine adds to each start of Python
+
+FIRST = re.compile(r'check: (?:".*"|an engine without a name), version (?:".*"|unknown), seed \d+, (?:simple|positional) ko')
+HEAD = re.compile(r'# (\d+) (\w+): "(.*)": (.*)')
+LAST = re.compile(r"check: (\d+) commands?, (\d+) starts?, (\d+) complaints?")
+HIDDEN = re.compile(r"check: \w+: more complaints, of kinds that were shown three times: (\d+)")
+AHEAD = re.compile(r"# .*\bcommands?\b.* sent .*\n")  # how many commands were on their way already
+
+
+@dataclass(frozen=True)
+class Result:
+    """What came of a check."""
+
+    status: object  # None where it didn't end
+    output: str
+    errors: str
+
+
+@dataclass(frozen=True)
+class Complaint:
+    """A block of what is written."""
+
+    number: int
+    lesson: str
+    command: str  # the line of the command that was answered wrongly
+    fault: str
+    lines: tuple  # the conversation, up to and with that command
+    wrote: str  # a character for each byte
+    right: str
+
+    @property
+    def is_shortened(self):
+        """Is it a conversation that was tried once more? One that wasn't begins with the questions of each start."""
+        return not self.lines[0].startswith("1 name")
+
+
+@dataclass(frozen=True)
+class Report:
+    """What a check wrote."""
+
+    first: str
+    complaints: tuple
+    notes: tuple  # the lines before the last
+    commands: int
+    starts: int
+    count: int  # of complaints, by the last line
+
+
+def environment(folder):
+    """What the programs of a check have in their environment: a place of its own for what an engine keeps for its next process."""
+    places = dict(WRONG_ENGINE_STATE=f"{folder}/state", PYTHONPYCACHEPREFIX=COMPILED.name, PATH=f"{TOP}/bin:{os.environ['PATH']}")
+    return {**os.environ, **places, MARK: "yes"}
+
+
+def run(words, folder, limit=LIMIT):
+    """Runs a command, and ends all that is left of it. Where it doesn't end within the limit, its status is None."""
+    how = dict(stdin=subprocess.DEVNULL, stdout=subprocess.PIPE, stderr=subprocess.PIPE, start_new_session=True)
+    process = subprocess.Popen(words, cwd=TOP, env=environment(folder), encoding="latin-1", **how)
+    try:
+        output, errors = process.communicate(timeout=limit)
+        return Result(process.returncode, output, errors)
+    except subprocess.TimeoutExpired:
+        os.killpg(process.pid, signal.SIGKILL)
+        return Result(None, *process.communicate())
+
+
+def checked(options, command, limit=LIMIT, folder=None):
+    """Checks an engine, in a folder of its own unless one is given."""
+    if folder:
+        return run([PROGRAM, *options, command], folder, limit)
+    with tempfile.TemporaryDirectory() as name:
+        return run([PROGRAM, *options, command], name, limit)
+
+
+def quoted(text):
+    """The bytes that are shown between quotes, a character each."""
+    letters = {"n": "\n", "r": "\r", "t": "\t"}
+    one = lambda it: chr(int(it[1][1:], 16)) if it[1][0] == "x" and len(it[1]) == 3 else letters.get(it[1], it[1])  # noqa: E731
+    return re.sub(r"\\(x[0-9A-F]{2}|.)", one, text)
+
+
+def block_read(lines):
+    """The complaint that a block of lines is, or what is odd about it."""
+    head = HEAD.fullmatch(lines[0])
+    talk = [it for it in lines[1:] if not it.startswith("#")]
+    rest = lines[1 + len(talk):]
+    if not head or lines[1 : 1 + len(talk)] != talk or not talk or talk[-1] != head[3]:
+        return f"no block of a complaint: {lines}"
+    if len(rest) < 2 or not re.fullmatch('# it wrote: ".*"', rest[0]) or not rest[1].startswith("# right: ") or len(rest) > 4:
+        return f"other lines at the end of a complaint: {rest}"
+    return Complaint(int(head[1]), head[2], head[3], head[4], tuple(talk), quoted(rest[0][13:-1]), rest[1][9:])
+
+
+def read(output):
+    """What a whole output says, or what is odd about it."""
+    lines = output.split("\n")
+    if len(lines) < 3 or lines[-1] or not FIRST.fullmatch(lines[0]) or not (last := LAST.fullmatch(lines[-2])):
+        return "it has no first line, or no last one"
+    notes = []
+    body = lines[1:-2]
+    while body and body[-1].startswith("check: "):
+        notes.insert(0, body.pop())
+    blocks = "\n".join(body).split("\n\n") if body else []
+    found = [block_read(it.strip("\n").split("\n")) for it in blocks if it.strip("\n")]
+    odd = [it for it in found if isinstance(it, str)]
+    hidden = sum(int(it[1]) for it in map(HIDDEN.fullmatch, notes) if it)
+    count = int(last[3])
+    if odd or sorted({it.number for it in found}) != [it.number for it in found] or len(found) + hidden != count:
+        return "; ".join(odd) or f"{len(found)} complaints are shown, {hidden} are said not to be, and the last line has {count}"
+    return Report(lines[0], tuple(found), tuple(notes), int(last[1]), int(last[2]), count)
+
+
+def left():
+    """The processes that were started here and are still there."""
+    found = []
+    for place in Path("/proc").glob("[0-9]*"):
+        try:
+            if f"{MARK}=yes".encode() in (place / "environ").read_bytes().split(b"\0"):
+                found.append(place.name)
+        except OSError:
+            continue
+    return found

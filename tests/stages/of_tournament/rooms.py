@@ -1,0 +1,129 @@
+"""Where the scripts run: a room, by which all that they start can be found, and what is looked at."""
+from __future__ import annotations
+
+import contextlib
+import os
+import secrets
+import signal
+import subprocess
+import tempfile
+import time
+from pathlib import Path
+
+TOP = Path(__file__).resolve().parents[3]
+SCRIPTS = TOP / "tournament"
+LIMIT = 120  # seconds that one run may take, on a machine with other work
+RANDOM = "gtp_engine --policy random --seed"
+
+results = []
+
+
+def check(name, wanted, got):
+    """A line, and one more in the count."""
+    results.append(wanted == got)
+    if results[-1]:
+        print(f"ok: {name}", flush=True)
+    else:
+        print(f"FAILED: {name}\n--- wanted\n{wanted}\n--- got\n{got}\n---", flush=True)
+
+
+def heed():
+    """Each signal that the tests send does again what it does where nobody asked otherwise."""
+    for number in (signal.SIGHUP, signal.SIGINT, signal.SIGTERM):
+        signal.signal(number, signal.SIG_DFL)
+
+
+class Room:
+    """A folder in which scripts run, and an environment by which all that they start can be found."""
+
+    def __init__(self, programs, folder):
+        self.at = folder
+        self.mark = f"TOURNAMENT_ROOM={secrets.token_hex(8)}"
+        name, value = self.mark.split("=")
+        self.environment = {**os.environ, name: value, "TWOGTP": str(programs / "twogtp"),
+                            "PATH": f"{SCRIPTS}:{programs}:{os.environ['PATH']}"}
+        self.environment.pop("TOURNAMENT", None)
+
+    def start(self, *words, **more):
+        """Starts a command in a session of its own, which no signal passes by: nohup and a job of a shell leave some ignored."""
+        more = {"stdout": subprocess.PIPE, "stderr": subprocess.PIPE, "stdin": subprocess.DEVNULL, "preexec_fn": heed, **more}
+        return subprocess.Popen(words, cwd=self.at, env=self.environment, encoding="utf-8", start_new_session=True, **more)
+
+    def run(self, *words, **more):
+        """Runs a command: its status, its output, and its standard error."""
+        process = self.start(*words, **more)
+        try:
+            output, errors = process.communicate(timeout=LIMIT)
+        except subprocess.TimeoutExpired:
+            self.end()
+            return "it doesn't end", *process.communicate()
+        return process.returncode, output, errors
+
+    def left(self):
+        """The processes that live and were started here: pid and command line."""
+        found = []
+        for place in Path("/proc").glob("[0-9]*"):
+            with contextlib.suppress(OSError):
+                if self.mark.encode() in (place / "environ").read_bytes().split(b"\0"):
+                    found.append(f"{place.name} {(place / 'cmdline').read_bytes().replace(bytes(1), b' ').decode()}")
+        return found
+
+    def end(self):
+        """Ends all that lives and was started here."""
+        for line in self.left():
+            with contextlib.suppress(OSError):
+                os.kill(int(line.split()[0]), signal.SIGKILL)
+
+    def script(self, name, text):
+        """A script of its own, which can be started."""
+        (self.at / name).write_text(text)
+        (self.at / name).chmod(0o755)
+        return str(self.at / name)
+
+    def games(self, folder):
+        """The results of a tournament, by their names."""
+        return {place.name: place.read_text() for place in (self.at / folder / "games").iterdir()}
+
+    def until(self, what, seconds=LIMIT):
+        """Waits until that holds: does it?"""
+        end = time.monotonic() + seconds
+        while not what():
+            if time.monotonic() > end:
+                return False
+            time.sleep(0.02)
+        return True
+
+
+@contextlib.contextmanager
+def room(programs):
+    """A room; what is left in it at the end is ended."""
+    with tempfile.TemporaryDirectory() as folder:
+        made = Room(programs, Path(folder))
+        try:
+            yield made
+        finally:
+            made.end()
+
+
+def lines(text):
+    """The lines of a text, sorted."""
+    return sorted(text.splitlines())
+
+
+# An engine that waits before it begins, so that a tournament lasts; and one that can only be killed, and so can what it starts.
+SLOW = "#!/bin/bash\nsleep 0.4\nexec gtp_engine \"$@\"\n"
+STUBBORN = """\
+#!/bin/bash
+# It ignores TERM and INT, never answers, and doesn't mind the end of its input; nor does what it starts.
+trap '' TERM INT
+while :; do sleep 0.5; done &
+while :; do sleep 0.5; done
+"""
+
+
+def two_engines(at, first=RANDOM, second=RANDOM):
+    """Two engines and four seeds, on a small board."""
+    return [at, "--engine", f"one={first} %s", "--engine", f"two={second} 10%s", "--seeds", "4"]
+
+
+SMALL = ["--", "--size", "5", "--komi", "0.5"]
