@@ -1,17 +1,17 @@
 #!/usr/bin/env python3
-"""Compares an engine in steps with a plain reference (tests/references/engine/stepped.py): the built program bin/tests_steps_engine makes drawn calls, and
-each has to return the same.
+"""Compares drawn calls of an engine in steps, the program bin/tests_steps_engine, with a plain reference.
 
-A conversation of `tests/stages/conversations.py` is fed in drawn cuts. Where a choice is asked, choices come, lawful or not; where a line is its
-author's own, answers that a reply may have or not. Between any two bytes come calls of all kinds: choices and answers that nothing
-asks for, names, versions, own commands. Then each of the wrong references has to give something else in some of the lists.
-`./build tests_steps_engine` makes the program. Each check is a line; the last line is 'N passed, M failed'.
+The reference is tests/references/engine/stepped.py, and each call has to return the same. A conversation of
+tests/stages/conversations.py is fed in drawn cuts. Where a choice is asked, choices come, lawful or not; where a line is its author's
+own, answers that a reply may have or not. Between any two bytes come calls of all kinds: choices and answers that nothing asks for,
+names, versions, own commands. Then each of the wrong references has to give something else in some of the lists.
+`./build tests_steps_engine` makes the program.
 """
-import argparse
 import random
-import subprocess
 import sys
+from functools import lru_cache
 from pathlib import Path
+from unittest import SkipTest
 
 sys.dont_write_bytecode = True
 sys.path[0] = str(Path(__file__).resolve().parents[2])
@@ -19,10 +19,20 @@ sys.path[0] = str(Path(__file__).resolve().parents[2])
 from tests.references.engine import engine, stepped  # noqa: E402
 from tests.references.engine.game import POSITIONAL  # noqa: E402
 from tests.references.engine.stepped import Steps  # noqa: E402
+from tests.shared import checks  # noqa: E402
+from tests.shared.running import TOP, run  # noqa: E402
 
-PROGRAM = Path(__file__).resolve().parents[2] / "bin/tests_steps_engine"
+PARSER = checks.Parser(__doc__)
+PARSER.add_argument("--lists", type=checks.at_least_one, default=200, help="how many lists of calls are drawn; else 200")
+PARSER.add_argument("--seed", type=int, default=1, help="of the first list; else 1")
+OPTIONS = PARSER.options(__name__)
+PROGRAM = TOP / "bin/tests_steps_engine"
+TOGETHER = 50  # lists that are compared in one check
 WANTED = {"more", "reply", "asked b", "asked w", "other", "ended", "done", "no choice", "not asked", "off the board", "occupied", "suicide",
           "ko", "bad text", "no title", "bad length", "bad byte", "only digits", "in table", "added before", "too many"}  # fmt: skip
+
+
+# ---- wrong references
 
 
 class KeepsNoChoice(Steps):
@@ -104,19 +114,30 @@ class DoesNotKnowItsOwn(Steps):
 WRONG = [KeepsNoChoice, ReadsOn, OwnLinesPlay, HidesOurs, AnswersTwice, GoesOnAfterQuit, ForgetsTheName, DoesNotKnowItsOwn]
 
 
-def returned_by(program, rule, calls):
+# ---- what was drawn
+
+
+@lru_cache(maxsize=None)
+def drawn():
+    """The rule of ko and the calls of each list, with what the reference returns."""
+    return [stepped.drawn(seed, random.Random(seed)) for seed in range(OPTIONS.seed, OPTIONS.seed + OPTIONS.lists)]
+
+
+def returned_by(rule, calls):
     """The lines that the program prints of these calls."""
     text = "".join(f"{name} {data.hex()}\n" for name, data, _ in calls)
-    command = [program, "positional"] if rule == POSITIONAL else [program]
-    return subprocess.run(command, input=text.encode(), capture_output=True, timeout=60).stdout.decode().split("\n")
+    return run([PROGRAM, "positional"] if rule == POSITIONAL else [PROGRAM], text).output.split("\n")
 
 
-def first_difference(calls, lines):
-    """The number of the first call that returned something else, or None."""
+def difference(number):
+    """The first call of a list that returned something else than the reference's, or None."""
+    rule, calls = drawn()[number]
+    lines = returned_by(rule, calls)
     wanted = [returned for _, _, returned in calls] + [""]
     if lines == wanted:
         return None
-    return next((number for number, (one, other) in enumerate(zip(wanted, lines)) if one != other), min(len(wanted), len(lines)))
+    at = next((at for at, (one, other) in enumerate(zip(wanted, lines)) if one != other), min(len(wanted), len(lines)))
+    return f"list {OPTIONS.seed + number}, {rule}: call {at}, {calls[at:at + 1]}, returned {lines[at:at + 1]}"
 
 
 def kind_of(returned):
@@ -132,36 +153,39 @@ def differs(model, calls, rule):
     return any(steps.call(name, data) != returned for name, data, returned in calls)
 
 
-def main():
-    parser = argparse.ArgumentParser(description=__doc__.split("\n\n")[0])
-    parser.add_argument("--lists", type=int, default=200, help="how many lists of calls are drawn")
-    parser.add_argument("--seed", type=int, default=1)
-    options = parser.parse_args()
-    counts = [0, 0]
+# ---- the checks
 
-    def check(name, holds, why=""):
-        counts[not holds] += 1
-        print(f"ok: {name}" if holds else f"FAILED: {name}{why}", flush=True)
 
-    drawn = [stepped.drawn(seed, random.Random(seed)) for seed in range(options.seed, options.seed + options.lists)]
-    seen = {kind_of(returned) for _, calls in drawn for _, _, returned in calls}
-    check("the drawn calls return each thing that there is", seen >= WANTED, f": never {sorted(WANTED - seen)}")
-    for model in WRONG:
-        noticed = any(differs(model, calls, rule) for rule, calls in drawn)
-        check(f"noticed would be: {model.__doc__[0].lower()}{model.__doc__[1:-1]}", noticed)
-    if not PROGRAM.exists():
-        print("skipped: the comparison itself, since bin/tests_steps_engine is not there (./build tests_steps_engine)")
-        drawn = []
-    for seed, (rule, calls) in enumerate(drawn, options.seed):
-        lines = returned_by(PROGRAM, rule, calls)
-        number = first_difference(calls, lines)
-        why = "" if number is None else f": call {number}, {calls[number:number + 1]}, returned {lines[number:number + 1]}"
-        if number is not None or seed % 50 == 0:
-            check(f"{rule}: the calls of list {seed} return the same", number is None, why)
-    print(f"of {sum(len(calls) for _, calls in drawn)} calls in {len(drawn)} lists")
-    print(f"{counts[0]} passed, {counts[1]} failed")
-    return 1 if counts[1] else 0
+class Drawn(checks.Case):
+    """What is drawn."""
+
+    def test_kinds(self):
+        """the drawn calls return each thing that there is."""
+        seen = {kind_of(returned) for _, calls in drawn() for _, _, returned in calls}
+        self.same(set(), WANTED - seen)
+
+
+@checks.table(WRONG, lambda model: f"noticed would be: {model.__doc__[0].lower()}{model.__doc__[1:-1]}")
+class Noticed(checks.Case):
+    """Each wrong reference returns something else of some list."""
+
+    def row(self, model):
+        self.assertTrue(any(differs(model, calls, rule) for rule, calls in drawn()), "no list shows it")
+
+
+@checks.table(range(0, OPTIONS.lists, TOGETHER), lambda first: f"the calls of the lists from {OPTIONS.seed + first} on return the same")
+class Compared(checks.Case):
+    """The program beside the reference."""
+
+    @classmethod
+    def setUpClass(cls):
+        if not PROGRAM.exists():
+            raise SkipTest("bin/tests_steps_engine is not there (./build tests_steps_engine)")
+
+    def row(self, first):
+        found = [difference(number) for number in range(first, min(first + TOGETHER, OPTIONS.lists))]
+        self.same([], [it for it in found if it])
 
 
 if __name__ == "__main__":
-    sys.exit(main())
+    checks.main(OPTIONS)

@@ -1,4 +1,4 @@
-"""The referee of a match: docs/controller.md in Python, as literal as can be.
+"""The controller of a match: docs/controller.md in Python, as literal as can be.
 
 It hears what happened, and says what to do next. A side is named by the colour that it plays.
 """

@@ -185,57 +185,57 @@ def mistake(match):
 
 def play_game(setup, starter):
     """The controller of a game that was played to its end."""
-    referee = Controller(setup, starter.timing.most)
+    controller = Controller(setup, starter.timing.most)
     processes = {BLACK: None, WHITE: None}
     for _ in range(MOST_TURNS):
-        action, side = referee.next()
+        action, side = controller.next()
         if action == DONE:
-            say_quit(referee, processes)
-            return referee
-        take_turn(referee, action, side, processes, starter)
+            say_quit(controller, processes)
+            return controller
+        take_turn(controller, action, side, processes, starter)
     raise Undetermined("the match has no end")
 
 
-def take_turn(referee, action, side, processes, starter):
+def take_turn(controller, action, side, processes, starter):
     """Does what comes next. A process that can't be started, a write that fails and the end of an output are `lost`."""
     if action == START:
         processes[side] = starter.start(side)
-        referee.started(side)
+        controller.started(side)
         if processes[side] is None:
-            lose(referee, side, [why.not_started(*starter.reason(side))])
+            lose(controller, side, [why.not_started(*starter.reason(side))])
     elif action == SEND:
-        if not processes[side].write(all_for(referee, side)):
-            lose(referee, side, broken(processes[side], why.WRITING_FAILED, referee.writes(side)[:1]))
+        if not processes[side].write(all_for(controller, side)):
+            lose(controller, side, broken(processes[side], why.WRITING_FAILED, controller.writes(side)[:1]))
     else:
-        hear(referee, side, processes[side])
+        hear(controller, side, processes[side])
 
 
-def all_for(referee, side):
+def all_for(controller, side):
     """All commands that this side is sent before anything else is done."""
-    commands = [referee.send(side)]
-    while referee.next() == (SEND, side):
-        commands.append(referee.send(side))
+    commands = [controller.send(side)]
+    while controller.next() == (SEND, side):
+        commands.append(controller.send(side))
     return commands
 
 
-def hear(referee, side, process):
+def hear(controller, side, process):
     """Reads what this side wrote. Where it loses the side, and the engine has ended, a write before may have failed."""
-    writes, before = referee.writes(side), len(referee.reported)
+    writes, before = controller.writes(side), len(controller.reported)
     text = process.read()
     if text:
-        referee.heard(side, text, process.following)
+        controller.heard(side, text, process.following)
     else:
-        lose(referee, side, broken(process, why.OUTPUT_ENDED, writes[:1]))
+        lose(controller, side, broken(process, why.OUTPUT_ENDED, writes[:1]))
     if process.may_have_broken():
-        for lost in referee.reported[before:]:
+        for lost in controller.reported[before:]:
             if isinstance(lost, Loss):
                 lost.texts.extend(broken(process, why.WRITING_FAILED, writes))
 
 
-def lose(referee, side, texts):
+def lose(controller, side, texts):
     """This side fails, and one of these texts is reported."""
-    referee.reported.append(Loss(side, texts))
-    referee.lost(side)
+    controller.reported.append(Loss(side, texts))
+    controller.lost(side)
 
 
 def broken(process, cause, writes):
@@ -243,10 +243,10 @@ def broken(process, cause, writes):
     return [why.cut_off(unanswered, cause, ending, rest) for unanswered, rest in writes for ending in process.endings()]
 
 
-def say_quit(referee, processes):
+def say_quit(controller, processes):
     """At the end each side that is up and has answered all is asked to quit."""
     for side in SIDES:
-        if not referee.is_down(side) and not referee.has_unanswered(side):
+        if not controller.is_down(side) and not controller.has_unanswered(side):
             processes[side].write([b"quit\n"])
             processes[side].reads_all()
             if processes[side].is_silent():

@@ -392,7 +392,7 @@ def start_before_undo(self):
     return (START, down[0]) if self.verdict is None and self.pending and down else right_next(self)
 
 
-def nobody_is_asked_to_quit(referee, processes):
+def nobody_is_asked_to_quit(the_controller, processes):
     pass
 
 
@@ -447,10 +447,10 @@ def retake_is_a_loss(self, side):
         self.lost(side)
 
 
-def retake_is_reported_last(referee, side, process):
-    before = len(referee.reported)
-    right_hear(referee, side, process)
-    referee.reported[before:] = sorted(referee.reported[before:], key=lambda reported: isinstance(reported, controller.Retake))
+def retake_is_reported_last(the_controller, side, process):
+    before = len(the_controller.reported)
+    right_hear(the_controller, side, process)
+    the_controller.reported[before:] = sorted(the_controller.reported[before:], key=lambda reported: isinstance(reported, controller.Retake))
 
 
 def retake_owes_nothing(self, side, count):
@@ -479,17 +479,17 @@ def each_retake_is_reported_as_the_first(self, side, count):
     right_report_retake(self, side, 1)
 
 
-def loss_of_the_read_is_not_reported(referee, side, process):
-    before = len(referee.reported)
-    right_hear(referee, side, process)
-    if any(isinstance(reported, controller.Retake) for reported in referee.reported[before:]):
-        del referee.reported[before + 1 :]
+def loss_of_the_read_is_not_reported(the_controller, side, process):
+    before = len(the_controller.reported)
+    right_hear(the_controller, side, process)
+    if any(isinstance(reported, controller.Retake) for reported in the_controller.reported[before:]):
+        del the_controller.reported[before + 1 :]
 
 
-def retake_of_the_read_is_not_reported(referee, side, process):
-    before = len(referee.reported)
-    right_hear(referee, side, process)
-    referee.reported[before:] = referee.reported[before:][-1:]
+def retake_of_the_read_is_not_reported(the_controller, side, process):
+    before = len(the_controller.reported)
+    right_hear(the_controller, side, process)
+    the_controller.reported[before:] = the_controller.reported[before:][-1:]
 
 
 def it_wrote_nothing(unanswered, cause, ending, data):

@@ -1,0 +1,233 @@
+#!/usr/bin/env python3
+"""Looks whether a check that fails is seen: small stages whose checks pass, fail, are skipped or hang, in Python and in bash.
+
+What each prints was worked out by hand from tests/shared/checks.py and checks.bash.
+"""
+import os
+import signal
+import sys
+import time
+from pathlib import Path
+
+sys.dont_write_bytecode = True
+sys.path[0] = str(Path(__file__).resolve().parents[2])
+
+from tests.shared import checks, running  # noqa: E402
+
+STAGE = f'''"""A stage."""
+import sys
+sys.path[0] = {str(running.TOP)!r}
+from unittest import SkipTest
+from tests.shared import checks, running
+PARSER = checks.Parser(__doc__)
+PARSER.add_argument("--rows", type=int, default=2)
+OPTIONS = PARSER.options(__name__)
+
+{{}}
+
+if __name__ == "__main__":
+    checks.main(OPTIONS)
+'''
+TESTS = '''
+class Plain(checks.Case):
+    """Tests that are one check each."""
+    def test_second(self):
+        """one is one. This is no more than that."""
+        self.same(1, 1)
+    def test_one_is_two(self):
+        self.same(1, 2)
+    def test_broken(self):
+        """it is broken."""
+        raise KeyError("broken")
+'''
+PARTS = '''
+class Parts(checks.Case):
+    def test_parts(self):
+        """three parts."""
+        self.check("the first", 1, 2)
+        self.check("[the second]", 1, 1)
+        self.skip("the third", "it is not there")
+    def test_a_part_and_an_end(self):
+        """a part and an end."""
+        self.check("the part", 1, 1)
+        self.fail("the end")
+'''
+TABLES = '''
+@checks.table(range(OPTIONS.rows), lambda it: f"row {it}, doubled")
+class Rows(checks.Case):
+    def row(self, row):
+        self.same(0, 2 * row)
+
+def work(row):
+    with open("done", "a") as done:
+        done.write(row)
+    return 1 // "cab".index(row)
+
+@checks.table("abc", lambda it: "the same name", work=work)
+class Ahead(checks.Case):
+    def row(self, row, came):
+        self.same(1, came)
+'''
+CASES = '''
+class Skipped(checks.Case):
+    """a case that is skipped."""
+    @classmethod
+    def setUpClass(cls):
+        raise SkipTest("there is nothing")
+    def test_it(self):
+        pass
+
+class Failing(checks.Case):
+    """a case that can't begin."""
+    @classmethod
+    def setUpClass(cls):
+        running.need("no_program", folder="/nowhere")
+    def test_it(self):
+        pass
+'''
+HANGING = '''
+class Hanging(checks.Case):
+    def test_it(self):
+        """it ends by its limit."""
+        self.same((None, "", ""), running.run(["bash", "-c", "sleep 987 & sleep 987"], limit=0.5))
+    def test_ever(self):
+        with running.started(["bash", "-c", f"sleep 987 & echo $$ > {self.room()}/../{OPTIONS.rows}; sleep 987"]) as process:
+            process.communicate()
+'''
+BASH = """#!/bin/bash
+. tests/shared/checks.bash
+need gtp_engine
+sleep 987 &
+echo "$! $room" > "$1"
+check 'one is one' 1 1
+[ "$2" = passes ] || check 'one is two' 1 2
+skip 'the third' 'it is not there'
+finish
+"""
+
+
+def differs(wanted, got):
+    """What is printed of a check whose two sides are these."""
+    return f"--- wanted\n{wanted}\n--- got\n{got}\n---\n"
+
+
+def is_there(process):
+    """Is this process still there?"""
+    return Path(f"/proc/{process}").exists()
+
+
+def stays(process):
+    """Is it there still after some seconds? A signal takes its time."""
+    late = time.monotonic() + 10
+    while is_there(process) and time.monotonic() < late:
+        time.sleep(0.05)
+    return is_there(process)
+
+
+class Small(checks.Case):
+    """Stages of a few lines."""
+
+    def stage(self, text):
+        """A stage that has these cases."""
+        file = self.room() / "stage.py"
+        file.write_text(STAGE.format(text))
+        return file
+
+    def came(self, text, *words):
+        """What comes of such a stage."""
+        file = self.stage(text)
+        return running.run([sys.executable, file, *words], cwd=file.parent)
+
+    def test_plain(self):
+        """tests that pass, fail and break are each a line and counted."""
+        status, output, _ = self.came(TESTS)
+        self.same((1, "ok: one is one\nFAILED: one is two\n" + differs(1, 2) + "FAILED: it is broken\nTraceback"),
+                  (status, output.partition(" (most recent")[0]))  # fmt: skip
+        self.same(["KeyError: 'broken'", "1 passed, 2 failed"], output.splitlines()[-2:])
+
+    def test_passes(self):
+        """where all that runs passes the status is 0."""
+        self.same((0, "ok: one is one\n1 passed, 0 failed\n", ""), self.came(TESTS, "-k", "second"))
+
+    def test_parts(self):
+        """each check within a test is counted, and the test itself is where it fails besides."""
+        lines = ["FAILED: the first", *differs(1, 2).splitlines(), "ok: [the second]", "skipped: the third: it is not there",
+                 "ok: the part", "FAILED: a part and an end", "the end", "2 passed, 2 failed"]  # fmt: skip
+        status, output, errors = self.came(PARTS)
+        self.same((1, sorted(lines), ""), (status, sorted(output.splitlines()), errors))
+
+    def test_table(self):
+        """each row is a test, also where the options draw them, and where the names are the same."""
+        status, output, _ = self.came(TABLES, "--rows", "3")
+        lines = [line for line in output.splitlines() if line[:3] in ("ok:", "FAI") or " passed, " in line]
+        rows = ["ok: row 0, doubled", "FAILED: row 1, doubled", "FAILED: row 2, doubled"]
+        names = ["ok: the same name", "FAILED: the same name", "FAILED: the same name"]
+        self.same((1, [*rows, *names, "2 passed, 4 failed"]), (status, lines))
+
+    def test_chosen(self):
+        """-k runs the rows whose sentence has the text, and does the work of no others."""
+        file = self.stage(TABLES)
+        self.same((0, "ok: row 0, doubled\n1 passed, 0 failed\n", ""), running.run([sys.executable, file, "-k", "row 0, d"], cwd=file.parent))
+        self.same((0, "ok: the same name\n1 passed, 0 failed\n", ""), running.run([sys.executable, file, "-k", "*the_same_name"], cwd=file.parent))
+        self.same("a", (file.parent / "done").read_text())
+
+    def test_nothing(self):
+        """-k that no name has is said, and no success."""
+        status, output, errors = self.came(TESTS, "-k", "third")
+        self.same((1, "", "no check has 'third' in its name\n"), (status, output, errors))
+
+    def test_cases(self):
+        """a case that is skipped counts neither way, and one that can't begin has failed."""
+        wanted = "skipped: a case that is skipped: there is nothing\nFAILED: a case that can't begin\n/nowhere/no_program is not there, or is"
+        status, output, _ = self.came(CASES)
+        self.same((1, f"{wanted} no program\n0 passed, 1 failed\n"), (status, output))
+
+    def test_skipped(self):
+        """a stage of which all is skipped is no success."""
+        status, output, _ = self.came(CASES, "-k", "Skipped")
+        self.same((1, "0 passed, 0 failed"), (status, output.splitlines()[-1]))
+
+    def test_unittest(self):
+        """unittest itself runs a stage too, and a check within a test fails there."""
+        file = self.stage(PARTS)
+        status, _, errors = running.run([sys.executable, "-m", "unittest", "stage", "-k", "parts"], cwd=file.parent)
+        self.same((1, True), (status, "FAILED (failures=1, skipped=1)" in errors))
+
+    def test_limit(self):
+        """what hangs is killed by its limit, with all that it started."""
+        self.same((0, "ok: it ends by its limit\n1 passed, 0 failed\n", ""), self.came(HANGING, "-k", "Hanging.test_it"))
+        self.same([], [it for it in Path("/proc").glob("[0-9]*/cmdline") if it.exists() and b"sleep\x00987" in it.read_bytes()])
+
+    def test_interrupted(self):
+        """a stage that is asked to end leaves no process and no folder."""
+        file = self.stage(HANGING)
+        folder = file.parent / "temporary"
+        folder.mkdir()
+        with running.started([sys.executable, file, "-k", "ever"], env={**os.environ, "TMPDIR": str(folder)}) as stage:
+            late = time.monotonic() + 20
+            while not (folder / "2").exists() and time.monotonic() < late:
+                time.sleep(0.05)
+            time.sleep(0.2)
+            left = (folder / "2").read_text().strip()
+            self.same(True, is_there(left))
+            stage.send_signal(signal.SIGTERM)
+            stage.communicate()
+        self.same((130, False, ["2"]), (stage.returncode, is_there(left), [it.name for it in folder.iterdir()]))
+
+
+class Bash(checks.Case):
+    """The same in bash."""
+
+    def test_bash(self):
+        """in bash what passes and fails is counted, and nothing is left."""
+        script, note = self.room() / "stage", self.room() / "note"
+        script.write_text(BASH)
+        said = "ok: one is one\n{}skipped: the third: it is not there\n1 passed, {} failed\n"
+        self.same((1, said.format("FAILED: one is two\n" + differs(1, 2), 1), ""), running.run(["bash", script, note]))
+        self.same((0, said.format("", 0), ""), running.run(["bash", script, note, "passes"]))
+        process, room = note.read_text().split()
+        self.same((False, False), (stays(process), Path(room).exists()))
+
+
+if __name__ == "__main__":
+    checks.main()
