@@ -3,11 +3,18 @@
 # shellcheck shell=bash
 passed=0
 failed=0
-room=$(mktemp -d) || exit 1
-# shellcheck disable=SC2046
-trap 'kill $(jobs -p) 2> /dev/null; rm -rf "$room"' EXIT
+room=$(realpath "$(mktemp -d)") || exit 1
+trap leave EXIT
 trap 'exit 143' TERM
 trap 'exit 129' HUP
+
+# leave: what is done at the end. A stage that has more to end has a function `end`.
+leave() {
+    [ "$(type -t end)" != function ] || end
+    # shellcheck disable=SC2046
+    kill $(jobs -p) 2> /dev/null
+    rm -rf "$room"
+}
 
 # check NAME WANTED GOT: are both the same?
 check() {

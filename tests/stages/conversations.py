@@ -1,8 +1,7 @@
 #!/usr/bin/env python3
-"""Gives the built program the worked conversations, and compares it with a plain, slow reference on random ones: same output, same
-standard error, same status.
+"""Gives the built engine the worked conversations, and compares it with a plain, slow reference on random ones.
 
-Then come random conversations. For each the engine and the reference have to give the same output, standard error and status.
+The worked ones come first. Then come random conversations. For each the engine and the reference have to give the same output, standard error and status.
 Where they don't, the script shortens the input while the two still differ, shows what is left and both results, and keeps the
 input in a folder.
 
@@ -39,8 +38,8 @@ PIPES = "pipe"
 PIPES_NAME = "random cuts through a pipe"
 
 EXPLAINED = """\
-First the reference has to give the worked conversations, whose replies were written by hand (tests/references/engine/worked.txt). So has the
-program, a line each: each is given to it at once, and byte after byte.
+First the reference has to give the worked conversations, whose replies were written by hand
+(tests/references/engine/worked.txt). So has the program, a line each: each is given to it at once, and byte after byte.
 
 kinds of random conversations:
 {kinds}

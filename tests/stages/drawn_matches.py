@@ -1,10 +1,10 @@
 #!/usr/bin/env python3
-"""Plays drawn matches by `twogtp`, between engines that misbehave at drawn places, and compares what comes of each with what a plain
-reference of the controller says: same output, same standard error, same status, and the same commands sent to the engines.
+"""Plays drawn matches by `twogtp`, and compares what comes of each with what a plain reference of the controller says.
 
-Each match of tests/stages/drawn_matches.py is drawn at random, from a seed: size, komi, handicap, limits, and two engines. In most at least one of
-them misbehaves, at random moves and starts. tests/references/controller/faults.py and drawn.py have some 240 ways to do so, and any 261 matches
-in a row have each of them once. The other engine is mostly our own, now and then under --fault or --ko positional. In 16 of the
+Output, standard error and status have to be the same, and the commands that were sent to the engines, which misbehave at drawn places.
+Each match is drawn at random, from a seed: size, komi, handicap, limits, and two engines. In most at least one of them misbehaves, at
+random moves and starts. tests/references/controller has some 240 ways to do so, in faults.py and drawn.py, and any 261 matches in a row
+have each of them once. The other engine is mostly our own, now and then under --fault or --ko positional. In 16 of the
 261 both are, on boards so small that positions come back. Four of five are played with --why. Both outputs, the status, and the
 commands that each engine was sent until it misbehaved have to be those of the reference, byte for byte. Where something differs,
 the match is shown with its command, both results and both notes.
@@ -12,9 +12,9 @@ the match is shown with its command, both results and both notes.
 Lines are also counted without the reference. A game has at most as many lines of losses as engines were started in it, and at
 most three lines of retakes for each move that is allowed.
 
-Only what has one outcome, whenever a process happens to run, is drawn; the head of tests/references/controller/drawn.py has what is left out.
+Only what has one outcome, whenever a process happens to run, is drawn; the head of the reference's drawn.py has what is left out.
 The reference plays each match three times, with quick and slow engines, and all three have to come out alike. For a line of --why
-it gives all texts that may be written, mostly one; the head of tests/references/controller/matches.py has where there are more.
+it gives all texts that may be written, mostly one; the head of the reference's matches.py has where there are more.
 """
 import argparse
 import os
@@ -96,7 +96,8 @@ class Trial:
 
 def tell_difference(trial, wanted, got):
     """Shows a match in which the program and the reference differ."""
-    print(f"--- again by: tests/stages/drawn_matches.py --seed {trial.seed} --match {trial.number}; the command:\n{shlex.join(trial.command())}")
+    again = f"tests/stages/drawn_matches.py --seed {trial.seed} --match {trial.number}"
+    print(f"--- again by: {again}; the command:\n{shlex.join(trial.command())}")
     for who, result in (("reference", wanted), ("program", got)):
         if isinstance(result, str):
             print(f"--- the {who}: {result}")

@@ -1,10 +1,10 @@
 #!/usr/bin/env python3
 """Checks right and wrong engines by `gtp_check`.
 
-Right engines are never blamed: ours with each policy, both plain references, and ours in other dresses (tests/engines/right/dressed), which
-are as right. Wrong engines (tests/engines/wrong) are noticed by the lessons that show their bugs, and each complaint is pasted into one more
-process of the wrong engine and of the right one. tests/stages/of_gtp_check/table.py says what shows each bug, and what isn't noticed. Engines that
-misbehave (tests/engines/hostile/engine) end as was worked out by hand. Where standard error is a terminal, what is waited for is on it, and
+Right engines are never blamed: ours with each policy, both plain references, and ours in other dresses (tests/engines/right/dressed),
+which are as right. Wrong engines (tests/engines/wrong) are noticed by the lessons that show their bugs, and each complaint is pasted
+into one more process of the wrong engine and of the right one. of_gtp_check/table.py says what shows each bug, and what isn't noticed.
+Engines that misbehave (tests/engines/hostile/engine) end as was worked out by hand. Where standard error is a terminal, what is waited for is on it, and
 the output is the same. At last no process may be left.
 
 Each check is a line; the last line is 'N passed, M failed'.

@@ -1,42 +1,29 @@
 #!/bin/bash
-# Looks at the library for other languages. Its header is C99 and C++ without a warning. Header, archive and shared library name the same
-# calls, and ask for nothing but memcpy, memmove and memset. A program that was compiled for another interface isn't linked. tests/shared/each_call.c
-# makes each call, of the archive and of the shared library as pkg-config finds it. The examples play: the engine under twogtp, and the
-# controller beside it.
+# Looks at the files of the library for other languages: its header, archive and shared library, and programs that are linked with them.
+#
+# The header is C99 and C++ without a warning. Header, archive and shared library name the same calls, and ask for nothing but memcpy,
+# memmove and memset. A program that was compiled for another interface isn't linked. tests/shared/each_call.c makes each call, of the
+# archive and of the shared library as pkg-config finds it. The examples play: the engine under twogtp, and the controller beside it.
 #
 # Of a library by cargo its objects may be smaller than the header says, it may ask for what Rust's library does, and its archive has that
 # library's names besides.
 #
 # usage: tests/stages/library_files.bash    takes the library that `./build library` leaves in bin/, and the programs there
-# What isn't there is a line 'skipped: ..': the library, gcc, clang, nm and readelf (binutils), pkg-config, the kit. Each check is a line,
-# and the last line is 'N passed, M failed'.
+# What isn't there is a line 'skipped: ..': the library, gcc, clang, nm and readelf (binutils), pkg-config, the kit.
 cd "$(dirname "$0")/../.." || exit 1
+. tests/shared/checks.bash
 archive=bin/libvintsaky.a shared=bin/libvintsaky.so.1
-room=$(mktemp -d) || exit 1
-trap 'rm -rf "$room"' EXIT
-passed=0 failed=0
 warn=(-O2 -Wall -Wextra -pedantic)
 kind=$(packaging/built libvintsaky.a 2> /dev/null) || kind=proved
 sizes=() # what tests/shared/each_call.c is told of the sizes
 [ "$kind" = proved ] || sizes=(-DAT_MOST)
-
-# check WHAT WANTED GOT
-check() {
-    if [ "$2" = "$3" ]; then
-        echo "ok: $1"
-        passed=$((passed + 1))
-    else
-        printf 'FAILED: %s\n--- wanted\n%s\n--- got\n%s\n---\n' "$1" "$2" "$3"
-        failed=$((failed + 1))
-    fi
-}
 
 # has WHAT COMMAND..: is each command there? Else it is said that this isn't looked at.
 has() {
     local what=$1
     shift
     command -v "$@" > /dev/null && [ "$(command -v "$@" | wc -l)" -eq $# ] && return
-    echo "skipped: $what: not all of these are there: $*"
+    skip "$what" "not all of these are there: $*"
     return 1
 }
 
@@ -45,7 +32,7 @@ has_file() {
     local what=$1 file
     shift
     for file in "$@"; do
-        [ -f "$file" ] || { echo "skipped: $what: $file is not there, which ./build makes, or ./build library" && return 1; }
+        [ -f "$file" ] || { skip "$what" "$file is not there, which ./build makes, or ./build library" && return 1; }
     done
 }
 
@@ -106,7 +93,8 @@ look_with() {
             "$(linked "$room/other" "$library")"
     done
     check "$1: each call does what its page says" '' \
-        "$({ "${words[@]}" "${warn[@]}" "${sizes[@]}" -Ilibrary -o "$room/calls" tests/shared/each_call.c -x none "$archive" && "$room/calls"; } 2>&1)"
+        "$({ "${words[@]}" "${warn[@]}" "${sizes[@]}" -Ilibrary -o "$room/calls" tests/shared/each_call.c -x none "$archive" \
+            && "$room/calls"; } 2>&1)"
 }
 
 for compiler in "${compilers[@]}"; do
@@ -172,7 +160,8 @@ if has_file 'as pkg-config finds it' "$archive" "$shared" && has 'as pkg-config 
     check 'pkg-config names the version of the header' "$(header_version)" "$(found --modversion)"
     check 'it names no other library' -lvintsaky "$(found --static --libs-only-l | xargs)"
     check 'a program is linked with what it finds, and makes each call' '' \
-        "$({ cc -std=c99 "${sizes[@]}" -o "$room/calls" tests/shared/each_call.c "${flags[@]}" && LD_LIBRARY_PATH=$usr/lib "$room/calls"; } 2>&1)"
+        "$({ cc -std=c99 "${sizes[@]}" -o "$room/calls" tests/shared/each_call.c "${flags[@]}" \
+            && LD_LIBRARY_PATH=$usr/lib "$room/calls"; } 2>&1)"
     check 'that program asks for the shared library' libvintsaky.so.1 "$(dynamic "$room/calls" NEEDED | grep vintsaky)"
 fi
 
@@ -201,5 +190,5 @@ if has_file 'the examples' "$archive" bin/twogtp bin/gtp_engine && has 'the exam
     ! has_file 'the examples, checked' bin/gtp_check || check 'gtp_check finds nothing' '0 complaints' \
         "$(bin/gtp_check --quick "$room/random_engine" | tail -n 1 | grep -o '[0-9]* complaints')"
 fi
-echo "$passed passed, $failed failed"
-[ "$failed" -eq 0 ]
+
+finish

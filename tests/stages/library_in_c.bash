@@ -1,51 +1,33 @@
 #!/bin/bash
-# Calls the library from C: drawn calls with arguments inside and outside their limits, on objects and buffers between pages that can't be
-# touched (of_library_in_c/ beside it); the same under valgrind and in eight threads; and the two examples. The engine plays whole games
-# under twogtp in which it is killed, and stands beside the plain reference. The example of a match has twogtp's lines in drawn matches.
+# Calls the library from C: drawn calls, threads, the two examples in whole games, and matches beside those of twogtp.
+#
+# The drawn calls have arguments inside and outside their limits, on objects and buffers between pages that can't be touched
+# (of_library_in_c/ beside it). The same comes under valgrind and in eight threads. The engine of the examples plays whole games under
+# twogtp in which it is killed, and stands beside the plain reference. The example of a match has twogtp's lines in drawn matches.
 #
 # usage: tests/stages/library_in_c.bash           in some seconds: 10^5 drawn calls a seed, 2 * 10^4 under valgrind
 #        tests/stages/library_in_c.bash --long    in some minutes: 10^7, and 10^5 under valgrind
 #        tests/stages/library_in_c.bash --help
-# Needs cc, the programs and libvintsaky.a in bin/; what isn't there is skipped. Each check is a line; the last is 'N passed, M failed'.
+# Needs cc, the programs and libvintsaky.a in bin/; what isn't there is skipped.
 cd "$(dirname "$0")/../.." || exit 1
+. tests/shared/checks.bash
 case $#:$1 in
     0:) calls=100000 slow_calls=20000 threaded=20000 conversations=2 ;;
     1:--long) calls=10000000 slow_calls=100000 threaded=200000 conversations=20 ;;
-    1:--help) sed -n '6,8s/^# //p' "$0"; exit ;;
-    *) sed -n '6,8s/^# //p' "$0" >&2; exit 2 ;;
+    1:--help) sed -n '8,10s/^# //p' "$0"; exit ;;
+    *) sed -n '8,10s/^# //p' "$0" >&2; exit 2 ;;
 esac
 top=$PWD
 archive=bin/libvintsaky.a
-passed=0 failed=0
-
-# check WHAT WANTED GOT
-check() {
-    if [ "$2" = "$3" ]; then
-        echo "ok: $1"
-        passed=$((passed + 1))
-    else
-        printf 'FAILED: %s\n--- wanted\n%s\n--- got\n%s\n---\n' "$1" "$2" "$3"
-        failed=$((failed + 1))
-    fi
-}
-
-# finish: prints the result and ends
-finish() {
-    echo "$passed passed, $failed failed"
-    [ "$failed" -eq 0 ]
-    exit
-}
 
 for name in random_engine play_match; do
     check "the example $name has at most 60 lines" short "$([ "$(wc -l < "library/examples/$name.c")" -le 60 ] && echo short || echo long)"
 done
-command -v cc > /dev/null || { echo 'skipped: all calls from C, since there is no cc' && finish; }
+command -v cc > /dev/null || { skip 'all calls from C' 'there is no cc' && finish; }
 for needed in "$archive" bin/twogtp bin/gtp_engine; do
-    [ -f "$needed" ] || { echo "skipped: all calls from C, since $needed is not there (./build, ./build library)" && finish; }
+    [ -f "$needed" ] || { skip "all calls from C" "$needed is not there (./build, ./build library)" && finish; }
 done
 PATH=$top/bin:$PATH
-room=$(mktemp -d) || exit 1
-trap 'rm -rf "$room"' EXIT
 c99=(-std=c99 -O1 -g -Wall -Wextra -pedantic -I"$top/library")
 
 # make FOLDER FLAG..: the programs of the drawn calls, `draw` and `stack`, in a folder. What the compiler says.
@@ -84,7 +66,7 @@ if [ -f bin/libvintsaky.so.1 ]; then
     check 'the shared library returns and writes the same as the archive' "$("$room/right/draw" 6 20000)" \
         "$(archive=bin/libvintsaky.so.1 link "$room/right" draw calls shared; LD_LIBRARY_PATH=bin "$room/right/shared" 6 20000)"
 else
-    echo 'skipped: the shared library beside the archive, since bin/libvintsaky.so.1 is not there'
+    skip 'the shared library beside the archive' 'bin/libvintsaky.so.1 is not there'
 fi
 
 # wrong copies of one call each, as the heads in wrong.h name them
@@ -104,7 +86,7 @@ if command -v valgrind > /dev/null; then
     check "$slow_calls drawn calls under valgrind" "$slow_calls calls" \
         "$(valgrind -q --error-exitcode=9 "$room/plain/draw" 4 "$slow_calls" 2>&1 | sed 's/, digest .*//')"
 else
-    echo 'skipped: drawn calls under valgrind, which is not there'
+    skip 'drawn calls under valgrind' 'it is not there'
 fi
 echo 'int main(void) { return 0; }' > "$room/nothing.c"
 # sanitizes KIND: can a program run that this sanitizer looks at? Under some kernels not even one that does nothing.
@@ -115,7 +97,7 @@ if sanitizes address,undefined; then
     check "$calls drawn calls where a sanitizer looks at the buffers" "$calls calls" \
         "$(make sane -DPLAIN -fsanitize=address,undefined; "$room/sane/draw" 5 "$calls" 2>&1 | sed 's/, digest .*//')"
 else
-    echo 'skipped: drawn calls under a sanitizer, which does not run here'
+    skip 'drawn calls under a sanitizer' 'it does not run here'
 fi
 
 # ---- threads and stack
@@ -126,7 +108,7 @@ if sanitizes thread; then
     check 'the same where a sanitizer looks at the threads' '0 of 8 differ' \
         "$(make threads -fsanitize=thread -DSTACK_KB=4096; "$room/threads/draw" --threads 1 300 2>&1)"
 else
-    echo 'skipped: threads under a sanitizer, which does not run here'
+    skip 'threads under a sanitizer' 'it does not run here'
 fi
 check 'no family of calls takes more than 192 kB of stack' '' "$("$room/right/stack" 1 20000 196608 2>&1 | grep -v '^[a-z]* [0-9]*$')"
 
@@ -154,13 +136,14 @@ if [ -x bin/gtp_check ]; then
     check 'gtp_check finds nothing in the engine' '0 complaints' \
         "$(gtp_check --quick "$room/random_engine" | tail -n 1 | grep -o '[0-9]* complaints')"
 else
-    echo 'skipped: gtp_check on the engine, since bin/gtp_check is not there'
+    skip 'gtp_check on the engine' 'bin/gtp_check is not there'
 fi
 if command -v python3 > /dev/null; then
     check 'the engine is the reference on drawn conversations' '0 failed' \
-        "$(python3 tests/references/engine/chosen.py --count "$conversations" "$room/random_engine" 3 2>&1 | tail -n 1 | grep -o '[0-9]* failed')"
+        "$(python3 tests/references/engine/chosen.py --count "$conversations" "$room/random_engine" 3 2>&1 \
+            | tail -n 1 | grep -o '[0-9]* failed')"
 else
-    echo 'skipped: the engine beside the reference, since there is no python3'
+    skip 'the engine beside the reference' 'there is no python3'
 fi
 
 # ---- the example of a match beside twogtp

@@ -309,7 +309,8 @@ def check_engine(checks):
         checks.check(f"the same game again with seed {seed}", line, again[0])
     # It is killed at its third genmove after each start, so each start plays two moves.
     for seed, kept in [(1, 0), (2, 0), (3, 6)]:
-        line, _ = twogtp(f"tests/engines/hostile/dies 3 {kept} {ENGINE} {seed}", ours, "--size", "5", "--restarts", "1000", "--max-moves", "60")
+        line, _ = twogtp(f"tests/engines/hostile/dies 3 {kept} {ENGINE} {seed}", ours,
+                         "--size", "5", "--restarts", "1000", "--max-moves", "60")
         moves = (int(re.search(r" moves ([0-9]+)", line)[1]) + 1) // 2
         wanted = (True, f"{(moves - 1) // 2} 0\n")
         checks.check(f"a whole game of an engine that is killed, with seed {seed}", wanted, (finished(line), line.split("restarts ")[1]))

@@ -1,40 +1,20 @@
 #!/bin/bash
-# Plays matches by the built programs, and looks at all that `twogtp` writes and at the status that it ends with. The programs
-# are those in bin/. Each check is a line; the last line is 'N passed, M failed'.
+# Plays matches by the built programs, and looks at all that `twogtp` writes and at the status that it ends with.
 #
 # There are whole games, engines under positional ko, refused moves, missing programs, mistakes in the arguments, and outputs
 # that can't be written. Games in which an engine is killed or fails on request have the same record, board and result as
 # without.
 cd "$(dirname "$0")/../.." || exit 1
+. tests/shared/checks.bash
 top=$PWD
-for program in gtp_engine twogtp; do
-    if [ ! -x "bin/$program" ]; then
-        printf 'FAILED: %s is built\n0 passed, 1 failed\n' "bin/$program"
-        exit 1
-    fi
-done
+need gtp_engine twogtp
 PATH=$top/bin:$PATH
-folder=$(mktemp -d) || exit 1
-trap 'rm -rf "$folder"' EXIT
-passed=0
-failed=0
-
-# check NAME WANTED GOT
-check() {
-    if [ "$2" == "$3" ]; then
-        passed=$((passed + 1))
-        echo "ok: $1"
-    else
-        failed=$((failed + 1))
-        printf 'FAILED: %s\n--- wanted\n%s\n--- got\n%s\n---\n' "$1" "$2" "$3"
-    fi
-}
 
 # run ARGUMENT..: the status of `twogtp`, its output and what it reports, each with its last newline
 run() {
-    timeout 60 twogtp "$@" > "$folder/output" 2> "$folder/errors"
+    timeout 60 twogtp "$@" > "$room/output" 2> "$room/errors"
     echo "status $?"
-    cat "$folder/output" "$folder/errors"
+    cat "$room/output" "$room/errors"
     echo .
 }
 
@@ -45,7 +25,7 @@ match() {
     shift 3
     [ "$status" -lt 2 ] || empty=output
     check "$name" "status $status"$'\n'"${text:+$text$'\n'}."$'\n'"no $empty" \
-        "$(run "$@")"$'\n'"$([ -s "$folder/$empty" ] && echo some || echo no) $empty"
+        "$(run "$@")"$'\n'"$([ -s "$room/$empty" ] && echo some || echo no) $empty"
 }
 
 # ---- whole games
@@ -134,15 +114,15 @@ twogtp: game 1: white: 1 unanswered, \"12 play b A1\": the play was refused (ret
 twogtp: game 1: white: 1 unanswered, \"13 play b A1\": the play was refused; it wrote \"?13 illegal move\\n\\n\"
 ." "$(run --why --black "$first" --white "$positional" --size 2 --komi 0 --max-moves 10)"
 # heard FILE COMMAND..: an engine whose commands are noted in the file before it is sent them
-cat > "$folder/heard" << 'end'
+cat > "$room/heard" << 'end'
 #!/bin/bash
 while IFS= read -r line; do
     echo "$line" >> "$1"
     echo "$line"
 done | "${@:2}"
 end
-chmod +x "$folder/heard"
-run --black "$folder/heard $folder/b $first" --white "$folder/heard $folder/w $positional" --size 2 --komi 0 --max-moves 10 > /dev/null
+chmod +x "$room/heard"
+run --black "$room/heard $room/b $first" --white "$room/heard $room/w $positional" --size 2 --komi 0 --max-moves 10 > /dev/null
 check 'Black takes the move back that White refuses, three times' "8 genmove b
 9 play w A2
 10 genmove b
@@ -151,13 +131,13 @@ check 'Black takes the move back that White refuses, three times' "8 genmove b
 13 undo
 14 genmove b
 15 undo
-16 genmove b" "$(grep -v quit "$folder/b" | tail -n +8)"
+16 genmove b" "$(grep -v quit "$room/b" | tail -n +8)"
 check 'White is sent the move that it refuses four times' "8 play b A1
 9 genmove w
 10 play b A1
 11 play b A1
 12 play b A1
-13 play b A1" "$(grep -v quit "$folder/w" | tail -n +8)"
+13 play b A1" "$(grep -v quit "$room/w" | tail -n +8)"
 
 # ---- engines that are missing or are none
 
@@ -172,7 +152,7 @@ twogtp: game 1: $side: not started: no such file: \"no_such_program\"
 done
 match 'the other side is missing' 1 'game 1: abandoned white moves 0 restarts 0 2' --black gtp_engine --white no_such_program
 match 'a folder is no program' 1 'game 1: abandoned black moves 0 restarts 0 0' \
-    --black "$folder" --white gtp_engine --restarts 0
+    --black "$room" --white gtp_engine --restarts 0
 match 'the games after one that was given up are still played' 1 \
     $'game 1: abandoned black moves 0 restarts 0 0\n\ngame 2: abandoned black moves 0 restarts 0 0\n' \
     --black no_such_program --white gtp_engine --restarts 0 --games 2 --record
@@ -275,8 +255,8 @@ match 'a fault that does not come changes nothing' 0 $'game 1: B+8.5 moves 7 res
 mistake() {
     local name=$1 text=$2 words=" ${*:3}" sides=()
     shift 2
-    [[ $words == *\ --black* ]] || sides+=(--black "touch $folder/started")
-    [[ $words == *\ --white* ]] || sides+=(--white "touch $folder/started")
+    [[ $words == *\ --black* ]] || sides+=(--black "touch $room/started")
+    [[ $words == *\ --white* ]] || sides+=(--white "touch $room/started")
     match "$name" 2 "$text" "${sides[@]}" "$@"
 }
 
@@ -284,8 +264,8 @@ mistake() {
 wrong() {
     local name=$1
     shift
-    check "$name" $'status 2\nerror: ' "$(run --black "touch $folder/started" --white "touch $folder/started" "$@" | head -c 16)"
-    [ ! -s "$folder/output" ] || check "$name: nothing goes to the output" '' "$(cat "$folder/output")"
+    check "$name" $'status 2\nerror: ' "$(run --black "touch $room/started" --white "touch $room/started" "$@" | head -c 16)"
+    [ ! -s "$room/output" ] || check "$name: nothing goes to the output" '' "$(cat "$room/output")"
 }
 
 mistake 'no command for Black' 'twogtp: no command for black' --black ''
@@ -306,11 +286,11 @@ done
 wrong 'an option that is not there' --threads 4
 wrong 'an option twice' --size 9 --size 9
 wrong 'a komi below zero without the sign =' --komi -3.5
-check 'without a command for White' $'status 2\nerror: ' "$(run --black "touch $folder/started" | head -c 16)"
+check 'without a command for White' $'status 2\nerror: ' "$(run --black "touch $room/started" | head -c 16)"
 check 'without a word' $'status 2\nerror: ' "$(run | head -c 16)"
-check 'after no mistake anything was started' 'nothing' "$([ -e "$folder/started" ] && echo something || echo nothing)"
-run --black "touch $folder/started" --white "$passes" --restarts 0 > /dev/null
-check 'without a mistake it would have been' 'something' "$([ -e "$folder/started" ] && echo something || echo nothing)"
+check 'after no mistake anything was started' 'nothing' "$([ -e "$room/started" ] && echo something || echo nothing)"
+run --black "touch $room/started" --white "$passes" --restarts 0 > /dev/null
+check 'without a mistake it would have been' 'something' "$([ -e "$room/started" ] && echo something || echo nothing)"
 match 'the ends of the limits are allowed' 0 'game 1: W+6.5 moves 2 restarts 0 0' \
     --black "$passes" --white "$passes" --size 25 --max-moves 2000 --restarts 1000 --games 1
 match 'the other ends of the limits are allowed' 0 'game 1: limit moves 1 restarts 0 0' \
@@ -319,14 +299,14 @@ match 'the other ends of the limits are allowed' 0 'game 1: limit moves 1 restar
 # ---- the streams
 
 check 'help ends with status 0' 'status 0' "$(run --help | head -n 1)"
-check 'help writes nothing to the standard error' '0' "$(stat -c %s "$folder/errors")"
+check 'help writes nothing to the standard error' '0' "$(stat -c %s "$room/errors")"
 options=(black white size komi handicap games max-moves restarts record show why help version)
 check 'help names each option' "${#options[@]}" \
-    "$(for option in "${options[@]}"; do grep -E -m 1 -e "^ +(-[hV], )?--$option( |\$)" "$folder/output"; done | wc -l)"
+    "$(for option in "${options[@]}"; do grep -E -m 1 -e "^ +(-[hV], )?--$option( |\$)" "$room/output"; done | wc -l)"
 check 'help has the last status' '  3  the program could not go on: write fault, out of memory, too many turns' \
-    "$(grep '^  3 ' "$folder/output")"
-check 'the last line of the help says where more is' 'More: man twogtp' "$(tail -n 1 "$folder/output")"
-check 'no line of the help has 80 columns' '' "$(grep -E '^.{80}' "$folder/output")"
+    "$(grep '^  3 ' "$room/output")"
+check 'the last line of the help says where more is' 'More: man twogtp' "$(tail -n 1 "$room/output")"
+check 'no line of the help has 80 columns' '' "$(grep -E '^.{80}' "$room/output")"
 match 'the version is printed' 0 'twogtp 1.0' --version
 reported=$(twogtp --black "$passes" --white "$passes" --size 1 2>&1 > /dev/full)
 check 'an output that is full is status 3' 3 $?
@@ -351,5 +331,4 @@ check "an engine's standard error is the controller's" \
     $'status 1\ngame 1: abandoned black moves 0 restarts 0 0\ntests/engines/hostile/engine: no kind unknown\n.' \
     "$(run --black "$top/tests/engines/hostile/engine /dev/null unknown" --white gtp_engine --restarts 0)"
 
-echo "$passed passed, $failed failed"
-[ "$failed" -eq 0 ]
+finish

@@ -1,38 +1,25 @@
 #!/bin/bash
-# Refuses `twogtp` each of its requests for memory in turn, in whole matches, `gtp_engine` in a conversation, `gtp_check` in checks, and
-# all of them where they print the version, or that the arguments have a mistake. Each run has to end with status 3 and report it, with a
-# beginning of its output written, or to end as if nothing had been refused. No process that it started may be left then, running or
-# not waited for. The programs are those in bin/.
+# Refuses the programs each of their requests for memory in turn.
+#
+# `twogtp` plays whole matches, `gtp_engine` has a conversation, `gtp_check` makes checks, and all of them print the version, or that the
+# arguments have a mistake. Each run has to end with status 3 and report it, with a beginning of its output written, or to end as if
+# nothing had been refused. No process that it started may be left then, running or not waited for.
+#
 # With --any-clap, or where packaging/built says that cargo built them, the text of a mistake that `clap` finds is the program's own: there
 # it may be another `clap`.
-# Each check is a line; the last line is 'N passed, M failed'.
 cd "$(dirname "$0")/../.." || exit 1
+. tests/shared/checks.bash
 top=$PWD
-folder=$(mktemp -d) || exit 1
-trap 'rm -rf "$folder"' EXIT
-passed=0
-failed=0
 any_clap=no
 [[ $1 != --any-clap && $(packaging/built twogtp gtp_engine gtp_check 2> /dev/null) != *cargo* ]] || any_clap=yes
-
-# check NAME WANTED GOT
-check() {
-    if [ "$2" == "$3" ]; then
-        passed=$((passed + 1))
-        echo "ok: $1"
-    else
-        failed=$((failed + 1))
-        printf 'FAILED: %s\n--- wanted\n%s\n--- got\n%s\n---\n' "$1" "$2" "$3"
-    fi
-}
 
 # refused N PROGRAM ARGUMENT..: runs the program on the input with request N refused, or none for 0. `timeout` begins a group of
 # processes, which has the number of its own.
 refused() {
     local number=$1 program=$2
     shift 2
-    timeout 60 env REFUSED="$number" COUNTED="$folder/counted" LD_PRELOAD="$folder/refusing.so" \
-        "$top/bin/$program" "$@" < "$folder/input" > "$folder/output" 2> "$folder/errors" &
+    timeout 60 env REFUSED="$number" COUNTED="$room/counted" LD_PRELOAD="$room/refusing.so" \
+        "$top/bin/$program" "$@" < "$room/input" > "$room/output" 2> "$room/errors" &
     group=$!
     wait "$group"
 }
@@ -47,15 +34,15 @@ left() {
 
 # ended STATUS: how a run ended, with this status. The dots keep newlines at the ends
 ended() {
-    echo "status $1, output '$(cat "$folder/output"; echo .)', errors '$(cat "$folder/errors"; echo .)'"
+    echo "status $1, output '$(cat "$room/output"; echo .)', errors '$(cat "$room/errors"; echo .)'"
 }
 
 # outcome WANTED OUTPUT LINES STATUS PROGRAM: how a run ended in which a request was refused, and which else ends as wanted, and reports
 # these lines
 outcome() {
     local output errors lines
-    output=$(cat "$folder/output"; echo .)
-    errors=$(cat "$folder/errors"; echo .)
+    output=$(cat "$room/output"; echo .)
+    errors=$(cat "$room/errors"; echo .)
     lines=${errors%"$5: out of memory"$'\n.'}
     if [ "$4" -eq 3 ] && [ "$errors" == "$lines$5: out of memory"$'\n.' ] && [[ $2 == "${output%.}"* ]] && is_beginning "$lines" "$3"; then
         echo reported
@@ -80,7 +67,7 @@ each() {
     shift 4
     refused 0 "$@"
     check "$name, with nothing refused" "$wanted" "$(ended $?)$(left)"
-    requests=$(cat "$folder/counted")
+    requests=$(cat "$room/counted")
     for ((number = 1; number <= requests; number++)); do
         refused "$number" "$@"
         how=$(outcome "$wanted" "$output" "$lines" $? "$program")$(left)
@@ -111,23 +98,16 @@ mistake() {
 # of_clap PROGRAM ARGUMENT..: what clap says of the arguments, with a dot behind it
 of_clap() {
     refused 0 "$@"
-    grep -q '^error: ' "$folder/errors" && grep -q -e --help "$folder/errors" && cat "$folder/errors"
+    grep -q '^error: ' "$room/errors" && grep -q -e --help "$room/errors" && cat "$room/errors"
     echo .
 }
 
-if ! cc -O1 -shared -fPIC -o "$folder/refusing.so" tests/shared/refusing.c -ldl; then
-    printf 'FAILED: tests/shared/refusing.c is compiled\n0 passed, 1 failed\n'
-    exit 1
-fi
-for program in gtp_engine twogtp gtp_check; do
-    if [ ! -x "bin/$program" ]; then
-        printf 'FAILED: %s is built\n0 passed, 1 failed\n' "bin/$program"
-        exit 1
-    fi
-done
+check 'what refuses memory is compiled' '' "$(cc -O1 -shared -fPIC -o "$room/refusing.so" tests/shared/refusing.c -ldl 2>&1)"
+[ -f "$room/refusing.so" ] || finish
+need gtp_engine twogtp gtp_check
 engine="$top/bin/gtp_engine"
 line='game 1: W+6.5 moves 2 restarts 0 0'
-: > "$folder/input"
+: > "$room/input"
 memory 'one game on the smallest board' "$line"$'\n' \
     twogtp --black "$engine --policy first" --white "$engine --policy first" --size 1 --komi 6.5
 memory 'two games on the smallest board' "$line"$'\n'"${line/1/2}"$'\n' \
@@ -151,11 +131,11 @@ each 'a game in which a program is not there, with --why' 1 $'game 1: abandoned 
 hostile="$top/tests/engines/hostile/engine /dev/null"
 each 'a game with a program that has to be killed' 1 $'game 1: abandoned white moves 0 restarts 0 0\n' '' \
     twogtp --black "$hostile greets" --white ./no_such_engine --restarts 0
-printf '%s\n' 'boardsize 9' 'genmove b' 'genmove w' 'genmove b' 'genmove b' genmove 'play b C3' > "$folder/input"
+printf '%s\n' 'boardsize 9' 'genmove b' 'genmove w' 'genmove b' 'genmove b' genmove 'play b C3' > "$room/input"
 memory 'a conversation with an engine that plays by a book' \
     $'=\n\n= C3\n\n= pass\n\n= resign\n\n= resign\n\n? syntax error\n\n? illegal move\n\n' \
     gtp_engine --policy book --book C3,,resign
-: > "$folder/input"
+: > "$room/input"
 help=$'\n\nFor more information, try \'--help\'.\n'
 mistake 'a size that is none' "error: invalid value '99' for '--size <N>': 99 is not in 1..=25$help" \
     twogtp --black x --white y --size 99
@@ -186,5 +166,4 @@ memory 'the version of the match program' $'twogtp 1.0\n' twogtp --version
 memory 'the version of the engine' $'gtp_engine 1.0\n' gtp_engine --version
 memory 'the version of the checker' $'gtp_check 1.0\n' gtp_check --version
 
-echo "$passed passed, $failed failed"
-[ "$failed" -eq 0 ]
+finish

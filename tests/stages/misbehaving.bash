@@ -1,44 +1,25 @@
 #!/bin/bash
-# Plays matches of the built `twogtp` against engines that misbehave, tests/engines/hostile/engine, each as Black and as White. Each
-# match has to end by itself, with the line and the status that docs/controller.md gives, and each process that was started has
-# to be gone then. Each check is a line; the last line is 'N passed, M failed'.
+# Plays matches of the built `twogtp` against engines that misbehave, each as Black and as White.
 #
-# They exit early, write junk, wrong ids or without end, close their output, refuse moves, don't take back their own, or don't
-# end when they should. Each match has to end within 30 seconds; beside each group the script says why it ends so.
+# Each match has to end by itself within 30 seconds, with the line and the status that docs/controller.md gives, and each process that was
+# started has to be gone then. The engines are those of tests/engines/hostile/engine. They exit early, write junk, wrong ids or without
+# end, close their output, refuse moves, don't take back their own, or don't end when they should; beside each group the script says why
+# the match ends so.
 #
 # Then come 1,000 games between two of our engines, and 100 with engines that die. The controller may use 8 MB, no more data in
 # the last game than in the early ones, and no file that stays open.
 cd "$(dirname "$0")/../.." || exit 1
+. tests/shared/checks.bash
 hostile=$PWD/tests/engines/hostile/engine
-for program in gtp_engine twogtp; do
-    if [ ! -x "bin/$program" ]; then
-        printf 'FAILED: %s is built\n0 passed, 1 failed\n' "bin/$program"
-        exit 1
-    fi
-done
+need gtp_engine twogtp
 PATH=$PWD/bin:$PATH
-folder=$(mktemp -d) || exit 1
-trap 'rm -rf "$folder"' EXIT
-passed=0
-failed=0
 first='gtp_engine --policy first'
 passes='gtp_engine --policy book'
 most=30
 
-# check NAME WANTED GOT
-check() {
-    if [ "$2" == "$3" ]; then
-        passed=$((passed + 1))
-        echo "ok: $1"
-    else
-        failed=$((failed + 1))
-        printf 'FAILED: %s\n--- wanted\n%s\n--- got\n%s\n---\n' "$1" "$2" "$3"
-    fi
-}
-
 # engine KIND ARGUMENT..: the command of an engine of this kind, whose process ids are noted
 engine() {
-    echo "$hostile $folder/started $*"
+    echo "$hostile $room/started $*"
 }
 
 # left: how many of the processes that were noted are still there, dead ones that nobody waited for among them
@@ -46,19 +27,19 @@ left() {
     local process rest count=0
     while read -r process rest; do
         [ ! -e "/proc/$process" ] || count=$((count + 1))
-    done < "$folder/started"
+    done < "$room/started"
     echo "$count"
 }
 
 # run ARGUMENT..: plays, for `most` seconds at most; its status, its output, its own lines on standard error, and how many processes
 # were started and are left
 run() {
-    : > "$folder/started"
-    timeout "$most" twogtp --size 9 "$@" > "$folder/output" 2> "$folder/errors"
+    : > "$room/started"
+    timeout "$most" twogtp --size 9 "$@" > "$room/output" 2> "$room/errors"
     echo "status $?"
-    cat "$folder/output"
-    grep '^twogtp' "$folder/errors"
-    echo "$(wc -l < "$folder/started") started, $(left) left"
+    cat "$room/output"
+    grep '^twogtp' "$room/errors"
+    echo "$(wc -l < "$room/started") started, $(left) left"
 }
 
 # one_match NAME STATUS STARTED RESULT ARGUMENT..: checks how a match of one game ends, and that STARTED processes were started
@@ -189,20 +170,20 @@ both_sides odd "$passes" 0 2 'B+74.5 moves 2 restarts 0 0' 'B+74.5 moves 2 resta
 
 # ---- an engine that is silent makes the controller wait; `timeout` before its command ends the waiting
 
-: > "$folder/started"
-timeout 2 twogtp --black "$(engine silent)" --white "$(engine runs "$first")" > "$folder/output"
-check 'a silent engine makes the controller wait' '124, and 0 bytes' "$?, and $(stat -c %s "$folder/output") bytes"
+: > "$room/started"
+timeout 2 twogtp --black "$(engine silent)" --white "$(engine runs "$first")" > "$room/output"
+check 'a silent engine makes the controller wait' '124, and 0 bytes' "$?, and $(stat -c %s "$room/output") bytes"
 # The controller was killed while it waited. Its engines then read the end of their input.
 tries=0
 while [ "$(left)" -gt 0 ] && [ $((tries += 1)) -lt 100 ]; do
     sleep 0.05
 done
 check 'engines that read their input end with a controller that is killed' '2 started, 0 left' \
-    "$(wc -l < "$folder/started") started, $(left) left"
-: > "$folder/started"
-timeout 2 twogtp --games 2 --black "$(engine silent_later)" --white "$(engine runs "$passes")" > "$folder/output"
+    "$(wc -l < "$room/started") started, $(left) left"
+: > "$room/started"
+timeout 2 twogtp --games 2 --black "$(engine silent_later)" --white "$(engine runs "$passes")" > "$room/output"
 check 'what is written of a game is there while the next one is played' '124, game 1: W+6.5 moves 2 restarts 0 0' \
-    "$?, $(cat "$folder/output")"
+    "$?, $(cat "$room/output")"
 one_match 'Black: silent, with a timeout' 1 2 'abandoned black moves 0 restarts 0 0' \
     --black "timeout 2 $(engine silent)" --white "$(engine runs "$first")" --restarts 0
 one_match 'White: silent, with a timeout' 1 2 'abandoned white moves 0 restarts 0 0' \
@@ -211,18 +192,18 @@ one_match 'Black: silent, with a timeout, and started again' 1 3 'abandoned blac
     --black "timeout 2 $(engine silent)" --white "$(engine runs "$first")" --restarts 1
 # An engine that never answers `quit` makes it wait too, but the line of the game is there by then.
 for side in Black White; do
-    : > "$folder/started"
+    : > "$room/started"
     black=$(engine runs "$passes")
     white=$black
     [ "$side" == White ] || black=$(engine quit_never)
     [ "$side" == Black ] || white=$(engine quit_never)
-    timeout -k 2 2 twogtp --size 9 --black "$black" --white "$white" > "$folder/output"
+    timeout -k 2 2 twogtp --size 9 --black "$black" --white "$white" > "$room/output"
     check "$side: quit_never, and the line is there all the same" '124, game 1: W+6.5 moves 2 restarts 0 0' \
-        "$?, $(cat "$folder/output")"
+        "$?, $(cat "$room/output")"
     # The engine sleeps on, whatever becomes of its input.
     while read -r process _; do
         kill -KILL "$process" 2> /dev/null
-    done < "$folder/started"
+    done < "$room/started"
 done
 one_match 'Black: quit_never, with a timeout' 0 2 'W+6.5 moves 2 restarts 0 0' \
     --black "timeout 2 $(engine quit_never)" --white "$(engine runs "$passes")"
@@ -239,16 +220,16 @@ many() {
     check "$name: each game ends as one alone, and no process is left" \
         "status $status"$'\n'"$wanted"$'\n'"$started started, 0 left" "$(run --games "$games" "$@")"
     check "$name: the peak of the controller's memory is below 8 MB" 'below' \
-        "$(awk '$2 > peak { peak = $2 } END { print (peak > 0 && peak < 8192 ? "below" : peak " kB") }' "$folder/started")"
+        "$(awk '$2 > peak { peak = $2 } END { print (peak > 0 && peak < 8192 ? "below" : peak " kB") }' "$room/started")"
     # The least room that 100 starts saw, since while a process is started there is a little more for a moment. The first few
     # games may still bring in what all of them need.
     check "$name: the room of its data does not grow" '0 kB more' \
         "$(awk '{ room[NR] = $3 } function least(from,  i, low) { low = room[from]
             for (i = from; i < from + 100; i++) if (room[i] < low) low = room[i]
-            return low } END { print least(NR - 99) - least(21) " kB more" }' "$folder/started")"
+            return low } END { print least(NR - 99) - least(21) " kB more" }' "$room/started")"
     # Three streams and two pipes for each engine, and for a moment the other ends of the pipes.
     check "$name: no file stays open" 'fewer than 16' \
-        "$(awk '$4 > most { most = $4 } END { print (most > 0 && most < 16 ? "fewer than 16" : most) }' "$folder/started")"
+        "$(awk '$4 > most { most = $4 } END { print (most > 0 && most < 16 ? "fewer than 16" : most) }' "$room/started")"
 }
 
 many '1,000 games' 1000 0 2000 'W+6.5 moves 2 restarts 0 0' \
@@ -257,5 +238,4 @@ many '1,000 games' 1000 0 2000 'W+6.5 moves 2 restarts 0 0' \
 many '100 games with engines that die' 100 1 300 'abandoned black moves 0 restarts 1 0' \
     --black "$(engine move_half)" --white "$(engine runs "$passes")" --restarts 1
 
-echo "$passed passed, $failed failed"
-[ "$failed" -eq 0 ]
+finish

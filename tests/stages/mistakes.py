@@ -1,6 +1,8 @@
 #!/usr/bin/env python3
-"""Makes each mistake that people make with a match program anew, and looks at what `twogtp` does: its standard output, its status,
-and its standard error, on which nothing may be but what an engine writes there, or what is reported of a mistake in the arguments.
+"""Makes each mistake that people make with a match program anew, and looks at what `twogtp` does.
+
+That is its standard output, its status, and its standard error, on which nothing may be but what an engine writes there, or what is
+reported of a mistake in the arguments.
 
 Each mistake is a row of the table below, in a folder of its own, in which there is an engine of a few lines of Python. What is wanted
 was worked out by hand from README.md, docs/controller.md and docs/protocol.md; beside each group the script says why.

@@ -1,21 +1,18 @@
 #!/bin/bash
-# Runs ./build beside the gate, in copies of the scripts with two small crates. What a build leaves, whole or killed in the middle, rt ci
-# doesn't take for a part of the repository, and after rt ci it is good still. Two clones build at once, and the older of two things that
-# are kept is removed first. Each script has a usage text. Each check is a line; the last line is 'N passed, M failed'.
+# Runs ./build beside the gate, in copies of the scripts with two small crates.
 #
+# What a build leaves, whole or killed in the middle, rt ci doesn't take for a part of the repository, and after rt ci it is good still.
+# Two clones build at once, and the older of two things that are kept is removed first. Each script has a usage text.
 # usage: tests/stages/order.bash [FOLDER]    the scripts are those of FOLDER, another clone, or else of this one
 cd "$(dirname "$0")/../.." || exit 1
+. tests/shared/checks.bash
 [ "$*" != --help ] || { sed -n '6s/^# //p' "$0"; exit; }
 if [ $# -gt 1 ] || [ ! -f "${1:-.}/build" ]; then
     sed -n '6s/^# //p' "$0" >&2
     exit 2
 fi
 top=$(realpath "${1:-.}")
-room=$(realpath "$(mktemp -d)") || exit 1
-trap end EXIT
 export XDG_CACHE_HOME=$room/cache
-passed=0
-failed=0
 
 # here: the processes that run in the room
 here() {
@@ -25,25 +22,14 @@ here() {
     done
 }
 
-# end: ends what still runs in the room, and removes it
+# end: ends what still runs in the room
+# shellcheck disable=SC2317,SC2329
 end() {
     local process
     cd / || exit
     for process in $(here); do
         kill -KILL "$process" 2> /dev/null
     done
-    rm -rf "$room"
-}
-
-# check NAME WANTED GOT
-check() {
-    if [ "$2" == "$3" ]; then
-        passed=$((passed + 1))
-        echo "ok: $1"
-    else
-        failed=$((failed + 1))
-        printf 'FAILED: %s\n--- wanted\n%s\n--- got\n%s\n---\n' "$1" "$2" "$3"
-    fi
 }
 
 # clone NAME: a folder with the scripts, a library that is small, and a program and a static library that depend on it
@@ -242,5 +228,4 @@ exec {held}<&-
 packaging/cache --shrink 2
 check 'nor is more removed than must be: two of these fit in 2 MB' $'3\n4' "$(ls "$kept")"
 
-echo "$passed passed, $failed failed"
-[ "$failed" -eq 0 ]
+finish

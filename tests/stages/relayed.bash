@@ -1,60 +1,39 @@
 #!/bin/bash
-# Plays the example of an engine in steps, `example_relay_engine`, by `twogtp`: its moves are written by another program, it is killed while it waits
-# for one, and its next start goes on. The programs are those in bin/; `./build example_relay_engine` makes the example. Each check is a line; the
-# last line is 'N passed, M failed'.
+# Plays the example of an engine in steps, `example_relay_engine`, by `twogtp`, also where it is killed while it waits for a move.
+#
+# Its moves are written by another program, and its next start goes on. The programs are those in bin/; `./build example_relay_engine`
+# makes the example.
 cd "$(dirname "$0")/../.." || exit 1
+. tests/shared/checks.bash
 top=$PWD
-folder=$(mktemp -d) || exit 1
-passed=0
-failed=0
 
 # end: ends the mover that lives on, whose engine was killed
 # shellcheck disable=SC2317,SC2329
 end() {
-    [ ! -f "$folder/waiting" ] || kill "$(< "$folder/waiting")" 2> /dev/null
-    rm -rf "$folder"
-}
-trap end EXIT
-
-# check NAME WANTED GOT
-check() {
-    if [ "$2" == "$3" ]; then
-        passed=$((passed + 1))
-        echo "ok: $1"
-    else
-        failed=$((failed + 1))
-        printf 'FAILED: %s\n--- wanted\n%s\n--- got\n%s\n---\n' "$1" "$2" "$3"
-    fi
-}
-
-# finish: prints the result and ends
-finish() {
-    echo "$passed passed, $failed failed"
-    [ "$failed" -eq 0 ]
-    exit
+    [ ! -f "$room/waiting" ] || kill "$(< "$room/waiting")" 2> /dev/null
 }
 
 check 'the example has at most 60 lines' short \
     "$([ "$(wc -l < crates/example_relay_engine/src/main.rt)" -le 60 ] && echo short || echo long)"
 if [ ! -x bin/example_relay_engine ]; then
-    echo 'skipped: matches of the example, since bin/example_relay_engine is not there (./build example_relay_engine)'
+    skip 'matches of the example' 'bin/example_relay_engine is not there (./build example_relay_engine)'
     finish
 fi
 PATH=$top/bin:$PATH
 
 # mover NAME TEXT: a program of this name that runs the text
 mover() {
-    printf '#!/bin/sh\n%s\n' "$2" > "$folder/$1"
-    chmod +x "$folder/$1"
+    printf '#!/bin/sh\n%s\n' "$2" > "$room/$1"
+    chmod +x "$room/$1"
 }
 
 # play MOVER: a game on 3x3 of the example, whose moves the mover writes, against a book: its line, its record, and the status. A mover
 # that lives on has the output open, so that is a file.
 play() {
-    timeout 60 twogtp --size 3 --komi 0 --record --black "example_relay_engine $folder/$1" \
-        --white 'gtp_engine --policy book --book ,A1' > "$folder/output" 2>&1
+    timeout 60 twogtp --size 3 --komi 0 --record --black "example_relay_engine $room/$1" \
+        --white 'gtp_engine --policy book --book ,A1' > "$room/output" 2>&1
     local status=$?
-    cat "$folder/output"
+    cat "$room/output"
     echo "status $status"
 }
 
@@ -65,7 +44,7 @@ check 'moves that another program writes are played, and unlawful ones passed ov
     $'game 1: B+1 moves 5 restarts 0 0\nB2 A1 C3 pass pass\nstatus 0' "$(play plays)"
 
 # The first start writes one move, and then nothing. The engine is killed while it waits.
-mover waits "cd '$folder'
+mover waits "cd '$room'
 if mkdir started 2> /dev/null; then
     echo B2
     echo \$\$ > waiting

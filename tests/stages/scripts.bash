@@ -1,25 +1,17 @@
 #!/bin/bash
-# Looks at every shell script of the repository: bash reads it, and shellcheck finds nothing in it. Where there is no shellcheck, a
-# line 'skipped: ..' says so. Each check is a line; the last line is 'N passed, M failed'.
+# Looks at every shell script of the repository: bash reads it, and shellcheck finds nothing in it.
 #
+# Where there is no shellcheck, a line 'skipped: ..' says so.
 # usage: tests/stages/scripts.bash
 cd "$(dirname "$0")/../.." || exit 1
+. tests/shared/checks.bash
 [ "$*" != --help ] || { sed -n '5s/^# //p' "$0"; exit; }
 [ $# -eq 0 ] || { sed -n '5s/^# //p' "$0" >&2; exit 2; }
-passed=0
-failed=0
 
-# check NAME COMMAND ARGUMENT..: the command finds nothing
-check() {
-    local name=$1 found
-    shift
-    if found=$("$@" 2>&1); then
-        passed=$((passed + 1))
-        echo "ok: $name"
-    else
-        failed=$((failed + 1))
-        printf 'FAILED: %s\n%s\n' "$name" "$found"
-    fi
+# found COMMAND ARGUMENT..: what the command finds, if it finds anything
+found() {
+    local said
+    said=$("$@" 2>&1) || echo "$said (status $?)"
 }
 
 # is_script FILE: is it one for a shell, by its first line or its name?
@@ -35,16 +27,16 @@ while IFS= read -r -d '' file; do
     ! is_script "$file" || scripts+=("${file#./}")
 done < <(find . \( -path ./.git -o -path ./bin -o -path ./dist -o -path ./cargo/workspace -o -path './crates/*/out' \) -prune \
     -o -type f -print0 2> /dev/null | sort -z)
-[ ${#scripts[@]} -ge 10 ] || { echo "FAILED: only ${#scripts[@]} scripts were found" && failed=1; }
+check 'at least 10 scripts are found' yes "$([ ${#scripts[@]} -ge 10 ] && echo yes || echo "${scripts[*]}")"
 for script in "${scripts[@]}"; do
-    check "bash reads $script" bash -n "$script"
+    check "bash reads $script" '' "$(found bash -n "$script")"
 done
 if command -v shellcheck > /dev/null; then
     for script in "${scripts[@]}"; do
-        check "shellcheck finds nothing in $script" shellcheck -x "$script"
+        check "shellcheck finds nothing in $script" '' "$(found shellcheck -x "$script")"
     done
 else
-    echo "skipped: shellcheck finds nothing in ${#scripts[@]} scripts: there is no shellcheck (apt-get install shellcheck)"
+    skip "shellcheck finds nothing in ${#scripts[@]} scripts" 'there is no shellcheck (apt-get install shellcheck)'
 fi
-echo "$passed passed, $failed failed"
-[ "$failed" -eq 0 ]
+
+finish

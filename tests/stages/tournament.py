@@ -1,8 +1,7 @@
 #!/usr/bin/env python3
-"""Runs the scripts of tournament/ over the built programs: tournaments that are stopped and gone on with, a full disk, an engine
-that is silent, the tally of results that were counted by hand, tap with two engines, and whole games of the engine to start from.
+"""Plays tournaments by the scripts of tournament/ over the built programs, also where they are stopped or the disk is full.
 
-The script finds all processes that a script started by a word in their environment, so that none is missed.
+The stage finds all processes that a script started by a word in their environment, so that none is missed.
 
 - A tournament is stopped by TERM, HUP, kill -9 and by Ctrl-C in a terminal, and then continued. No process may be left, and the
   results have to be those of one that nobody stopped. Some engines can only be killed, also under a timeout of their own.

@@ -450,7 +450,8 @@ def retake_is_a_loss(self, side):
 def retake_is_reported_last(the_controller, side, process):
     before = len(the_controller.reported)
     right_hear(the_controller, side, process)
-    the_controller.reported[before:] = sorted(the_controller.reported[before:], key=lambda reported: isinstance(reported, controller.Retake))
+    reported = the_controller.reported
+    reported[before:] = sorted(reported[before:], key=lambda it: isinstance(it, controller.Retake))
 
 
 def retake_owes_nothing(self, side, count):
