@@ -54,6 +54,11 @@ class Case(unittest.TestCase):
         if wanted != got:
             self.fail(difference(wanted, got))
 
+    def nothing(self, odd):
+        """The test fails here where something is odd about it, and that is printed."""
+        if odd:
+            self.fail(f"--- {odd}\n---")
+
     def check(self, what, wanted, got):
         """A check within a test: what it shows, and two things that have to be the same. Were they?"""
         with self.subTest(what):

@@ -36,8 +36,9 @@ def need(*names, folder=None):
 
 
 @contextlib.contextmanager
-def started(words, limit=LIMIT, **how):
-    """A process that leads a group of its own. At the end, or after so many seconds, what is left of the group is killed."""
+def started(words, limit=LIMIT, spare=False, **how):
+    """A process that leads a group of its own. At the end, or after so many seconds, what is left of the group is killed. Where it is
+    to be spared it lives on to the end of the stage, which may look for it."""
     assert not _over, "the stage is over"
     how = {"cwd": TOP, "stdin": subprocess.DEVNULL, "stdout": subprocess.PIPE, "stderr": subprocess.PIPE, **how}
     words = [it if isinstance(it, bytes) else str(it) for it in words]
@@ -49,8 +50,17 @@ def started(words, limit=LIMIT, **how):
             yield process
         finally:
             timer.cancel()
-            end(process.pid)
-            process.wait()
+            if not (spare and is_there(process.pid)):
+                end(process.pid)
+                process.wait()
+
+
+def is_there(group):
+    """Is something left of a group of processes?"""
+    with contextlib.suppress(ProcessLookupError):
+        os.killpg(group, 0)
+        return True
+    return False
 
 
 def end(group):
@@ -67,10 +77,10 @@ def end_all():
         end(group)
 
 
-def run(words, text=None, limit=LIMIT, encoding="utf-8", **how):
+def run(words, text=None, limit=LIMIT, encoding="utf-8", spare=False, **how):
     """Runs a command, which reads this text, or nothing."""
     how = {"stdin": subprocess.DEVNULL if text is None else subprocess.PIPE, **how}
-    with started(words, 2 * limit, encoding=encoding, errors="backslashreplace", **how) as process:
+    with started(words, 2 * limit, spare, encoding=encoding, errors="backslashreplace", **how) as process:
         try:
             output, errors = process.communicate(text, limit)
             status = process.returncode

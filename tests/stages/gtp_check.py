@@ -4,39 +4,52 @@
 Right engines are never blamed: ours with each policy, both plain references, and ours in other dresses (tests/engines/right/dressed),
 which are as right. Wrong engines (tests/engines/wrong) are noticed by the lessons that show their bugs, and each complaint is pasted
 into one more process of the wrong engine and of the right one. of_gtp_check/table.py says what shows each bug, and what isn't noticed.
-Engines that misbehave (tests/engines/hostile/engine) end as was worked out by hand. Where standard error is a terminal, what is waited for is on it, and
-the output is the same. At last no process may be left.
-
-Each check is a line; the last line is 'N passed, M failed'.
-
-usage: tests/stages/gtp_check.py [--all] [--seeds N]
+Engines that misbehave (tests/engines/hostile/engine) end as was worked out by hand. Where standard error is a terminal, what is waited
+for is on it, and the output is the same. At last no process may be left.
 
 With --all each wrong engine is tried, and the whole course where nothing may be noticed: some ten minutes. With --seeds N the whole
 course is asked of right engines with the seeds 0 to N - 1, and nothing else is tried. Each seed is some 230,000 commands.
 """
-import argparse
-import os
 import re
 import sys
-import tempfile
 import time
-from concurrent.futures import ThreadPoolExecutor
 from pathlib import Path
 
 sys.dont_write_bytecode = True
 sys.path[0] = str(Path(__file__).resolve().parents[2])
 
+from tests.shared import checks, running  # noqa: E402
 from tests.stages.of_gtp_check import hostile, right, terminal, wrong  # noqa: E402
-from tests.stages.of_gtp_check.running import AHEAD, PROGRAM, checked, left  # noqa: E402
+from tests.stages.of_gtp_check.running import AHEAD, checked, left  # noqa: E402
 
-AT_ONCE = 2  # checks that run at a time
-results = []
+PARSER = checks.Parser(__doc__)
+PARSER.add_argument("--all", action="store_true", help="try each wrong engine")
+PARSER.add_argument("--seeds", metavar="N", type=int, default=0, help="ask right engines alone, with so many seeds")
+OPTIONS = PARSER.options(__name__)
+SHOWN, HIDDEN = wrong.chosen(OPTIONS.all)
 
 
-def note(name, odd):
-    """A line of a check: what is odd about it, if anything is."""
-    results.append(not odd)
-    print(f"FAILED: {name}\n--- {odd}\n---" if odd else f"ok: {name}", flush=True)
+def setUpModule():
+    """Nothing is checked where the program isn't built."""
+    running.need("gtp_check")
+
+
+class Checks(checks.Case):
+    """Checks of engines, some at a time: of each comes what is odd about it."""
+
+    def row(self, row, odd):
+        self.nothing(odd)
+
+
+@checks.table(list(right.rows()), lambda it: f"nothing is found: {it[0]}", right.faults)
+class Right(Checks):
+    """Right engines: nothing may be found."""
+
+
+# ---- the same bytes
+
+SEED = ("--seed", "5", "--restarts", "4")
+BUG = f"{wrong.ENGINE} --bug sign_is_lost"
 
 
 def without_counts(output):
@@ -44,57 +57,99 @@ def without_counts(output):
     return re.sub(r"^check: \d+ commands?,", "check:", AHEAD.sub("", output), flags=re.MULTILINE)
 
 
-def check_same():
+# the name, the options, the engine, and what has to be the same of the output
+SAME = (
+    ("a right engine", SEED, "gtp_engine --policy random", str),
+    ("an engine of another ko rule", (*SEED, "--only", "ko"), "gtp_engine --ko positional", without_counts),
+    ("a wrong engine, one command at a time", (*SEED, "--only", "komi", "--singly"), BUG, str),
+    ("a wrong engine, but for the number of commands", (*SEED, "--only", "komi"), BUG, without_counts),
+)
+
+
+def differing(row):
+    """The outputs of four checks that are the same, where they differ."""
+    _, options, command, part = row
+    outputs = {part(checked(options, command).output) for _ in range(4)}
+    return "\n---\n".join(outputs) if len(outputs) > 1 else None
+
+
+@checks.table(SAME, lambda it: f"the same bytes each time: {it[0]}", differing)
+class Same(Checks):
     """The same engine and seed give the same bytes."""
-    seed = ("--seed", "5", "--restarts", "4")
-    bug = f"{wrong.ENGINE} --bug sign_is_lost"
-    for name, options, command, same in (
-        ("a right engine", seed, "gtp_engine --policy random", str),
-        ("an engine of another ko rule", (*seed, "--only", "ko"), "gtp_engine --ko positional", without_counts),
-        ("a wrong engine, one command at a time", (*seed, "--only", "komi", "--singly"), bug, str),
-        ("a wrong engine, but for the number of commands", (*seed, "--only", "komi"), bug, without_counts),
-    ):
-        outputs = {same(checked(options, command).output) for _ in range(4)}
-        note(f"the same bytes each time: {name}", None if len(outputs) == 1 else "\n---\n".join(outputs))
 
 
-def check_drawn(pool, seeds):
+# ---- the other engines
+
+
+@checks.table(list(hostile.rows()), lambda it: f"hostile: {it[0]}", hostile.faults)
+class Hostile(Checks):
+    """Engines that misbehave."""
+
+    def test_silent(self):
+        """hostile: silent, which is waited for."""
+        self.nothing(hostile.is_waiting(self.room()))
+
+
+@checks.table(hostile.NO_ENGINES, lambda it: f"not started: {it}", hostile.unstarted)
+class NotStarted(Checks):
+    """Programs that can't be started."""
+
+    def test_gone(self):
+        """not started: a program that is gone after its first start."""
+        self.nothing(hostile.gone(self.room()))
+
+
+@checks.table(terminal.CHECKS, lambda it: f"a terminal as standard error: {it}", lambda it: terminal.CHECKS[it]())
+class Terminal(Checks):
+    """A terminal has what is waited for."""
+
+
+class Table(checks.Case):
+    """The table of bugs."""
+
+    def test_table(self):
+        """the table of bugs names bugs, each once."""
+        self.same([], wrong.odd_table())
+
+
+@checks.table(SHOWN, lambda it: f"noticed: {wrong.BUGS[it].family}: {it}", wrong.noticed)
+class Noticed(Checks):
+    """Wrong engines that are noticed."""
+
+
+@checks.table(HIDDEN, lambda it: f"not noticed: {it}: {wrong.UNNOTICED[it]}", lambda it: wrong.unnoticed(it, OPTIONS.all))
+class NotNoticed(Checks):
+    """Wrong engines that nothing shows."""
+
+
+@checks.table(range(OPTIONS.seeds), lambda it: f"nothing is found with seed {it}", right.drawn)
+class Drawn(checks.Case):
     """The whole course with many seeds."""
+
     commands = 0
-    for name, odd, count in right.drawn(pool, range(seeds)):
-        commands += count
-        note(name, odd)
-    print(f"{commands} commands")
+
+    def row(self, seed, came):
+        odd, commands = came
+        Drawn.commands += commands
+        self.nothing(odd)
+
+    @classmethod
+    def tearDownClass(cls):
+        print(f"{cls.commands} commands")
 
 
-def main():
-    """Runs the checks."""
-    parser = argparse.ArgumentParser(description="Checks right and wrong engines by gtp_check.")
-    parser.add_argument("--all", action="store_true", help="try each wrong engine")
-    parser.add_argument("--seeds", metavar="N", type=int, default=0, help="ask right engines alone, with so many seeds")
-    options = parser.parse_args()
-    if not os.access(PROGRAM, os.X_OK):
-        sys.exit(f"FAILED: {PROGRAM} is built\n0 passed, 1 failed")
-    with ThreadPoolExecutor(AT_ONCE) as pool, tempfile.TemporaryDirectory() as room:
-        if options.seeds:
-            check_drawn(pool, options.seeds)
-        else:
-            for name, odd in right.each(pool):
-                note(name, odd)
-            check_same()
-            for name, odd in hostile.each(pool, Path(room)):
-                note(name, odd)
-            for name, odd in terminal.each(pool):
-                note(name, odd)
-            for name, odd in wrong.each(pool, options.all):
-                note(name, odd)
-    late = time.monotonic() + 5
-    while (still := left()) and time.monotonic() < late:
-        time.sleep(0.1)
-    note("no process is left", f"{still}" if still else None)
-    print(f"{results.count(True)} passed, {results.count(False)} failed")
-    return 1 if False in results else 0
+class Left(checks.Case):
+    """The last check of all."""
+
+    def test_left(self):
+        """no process is left."""
+        late = time.monotonic() + 5
+        while left() and time.monotonic() < late:
+            time.sleep(0.1)
+        self.same([], left())
 
 
 if __name__ == "__main__":
-    sys.exit(main())
+    if OPTIONS.seeds and not OPTIONS.k:
+        OPTIONS.k = ["Drawn", "Left"]
+    checks.main(OPTIONS)

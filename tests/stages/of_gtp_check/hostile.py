@@ -8,7 +8,10 @@ before is answered. After something was found the engine is started again, and t
 The lesson of the start is over once a size was taken. Before that, and in the other lesson, a check goes on to the end of
 `--restarts 3`, with four starts. Where an engine gives no right answer, it has three.
 """
-from .running import AHEAD, TOP, Complaint, checked, quoted, read, run
+import tempfile
+from pathlib import Path
+
+from .running import AHEAD, TOP, checked, read
 
 HOSTILE = f"{TOP}/tests/engines/hostile/engine"
 START = ("--only", "start", "--restarts", "3", "--singly")
@@ -90,11 +93,13 @@ def rows():
     yield "refuses", ("--only", "start", "--restarts", "3"), "refuses", (None, None, 1, 26)
 
 
-def faults(row, folder):
+def faults(row):
     """What is odd about the check of a hostile engine."""
     _, options, kind, (line, fault, starts, commands) = row
-    engine = command(kind, folder)
-    result = checked(options, f"timeout 1 {engine}" if kind == "silent" else engine, folder=folder)
+    with tempfile.TemporaryDirectory() as folder:
+        engine = command(kind, folder)
+        result = checked(options, f"timeout 1 {engine}" if kind == "silent" else engine, folder=folder)
+        started = len((Path(folder) / "started").read_text().splitlines())
     report = read(result.output)
     if isinstance(report, str):
         return f"{report}: {result}"
@@ -106,25 +111,34 @@ def faults(row, folder):
     got = (result.status, first, others, report.starts, report.commands, report.count, result.errors)
     complaints = 0 if line is None else starts
     wanted = (min(complaints, 1), line, {(line.split()[1], fault)} if line else set(), starts, commands, complaints, "")
-    started = len((folder / "started").read_text().splitlines())
     if got != wanted or started != starts:
         return f"wanted {wanted}, got {got}, {started} processes:\n{result.output[:3000]}"
     return None
 
 
-def unstarted(folder):
-    """Programs that aren't there, and one that is there once."""
+# ---- programs that can't be started
+
+# the engine, and what is reported of it
+NO_ENGINES = {
+    "no such program": ("./no_such_engine", 'gtp_check: not started: no such file: "./no_such_engine"\n'),
+    "a file that is no program": ("./README.md", 'gtp_check: not started: not allowed: "./README.md"\n'),
+    "a path with a space": ("my engines/engine", 'gtp_check: not started: no such file: "my"\n'),
+}
+
+
+def unstarted(name):
+    """What is odd about the check of a program that isn't there."""
+    engine, errors = NO_ENGINES[name]
+    result = checked((), engine)
+    return None if (result.status, result.output, result.errors) == (2, "", errors) else result
+
+
+def gone(folder):
+    """What is odd about the check of a program that is there once."""
     once = folder / "once"
     once.write_text('#!/bin/sh\nrm "$0"\nexit 7\n')
     once.chmod(0o755)
-    for name, engine, status, output, errors in (
-        ("no such program", "./no_such_engine", 2, "", 'gtp_check: not started: no such file: "./no_such_engine"\n'),
-        ("a file that is no program", "./README.md", 2, "", 'gtp_check: not started: not allowed: "./README.md"\n'),
-        ("a path with a space", "my engines/engine", 2, "", 'gtp_check: not started: no such file: "my"\n'),
-    ):
-        result = run([TOP / "bin/gtp_check", engine], folder)
-        yield name, None if (result.status, result.output, result.errors) == (status, output, errors) else result
-    result = run([TOP / "bin/gtp_check", "--only", "start", once], folder)
+    result = checked(("--only", "start"), once, folder=folder)
     wanted = f"""\
 check: an engine without a name, version unknown, seed 1, simple ko
 # 1 start: "1 name": its output ended, exit status 7
@@ -138,24 +152,10 @@ check: not asked, or not to their end, for that: start
 check: 5 commands, 1 start, 1 complaint
 """
     same = (result.status, AHEAD.sub("", result.output), result.errors) == (1, wanted, "")
-    yield "a program that is gone after its first start", None if same else result
+    return None if same else result
 
 
 def is_waiting(folder):
     """A silent engine without `timeout`: the check doesn't end by itself, and what it wrote is nothing."""
     result = checked(START, command("silent", folder), limit=2, folder=folder)
     return None if (result.status, result.output, result.errors) == (None, "", "") else result
-
-
-def each(pool, room):
-    """Each check's name, and what is odd about it."""
-    places = []
-    for number, row in enumerate(rows()):
-        places.append((row, room / f"hostile-{number}"))
-        places[-1][1].mkdir()
-    yield from zip([f"hostile: {row[0]}" for row, _ in places], pool.map(lambda it: faults(*it), places))
-    for name, odd in unstarted(room):
-        yield f"not started: {name}", odd
-    place = room / "silent"
-    place.mkdir()
-    yield "hostile: silent, which is waited for", is_waiting(place)

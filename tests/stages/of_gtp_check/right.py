@@ -1,5 +1,5 @@
 """Right engines: nothing may be found, with any seed."""
-from .running import PYTHON, TOP, checked, read
+from .running import PYTHON, checked, read
 
 OURS = "gtp_engine --policy {} --seed {} --ko {}"
 PLAIN = PYTHON + " tests/engines/right/plain {} {} {}"
@@ -53,8 +53,9 @@ def rows():
         yield f"another dress: {form}", ("--seed", "5", *options), DRESSED.format(form), LACKS.get(form, [])
 
 
-def faults(options, command, lacks):
+def faults(row):
     """What is odd about the check of a right engine."""
+    _, options, command, lacks = row
     result = checked(options, command)
     report = read(result.output)
     if isinstance(report, str):
@@ -65,25 +66,15 @@ def faults(options, command, lacks):
     return None
 
 
-def each(pool):
-    """Each check's name, and what is odd about it."""
-    all_rows = list(rows())
-    yield from zip([f"nothing is found: {it[0]}" for it in all_rows], pool.map(lambda it: faults(*it[1:]), all_rows))
-
-
-def drawn(pool, seeds):
-    """The whole course on our engine and on the right one of tests/engines/wrong, with many seeds: each seed's name, what is odd, how many commands."""
-    def one(seed):
-        rule = ("simple", "positional")[seed % 2]
-        policy = ("first", "random", "book")[seed % 3]
-        commands = 0
-        for command in (OURS.format(policy, seed, rule), WRONGLESS.format("", seed, rule))[: 1 + (seed % 10 == 0)]:
-            result = checked(("--ko", rule, "--seed", str(seed)), command)
-            report = read(result.output)
-            if isinstance(report, str) or (result.status, report.count) != (0, 0):
-                return f"{command}: {result}", 0
-            commands += report.commands
-        return None, commands
-
-    for seed, (odd, commands) in zip(seeds, pool.map(one, seeds)):
-        yield f"nothing is found with seed {seed}", odd, commands
+def drawn(seed):
+    """The whole course on our engine, and in each tenth seed on the right one of tests/engines/wrong: what is odd, how many commands."""
+    rule = ("simple", "positional")[seed % 2]
+    policy = ("first", "random", "book")[seed % 3]
+    commands = 0
+    for command in (OURS.format(policy, seed, rule), WRONGLESS.format("", seed, rule))[: 1 + (seed % 10 == 0)]:
+        result = checked(("--ko", rule, "--seed", str(seed)), command)
+        report = read(result.output)
+        if isinstance(report, str) or (result.status, report.count) != (0, 0):
+            return f"{command}: {result}", 0
+        commands += report.commands
+    return None, commands

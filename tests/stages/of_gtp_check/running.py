@@ -1,16 +1,16 @@
-"""How tests/stages/gtp_check.py runs gtp_check, and reads what it writes."""
+"""How the stage gtp_check runs gtp_check, and reads what it writes."""
 import os
 import re
-import signal
-import subprocess
 import sys
 import tempfile
 from dataclasses import dataclass
 from pathlib import Path
 
-TOP = Path(__file__).resolve().parents[3]
+from tests.shared import running
+
+TOP = running.TOP
 PROGRAM = TOP / "bin/gtp_check"
-LIMIT = 60  # seconds that a check may take, on a machine with other work
+LIMIT = running.LIMIT
 MARK = f"CHECKED_BY_{os.getpid()}"  # what every process that is started here has in its environment
 COMPILED = tempfile.TemporaryDirectory()  # what Python compiles for the engines, once
 PYTHON = f"{sys.executable} -S"  # -S leaves out what a machine adds to each start of Python
@@ -20,15 +20,6 @@ HEAD = re.compile(r'# (\d+) (\w+): "(.*)": (.*)')
 LAST = re.compile(r"check: (\d+) commands?, (\d+) starts?, (\d+) complaints?")
 HIDDEN = re.compile(r"check: \w+: more complaints, of kinds that were shown three times: (\d+)")
 AHEAD = re.compile(r"# .*\bcommands?\b.* sent .*\n")  # how many commands were on their way already
-
-
-@dataclass(frozen=True)
-class Result:
-    """What came of a check."""
-
-    status: object  # None where it didn't end
-    output: str
-    errors: str
 
 
 @dataclass(frozen=True)
@@ -68,15 +59,8 @@ def environment(folder):
 
 
 def run(words, folder, limit=LIMIT):
-    """Runs a command, and ends all that is left of it. Where it doesn't end within the limit, its status is None."""
-    how = dict(stdin=subprocess.DEVNULL, stdout=subprocess.PIPE, stderr=subprocess.PIPE, start_new_session=True)
-    process = subprocess.Popen(words, cwd=TOP, env=environment(folder), encoding="latin-1", **how)
-    try:
-        output, errors = process.communicate(timeout=limit)
-        return Result(process.returncode, output, errors)
-    except subprocess.TimeoutExpired:
-        os.killpg(process.pid, signal.SIGKILL)
-        return Result(None, *process.communicate())
+    """Runs a command. What is left of it lives on, since the last check looks for that."""
+    return running.run(words, limit=limit, encoding="latin-1", spare=True, env=environment(folder))
 
 
 def checked(options, command, limit=LIMIT, folder=None):

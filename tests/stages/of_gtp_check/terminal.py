@@ -103,18 +103,19 @@ def is_waiting():
     return None if (status, output, sent) == (None, "", wanted) else f"{status}, {output!r}, {sent!r}"
 
 
-def each(pool):
-    """Each check's name, and what is odd about it."""
-    bug = f"{ENGINE} --bug sign_is_lost"
-    rows = (
-        ("a right engine", ("--quick", "--seed", "5"), RIGHT),
-        ("a wrong engine", ("--seed", "5", "--restarts", "4", "--only", "komi", "--singly"), bug),
-    )
-    for (name, _, _), odd in zip(rows, pool.map(lambda it: is_same(*it[1:]), rows)):
-        yield f"a terminal as standard error: {name}", odd
-    yield "a terminal as standard error: silent, which is waited for", is_waiting()
+def is_not_started():
+    """An engine that isn't started: what is reported takes the place of what was waited for."""
     gone = checked(("--only", "start"), "./no_such_engine")
     with tempfile.TemporaryDirectory() as folder:
         status, output, sent = held(("--only", "start"), "./no_such_engine", folder)
     same = (status, output, sent) == (gone.status, gone.output, "\r" + CLEAR + gone.errors.replace("\n", "\r\n"))
-    yield "a terminal as standard error: an engine that isn't started", None if same else f"{status}, {output}, {sent!r}"
+    return None if same else f"{status}, {output}, {sent!r}"
+
+
+# each check's name, and what says what is odd about it
+CHECKS = {
+    "a right engine": lambda: is_same(("--quick", "--seed", "5"), RIGHT),
+    "a wrong engine": lambda: is_same(("--seed", "5", "--restarts", "4", "--only", "komi", "--singly"), f"{ENGINE} --bug sign_is_lost"),
+    "silent, which is waited for": is_waiting,
+    "an engine that isn't started": is_not_started,
+}

@@ -93,28 +93,19 @@ def noticed(name):
     return "\n".join(unreal) or None
 
 
-def unnoticed(name, options):
+def unnoticed(name, is_all):
     """What is odd about the check of a wrong engine that isn't noticed."""
     bug = BUGS[name]
+    options = () if is_all else QUICKLY
     # some of them write a file at each move
     result = checked([*rule_of(bug), *options], " ".join([ENGINE, *bug.options, "--bug", name]), limit=5 * LIMIT)
     report = read(result.output)
     if isinstance(report, str):
         return f"{report}: {result}"
-    return f"it is noticed: tests/stages/of_gtp_check/table.py is to be changed\n{result.output[:1500]}" if (result.status, report.count) != (0, 0) else None
+    return f"it is noticed: of_gtp_check/table.py is to be changed\n{result.output[:1500]}" if (result.status, report.count) != (0, 0) else None
 
 
 def odd_table():
     """What is odd about the table: a name that is no bug, or a bug that is in both lists."""
     names = {*SHOWN, *UNNOTICED, *WAITING, *ANEW}
     return [name for name in names if name not in BUGS] + [name for name in UNNOTICED if name in SHOWN]
-
-
-def each(pool, is_all):
-    """Each check's name, and what is odd about it."""
-    odd = odd_table()
-    yield "the table of bugs names bugs, each once", f"{odd}" if odd else None
-    shown, hidden = chosen(is_all)
-    yield from zip([f"noticed: {BUGS[name].family}: {name}" for name in shown], pool.map(noticed, shown))
-    options = [] if is_all else list(QUICKLY)
-    yield from zip([f"not noticed: {name}: {UNNOTICED[name]}" for name in hidden], pool.map(lambda name: unnoticed(name, options), hidden))
