@@ -1,9 +1,9 @@
 #!/usr/bin/env python3
 """Gives the built engine the worked conversations, and compares it with a plain, slow reference on random ones.
 
-The worked ones come first. Then come random conversations. For each the engine and the reference have to give the same output, standard error and status.
-Where they don't, the script shortens the input while the two still differ, shows what is left and both results, and keeps the
-input in a folder.
+The worked ones come first. Then come random conversations. For each the engine and the reference have to give the same output,
+standard error and status. Where they don't, the script shortens the input while the two still differ, shows what is left and both
+results, and keeps the input in a folder.
 
 Two kinds are all under --ko positional, and made so that boards come back: by kos and captures on small boards, or by handicap
 stones that are played again. Of the other kinds a quarter is under it. Of the plays that positional ko refuses and simple ko

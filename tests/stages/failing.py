@@ -28,6 +28,7 @@ OPTIONS = PARSER.options(__name__)
 if __name__ == "__main__":
     checks.main(OPTIONS)
 '''
+SECONDS = 10**6 + os.getpid()  # that processes sleep here, and no others
 TESTS = '''
 class Plain(checks.Case):
     """Tests that are one check each."""
@@ -36,6 +37,10 @@ class Plain(checks.Case):
         self.same(1, 1)
     def test_one_is_two(self):
         self.same(1, 2)
+    def test_odd(self):
+        """nothing is odd."""
+        self.nothing("")
+        self.nothing("this is odd")
     def test_broken(self):
         """it is broken."""
         raise KeyError("broken")
@@ -89,21 +94,26 @@ HANGING = '''
 class Hanging(checks.Case):
     def test_it(self):
         """it ends by its limit."""
-        self.same((None, "", ""), running.run(["bash", "-c", "sleep 987 & sleep 987"], limit=0.5))
+        self.same((None, "", ""), running.run(["bash", "-c", "sleep SECONDS & sleep SECONDS"], limit=0.5))
+    def test_spared(self):
+        """what is spared lives on."""
+        came = running.run(["bash", "-c", "sleep SECONDS > /dev/null 2>&1 & echo $!"], spare=True)
+        with open(f"/proc/{came.output.strip()}/cmdline") as words:
+            self.same("sleep\\0SECONDS\\0", words.read())
     def test_ever(self):
-        with running.started(["bash", "-c", f"sleep 987 & echo $$ > {self.room()}/../{OPTIONS.rows}; sleep 987"]) as process:
+        with running.started(["bash", "-c", f"sleep SECONDS & echo $$ > {self.room()}/../{OPTIONS.rows}; sleep SECONDS"]) as process:
             process.communicate()
-'''
+'''.replace("SECONDS", str(SECONDS))
 BASH = """#!/bin/bash
 . tests/shared/checks.bash
 need gtp_engine
-sleep 987 &
+sleep SECONDS &
 echo "$! $room" > "$1"
 check 'one is one' 1 1
 [ "$2" = passes ] || check 'one is two' 1 2
 skip 'the third' 'it is not there'
 finish
-"""
+""".replace("SECONDS", str(SECONDS))
 
 
 def differs(wanted, got):
@@ -124,6 +134,23 @@ def stays(process):
     return is_there(process)
 
 
+def sleepers():
+    """The processes that sleep for so long as those do that are started here."""
+    late = time.monotonic() + 5
+    found = [None]
+    while found and time.monotonic() < late:
+        found = [it for it in Path("/proc").glob("[0-9]*") if words_of(it) == f"sleep\0{SECONDS}\0".encode()]
+    return found
+
+
+def words_of(process):
+    """The words by which a process was started; none where it is gone."""
+    try:
+        return (process / "cmdline").read_bytes()
+    except OSError:
+        return b""
+
+
 class Small(checks.Case):
     """Stages of a few lines."""
 
@@ -141,9 +168,10 @@ class Small(checks.Case):
     def test_plain(self):
         """tests that pass, fail and break are each a line and counted."""
         status, output, _ = self.came(TESTS)
-        self.same((1, "ok: one is one\nFAILED: one is two\n" + differs(1, 2) + "FAILED: it is broken\nTraceback"),
+        odd = "FAILED: nothing is odd\n--- this is odd\n---\n"
+        self.same((1, f"ok: one is one\nFAILED: one is two\n{differs(1, 2)}{odd}FAILED: it is broken\nTraceback"),
                   (status, output.partition(" (most recent")[0]))  # fmt: skip
-        self.same(["KeyError: 'broken'", "1 passed, 2 failed"], output.splitlines()[-2:])
+        self.same(["KeyError: 'broken'", "1 passed, 3 failed"], output.splitlines()[-2:])
 
     def test_passes(self):
         """where all that runs passes the status is 0."""
@@ -167,8 +195,9 @@ class Small(checks.Case):
     def test_chosen(self):
         """-k runs the rows whose sentence has the text, and does the work of no others."""
         file = self.stage(TABLES)
-        self.same((0, "ok: row 0, doubled\n1 passed, 0 failed\n", ""), running.run([sys.executable, file, "-k", "row 0, d"], cwd=file.parent))
-        self.same((0, "ok: the same name\n1 passed, 0 failed\n", ""), running.run([sys.executable, file, "-k", "*the_same_name"], cwd=file.parent))
+        for text, line in (("row 0, d", "ok: row 0, doubled\n"), ("*the_same_name", "ok: the same name\n")):
+            came = running.run([sys.executable, file, "-k", text], cwd=file.parent)
+            self.same((0, f"{line}1 passed, 0 failed\n", ""), came)
         self.same("a", (file.parent / "done").read_text())
 
     def test_nothing(self):
@@ -178,9 +207,9 @@ class Small(checks.Case):
 
     def test_cases(self):
         """a case that is skipped counts neither way, and one that can't begin has failed."""
-        wanted = "skipped: a case that is skipped: there is nothing\nFAILED: a case that can't begin\n/nowhere/no_program is not there, or is"
-        status, output, _ = self.came(CASES)
-        self.same((1, f"{wanted} no program\n0 passed, 1 failed\n"), (status, output))
+        skipped = "skipped: a case that is skipped: there is nothing\n"
+        failed = "FAILED: a case that can't begin\n/nowhere/no_program is not there, or is no program\n"
+        self.same((1, f"{skipped}{failed}0 passed, 1 failed\n"), self.came(CASES)[:2])
 
     def test_skipped(self):
         """a stage of which all is skipped is no success."""
@@ -196,7 +225,12 @@ class Small(checks.Case):
     def test_limit(self):
         """what hangs is killed by its limit, with all that it started."""
         self.same((0, "ok: it ends by its limit\n1 passed, 0 failed\n", ""), self.came(HANGING, "-k", "Hanging.test_it"))
-        self.same([], [it for it in Path("/proc").glob("[0-9]*/cmdline") if it.exists() and b"sleep\x00987" in it.read_bytes()])
+        self.same([], sleepers())
+
+    def test_spared(self):
+        """what is spared is killed at the end of the stage."""
+        self.same((0, "ok: what is spared lives on\n1 passed, 0 failed\n", ""), self.came(HANGING, "-k", "spared"))
+        self.same([], sleepers())
 
     def test_interrupted(self):
         """a stage that is asked to end leaves no process and no folder."""

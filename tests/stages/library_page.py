@@ -1,7 +1,8 @@
 #!/usr/bin/env python3
 """Does what docs/library.md shows: runs its commands, and plays the engine in Python that it shows.
 
-The commands run in a folder that has what they name, and in which the engine is my_engine.py. Each has to end with the result line of a game without a restart. README.md has to show the same engine, but its name.
+The commands run in a folder that has what they name, and in which the engine is my_engine.py. Each has to end with the result line of a
+game without a restart. README.md has to show the same engine, but its name.
 
 Skipped are blocks whose compiler isn't there, and all of them without the library and the programs in bin/.
 Each check is a line; the last line is 'N passed, M failed'.

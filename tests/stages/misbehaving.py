@@ -150,11 +150,10 @@ def at_the_end():
 
 def silent():
     """Silent engines make the controller wait; `timeout` before the command ends the waiting."""
-    none = ("--restarts", "0")
-    yield Match("Black: silent, with a timeout", 1, 2, "abandoned black moves 0 restarts 0 0", "timeout 2 @ silent", f"@ runs {FIRST}", none)
-    yield Match("White: silent, with a timeout", 1, 2, "abandoned white moves 0 restarts 0 0", f"@ runs {FIRST}", "timeout 2 @ silent", none)
-    yield Match("Black: silent, with a timeout, and started again", 1, 3, "abandoned black moves 0 restarts 1 0",
-                "timeout 2 @ silent", f"@ runs {FIRST}")  # fmt: skip
+    name, late, other, none = "silent, with a timeout", "timeout 2 @ silent", f"@ runs {FIRST}", ("--restarts", "0")
+    yield Match(f"Black: {name}", 1, 2, "abandoned black moves 0 restarts 0 0", late, other, none)
+    yield Match(f"White: {name}", 1, 2, "abandoned white moves 0 restarts 0 0", other, late, none)
+    yield Match(f"Black: {name}, and started again", 1, 3, "abandoned black moves 0 restarts 1 0", late, other)
     # An engine that never answers `quit` makes it wait too.
     passed = "W+6.5 moves 2 restarts 0 0"
     yield Match("Black: quit_never, with a timeout", 0, 2, passed, "timeout 2 @ quit_never", f"@ runs {PASSES}", ())
@@ -179,7 +178,7 @@ class Notes:
         return engine.replace("@", f"{HOSTILE} {self.file}")
 
     def rows(self):
-        """The number of each process, the peak of the controller's memory and the room of its data in kB, and how many files it has open."""
+        """The number of each process; the peak of the controller's memory and the room of its data, in kB; how many files it has open."""
         return [[int(it) for it in line.split()] for line in self.file.read_text().splitlines()]
 
     def left(self):
@@ -245,7 +244,8 @@ class Waiting(checks.Case):
         late = time.monotonic() + 5
         while self.notes.left() and time.monotonic() < late:
             time.sleep(0.05)
-        self.check("engines that read their input end with a controller that is killed", (2, []), (len(self.notes.rows()), self.notes.left()))
+        ended = (len(self.notes.rows()), self.notes.left())
+        self.check("engines that read their input end with a controller that is killed", (2, []), ended)
 
     def test_silent_later(self):
         """what is written of a game is there while the next one is played."""
