@@ -1,7 +1,8 @@
 """The line `tried: SUM` of a file of edits: the sum of all that its crate's edits were last tried on.
 
-It is of the crate's sources, definitions, proofs and edits, of the sources, definitions and proofs of the crates that it depends on, of
-their rows in crates.txt, of HANDLES, of the modules here and of the kit. Tests aren't in it, since no check of an edit reads them.
+It is of all that could make a check of one come out otherwise: the crate's own sources (without tests and comments), definitions and
+proofs; what a check reads of the crates below it (contracts.py); its edits; the rows of crates.txt; HANDLES; the modules here that
+decide; and the kit.
 """
 from __future__ import annotations
 
@@ -10,11 +11,11 @@ import subprocess
 from functools import lru_cache
 from pathlib import Path
 
-from . import checks, crates, edits, places
+from . import checks, contracts, crates, edits, places
 from .crates import RT, TOP, crates_below, rows_of_crates
 from .edits import FOLDER, TRIED, read_edits
 
-DECIDING = [Path(module.__file__).resolve() for module in (checks, crates, edits, places)] + [Path(__file__).resolve()]
+DECIDING = [Path(module.__file__).resolve() for module in (checks, contracts, crates, edits, places)] + [Path(__file__).resolve()]
 
 
 @lru_cache(maxsize=None)
@@ -23,25 +24,15 @@ def kit():
     return subprocess.run([*RT, "version"], capture_output=True, text=True, check=True).stdout.strip()
 
 
-def is_of_tests(path):
-    """Whether the file, of a crate, is one of its tests."""
-    return path.parts[:2] in (("src", "tests"), ("src", "tests.rt"))
-
-
-def files_of(crate):
-    """The files that the proof of a crate, at this folder, is made from."""
-    files = sorted(path for part in ("src", "specs", "proofs") for path in (crate / part).rglob("*") if path.is_file())
-    return [path for path in files if not is_of_tests(path.relative_to(crate))]
-
-
 def crates_sum(crate, top=TOP):
     """The sum of what a check of a crate reads of the repository's crates."""
     rows = rows_of_crates(top)
     whole = hashlib.sha256((top / "HANDLES").read_bytes())
     for name in sorted({crate, *crates_below(crate, top)}):
         whole.update(f"\n{name}: {rows[name]}".encode())
-        for path in files_of(top / "crates" / name):
-            whole.update(f"\n{path.relative_to(top)} {hashlib.sha256(path.read_bytes()).hexdigest()}".encode())
+    own = {Path(crate, path): text for path, text in contracts.files_of(top / "crates" / crate).items()}
+    for path, text in sorted({**own, **contracts.read_below(crate, top)}.items()):
+        whole.update(f"\n{path} {hashlib.sha256(text.encode()).hexdigest()}".encode())
     return whole.hexdigest()
 
 
