@@ -31,12 +31,12 @@ WRITTEN = ("Answers", "Invariants", "Proof")  # the files of a function's folder
 
 def code_of(text):
     """The lines of a source that are neither blank nor a comment. Comments stay where one could be part of something else: where a text
-    goes over several lines, and in a file that derives more than std's traits, since such a derive may read them."""
+    goes over several lines, and in a file that has a macro or derives more than std's traits, which may read them."""
     lines = text.split("\n")
     code = [line for line in lines if line.strip() and not line.lstrip().startswith("//")]
     has_long_text = any(re.sub(r"\\.|'\"'", "", line).count('"') % 2 for line in code)
     derived = {word for words in re.findall(r"derive\(([^)]*)\)", text) for word in re.findall(r"\w+", words)}
-    return lines if has_long_text or "/*" in text or derived - OF_STD else code
+    return lines if has_long_text or "/*" in text or "macro_rules!" in text or derived - OF_STD else code
 
 
 def end_of_head(lines, at):
