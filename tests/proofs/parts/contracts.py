@@ -29,14 +29,25 @@ WRITTEN = ("Answers", "Invariants", "Proof")  # the files of a function's folder
 # ---- sources
 
 
+def is_of_function(lines, at):
+    """Whether the comment in this line is above a function."""
+    below = next((line for line in lines[at:] if not line.lstrip().startswith(("//", "#["))), "")
+    return bool(re.match(r" *(pub |pub\([^)]*\) )?(const |unsafe |extern \"C\" )*fn ", below))
+
+
 def code_of(text):
-    """The lines of a source that are neither blank nor a comment. Comments stay where one could be part of something else: where a text
-    goes over several lines, and in a file that has a macro or derives more than std's traits, which may read them."""
+    """The lines of a source that are neither blank nor a comment. Comments stay where one could be part of something else: in a file that
+    has a macro or a text over several lines. In one that derives more than std's traits those stay that a derive may read."""
     lines = text.split("\n")
     code = [line for line in lines if line.strip() and not line.lstrip().startswith("//")]
     has_long_text = any(re.sub(r"\\.|'\"'", "", line).count('"') % 2 for line in code)
+    if has_long_text or "/*" in text or "macro_rules!" in text:
+        return lines
     derived = {word for words in re.findall(r"derive\(([^)]*)\)", text) for word in re.findall(r"\w+", words)}
-    return lines if has_long_text or "/*" in text or "macro_rules!" in text or derived - OF_STD else code
+    if derived <= OF_STD:
+        return code
+    return [line for at, line in enumerate(lines) if line.strip() and not line.lstrip().startswith("//")
+            or line.lstrip().startswith("///") and not is_of_function(lines, at)]
 
 
 def end_of_head(lines, at):
