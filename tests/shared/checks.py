@@ -75,6 +75,11 @@ class Case(unittest.TestCase):
         return folder_until(self.addCleanup)
 
     @classmethod
+    def chosen_rows(cls):
+        """The rows of a table that are to be run, for its setUpClass."""
+        return [getattr(cls, name).row for name in cls.chosen if hasattr(getattr(cls, name), "row")]
+
+    @classmethod
     def room_of_all(cls):
         """A new folder for all tests of the case, for its setUpClass."""
         return folder_until(cls.addClassCleanup)
@@ -124,6 +129,7 @@ def add_row(case, row, sentence, work, at_once):
         self.row(*([row] if work is None else [row, ahead_of(case, at_once)[name].result()]))
 
     test.__name__, test.__qualname__, test.sentence = name, f"{case.__qualname__}.{name}", sentence
+    test.row = row
     test.work = None if work is None else lambda: work(row)
     setattr(case, name, test)
 
@@ -179,11 +185,13 @@ class Loader(unittest.TestLoader):
 
 
 def sentence_of(test):
-    """What a test shows: the first sentence of its docstring, or the words of its name. Of what is done before the tests of a case, that
-    of the case."""
+    """What a test shows: the first sentence of its docstring, or the words of its name. Of what is done before the tests of a case or of
+    a module, that of the case, or of setUpModule."""
     if not isinstance(test, unittest.TestCase):
-        module, _, case = test.id().partition("(")[2].rstrip(")").rpartition(".")
-        return first_sentence(inspect.getdoc(getattr(sys.modules.get(module), case, None)) or test.id())
+        place = test.id().partition("(")[2].rstrip(")")
+        module, _, case = place.rpartition(".")
+        before = getattr(sys.modules.get(module), case, None) or getattr(sys.modules.get(place), "setUpModule", None)
+        return first_sentence(inspect.getdoc(before) or test.id())
     name = test.id().rpartition(".")[2]
     method = getattr(type(test), name)
     said = getattr(method, "sentence", None)

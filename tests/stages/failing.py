@@ -211,6 +211,12 @@ class Small(checks.Case):
         failed = "FAILED: a case that can't begin\n/nowhere/no_program is not there, or is no program\n"
         self.same((1, f"{skipped}{failed}0 passed, 1 failed\n"), self.came(CASES)[:2])
 
+    def test_module(self):
+        """a module that can't begin has failed."""
+        before = 'def setUpModule():\n    """Nothing is tried without it."""\n    running.need("no_program", folder="/nowhere")\n'
+        failed = "FAILED: Nothing is tried without it\n/nowhere/no_program is not there, or is no program\n0 passed, 1 failed\n"
+        self.same((1, failed, ""), self.came(before + TESTS))
+
     def test_skipped(self):
         """a stage of which all is skipped is no success."""
         status, output, _ = self.came(CASES, "-k", "Skipped")

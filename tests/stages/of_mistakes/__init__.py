@@ -1,0 +1,1 @@
+"""The parts of the stage mistakes: its engines, its rows, and how a row is played."""

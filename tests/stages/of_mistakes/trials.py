@@ -1,0 +1,178 @@
+"""A row, as it is played."""
+from __future__ import annotations
+
+import os
+import re
+import shutil
+import signal
+import subprocess
+import time
+from contextlib import nullcontext
+from dataclasses import dataclass, replace
+
+from .cases import ALL, SAID, WAITS, WROTE, Said, ended, explained
+
+
+OTHER_USER = ("setpriv", "--reuid=64321", "--regid=64321", "--clear-groups")  # one who runs nothing else
+LIMIT = 30  # seconds that a match may take, on a machine with other work
+PATIENCE = 1  # seconds in which nothing comes of a match that waits
+
+
+@dataclass(frozen=True)
+class Result:
+    """What came of a match."""
+
+    status: object
+    output: str
+    errors: str
+    sent: str
+    started: bool  # whether something was started that a mistake in the options should have kept from it
+
+
+class Trial:
+    """A mistake that is made, in a folder of its own."""
+
+    programs = folder = room = None  # the environment of the programs, the folder, and where in it the match is played
+
+    def __init__(self, kind, case):
+        self.case = case
+        self.explains = case.why is not None
+        self.name = f"{kind}: {case.name}"
+
+    def said(self, said):
+        """What the program says by itself."""
+        alone = subprocess.run(said.command, input=said.input.encode(), capture_output=True, env=self.programs)
+        return alone.stderr.decode() or "something"
+
+    def make(self, programs, folder):
+        """Makes the folder and the engine."""
+        self.programs, self.folder, self.room = programs, folder, folder / self.case.where
+        if isinstance(self.case.errors, Said):
+            said = self.said(self.case.errors)
+            self.case = replace(self.case, errors=said * self.case.errors.times, why=self.case.why.replace(SAID, said))
+        engine = self.folder / self.case.path
+        engine.parent.mkdir(parents=True, exist_ok=True)
+        self.room.mkdir(exist_ok=True)
+        made = self.case.made
+        if self.case.link:
+            return engine.symlink_to(self.case.link)
+        if self.case.is_another:
+            self.room.chmod(0o755)
+            shutil.copy(self.program(), self.room)
+        engine.write_bytes(made if isinstance(made, bytes) else made.encode())
+        return engine.chmod(self.case.mode)
+
+    def command(self, *more):
+        """The command that is run."""
+        case = self.case
+        if case.run:
+            return list(case.run)
+        sides = (case.command, case.other) if case.side == "black" else (case.other, case.command)
+        program = "./twogtp" if case.is_another else self.program()
+        return [*limited(case), program, "--black", sides[0], "--white", sides[1], *case.options, *more]
+
+    def program(self):
+        """Where the program is. Another user gets a copy, since the folders above may be closed to all others."""
+        return shutil.which("twogtp", path=self.programs["PATH"])
+
+    def output(self):
+        """Where the program writes: a file, or a pipe that nobody reads."""
+        if self.case.is_read:
+            return open(self.folder / "output", "w+b")
+        reader, writer = os.pipe()
+        os.close(reader)
+        return open(writer, "wb")
+
+    def play(self, *more):
+        """Plays the match with these further options, and answers what came of it."""
+        sent, started = self.room / "sent", self.room / "started"
+        for left in (sent, started):
+            left.unlink(missing_ok=True)
+        search = {} if self.case.search is None else {"PATH": self.case.search}
+        environment = {**self.programs, "HOME": str(self.folder), **search}
+        held = open(self.folder / self.case.path, "ab") if self.case.is_held else nullcontext()
+        with held, self.output() as output, open(self.folder / "errors", "w+b") as errors:
+            # It leads a group of its own, in which all that it starts is, so all of that can be ended.
+            process = subprocess.Popen(self.command(*more), cwd=self.room, stdin=subprocess.DEVNULL, stdout=output, stderr=errors,
+                                       env=environment, start_new_session=True)
+            try:
+                ended = self.wait(process, sent)
+            finally:
+                os.killpg(process.pid, signal.SIGKILL)
+                status = process.wait()
+        texts = [text_of(self.folder / name, errors="backslashreplace") for name in ("output", "errors")]
+        return Result(status if ended else WAITS, *texts, text_of(sent), started.exists())
+
+    def wait(self, process, sent):
+        """Waits until the program has ended; or, where it has to wait, a while after it came that far. Has it ended?"""
+        late = time.monotonic() + LIMIT
+        far = False
+        while time.monotonic() < late and not has_ended(process):
+            if not far and self.case.status == WAITS and text_of(sent) == self.case.sent:
+                far, late = True, time.monotonic() + PATIENCE
+            time.sleep(0.01)
+        return has_ended(process)
+
+
+def limited(case):
+    """What comes before the command of a program that has these limits. For root there is none of processes."""
+    user = OTHER_USER if case.is_another and os.geteuid() == 0 else ()
+    return [*user, "prlimit", *case.limits] if case.limits else []
+
+
+def can_be_tried(case):
+    """May the limits of this row be set here?"""
+    return not case.limits or subprocess.run([*limited(case), "true"], stderr=subprocess.DEVNULL).returncode == 0
+
+
+def text_of(file, errors="strict"):
+    """What the file holds, or nothing where it isn't there."""
+    return file.read_text(errors=errors) if file.exists() else ""
+
+
+def has_ended(process):
+    """Has the program ended? It keeps its process id all the same."""
+    return os.waitid(os.P_PID, process.pid, os.WEXITED | os.WNOHANG | os.WNOWAIT) is not None
+
+
+def differences(case, result):
+    """In what a result is not what the row wants: for each the name, what is wanted, and what came."""
+    wanted = [("status", case.status, result.status)]
+    if isinstance(case.wanted, str):
+        wanted.append(("standard output", case.wanted + "\n" if case.wanted else "", result.output))
+    elif not all(part in " ".join(result.output.split()) for part in case.wanted):
+        wanted.append(("standard output", f".. with all of {case.wanted}", result.output))
+    if isinstance(case.errors, str):
+        wanted.append(("standard error", case.errors, result.errors))
+    elif not result.errors.startswith(case.errors[0]) or not all(part in result.errors for part in case.errors):
+        wanted.append(("standard error", f"{case.errors[0]}.. with all of {case.errors[1:]}", result.errors))
+    if case.sent is not None:
+        wanted.append(("what the engine was sent", case.sent, result.sent))
+    if case.status == 2:
+        wanted.append(("an engine was started", False, result.started))
+    return [row for row in wanted if row[1] != row[2]]
+
+
+def with_why(case, result):
+    """The row and the result of a match that was played with `--why`, to be compared. What is a question of time is the same in both."""
+    errors = result.errors
+    if case.closes:
+        errors = errors.replace("its output ended, signal 9;", f"its output ended, {case.closes};")
+    if case.hastens:
+        unread = explained(f"{ALL}: writing failed, {case.hastens}; nothing of it was read")
+        errors = errors.replace(unread, re.findall("^twogtp: .*\n", case.why, re.MULTILINE)[0])
+    for wrote in set(re.findall(WROTE, case.why)):
+        for count in range(1, len(case.follows) + 1):
+            errors = errors.replace(f'; it wrote "{wrote}{"".join(case.follows[:count])}"\n', f'; it wrote "{wrote}"\n')
+    return replace(case, errors=case.why), replace(result, errors=errors)
+
+
+def try_it(trial):
+    """Plays the match, also with `--why`. What came of each, with its row, and in what that differs. None where it can't be played here."""
+    if not can_be_tried(trial.case):
+        return None
+    played = [(trial.case, trial.play())]
+    if trial.explains:
+        played.append(with_why(trial.case, trial.play("--why")))
+    plain, *others = [differences(*row) for row in played]
+    return played, plain + [(f"with --why, {what}", *texts) for found in others for what, *texts in found]
