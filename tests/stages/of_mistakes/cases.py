@@ -22,7 +22,7 @@ def explained(text, times=1, side="black"):
 
 
 def no_start(reason, program="./engine", times=3, side="black"):
-    """What `--why` reports of an engine that can't be started: the reason, and the first 80 bytes of the program's name, as written there."""
+    """What `--why` reports of an engine that can't be started: why, and the first 80 bytes of the program's name, as written there."""
     return explained(f'not started: {reason}: "{program}"', times, side)
 
 

@@ -18,10 +18,15 @@ OTHER_WORDS = [
     ("another reason not to start", r"(not started: )[^:]*", r"\1it is Sunday"),
 ]
 
+# the same of the line of a game
+OTHER_RESULTS = [
+    ("black", "white"), ("white", "black"), ("W+", "B+"), ("B+", "W+"), ("moves ", "moves 1"), ("restarts ", "restarts 1"),
+]  # fmt: skip
+
 
 def turned(case):
     """The row with one of its wishes turned, each in turn."""
-    for old, new in (("black", "white"), ("white", "black"), ("W+", "B+"), ("B+", "W+"), ("moves ", "moves 1"), ("restarts ", "restarts 1")):
+    for old, new in OTHER_RESULTS:
         if old in case.wanted:
             yield f"{old!r} is {new!r}", replace(case, wanted=case.wanted.replace(old, new))
     if isinstance(case.wanted, tuple):
