@@ -1,5 +1,4 @@
-//! An example: an engine whose moves another program writes. `example_relay_engine COMMAND` plays what `sh` writes that
-//! runs the command.
+//! An example: an engine in steps that plays what `sh` writes, which runs the command of its argument.
 #![tactic(auto)]
 
 use go_base::{Choice, Vertex};

@@ -29,10 +29,10 @@ use std::marker::PhantomData;
 
 mod engine;
 mod game;
+mod matches;
 mod outcomes;
 mod player;
 mod readers;
-mod matches;
 mod refusal;
 mod texts;
 mod values;
@@ -40,10 +40,10 @@ mod writers;
 
 pub use engine::{Engine, Fed, Wait};
 pub use game::{Chain, Game};
+pub use matches::{Match, Setup};
 pub use outcomes::{Action, Loss, Owed, Report, Status, Verdict};
 pub use player::{Player, ServeError, serve};
 pub use readers::{CommandLines, LineEvent, Replies, ReplyEvent};
-pub use matches::{Match, Setup};
 pub use refusal::Refusal;
 pub use values::{Choice, Colour, KoRule, Komi, Move, Point, Score, Vertex};
 pub use writers::{Command, reply};
