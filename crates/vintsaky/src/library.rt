@@ -9,7 +9,7 @@ use vintsaky_calls::library;
 #[unsafe(no_mangle)]
 pub extern "C" fn vintsaky_interface_1() {}
 
-/// The version of the library: 65536 times the first number, 256 times the second, and the third.
+/// The version of the library: see VINTSAKY_VERSION.
 #[unsafe(no_mangle)]
 pub extern "C" fn vintsaky_version() -> u32
     ensures { result ≡ library_version }

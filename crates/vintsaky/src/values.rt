@@ -59,7 +59,7 @@ pub extern "C" fn vintsaky_point(column: u32, row: u32, vertex: &mut u32) -> u32
     code_of(values::point(column, row, vertex))
 }
 
-/// Reads a vertex, as the protocol spells it.
+/// Reads a vertex, as the protocol spells it: `pass`, or a letter and a row, in any case.
 ///
 /// # Errors
 ///

@@ -34,7 +34,8 @@ pub extern "C" fn vintsaky_write_command(
 }
 
 /// Writes a reply: a success where `ok` isn't 0, else a failure, and its length: 2,014 bytes at most. The id is -1 for
-/// none.
+/// none. A reply may have a text of at most 2,000 bytes, each a newline or 32 to 126, with no two newlines in a row,
+/// and no space or newline at its beginning or its end.
 ///
 /// # Errors
 ///

@@ -3,6 +3,8 @@ ghost use Rattle.std.specs.Prelude.{◌≡◌, IfSome, IfNone};
 ghost use Rattle.vintsaky_calls.specs.Codes.{cause_code, result_code, NoCause};
 
 /// Why a call is refused. Its number is the same in all later releases, and 0 is what a call returns that was done.
+///
+/// The comment of a cause is its sentence, which `library/declare` writes wherever else it stands.
 #[derive(Clone, Copy, PartialEq, Eq, Debug, Drop)]
 pub enum Cause {
     /// The number is no colour and no side: it is neither 1, Black, nor 2, White.

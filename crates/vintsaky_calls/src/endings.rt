@@ -33,14 +33,23 @@ pub(crate) fn number_of_ending(given: Verdict) -> u32
     ensures { result ≡ ending_code given }
 {
     match given {
+        // by two passes
         Verdict::Score(_) => 1,
+        // the side resigned
         Verdict::Resign(_) => 2,
+        // the record has as many moves as the match allows
         Verdict::Limit => 3,
+        // the side refused a play that isn't retaken, or that the other side didn't take back: it forfeits
         Verdict::Forfeit(_, ForfeitCause::RefusedPlay) => 4,
+        // the side failed to answer with a move: it forfeits
         Verdict::Forfeit(_, ForfeitCause::NoMove) => 5,
+        // the side answered with what is no move: it forfeits
         Verdict::Forfeit(_, ForfeitCause::NoVertex) => 6,
+        // the side answered with a move that isn't legal: it forfeits
         Verdict::Forfeit(_, ForfeitCause::IllegalMove) => 7,
+        // the side can't be brought to the record
         Verdict::Unfit(_) => 8,
+        // the side went down too often
         Verdict::Abandoned(_) => 9,
     }
 }

@@ -20,11 +20,7 @@ use gtp_session::steps::{AnswerFault, ChoiceFault, CommandFault, Event, Steps, W
 /// The number of a resignation, which no vertex has.
 const RESIGN: u32 = 65535;
 
-/// Begins the engine anew, under a ko rule.
-///
-/// # Errors
-///
-/// `BadRule`. The engine stays as it was.
+/// What `vintsaky_engine_begin` does.
 pub fn begin(engine: &mut Steps, rule: u32) -> Result<(), Cause>
     ensures begun { OnOk result (BeginsEngine rule engine.new) }
     ensures kept { OnErr result (engine.new ≡ engine.old) }
@@ -34,7 +30,7 @@ pub fn begin(engine: &mut Steps, rule: u32) -> Result<(), Cause>
     Ok(())
 }
 
-/// Takes the next piece. How many bytes of it were used is written. Returns the number of what came of them.
+/// What `vintsaky_engine_feed` does.
 pub fn feed(engine: &mut Steps, bytes: &[u8], used: &mut usize) -> u32
     ensures { (came : Event) × (result ≡ event_code came)
         × Feeds engine.old bytes.now used.new came engine.new }
@@ -49,15 +45,19 @@ fn number_of_event(event: Event) -> u32
     ensures { result ≡ event_code event }
 {
     match event {
+        // all bytes were used: read on. Only now
         Event::More => 0,
         Event::Asked(colour) => number_of_colour(colour),
+        // a line of another command: answer or decline it, and write the reply
         Event::Other => 3,
+        // a line was answered: write the reply. A quit is answered so too
         Event::Reply => 4,
+        // a quit was answered before: stop
         Event::Ended => 5,
     }
 }
 
-/// The number of what is waited for.
+/// What `vintsaky_engine_wait` does.
 pub fn wait(engine: &Steps) -> u32
     ensures { result ≡ wait_code engine.now.wait }
 {
@@ -68,12 +68,7 @@ pub fn wait(engine: &Steps) -> u32
     }
 }
 
-/// Makes the choice that is asked for.
-///
-/// # Errors
-///
-/// `BadVertex`, or else `NotAsked`, or else why the move is refused: `OffBoard`, `Occupied`, `Suicide` or `Ko`. The
-/// engine stays as it was, and a choice that was asked for is still asked for.
+/// What `vintsaky_engine_choose` does.
 pub fn choose(engine: &mut Steps, vertex: u32) -> Result<(), Cause>
     ensures made { OnOk result (ChoosesBy engine.old vertex engine.new) }
     ensures kept { OnErr result (engine.new ≡ engine.old) }
@@ -107,11 +102,7 @@ fn cause_of_choice(fault: ChoiceFault) -> Cause
     }
 }
 
-/// Answers the line of another command: by a success, where `ok` isn't 0, or else by a failure.
-///
-/// # Errors
-///
-/// `NotAsked`, or else `BadText` where no reply may have the text. The engine stays as it was.
+/// What `vintsaky_engine_answer` does.
 pub fn answer(engine: &mut Steps, ok: u32, text: &[u8]) -> Result<(), Cause>
     ensures made { OnOk result (AnswersOther engine.old (is_success ok) text.now engine.new) }
     ensures kept { OnErr result (engine.new ≡ engine.old) }
@@ -130,11 +121,7 @@ fn cause_of_answer(fault: AnswerFault) -> Cause
     }
 }
 
-/// Answers the line of another command as the protocol's table does: `unknown command`.
-///
-/// # Errors
-///
-/// `NotAsked`. The engine stays as it was.
+/// What `vintsaky_engine_decline` does.
 pub fn decline(engine: &mut Steps) -> Result<(), Cause>
     ensures made { OnOk result (AnswersOther engine.old false declined_text engine.new) }
     ensures kept { OnErr result (engine.new ≡ engine.old) }
@@ -144,11 +131,7 @@ pub fn decline(engine: &mut Steps) -> Result<(), Cause>
     engine.decline().map_err(cause_of_answer)
 }
 
-/// Answers `name` by this text from now on.
-///
-/// # Errors
-///
-/// `BadText` where it has more than 200 bytes, or no reply may have it. The engine stays as it was.
+/// What `vintsaky_engine_set_name` does.
 pub fn set_name(engine: &mut Steps, text: &[u8]) -> Result<(), Cause>
     ensures set { OnOk result (SetsName engine.old text.now engine.new) }
     ensures kept { OnErr result (engine.new ≡ engine.old) }
@@ -160,11 +143,7 @@ pub fn set_name(engine: &mut Steps, text: &[u8]) -> Result<(), Cause>
     }
 }
 
-/// Answers `version` by this text from now on.
-///
-/// # Errors
-///
-/// As those of [`set_name`].
+/// What `vintsaky_engine_set_version` does.
 pub fn set_version(engine: &mut Steps, text: &[u8]) -> Result<(), Cause>
     ensures set { OnOk result (SetsVersion engine.old text.now engine.new) }
     ensures kept { OnErr result (engine.new ≡ engine.old) }
@@ -176,12 +155,7 @@ pub fn set_version(engine: &mut Steps, text: &[u8]) -> Result<(), Cause>
     }
 }
 
-/// Adds a command of the author's own.
-///
-/// # Errors
-///
-/// `BadLength`, `BadByte`, `OnlyDigits`, `InTable`, `AddedBefore` or `TooMany`, the first of these that holds. The
-/// engine stays as it was.
+/// What `vintsaky_engine_add_command` does.
 pub fn add_command(engine: &mut Steps, name: &[u8]) -> Result<(), Cause>
     ensures added { OnOk result (AddsCommand engine.old name.now engine.new) }
     ensures kept { OnErr result (engine.new ≡ engine.old) }
@@ -204,14 +178,14 @@ fn cause_of_command(fault: CommandFault) -> Cause
     }
 }
 
-/// Copies the engine's game.
+/// What `vintsaky_engine_copy_game` does.
 pub fn copy_game(engine: &Steps, game: &mut Game)
     ensures { game.new ≡ engine.now.game }
 {
     game.copy_from(engine.game());
 }
 
-/// Writes the last reply. How many bytes it has: none before the first.
+/// What `vintsaky_engine_reply` does.
 pub fn reply(engine: &Steps, text: &mut [u8]) -> usize
     ensures length { result ≡ length engine.now.reply }
     ensures put { Puts engine.now.reply text.old text.new }
@@ -219,11 +193,7 @@ pub fn reply(engine: &Steps, text: &mut [u8]) -> usize
     put(engine.reply(), text)
 }
 
-/// Writes a word of the line that is waited for, counted from 0 after the id, and its length.
-///
-/// # Errors
-///
-/// `NotAsked` where no line is waited for, or else `NoWord`. Nothing is written.
+/// What `vintsaky_engine_word` does.
 pub fn word(engine: &Steps, number: usize, text: &mut [u8], count: &mut usize) -> Result<(), Cause>
     ensures found { OnOk result (PutsWord engine.now number text.old text.new count.new) }
     ensures kept { OnErr result ((text.new ≡ text.old) × (count.new ≡ count.old)) }
@@ -235,11 +205,7 @@ pub fn word(engine: &Steps, number: usize, text: &mut [u8], count: &mut usize) -
     Ok(())
 }
 
-/// The id of the line that is waited for.
-///
-/// # Errors
-///
-/// `NotAsked` where no line is waited for, or else `NoId`. Nothing is written.
+/// What `vintsaky_engine_id` does.
 pub fn id(engine: &Steps, id: &mut u32) -> Result<(), Cause>
     ensures found { OnOk result (HasId engine.now id.new) }
     ensures kept { OnErr result (id.new ≡ id.old) }

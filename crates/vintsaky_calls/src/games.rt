@@ -21,11 +21,7 @@ use arrayvec::ArrayVec;
 use go_base::{Komi, Point, Size};
 use go_board::{Game, HandicapFault, MOST_POINTS};
 
-/// Begins the game anew, on an empty board.
-///
-/// # Errors
-///
-/// `BadRule`, `BadSize` or `BadKomi`, the first of these that holds. The game stays as it was.
+/// What `vintsaky_game_begin` does.
 pub fn begin(game: &mut Game, rule: u32, size: u32, half_komi: i32) -> Result<(), Cause>
     ensures begun { OnOk result (Begins rule size half_komi game.new) }
     ensures kept { OnErr result (game.new ≡ game.old) }
@@ -38,12 +34,7 @@ pub fn begin(game: &mut Game, rule: u32, size: u32, half_komi: i32) -> Result<()
     Ok(())
 }
 
-/// Makes a move.
-///
-/// # Errors
-///
-/// `BadColour` or `BadVertex`, and else why the move is refused: `Full`, `OffBoard`, `Occupied`, `Suicide` or `Ko`. The
-/// game stays as it was.
+/// What `vintsaky_game_play` does.
 pub fn play(game: &mut Game, colour: u32, vertex: u32) -> Result<(), Cause>
     ensures made { OnOk result (Makes game.old colour vertex game.new) }
     ensures kept { OnErr result (game.new ≡ game.old) }
@@ -54,11 +45,7 @@ pub fn play(game: &mut Game, colour: u32, vertex: u32) -> Result<(), Cause>
     game.play(colour, vertex).map_err(cause_of_play)
 }
 
-/// Whether a colour may make a move next.
-///
-/// # Errors
-///
-/// As those of [`play`], of which it leaves out `Full`.
+/// What `vintsaky_game_legal` does.
 pub fn legal(game: &Game, colour: u32, vertex: u32) -> Result<(), Cause>
     ensures legal { OnOk result (IsPlay colour vertex (IsLegal game.now)) }
     ensures why { IfErr result (IsIllegal game.now colour vertex) }
@@ -71,11 +58,7 @@ pub fn legal(game: &Game, colour: u32, vertex: u32) -> Result<(), Cause>
     }
 }
 
-/// Takes back the last move.
-///
-/// # Errors
-///
-/// `NothingToUndo` where the record has no move. The game stays as it was.
+/// What `vintsaky_game_undo` does.
 pub fn undo(game: &mut Game) -> Result<(), Cause>
     ensures undone { OnOk result ((game.old.moves ≢ []) × (game.new ≡ without_last game.old)) }
     ensures kept { OnErr result (game.new ≡ game.old) }
@@ -87,11 +70,7 @@ pub fn undo(game: &mut Game) -> Result<(), Cause>
     }
 }
 
-/// Sets the komi. The board and the record stay.
-///
-/// # Errors
-///
-/// `BadKomi`. The game stays as it was.
+/// What `vintsaky_game_set_komi` does.
 pub fn set_komi(game: &mut Game, half_komi: i32) -> Result<(), Cause>
     ensures set { OnOk result (IsKomi half_komi × (game.new ≡ record game.old { komi = half_komi })) }
     ensures kept { OnErr result (game.new ≡ game.old) }
@@ -102,11 +81,7 @@ pub fn set_komi(game: &mut Game, half_komi: i32) -> Result<(), Cause>
     Ok(())
 }
 
-/// Puts handicap stones on their fixed points.
-///
-/// # Errors
-///
-/// `NotEmpty`, or else `BadHandicap`. The game stays as it was.
+/// What `vintsaky_game_place_handicap` does.
 pub fn place_handicap(game: &mut Game, stones: u32) -> Result<(), Cause>
     ensures placed { OnOk result (PlacesHandicap game.old stones game.new) }
     ensures kept { OnErr result (game.new ≡ game.old) }
@@ -119,12 +94,7 @@ pub fn place_handicap(game: &mut Game, stones: u32) -> Result<(), Cause>
     }
 }
 
-/// Writes the numbers of the points on which a colour may play next, row by row from A1, where there is room for all of
-/// them, and how many these are.
-///
-/// # Errors
-///
-/// `BadColour`. Nothing is written.
+/// What `vintsaky_game_legal_points` does.
 pub fn legal_points(
     game: &Game,
     colour: u32,
@@ -142,8 +112,7 @@ pub fn legal_points(
     Ok(())
 }
 
-/// Writes the numbers of the points whose stones the last move took, row by row from A1, where there is room for all of
-/// them. How many these are.
+/// What `vintsaky_game_taken_by_last_move` does.
 pub fn taken_by_last_move(game: &Game, points: &mut [u32]) -> usize
     ensures { ListsTaken game.now points.old points.new result }
 {
@@ -163,11 +132,7 @@ fn put_points(points: &ArrayVec<Point, MOST_POINTS>, numbers: &mut [u32]) -> usi
     count
 }
 
-/// The colour of the stone on a point: 0 where there is none.
-///
-/// # Errors
-///
-/// `BadVertex`, also of a pass, or else `OffBoard`. Nothing is written.
+/// What `vintsaky_game_stone_at` does.
 pub fn stone_at(game: &Game, vertex: u32, colour: &mut u32) -> Result<(), Cause>
     ensures found { OnOk result (HasAt game.now vertex colour.new) }
     ensures kept { OnErr result (colour.new ≡ colour.old) }
@@ -178,11 +143,7 @@ pub fn stone_at(game: &Game, vertex: u32, colour: &mut u32) -> Result<(), Cause>
     Ok(())
 }
 
-/// How many stones a chain has, and how many liberties.
-///
-/// # Errors
-///
-/// `BadVertex`, also of a pass, or else `OffBoard` or `NoStone`. Nothing is written.
+/// What `vintsaky_game_chain` does.
 pub fn chain(game: &Game, vertex: u32, stones: &mut u32, liberties: &mut u32) -> Result<(), Cause>
     ensures found { OnOk result (HasChain game.now vertex stones.new liberties.new) }
     ensures kept { OnErr result ((stones.new ≡ stones.old) × (liberties.new ≡ liberties.old)) }
@@ -208,11 +169,7 @@ fn point_on(game: &Game, vertex: u32) -> Result<Point, Cause>
     }
 }
 
-/// A move of the record, counted from 0.
-///
-/// # Errors
-///
-/// `NoMove` where the record has no such move. Nothing is written.
+/// What `vintsaky_game_made` does.
 pub fn made(game: &Game, number: usize, colour: &mut u32, vertex: &mut u32) -> Result<(), Cause>
     ensures found { OnOk result (HasMove game.now number colour.new vertex.new) }
     ensures kept { OnErr result ((colour.new ≡ colour.old) × (vertex.new ≡ vertex.old)) }
@@ -224,11 +181,7 @@ pub fn made(game: &Game, number: usize, colour: &mut u32, vertex: &mut u32) -> R
     Ok(())
 }
 
-/// How many stones a colour has taken.
-///
-/// # Errors
-///
-/// `BadColour`. Nothing is written.
+/// What `vintsaky_game_captured` does.
 pub fn captured(game: &Game, colour: u32, stones: &mut u32) -> Result<(), Cause>
     ensures found { OnOk result (HasCaptured game.now colour stones.new) }
     ensures kept { OnErr result (stones.new ≡ stones.old) }
@@ -238,14 +191,14 @@ pub fn captured(game: &Game, colour: u32, stones: &mut u32) -> Result<(), Cause>
     Ok(())
 }
 
-/// The number of the ko rule.
+/// What `vintsaky_game_rule` does.
 pub fn rule(game: &Game) -> u32
     ensures { result ≡ rule_code game.now.rule }
 {
     number_of_rule(game.rule())
 }
 
-/// Writes the board as text, as `Game::show` returns it.
+/// What `vintsaky_game_board_text` does.
 pub fn board_text(game: &Game, text: &mut [u8]) -> usize
     ensures length { result ≡ length (board_text game.now) }
     ensures put { Puts (board_text game.now) text.old text.new }

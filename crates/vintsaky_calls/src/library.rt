@@ -6,15 +6,14 @@ ghost use Rattle.vintsaky_calls.specs.Texts.{Puts};
 use crate::causes::{Cause, cause_of};
 use crate::texts::put;
 
-/// The version of the library: 65536 times the first number, 256 times the second, and the third.
+/// What `vintsaky_interface_1` does.
 pub fn version() -> u32
     ensures { result ≡ library_version }
 {
     0x010000
 }
 
-/// Writes a sentence that says what a cause means. How many bytes it has. Each number has one: also 0, and what is no
-/// cause.
+/// What `vintsaky_cause_text` does.
 pub fn cause_text(cause: u32, text: &mut [u8]) -> usize
     ensures { (said : List ℕ) × Says cause said × (result ≡ length said)
         × Puts said text.old text.new }
@@ -35,7 +34,7 @@ fn said_of(number: u32) -> &'static [u8]
     }
 }
 
-/// The sentence of a cause.
+/// The sentence of a cause. `library/declare` writes the rows, from the comments in `causes.rt`.
 fn sentence(cause: Cause) -> &'static [u8]
     ensures { result.now ≡ sentence cause }
 {

@@ -32,8 +32,7 @@ impl Lines {
     }
 }
 
-/// Takes the next piece up to and with the newline that ends a line, or all of it. How many bytes were used is written.
-/// Returns 0 where none ended a line, 1 for a command line, and 2 for one that is too long.
+/// What `vintsaky_lines_feed` does.
 pub fn feed(lines: &mut Lines, bytes: &[u8], used: &mut usize) -> u32
     ensures reads { ReadsLine lines.old.reader bytes.now used.new
         (line_unless result lines.new.line) lines.new.reader }
@@ -62,11 +61,7 @@ fn command_of(read: &Line) -> Result<&CommandLine, Cause>
     }
 }
 
-/// The id of the command line that was read last.
-///
-/// # Errors
-///
-/// `NoLine`, or else `NoId`. Nothing is written.
+/// What `vintsaky_lines_id` does.
 pub fn id(lines: &Lines, id: &mut u32) -> Result<(), Cause>
     ensures found { OnOk result (HasLineId lines.now.line id.new) }
     ensures kept { OnErr result (id.new ≡ id.old) }
@@ -77,11 +72,7 @@ pub fn id(lines: &Lines, id: &mut u32) -> Result<(), Cause>
     Ok(())
 }
 
-/// Writes a word of the command line that was read last, counted from 0 after the id, and its length.
-///
-/// # Errors
-///
-/// `NoLine`, or else `NoWord`. Nothing is written.
+/// What `vintsaky_lines_word` does.
 pub fn word(lines: &Lines, number: usize, text: &mut [u8], count: &mut usize) -> Result<(), Cause>
     ensures found { OnOk result
         (PutsLineWord lines.now.line number text.old text.new count.new) }

@@ -34,10 +34,15 @@ fn number_of_cause(cause: LossCause) -> u32
 {
     match cause {
         LossCause::Shows(fault) => number_of_fault(fault),
+        // It failed at a command of its script but a play, or placed another handicap. It is unfit.
         LossCause::Unfit => 5,
+        // It refused a play that isn't retaken. It forfeits.
         LossCause::RefusesPlay => 6,
+        // It didn't take back its move, which the other side refused. The other side forfeits.
         LossCause::KeepsMove => 7,
+        // It failed at a genmove. It forfeits.
         LossCause::NoMove => 8,
+        // Its answer to a genmove is neither a vertex nor a resignation. It forfeits.
         LossCause::NoVertex => 9,
         LossCause::Illegal(fault) => number_of_rule(fault),
     }
@@ -48,9 +53,13 @@ fn number_of_fault(fault: SideFault) -> u32
     ensures { result ≡ fault_code fault }
 {
     match fault {
+        // What it wrote is no reply: it begins with neither = nor ?. It goes down.
         SideFault::NoStatus => 1,
+        // More than 8,192 bytes came since its last reply. It goes down.
         SideFault::Overlong => 2,
+        // The reply hasn't the id of the oldest unanswered command. It goes down.
         SideFault::WrongId => 3,
+        // A reply came where no command is unanswered. It goes down.
         SideFault::Unasked => 4,
     }
 }
@@ -60,6 +69,7 @@ fn number_of_rule(fault: PlayFault) -> u32
     ensures { result ≡ rule_loss_code fault }
 {
     match fault {
+        // Its move is refused, for the causes of the same names. It forfeits.
         PlayFault::Full => 10,
         PlayFault::OffBoard => 11,
         PlayFault::Occupied => 12,

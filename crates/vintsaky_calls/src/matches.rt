@@ -31,12 +31,7 @@ use go_board::Game;
 use gtp_match::{Action, Match, Setup, SetupFault, Status, record_line, result_line};
 use gtp_wire::MOST_COMMAND_BYTES;
 
-/// Begins a match between two engines that are not started yet.
-///
-/// # Errors
-///
-/// `BadSize`, `BadKomi`, `BadHandicap`, `BadMaxMoves` or `BadMaxRestarts`, the first of these that holds. The match
-/// stays as it was.
+/// What `vintsaky_match_begin` does.
 pub fn begin(
     held: &mut Match,
     size: u32,
@@ -64,7 +59,7 @@ pub fn begin(
     }
 }
 
-/// What is to be done next, as a number. The number of the side with which it is done is written, or 0.
+/// What `vintsaky_match_next` does.
 pub fn next(held: &Match, side: &mut u32) -> u32
     ensures action { result ≡ action_code (next held.now) }
     ensures side { side.new ≡ action_side (next held.now) }
@@ -79,11 +74,7 @@ pub fn next(held: &Match, side: &mut u32) -> u32
     action
 }
 
-/// A side was started.
-///
-/// # Errors
-///
-/// `BadColour`, or else `NotNext` where its start isn't what is next. The match stays as it was.
+/// What `vintsaky_match_started` does.
 pub fn started(held: &mut Match, side: u32) -> Result<(), Cause>
     ensures started { OnOk result (Starts held.old side held.new) }
     ensures kept { OnErr result (held.new ≡ held.old) }
@@ -97,12 +88,7 @@ pub fn started(held: &mut Match, side: u32) -> Result<(), Cause>
     Ok(())
 }
 
-/// Writes the next command for a side, and its length. It counts as sent.
-///
-/// # Errors
-///
-/// `BadColour`, or else `NotNext` where that isn't what is next, or else `NoRoom` where the buffer has fewer than 65
-/// bytes. The match stays as it was, and nothing is written.
+/// What `vintsaky_match_send` does.
 pub fn send(held: &mut Match, side: u32, text: &mut [u8], count: &mut usize) -> Result<(), Cause>
     ensures sent { OnOk result (Sends held.old side text.old text.new count.new held.new) }
     ensures kept { OnErr result
@@ -121,11 +107,7 @@ pub fn send(held: &mut Match, side: u32, text: &mut [u8], count: &mut usize) -> 
     Ok(())
 }
 
-/// Hears what a side wrote, in any pieces. The number of why the side fails by it is written, or 0.
-///
-/// # Errors
-///
-/// `BadColour`. The match stays as it was, and nothing is written.
+/// What `vintsaky_match_hear` does.
 pub fn hear(held: &mut Match, side: u32, bytes: &[u8], loss: &mut u32) -> Result<(), Cause>
     ensures heard { OnOk result (Hears held.old side bytes.now loss.new held.new) }
     ensures kept { OnErr result ((held.new ≡ held.old) × (loss.new ≡ loss.old)) }
@@ -137,16 +119,7 @@ pub fn hear(held: &mut Match, side: u32, bytes: &[u8], loss: &mut u32) -> Result
     Ok(())
 }
 
-/// Hears what a side wrote as [`hear`] does, and writes more of what it reports.
-///
-/// That is which retake of its number of a move it is, 1 to 3, where the side refused a play that is retaken, or 0; and
-/// of the loss, or else of the retake, how many commands the side hadn't answered, the oldest of them, as it was sent
-/// but without its newline, and the first 80 bytes that it wrote since its last whole reply, each with its length.
-/// Where there is neither, these are 0 and the texts empty.
-///
-/// # Errors
-///
-/// `BadColour`. The match stays as it was, and nothing is written.
+/// What `vintsaky_match_hear_reporting` does.
 pub fn hear_reporting(
     held: &mut Match,
     side: u32,
@@ -186,12 +159,7 @@ pub fn hear_reporting(
     Ok(())
 }
 
-/// Writes what a side owes: how many commands it hasn't answered, the oldest of them, as it was sent but without its
-/// newline, or an empty text, and the first 80 bytes that it wrote since its last whole reply, each with its length.
-///
-/// # Errors
-///
-/// `BadColour`, or else `Down`. Nothing is written.
+/// What `vintsaky_match_owed` does.
 pub fn owed(
     held: &Match,
     side: u32,
@@ -222,12 +190,7 @@ pub fn owed(
     Ok(())
 }
 
-/// Writes how many commands a side has confirmed of those that bring it to the record, how many it hasn't answered, and
-/// whether a `genmove` is among them: 1 where it is, else 0. It doesn't matter whether the match is over.
-///
-/// # Errors
-///
-/// `BadColour`, or else `Down`. Nothing is written.
+/// What `vintsaky_match_status` does.
 pub fn status(
     held: &Match,
     side: u32,
@@ -257,11 +220,7 @@ pub fn status(
     }
 }
 
-/// A side is gone.
-///
-/// # Errors
-///
-/// `BadColour`. The match stays as it was.
+/// What `vintsaky_match_lost` does.
 pub fn lost(held: &mut Match, side: u32) -> Result<(), Cause>
     ensures lost { OnOk result (IsSide side (λ s. held.new ≡ lost held.old s)) }
     ensures kept { OnErr result (held.new ≡ held.old) }
@@ -271,11 +230,7 @@ pub fn lost(held: &mut Match, side: u32) -> Result<(), Cause>
     Ok(())
 }
 
-/// Whether a side is in step: 1 where it is, else 0.
-///
-/// # Errors
-///
-/// `BadColour`. Nothing is written.
+/// What `vintsaky_match_in_step` does.
 pub fn in_step(held: &Match, side: u32, holds: &mut u32) -> Result<(), Cause>
     ensures found { OnOk result (IsSide side (λ s. holds.new ≡ bool_code (in_step held.now s))) }
     ensures kept { OnErr result (holds.new ≡ holds.old) }
@@ -286,11 +241,7 @@ pub fn in_step(held: &Match, side: u32, holds: &mut u32) -> Result<(), Cause>
     Ok(())
 }
 
-/// Writes how often a side was started again.
-///
-/// # Errors
-///
-/// `BadColour`. Nothing is written.
+/// What `vintsaky_match_restarts` does.
 pub fn restarts(held: &Match, side: u32, restarts: &mut u32) -> Result<(), Cause>
     ensures found { OnOk result
         (IsSide side (λ s. restarts.new ≡ restarts_of (side_of held.now.sides s))) }
@@ -301,26 +252,21 @@ pub fn restarts(held: &Match, side: u32, restarts: &mut u32) -> Result<(), Cause
     Ok(())
 }
 
-/// How many refusals of the move of this number, counted from 1, were met by a retake: 3 at most.
+/// What `vintsaky_match_retakes` does.
 pub fn retakes(held: &Match, number: u32) -> u32
     ensures { result ≡ retakes_of held.now.retakes number }
 {
     held.retakes(number)
 }
 
-/// The side whose last move is to be taken back, because the other side refused it, or 0.
+/// What `vintsaky_match_taking_back` does.
 pub fn taking_back(held: &Match) -> u32
     ensures { result ≡ maybe_side_code (taking_back held.now) }
 {
     number_of_side(held.taking_back())
 }
 
-/// Writes how a match ended, the side that it says it of, or 0, and the score in half points, positive where Black
-/// leads, or 0.
-///
-/// # Errors
-///
-/// `NotOver`. Nothing is written.
+/// What `vintsaky_match_verdict` does.
 pub fn verdict(
     held: &Match,
     ending: &mut u32,
@@ -343,18 +289,14 @@ pub fn verdict(
     }
 }
 
-/// Copies the match's game.
+/// What `vintsaky_match_copy_game` does.
 pub fn copy_game(held: &Match, game: &mut Game)
     ensures { game.new ≡ held.now.game }
 {
     game.copy_from(held.game());
 }
 
-/// Writes the line of a match that is over, and its length.
-///
-/// # Errors
-///
-/// `NotOver`. Nothing is written.
+/// What `vintsaky_match_result` does.
 pub fn result(held: &Match, number: u32, text: &mut [u8], count: &mut usize) -> Result<(), Cause>
     ensures written { OnOk result (PutsResult held.now number text.old text.new count.new) }
     ensures kept { OnErr result ((text.new ≡ text.old) × (count.new ≡ count.old)) }
@@ -365,7 +307,7 @@ pub fn result(held: &Match, number: u32, text: &mut [u8], count: &mut usize) -> 
     Ok(())
 }
 
-/// Writes the moves of a match. How many bytes they have.
+/// What `vintsaky_match_record` does.
 pub fn record(held: &Match, text: &mut [u8]) -> usize
     ensures length { result ≡ length (record_text held.now.game) }
     ensures put { Puts (record_text held.now.game) text.old text.new }

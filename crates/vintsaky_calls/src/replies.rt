@@ -32,8 +32,7 @@ impl Replies {
     }
 }
 
-/// Takes the next piece up to and with the byte that ends a reply or shows a fault, or all of it. How many bytes were
-/// used is written. Returns 0 where none did, 1 for a reply, 2 where what came is no reply, and 3 where it is too long.
+/// What `vintsaky_replies_feed` does.
 pub fn feed(replies: &mut Replies, bytes: &[u8], used: &mut usize) -> u32
     ensures reads { ReadsReply replies.old.reader bytes.now used.new result replies.new.reply
         replies.new.reader }
@@ -49,18 +48,14 @@ pub fn feed(replies: &mut Replies, bytes: &[u8], used: &mut usize) -> u32
     }
 }
 
-/// Whether the reply that was read last is a success.
+/// What `vintsaky_replies_ok` does.
 pub fn ok(replies: &Replies) -> bool
     ensures { result ≡ replies.now.reply.ok }
 {
     replies.reply.ok
 }
 
-/// The id of the reply that was read last.
-///
-/// # Errors
-///
-/// `NoId`. Nothing is written.
+/// What `vintsaky_replies_id` does.
 pub fn id(replies: &Replies, id: &mut u32) -> Result<(), Cause>
     ensures found { OnOk result (replies.now.reply.id ≡ Some id.new) }
     ensures kept { OnErr result (id.new ≡ id.old) }
@@ -70,7 +65,7 @@ pub fn id(replies: &Replies, id: &mut u32) -> Result<(), Cause>
     Ok(())
 }
 
-/// Writes the text of the reply that was read last. How many bytes it has.
+/// What `vintsaky_replies_text` does.
 pub fn text(replies: &Replies, text: &mut [u8]) -> usize
     ensures length { result ≡ length replies.now.reply.text.items }
     ensures put { Puts replies.now.reply.text.items text.old text.new }

@@ -15,11 +15,7 @@ use crate::codes::{colour_of, number_of_colour, number_of_point, number_of_verte
 use crate::texts::put;
 use go_base::{Colour, Komi, Point, Vertex};
 
-/// Reads a colour: `b`, `w`, `black` or `white`, where each letter may be small or capital.
-///
-/// # Errors
-///
-/// `BadText`. Nothing is written.
+/// What `vintsaky_read_colour` does.
 pub fn read_colour(text: &[u8], colour: &mut u32) -> Result<(), Cause>
     ensures read { OnOk result (ReadsColour text.now colour.new) }
     ensures kept { OnErr result (colour.new ≡ colour.old) }
@@ -31,11 +27,7 @@ pub fn read_colour(text: &[u8], colour: &mut u32) -> Result<(), Cause>
     Ok(())
 }
 
-/// Writes a colour, as the protocol spells it: `b` or `w`, and the length of that text.
-///
-/// # Errors
-///
-/// `BadColour`. Nothing is written.
+/// What `vintsaky_colour_text` does.
 pub fn colour_text(colour: u32, text: &mut [u8], count: &mut usize) -> Result<(), Cause>
     ensures written { OnOk result (WritesColour colour text.old text.new count.new) }
     ensures kept { OnErr result ((text.new ≡ text.old) × (count.new ≡ count.old)) }
@@ -46,11 +38,7 @@ pub fn colour_text(colour: u32, text: &mut [u8], count: &mut usize) -> Result<()
     Ok(())
 }
 
-/// The number of the point of a column and a row, both from 1 to 25.
-///
-/// # Errors
-///
-/// `BadVertex`. Nothing is written.
+/// What `vintsaky_point` does.
 pub fn point(column: u32, row: u32, vertex: &mut u32) -> Result<(), Cause>
     ensures found { OnOk result (IsCrossing column row
         × (vertex.new ≡ point_code (point column row))) }
@@ -62,11 +50,7 @@ pub fn point(column: u32, row: u32, vertex: &mut u32) -> Result<(), Cause>
     Ok(())
 }
 
-/// Reads a vertex, as the protocol spells it.
-///
-/// # Errors
-///
-/// `BadText`. Nothing is written.
+/// What `vintsaky_read_vertex` does.
 pub fn read_vertex(text: &[u8], vertex: &mut u32) -> Result<(), Cause>
     ensures read { OnOk result (ReadsVertex text.now vertex.new) }
     ensures kept { OnErr result (vertex.new ≡ vertex.old) }
@@ -78,11 +62,7 @@ pub fn read_vertex(text: &[u8], vertex: &mut u32) -> Result<(), Cause>
     Ok(())
 }
 
-/// Writes a vertex, as the protocol spells it, and the length of that text.
-///
-/// # Errors
-///
-/// `BadVertex`. Nothing is written.
+/// What `vintsaky_vertex_text` does.
 pub fn vertex_text(vertex: u32, text: &mut [u8], count: &mut usize) -> Result<(), Cause>
     ensures written { OnOk result (WritesVertex vertex text.old text.new count.new) }
     ensures kept { OnErr result ((text.new ≡ text.old) × (count.new ≡ count.old)) }
@@ -93,11 +73,7 @@ pub fn vertex_text(vertex: u32, text: &mut [u8], count: &mut usize) -> Result<()
     Ok(())
 }
 
-/// Reads a komi in points, as the protocol spells it: the half points.
-///
-/// # Errors
-///
-/// `BadText`. Nothing is written.
+/// What `vintsaky_read_komi` does.
 pub fn read_komi(text: &[u8], half_points: &mut i32) -> Result<(), Cause>
     ensures read { OnOk result (SpellsKomi half_points.new text.now) }
     ensures kept { OnErr result (half_points.new ≡ half_points.old) }
@@ -109,11 +85,7 @@ pub fn read_komi(text: &[u8], half_points: &mut i32) -> Result<(), Cause>
     Ok(())
 }
 
-/// Writes a komi in points, as the protocol spells it, and the length of that text.
-///
-/// # Errors
-///
-/// `BadKomi`. Nothing is written.
+/// What `vintsaky_komi_text` does.
 pub fn komi_text(half_points: i32, text: &mut [u8], count: &mut usize) -> Result<(), Cause>
     ensures written { OnOk result (WritesKomi half_points text.old text.new count.new) }
     ensures kept { OnErr result ((text.new ≡ text.old) × (count.new ≡ count.old)) }

@@ -14,16 +14,7 @@ use crate::texts::put;
 use go_base::{Colour, Komi, Move, Size};
 use gtp_wire::{Command, is_reply_text};
 
-/// Writes the line of a command, with its newline, and its length: 64 bytes at most.
-///
-/// The id is -1 for none. The value is the size of `boardsize`, the half points of `komi`, the number of stones of
-/// `fixed_handicap`, the colour of `play` and `genmove`; the vertex is that of `play`. What a command doesn't have
-/// isn't looked at.
-///
-/// # Errors
-///
-/// `BadId`, or else `BadCommand`, or else `BadSize`, `BadKomi`, `BadHandicap` (of a negative number alone), `BadColour`
-/// or `BadVertex`, the first of these that holds. Nothing is written.
+/// What `vintsaky_write_command` does.
 pub fn write_command(
     id: i32,
     command: u32,
@@ -47,12 +38,7 @@ pub fn write_command(
     }
 }
 
-/// Writes a reply: a success where `ok` isn't 0, else a failure, and its length: 2,014 bytes at most. The id is -1 for
-/// none.
-///
-/// # Errors
-///
-/// `BadId`, or else `BadText` where no reply may have the text. Nothing is written.
+/// What `vintsaky_write_reply` does.
 pub fn write_reply(
     id: i32,
     ok: u32,

@@ -45,7 +45,7 @@ pub extern "C" fn vintsaky_engine_ended(engine: &mut EngineHandle) -> bool
     engine.lend().ended()
 }
 
-/// Begins the engine anew, under a ko rule.
+/// Begins the engine anew, under a ko rule. It loses its name, its version and its own commands.
 ///
 /// # Errors
 ///
@@ -60,7 +60,10 @@ pub extern "C" fn vintsaky_engine_begin(engine: &mut EngineHandle, rule: u32) ->
     code_of(engines::begin(engine.lend(), rule))
 }
 
-/// Takes the next piece. How many bytes of it were used is written. Returns the number of what came of them.
+/// Takes the next piece, up to and with the newline of the first line that has a word, or all of it. How many bytes
+/// were used is written: feed the others next. Returns what came of them. While a choice or an answer is waited for,
+/// and after the end, no byte is used, and the same comes again. A line of more than 1,000 bytes of words is answered
+/// by a failure.
 #[unsafe(no_mangle)]
 pub extern "C" fn vintsaky_engine_feed(
     engine: &mut EngineHandle,
@@ -72,7 +75,8 @@ pub extern "C" fn vintsaky_engine_feed(
     engines::feed(engine.lend(), bytes, used)
 }
 
-/// The number of what is waited for.
+/// What is waited for: 0 for nothing, VINTSAKY_BLACK or VINTSAKY_WHITE for a choice, VINTSAKY_OTHER for an
+/// answer.
 #[unsafe(no_mangle)]
 pub extern "C" fn vintsaky_engine_wait(engine: &mut EngineHandle) -> u32
     ensures call { result ≡ wait_code engine.old.value.wait }
@@ -146,7 +150,7 @@ pub extern "C" fn vintsaky_engine_set_name(engine: &mut EngineHandle, text: &[u8
 ///
 /// # Errors
 ///
-/// As those of `set_name`.
+/// As those of [`vintsaky_engine_set_name`].
 #[unsafe(no_mangle)]
 pub extern "C" fn vintsaky_engine_set_version(engine: &mut EngineHandle, text: &[u8]) -> u32
     ensures call { (made : Result (Unit {0}) Cause) × (result ≡ result_code made)
@@ -173,7 +177,7 @@ pub extern "C" fn vintsaky_engine_add_command(engine: &mut EngineHandle, name: &
     code_of(engines::add_command(engine.lend(), name))
 }
 
-/// Copies the engine's game.
+/// Copies the engine's game into another one.
 #[unsafe(no_mangle)]
 pub extern "C" fn vintsaky_engine_copy_game(engine: &mut EngineHandle, game: &mut GameHandle)
     ensures call { game.new.value ≡ engine.old.value.game }
@@ -182,7 +186,7 @@ pub extern "C" fn vintsaky_engine_copy_game(engine: &mut EngineHandle, game: &mu
     engines::copy_game(engine.lend(), game.lend())
 }
 
-/// Writes the last reply. How many bytes it has: none before the first.
+/// Writes the last reply. How many bytes it has: none before the first, and 2,048 at most.
 #[unsafe(no_mangle)]
 pub extern "C" fn vintsaky_engine_reply(engine: &mut EngineHandle, text: &mut [u8]) -> usize
     ensures length { result ≡ length engine.old.value.reply }
@@ -192,7 +196,7 @@ pub extern "C" fn vintsaky_engine_reply(engine: &mut EngineHandle, text: &mut [u
     engines::reply(engine.lend(), text)
 }
 
-/// Writes a word of the line that is waited for, counted from 0 after the id, and its length.
+/// Writes a word of the line that is waited for, counted from 0 after the id, and its length: at most 1,000 bytes.
 ///
 /// # Errors
 ///

@@ -75,7 +75,7 @@ pub extern "C" fn vintsaky_game_length(game: &mut GameHandle) -> usize
     game.lend().moves().len()
 }
 
-/// The score in half points, positive where Black leads.
+/// The score by area with every stone alive, and after the komi, in half points: positive where Black leads.
 #[unsafe(no_mangle)]
 pub extern "C" fn vintsaky_game_score(game: &mut GameHandle) -> i32
     ensures score { result ≡ score game.old.value }
@@ -102,7 +102,7 @@ pub extern "C" fn vintsaky_game_hash(game: &mut GameHandle) -> u64
     game.lend().board_hash()
 }
 
-/// Becomes a copy of another game.
+/// Becomes a copy of another game, with its record, its komi and its ko rule.
 #[unsafe(no_mangle)]
 pub extern "C" fn vintsaky_game_copy(game: &mut GameHandle, other: &mut GameHandle)
     ensures copied { game.new.value ≡ other.old.value }
@@ -131,12 +131,12 @@ pub extern "C" fn vintsaky_game_begin(
     code_of(games::begin(game.lend(), rule, size, half_komi))
 }
 
-/// Makes a move.
+/// Makes a move of either colour, whoever moved last.
 ///
 /// # Errors
 ///
-/// `BadColour` or `BadVertex`, and else why the move is refused: `Full`, `OffBoard`, `Occupied`, `Suicide` or `Ko`. The
-/// game stays as it was.
+/// `BadColour`, or else `BadVertex`, or else why the move is refused: `Full`, `OffBoard`, `Occupied`, `Suicide` or
+/// `Ko`. The game stays as it was.
 #[unsafe(no_mangle)]
 pub extern "C" fn vintsaky_game_play(game: &mut GameHandle, colour: u32, vertex: u32) -> u32
     ensures call { (made : Result (Unit {0}) Cause) × (result ≡ result_code made)
@@ -151,7 +151,7 @@ pub extern "C" fn vintsaky_game_play(game: &mut GameHandle, colour: u32, vertex:
 ///
 /// # Errors
 ///
-/// As those of `play`, of which it leaves out `Full`.
+/// As those of [`vintsaky_game_play`], of which it leaves out `Full`.
 #[unsafe(no_mangle)]
 pub extern "C" fn vintsaky_game_legal(game: &mut GameHandle, colour: u32, vertex: u32) -> u32
     ensures call { (made : Result (Unit {0}) Cause) × (result ≡ result_code made)
@@ -333,7 +333,7 @@ pub extern "C" fn vintsaky_game_rule(game: &mut GameHandle) -> u32
     games::rule(game.lend())
 }
 
-/// Writes the board as text, as `Game::show` returns it.
+/// Writes the board as text, as an engine answers `showboard`.
 #[unsafe(no_mangle)]
 pub extern "C" fn vintsaky_game_board_text(game: &mut GameHandle, text: &mut [u8]) -> usize
     ensures length { result ≡ length (board_text game.old.value) }

@@ -31,8 +31,9 @@ pub extern "C" fn vintsaky_lines_align() -> usize
     align_of::<Lines>()
 }
 
-/// Takes the next piece up to and with the newline that ends a line, or all of it. How many bytes were used is written.
-/// Returns 0 where none ended a line, 1 for a command line, and 2 for one that is too long.
+/// Takes the next piece up to and with the newline that ends a line with a word, or all of it. How many bytes were used
+/// is written. Returns 0 where none ended a line, VINTSAKY_LINE for a command line, and VINTSAKY_TOO_LONG for one
+/// of more than 1,000 bytes of words.
 #[unsafe(no_mangle)]
 pub extern "C" fn vintsaky_lines_feed(
     lines: &mut LinesHandle,
@@ -46,11 +47,11 @@ pub extern "C" fn vintsaky_lines_feed(
     lines::feed(lines.lend(), bytes, used)
 }
 
-/// The id of the command line that was read last.
+/// The id of the line that was read last.
 ///
 /// # Errors
 ///
-/// `NoLine`, or else `NoId`. Nothing is written.
+/// `NoLine` where none was read, or it is too long, or else `NoId`. Nothing is written.
 #[unsafe(no_mangle)]
 pub extern "C" fn vintsaky_lines_id(lines: &mut LinesHandle, id: &mut u32) -> u32
     ensures call { (made : Result (Unit {0}) Cause) × (result ≡ result_code made)
@@ -62,11 +63,11 @@ pub extern "C" fn vintsaky_lines_id(lines: &mut LinesHandle, id: &mut u32) -> u3
     code_of(lines::id(lines.lend(), id))
 }
 
-/// Writes a word of the command line that was read last, counted from 0 after the id, and its length.
+/// Writes a word of the line that was read last, counted from 0 after the id, and its length: at most 1,000 bytes.
 ///
 /// # Errors
 ///
-/// `NoLine`, or else `NoWord`. Nothing is written.
+/// `NoLine` where none was read, or it is too long, or else `NoWord`. Nothing is written.
 #[unsafe(no_mangle)]
 pub extern "C" fn vintsaky_lines_word(
     lines: &mut LinesHandle,

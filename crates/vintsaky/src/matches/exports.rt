@@ -86,7 +86,7 @@ pub extern "C" fn vintsaky_match_next(held: &mut MatchHandle, side: &mut u32) ->
     matches::next(held.lend(), side)
 }
 
-/// A side was started.
+/// A side was started. Where its start fails, [`vintsaky_match_lost`] comes next.
 ///
 /// # Errors
 ///
@@ -106,7 +106,7 @@ pub extern "C" fn vintsaky_match_started(held: &mut MatchHandle, side: u32) -> u
 /// # Errors
 ///
 /// `BadColour`, or else `NotNext` where that isn't what is next, or else `NoRoom` where the buffer has fewer than 65
-/// bytes. The match stays as it was, and nothing is written.
+/// bytes, also for a shorter line. The match stays as it was, and nothing is written.
 #[unsafe(no_mangle)]
 pub extern "C" fn vintsaky_match_send(
     held: &mut MatchHandle,
@@ -122,7 +122,8 @@ pub extern "C" fn vintsaky_match_send(
     code_of(matches::send(held.lend(), side, text, count))
 }
 
-/// Hears what a side wrote, in any pieces. The number of why the side fails by it is written, or 0.
+/// Hears what a side wrote, in any pieces. Why the side fails by it is written, or 0. Of a side that is down, and after
+/// the end of the match, nothing is heard.
 ///
 /// # Errors
 ///
@@ -142,12 +143,12 @@ pub extern "C" fn vintsaky_match_hear(
     code_of(matches::hear(held.lend(), side, bytes, loss))
 }
 
-/// Hears what a side wrote as [`vintsaky_match_hear`] does, and writes more of what it reports.
-///
-/// That is which retake of its number of a move it is, 1 to 3, where the side refused a play that is retaken, or 0; and
-/// of the loss, or else of the retake, how many commands the side hadn't answered, the oldest of them, as it was sent
-/// but without its newline, and the first 80 bytes that it wrote since its last whole reply, each with its length.
-/// Where there is neither, these are 0 and the texts empty.
+/// Hears what a side wrote as [`vintsaky_match_hear`] does, and writes more of what it reports: which retake of its
+/// number of a move it is, 1 to 3, where the side refused a play that is retaken, or 0; and of the loss, or else of the
+/// retake, how many commands the side hadn't answered, with the one that this reply answers; the oldest of them, as it
+/// was sent but without its newline; and the first 80 bytes of the reply, or where it is none, of all that came since
+/// the last whole reply. Each text comes with its length. Where there is neither a loss nor a retake, these are 0 and
+/// the texts empty.
 ///
 /// # Errors
 ///
@@ -253,7 +254,7 @@ pub extern "C" fn vintsaky_match_status(
     code_of(matches::status(held.lend(), side, confirmed, unanswered, asked))
 }
 
-/// A side is gone.
+/// A side is gone: its output has ended, a read or a write failed, or its start did.
 ///
 /// # Errors
 ///
@@ -268,7 +269,8 @@ pub extern "C" fn vintsaky_match_lost(held: &mut MatchHandle, side: u32) -> u32
     code_of(matches::lost(held.lend(), side))
 }
 
-/// Whether a side is in step: 1 where it is, else 0.
+/// Whether a side is in step: 1 where it is up, owes no answer and has confirmed all commands that bring it to the
+/// record, else 0.
 ///
 /// # Errors
 ///
@@ -304,7 +306,8 @@ pub extern "C" fn vintsaky_match_restarts(
     code_of(matches::restarts(held.lend(), side, restarts))
 }
 
-/// How many refusals of the move of this number, counted from 1, were met by a retake: 3 at most.
+/// How many refusals of the move of this number, counted from 1, were met by a retake: 3 at most, and 0 for a number
+/// that has none.
 #[unsafe(no_mangle)]
 pub extern "C" fn vintsaky_match_retakes(held: &mut MatchHandle, number: u32) -> u32
     ensures call { result ≡ retakes_of held.old.value.retakes number }
@@ -345,7 +348,7 @@ pub extern "C" fn vintsaky_match_verdict(
     code_of(matches::verdict(held.lend(), ending, side, half_points))
 }
 
-/// Copies the match's game.
+/// Copies the match's game into another one.
 #[unsafe(no_mangle)]
 pub extern "C" fn vintsaky_match_copy_game(held: &mut MatchHandle, game: &mut GameHandle)
     ensures call { game.new.value ≡ held.old.value.game }
@@ -354,7 +357,8 @@ pub extern "C" fn vintsaky_match_copy_game(held: &mut MatchHandle, game: &mut Ga
     matches::copy_game(held.lend(), game.lend())
 }
 
-/// Writes the line of a match that is over, and its length.
+/// Writes the result line of a match that is over, without its newline, and its length. The number is that of the game
+/// in it.
 ///
 /// # Errors
 ///
@@ -375,7 +379,7 @@ pub extern "C" fn vintsaky_match_result(
     code_of(matches::result(held.lend(), number, text, count))
 }
 
-/// Writes the moves of a match. How many bytes they have.
+/// Writes the moves of a match, as `--record` of `twogtp` prints them, without the newline. How many bytes they have.
 #[unsafe(no_mangle)]
 pub extern "C" fn vintsaky_match_record(held: &mut MatchHandle, text: &mut [u8]) -> usize
     ensures length { result ≡ length (record_text held.old.value.game) }

@@ -31,7 +31,9 @@ pub extern "C" fn vintsaky_replies_align() -> usize
 }
 
 /// Takes the next piece up to and with the byte that ends a reply or shows a fault, or all of it. How many bytes were
-/// used is written. Returns 0 where none did, 1 for a reply, 2 where what came is no reply, and 3 where it is too long.
+/// used is written. Returns 0 where none did, VINTSAKY_READ for a reply, VINTSAKY_NO_REPLY where what came is none,
+/// and VINTSAKY_LONG_REPLY where more than 8,192 bytes came since the last reply. After a fault no byte is used, and
+/// the same comes again: place it anew.
 #[unsafe(no_mangle)]
 pub extern "C" fn vintsaky_replies_feed(
     replies: &mut RepliesHandle,
@@ -44,7 +46,7 @@ pub extern "C" fn vintsaky_replies_feed(
     replies::feed(replies.lend(), bytes, used)
 }
 
-/// Whether the reply that was read last is a success.
+/// Whether the reply that was read last is a success: false before the first.
 #[unsafe(no_mangle)]
 pub extern "C" fn vintsaky_replies_ok(replies: &mut RepliesHandle) -> bool
     ensures call { result ≡ replies.old.value.reply.ok }
@@ -57,7 +59,7 @@ pub extern "C" fn vintsaky_replies_ok(replies: &mut RepliesHandle) -> bool
 ///
 /// # Errors
 ///
-/// `NoId`. Nothing is written.
+/// `NoId`, also before the first. Nothing is written.
 #[unsafe(no_mangle)]
 pub extern "C" fn vintsaky_replies_id(replies: &mut RepliesHandle, id: &mut u32) -> u32
     ensures call { (made : Result (Unit {0}) Cause) × (result ≡ result_code made)
@@ -69,7 +71,7 @@ pub extern "C" fn vintsaky_replies_id(replies: &mut RepliesHandle, id: &mut u32)
     code_of(replies::id(replies.lend(), id))
 }
 
-/// Writes the text of the reply that was read last. How many bytes it has.
+/// Writes the text of the reply that was read last. How many bytes it has: none before the first, and 8,192 at most.
 #[unsafe(no_mangle)]
 pub extern "C" fn vintsaky_replies_text(replies: &mut RepliesHandle, text: &mut [u8]) -> usize
     ensures length { result ≡ length replies.old.value.reply.text.items }
