@@ -14,6 +14,8 @@
  * object is as it was, and it has written nothing. A text is written with a NUL after it, where the buffer has room for both, else not
  * at all; its length is without the NUL, and a greater room may be given then. So a short buffer is no cause, but of vintsaky_match_send,
  * whose command would be lost. What an engine wrote may have a NUL in it. */
+
+/* Written by library/declare: what a call does is said at its export in crates/vintsaky/src, all else in vintsaky.h.in. */
 #ifndef VINTSAKY_H
 #define VINTSAKY_H
 
@@ -229,8 +231,10 @@ uint32_t vintsaky_write_reply(
 /* Puts a game into the memory, and its handle. It has size 19, no komi and simple ko. */
 void vintsaky_game_place(vintsaky_game *out, void *at);
 
-/* How many bytes a game takes, and of what number its address is a multiple. */
+/* How many bytes a game takes. */
 size_t vintsaky_game_bytes(void);
+
+/* Of what number the address of a game is a multiple. */
 size_t vintsaky_game_align(void);
 
 /* The size of the board, from 1 to 25. */
@@ -267,7 +271,7 @@ uint32_t vintsaky_game_begin(vintsaky_game *game, uint32_t rule, uint32_t size, 
 uint32_t vintsaky_game_play(vintsaky_game *game, uint32_t colour, uint32_t vertex);
 
 /* Whether a colour may make a move next.
- * Causes: As those of play, of which it leaves out VINTSAKY_FULL. */
+ * Causes: As those of vintsaky_game_play, of which it leaves out VINTSAKY_FULL. */
 uint32_t vintsaky_game_legal(vintsaky_game *game, uint32_t colour, uint32_t vertex);
 
 /* Takes back the last move.
@@ -282,13 +286,13 @@ uint32_t vintsaky_game_set_komi(vintsaky_game *game, int32_t half_komi);
  * Causes: VINTSAKY_NOT_EMPTY, or else VINTSAKY_BAD_HANDICAP. The game stays as it was. */
 uint32_t vintsaky_game_place_handicap(vintsaky_game *game, uint32_t stones);
 
-/* Writes the numbers of the points on which a colour may play next, row by row from A1, where there is room for all of
- * them, and how many these are.
+/* Writes the numbers of the points on which a colour may play next, row by row from A1, where there is room for all of them, and how
+ * many these are.
  * Causes: VINTSAKY_BAD_COLOUR. Nothing is written. */
 uint32_t vintsaky_game_legal_points(vintsaky_game *game, uint32_t colour, uint32_t *points, size_t points_room, size_t *count);
 
-/* Writes the numbers of the points whose stones the last move took, row by row from A1, where there is room for all of
- * them. How many these are. */
+/* Writes the numbers of the points whose stones the last move took, row by row from A1, where there is room for all of them. How many
+ * these are. */
 size_t vintsaky_game_taken_by_last_move(vintsaky_game *game, uint32_t *points, size_t points_room);
 
 /* The colour of the stone on a point: 0 where there is none.
@@ -318,8 +322,10 @@ size_t vintsaky_game_board_text(vintsaky_game *game, char *text, size_t text_roo
 /* Puts an engine in steps into the memory, and its handle. It has simple ko, and was given nothing. */
 void vintsaky_engine_place(vintsaky_engine *out, void *at);
 
-/* How many bytes an engine takes, and of what number its address is a multiple. */
+/* How many bytes an engine takes. */
 size_t vintsaky_engine_bytes(void);
+
+/* Of what number the address of an engine is a multiple. */
 size_t vintsaky_engine_align(void);
 
 /* Whether the session has ended, by a quit. */
@@ -355,12 +361,12 @@ uint32_t vintsaky_engine_decline(vintsaky_engine *engine);
 uint32_t vintsaky_engine_set_name(vintsaky_engine *engine, const char *text, size_t text_length);
 
 /* Answers version by this text from now on.
- * Causes: As those of set_name. */
+ * Causes: As those of vintsaky_engine_set_name. */
 uint32_t vintsaky_engine_set_version(vintsaky_engine *engine, const char *text, size_t text_length);
 
 /* Adds a command of the author's own.
- * Causes: VINTSAKY_BAD_LENGTH, VINTSAKY_BAD_BYTE, VINTSAKY_ONLY_DIGITS, VINTSAKY_IN_TABLE, VINTSAKY_ADDED_BEFORE or
- * VINTSAKY_TOO_MANY, the first of these that holds. The engine stays as it was. */
+ * Causes: VINTSAKY_BAD_LENGTH, VINTSAKY_BAD_BYTE, VINTSAKY_ONLY_DIGITS, VINTSAKY_IN_TABLE, VINTSAKY_ADDED_BEFORE or VINTSAKY_TOO_MANY,
+ * the first of these that holds. The engine stays as it was. */
 uint32_t vintsaky_engine_add_command(vintsaky_engine *engine, const char *name, size_t name_length);
 
 /* Copies the engine's game into another one. */
@@ -382,14 +388,15 @@ uint32_t vintsaky_engine_id(vintsaky_engine *engine, uint32_t *id);
 /* Puts a match into the memory, and its handle. It has size 19, no komi, no handicap, 2,000 moves at most, and no restart. */
 void vintsaky_match_place(vintsaky_match *out, void *at);
 
-/* How many bytes a match takes, and of what number its address is a multiple. */
+/* How many bytes a match takes. */
 size_t vintsaky_match_bytes(void);
+
+/* Of what number the address of a match is a multiple. */
 size_t vintsaky_match_align(void);
 
 /* Begins a match between two engines that are not started yet.
- * Causes: VINTSAKY_BAD_SIZE, VINTSAKY_BAD_KOMI, VINTSAKY_BAD_HANDICAP, VINTSAKY_BAD_MAX_MOVES or VINTSAKY_BAD_MAX_RESTARTS, the
- * first of these that holds. The match
- * stays as it was. */
+ * Causes: VINTSAKY_BAD_SIZE, VINTSAKY_BAD_KOMI, VINTSAKY_BAD_HANDICAP, VINTSAKY_BAD_MAX_MOVES or VINTSAKY_BAD_MAX_RESTARTS, the first
+ * of these that holds. The match stays as it was. */
 uint32_t vintsaky_match_begin(
     vintsaky_match *held, uint32_t size, int32_t half_komi, uint32_t handicap, uint32_t max_moves, uint32_t max_restarts);
 
@@ -401,8 +408,8 @@ uint32_t vintsaky_match_next(vintsaky_match *held, uint32_t *side);
 uint32_t vintsaky_match_started(vintsaky_match *held, uint32_t side);
 
 /* Writes the next command for a side, and its length. It counts as sent.
- * Causes: VINTSAKY_BAD_COLOUR, or else VINTSAKY_NOT_NEXT where that isn't what is next, or else VINTSAKY_NO_ROOM where the buffer
- * has fewer than 65 bytes, also for a shorter line. The match stays as it was, and nothing is written. */
+ * Causes: VINTSAKY_BAD_COLOUR, or else VINTSAKY_NOT_NEXT where that isn't what is next, or else VINTSAKY_NO_ROOM where the buffer has
+ * fewer than 65 bytes, also for a shorter line. The match stays as it was, and nothing is written. */
 uint32_t vintsaky_match_send(vintsaky_match *held, uint32_t side, char *text, size_t text_room, size_t *count);
 
 /* Hears what a side wrote, in any pieces. Why the side fails by it is written, or 0. Of a side that is down, and after the end of the
@@ -411,9 +418,9 @@ uint32_t vintsaky_match_send(vintsaky_match *held, uint32_t side, char *text, si
 uint32_t vintsaky_match_hear(vintsaky_match *held, uint32_t side, const void *bytes, size_t bytes_length, uint32_t *loss);
 
 /* Hears what a side wrote as vintsaky_match_hear does, and writes more of what it reports: which retake of its number of a move it is,
- * 1 to 3, where the side refused a play that is retaken, or 0; and of the loss, or else of the retake, how many commands the side hadn't
- * answered, with the one that this reply answers; the oldest of them, as it was sent but without its newline; and the first 80 bytes
- * of the reply, or where it is none, of all that came since the last whole reply. Each text comes with its length. Where there is
+ * 1 to 3, where the side refused a play that is retaken, or 0; and of the loss, or else of the retake, how many commands the side
+ * hadn't answered, with the one that this reply answers; the oldest of them, as it was sent but without its newline; and the first 80
+ * bytes of the reply, or where it is none, of all that came since the last whole reply. Each text comes with its length. Where there is
  * neither a loss nor a retake, these are 0 and the texts empty.
  * Causes: VINTSAKY_BAD_COLOUR. The match stays as it was, and nothing is written. */
 uint32_t vintsaky_match_hear_reporting(vintsaky_match *held, uint32_t side, const void *bytes, size_t bytes_length, uint32_t *loss,
@@ -443,8 +450,7 @@ uint32_t vintsaky_match_in_step(vintsaky_match *held, uint32_t side, uint32_t *h
  * Causes: VINTSAKY_BAD_COLOUR. Nothing is written. */
 uint32_t vintsaky_match_restarts(vintsaky_match *held, uint32_t side, uint32_t *restarts);
 
-/* How many refusals of the move of this number, counted from 1, were met by a retake: 3 at most, and 0 for a number that has
- * none. */
+/* How many refusals of the move of this number, counted from 1, were met by a retake: 3 at most, and 0 for a number that has none. */
 uint32_t vintsaky_match_retakes(vintsaky_match *held, uint32_t number);
 
 /* The side whose last move is to be taken back, because the other side refused it, or 0. */
@@ -469,12 +475,15 @@ size_t vintsaky_match_record(vintsaky_match *held, char *text, size_t text_room)
 /* Puts a reader of command lines into the memory, and its handle. It was given nothing. */
 void vintsaky_lines_place(vintsaky_lines *out, void *at);
 
-/* How many bytes such a reader takes, and of what number its address is a multiple. */
+/* How many bytes such a reader takes. */
 size_t vintsaky_lines_bytes(void);
+
+/* Of what number the address of such a reader is a multiple. */
 size_t vintsaky_lines_align(void);
 
 /* Takes the next piece up to and with the newline that ends a line with a word, or all of it. How many bytes were used is written.
- * Returns 0 where none ended a line, VINTSAKY_LINE for a command line, and VINTSAKY_TOO_LONG for one of more than 1,000 bytes of words. */
+ * Returns 0 where none ended a line, VINTSAKY_LINE for a command line, and VINTSAKY_TOO_LONG for one of more than 1,000 bytes of
+ * words. */
 uint32_t vintsaky_lines_feed(vintsaky_lines *lines, const void *bytes, size_t bytes_length, size_t *used);
 
 /* The id of the line that was read last.
@@ -490,13 +499,15 @@ uint32_t vintsaky_lines_word(vintsaky_lines *lines, size_t number, char *text, s
 /* Puts a reader of replies into the memory, and its handle. It was given nothing. */
 void vintsaky_replies_place(vintsaky_replies *out, void *at);
 
-/* How many bytes such a reader takes, and of what number its address is a multiple. */
+/* How many bytes such a reader takes. */
 size_t vintsaky_replies_bytes(void);
+
+/* Of what number the address of such a reader is a multiple. */
 size_t vintsaky_replies_align(void);
 
-/* Takes the next piece up to and with the byte that ends a reply or shows a fault, or all of it. How many bytes were
- * used is written. Returns 0 where none did, VINTSAKY_READ for a reply, VINTSAKY_NO_REPLY where what came is none, and VINTSAKY_LONG_REPLY
- * where more than 8,192 bytes came since the last reply. After a fault no byte is used, and the same comes again: place it anew. */
+/* Takes the next piece up to and with the byte that ends a reply or shows a fault, or all of it. How many bytes were used is written.
+ * Returns 0 where none did, VINTSAKY_READ for a reply, VINTSAKY_NO_REPLY where what came is none, and VINTSAKY_LONG_REPLY where more
+ * than 8,192 bytes came since the last reply. After a fault no byte is used, and the same comes again: place it anew. */
 uint32_t vintsaky_replies_feed(vintsaky_replies *replies, const void *bytes, size_t bytes_length, size_t *used);
 
 /* Whether the reply that was read last is a success: false before the first. */

@@ -15,10 +15,10 @@ from ctypes.util import find_library
 from pathlib import Path
 
 import vintsaky
-from vintsaky import Cause, CommandLines, Game, Match, Refused, Replies, Steps, _held, _library
+from vintsaky import Cause, CommandLines, Game, Match, Refused, Replies, Steps, _declared, _held, _library
 
 PACKAGE = Path(vintsaky.__file__).resolve().parent
-MODULES = ["_library", "_held", "values", "games", "lines", "engines", "matches"]
+MODULES = ["_declared", "_library", "_numbers", "_refused", "_held", "values", "games", "lines", "engines", "matches"]
 
 
 def modules():
@@ -68,7 +68,7 @@ class Documentation(unittest.TestCase):
             self.assertIn(f'version = "{vintsaky.__version__}"', project.read_text("ascii"))
         self.assertEqual(vintsaky.__version__, ".".join(map(str, vintsaky.version())))
         first, second, third = vintsaky.version()
-        self.assertEqual(first * 65536 + second * 256 + third, _library.VERSION)
+        self.assertEqual(first * 65536 + second * 256 + third, _declared.VERSION)
 
 
 class Refusals(unittest.TestCase):

@@ -29,11 +29,13 @@ The library is the file libvintsaky.so.1 in this package, or else the one that t
 else the system's.
 """
 from ._held import Bytes, Held
-from ._library import Cause, Refused, version
+from ._library import version
+from ._numbers import Cause, Ending, Loss
+from ._refused import Refused
 from .engines import Engine, Event, Failure, Steps, command
 from .games import Chain, Game, Move, Moves
 from .lines import Command, CommandLine, CommandLines, LineEvent, Replies, Reply, ReplyEvent, write_command, write_reply
-from .matches import Action, Ending, Loss, Match, Next, Owed, Report, Status, Verdict
+from .matches import Action, Match, Next, Owed, Report, Status, Verdict
 from .values import BLACK, PASS, RESIGN, WHITE, AnyColour, AnyVertex, Colour, Komi, KoRule, NoPoint, Point, Vertex
 from .values import komi_text, read_colour, read_komi, read_vertex, vertex_text
 

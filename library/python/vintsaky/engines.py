@@ -9,9 +9,11 @@ import sys
 from enum import IntEnum
 from typing import Any, Callable, ClassVar, Dict, Iterator, List, Optional, Tuple, TypeVar, Union
 
-from . import _library
+from . import _declared
 from ._held import Bytes, Held, ascii_of, bytes_of, whole
-from ._library import Cause, Refused, done, library, or_none, text_of
+from ._library import library, text_of
+from ._numbers import Cause
+from ._refused import Refused, done, or_none
 from .games import Game
 from .lines import CommandLine, words_of
 from .values import AnyVertex, Colour, KoRule, vertex_number
@@ -23,12 +25,12 @@ Method = TypeVar("Method", bound=Callable[..., Any])
 class Event(IntEnum):
     """What came of a piece that was fed to an engine in steps."""
 
-    MORE = 0  # All bytes were used: read on.
-    BLACK = 1  # A move of Black is asked for: call `choose`.
-    WHITE = 2  # A move of White is asked for: call `choose`.
-    OTHER = 3  # A line of another command: look at `line`, and call `answer` or `decline`.
-    REPLY = 4  # A line was answered: write `reply`.
-    ENDED = 5  # The session has ended, by a quit.
+    MORE = _declared.MORE  # All bytes were used: read on.
+    BLACK = _declared.BLACK  # A move of Black is asked for: call `choose`.
+    WHITE = _declared.WHITE  # A move of White is asked for: call `choose`.
+    OTHER = _declared.OTHER  # A line of another command: look at `line`, and call `answer` or `decline`.
+    REPLY = _declared.REPLY  # A line was answered: write `reply`.
+    ENDED = _declared.ENDED  # The session has ended, by a quit.
 
 
 class Steps(Held):
@@ -49,7 +51,7 @@ class Steps(Held):
 
     __slots__ = ()
     _kind: ClassVar[str] = "engine"
-    _handle_type = _library.EngineHandle
+    _handle_type = _declared.EngineHandle
 
     def __init__(self, rule: KoRule = KoRule.SIMPLE) -> None:
         super().__init__()
@@ -103,7 +105,7 @@ class Steps(Held):
         OFF_BOARD, OCCUPIED, SUICIDE or KO; the choice is still asked for."""
         is_text = isinstance(choice, (str, bytes))
         resigns = is_text and ascii_of(choice, "the choice").lower() == b"resign"  # type: ignore[arg-type]
-        number = _library.RESIGN if resigns else vertex_number(choice)
+        number = _declared.RESIGN if resigns else vertex_number(choice)
         shown = choice.decode() if isinstance(choice, bytes) else choice
         done(library.vintsaky_engine_choose(self._held(), number), f"the choice {shown}")
 

@@ -5,9 +5,11 @@ import ctypes
 from collections.abc import Sequence
 from typing import Any, ClassVar, List, NamedTuple, Optional, Union, overload
 
-from . import _library
+from . import _declared
 from ._held import Held, whole
-from ._library import Cause, Refused, done, library, text_of
+from ._library import library, text_of
+from ._numbers import Cause
+from ._refused import Refused, done
 from .values import POINTS, VERTICES, AnyColour, AnyVertex, Colour, Komi, KoRule, Point, Vertex
 from .values import colour_number, half_points, vertex_number
 
@@ -81,7 +83,7 @@ class Game(Held):
 
     __slots__ = ()
     _kind: ClassVar[str] = "game"
-    _handle_type = _library.GameHandle
+    _handle_type = _declared.GameHandle
 
     def __init__(self, size: int = 19, komi: Komi = 0, rule: KoRule = KoRule.SIMPLE) -> None:
         super().__init__()

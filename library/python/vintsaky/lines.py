@@ -5,9 +5,11 @@ import ctypes
 from enum import IntEnum
 from typing import Any, ClassVar, Dict, List, NamedTuple, Optional, Tuple, Union
 
-from . import _library
+from . import _declared
 from ._held import Bytes, Held, ascii_of, bytes_of, whole
-from ._library import Cause, Refused, done, library, or_none, text_of
+from ._library import library, text_of
+from ._numbers import Cause
+from ._refused import Refused, done, or_none
 from .values import colour_number, half_points, vertex_number, written
 
 LONGEST_INT = 2**31 - 1
@@ -16,29 +18,29 @@ LONGEST_INT = 2**31 - 1
 class LineEvent(IntEnum):
     """What came of a piece that was fed to a reader of command lines, where it isn't 0."""
 
-    LINE = 1
-    TOO_LONG = 2
+    LINE = _declared.LINE
+    TOO_LONG = _declared.TOO_LONG
 
 
 class ReplyEvent(IntEnum):
     """What came of a piece that was fed to a reader of replies, where it isn't 0: a reply, or why there is none."""
 
-    READ = 1
-    NO_REPLY = 2
-    LONG_REPLY = 3
+    READ = _declared.READ
+    NO_REPLY = _declared.NO_REPLY
+    LONG_REPLY = _declared.LONG_REPLY
 
 
 class Command(IntEnum):
     """The commands that `write_command` writes."""
 
-    BOARDSIZE = 1
-    KOMI = 2
-    CLEAR_BOARD = 3
-    FIXED_HANDICAP = 4
-    PLAY = 5
-    GENMOVE = 6
-    UNDO = 7
-    QUIT = 8
+    BOARDSIZE = _declared.BOARDSIZE
+    KOMI = _declared.KOMI
+    CLEAR_BOARD = _declared.CLEAR_BOARD
+    FIXED_HANDICAP = _declared.FIXED_HANDICAP
+    PLAY = _declared.PLAY
+    GENMOVE = _declared.GENMOVE
+    UNDO = _declared.UNDO
+    QUIT = _declared.QUIT
 
 
 class CommandLine(NamedTuple):
@@ -83,7 +85,7 @@ class CommandLines(Held):
 
     __slots__ = ()
     _kind: ClassVar[str] = "lines"
-    _handle_type = _library.LinesHandle
+    _handle_type = _declared.LinesHandle
 
     def feed(self, data: Bytes) -> List[CommandLine]:
         """Takes the next piece. Returns the lines that it ends, in their order."""
@@ -117,7 +119,7 @@ class Replies(Held):
 
     __slots__ = ("_fault",)
     _kind: ClassVar[str] = "replies"
-    _handle_type = _library.RepliesHandle
+    _handle_type = _declared.RepliesHandle
 
     def __init__(self) -> None:
         super().__init__()

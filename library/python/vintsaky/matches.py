@@ -6,9 +6,11 @@ from dataclasses import dataclass
 from enum import IntEnum
 from typing import Any, ClassVar, Optional, Tuple
 
-from . import _library
+from . import _declared
 from ._held import Bytes, Held, bytes_of, whole
-from ._library import Cause, done, library, text_of
+from ._library import library, text_of
+from ._numbers import Cause, Ending, Loss
+from ._refused import done
 from .games import Game
 from .values import AnyColour, Colour, Komi, colour_number, half_points, written
 
@@ -19,43 +21,10 @@ WROTE_ROOM = 128  # of what a side wrote at most 80 bytes are shown
 class Next(IntEnum):
     """What is to be done next."""
 
-    START = 1  # Start this side's engine, and call `started`.
-    SEND = 2  # Call `send`, and write to this side's engine what it returns.
-    WAIT = 3  # Read what this side's engine writes, and call `hear` or `report`.
-    OVER = 4  # The match is over.
-
-
-class Loss(IntEnum):
-    """Why a side fails by what it writes."""
-
-    NO_STATUS = _library.LOSS_NO_STATUS  # What it wrote is no reply: it begins with neither = nor ?. It goes down.
-    OVERLONG = _library.LOSS_OVERLONG  # More than 8,192 bytes came since its last reply. It goes down.
-    WRONG_ID = _library.LOSS_WRONG_ID  # The reply hasn't the id of the oldest unanswered command. It goes down.
-    UNASKED = _library.LOSS_UNASKED  # A reply came where no command is unanswered. It goes down.
-    UNFIT = _library.LOSS_UNFIT  # It failed at a command that brings it to the record, or placed another handicap.
-    REFUSES_PLAY = _library.LOSS_REFUSES_PLAY  # It refused a play that isn't retaken. It forfeits.
-    KEEPS_MOVE = _library.LOSS_KEEPS_MOVE  # It kept its move, which the other side refused. The other side forfeits.
-    NO_MOVE = _library.LOSS_NO_MOVE  # It failed at a genmove. It forfeits.
-    NO_VERTEX = _library.LOSS_NO_VERTEX  # Its answer is neither a vertex nor a resignation. It forfeits.
-    FULL = _library.LOSS_FULL  # Its move is refused, for the causes of the same names. It forfeits.
-    OFF_BOARD = _library.LOSS_OFF_BOARD
-    OCCUPIED = _library.LOSS_OCCUPIED
-    SUICIDE = _library.LOSS_SUICIDE
-    KO = _library.LOSS_KO
-
-
-class Ending(IntEnum):
-    """How a match ended."""
-
-    BY_SCORE = 1  # by two passes
-    BY_RESIGNATION = 2  # the side resigned
-    BY_LIMIT = 3  # the record has as many moves as the match allows
-    BY_REFUSED_PLAY = 4  # the side refused a play that isn't retaken, or that the other side didn't take back
-    BY_NO_MOVE = 5  # the side failed to answer with a move: it forfeits
-    BY_NO_VERTEX = 6  # the side answered with what is no move: it forfeits
-    BY_ILLEGAL_MOVE = 7  # the side answered with a move that isn't legal: it forfeits
-    BY_UNFIT = 8  # the side can't be brought to the record
-    BY_ABANDONED = 9  # the side went down too often
+    START = _declared.START  # Start this side's engine, and call `started`.
+    SEND = _declared.SEND  # Call `send`, and write to this side's engine what it returns.
+    WAIT = _declared.WAIT  # Read what this side's engine writes, and call `hear` or `report`.
+    OVER = _declared.OVER  # The match is over.
 
 
 @dataclass(frozen=True)
@@ -155,7 +124,7 @@ class Match(Held):
 
     __slots__ = ()
     _kind: ClassVar[str] = "match"
-    _handle_type = _library.MatchHandle
+    _handle_type = _declared.MatchHandle
 
     def __init__(
         self, size: int = 19, komi: Komi = 0, handicap: int = 0, max_moves: int = 2000, max_restarts: int = 0

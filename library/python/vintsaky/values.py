@@ -6,16 +6,17 @@ from enum import Enum, IntEnum
 from fractions import Fraction
 from typing import Any, Dict, List, NamedTuple, Tuple, Union
 
-from . import _library
+from . import _declared
 from ._held import ascii_of, whole
-from ._library import done, library
+from ._library import library
+from ._refused import done
 
 
 class Colour(IntEnum):
     """The colour of a stone, and of the side that plays it."""
 
-    BLACK = 1
-    WHITE = 2
+    BLACK = _declared.BLACK
+    WHITE = _declared.WHITE
 
     @property
     def other(self) -> Colour:
@@ -41,8 +42,8 @@ WHITE = Colour.WHITE
 class KoRule(IntEnum):
     """The boards that a play may not bring back: the one before the last move, or each one of the game."""
 
-    SIMPLE = 1
-    POSITIONAL = 2
+    SIMPLE = _declared.SIMPLE
+    POSITIONAL = _declared.POSITIONAL
 
 
 class Point(NamedTuple):
@@ -88,7 +89,7 @@ AnyVertex = Union[Point, NoPoint, Tuple[int, int], str, bytes]
 Komi = Union[int, float, Fraction]
 
 POINTS: Dict[int, Point] = {row << 8 | column: Point(column, row) for row in range(1, 26) for column in range(1, 26)}
-VERTICES: Dict[int, Vertex] = {_library.PASS: PASS, **POINTS}
+VERTICES: Dict[int, Vertex] = {_declared.PASS: PASS, **POINTS}
 
 
 def written(call: Any, *arguments: Any) -> str:
@@ -117,9 +118,9 @@ def vertex_number(vertex: AnyVertex) -> int:
         if type(column) is int and type(row) is int and 1 <= column <= 25 and 1 <= row <= 25:
             return row << 8 | column
     if vertex is PASS:
-        return _library.PASS
+        return _declared.PASS
     if vertex is RESIGN:
-        return _library.RESIGN
+        return _declared.RESIGN
     if isinstance(vertex, (str, bytes)):
         return _read_vertex(vertex)
     if not isinstance(vertex, tuple) or len(vertex) != 2:

@@ -50,42 +50,10 @@ macro_rules! causes {
     };
 }
 
-causes! {
-    BadColour = 1 "The number is no colour and no side. No call of this crate is refused for it.",
-    BadVertex = 2 "The number is no vertex. No call of this crate is refused for it.",
-    BadRule = 3 "The number is no ko rule. No call of this crate is refused for it.",
-    BadSize = 4 "The size isn't from 1 to 25.",
-    BadKomi = 5 "The komi isn't from -1,999,999,999 to 1,999,999,999 half points.",
-    BadText = 6 "The text is none that can be read, or that a reply may have.",
-    NoRoom = 7 "The buffer is too short. No call of this crate is refused for it.",
-    Full = 8 "The record has 2,000 moves.",
-    OffBoard = 9 "The point isn't on a board of this size.",
-    Occupied = 10 "A stone is on the point.",
-    Suicide = 11 "The new stone's chain would have no liberty.",
-    Ko = 12 "The board would be one that the ko rule forbids.",
-    NothingToUndo = 13 "There is no move to take back.",
-    NotEmpty = 14 "A stone is on the board, or a move is in the record.",
-    BadHandicap = 15 "The size doesn't allow this number of handicap stones.",
-    NoMove = 16 "The record has no move of this number.",
-    NoStone = 17 "No stone is on the point.",
-    NotAsked = 18 "Nothing is asked for that the call hands in.",
-    NoWord = 19 "The line has no word of this number.",
-    NoId = 20 "The line has no id.",
-    BadLength = 21 "The name of the command has no byte, or more than 32.",
-    BadByte = 22 "A byte of the name is `#`, or is none of 33 to 126.",
-    OnlyDigits = 23 "The name has digits alone, as an id.",
-    InTable = 24 "The protocol's table has a command of this name.",
-    AddedBefore = 25 "A command of this name was added before.",
-    TooMany = 26 "The engine has 32 own commands.",
-    BadMaxMoves = 27 "The limit of moves is not 1 to 2,000.",
-    BadMaxRestarts = 28 "The limit of restarts is more than 1,000.",
-    NotNext = 29 "The call is not what the match says next.",
-    NotOver = 30 "The match is not over.",
-    NoLine = 31 "No line of a command was read.",
-    BadCommand = 32 "The number is no command. No call of this crate is refused for it.",
-    BadId = 33 "The id is more than 2,147,483,647.",
-    Down = 34 "The side was not started or went down, or the match is over.",
-}
+// The rows, of which the macro makes the enum.
+mod causes;
+
+pub use causes::Refusal;
 
 impl Refusal {
     /// Why a move is refused.

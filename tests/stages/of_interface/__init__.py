@@ -1,1 +1,1 @@
-"""What the texts declare that name the library's calls and numbers."""
+"""The wrong copies of tests/stages/interface.py."""

@@ -1,11 +1,20 @@
-"""Texts of programs without their comments, and names in them."""
+"""Texts of sources: mistakes in them, names as constants have them, and comments that are left out."""
 import re
 from functools import lru_cache
 
 # of wrong copies one text alone is new: what was read of the others is kept
-once = lru_cache(maxsize=4)
+once = lru_cache(maxsize=64)
 LINES = r"//[^\n]*"  # the comments of Rattle and of Rust
 C_COMMENT = r"/\*.*?\*/"
+
+
+class Mistake(Exception):
+    """A source that can't be read so: where it is, and what is wrong."""
+
+
+def snake(name):
+    """A name of several words as constants have it."""
+    return re.sub(r"(?<=[a-z0-9])(?=[A-Z])", "_", name).upper()
 
 
 def blank(found):
@@ -17,8 +26,3 @@ def blank(found):
 def bare(text, comment):
     """The text with blanks for its comments, so that all else stays where it is."""
     return re.sub(comment, blank, text, flags=re.DOTALL)
-
-
-def snake(name):
-    """A name of two words as constants have it."""
-    return re.sub(r"(?<=[a-z0-9])(?=[A-Z])", "_", name).upper()

@@ -4,7 +4,10 @@ The crate calls no C. So the compiler doesn't see whether it has all that the li
 """
 import re
 
-from .texts import LINES, bare, once, snake
+from .. import exports, header
+from ..texts import LINES, bare, once, snake
+
+FOLDER = "library/rust/src/"
 
 OBJECTS = {"game": "Game", "engine": "Engine", "match": "Match", "lines": "CommandLines", "replies": "Replies"}
 # what is called otherwise in Rust
@@ -78,25 +81,6 @@ ENUMS = {
 NOT_IN_RUST = {"DONE", "INTERFACE"}
 DOCUMENTED = r"(?P<said>(?: *///[^\n]*\n)*)(?P<before> *)(?P<pub>pub )?"
 FUNCTION = DOCUMENTED + r"fn (?P<name>\w+)(?:<\w+>)?\((?P<given>[^)]*)\)(?P<result>[^{;]*)"
-# what is made wrong in copies, where, and the comments in which nothing is
-REGIONS = "|".join([
-    r"^(?:    )?(?:/// # Errors\n(?: *///[^\n]*\n)+(?:    )?)?pub fn \w+\([^)]*\)",
-    r"^    \w+ = \d+ \"",
-    r"^pub const VERSION[^\n]*",
-    r"^pub struct Setup \{.*?^\}",
-    rf"^pub enum (?:{'|'.join(ENUMS)}) \{{.*?^\}}",
-])  # fmt: skip
-KINDS = r"(?:Colour|KoRule|Komi|Point|Setup|usize|u32|impl Into<\w+>|&\[u8\]|&str|&mut Game|Option<u32>)(?=[,)\n])"
-WRONG = [
-    (r"(?<=pub fn )\w+(?=\()", lambda it: it + "s"),
-    (rf"(?<=: ){KINDS}", lambda it: {"u32": "u64"}.get(it, "u32")),
-    (rf"\w+(?=: {KINDS})", lambda it: it + "s"),
-    (r"(?<=Refusal::)\w+(?=`)", lambda it: it + "s"),
-    (r"(?<= = )\d+(?= \")", lambda it: str(int(it) + 1)),
-    (r"(?<= = )0x\w+(?=;)", lambda it: it[:-1] + "1"),
-    (r"(?<=^    )[A-Z]\w*(?=[,({])", lambda it: it + "s"),
-]
-COMMENTS = r"(?<!/)//(?![/!])[^\n]*"  # what documentation says of errors is looked at
 
 
 # ---- what the crate has
@@ -155,28 +139,18 @@ def paths_of(call):
     return [f"{OBJECTS[found[1]]}::{NAMES.get(found[2], found[2])}"]
 
 
-def wanted_arguments(call, arguments):
+def wanted_arguments(call):
     """The arguments of a call as Rust has them: without its object, what it writes, and lengths."""
-    if call in OTHER_ARGUMENTS:
-        return OTHER_ARGUMENTS[call]
-    given = [(name, kind) for name, kind in arguments if kind.startswith("const ") or not kind.endswith("*")]
-    given = [(name, kind) for name, kind in given if not name.endswith(("_length", "_room"))]
-    return ", ".join(ARGUMENTS.get(name, f"{name}: {TYPES.get(kind, kind)}") for name, kind in given)
+    if call.name in OTHER_ARGUMENTS:
+        return OTHER_ARGUMENTS[call.name]
+    given = [it for it in call.arguments if it.c.startswith("const ") or not it.c.endswith("*")]
+    given = [it for it in given if not it.name.endswith(("_length", "_room"))]
+    return ", ".join(ARGUMENTS.get(it.name, f"{it.name}: {TYPES.get(it.c, it.c)}") for it in given)
 
 
-@once
-def causes_in(header):
-    """The causes of each call, in the order in which the header names them, without those that no call in Rust has."""
-    causes = {}
-    for said, call in re.findall(r"/\*((?:(?!\*/).)*)\*/\s*\w+ (vintsaky_\w+)\(", header, re.DOTALL):
-        listed = said.partition("Causes:")[2]
-        other = re.search(r"As those of (\w+)", listed)
-        named = re.findall(r"VINTSAKY_(\w+)", listed)
-        if other:
-            begun = call[: call.index("_", len("vintsaky_")) + 1]
-            named = [it for it in causes.get(begun + other[1], ["?"]) if it not in named]
-        causes[call] = [it for it in named if it not in LEFT_OUT]
-    return causes
+def refused_in_c(call, calls):
+    """The causes of a call, as the header calls them and in its order, without those for which no call in Rust is refused."""
+    return [it for it in map(snake, exports.causes_of(call, calls)) if it not in LEFT_OUT]
 
 
 def differing_call(text, call, wanted, refused, path):
@@ -198,13 +172,13 @@ def differing_call(text, call, wanted, refused, path):
     return lines
 
 
-def differing_calls(text, exports, header):
+def differing_calls(text, calls):
     """The lines on all calls of the exports, and on what Rust has alone."""
     lines, met = [], set(OWN)
-    for call, (_, arguments) in exports.items():
-        for path in paths_of(call):
-            wanted = "" if path.endswith("::new") and path != "Point::new" else wanted_arguments(call, arguments)
-            lines += differing_call(text, call, wanted, causes_in(header).get(call, []), path)
+    for call in calls.values():
+        for path in paths_of(call.name):
+            wanted = "" if path.endswith("::new") and path != "Point::new" else wanted_arguments(call)
+            lines += differing_call(text, call.name, wanted, refused_in_c(call, calls), path)
             met.add(path)
     lines += [f"{path} is in Rust, and no call has its name" for path in functions(text) if path not in met]
     return lines + [f"{path} was in Rust, and isn't" for path in OWN if path not in functions(text)]
@@ -222,3 +196,19 @@ def numbers(text):
             if others.get(name, name):
                 found.setdefault(start + snake(others.get(name, name)), None)
     return found
+
+
+def differing_numbers(text, wanted):
+    """The lines on numbers of the header that Rust lacks, or has otherwise, and on those that it has alone."""
+    got = {**dict.fromkeys(NOT_IN_RUST), **numbers(text)}
+    lines = [f"VINTSAKY_{it} is in vintsaky.h, and not in Rust" for it in wanted if it not in got]
+    lines += [f"VINTSAKY_{it} is in Rust, and not in vintsaky.h" for it in got if it not in wanted]
+    other = [it for it in wanted if got.get(it) is not None and got[it] != wanted[it]]
+    return lines + [f"VINTSAKY_{it} is {wanted[it]} in vintsaky.h, and {got[it]} in Rust" for it in other]
+
+
+def differing(files):
+    """A line for each call and number that the crate lacks, or has otherwise."""
+    text = "\n".join(text for path, text in files.items() if path.startswith(FOLDER))
+    numbers_of_c = header.declared_numbers(files[header.PATH])
+    return differing_calls(text, exports.all_calls(files)) + differing_numbers(text, numbers_of_c)

@@ -1,0 +1,1 @@
+"""What `library/declare` is made of: it writes all that declares the library, from the library's own sources."""

@@ -1,0 +1,169 @@
+"""The calls of the library, as the exports in crates/vintsaky/src declare them: their comments, results and arguments.
+
+An argument of an export comes to one or two of C: a slice is a pointer with a length, or with the room that is there.
+"""
+import re
+from dataclasses import dataclass
+
+from .texts import Mistake, once
+
+FOLDER = "crates/vintsaky/src/"
+ATTRIBUTE = "#[unsafe(no_mangle)]\n"
+EXPORT = re.compile(
+    r"((?:^///[^\n]*\n)*)^#\[unsafe\(no_mangle\)\]\n"
+    r'pub (?:unsafe )?extern "C" fn (vintsaky_\w+)\(([^()]*)\)(?:\s*-> (\w+))?(?:[^\n]*\n(?:    [^\n]*\n)*\{\n(.*?)^\}| \{\})$',
+    re.MULTILINE | re.DOTALL,
+)
+# what a number is called in C, and in ctypes
+NUMBERS = {
+    "u32": ("uint32_t", "c_uint32"),
+    "i32": ("int32_t", "c_int32"),
+    "u64": ("uint64_t", "c_uint64"),
+    "usize": ("size_t", "c_size_t"),
+    "bool": ("bool", "c_bool"),
+}
+BYTES = "bytes"  # an argument of this name may have any bytes; the others are texts
+
+
+@dataclass(frozen=True)
+class Argument:
+    """An argument of C: its name, and its type in C and in ctypes."""
+
+    name: str
+    c: str
+    python: str
+
+
+@dataclass(frozen=True)
+class Call:
+    """A call: its name, what its comment says, what it says of errors, its result in C and in ctypes, and its arguments."""
+
+    name: str
+    said: str
+    errors: str
+    c: str
+    python: str
+    arguments: tuple
+
+
+# ---- types
+
+
+def handle_of(kind):
+    """The object of a handle's type, if it is one: `game` of GameHandle."""
+    found = re.fullmatch(r"(\w+)Handle", kind)
+    return found and found[1].lower()
+
+
+def slice_of(name, kind, is_written):
+    """The two arguments of a slice."""
+    if is_written:
+        number = {"u8": ("char", "c_char"), **NUMBERS}[kind]
+        return [Argument(name, f"{number[0]} *", f"POINTER({number[1]})"), Argument(f"{name}_room", *NUMBERS["usize"])]
+    if kind != "u8":
+        raise KeyError(kind)
+    pointer = ("const void *", "c_void_p") if name == BYTES else ("const char *", "c_char_p")
+    return [Argument(name, *pointer), Argument(f"{name}_length", *NUMBERS["usize"])]
+
+
+def given(name, kind):
+    """The arguments of C that an argument of an export comes to. KeyError where its type is none that C has."""
+    is_slice = re.fullmatch(r"&(mut )?\[(\w+)\]", kind)
+    if is_slice:
+        return slice_of(name, is_slice[2], bool(is_slice[1]))
+    pointer = re.fullmatch(r"(?:&mut|\*mut) (\w+)", kind)
+    if not pointer:
+        return [Argument(name, *NUMBERS[kind])]
+    if kind == "*mut u8":
+        return [Argument(name, "void *", "c_void_p")]
+    if handle_of(pointer[1]):
+        return [Argument(name, f"vintsaky_{handle_of(pointer[1])} *", f"POINTER({pointer[1]})")]
+    c, python = NUMBERS[pointer[1]]
+    return [Argument(name, f"{c} *", f"POINTER({python})")]
+
+
+def arguments_of(text, where):
+    """The arguments of C that a list of them comes to."""
+    arguments = []
+    for part in [" ".join(it.split()) for it in text.split(",") if it.strip()]:
+        name, _, kind = part.partition(": ")
+        try:
+            arguments += given(name, kind)
+        except KeyError:
+            raise Mistake(f"{where}: the argument {name} is of a type that C can't have: {kind}") from None
+    return tuple(arguments)
+
+
+# ---- comments
+
+
+def paragraphs(lines):
+    """The text of a comment, its paragraphs one after the other."""
+    return " ".join(" ".join(line[3:].strip() for line in lines).split())
+
+
+def said_of(comment, where):
+    """What a comment says of a call, and of its errors. What it says of safety is at the head of the header."""
+    parts = re.split(r"^/// # (\w+)\n", comment, flags=re.MULTILINE)
+    sections = dict(zip(parts[1::2], parts[2::2]))
+    if not parts[0].strip() or set(sections) - {"Errors", "Safety"}:
+        raise Mistake(f"{where}: its comment has to say what it does, and then, if it may be refused, '# Errors'")
+    return paragraphs(parts[0].splitlines()), paragraphs(sections.get("Errors", "").splitlines())
+
+
+def call_of(found, path):
+    """The call of an export."""
+    comment, name, arguments, result, body = found.groups()
+    where = f"{path}: {name}"
+    said, errors = said_of(comment, where)
+    if ("code_of(" in (body or "")) != bool(errors):
+        raise Mistake(f"{where}: '# Errors' has to say for which causes it is refused, and nothing where it never is")
+    if result and result not in NUMBERS:
+        raise Mistake(f"{where}: it returns what C can't: {result}")
+    c, python = NUMBERS[result] if result else ("void", "None")
+    return Call(name, said, errors, c, python, arguments_of(arguments, where))
+
+
+@once
+def calls_in(path, text):
+    """The calls of a file of exports, in their order there."""
+    calls = [call_of(it, path) for it in EXPORT.finditer(text)]
+    if len(calls) != text.count(ATTRIBUTE) or text.count(ATTRIBUTE) != text.count("no_mangle"):
+        raise Mistake(f"{path}: {text.count('no_mangle')} exports are begun, and {len(calls)} can be read")
+    return calls
+
+
+def files_of(section, files):
+    """The files of a section of the header: a module, or a module's folder."""
+    names = [f"{FOLDER}{section}.rt", f"{FOLDER}{section}/place.rt", f"{FOLDER}{section}/exports.rt"]
+    return [it for it in names if it in files and "no_mangle" in files[it]]
+
+
+def calls_of(section, files):
+    """The calls of a section of the header."""
+    calls = [call for path in files_of(section, files) for call in calls_in(path, files[path])]
+    if not calls:
+        raise Mistake(f"there are no exports in {FOLDER}{section}.rt, {section}/place.rt and {section}/exports.rt")
+    return calls
+
+
+def all_calls(files):
+    """All calls, by their names."""
+    calls = {}
+    for path in [it for it in files if it.startswith(FOLDER)]:
+        for call in calls_in(path, files[path]):
+            if call.name in calls:
+                raise Mistake(f"{path}: {call.name} is exported twice")
+            calls[call.name] = call
+    return calls
+
+
+def causes_of(call, calls):
+    """The causes for which a call is refused, in the order in which it names them. It may name those of another call."""
+    other = re.search(r"As those of \[`(vintsaky_\w+)`\]", call.errors)
+    named = re.findall(r"`([A-Z]\w*)`", call.errors)
+    if not other:
+        return named
+    if other[1] not in calls:
+        raise Mistake(f"{call.name}: its errors are those of {other[1]}, which is no call")
+    return [it for it in causes_of(calls[other[1]], calls) if it not in named]

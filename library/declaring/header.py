@@ -1,0 +1,162 @@
+"""The C header: vintsaky.h.in, in which the calls and the numbers take the places that are marked.
+
+A mark is `@WORD ..@`. One alone on its line becomes lines: `@values KIND@` the numbers of a kind, a line each with what is said of it;
+`@enums KIND@` the same in short enumerations; `@causes@` the causes; `@calls SECTION@` the calls of a section. Another one becomes a
+number: `@interface@`, `@version@`, `@KIND NAME@` that of a value, `@CRATE NAME@` that of a constant, and `@CRATE NAME + 1@` one more.
+"""
+import re
+import textwrap
+
+from . import exports, numbers
+from .texts import Mistake, once, snake
+
+PATH = "library/vintsaky.h"
+TEMPLATE = "library/declaring/vintsaky.h.in"
+WIDTH = 136  # of what is made
+MOST = 140  # columns that a line may have
+IN_A_LINE = 4  # values of a short enumeration
+LINE = re.compile(r"^( *)@(values|enums|causes|calls) ?(\w*)@$", re.MULTILINE)
+NUMBER = re.compile(r"@(\w+)(?: (\w+))?( \+ 1)?@")
+LAST = "\N{NO-BREAK SPACE}*/"  # the end of a comment, which stays with the last word
+
+
+# ---- calls
+
+
+def declaration(call):
+    """The declaration of a call. Where it is too long for a line its arguments go to the next one, or else fill the lines."""
+    arguments = [it.c + it.name if it.c.endswith("*") else f"{it.c} {it.name}" for it in call.arguments] or ["void"]
+    front, rest = f"{call.c} {call.name}(", ", ".join(arguments) + ");"
+    if len(front + rest) <= WIDTH:
+        return front + rest
+    if len(rest) + 4 <= WIDTH:
+        return f"{front}\n    {rest}"
+    # an argument isn't parted from its type
+    words = ", ".join(arguments).replace(" ", "\N{NO-BREAK SPACE}").replace(",\N{NO-BREAK SPACE}", ", ")
+    lines = textwrap.wrap(front + words + ");", WIDTH, subsequent_indent="    ", break_long_words=False, break_on_hyphens=False)
+    return "\n".join(lines).replace("\N{NO-BREAK SPACE}", " ")
+
+
+def in_c(text, causes, where):
+    """A comment in the words of C: without marks of code, and with the causes as C calls them."""
+
+    def word(found):
+        if found[1] in causes:
+            return f"VINTSAKY_{snake(found[1])}"
+        if re.fullmatch(r"[A-Z][a-z]\w*", found[1]):
+            raise Mistake(f"{where}: its comment names {found[1]}, which is no cause")
+        return found[1]
+
+    return re.sub(r"\[?`([^`]*)`\]?", word, text)
+
+
+def wrapped(text):
+    """The lines of a text, as wide as those of a comment are."""
+    return textwrap.wrap(text, WIDTH - 3, break_long_words=False, break_on_hyphens=False)
+
+
+def comment_of(call, causes):
+    """The comment of a call: what it does, and for which causes it is refused."""
+    said = in_c(call.said, causes, call.name)
+    errors = call.errors and f"Causes: {in_c(call.errors, causes, call.name)}"
+    lines = wrapped(said if errors else said + LAST) + (wrapped(errors + LAST) if errors else [])
+    return "/* " + "\n * ".join(lines).replace(LAST, " */")
+
+
+def calls_of(section, files):
+    """The calls of a section: those without an own comment in C are declared at the head of the header."""
+    causes = {it.name for it in numbers.causes_of(files)}
+    calls = [it for it in exports.calls_of(section, files) if not it.name.startswith("vintsaky_interface_")]
+    return "\n\n".join(f"{comment_of(it, causes)}\n{declaration(it)}" for it in calls)
+
+
+# ---- numbers
+
+
+def lines_of(values):
+    """The lines of an enumeration, with what is said of each value. The comments stand below each other where all have the room."""
+    ends = [f"VINTSAKY_{it.name} = {it.number}{',' * (it is not values[-1])}" for it in values]
+    width = max(map(len, ends))
+    said = [f"/* {it.said} */" if it.said else "" for it in values]
+    return [f"{end:{width}} {comment}".rstrip() for end, comment in zip(ends, said)]
+
+
+def causes_of(files):
+    """The lines of the causes: each is followed by a comma, since later ones come after the last."""
+    return [f"VINTSAKY_{it.name} = {it.number}, /* {it.said} */" for it in (cause.value for cause in numbers.causes_of(files))]
+
+
+def enums_of(values):
+    """Short enumerations of values of which nothing is said here."""
+    shown = [f"VINTSAKY_{it.name} = {it.number}" for it in values]
+    return [f"enum {{ {', '.join(shown[at : at + IN_A_LINE])} }};" for at in range(0, len(shown), IN_A_LINE)]
+
+
+def number_of(mark, calls, files):
+    """The number of a mark."""
+    first, name, plus = mark.groups()
+    if first == "interface":
+        return numbers.interface_of(calls)
+    if first == "version":
+        return numbers.version_of(files)
+    if first in numbers.KINDS:
+        found = [it.number for it in numbers.values_of(first, files) if it.name == name]
+        if not found:
+            raise Mistake(f"{TEMPLATE}: {mark[0]}: there is no such number")
+        return str(found[0])
+    return str(numbers.constant_of(first, name, files) + bool(plus))
+
+
+# ---- all of it
+
+
+def expanded(found, files):
+    """The lines of a mark that is alone on its line."""
+    indent, what, name = found.groups()
+    if what == "calls":
+        return calls_of(name, files)
+    lines = {
+        "causes": lambda: causes_of(files),
+        "values": lambda: lines_of(numbers.values_of(name, files)),
+        "enums": lambda: enums_of(numbers.values_of(name, files)),
+    }[what]()
+    return "\n".join(indent + line for line in lines)
+
+
+def made(files):
+    """The header."""
+    template = numbers.text_of(files, TEMPLATE)
+    calls = exports.all_calls(files)
+    text = LINE.sub(lambda found: expanded(found, files), template)
+    text = NUMBER.sub(lambda found: number_of(found, calls, files), text)
+    for name in calls:
+        if len(re.findall(rf"^\w+ {name}\(", text, re.MULTILINE)) != 1:
+            raise Mistake(f"{TEMPLATE}: {name} has to be declared once: is its module a section there?")
+    for name in sorted(set(re.findall(r"\bVINTSAKY_\w+", text)) - declared_names(text)):
+        raise Mistake(f"{PATH}: a comment names {name}, which isn't there")
+    for line in [it for it in text.splitlines() if len(it) > MOST]:
+        raise Mistake(f"{PATH}: a line has over {MOST} columns: {line.strip()}")
+    return text
+
+
+def declared_names(text):
+    """The names of all that a header defines in capitals."""
+    text = re.sub(r"/\*.*?\*/", "", text, flags=re.DOTALL)
+    return set(re.findall(r"\b(VINTSAKY_\w+) = ", text)) | set(re.findall(r"^#define (VINTSAKY_\w+)", text, re.MULTILINE))
+
+
+@once
+def declared_numbers(text):
+    """The numbers of a header, by their names without VINTSAKY_."""
+    text = re.sub(r"/\*.*?\*/", "", text, flags=re.DOTALL)
+    number = r"(0x[0-9a-f]+|\d+)\b"
+    found = re.findall(r"\bVINTSAKY_(\w+) = " + number, text)
+    found += re.findall(r"^#define VINTSAKY_(\w+) (?:\(\(uint32_t\))?" + number, text, re.MULTILINE)
+    return {name: int(it, 0) for name, it in found}
+
+
+@once
+def groups_of(text):
+    """The names of each enumeration of a header."""
+    blocks = re.findall(r"enum \{(.*?)\}", re.sub(r"/\*.*?\*/", "", text, flags=re.DOTALL), re.DOTALL)
+    return [re.findall(r"\bVINTSAKY_(\w+) =", it) for it in blocks]

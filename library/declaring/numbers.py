@@ -1,0 +1,173 @@
+"""The numbers of the library, which crates/vintsaky_calls/src gives to values, and what the comments there say of them.
+
+A number stands in an arm of a match: `Loss::Unfit => 5`, and a comment above the arm says what the value means. The arm's last name is
+that of the number in C. What has another name there, or a longer one, is told so in KINDS.
+"""
+import re
+from dataclasses import dataclass, field
+
+from .texts import Mistake, once, snake
+
+FOLDER = "crates/vintsaky_calls/src/"
+ARM = re.compile(r"((?:^ +// [^\n]*\n)*)^ +(\w[^\n]*?) => \(?(\d+)\b", re.MULTILINE)
+ARM_OF_COMMANDS = re.compile(r"()^ +(?P<number>\d+) => (?:\{.*?)?Ok\(Command::(?P<name>\w+)", re.MULTILINE | re.DOTALL)
+
+
+@dataclass(frozen=True)
+class Value:
+    """A number with its name in C, without VINTSAKY_, and what is said of it, if anything is."""
+
+    name: str
+    number: int
+    said: str
+
+
+@dataclass(frozen=True)
+class Kind:
+    """Numbers that belong together: the module and its functions that have them, what their names begin with, and other names."""
+
+    module: str
+    functions: tuple
+    start: str = ""
+    others: dict = field(default_factory=dict)
+    arm: re.Pattern = ARM
+
+
+KINDS = {
+    "colours": Kind("codes", ("number_of_colour",)),
+    "rules": Kind("codes", ("number_of_rule",)),
+    "vertices": Kind("codes", ("number_of_vertex",)),
+    "events": Kind("engines", ("number_of_event",)),
+    "actions": Kind("matches", ("next",), "", {"Done": "OVER"}),
+    "losses": Kind("losses", ("number_of_fault", "number_of_cause", "number_of_rule"), "LOSS_"),
+    "endings": Kind("endings", ("number_of_ending",), "BY_", {"Resign": "RESIGNATION"}),
+    "commands": Kind("writing", ("command_of",), arm=ARM_OF_COMMANDS),
+    "lines": Kind("lines", ("feed",), "", {"Command": "LINE"}),
+    "replies": Kind("replies", ("feed",), "", {"Ok": "READ", "NoStatus": "NO_REPLY", "Overlong": "LONG_REPLY"}),
+}
+
+
+def text_of(files, path):
+    """The text of a file that has to be there."""
+    if path not in files:
+        raise Mistake(f"there is no {path}")
+    return files[path]
+
+
+def body_of(text, function, path):
+    """The lines of a function."""
+    found = re.search(rf"^(?:pub(?:\(crate\))? )?fn {function}\(.*?^\}}$", text, re.MULTILINE | re.DOTALL)
+    if not found:
+        raise Mistake(f"{path}: there is no function {function}")
+    return found[0]
+
+
+def arms_of(kind, body):
+    """The arms of a function that have a number: of each the last name, the number, and what is said of it."""
+    for found in kind.arm.finditer(body):
+        if kind.arm is ARM_OF_COMMANDS:
+            yield found["name"], int(found["number"]), ""
+            continue
+        names = re.findall(r"\b[A-Z]\w*", found[2])
+        if names and names[-1] != "None":
+            yield names[-1], int(found[3]), " ".join(re.sub(r"^ +//", "", found[1], flags=re.MULTILINE).split())
+
+
+@once
+def values_in(name, text):
+    """The values of a kind in its module, in the order of their numbers."""
+    kind = KINDS[name]
+    path = f"{FOLDER}{kind.module}.rt"
+    values = []
+    for function in kind.functions:
+        for word, number, said in arms_of(kind, body_of(text, function, path)):
+            values.append(Value(kind.start + kind.others.get(word, snake(word)), number, said))
+    values.sort(key=lambda it: it.number)
+    if not values or len({it.number for it in values}) != len(values):
+        raise Mistake(f"{path}: {', '.join(kind.functions)}: no numbers are found there, or two are the same")
+    return values
+
+
+def values_of(name, files):
+    """The values of a kind."""
+    if name not in KINDS:
+        raise Mistake(f"there are no numbers that are called {name}: there are {', '.join(KINDS)}")
+    path = f"{FOLDER}{KINDS[name].module}.rt"
+    return values_in(name, text_of(files, path))
+
+
+# ---- causes
+
+
+@dataclass(frozen=True)
+class Cause:
+    """A cause: its name in the sources, its number, and its sentence, with code in backquotes."""
+
+    name: str
+    number: int
+    comment: str
+
+    @property
+    def sentence(self):
+        """The sentence as a call writes it."""
+        return self.comment.replace("`", "")
+
+    @property
+    def value(self):
+        """The cause as a number of C."""
+        return Value(snake(self.name), self.number, self.sentence)
+
+
+CAUSES = f"{FOLDER}causes.rt"
+
+
+@once
+def causes_in(text):
+    """The causes, in the order of their numbers."""
+    block = re.search(r"^pub enum Cause \{\n(.*?)^\}", text, re.MULTILINE | re.DOTALL)
+    comments = {name: said for said, name in re.findall(r"((?:^    ///[^\n]*\n)*)^    (\w+),$", block[1] if block else "", re.MULTILINE)}
+    numbers = dict(re.findall(r"^ +Cause::(\w+) => (\d+),$", body_of(text, "number_of", CAUSES), re.MULTILINE))
+    if not comments or set(comments) != set(numbers) or len(set(numbers.values())) != len(numbers):
+        raise Mistake(f"{CAUSES}: each variant of Cause has to have one number of its own in number_of")
+    causes = []
+    for name, comment in comments.items():
+        said = " ".join(re.sub(r"^ +///", "", comment, flags=re.MULTILINE).split())
+        if not re.fullmatch(r"[A-Z][ -~]*\.", said) or re.search(r'["\\]|\*/', said):
+            raise Mistake(f"{CAUSES}: the comment of {name} has to be a sentence in ASCII, without quotes: '{said}'")
+        causes.append(Cause(name, int(numbers[name]), said))
+    return sorted(causes, key=lambda it: it.number)
+
+
+def causes_of(files):
+    """The causes."""
+    return causes_in(text_of(files, CAUSES))
+
+
+# ---- others
+
+
+def constant_of(crate, name, files):
+    """A constant of a crate, which has one of this name."""
+    found = []
+    for path in [it for it in files if it.startswith(f"crates/{crate}/src/")]:
+        found += re.findall(rf"^(?:pub(?:\(crate\))? )?const {name}: \w+ = (\d+);$", files[path], re.MULTILINE)
+    if len(found) != 1:
+        raise Mistake(f"crates/{crate}/src has {len(found)} constants {name}, and has to have one")
+    return int(found[0])
+
+
+def version_of(files):
+    """The version of the library, as the call spells it that returns it."""
+    path = f"{FOLDER}library.rt"
+    found = re.search(r"^    (0x[0-9a-f]{6})$", body_of(text_of(files, path), "version", path), re.MULTILINE)
+    if not found:
+        raise Mistake(f"{path}: version has to return a number of the form 0x010000")
+    return found[1]
+
+
+def interface_of(calls):
+    """The number of the interface, which one call has in its name."""
+    found = [it[len("vintsaky_interface_"):] for it in calls if re.fullmatch(r"vintsaky_interface_\d+", it)]
+    if len(found) != 1:
+        raise Mistake(f"{len(found)} calls are vintsaky_interface_N, and has to be one")
+    return found[0]

@@ -1,0 +1,113 @@
+"""Modules of the Python package: `_declared.py`, with the table of the calls, and `_numbers.py`, with the numbers of which much is said."""
+import textwrap
+
+from . import exports, numbers
+
+DECLARED = "library/python/vintsaky/_declared.py"
+NUMBERS = "library/python/vintsaky/_numbers.py"
+WIDTH = 120
+SECTIONS = ("library", "values", "writing", "game", "engine", "matches", "lines", "replies")  # in the order of the table
+ENUMS = ("losses", "endings")  # the kinds that are enumerations of _numbers.py
+HANDLES = {
+    "game": "a game: where it is",
+    "engine": "an engine in steps",
+    "match": "a match",
+    "lines": "a reader of command lines",
+    "replies": "a reader of replies",
+}
+HEAD_OF_DECLARED = '''"""What the library declares: the constants of vintsaky.h, its handles, and the table of its calls.
+
+library/declare writes this module. All names are those of vintsaky.h without the prefix, but the calls', which are
+whole."""
+import ctypes
+from ctypes import POINTER, c_bool, c_char, c_char_p, c_int32, c_size_t, c_uint32, c_uint64, c_void_p
+from typing import Any, Dict, Tuple
+'''
+HANDLE = '''
+
+class {}Handle(ctypes.Structure):
+    """The handle of {}."""
+
+    _fields_ = [("at", c_void_p)]
+'''
+HEAD_OF_TABLE = """
+
+# Each call of vintsaky.h: the type of its result, and those of its arguments. Texts that are read are c_char_p, bytes
+# c_void_p, and texts that are written POINTER(c_char).
+CALLS: Dict[str, Tuple[Any, Tuple[Any, ...]]] = {
+"""
+HEAD_OF_NUMBERS = '''"""Numbers of the library with what is said of each: why a call is refused, why a side fails, and how a match ends.
+
+library/declare writes this module. All names are those of vintsaky.h without the prefix."""
+from enum import IntEnum
+
+from ._library import Told
+'''
+CLASS = '''
+
+class {}({}):
+    """{}"""
+
+'''
+
+
+def constants_of(files):
+    """The constants, by their names: the numbers that are no enumeration of `_numbers.py`."""
+    calls = exports.all_calls(files)
+    constants = {"INTERFACE": numbers.interface_of(calls), "VERSION": numbers.version_of(files)}
+    for kind in [it for it in numbers.KINDS if it not in ENUMS]:
+        constants.update((it.name, str(it.number)) for it in numbers.values_of(kind, files))
+    return {**constants, "RESIGN": str(numbers.constant_of("vintsaky_calls", "RESIGN", files))}
+
+
+def tuple_of(words):
+    """A tuple of these, as it is written in a line."""
+    return f"({words[0]},)" if len(words) == 1 else f"({', '.join(words)})"
+
+
+def row_of(call):
+    """The row of a call: in a line where it fits, else its arguments in a line, else each in one."""
+    arguments = [it.python for it in call.arguments]
+    row = f'    "{call.name}": ({call.python}, {tuple_of(arguments)}),\n'
+    if len(row) <= WIDTH + 1:
+        return row
+    inner = f"        {tuple_of(arguments)},\n"
+    if len(inner) > WIDTH + 1:
+        inner = "        (\n" + "".join(f"            {it},\n" for it in arguments) + "        ),\n"
+    return f'    "{call.name}": (\n        {call.python},\n{inner}    ),\n'
+
+
+def declared(files):
+    """The module of the table."""
+    constants = "".join(f"{name} = {number}\n" for name, number in constants_of(files).items())
+    handles = "".join(HANDLE.format(name.title(), said) for name, said in HANDLES.items())
+    rows = [row_of(it) for section in SECTIONS for it in exports.calls_of(section, files)]
+    return f"{HEAD_OF_DECLARED}\n{constants}{handles}{HEAD_OF_TABLE}{''.join(rows)}}}\n"
+
+
+def member_of(value):
+    """The lines of a member, with what is said of it: behind it where that fits, else above."""
+    line = f"    {value.name} = {value.number}"
+    if not value.said:
+        return f"{line}\n"
+    if len(f"{line}  # {value.said}") <= WIDTH:
+        return f"{line}  # {value.said}\n"
+    above = textwrap.wrap(value.said, WIDTH, initial_indent="    # ", subsequent_indent="    # ", break_on_hyphens=False)
+    return "\n".join(above) + f"\n{line}\n"
+
+
+def enumeration(name, base, said, values):
+    """An enumeration."""
+    return CLASS.format(name, base, said) + "".join(map(member_of, values))
+
+
+def named(files):
+    """The module of the numbers of which much is said."""
+    causes = [numbers.Value("DONE", 0, ""), *(it.value for it in numbers.causes_of(files))]
+    losses = [numbers.Value(it.name[len("LOSS_"):], it.number, it.said) for it in numbers.values_of("losses", files)]
+    return (
+        HEAD_OF_NUMBERS
+        + enumeration("Cause", "Told", "Why a call is refused.", causes)
+        + enumeration("Loss", "IntEnum", "Why a side fails by what it writes.", losses)
+        + enumeration("Ending", "IntEnum", "How a match ended.", numbers.values_of("endings", files))
+    )

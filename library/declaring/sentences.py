@@ -1,0 +1,69 @@
+"""The sentences of the causes where other sources have them: the code and the definition of the call that writes them, and the Rust crate.
+
+They come from the comments of the variants of Cause. In the first two the rows alone are written, and the rest stays."""
+import re
+
+from . import numbers
+from .texts import Mistake
+
+CODE = "crates/vintsaky_calls/src/library.rt"
+DEFINITION = "crates/vintsaky_calls/specs/Library.antt"
+RUST = "library/rust/src/refusal/causes.rs"
+CODE_WIDTH = 100
+DEFINITION_WIDTH = 120
+CODE_ROWS = re.compile(r'(?<=^    match cause \{\n)(?:        Cause::\w+ =>\s+b"[^"\n]*",\n)+', re.MULTILINE)
+DEFINITION_ROWS = re.compile(r'(?<=^abbrev pub sentence : Cause → List ℕ\n)(?:sentence cause\.\w+ =\s+codes "[^"\n]*"\n)+', re.MULTILINE)
+HEAD_OF_RUST = """\
+//! The causes: of each its name, its number, and what it means to users of this crate. `library/declare` writes this file.
+
+causes! {
+"""
+# what the Rust crate says otherwise: for these causes no call of it is refused, since its types leave them out
+NEVER = ("BadColour", "BadVertex", "BadRule", "NoRoom", "BadCommand")
+OTHERWISE = {
+    "BadHandicap": "The size doesn't allow this number of handicap stones.",
+    "NoId": "The line has no id.",
+    "NoLine": "No line of a command was read.",
+    "BadId": "The id is more than 2,147,483,647.",
+}
+
+
+def row(front, back, gap, width):
+    """A row in a line, or in two where that is too long."""
+    return f"{front} {back}" if len(f"{front} {back}") <= width else f"{front}\n{gap}{back}"
+
+
+def with_rows(path, rows, pattern, files):
+    """A source with these rows in place of those that it has."""
+    text = numbers.text_of(files, path)
+    if len(pattern.findall(text)) != 1:
+        raise Mistake(f"{path}: the rows of the sentences are not found")
+    return pattern.sub(lambda _: "".join(f"{it}\n" for it in rows), text)
+
+
+def code(files):
+    """The code of the sentences."""
+    rows = [row(f"        Cause::{it.name} =>", f'b"{it.sentence}",', " " * 12, CODE_WIDTH) for it in numbers.causes_of(files)]
+    return with_rows(CODE, rows, CODE_ROWS, files)
+
+
+def definition(files):
+    """The definition of the sentences."""
+    rows = [row(f"sentence cause.{it.name} =", f'codes "{it.sentence}"', "    ", DEFINITION_WIDTH) for it in numbers.causes_of(files)]
+    return with_rows(DEFINITION, rows, DEFINITION_ROWS, files)
+
+
+def meaning(cause):
+    """What a cause means in Rust."""
+    if cause.name in NEVER:
+        return f"{cause.comment.partition(':')[0].rstrip('.')}. No call of this crate is refused for it."
+    return OTHERWISE.get(cause.name, cause.comment)
+
+
+def rust(files):
+    """The rows of the Rust crate."""
+    causes = numbers.causes_of(files)
+    gone = {*NEVER, *OTHERWISE} - {it.name for it in causes}
+    if gone:
+        raise Mistake(f"{numbers.CAUSES}: no cause is called {', '.join(sorted(gone))}, of which library/declaring/sentences.py says more")
+    return HEAD_OF_RUST + "".join(f'    {it.name} = {it.number} "{meaning(it)}",\n' for it in causes) + "}\n"
