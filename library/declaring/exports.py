@@ -11,7 +11,7 @@ FOLDER = "crates/vintsaky/src/"
 ATTRIBUTE = "#[unsafe(no_mangle)]\n"
 EXPORT = re.compile(
     r"((?:^///[^\n]*\n)*)^#\[unsafe\(no_mangle\)\]\n"
-    r'pub (?:unsafe )?extern "C" fn (vintsaky_\w+)\(([^()]*)\)(?:\s*-> (\w+))?(?:[^\n]*\n(?:    [^\n]*\n)*\{\n(.*?)^\}| \{\})$',
+    r'pub (?:unsafe )?extern "C" fn (vintsaky_\w+)\(([^()]*)\)(?:\s*-> (\w+))?(?:\n((?:    [^\n]*\n)*)\{\n(.*?)^\}| \{\})$',
     re.MULTILINE | re.DOTALL,
 )
 # what a number is called in C, and in ctypes
@@ -36,7 +36,8 @@ class Argument:
 
 @dataclass(frozen=True)
 class Call:
-    """A call: its name, what its comment says, what it says of errors, its result in C and in ctypes, and its arguments."""
+    """A call: its name, what its comment says, and what it says of errors; its result in C and in ctypes, and its arguments; and of the
+    export its arguments, each a name and a type, and its contract."""
 
     name: str
     said: str
@@ -44,6 +45,8 @@ class Call:
     c: str
     python: str
     arguments: tuple
+    given: tuple
+    contract: str
 
 
 # ---- types
@@ -82,11 +85,15 @@ def given(name, kind):
     return [Argument(name, f"{c} *", f"POINTER({python})")]
 
 
-def arguments_of(text, where):
-    """The arguments of C that a list of them comes to."""
+def pairs_of(text):
+    """The arguments of an export: of each its name and its type."""
+    return tuple(tuple(" ".join(it.split()).split(": ", 1)) for it in text.split(",") if it.strip())
+
+
+def arguments_of(pairs, where):
+    """The arguments of C that those of an export come to."""
     arguments = []
-    for part in [" ".join(it.split()) for it in text.split(",") if it.strip()]:
-        name, _, kind = part.partition(": ")
+    for name, kind in pairs:
         try:
             arguments += given(name, kind)
         except KeyError:
@@ -113,7 +120,7 @@ def said_of(comment, where):
 
 def call_of(found, path):
     """The call of an export."""
-    comment, name, arguments, result, body = found.groups()
+    comment, name, arguments, result, contract, body = found.groups()
     where = f"{path}: {name}"
     said, errors = said_of(comment, where)
     if ("code_of(" in (body or "")) != bool(errors):
@@ -121,7 +128,8 @@ def call_of(found, path):
     if result and result not in NUMBERS:
         raise Mistake(f"{where}: it returns what C can't: {result}")
     c, python = NUMBERS[result] if result else ("void", "None")
-    return Call(name, said, errors, c, python, arguments_of(arguments, where))
+    pairs = pairs_of(arguments)
+    return Call(name, said, errors, c, python, arguments_of(pairs, where), pairs, contract or "")
 
 
 @once

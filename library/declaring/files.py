@@ -1,7 +1,7 @@
 """The files that are read, and those that are made of them."""
 from pathlib import Path
 
-from . import header, python, sentences
+from . import header, python, rows, sentences
 from .texts import Mistake
 
 # what is read, by patterns from the top of the repository
@@ -16,6 +16,7 @@ READ = (
     "library/vintsaky.h",
     "library/rust/src/**/*.rs",
     "library/python/vintsaky/*.py",
+    "tests/stages/of_library_in_c/rows.h",
 )
 MADE = {
     sentences.CODE: sentences.code,
@@ -24,6 +25,7 @@ MADE = {
     sentences.RUST: sentences.rust,
     python.DECLARED: python.declared,
     python.NUMBERS: python.named,
+    rows.PATH: rows.table,
 }
 
 

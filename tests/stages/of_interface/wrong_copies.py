@@ -74,6 +74,7 @@ KINDS = [
     Kind("what Rust says of a cause", "library/rust/src/refusal/causes.rs", EVERYWHERE, r'(?<= ")\w+', longer),
     Kind("a sentence in the code", "crates/vintsaky_calls/src/library.rt", r"^    match cause \{\n.*?^    \}", r'(?<=b")The \w+', longer),
     Kind("a sentence in the definition", "crates/vintsaky_calls/specs/Library.antt", EVERYWHERE, r'(?<=codes ")The \w+', longer),
+    Kind("a cause of a drawn call", "tests/stages/of_library_in_c/rows.h", EVERYWHERE, r"(?<=C\()[A-Z_]+(?=\))", longer),
     # what it reads
     Kind("a name of an export", EXPORTS, SIGNATURE, r"\bvintsaky_\w+", longer),
     Kind("a type of an export", EXPORTS, SIGNATURE, r"(?<=[:>] )(?:u32|i32|u64|usize|bool)\b", other_type),

@@ -18,8 +18,8 @@ enum { IS_PLAIN = 0 };
 
 enum kind { GAME, ENGINE, MATCH, LINES, REPLIES, KINDS, NO_OBJECT = KINDS };
 
-/* how many objects of each kind a world has; how many buffers, values and drawn numbers a call is given at most; how many causes are */
-enum { EACH = 3, TEXTS = 2, VALUES = 8, CAUSES = 35, ARGUMENTS = 5 };
+/* how many objects of each kind a world has; how many buffers, values and drawn numbers a call is given at most; how many causes there may be */
+enum { EACH = 3, TEXTS = 2, VALUES = 8, CAUSES = 64, ARGUMENTS = 5 };
 
 /* which values have the lengths of the texts, and how many bytes of the input were used */
 enum { COUNTS = 5, USED = 7 };
