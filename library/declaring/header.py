@@ -63,8 +63,13 @@ def comment_of(call, causes):
     return "/* " + "\n * ".join(lines).replace(LAST, " */")
 
 
+def sections(files):
+    """The sections that have calls, in the order of the header."""
+    return [name for _, what, name in LINE.findall(numbers.text_of(files, TEMPLATE)) if what == "calls"]
+
+
 def calls_of(section, files):
-    """The calls of a section: those without an own comment in C are declared at the head of the header."""
+    """The calls of a section, but the one that is the number of the interface, which stands at the head of the header."""
     causes = {it.name for it in numbers.causes_of(files)}
     calls = [it for it in exports.calls_of(section, files) if not it.name.startswith("vintsaky_interface_")]
     return "\n\n".join(f"{comment_of(it, causes)}\n{declaration(it)}" for it in calls)

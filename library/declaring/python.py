@@ -1,12 +1,11 @@
 """Modules of the Python package: `_declared.py`, with the table of the calls, and `_numbers.py`, with the numbers of which much is said."""
 import textwrap
 
-from . import exports, numbers
+from . import exports, header, numbers
 
 DECLARED = "library/python/vintsaky/_declared.py"
 NUMBERS = "library/python/vintsaky/_numbers.py"
 WIDTH = 120
-SECTIONS = ("library", "values", "writing", "game", "engine", "matches", "lines", "replies")  # in the order of the table
 ENUMS = ("losses", "endings")  # the kinds that are enumerations of _numbers.py
 HANDLES = {
     "game": "a game: where it is",
@@ -81,7 +80,7 @@ def declared(files):
     """The module of the table."""
     constants = "".join(f"{name} = {number}\n" for name, number in constants_of(files).items())
     handles = "".join(HANDLE.format(name.title(), said) for name, said in HANDLES.items())
-    rows = [row_of(it) for section in SECTIONS for it in exports.calls_of(section, files)]
+    rows = [row_of(it) for section in header.sections(files) for it in exports.calls_of(section, files)]
     return f"{HEAD_OF_DECLARED}\n{constants}{handles}{HEAD_OF_TABLE}{''.join(rows)}}}\n"
 
 

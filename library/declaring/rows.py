@@ -7,8 +7,7 @@ import re
 import textwrap
 from dataclasses import dataclass, field
 
-from . import exports, numbers
-from .python import SECTIONS
+from . import exports, header, numbers
 from .texts import Mistake, snake
 
 PATH = "tests/stages/of_library_in_c/rows.h"
@@ -241,7 +240,7 @@ def table(files):
         for cause in [it for it in exports.causes_of(call, calls) if it not in known]:
             raise Mistake(f"{call.name}: its errors name {cause}, which is no cause")
     sections = []
-    for section in SECTIONS:
+    for section in header.sections(files):
         shown = [it for it in exports.calls_of(section, files) if not LEFT_OUT.fullmatch(it.name)]
         sections.append("\n".join(row_of(it, calls) for it in shown))
     return HEAD + "\n" + "\n\n".join(sections) + "\n"
