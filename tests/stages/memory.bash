@@ -115,7 +115,7 @@ memory 'two games on the smallest board' "$line"$'\n'"${line/1/2}"$'\n' \
 memory 'a program that is given up and started again' $'game 1: B+8.5 moves 7 restarts 3 0\nB1 pass B2 pass B3 pass pass\n' \
     twogtp --black "$engine --policy book --book B1,,B2,,B3 --fault stop:2" --white "$engine --policy book --book B1,,B2,,B3" \
     --size 3 --komi 0.5 --restarts 3 --record
-# White refuses Black's seventh move, which makes the board again that stood after the first; tests/stages/matches.bash has this game.
+# White refuses Black's seventh move, which makes the board again that stood after the first; tests/stages/matches.py has this game.
 refused='the play was refused' lines=''
 for number in 10 11 12 13; do
     lines+="twogtp: game 1: white: 1 unanswered, \"$number play b A1\": $refused"
