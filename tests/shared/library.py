@@ -2,8 +2,10 @@
 
 In each language there are two: random_engine, which plays at random, and play_match, which plays a match as twogtp does.
 """
+import random
 import re
 import shutil
+from typing import NamedTuple
 from unittest import SkipTest
 
 from tests.shared import checks, running
@@ -14,6 +16,10 @@ EXAMPLES = ("random_engine", "play_match")
 WARN = ("-Wall", "-Wextra", "-pedantic")
 MOST_LINES = 60  # that an example may have
 LIMIT = 300  # seconds that a match may take
+FAULTS = ["none", "none", "stop:{n}", "cut:{n}:{k}", "junk:{n}", "flood:{n}"]
+VERDICTS = {
+    "score": r"[BW]\+[0-9.]+|0", "resignation": r"[BW]\+R", "limit": "limit", "forfeit": r"[BW]\+F\(.*\)", "abandoned": "abandoned .*",
+}  # fmt: skip
 
 
 def lacks(files=(), tools=()):
@@ -63,3 +69,61 @@ def complaints(engine):
     """How gtp_check ends that looks at an engine: its status, and the end of its last line."""
     status, output, _ = running.run(["bin/gtp_check", "--quick", engine], limit=LIMIT)
     return status, output.rstrip("\n").rpartition(", ")[2]
+
+
+# ---- games and matches of the examples in other languages
+
+
+def finished(line):
+    """Was this game played to its end?"""
+    return bool(re.match(rf"game 1: ({VERDICTS['score']}|limit) moves ", line))
+
+
+def killed(engine, kept, other, *options):
+    """A game of Black, an engine that is killed at its third genmove after each start, and after so many bytes of the reply. What has to
+    come of it, and what comes: is it finished, and how often was each side started again? Each start of Black plays two moves."""
+    line = twogtp(f"tests/engines/hostile/dies 3 {kept} {engine}", other, "--size", "5", "--restarts", "1000", *options).output
+    moves = re.search(r" moves ([0-9]+)", line)
+    starts = (int(moves[1]) + 1) // 2 if moves else 0
+    return (True, [((starts - 1) // 2, 0)]), (finished(line), restarts(line))
+
+
+class Match(NamedTuple):
+    """A match: the size, twice the komi, and the commands of both engines, in which `@` is the example's."""
+
+    size: int
+    half_komi: int
+    black: str
+    white: str
+
+    def of(self, engine):
+        """The match in which the example has this command."""
+        return self._replace(black=self.black.replace("@", str(engine)), white=self.white.replace("@", str(engine)))
+
+    def by_twogtp(self, *options):
+        """The line that twogtp writes of it."""
+        return twogtp(self.black, self.white, "--size", self.size, f"--komi={self.half_komi / 2:g}", *options).output
+
+
+def drawn_matches(seed, count):
+    """So many drawn matches."""
+    r = random.Random(seed)
+    for _ in range(count):
+        size = r.choice([1, 2, 2, 2, 3, 4, 5, 7, 9])
+        yield Match(size, r.randint(-20, 20), drawn_engine(r, size), drawn_engine(r, size))
+
+
+def drawn_engine(r, size):
+    """The command of a drawn engine: mostly one of ours, at times with a fault."""
+    fault = r.choice(FAULTS).format(n=r.randint(1, 12), k=r.randint(0, 9))
+    rule = r.choice(["simple", "simple", "positional"])
+    book = ",".join(r.choice(["", "pass", "resign", f"{r.choice('ABCDEFGHJ'[:size])}{r.randint(1, size)}"]) for _ in range(9))
+    ours = f"bin/gtp_engine --fault {fault} --ko {rule} --policy "
+    seed = r.randint(0, 2**32 - 1)
+    return r.choice([f"@ {seed}", f"{ours}book --book {book}", *[f"{ours}first", f"{ours}random --seed {seed}"] * 3])
+
+
+def unseen(lines):
+    """The ends of a match that none of these has, and restarts."""
+    ends = {end for end, form in VERDICTS.items() if any(re.match(rf"game 1: ({form}) moves ", line) for line in lines)}
+    return {*VERDICTS, "restarts"} - ends - ({"restarts"} if any(not line.endswith(" 0 0\n") for line in lines) else set())

@@ -6,24 +6,24 @@ bytes each time, and is installed into an environment of its own without a netwo
 engine plays whole games under twogtp, also where it is killed; gtp_check finds nothing in it; and it stands beside the reference on drawn
 conversations. The tournament program gives twogtp's lines on drawn matches.
 
-usage: tests/stages/library_in_python.py [--library FOLDER] [--matches N]
-It needs the programs in bin/, and bin/libvintsaky.so.1. What isn't there is a line `skipped: ..`. Each check is a line, and the last line
-is 'N passed, M failed'.
+It needs the programs in bin/, and bin/libvintsaky.so.1; what isn't there is skipped.
 """
-import argparse
 import base64
 import hashlib
+import importlib
 import importlib.util
 import os
 import platform
 import random
 import re
 import shutil
-import subprocess
 import sys
 import tempfile
+import unittest
 import zipfile
+from functools import lru_cache
 from pathlib import Path
+from unittest import SkipTest, mock
 
 sys.dont_write_bytecode = True
 sys.path[0] = str(Path(__file__).resolve().parents[2])
@@ -31,17 +31,23 @@ sys.path[0] = str(Path(__file__).resolve().parents[2])
 from tests.references.engine import chosen, stepped, values  # noqa: E402
 from tests.references.engine import game as rules  # noqa: E402
 from tests.references.engine.conversations import KINDS  # noqa: E402
+from tests.shared import checks, library, running  # noqa: E402
+from tests.shared.library import MOST_LINES, TOP, Match, finished, twogtp  # noqa: E402
 
-TOP = Path(__file__).resolve().parents[2]
+PARSER = checks.Parser(__doc__)
+PARSER.add_argument("--library", type=Path, default=TOP / "bin", help="the folder of libvintsaky.so.1; else bin/")
+PARSER.add_argument("--matches", type=int, default=40, help="how many matches are drawn; else 40")
+OPTIONS = PARSER.options(__name__)
+LIBRARY = OPTIONS.library.resolve() / "libvintsaky.so.1"
 PACKAGE = TOP / "library/python"
+EXAMPLES = sorted((PACKAGE / "examples").glob("*.py"))
 ENGINE = f"{sys.executable} {PACKAGE}/examples/random_engine.py"
+OURS = "bin/gtp_engine --policy random --seed 9"
+FOLDER = tempfile.TemporaryDirectory()
+ROOM = Path(FOLDER.name).resolve()
 LIMIT = 300  # seconds that a command may take
-MOST_LINES = 60  # that an example may have
 LEAST_TESTS = 100
-FAULTS = ["none", "none", "stop:{n}", "cut:{n}:{k}", "junk:{n}", "flood:{n}"]
-VERDICTS = {
-    "score": r"[BW]\+[0-9.]+|0", "resignation": r"[BW]\+R", "limit": "limit", "forfeit": r"[BW]\+F\(.*\)", "abandoned": "abandoned .*",
-}  # fmt: skip
+AT_ONCE = 2  # games and matches that are played at a time
 CAUSES = {"OFF_BOARD", "OCCUPIED", "SUICIDE", "KO"}
 # What the reference of an engine in steps returns, where it isn't the name of the cause.
 RETURNED = {"OFF_BOARD": "off the board", "BLACK": "asked b", "WHITE": "asked w"}
@@ -66,24 +72,9 @@ Engine().serve()
 """
 
 
-class Checks:
-    """Counts the checks, and prints a line each."""
-
-    def __init__(self):
-        self.passed = self.failed = 0
-
-    def check(self, name, wanted, got):
-        """Passes where the two are the same."""
-        right = wanted == got
-        self.passed += right
-        self.failed += not right
-        print(f"ok: {name}" if right else f"FAILED: {name}\n--- wanted\n{wanted}\n--- got\n{got}\n---", flush=True)
-
-
-def run(command, **options):
-    """The status of a command, its output, and what it wrote to its standard error."""
-    done = subprocess.run(command, capture_output=True, text=True, timeout=LIMIT, **{"cwd": TOP, **options})
-    return done.returncode, done.stdout, done.stderr
+def run(command, **how):
+    """What comes of a command."""
+    return running.run(command, limit=LIMIT, **how)
 
 
 def files_of(folder):
@@ -91,46 +82,76 @@ def files_of(folder):
     return {path: path.read_bytes() for path in sorted(folder.rglob("*")) if path.is_file()}
 
 
+BEFORE = files_of(PACKAGE)
+
+
+def setUpModule():
+    """All processes take the package from the tree, and this library."""
+    changed = dict(VINTSAKY_LIBRARY=str(LIBRARY), PYTHONPATH=str(PACKAGE), PYTHONDONTWRITEBYTECODE="1")
+    patch = mock.patch.dict(os.environ, changed)
+    patch.start()
+    unittest.addModuleCleanup(patch.stop)
+
+
+class Needing(library.Needing):
+    """Checks that are skipped where the library or a program isn't there."""
+
+    FILES = (LIBRARY, TOP / "bin/twogtp", TOP / "bin/gtp_engine")
+
+
 # ---- the package
 
 
-def check_examples(checks):
-    """Are the examples short?"""
-    for example in sorted((PACKAGE / "examples").glob("*.py")):
-        count = len(example.read_text().splitlines())
-        checks.check(f"{example.name} has at most {MOST_LINES} lines", True, count <= MOST_LINES)
+@checks.table(EXAMPLES, lambda example: f"{example.name} has at most {MOST_LINES} lines")
+class Examples(checks.Case):
+    """The examples are short."""
+
+    def row(self, example):
+        self.same(True, len(example.read_text().splitlines()) <= MOST_LINES)
 
 
-def check_tests(checks):
-    """Do the tests pass, which try the examples of the docstrings too, by each Python that is there?"""
+def pythons():
+    """Each Python that is there, by its version: this one, and those of the name python3.N."""
     others = [shutil.which(f"python3.{number}") for number in range(9, 30)]
     named = {}
     for python in [sys.executable, *filter(None, others)]:
         status, version, _ = run([python, "-c", "import sys; print('%d.%d' % sys.version_info[:2])"])
         if status == 0:
             named.setdefault(version.strip(), python)
-    for version, python in named.items():
-        status, output, errors = run([python, "-m", "unittest", "-q"], cwd=PACKAGE)
-        found = re.search(r"^Ran ([0-9]+) tests", errors, re.M)
-        count = int(found[1]) if found else 0
-        checks.check(f"{count} tests by Python {version}", (0, True), (status, count >= LEAST_TESTS))
-        if status:
-            print(output[-1000:] + errors[-4000:])
+    return named
 
 
-def check_tools(checks):
+class Tests(Needing):
+    """The tests of the package."""
+
+    def test_tests(self):
+        """The tests, which try the examples of the docstrings too, by each Python that is there."""
+        for version, python in pythons().items():
+            status, output, errors = run([python, "-m", "unittest", "-q"], cwd=PACKAGE)
+            found = re.search(r"^Ran ([0-9]+) tests", errors, re.M)
+            count = int(found[1]) if found else 0
+            self.check(f"{count} tests by Python {version}", (0, True, ""),
+                       (status, count >= LEAST_TESTS, output[-1000:] + errors[-4000:] if status else ""))  # fmt: skip
+
+
+TOOLS = {"mypy": ["--cache-dir", os.devnull, "--no-incremental"], "ruff": ["check", "--no-cache", "vintsaky", "examples"]}
+
+
+@checks.table(TOOLS, lambda tool: f"{tool} finds nothing")
+class Tools(Needing):
     """What mypy and ruff say, where they are there."""
-    mypy, ruff = ["--cache-dir", os.devnull, "--no-incremental"], ["check", "--no-cache", "vintsaky", "examples"]
-    for tool, words in (("mypy", mypy), ("ruff", ruff)):
-        if shutil.which(tool) or importlib.util.find_spec(tool):
-            command = [tool] if shutil.which(tool) else [sys.executable, "-m", tool]
-            status, output, errors = run([*command, *words], cwd=PACKAGE)
-            checks.check(f"{tool} finds nothing", (0, ""), (status, output + errors if status else ""))
-        else:
-            print(f"skipped: there is no {tool}")
+
+    def row(self, tool):
+        if not (shutil.which(tool) or importlib.util.find_spec(tool)):
+            self.skipTest(f"there is no {tool}")
+        command = [tool] if shutil.which(tool) else [sys.executable, "-m", tool]
+        status, output, errors = run([*command, *TOOLS[tool]], cwd=PACKAGE)
+        self.same((0, ""), (status, output + errors if status else ""))
 
 
 # ---- the wheel
+
+INFO = "vintsaky-1.0.0.dist-info/"
 
 
 def hash_of(data):
@@ -138,66 +159,104 @@ def hash_of(data):
     return "sha256=" + base64.urlsafe_b64encode(hashlib.sha256(data).digest()).rstrip(b"=").decode()
 
 
-def check_wheel(checks, room, library):
-    """Makes the wheel twice, from two copies of the package, and looks at what is in it. Returns it, or None."""
-    wheels = []
-    for number, (umask, time) in enumerate([(0o022, 10**9), (0o077, 1.5 * 10**9)]):
-        copied, made = room / f"copy{number}", room / f"wheel{number}"
-        shutil.copytree(PACKAGE, copied)
-        made.mkdir()
-        for path in copied.rglob("*"):
-            path.chmod(0o777 & ~umask)
-            os.utime(path, (time, time))
-        status, output, errors = run([sys.executable, copied / "make_wheel", library, made], cwd=made)
-        checks.check(f"a wheel is made: {output.strip()}", (0, ""), (status, errors))
-        wheels += made.glob("*.whl")
-    if len(wheels) != 2:
-        return None
-    checks.check("the same wheel is made again", True, wheels[0].read_bytes() == wheels[1].read_bytes())
-    wanted = f"vintsaky-1.0.0-py3-none-linux_{platform.machine()}.whl"
-    checks.check("the wheel is for this processor", [wanted] * 2, [wheel.name for wheel in wheels])
-    with zipfile.ZipFile(wheels[0]) as archive:
-        files = {name: archive.read(name) for name in archive.namelist()}
-    info = "vintsaky-1.0.0.dist-info/"
-    lines = [f"{name},{hash_of(data)},{len(data)}" for name, data in files.items() if name != info + "RECORD"]
-    checks.check("RECORD has each file", {*lines, info + "RECORD,,"}, set(files[info + "RECORD"].decode().splitlines()))
-    sources = {f"vintsaky/{path.name}": path.read_bytes() for path in (PACKAGE / "vintsaky").iterdir() if path.is_file()}
-    packed = {name: data for name, data in files.items() if name.startswith("vintsaky/")}
-    checks.check("the package and the library are in it", {**sources, "vintsaky/libvintsaky.so.1": library.read_bytes()}, packed)
-    python = os.path.realpath(sys.executable)  # a program of this processor
-    said = files[info + "METADATA"].decode()
-    checks.check("METADATA names no licence", [], [line for line in said.splitlines() if "licen" in line.lower()])
-    for words in ([], [library], [room / "nothing", room], [PACKAGE / "make_wheel", room], [python, room],
-                  [library, room / "nothing"]):  # fmt: skip
-        status, output, errors = run([sys.executable, PACKAGE / "make_wheel", *words], cwd=room)
-        wanted = (2 if len(words) < 2 else 1, "", 1)
-        names = " ".join("." if word == room else Path(word).name for word in words)
-        checks.check(f"a mistake is said: make_wheel {names}", wanted, (status, output, errors.count("\n")))
-    return wheels[0]
+@lru_cache(maxsize=None)
+def wheels():
+    """Makes the wheel twice, from two copies of the package with other rights and dates. What comes of both, and the wheels."""
+    return [wheel_of(ROOM / f"copy{number}", *how) for number, how in enumerate([(0o022, 10**9), (0o077, 1.5 * 10**9)])]
 
 
-def check_installed(checks, room, wheel):
-    """Installs the wheel, and imports the package there. The library in it is taken before any other."""
-    if not (importlib.util.find_spec("venv") and importlib.util.find_spec("ensurepip")):
-        print("skipped: there is no venv")
-        return
-    python = room / "venv/bin/python"
-    status, _, errors = run([sys.executable, "-m", "venv", room / "venv"])
-    if status:
-        print(f"skipped: no environment can be made: {errors.strip()[-100:]}")
-        return
-    words = ["--no-index", "--disable-pip-version-check", "--no-compile", "-q", wheel]
-    checks.check("the wheel is installed", (0, "", ""), run([python, "-m", "pip", "install", *words], cwd=room))
-    checks.check("nothing is missing there", 0, run([python, "-m", "pip", "check"], cwd=room)[0])
-    environment = {name: value for name, value in os.environ.items() if name != "PYTHONPATH"}
-    environment["VINTSAKY_LIBRARY"] = "/nothing"
-    text = "import vintsaky; g = vintsaky.Game(2); g.play('b', 'A1'); print(g); print(vintsaky.__file__)"
-    where = next((room / "venv").glob("lib/python*/site-packages/vintsaky/__init__.py"))
-    wanted = (0, f". . 2\nX . 1\nA B\ncaptures B 0 W 0\n{where}\n", "")
-    checks.check("the package is imported there", wanted, run([python, "-c", text], cwd=room, env=environment))
+def wheel_of(folder, umask, time):
+    """What comes of making a wheel from a copy in this folder, and the wheels that are there then."""
+    copied, made = folder / "package", folder / "made"
+    shutil.copytree(PACKAGE, copied)
+    made.mkdir()
+    for path in copied.rglob("*"):
+        path.chmod(0o777 & ~umask)
+        os.utime(path, (time, time))
+    return run([sys.executable, copied / "make_wheel", LIBRARY, made], cwd=made), list(made.glob("*.whl"))
+
+
+def files_in(wheel):
+    """Each file of a wheel, with its bytes."""
+    with zipfile.ZipFile(wheel) as archive:
+        return {name: archive.read(name) for name in archive.namelist()}
+
+
+PROGRAM_HERE = os.path.realpath(sys.executable)  # a program of this processor
+NO_WHEELS = ([], [LIBRARY], ["nothing", "."], [PACKAGE / "make_wheel", "."], [PROGRAM_HERE, "."], [LIBRARY, "nothing"])
+
+
+@checks.table(NO_WHEELS, lambda words: f"a mistake is said: make_wheel {' '.join(Path(word).name or '.' for word in words)}")
+class Wheel(Needing):
+    """The wheel."""
+
+    def test_made(self):
+        """Two wheels."""
+        for (status, output, errors), made in wheels():
+            self.check(f"a wheel is made: {output.strip()}", (0, "", 1), (status, errors, len(made)))
+
+    def test_same(self):
+        """the same wheel is made again."""
+        (_, [one]), (_, [other]) = wheels()
+        self.assertTrue(one.read_bytes() == other.read_bytes(), "they differ")
+
+    def test_named(self):
+        """the wheel is for this processor."""
+        wanted = f"vintsaky-1.0.0-py3-none-linux_{platform.machine()}.whl"
+        self.same(2 * [[wanted]], [[wheel.name for wheel in made] for _, made in wheels()])
+
+    def test_files(self):
+        """What is in it."""
+        files = files_in(wheels()[0][1][0])
+        lines = [f"{name},{hash_of(data)},{len(data)}" for name, data in files.items() if name != INFO + "RECORD"]
+        self.check("RECORD has each file", sorted([*lines, INFO + "RECORD,,"]), sorted(files[INFO + "RECORD"].decode().splitlines()))
+        sources = {f"vintsaky/{path.name}": path.read_bytes() for path in (PACKAGE / "vintsaky").iterdir() if path.is_file()}
+        wanted = {**sources, "vintsaky/libvintsaky.so.1": LIBRARY.read_bytes()}
+        packed = {name: data for name, data in files.items() if name.startswith("vintsaky/")}
+        differing = sorted(name for name in {*wanted, *packed} if wanted.get(name) != packed.get(name))
+        self.check("the package and the library are in it", [], differing)
+        said = files[INFO + "METADATA"].decode()
+        self.check("METADATA names no licence", [], [line for line in said.splitlines() if "licen" in line.lower()])
+
+    def row(self, words):
+        status, output, errors = run([sys.executable, PACKAGE / "make_wheel", *words], cwd=self.room())
+        self.same((2 if len(words) < 2 else 1, "", 1), (status, output, errors.count("\n")))
+
+
+class Installed(Needing):
+    """the wheel, installed. The library in it is taken before any other."""
+
+    @classmethod
+    def setUpClass(cls):
+        super().setUpClass()
+        if not (importlib.util.find_spec("venv") and importlib.util.find_spec("ensurepip")):
+            raise SkipTest("there is no venv")
+        status, _, errors = run([sys.executable, "-m", "venv", ROOM / "venv"])
+        if status:
+            raise SkipTest(f"no environment can be made: {errors.strip()[-100:]}")
+
+    def test_installed(self):
+        """An environment of its own."""
+        python, ((_, [wheel]), _) = ROOM / "venv/bin/python", wheels()
+        words = ["--no-index", "--disable-pip-version-check", "--no-compile", "-q", wheel]
+        self.check("the wheel is installed", (0, "", ""), tuple(run([python, "-m", "pip", "install", *words], cwd=ROOM)))
+        self.check("nothing is missing there", 0, run([python, "-m", "pip", "check"], cwd=ROOM).status)
+        environment = {name: value for name, value in os.environ.items() if name != "PYTHONPATH"}
+        environment["VINTSAKY_LIBRARY"] = "/nothing"
+        text = "import vintsaky; g = vintsaky.Game(2); g.play('b', 'A1'); print(g); print(vintsaky.__file__)"
+        where = next((ROOM / "venv").glob("lib/python*/site-packages/vintsaky/__init__.py"), None)
+        wanted = (0, f". . 2\nX . 1\nA B\ncaptures B 0 W 0\n{where}\n", "")
+        self.check("the package is imported there", wanted, tuple(run([python, "-c", text], cwd=ROOM, env=environment)))
 
 
 # ---- games
+
+
+def package():
+    """The package, as it lies in the tree."""
+    if str(PACKAGE) not in sys.path:
+        sys.path.insert(0, str(PACKAGE))
+    return importlib.import_module("vintsaky")
 
 
 def differences(vintsaky, r):
@@ -231,15 +290,6 @@ def differences(vintsaky, r):
         if (str(game).encode(), game.score * 2, len(game.moves)) != (plain.show(), plain.score(), len(plain.moves)):
             return f"the board after {plain.moves}"
     return None
-
-
-def check_games(checks, count):
-    """Are drawn games those of the reference?"""
-    sys.path.insert(0, str(PACKAGE))
-    import vintsaky
-
-    odd = [differences(vintsaky, random.Random(f"game {number}")) for number in range(count)]
-    checks.check(f"{count} drawn games are the reference's", [], [each for each in odd if each])
 
 
 def by_steps(vintsaky, steps, name, data):
@@ -277,143 +327,138 @@ def odd_steps(vintsaky, seed):
     return None
 
 
-def check_steps(checks, count):
-    """Do engines in steps return what the reference's do, on this many drawn lists of calls?"""
-    import vintsaky
+class Games(Needing):
+    """Drawn games and drawn calls beside the reference."""
 
-    odd = [odd_steps(vintsaky, seed) for seed in range(count)]
-    checks.check(f"{count} drawn lists of calls of an engine in steps return the reference's", [], [each for each in odd if each])
+    def test_games(self):
+        """100 drawn games are the reference's."""
+        odd = [differences(package(), random.Random(f"game {number}")) for number in range(100)]
+        self.same([], [each for each in odd if each])
+
+    def test_steps(self):
+        """60 drawn lists of calls of an engine in steps return the reference's."""
+        odd = [odd_steps(package(), seed) for seed in range(60)]
+        self.same([], [each for each in odd if each])
 
 
 # ---- the engine
 
 
-def twogtp(black, white, *words):
-    """The lines of twogtp, and what the engines wrote to standard error."""
-    _, output, errors = run(["bin/twogtp", "--black", black, "--white", white, *words])
-    return output, errors
+class Engine(Needing):
+    """The engine under twogtp and gtp_check."""
+
+    def test_whole(self):
+        """Whole games."""
+        for seed in (1, 2):
+            came, again = (twogtp(f"{ENGINE} {seed}", OURS, "--size", "9", "--komi", "7.5") for _ in range(2))
+            self.check(f"a whole game with seed {seed}", (True, [(0, 0)], ""),
+                       (finished(came.output), library.restarts(came.output), came.errors))  # fmt: skip
+            self.check(f"the same game again with seed {seed}", came.output, again.output)
+
+    def test_killed(self):
+        """Games in which it is killed."""
+        for seed, kept in [(1, 0), (2, 0), (3, 6)]:
+            self.check(f"a whole game of an engine that is killed, with seed {seed}",
+                       *library.killed(f"{ENGINE} {seed}", kept, OURS, "--max-moves", "60"))  # fmt: skip
+
+    def test_checked(self):
+        """gtp_check finds nothing."""
+        if not (TOP / "bin/gtp_check").is_file():
+            self.skipTest("there is no bin/gtp_check")
+        self.same((0, "0 complaints"), library.complaints(ENGINE))
 
 
-def finished(line):
-    """Was this game played to its end?"""
-    return bool(re.match(rf"game 1: ({VERDICTS['score']}|limit) moves ", line))
+def odd_conversations(kind):
+    """What is wrong in the drawn conversations of this kind."""
+    return chosen.failures([*ENGINE.split(), "5"], kind, chosen.counted(kind, 6), "python", name=b"random_engine")
 
 
-def check_engine(checks):
-    """Plays the engine by twogtp, and examines it."""
-    ours = "bin/gtp_engine --policy random --seed 9"
-    for seed in (1, 2):
-        line, errors = twogtp(f"{ENGINE} {seed}", ours, "--size", "9", "--komi", "7.5")
-        checks.check(f"a whole game with seed {seed}", (True, True, ""), (finished(line), line.endswith(" restarts 0 0\n"), errors))
-        again = twogtp(f"{ENGINE} {seed}", ours, "--size", "9", "--komi", "7.5")
-        checks.check(f"the same game again with seed {seed}", line, again[0])
-    # It is killed at its third genmove after each start, so each start plays two moves.
-    for seed, kept in [(1, 0), (2, 0), (3, 6)]:
-        line, _ = twogtp(f"tests/engines/hostile/dies 3 {kept} {ENGINE} {seed}", ours,
-                         "--size", "5", "--restarts", "1000", "--max-moves", "60")
-        moves = (int(re.search(r" moves ([0-9]+)", line)[1]) + 1) // 2
-        wanted = (True, f"{(moves - 1) // 2} 0\n")
-        checks.check(f"a whole game of an engine that is killed, with seed {seed}", wanted, (finished(line), line.split("restarts ")[1]))
-    if (TOP / "bin/gtp_check").is_file():
-        status, output, _ = run(["bin/gtp_check", "--quick", ENGINE])
-        checks.check("gtp_check finds nothing", (0, True), (status, " 0 complaints" in output.splitlines()[-1]))
-    else:
-        print("skipped: there is no bin/gtp_check")
-    checks.check("the reference judges the worked outputs rightly", [], chosen.misjudged())
-    for kind, (what, *_) in KINDS.items():
-        count = chosen.counted(kind, 6)
-        wrong = chosen.failures([*ENGINE.split(), "5"], kind, count, "python", name=b"random_engine")
-        checks.check(f"{count} conversations of {what} are the reference's", [], wrong)
+@checks.table(KINDS, lambda kind: f"{chosen.counted(kind, 6)} conversations of {KINDS[kind][0]} are the reference's", odd_conversations,
+              AT_ONCE)  # fmt: skip
+class Conversations(Needing):
+    """Drawn conversations."""
+
+    def test_judged(self):
+        """the reference judges the worked outputs rightly."""
+        self.same([], chosen.misjudged())
+
+    def row(self, _, wrong):
+        self.same([], wrong)
 
 
-def check_authors(checks, room):
-    """Plays engines whose authors made a mistake: each goes down at its second move, and again after a restart."""
-    first = "bin/gtp_engine --policy first"
-    for name, deed in {"prints": PRINTS, **WRONG}.items():
-        program = room / f"{name.replace(' ', '_')}.py"
+@checks.table(WRONG, lambda name: f"an engine that {name} is told by its traceback")
+class Authors(Needing):
+    """Engines of other authors."""
+
+    def play(self, deed):
+        """What comes of a match of an engine whose `choose` does this at its second move, and again after a restart."""
+        program = self.room() / "engine.py"
         program.write_text(PROGRAM.format(deed))
-        line, errors = twogtp(f"{sys.executable} {program}", first, "--size", "5", "--max-moves", "4", "--restarts", "1")
-        if name == "prints":
-            checks.check("what an engine prints goes to standard error", ("game 1: limit moves 4 restarts 0 0\n", True),
-                         (line, all(text in errors for text in ("a thought\n", "another\n", "and more\n"))))  # fmt: skip
-        else:
-            got = line, errors.count("Traceback (most recent call last)") >= 2
-            checks.check(f"an engine that {name} is told by its traceback", ("game 1: abandoned black moves 2 restarts 1 0\n", True), got)
+        words = ("--size", "5", "--max-moves", "4", "--restarts", "1")
+        return twogtp(f"{sys.executable} {program}", "bin/gtp_engine --policy first", *words)
+
+    def test_prints(self):
+        """what an engine prints goes to standard error."""
+        _, line, errors = self.play(PRINTS)
+        self.same(("game 1: limit moves 4 restarts 0 0\n", []),
+                  (line, [text for text in ("a thought\n", "another\n", "and more\n") if text not in errors]))  # fmt: skip
+
+    def row(self, name):
+        _, line, errors = self.play(WRONG[name])
+        self.same(("game 1: abandoned black moves 2 restarts 1 0\n", True), (line, errors.count("Traceback (most recent call last)") >= 2))
 
 
 # ---- the tournament program
 
-
-def drawn_engine(r, size):
-    """The command of a drawn engine: mostly one of ours, at times with a fault."""
-    fault = r.choice(FAULTS).format(n=r.randint(1, 12), k=r.randint(0, 9))
-    rule = r.choice(["simple", "simple", "positional"])
-    book = ",".join(r.choice(["", "pass", "resign", f"{r.choice('ABCDEFGHJ'[:size])}{r.randint(1, size)}"]) for _ in range(9))
-    ours = f"bin/gtp_engine --fault {fault} --ko {rule} --policy "
-    seed = r.randint(0, 2**32 - 1)
-    return r.choice([f"{ENGINE} {seed}", f"{ours}book --book {book}", *[f"{ours}first", f"{ours}random --seed {seed}"] * 3])
+PLAY_MATCH = [sys.executable, PACKAGE / "examples/play_match.py"]
+MATCHES = [
+    *(match.of(ENGINE) for match in library.drawn_matches(3, OPTIONS.matches)),
+    Match(5, 0, "no_such_program", "cat"), Match(9, 1, "bin/gtp_engine", "cat"), Match(2, 0, "bin/gtp_engine", "bin/gtp_engine"),
+]  # fmt: skip
+MISTAKES = ("", "9 0 cat", "26 0 cat cat", f"9 {2**32} cat cat", "x 0 cat cat", "9 0 cat ")
 
 
-def check_match(checks, count):
-    """Does the tournament program give twogtp's line, on this many drawn matches?"""
-    play_match = [sys.executable, str(PACKAGE / "examples/play_match.py")]
-    r = random.Random(3)
-    seen = set()
-    drawn = []
-    for _ in range(count):
-        size = r.choice([1, 2, 2, 2, 3, 4, 5, 7, 9])
-        drawn.append((size, r.randint(-20, 20), drawn_engine(r, size), drawn_engine(r, size)))
-    drawn += [(5, 0, "no_such_program", "cat"), (9, 1, "bin/gtp_engine", "cat"), (2, 0, "bin/gtp_engine", "bin/gtp_engine")]
-    for size, half_komi, black, white in drawn:
-        wanted, _ = twogtp(black, white, "--size", str(size), f"--komi={half_komi / 2:g}")
-        status, line, errors = run([*play_match, str(size), str(half_komi), black, white])
-        seen |= {verdict for verdict, form in VERDICTS.items() if re.match(rf"game 1: ({form}) moves ", wanted)}
-        seen |= {"restarts"} if not wanted.endswith(" 0 0\n") else set()
-        checks.check(f"a match on {size}x{size}: {wanted[8:].strip()}", (0, wanted, ""), (status, line, errors))
-    checks.check("the drawn matches end in each way", set(), {*VERDICTS, "restarts"} - seen)
-    for words in ("", "9 0 cat", "26 0 cat cat", f"9 {2**32} cat cat", "x 0 cat cat", "9 0 cat "):
-        status, line, errors = run([*play_match, *(words.split(" ") if words else [])])
-        checks.check(f"arguments with a mistake: '{words}'", (1, "", 1), (status, line, len(errors.splitlines())))
+@lru_cache(maxsize=None)
+def by_twogtp(match):
+    """The line that twogtp writes of a match."""
+    return match.by_twogtp()
 
 
-def missing(library):
-    """What isn't there that the checks need, or None."""
-    for needed in (library, TOP / "bin/twogtp", TOP / "bin/gtp_engine"):
-        if not needed.is_file():
-            return f"{needed} is not there"
-    return None
+def played(match):
+    """The line of twogtp, and what comes of the tournament program."""
+    return by_twogtp(match), run([*PLAY_MATCH, *match])
 
 
-def main():
-    """Runs the checks."""
-    parser = argparse.ArgumentParser(description=__doc__.split("\n\n")[0])
-    parser.add_argument("--library", type=Path, default=TOP / "bin", help="the folder of libvintsaky.so.1; else bin/")
-    parser.add_argument("--matches", type=int, default=40, help="how many matches are drawn; else 40")
-    options = parser.parse_args()
-    library = options.library.resolve() / "libvintsaky.so.1"
-    os.environ.update(VINTSAKY_LIBRARY=str(library), PYTHONPATH=str(PACKAGE), PYTHONDONTWRITEBYTECODE="1")
-    checks, before = Checks(), files_of(PACKAGE)
-    check_examples(checks)
-    why = missing(library)
-    if why:
-        print(f"skipped: the tests, the wheel, games and matches, since {why}")
-    else:
-        with tempfile.TemporaryDirectory() as name:
-            room = Path(name).resolve()
-            check_tests(checks)
-            check_tools(checks)
-            wheel = check_wheel(checks, room, library)
-            if wheel is not None:
-                check_installed(checks, room, wheel)
-            check_games(checks, 100)
-            check_steps(checks, 60)
-            check_engine(checks)
-            check_authors(checks, room)
-            check_match(checks, options.matches)
-    checks.check("nothing is left in the tree", True, before == files_of(PACKAGE))
-    print(f"{checks.passed} passed, {checks.failed} failed")
-    return 1 if checks.failed else 0
+@checks.table(MATCHES, lambda match: f"a match on {match.size}x{match.size} of {match.black} and {match.white}", played, AT_ONCE)
+class Matches(Needing):
+    """Matches of the tournament program."""
+
+    def row(self, match, came):
+        wanted, got = came
+        self.check(f"a match on {match.size}x{match.size}: {wanted[8:].strip()}", (0, wanted, ""), tuple(got))
+
+
+@checks.table(MISTAKES, lambda words: f"arguments with a mistake: '{words}'")
+class Arguments(Needing):
+    """The matches together, and mistakes in the arguments of the tournament program."""
+
+    def test_ends(self):
+        """the drawn matches end in each way."""
+        self.same(set(), library.unseen([by_twogtp(match) for match in MATCHES]))
+
+    def row(self, words):
+        status, line, errors = run([*PLAY_MATCH, *(words.split(" ") if words else [])])
+        self.same((1, "", 1), (status, line, len(errors.splitlines())))
+
+
+class Left(checks.Case):
+    """The last check of all."""
+
+    def test_left(self):
+        """nothing is left in the tree."""
+        after = files_of(PACKAGE)
+        self.same([], sorted(str(path) for path in {*BEFORE, *after} if BEFORE.get(path) != after.get(path)))
 
 
 if __name__ == "__main__":
-    sys.exit(main())
+    checks.main(OPTIONS)
