@@ -107,7 +107,6 @@ class Causes(Calls):
 
     def test_causes(self):
         """each cause that the comment of a call names came."""
-        # An engine whose record is full is asked for no choice: the command fails before.
         self.same(set(), set.intersection(*(set(drawn(seed)[0]) for seed in (1, 2, 3))))
 
     def test_shared(self):
