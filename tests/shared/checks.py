@@ -180,7 +180,10 @@ class Loader(unittest.TestLoader):
         return sorted(super().getTestCaseNames(case), key=written.index)
 
     def loadTestsFromModule(self, module):
-        cases = [it for it in vars(module).values() if isinstance(it, type) and issubclass(it, unittest.TestCase)]
+        return self.loadTestsFromCases([it for it in vars(module).values() if isinstance(it, type) and issubclass(it, unittest.TestCase)])
+
+    def loadTestsFromCases(self, cases):
+        """The tests of these cases."""
         return self.suiteClass([self.loadTestsFromTestCase(it) for it in dict.fromkeys(cases)])
 
 
@@ -288,17 +291,18 @@ def run(tests):
     return lines.passed > 0 and lines.failed == 0
 
 
-def main(options=None):
-    """Runs the checks of the stage that is run as a program, as the options choose them, and ends with the status."""
+def main(options=None, cases=None):
+    """Runs the checks of the stage that is run as a program, or of these of its cases, as the options choose them, and ends with the
+    status."""
     stage = sys.modules["__main__"]
     options = options or Parser(stage.__doc__).options("__main__")
     loader = Loader()
     loader.testNamePatterns = [pattern for text in options.k for pattern in patterns_of(text)] if options.k else None
-    tests = loader.loadTestsFromModule(stage)
+    tests = loader.loadTestsFromModule(stage) if cases is None else loader.loadTestsFromCases(cases)
     if not tests.countTestCases():
         sys.exit(f"no check has {' or '.join(map(repr, options.k or ['test']))} in its name")
     if options.list:
-        print(*[it.id().partition(".")[2] for it in tests_of(tests)], sep="\n")
+        print(*[".".join(it.id().split(".")[-2:]) for it in tests_of(tests)], sep="\n")
         sys.exit()
     try:
         sys.exit(0 if run(tests) else 1)

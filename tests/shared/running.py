@@ -19,8 +19,8 @@ class Came(NamedTuple):
     """What came of a command. Where it didn't end within its limit, and was killed, it has no status."""
 
     status: object
-    output: str
-    errors: str
+    output: object  # a text, or bytes where there is no encoding
+    errors: object
 
 
 def programs_in(folder):
@@ -78,9 +78,9 @@ def end_all():
 
 
 def run(words, text=None, limit=LIMIT, encoding="utf-8", spare=False, **how):
-    """Runs a command, which reads this text, or nothing."""
+    """Runs a command, which reads this text, or nothing. Without an encoding what it reads and writes is bytes."""
     how = {"stdin": subprocess.DEVNULL if text is None else subprocess.PIPE, **how}
-    with started(words, 2 * limit, spare, encoding=encoding, errors="backslashreplace", **how) as process:
+    with started(words, 2 * limit, spare, encoding=encoding, errors=encoding and "backslashreplace", **how) as process:
         try:
             output, errors = process.communicate(text, limit)
             status = process.returncode
@@ -88,4 +88,5 @@ def run(words, text=None, limit=LIMIT, encoding="utf-8", spare=False, **how):
             end(process.pid)
             output, errors = process.communicate()
             status = None
-    return Came(status, output or "", errors or "")
+    nothing = "" if encoding else b""
+    return Came(status, output or nothing, errors or nothing)

@@ -205,6 +205,14 @@ class Small(checks.Case):
         status, output, errors = self.came(TESTS, "-k", "third")
         self.same((1, "", "no check has 'third' in its name\n"), (status, output, errors))
 
+    def test_named(self):
+        """a stage that names some of its cases runs and lists these alone."""
+        file = self.stage(TESTS + TABLES)
+        file.write_text(file.read_text().replace("main(OPTIONS)", "main(OPTIONS, [Rows])"))
+        came = [running.run([sys.executable, file, *words], cwd=file.parent) for words in ([], ["--list"])]
+        ran = f"ok: row 0, doubled\nFAILED: row 1, doubled\n{differs(0, 2)}1 passed, 1 failed\n"
+        self.same([(1, ran, ""), (0, "Rows.test_row_0_doubled\nRows.test_row_1_doubled\n", "")], came)
+
     def test_cases(self):
         """a case that is skipped counts neither way, and one that can't begin has failed."""
         skipped = "skipped: a case that is skipped: there is nothing\n"
@@ -253,6 +261,15 @@ class Small(checks.Case):
             stage.send_signal(signal.SIGTERM)
             stage.communicate()
         self.same((130, False, ["2"]), (stage.returncode, is_there(left), [it.name for it in folder.iterdir()]))
+
+
+class Running(checks.Case):
+    """How a command is run."""
+
+    def test_bytes(self):
+        """without an encoding what a command reads and writes is bytes."""
+        self.same((0, b"\xff\r\n", b""), running.run(["cat"], b"\xff\r\n", encoding=None))
+        self.same((3, b"", b"\xfe"), running.run(["bash", "-c", r"printf '\376' >&2; exit 3"], encoding=None))
 
 
 class Bash(checks.Case):
