@@ -3,29 +3,34 @@
 
 The last reply of the right engine has to be what the bug's `right` says, and that of the wrong engine must not be. All
 replies before it have to be right, and the same by both. Then comes the opening of an ordinary game. A wrong engine
-answers it rightly, unless its bug says that it doesn't. Each bug is a line, and the last line is 'N passed, M failed'.
-The status is 1 where something failed.
-
-usage: tests/stages/wrong_engines.py [NAME..] [--off NAME]
+answers it rightly, unless its bug says that it doesn't. Each bug is a check.
 """
-import argparse
+import contextlib
 import os
 import re
 import subprocess
 import sys
 import tempfile
-import threading
-from concurrent.futures import ThreadPoolExecutor
 from pathlib import Path
 
 sys.dont_write_bytecode = True
-HERE = Path(__file__).resolve().parents[1] / "engines/wrong"
+sys.path[0] = str(Path(__file__).resolve().parents[2])
+
+from tests.shared import checks, running  # noqa: E402
+
+HERE = running.TOP / "tests/engines/wrong"
 sys.path.insert(0, str(HERE))
 
 from bugs import BUGS  # noqa: E402
 from talks import AGAIN  # noqa: E402
 
-AT_ONCE = 2  # bugs that are tried at a time
+PARSER = checks.Parser(__doc__)
+PARSER.add_argument("names", metavar="NAME", nargs="*", help="the bugs that are tried (all)")
+PARSER.add_argument("--off", metavar="NAME", choices=BUGS, help="a bug that is switched off, which has to fail")
+OPTIONS = PARSER.options(__name__)
+if set(OPTIONS.names) - set(BUGS):
+    PARSER.error("no such bug")
+
 MOST = 30  # seconds that one process has at most
 OPENING = ["boardsize 9", "komi 6.5", "clear_board", "play b C3", "play w G7", "play b C7", "play w G3", "genmove b"]
 OPENING = [f"{number} {line}" for number, line in enumerate(OPENING, 1)]
@@ -39,20 +44,17 @@ class Process:
 
     def __init__(self, options, folder):
         # -S leaves out what a machine adds to each start of Python
-        command = [sys.executable, "-S", str(HERE / "engine"), *options]
-        pipes = dict(stdin=subprocess.PIPE, stdout=subprocess.PIPE, stderr=subprocess.DEVNULL)
+        command = [sys.executable, "-S", HERE / "engine", *options]
         environment = {**os.environ, "WRONG_ENGINE_STATE": f"{folder}/state", "PYTHONPYCACHEPREFIX": COMPILED.name}
         environment.pop("PYTHONDONTWRITEBYTECODE", None)
-        self.process = subprocess.Popen(command, env=environment, **pipes)
-        self.timer = threading.Timer(MOST, self.process.kill)
-        self.timer.start()
+        self.until = contextlib.ExitStack()
+        started = running.started(command, MOST, env=environment, stdin=subprocess.PIPE, stderr=subprocess.DEVNULL)
+        self.process = self.until.enter_context(started)
 
     def say(self, text):
         """Writes lines at once; nothing where the engine has gone."""
-        try:
+        with contextlib.suppress(BrokenPipeError):
             os.write(self.process.stdin.fileno(), text.encode("latin-1"))
-        except BrokenPipeError:
-            pass
 
     def replies(self, number):
         """What the engine writes up to the end of so many replies, or up to its end."""
@@ -66,14 +68,11 @@ class Process:
 
     def close(self):
         """Closes its input. What it writes then, and its status."""
-        try:
-            self.process.stdin.close()
-        except BrokenPipeError:
-            pass
-        with self.process:
+        with self.until:
+            with contextlib.suppress(BrokenPipeError):
+                self.process.stdin.close()
             rest = self.process.stdout.read().decode("latin-1")
-        self.timer.cancel()
-        return rest, self.process.returncode
+            return rest, self.process.wait()
 
 
 class Talk:
@@ -175,36 +174,30 @@ def faults_of_the_opening(bug, options):
         yield f"the opening of an ordinary game is answered by {[*talk.before, talk.last]}, and `plain` is {bug.plain}"
 
 
-def checks(options):
-    """Each check's name, and what is odd about it."""
-    names = options.names or list(BUGS)
-    with ThreadPoolExecutor(AT_ONCE) as pool:
-        yield from zip(names, pool.map(lambda name: list(faults(name, BUGS[name], name == options.off)), names))
-    if not options.names:
+# ---- the checks
+
+
+@checks.table(OPTIONS.names or list(BUGS), str, lambda name: list(faults(name, BUGS[name], name == OPTIONS.off)))
+class Bugs(checks.Case):
+    """Each bug is shown by its conversation."""
+
+    def row(self, name, odd):
+        self.nothing("; ".join(odd))
+
+
+class All(checks.Case):
+    """All bugs."""
+
+    def test_families(self):
+        """There are enough bugs of each family."""
         families = [bug.family for bug in BUGS.values()]
         small = [family for family in dict.fromkeys(families) if families.count(family) < FEWEST_OF_A_FAMILY]
-        few = [*small, *["all"] * (len(families) < FEWEST)]
-        yield f"{len(families)} bugs of {len(set(families))} families", [f"too few: {text}" for text in few]
-        noticed = list(faults("no_ko", BUGS["no_ko"], True))
-        yield "a bug that is switched off is noticed", [] if noticed else ["it isn't"]
+        self.check(f"{len(families)} bugs of {len(set(families))} families", (True, []), (len(families) >= FEWEST, small))
 
-
-def main():
-    """Runs the checks."""
-    parser = argparse.ArgumentParser(description="Tries each wrong engine on the conversation that shows its bug.")
-    parser.add_argument("names", metavar="NAME", nargs="*", help="the bugs that are tried (all)")
-    parser.add_argument("--off", metavar="NAME", choices=BUGS, help="a bug that is switched off, which has to fail")
-    options = parser.parse_args()
-    if set(options.names) - set(BUGS):
-        parser.error("no such bug")
-    failed = passed = 0
-    for name, found in checks(options):
-        failed += bool(found)
-        passed += not found
-        print(f"FAILED: {name}: " + "; ".join(found) if found else f"ok: {name}", flush=True)
-    print(f"{passed} passed, {failed} failed")
-    sys.exit(1 if failed else 0)
+    def test_off(self):
+        """a bug that is switched off is noticed."""
+        self.assertTrue(list(faults("no_ko", BUGS["no_ko"], True)), "it isn't")
 
 
 if __name__ == "__main__":
-    main()
+    checks.main(OPTIONS, [Bugs] if OPTIONS.names else [Bugs, All])
