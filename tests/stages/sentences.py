@@ -6,16 +6,20 @@ and so does an item of a list. Words are separated by spaces, those of code betw
 is no word. A sentence ends with a point, a question mark or an exclamation mark before a space, unless a small letter follows. It
 also ends where its paragraph or its item ends.
 
-First the script counts sentences that were counted by hand. Then each page is a check, and a long sentence is printed with its
-page, its line and its words. The last line is 'N passed, M failed'; the status is 1 where something failed.
+First sentences are counted that were counted by hand. Then each page is a check, and a long sentence is printed with its page, its
+line and its words.
 """
-import argparse
 import os
 import re
 import sys
 from pathlib import Path
 
-TOP = Path(__file__).resolve().parents[2]
+sys.dont_write_bytecode = True
+sys.path[0] = str(Path(__file__).resolve().parents[2])
+
+from tests.shared import checks  # noqa: E402
+from tests.shared.running import TOP  # noqa: E402
+
 MOST = 30  # words that a sentence may have
 FEWEST = 20  # pages that the repository has at least
 LEFT_OUT = {".git", "bin", "dist", "out", "workspace"}  # folders of what checks and builds leave
@@ -115,46 +119,39 @@ def pages():
     return sorted(found)
 
 
-def check_by_hand():
-    """Are sentences counted as by hand?"""
-    wrong = [(text, counts, got) for text, counts in BY_HAND if (got := [count for _, count, _ in sentences_of(text)]) != counts]
-    print("FAILED: sentences are counted as by hand" if wrong else "ok: sentences are counted as by hand")
-    for text, counts, got in wrong:
-        print(f"--- text\n{text}--- by hand {counts}, counted {got}")
-    return not wrong
+# ---- the checks
+
+PAGES = pages()
+PARSER = checks.Parser(__doc__)
+PARSER.add_argument("pages", nargs="*", metavar="PAGE", help="a page, by its path from the top; none: all")
+OPTIONS = PARSER.options(__name__)
+if unknown := [it for it in OPTIONS.pages if it not in PAGES]:
+    PARSER.error(f"no page {' '.join(unknown)}")
 
 
-def check_page(page):
-    """Has each sentence of the page at most so many words?"""
-    found = list(sentences_of((TOP / page).read_text()))
-    long = [it for it in found if it[1] > MOST]
-    if long:
-        print(f"FAILED: {page}: of {len(found)} sentences {len(long)} have over {MOST} words")
-        for number, count, sentence in long:
-            print(f"{page}:{number}: {count} words: {sentence}")
-    else:
-        print(f"ok: {page}: {len(found)} sentences, of {max((it[1] for it in found), default=0)} words at most")
-    return not long
+class Counting(checks.Case):
+    """How sentences are counted, and the pages found."""
+
+    def test_by_hand(self):
+        """sentences are counted as by hand."""
+        counted = [(text, [count for _, count, _ in sentences_of(text)]) for text, _ in BY_HAND]
+        self.same(BY_HAND, counted)
+
+    def test_fewest(self):
+        """There are pages."""
+        self.check(f"the repository has {FEWEST} pages or more", True, len(PAGES) >= FEWEST)
 
 
-def main():
-    """Looks at the pages."""
-    first, _, rest = __doc__.partition("\n\n")
-    parser = argparse.ArgumentParser(description=first, epilog=rest, formatter_class=argparse.RawDescriptionHelpFormatter)
-    parser.add_argument("pages", nargs="*", metavar="PAGE", help="a page, by its path from the top; none: all")
-    given = parser.parse_args()
-    found = pages()
-    unknown = [it for it in given.pages if it not in found]
-    if unknown:
-        parser.error(f"no page {' '.join(unknown)}")
-    results = [check_by_hand()]
-    if len(found) < FEWEST:
-        print(f"FAILED: the repository has {FEWEST} pages or more: {len(found)} were found")
-        results.append(False)
-    results += [check_page(page) for page in given.pages or found]
-    print(f"{results.count(True)} passed, {results.count(False)} failed")
-    return 1 if False in results else 0
+@checks.table(OPTIONS.pages or PAGES, str)
+class Pages(checks.Case):
+    """Each page has short sentences."""
+
+    def row(self, page):
+        found = list(sentences_of((TOP / page).read_text()))
+        long = [f"{page}:{number}: {count} words: {sentence}" for number, count, sentence in found if count > MOST]
+        most = max((count for _, count, _ in found), default=0)
+        self.check(f"{page}: {len(found)} sentences, of {most} words at most", "", "\n".join(long))
 
 
 if __name__ == "__main__":
-    sys.exit(main())
+    checks.main(OPTIONS)
