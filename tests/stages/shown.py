@@ -6,18 +6,19 @@ next one are what it prints, in which a line that is `..` alone stands for any l
 programs of bin/, the scripts of tournament/, and ./demo; programs and scripts are in PATH. An example that names somebody else's
 program is left out where that isn't there. Also compared is the kit's logic with what `rt version` prints, and the code that a page
 quotes with the source.
-
-Each check is a line; the last line is 'N passed, M failed'.
 """
 import os
 import re
 import shutil
-import subprocess
 import sys
-import tempfile
 from pathlib import Path
 
-TOP = Path(__file__).resolve().parents[2]
+sys.dont_write_bytecode = True
+sys.path[0] = str(Path(__file__).resolve().parents[2])
+
+from tests.shared import checks, running  # noqa: E402
+from tests.shared.running import TOP  # noqa: E402
+
 PROGRAMS = ["gtp_engine", "twogtp", "gtp_check"]
 # the pages whose examples need nothing but the programs, or name the full path of what else they need
 PAGES = ["README.md", "docs/check.md", "docs/protocol.md", "docs/controller.md", "docs/losses.md", "docs/tournaments.md"]
@@ -28,7 +29,6 @@ QUOTES = {
     "crates/gtp_process/CALLING.md": ["crates/gtp_process/src", "crates/tests_match/src"],
     "crates/gtp_check_judge/CALLING.md": ["crates/gtp_check_judge/src", "crates/tests_programs/src"],
 }
-LIMIT = 60  # seconds that an example may take
 
 
 def blocks_of(text):
@@ -52,89 +52,107 @@ def is_printed(shown, printed):
     return re.fullmatch(pattern, printed) is not None
 
 
-def room(folder):
-    """The folder in which the examples run: the programs, the scripts, and the demo, which has nothing to build there."""
-    (folder / "bin").mkdir()
-    for program in PROGRAMS:
-        built = TOP / "bin" / program
-        if not os.access(built, os.X_OK):
-            sys.exit(f"FAILED: {program} is built: {built}\n0 passed, 1 failed")
-        shutil.copy(built, folder / "bin" / program)
-    shutil.copytree(TOP / "tournament", folder / "tournament")
-    shutil.copy(TOP / "demo", folder / "demo")
-    (folder / "build").write_text("#!/bin/bash\n")
-    (folder / "build").chmod(0o755)
-
-
-def check_example(page, command, shown, folder):
-    """Runs an example. Returns whether it prints what is shown, or None where it isn't run."""
-    what = f"{page}: {command if len(command) <= 80 else command[:77] + '..'}"
-    for other in re.findall(OTHERS, command):
-        if not os.access(other, os.X_OK):
-            print(f"skipped: {what}: there is no {other}")
-            return None
-    programs = {**os.environ, "PATH": f"{folder}/bin:{folder}/tournament:{os.environ['PATH']}"}
-    try:
-        done = subprocess.run(["bash", "-c", command], cwd=folder, env=programs, capture_output=True, encoding="utf-8", timeout=LIMIT)
-    except subprocess.TimeoutExpired:
-        print(f"FAILED: {what}: it doesn't end")
-        return False
-    if is_printed(shown, done.stdout + done.stderr):
-        print(f"ok: {what}")
-        return True
-    print(f"FAILED: {what}\n--- shown\n{shown}--- printed\n{done.stdout}{done.stderr}---")
-    return False
-
-
 def without_margin(text):
     """The lines of a text without the spaces around them."""
     return "\n".join(line.strip() for line in text.splitlines())
 
 
-def check_quotes(page, folders):
-    """Is the code that a page quotes in a source of these folders? Returns an answer for each block."""
-    code = [without_margin(source.read_text()) for folder in folders for source in sorted((TOP / folder).rglob("*.rt"))]
-    answers = []
-    for block in re.findall(r"^```rust\n(.*?)^```$", (TOP / page).read_text(), re.MULTILINE | re.DOTALL):
-        answers.append(any(without_margin(block) in text for text in code))
-        what = f"{page} quotes: {block.splitlines()[0].strip()}"
-        print(f"ok: {what}" if answers[-1] else f"FAILED: {what}\n--- not in {', '.join(folders)}\n{block}---")
-    return answers
+def quotes_of(page):
+    """The code that a page quotes."""
+    return re.findall(r"^```rust\n(.*?)^```$", (TOP / page).read_text(), re.MULTILINE | re.DOTALL)
 
 
-def check_kit():
-    """Does README name a kit of the logic in which the proofs are checked here? Kits of one logic differ in their number alone. None where
-    there is no kit."""
-    if not shutil.which("rt"):
-        print("skipped: README names the kit's logic: there is no rt")
-        return None
-    kit = subprocess.run(["rt", "version"], capture_output=True, encoding="utf-8").stdout.strip()
-    number, _, logic = kit.partition(" logic ")
-    readme = (TOP / "README.md").read_text()
-    named = logic != "" and re.search(rf"`rattle-kit-\S+ logic {re.escape(logic)}`", readme) is not None
-    print(f"ok: README names the kit's logic, {logic}" if named else f"FAILED: README names the kit's logic: `{kit}` is not there")
-    if not re.search(rf"\b{re.escape(number)}\b", readme):
-        print(f"note: README doesn't name {number}")
-    return named
+# ---- the checks
+
+EXAMPLES = {page: examples_of((TOP / page).read_text()) for page in PAGES}
+ROWS = [(page, number) for page, examples in EXAMPLES.items() for number in range(len(examples))]
 
 
-def main():
-    """Runs all examples."""
-    results = [check_kit()]
-    for page, folders in QUOTES.items():
-        results += check_quotes(page, folders)
-    with tempfile.TemporaryDirectory() as name:
-        folder = Path(name)
-        room(folder)
-        for page in PAGES:
-            examples = examples_of((TOP / page).read_text())
-            if not examples:
-                print(f"FAILED: {page} has examples")
-                results.append(False)
-            results += [check_example(page, command, shown, folder) for command, shown in examples]
-    print(f"{results.count(True)} passed, {results.count(False)} failed")
-    return 1 if False in results else 0
+class Kit(checks.Case):
+    """The kit of the proofs."""
+
+    def test_kit(self):
+        """README names the kit's logic. Kits of one logic differ in their number alone."""
+        if not shutil.which("rt"):
+            self.skipTest("there is no rt")
+        kit = running.run(["rt", "version"]).output.strip()
+        number, _, logic = kit.partition(" logic ")
+        readme = (TOP / "README.md").read_text()
+        named = logic != "" and re.search(rf"`rattle-kit-\S+ logic {re.escape(logic)}`", readme) is not None
+        self.check(f"README names the kit's logic, {logic}", (kit, True), (kit, named))
+        if not re.search(rf"\b{re.escape(number)}\b", readme):
+            print(f"note: README doesn't name {number}")
+
+
+@checks.table([(page, block) for page in QUOTES for block in quotes_of(page)], lambda it: f"{it[0]} quotes: {it[1].splitlines()[0].strip()}")
+class Quotes(checks.Case):
+    """The code that pages quote is in a source."""
+
+    def row(self, row):
+        page, block = row
+        sources = [source for folder in QUOTES[page] for source in sorted((TOP / folder).rglob("*.rt"))]
+        if not any(without_margin(block) in without_margin(source.read_text()) for source in sources):
+            self.nothing(f"not in {', '.join(QUOTES[page])}\n{block}")
+
+
+class Pages(checks.Case):
+    """The pages that have examples."""
+
+    def test_pages(self):
+        """each page has examples."""
+        self.same([], [page for page in PAGES if not EXAMPLES[page]])
+
+
+def example_named(row):
+    """The page, and the beginning of the command."""
+    page, number = row
+    command, _ = EXAMPLES[page][number]
+    return f"{page}: {command if len(command) <= 80 else command[:77] + '..'}"
+
+
+def others_of(command):
+    """What isn't there of somebody else's programs that a command names."""
+    return [other for other in re.findall(OTHERS, command) if not os.access(other, os.X_OK)]
+
+
+@checks.table(ROWS, example_named)
+class Examples(checks.Case):
+    """The examples of a page print what it shows. Some need what those before them left, so these are run first."""
+
+    @classmethod
+    def setUpClass(cls):
+        """The folder in which they run: the programs, the scripts, and the demo, which has nothing to build there."""
+        running.need(*PROGRAMS)
+        cls.came = {page: [] for page in PAGES}
+        cls.folder = cls.room_of_all()
+        (cls.folder / "bin").mkdir()
+        for program in PROGRAMS:
+            shutil.copy(TOP / "bin" / program, cls.folder / "bin" / program)
+        shutil.copytree(TOP / "tournament", cls.folder / "tournament")
+        shutil.copy(TOP / "demo", cls.folder / "demo")
+        (cls.folder / "build").write_text("#!/bin/bash\n")
+        (cls.folder / "build").chmod(0o755)
+
+    def run_up_to(self, page, number):
+        """Runs the examples of a page up to this one, where they weren't, and returns what came of it."""
+        came = self.came[page]
+        path = f"{self.folder}/bin:{self.folder}/tournament:{os.environ['PATH']}"
+        for command, _ in EXAMPLES[page][len(came) : number + 1]:
+            words = ["true"] if others_of(command) else ["bash", "-c", command]
+            came.append(running.run(words, cwd=self.folder, env={**os.environ, "PATH": path}))
+        return came[number]
+
+    def row(self, row):
+        page, number = row
+        command, shown = EXAMPLES[page][number]
+        came = self.run_up_to(page, number)
+        if others := others_of(command):
+            self.skipTest(f"there is no {others[0]}")
+        if came.status is None:
+            self.fail("it doesn't end")
+        if not is_printed(shown, came.output + came.errors):
+            self.nothing(f"shown\n{shown}--- printed\n{came.output}{came.errors}")
 
 
 if __name__ == "__main__":
-    sys.exit(main())
+    checks.main()
