@@ -84,7 +84,10 @@ class Kit(checks.Case):
             print(f"note: README doesn't name {number}")
 
 
-@checks.table([(page, block) for page in QUOTES for block in quotes_of(page)], lambda it: f"{it[0]} quotes: {it[1].splitlines()[0].strip()}")
+QUOTED = [(page, block) for page in QUOTES for block in quotes_of(page)]
+
+
+@checks.table(QUOTED, lambda it: f"{it[0]} quotes: {it[1].splitlines()[0].strip()}")
 class Quotes(checks.Case):
     """The code that pages quote is in a source."""
 
