@@ -14,37 +14,25 @@ The stage finds all processes that a script started by a word in their environme
 - The same games are played by xargs, by the script for Slurm without Slurm, and by GNU Parallel on two machines, for which a
   script plays ssh. The results have to be the same.
 - Each process that watches over a game is killed, and no engine may be left. Silent engines are tried as docs/tournaments.md says.
-
-Each check is a line; the last line is 'N passed, M failed'.
 """
-import argparse
-import os
 import sys
 from pathlib import Path
 
 sys.dont_write_bytecode = True
 sys.path[0] = str(Path(__file__).resolve().parents[2])
 
-from tests.stages.of_tournament import beside, counted, plans, rooms, stops  # noqa: E402
+from tests.shared import checks  # noqa: E402
+from tests.stages.of_tournament import rooms  # noqa: E402
+from tests.stages.of_tournament.stops import Full, Interrupted, Killed, Limited, Silent, Stopped, Stubborn, Whole  # noqa: E402, F401
+from tests.stages.of_tournament.plans import CutAtSpaces, Elsewhere, Lost, NoResults, Plans  # noqa: E402, F401
+from tests.stages.of_tournament.counted import Intervals, Tallies, Wrong  # noqa: E402, F401
+from tests.stages.of_tournament.beside import Died, Games, Sample, Taps  # noqa: E402, F401
 
-
-def main():
-    """Runs all checks."""
-    parser = argparse.ArgumentParser(description=__doc__, formatter_class=argparse.RawDescriptionHelpFormatter)
-    parser.add_argument("--programs", metavar="FOLDER", default=rooms.TOP / "bin", help="where both programs are; else bin/")
-    programs = Path(parser.parse_args().programs).resolve()
-    for name in ("twogtp", "gtp_engine"):
-        if not os.access(programs / name, os.X_OK):
-            print(f"FAILED: {programs / name} is built\n0 passed, 1 failed")
-            return 1
-    wanted = stops.whole(programs)
-    for test in (stops.stopped, stops.interrupted, stops.full, stops.limited, plans.elsewhere):
-        test(programs, wanted)
-    for test in (stops.stubborn, stops.killed, stops.silent, plans.plans, plans.lost, plans.no_results, plans.cut_at_spaces, counted.tallies, beside.taps, beside.sample):
-        test(programs)
-    print(f"{rooms.results.count(True)} passed, {rooms.results.count(False)} failed")
-    return 1 if False in rooms.results else 0
+PARSER = checks.Parser(__doc__)
+PARSER.add_argument("--programs", metavar="FOLDER", default=rooms.Room.programs, type=Path, help="where both programs are; else bin/")
+OPTIONS = PARSER.options(__name__)
+rooms.Room.programs = OPTIONS.programs.resolve()
 
 
 if __name__ == "__main__":
-    sys.exit(main())
+    checks.main(OPTIONS)

@@ -3,8 +3,9 @@ import math
 import re
 import shutil
 
-from .rooms import check, room
+from tests.shared import checks
 
+from .rooms import Case, room
 
 # Each verdict, and who won, counted by hand below.
 VERDICTS = {
@@ -84,34 +85,61 @@ def wilson(won, count, z=1.959963984540054):
     return (share + a / 2 - root) / (1 + a), (share + a / 2 + root) / (1 + a)
 
 
-def tallies(programs):
+# Wilson's interval of 10 of 20 is 29.9 to 70.1 %.
+EVEN = "10     50.0   29.9 to 70.1"
+WRONG = {"no folder": [], "two folders": ["two", "three"], "a folder without a plan": ["."], "an option": ["-x"]}
+
+
+def by_resignation(games, is_black):
+    """Verdicts of so many games that one side won by resignation: Black did where this is so of its number."""
+    return {game: f"{'B' if is_black(int(game.split('_')[0])) else 'W'}+R moves 3 restarts 0 0" for game in games}
+
+
+def by_hand(here):
+    """The tournaments that were counted by hand."""
+    results_of(here, "two", "ab", 10, VERDICTS)
+    (here.at / "two/logs/8_a_b").write_text("twogtp: some line\ntournament: not over in 600 seconds\n")
+    results_of(here, "three", "abc", 2, {game: f"{verdict} moves 30 restarts 0 0" for game, verdict in THREE.items()})
+    games = [f"{number}_{pair}" for number in range(1, 11) for pair in ("a_b", "b_a")]
+    results_of(here, "even", "ab", 10, by_resignation(games, lambda number: number % 2))
+
+
+@checks.table(["mawk", "gawk", "original-awk"], lambda it: f"the tally by {it}")
+class Tallies(Case):
     """The tally beside results that were counted by hand, by each awk that is there."""
-    with room(programs) as here:
-        results_of(here, "two", "ab", 10, VERDICTS)
-        (here.at / "two/logs/8_a_b").write_text("twogtp: some line\ntournament: not over in 600 seconds\n")
-        results_of(here, "three", "abc", 2, {game: f"{verdict} moves 30 restarts 0 0" for game, verdict in THREE.items()})
-        results_of(here, "even", "ab", 10, {f"{k}_a_b": f"{'B' if k % 2 else 'W'}+R moves 3 restarts 0 0" for k in range(1, 11)}
-                   | {f"{k}_b_a": f"{'B' if k % 2 else 'W'}+R moves 3 restarts 0 0" for k in range(1, 11)})
-        path = here.environment["PATH"]
-        for awk in ["mawk", "gawk", "original-awk"]:
-            if not shutil.which(awk):
-                print(f"skipped: the tally by {awk}: it is not there")
-                continue
-            (here.at / awk).mkdir()
-            (here.at / awk / "awk").symlink_to(shutil.which(awk))
-            here.environment["PATH"] = f"{here.at / awk}:{path}"
-            check(f"the tally of every verdict, by {awk}", (1, COUNTED, ""), here.run("tally", "two"))
-            check(f"the tally of three engines, by {awk}", (0, THREE_COUNTED, ""), here.run("tally", "three"))
-            # Wilson's interval of 10 of 20 is 29.9 to 70.1 %.
-            check(f"the tally of 10 wins of 20, by {awk}", 2, here.run("tally", "even")[1].count("10     50.0   29.9 to 70.1"))
-        for won, count in [(0, 1), (1, 1), (3, 10), (99, 100), (50, 200)]:
-            name = f"{won}-{count}"
-            results_of(here, name, "ab", count,
-                       {f"{k}_a_b": f"{'B' if k <= won else 'W'}+R moves 3 restarts 0 0" for k in range(1, count + 1)})
+
+    def row(self, awk):
+        if not shutil.which(awk):
+            self.skipTest("it is not there")
+        with room() as here:
+            by_hand(here)
+            (here.at / "awk").symlink_to(shutil.which(awk))
+            here.environment["PATH"] = f"{here.at}:{here.environment['PATH']}"
+            self.check(f"the tally of every verdict, by {awk}", (1, COUNTED, ""), here.run("tally", "two"))
+            self.check(f"the tally of three engines, by {awk}", (0, THREE_COUNTED, ""), here.run("tally", "three"))
+            self.check(f"the tally of 10 wins of 20, by {awk}", 2, here.run("tally", "even").output.count(EVEN))
+
+
+@checks.table([(0, 1), (1, 1), (3, 10), (99, 100), (50, 200)], lambda it: f"the interval of {it[0]} of {it[1]}")
+class Intervals(Case):
+    """Wilson's interval, worked out in another way."""
+
+    def row(self, row):
+        won, count = row
+        with room() as here:
+            games = [f"{number}_a_b" for number in range(1, count + 1)]
+            results_of(here, "all", "ab", count, by_resignation(games, lambda number: number <= won))
             low, high = wilson(won, count)
-            row = next(line for line in here.run("tally", name)[1].splitlines() if line.startswith("a "))
-            check(f"the interval of {won} of {count}", f"{100 * abs(low):.1f} to {100 * high:.1f}", re.search(r"\S+ to \S+", row)[0])
-        wrong = {"no folder": [], "two folders": ["two", "three"], "a folder without a plan": ["."], "an option": ["-x"]}
-        for what, arguments in wrong.items():
-            status, output, errors = here.run("tally", *arguments)
-            check(f"the tally of {what}: status 2", (2, "", True), (status, output, errors != ""))
+            line = next(line for line in here.run("tally", "all").output.splitlines() if line.startswith("a "))
+            self.same(f"{100 * abs(low):.1f} to {100 * high:.1f}", re.search(r"\S+ to \S+", line)[0])
+
+
+@checks.table(WRONG, lambda it: f"the tally of {it}: status 2")
+class Wrong(Case):
+    """Mistakes on its command line."""
+
+    def row(self, what):
+        with room() as here:
+            by_hand(here)
+            status, output, errors = here.run("tally", *WRONG[what])
+            self.same((2, "", True), (status, output, errors != ""))

@@ -8,23 +8,22 @@ import signal
 import subprocess
 import tempfile
 import time
+from functools import lru_cache
 from pathlib import Path
 
-TOP = Path(__file__).resolve().parents[3]
-SCRIPTS = TOP / "tournament"
+from tests.shared import checks, running
+
+SCRIPTS = running.TOP / "tournament"
 LIMIT = 120  # seconds that one run may take, on a machine with other work
 RANDOM = "gtp_engine --policy random --seed"
 
-results = []
 
+class Case(checks.Case):
+    """Checks of scripts that run the programs."""
 
-def check(name, wanted, got):
-    """A line, and one more in the count."""
-    results.append(wanted == got)
-    if results[-1]:
-        print(f"ok: {name}", flush=True)
-    else:
-        print(f"FAILED: {name}\n--- wanted\n{wanted}\n--- got\n{got}\n---", flush=True)
+    @classmethod
+    def setUpClass(cls):
+        running.need("twogtp", "gtp_engine", folder=Room.programs)
 
 
 def heed():
@@ -36,12 +35,14 @@ def heed():
 class Room:
     """A folder in which scripts run, and an environment by which all that they start can be found."""
 
-    def __init__(self, programs, folder):
+    programs = running.TOP / "bin"
+
+    def __init__(self, folder):
         self.at = folder
         self.mark = f"TOURNAMENT_ROOM={secrets.token_hex(8)}"
         name, value = self.mark.split("=")
-        self.environment = {**os.environ, name: value, "TWOGTP": str(programs / "twogtp"),
-                            "PATH": f"{SCRIPTS}:{programs}:{os.environ['PATH']}"}
+        self.environment = {**os.environ, name: value, "TWOGTP": str(self.programs / "twogtp"),
+                            "PATH": f"{SCRIPTS}:{self.programs}:{os.environ['PATH']}"}
         self.environment.pop("TOURNAMENT", None)
 
     def start(self, *words, **more):
@@ -56,8 +57,8 @@ class Room:
             output, errors = process.communicate(timeout=LIMIT)
         except subprocess.TimeoutExpired:
             self.end()
-            return "it doesn't end", *process.communicate()
-        return process.returncode, output, errors
+            return running.Came(None, *process.communicate())
+        return running.Came(process.returncode, output or "", errors or "")
 
     def left(self):
         """The processes that live and were started here: pid and command line."""
@@ -95,10 +96,10 @@ class Room:
 
 
 @contextlib.contextmanager
-def room(programs):
+def room():
     """A room; what is left in it at the end is ended."""
     with tempfile.TemporaryDirectory() as folder:
-        made = Room(programs, Path(folder))
+        made = Room(Path(folder))
         try:
             yield made
         finally:
@@ -127,3 +128,11 @@ def two_engines(at, first=RANDOM, second=RANDOM):
 
 
 SMALL = ["--", "--size", "5", "--komi", "0.5"]
+
+
+@lru_cache(maxsize=None)
+def results():
+    """The results of a small tournament that nobody stops."""
+    with room() as here:
+        here.run("tournament", "play", *two_engines("all"), *SMALL)
+        return here.games("all")
