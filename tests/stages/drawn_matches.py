@@ -15,42 +15,57 @@ most three lines of retakes for each move that is allowed.
 Only what has one outcome, whenever a process happens to run, is drawn; the head of the reference's drawn.py has what is left out.
 The reference plays each match three times, with quick and slow engines, and all three have to come out alike. For a line of --why
 it gives all texts that may be written, mostly one; the head of the reference's matches.py has where there are more.
+
+With --mutants wrong bodies are put into the reference, one at a time. With each some match has to come out otherwise.
 """
-import argparse
-import os
 import shlex
-import subprocess
 import sys
-import tempfile
 import time
+import unittest
+from functools import lru_cache
 from pathlib import Path
 
 sys.dont_write_bytecode = True
 sys.path[0] = str(Path(__file__).resolve().parents[2])
 
-from tests.references.engine.mutants import Mutant  # noqa: E402
 from tests.references.controller import drawn, matches, mutants, worked  # noqa: E402
 from tests.references.controller.controller import MOST_UNANSWERED, SIDES  # noqa: E402
 from tests.references.controller.matches import PATIENT, TIMINGS, Result, as_reported, fits  # noqa: E402
+from tests.references.engine.mutants import Mutant  # noqa: E402
+from tests.shared import checks, running  # noqa: E402
 
-TOP = Path(__file__).resolve().parents[2]
-PROGRAMS = {name: TOP / "bin" / name for name in ("twogtp", "gtp_engine")}
-LIMIT = 60  # seconds that a match may take
-GROUP = 40  # matches that are reported in one line
+GROUP = 40  # matches that are compared in one check
 ALL = len(drawn.EARLY)  # so many matches in a row have each thing that is drawn once
-
 EXPLAINED = """\
 The matches are given by the seed: one seed gives the same ones each time. tests/references/controller/drawn.py says what is drawn.
-The last line is 'N passed, M failed'; the status is 1 where a check failed.
 """
+
+PARSER = checks.Parser(__doc__)
+PARSER.epilog = EXPLAINED
+PARSER.add_argument("--matches", metavar="N", type=checks.at_least_one, default=ALL, help=f"how many matches; else {ALL}")
+PARSER.add_argument("--seed", metavar="S", type=int, default=1, help="which matches; else 1")
+PARSER.add_argument("--match", metavar="N", type=int, help="the match of this number alone")
+PARSER.add_argument("--mutants", action="store_true", help="then puts wrong bodies into the reference; each has to be noticed")
+PARSER.add_argument("--programs", metavar="FOLDER", help="where both programs are; else bin/")
+OPTIONS = PARSER.options(__name__)
+NUMBERS = [OPTIONS.match] if OPTIONS.match else range(1, OPTIONS.matches + 1)
+GROUPS = [tuple(NUMBERS[first : first + GROUP]) for first in range(0, len(NUMBERS), GROUP)]
+
+
+def setUpModule():
+    """Nothing is played where the programs aren't built."""
+    running.need("twogtp", "gtp_engine", folder=OPTIONS.programs)
+    Trial.folder = checks.folder_until(unittest.addModuleCleanup)
 
 
 class Trial:
     """A drawn match, as the program plays it and as the reference does."""
 
-    def __init__(self, programs, folder, seed, number):
-        self.programs, self.folder, self.seed, self.number = programs, folder, seed, number
-        self.match = drawn.match_of(seed, number)
+    folder = None  # where the engines note what they are sent
+
+    def __init__(self, number):
+        self.number = number
+        self.match = drawn.match_of(OPTIONS.seed, number)
         self.cost = 0  # seconds that the reference takes
 
     def wanted(self):
@@ -72,42 +87,27 @@ class Trial:
         words += ["--max-moves", match.most_moves, "--restarts", match.restarts]
         words += ["--record"] * match.record + ["--show"] * match.show + ["--why"] * match.why
         for side in SIDES:
-            words += [f"--{side}", " ".join(match.engines[side].command(self.notes(side)))]
+            words += [f"--{side}", " ".join(match.engines[side].command(str(self.notes(side))))]
         return [str(word) for word in words]
 
     def notes(self, side):
         """The file in which the engine of this side notes what it is sent."""
-        return f"{self.folder}/{side}"
+        return self.folder / side
 
     def got(self):
         """What comes of it by the program."""
         for side in SIDES:
-            Path(self.notes(side)).write_bytes(b"")
-        try:
-            done = subprocess.run(self.command(), capture_output=True, timeout=LIMIT, stdin=subprocess.DEVNULL, env=self.programs)
-        except subprocess.TimeoutExpired as late:
-            return Result(f"none: still running after {LIMIT} seconds", late.stdout or b"", late.stderr or b"", self.noted())
-        return Result(done.returncode, done.stdout, done.stderr, self.noted())
+            self.notes(side).write_bytes(b"")
+        came = running.run(self.command(), env=running.programs_in(OPTIONS.programs), encoding=None)
+        status = f"none: still running after {running.LIMIT} seconds" if came.status is None else came.status
+        return Result(status, came.output, came.errors, {side: self.notes(side).read_bytes() for side in SIDES})
 
-    def noted(self):
-        """What the engines noted."""
-        return {side: Path(self.notes(side)).read_bytes() for side in SIDES}
+    def has_too_many_lines(self, got):
+        """Does it, as it was played, have more lines of `--why` than it may?"""
+        return matches.has_too_many_lines(got, self.match.most_moves)
 
 
-def tell_difference(trial, wanted, got):
-    """Shows a match in which the program and the reference differ."""
-    again = f"tests/stages/drawn_matches.py --seed {trial.seed} --match {trial.number}"
-    print(f"--- again by: {again}; the command:\n{shlex.join(trial.command())}")
-    for who, result in (("reference", wanted), ("program", got)):
-        if isinstance(result, str):
-            print(f"--- the {who}: {result}")
-            continue
-        print(f"--- the {who}: status {result.status}\n{shown(result.output)}")
-        print(f"--- the {who}'s standard error:\n{shown_errors(result.errors)}")
-        for side in SIDES:
-            if isinstance(wanted, str) or wanted.notes[side] != got.notes[side]:
-                print(f"--- the {who}: what {side}'s engine was sent until it misbehaved\n{shown(result.notes[side])}")
-    print("---", flush=True)
+# ---- what is shown
 
 
 def shown(data):
@@ -122,127 +122,124 @@ def shown_errors(errors):
     return "\n".join("\n  or ".join(dict.fromkeys(map(shown, texts))) for texts in errors)
 
 
-def check_reference():
-    """Does the reference give the worked matches?"""
-    wrong, count = worked.failures()
-    what = f"the reference gives the {count} worked matches, and the worked calls"
-    print(f"FAILED: {what}\n" + "\n".join(wrong) if wrong else f"ok: {what}", flush=True)
-    return not wrong
+def difference(trial, wanted, got):
+    """A match in which the program and the reference differ, as it is shown."""
+    again = f"tests/stages/drawn_matches.py --seed {OPTIONS.seed} --match {trial.number}"
+    lines = [f"again by: {again}; the command:\n{shlex.join(trial.command())}"]
+    for who, result in (("reference", wanted), ("program", got)):
+        if isinstance(result, str):
+            lines.append(f"--- the {who}: {result}")
+            continue
+        lines.append(f"--- the {who}: status {result.status}\n{shown(result.output)}")
+        lines.append(f"--- the {who}'s standard error:\n{shown_errors(result.errors)}")
+        for side in SIDES:
+            if isinstance(wanted, str) or wanted.notes[side] != got.notes[side]:
+                lines.append(f"--- the {who}: what {side}'s engine was sent until it misbehaved\n{shown(result.notes[side])}")
+    return "\n".join(lines)
 
 
-def check_matches(trials):
-    """Does the program do in these matches what the reference says? With what came of each."""
-    results = []
-    first, last = trials[0].number, trials[-1].number
-    what = f"the drawn matches {first} to {last} end as the reference says" if last > first else f"the drawn match {first} does"
-    for trial in trials:
+# ---- what is played
+
+
+@lru_cache(maxsize=None)
+def compared(numbers):
+    """The first of these matches that doesn't end as the reference says, as it is shown, or None; and each that was played up to there,
+    with what came of it."""
+    played = []
+    for number in numbers:
+        trial = Trial(number)
         wanted, got = trial.wanted(), trial.got()
-        results.append((trial, got))
+        played.append((trial, got))
         if not fits(got, wanted):
-            print(f"FAILED: {what}")
-            tell_difference(trial, wanted, got)
-            return False, results
-    print(f"ok: {what}", flush=True)
-    return True, results
+            return difference(trial, wanted, got), played
+    return None, played
 
 
-def has_too_many_lines(trial, got):
-    """Does this match, as it was played, have more lines of `--why` than it may?"""
-    return matches.has_too_many_lines(got, trial.match.most_moves)
+def all_played():
+    """All matches, with what came of each."""
+    return [it for numbers in GROUPS for it in compared(numbers)[1]]
 
 
-def check_lines(results):
-    """Has no game more lines of `--why` than it may?"""
-    games = sum(len(matches.GAME_LINE.findall(got.output)) for trial, got in results if trial.match.why)
-    lines = sum(len(matches.WHY_LINE.findall(got.errors)) for _, got in results)
-    retakes = sum(len(matches.RETAKE_LINE.findall(got.errors)) for _, got in results)
-    wrong = [str(trial.number) for trial, got in results if has_too_many_lines(trial, got)]
-    what = f"of {games} games with {lines} lines of --why, {retakes} of them of retakes, none has more than it may"
-    print(f"FAILED: {what}: the matches {', '.join(wrong)} do" if wrong else f"ok: {what}", flush=True)
-    return not wrong
+def have_differed():
+    """Did some match not end as the reference says?"""
+    return any(compared(numbers)[0] for numbers in GROUPS)
 
 
-def check_doubled(results):
-    """Is that count sharp enough: does it notice lines that are written twice?"""
-    noticed = sum(has_too_many_lines(trial, got._replace(errors=got.errors * 2)) for trial, got in results)
-    what = f"in {noticed} matches there were more of them, were each written twice"
-    print(f"ok: {what}" if noticed else f"FAILED: {what}", flush=True)
-    return noticed > 0
+# ---- the checks
 
 
-def check_mutants(results, wrong_bodies):
-    """How many of these wrong bodies of the reference are noticed in these matches, the quick ones first, and how many aren't."""
-    results = sorted(results, key=lambda played: played[0].cost)
-    noticed = 0
-    for what, owner, attribute, wrong in wrong_bodies:
-        with Mutant(owner, attribute, wrong):
-            by = next((trial.number for trial, got in results if not fits(got, wrong_result(trial.match))), None)
-        noticed += by is not None
-        print(f"ok: '{what}' is noticed, by match {by}" if by else f"FAILED: '{what}' is not noticed", flush=True)
-    return noticed, len(wrong_bodies) - noticed
+class Reference(checks.Case):
+    """The reference beside what was worked out."""
+
+    def test_reference(self):
+        """The reference gives the worked matches."""
+        wrong, count = worked.failures()
+        self.check(f"the reference gives the {count} worked matches, and the worked calls", [], wrong)
 
 
-def wrong_result(match):
-    """What the reference gives with a wrong body in it, which may stop it."""
+def group_named(numbers):
+    """What is checked of these matches."""
+    first, last = numbers[0], numbers[-1]
+    return f"the drawn matches {first} to {last} end as the reference says" if last > first else f"the drawn match {first} does"
+
+
+@checks.table(GROUPS, group_named)
+class Drawn(checks.Case):
+    """The program beside the reference."""
+
+    def row(self, numbers):
+        self.nothing(compared(numbers)[0])
+
+
+class Lines(checks.Case):
+    """The lines of --why, counted without the reference."""
+
+    def test_lines(self):
+        """No game has more lines of --why than it may."""
+        results = all_played()
+        games = sum(len(matches.GAME_LINE.findall(got.output)) for trial, got in results if trial.match.why)
+        lines = sum(len(matches.WHY_LINE.findall(got.errors)) for _, got in results)
+        retakes = sum(len(matches.RETAKE_LINE.findall(got.errors)) for _, got in results)
+        wrong = [trial.number for trial, got in results if trial.has_too_many_lines(got)]
+        self.check(f"of {games} games with {lines} lines of --why, {retakes} of them of retakes, none has more than it may", [], wrong)
+
+
+class Doubled(checks.Case):
+    """Is that count sharp enough?"""
+
+    def test_doubled(self):
+        """More lines of --why than a game may have are noticed."""
+        noticed = sum(trial.has_too_many_lines(got._replace(errors=got.errors * 2)) for trial, got in all_played())
+        self.check(f"in {noticed} matches there were more of them, were each written twice", True, noticed > 0)
+
+
+@lru_cache(maxsize=None)
+def quick_first():
+    """All matches, with what came of each; first those that the reference plays quickly."""
+    return sorted(all_played(), key=lambda played: played[0].cost)
+
+
+def comes_out_otherwise(trial, got):
+    """Does the reference, which a wrong body may stop, give something else?"""
     try:
-        return matches.play(match, PATIENT)
-    except Exception as stopped:
-        return repr(stopped)
+        wanted = matches.play(trial.match, PATIENT)
+    except Exception:
+        return True
+    return not fits(got, wanted)
 
 
-def at_least_one(text):
-    """A count of matches: with none, nothing would be compared."""
-    count = int(text)
-    if count < 1:
-        raise argparse.ArgumentTypeError("at least 1")
-    return count
+@checks.table(mutants.MUTANTS + mutants.WHY_MUTANTS, lambda it: f"'{it[0]}' is noticed")
+class Mutants(checks.Case):
+    """The reference with a wrong body in it. Where a match ends otherwise with the right ones, a difference says nothing."""
 
-
-def options_of_the_run():
-    """What the command line says."""
-    parser = argparse.ArgumentParser(description=__doc__, epilog=EXPLAINED, formatter_class=argparse.RawDescriptionHelpFormatter)
-    parser.add_argument("--matches", metavar="N", type=at_least_one, default=ALL, help=f"how many matches; else {ALL}")
-    parser.add_argument("--seed", metavar="S", type=int, default=1, help="which matches; else 1")
-    parser.add_argument("--match", metavar="N", type=int, help="the match of this number alone")
-    parser.add_argument("--mutants", action="store_true", help="then puts wrong bodies into the reference; each has to be noticed")
-    parser.add_argument("--programs", metavar="FOLDER", help="where both programs are; else bin/")
-    return parser.parse_args()
-
-
-def environment(folder):
-    """The environment in which both programs are found, there or in bin/; none where one is missing."""
-    places = {name: Path(folder).resolve() / name if folder else built for name, built in PROGRAMS.items()}
-    for place in places.values():
-        if not os.access(place, os.X_OK):
-            print(f"FAILED: {place} is built\n0 passed, 1 failed")
-            return None
-    return {**os.environ, "PATH": ":".join([*(str(place.parent) for place in places.values()), os.environ["PATH"]])}
-
-
-def main():
-    """Runs the checks, a line each."""
-    options = options_of_the_run()
-    programs = environment(options.programs)
-    if programs is None:
-        return 1
-    numbers = [options.match] if options.match else range(1, options.matches + 1)
-    checks = [check_reference()]
-    results = []
-    with tempfile.TemporaryDirectory() as folder:
-        trials = [Trial(programs, folder, options.seed, number) for number in numbers]
-        for first in range(0, len(trials), GROUP):
-            agrees, played = check_matches(trials[first : first + GROUP])
-            checks.append(agrees)
-            results += played
-    checks.append(check_lines(results))
-    noticed = missed = 0
-    if options.mutants and all(checks):
-        checks.append(check_doubled(results))
-        noticed, missed = check_mutants(results, mutants.MUTANTS + mutants.WHY_MUTANTS)
-    passed, failed = checks.count(True) + noticed, checks.count(False) + missed
-    print(f"{passed} passed, {failed} failed")
-    return 1 if failed else 0
+    def row(self, row):
+        if have_differed():
+            self.skipTest("a match doesn't end as the reference says")
+        what, owner, attribute, body = row
+        with Mutant(owner, attribute, body):
+            by = next((trial.number for trial, got in quick_first() if comes_out_otherwise(trial, got)), None)
+        self.check(f"'{what}' is noticed" + (f", by match {by}" if by else ""), True, by is not None)
 
 
 if __name__ == "__main__":
-    sys.exit(main())
+    checks.main(OPTIONS, [Reference, Drawn, Lines, Doubled, Mutants] if OPTIONS.mutants else [Reference, Drawn, Lines])
