@@ -112,7 +112,7 @@ class Table(checks.Case):
         self.same([], wrong.odd_table())
 
 
-@checks.table(SHOWN, lambda it: f"noticed: {wrong.BUGS[it].family}: {it}", wrong.noticed)
+@checks.table(SHOWN, lambda it: f"noticed: {wrong.BUGS[it].subject}: {it}", wrong.noticed)
 class Noticed(Checks):
     """Wrong engines that are noticed."""
 

@@ -35,7 +35,7 @@ MOST = 30  # seconds that one process has at most
 OPENING = ["boardsize 9", "komi 6.5", "clear_board", "play b C3", "play w G7", "play b C7", "play w G3", "genmove b"]
 OPENING = [f"{number} {line}" for number, line in enumerate(OPENING, 1)]
 OPENING_RIGHT = "but C3 G7 C7 G3"
-FEWEST, FEWEST_OF_A_FAMILY = 66, 5
+FEWEST, FEWEST_OF_A_SUBJECT = 300, 7
 COMPILED = tempfile.TemporaryDirectory()  # what Python compiles for the engines, once
 
 
@@ -188,11 +188,11 @@ class Bugs(checks.Case):
 class All(checks.Case):
     """All bugs."""
 
-    def test_families(self):
-        """There are enough bugs of each family."""
-        families = [bug.family for bug in BUGS.values()]
-        small = [family for family in dict.fromkeys(families) if families.count(family) < FEWEST_OF_A_FAMILY]
-        self.check(f"{len(families)} bugs of {len(set(families))} families", (True, []), (len(families) >= FEWEST, small))
+    def test_subjects(self):
+        """There are enough bugs of each subject."""
+        subjects = [bug.subject for bug in BUGS.values()]
+        small = [subject for subject in dict.fromkeys(subjects) if subjects.count(subject) < FEWEST_OF_A_SUBJECT]
+        self.check(f"{len(subjects)} bugs of {len(set(subjects))} subjects", (True, []), (len(subjects) >= FEWEST, small))
 
     def test_off(self):
         """a bug that is switched off is noticed."""

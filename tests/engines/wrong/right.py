@@ -196,8 +196,12 @@ class Engine(Rules):
         point = self.place(self.argument(arguments, 1, self.read_vertex))
         self.need_room()
         if point is None or not self.is_legal(colour, point):
-            raise Failure("illegal move")
+            self.refuse(colour, point)
         self.move(colour, point)
+
+    def refuse(self, colour, point):
+        """Fails as an illegal move. The point is None where it is off the board."""
+        raise Failure("illegal move")
 
     def need_room(self):
         """Fails where the record is full."""

@@ -51,13 +51,17 @@ class Rules:
 
     def captures(self, board, colour, point):
         """The stones that a stone of this colour on this point takes. It is on the board already."""
-        taken = set()
-        for near in self.near[point]:
-            if board[near] == other(colour) and near not in taken:
-                chain = self.chain(board, near)
+        return self.dead(board, other(colour), self.near[point])
+
+    def dead(self, board, colour, points):
+        """The stones of this colour whose chain is on one of these points and has no liberty."""
+        found = set()
+        for point in points:
+            if board[point] == colour and point not in found:
+                chain = self.chain(board, point)
                 if not self.is_free(board, chain):
-                    taken |= chain
-        return taken
+                    found |= chain
+        return found
 
     def put(self, colour, point):
         """The board after this play, whether it is legal or not."""

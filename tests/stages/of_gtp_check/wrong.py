@@ -10,20 +10,20 @@ from .table import ANEW, SHOWN, UNNOTICED, WAITING, lessons_of
 sys.path.insert(0, str(TOP / "tests/engines/wrong"))
 from bugs import BUGS  # noqa: E402
 
-OF_A_FAMILY = 5  # bugs that ./test tries of each family
+OF_A_SUBJECT = 8  # bugs that ./test tries of each subject, at most
 ENGINE = PYTHON + " tests/engines/wrong/engine"
 QUICKLY = ("--only", "start", "--only", "komi", "--only", "games", "--only", "restarts")  # for the unnoticed ones, where not all are tried
 
 
 def chosen(is_all):
-    """The bugs that are tried: the first of each family, or all of them; of those that nothing shows every third, or all."""
+    """The bugs that are tried: some of each subject, from all over its module, or all of them; of those that nothing shows every third."""
     noticed = [name for name in BUGS if name not in UNNOTICED]
     if is_all:
         return noticed, list(UNNOTICED)
-    families = {}
+    subjects = {}
     for name in noticed:
-        families.setdefault(BUGS[name].family, []).append(name)
-    return [name for names in families.values() for name in names[:OF_A_FAMILY]], list(UNNOTICED)[::3]
+        subjects.setdefault(BUGS[name].subject, []).append(name)
+    return [name for names in subjects.values() for name in names[:: -(-len(names) // OF_A_SUBJECT)]], list(UNNOTICED)[::3]
 
 
 def rule_of(bug):
@@ -80,7 +80,7 @@ def faults_of_report(name, lessons, result, report):
 def noticed(name):
     """What is odd about the check of a wrong engine that is noticed."""
     bug = BUGS[name]
-    lessons = lessons_of(name, bug.family)
+    lessons = lessons_of(name, bug.subject)
     only = [word for lesson in lessons for word in ("--only", lesson)]
     command = " ".join([*(["timeout", "1"] if name in WAITING else []), ENGINE, *bug.options, "--bug", name])
     with tempfile.TemporaryDirectory() as folder:

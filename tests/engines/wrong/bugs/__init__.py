@@ -1,27 +1,18 @@
-"""All bugs, by family. `BUGS` has each by its name, in order."""
-import re
-
+"""All bugs, by subject: a module for each. `BUGS` has each by its name, in order."""
 from talks import Bug
 
-from . import captures, fourth, fourth_games, genmove, handicap, ids, ko, komi, later_games, lines
-from . import later, records, replies, restarts, sizes, suicide, third, third_games, turns, undo, unseen, unseen_games
+from . import captures, games, genmove, handicap, ids, ko, komi, lines, records, replies, restarts, sizes, suicide, turns, undo
 
-FIRST = (replies, ids, lines, sizes, komi, captures, ko, suicide, turns)
-LAST = (unseen, unseen_games, later, third, third_games, fourth, fourth_games)
-FAMILIES = (*FIRST, undo, handicap, genmove, records, later_games, restarts, *LAST)
+SUBJECTS = (replies, ids, lines, sizes, komi, captures, ko, suicide, turns, undo, handicap, genmove, records, games, restarts)
 
 
-def name_of(bug):
-    """The name of a bug: `NoKo` is no_ko."""
-    return re.sub("(?<=[A-Za-z0-9])(?=[A-Z])|(?<=[a-z])(?=[0-9])", "_", bug.__name__).lower()
+def bugs_of(module):
+    """The bugs of a module: those of its table, and its classes but for those that several bugs have in common."""
+    own = [it for it in vars(module).values() if isinstance(it, type) and issubclass(it, Bug) and it.__module__ == module.__name__]
+    return [*getattr(module, "PATCHES", ()), *(bug for bug in own if "shows" in vars(bug))]
 
 
-def is_bug(module, value):
-    """Is this a bug that the module has, and not one that several bugs have in common?"""
-    return isinstance(value, type) and issubclass(value, Bug) and value.__module__ == module.__name__ and value.family
-
-
-ALL = [value for module in FAMILIES for value in vars(module).values() if is_bug(module, value)]
-BUGS = {name_of(bug): bug for bug in ALL}
+ALL = [bug for module in SUBJECTS for bug in bugs_of(module)]
+BUGS = {bug.name: bug for bug in ALL}
 if len(BUGS) < len(ALL):
     raise AssertionError("two bugs have one name")

@@ -1,25 +1,49 @@
-"""Captures."""
-from rules import EMPTY, other
-from talks import Bug, on
+"""Captures, and the chains that are captured."""
+from itertools import takewhile
+
+from rules import EMPTY, PASS, other
+from talks import KO, Bug, Keeping, filled, gone, instead_of, on, patch, shown_by
+
+# Black's B5 takes 17 stones of White.
+SEVENTEEN = "w A1 w B1 w C1 w D1 w E1 w A2 w B2 w C2 w D2 w E2 w A3 w B3 w C3 w D3 w E3 w A4 w B4 b C4 b D4 b E4 b A5 b B5"
+
+PATCHES = [
+    patch("nearest_stone_is_taken", "Of a chain that is captured only the stones beside the play are taken off.",
+          on(5, "w A1 w B1 b A2 b B2 b C1", "play b A1"), "=",
+          captures=lambda self, right, board, colour, point: right(board, colour, point) & set(self.near[point])),
+    patch("white_takes_nothing", "Captures are looked for after Black's plays alone.", on(5, "b A1 w A2 w B1", "play w A1"), "=",
+          captures=lambda self, right, board, colour, point: right(board, colour, point) if colour == 1 else set()),
+    patch("top_row_stays", "Stones in the top row are never captured: the loop ends a row too early.",
+          on(5, "b A5 w A4 w B5", "play w A5"), "=",
+          captures=lambda self, right, board, colour, point: right(board, colour, point) & set(range(len(board) - self.size))),
+    patch("point_zero_is_no_point", "A1 is point 0, which is taken as no neighbour where captures are looked for.",
+          on(5, "b A1 w A2 w B1", "play w A1"), "=",
+          captures=lambda self, right, board, colour, point: self.dead(board, other(colour), filter(None, self.near[point]))),
+    patch("nothing_below_is_taken", "The table of the four directions has one of them twice, so a chain below the play isn't looked at.",
+          on(5, "b A1 w B1 w A2", "play w A1"), "=",
+          captures=lambda self, right, board, colour, point: self.dead(board, other(colour), {*self.near[point]} - {point - self.size})),
+    patch("captures_end_at_an_empty_point",
+          "Captures are looked for at one neighbour after the other, and no further once one of them is empty.",
+          on(5, "w C1 b D1 b C2 b B1", "play b C1"), "=",
+          captures=lambda self, right, board, colour, point: self.dead(board, other(colour), takewhile(board.__getitem__, self.near[point]))),
+    patch("every_second_stone_is_taken",
+          "Each stone that is taken is removed from the list that the loop is in, so every second one is passed over.",
+          on(5, "w A1 w B1 b A2 b B2 b C1", "play b B1"), "=",
+          captures=lambda self, right, board, colour, point: set(sorted(right(board, colour, point))[::2])),
+    patch("sixteen_stones_at_most", "The list of a chain's stones has room for 16, and a longer chain is taken as alive.",
+          on(5, SEVENTEEN, "play b A1"), "=",
+          is_free=lambda self, right, board, chain: len(chain) > 16 or right(board, chain)),
+    # seven stones in a row have seven liberties above, seven below and two at the ends
+    patch("liberties_have_four_bits", "The number of a chain's liberties has four bits, so a chain with sixteen has none.",
+          on(9, "b B5 b C5 b D5 b E5 b F5 b G5", "play b H5"), "=",
+          is_free=lambda self, right, board, chain: len(self.liberties(board, chain)) % 16 != 0),
+]
 
 
-class NearestStoneIsTaken(Bug):
-    """Of a chain that is captured only the stones beside the play are taken off."""
-
-    family = "captures"
-    shows = on(5, "w A1 w B1 b A2 b B2 b C1", "play b A1")
-    right = "="
-
-    def captures(self, board, colour, point):
-        return super().captures(board, colour, point) & set(self.near[point])
-
-
+@shown_by(on(5, "b A3 b B2 b C1 w A2 w B1 b A1", "play b A2"), "=")
 class OneChainIsTaken(Bug):
     """Where a play captures two chains, the first one alone is taken off."""
 
-    family = "captures"
-    shows = on(5, "b A3 b B2 b C1 w A2 w B1 b A1", "play b A2")
-    right = "="
     most = 1
 
     def captures(self, board, colour, point):
@@ -30,59 +54,23 @@ class OneChainIsTaken(Bug):
         return set().union(*chains[: self.most])
 
 
+@shown_by(on(5, "w B3 w D3 w C2 b A3 b B4 b B2 b E3 b D4 b D2 b C1 b C3", "play b C2"))
 class TwoChainsAreTaken(OneChainIsTaken):
     """Where a play captures three chains, the first two alone are taken off."""
 
-    shows = on(5, "w B3 w D3 w C2 b A3 b B4 b B2 b E3 b D4 b D2 b C1 b C3", "play b C2")
     most = 2
 
 
-class EdgesAreJoined(Bug):
+@instead_of("beside", on(5, "b E1 w D1 w E2", "play w E1"), "=")
+def edges_are_joined(self, right, point):
     """The last point of a row is a neighbour of the first point of the next row: the array has no margin."""
-
-    family = "captures"
-    shows = on(5, "b E1 w D1 w E2", "play w E1")
-    right = "="
-
-    def beside(self, point):
-        places = [point - 1, point + 1, point - self.size, point + self.size]
-        return [place for place in places if 0 <= place < len(self.board)]
+    places = [point - 1, point + 1, point - self.size, point + self.size]
+    return [place for place in places if 0 <= place < len(self.board)]
 
 
-class TopRowStays(Bug):
-    """Stones in the top row are never captured: the loop ends a row too early."""
-
-    family = "captures"
-    shows = on(5, "b A5 w A4 w B5", "play w A5")
-    right = "="
-
-    def captures(self, board, colour, point):
-        taken = super().captures(board, colour, point)
-        return {stone for stone in taken if stone < len(board) - self.size}
-
-
-class PointZeroIsNoPoint(Bug):
-    """A1 is point 0, which is taken as no neighbour where captures are looked for."""
-
-    family = "captures"
-    shows = on(5, "b A1 w A2 w B1", "play w A1")
-    right = "="
-
-    def captures(self, board, colour, point):
-        taken = set()
-        for near in filter(None, self.near[point]):
-            if board[near] == other(colour):
-                chain = self.chain(board, near)
-                taken |= set() if self.is_free(board, chain) else chain
-        return taken
-
-
+@shown_by(on(5, "w A1 w B2 b A2 b B1", "play b A1"), "=")
 class ChainsAreSlanting(Bug):
     """Stones that touch at a corner are taken as one chain where captures are looked for."""
-
-    family = "captures"
-    shows = on(5, "w A1 w B2 b A2 b B1", "play b A1")
-    right = "="
 
     def captures(self, board, colour, point):
         return {stone for stone in super().captures(board, colour, point) if not self.is_joined(board, stone)}
@@ -96,35 +84,8 @@ class ChainsAreSlanting(Bug):
         return any(self.is_free(board, self.chain(board, far)) for far in same)
 
 
-class SixteenStonesAtMost(Bug):
-    """The list of a chain's stones has room for 16, and a longer chain is taken as alive."""
-
-    family = "captures"
-    shows = on(
-        5,
-        "w A1 w B1 w C1 w D1 w E1 w A2 w B2 w C2 w D2 w E2 w A3 w B3 w C3 w D3 w E3 w A4 w B4"
-        " b C4 b D4 b E4 b A5 b B5",
-        "play b A1",
-    )
-    right = "="
-
-    def is_free(self, board, chain):
-        return len(chain) > 16 or super().is_free(board, chain)
-
-
-class WhiteTakesNothing(Bug):
-    """Captures are looked for after Black's plays alone."""
-
-    family = "captures"
-    shows = on(5, "b A1 w A2 w B1", "play w A1")
-    right = "="
-
-    def captures(self, board, colour, point):
-        return super().captures(board, colour, point) if colour == 1 else set()
-
-
 class Counted(Bug):
-    """An engine that keeps the number of liberties of each chain. It is right; two bugs below change it."""
+    """An engine that keeps the number of liberties of each chain. It is right; bugs here and elsewhere change it."""
 
     def begin(self, size):
         super().begin(size)
@@ -137,12 +98,8 @@ class Counted(Bug):
             if stone != EMPTY and point not in self.heads:
                 chain = self.chain(self.board, point)
                 self.heads.update(dict.fromkeys(chain, point))
-                self.free[point] = self.liberties(self.board, chain)
+                self.free[point] = len(self.liberties(self.board, chain))
         self.kept = self.heads, self.free
-
-    def liberties(self, board, chain):
-        """How many liberties a chain has."""
-        return len({near for stone in chain for near in self.near[stone] if board[near] == EMPTY})
 
     def put(self, colour, point):
         """The board after a play, by the counts; they are kept for `move`."""
@@ -160,7 +117,7 @@ class Counted(Bug):
 
     def joined_count(self, board, point, own):
         """The liberties of the new stone's chain, which joins these chains."""
-        return self.liberties(board, self.chain(board, point))
+        return len(self.liberties(board, self.chain(board, point)))
 
     def take(self, board, heads, free, head):
         """Takes a chain off. Each chain beside a stone of it has a liberty more."""
@@ -190,22 +147,170 @@ class Counted(Bug):
         self.recount()
 
 
+@shown_by(on(5, "w A2 w B1 w B2 b A3 b B3 b C2 b C1", "play b A1"), "=")
 class JoinedChainCountsTwice(Counted):
     """Where chains join, their numbers of liberties are added, so a liberty that both had counts twice."""
 
-    family = "captures"
-    shows = on(5, "w A2 w B1 w B2 b A3 b B3 b C2 b C1", "play b A1")
-    right = "="
-
     def joined_count(self, board, point, own):
         new = self.liberties(board, {point})
-        return new + sum(self.free[head] - 1 for head in own)
+        return len(new) + sum(self.free[head] - 1 for head in own)
 
 
+@shown_by(on(5, "w A1 b B1 w A3 w B2", "play b A2"), "=")
 class TakenStonesGiveNoLiberty(Counted):
     """Where stones are taken, the numbers of liberties of the chains beside them don't go up."""
 
-    family = "captures"
-    shows = on(5, "w A1 b B1 w A3 w B2", "play b A2")
-    right = "="
     gained = 0
+
+
+@instead_of("beside", on(5, "b A1 w A2 w B1", "play w A1"), "=")
+def edges_wrap_round(self, right, point):
+    """Left of column A is the last column, and below row 1 the top row: an index of -1 is an array's last place."""
+    size = self.size
+    row, column = divmod(point, size)
+    spots = [(column - 1, row), (column + 1, row), (column, row - 1), (column, row + 1)]
+    return [y % size * size + x % size for x, y in spots if x < size and y < size]
+
+
+@instead_of("put", on(5, KO, "play w A1"), "?")
+def both_chains_die(self, right, colour, point):
+    """A play that captures is taken off too, with its chain, where that had no liberty before."""
+    board, after = filled(self.board, [point], colour), right(colour, point)
+    own = self.chain(board, point)
+    return after if after == board or self.is_free(board, own) else filled(after, own)
+
+
+class Named(Keeping):
+    """An engine that gives names to chains. Stones of one colour that have one name are one chain for it. `after` of a bug says what the
+    names of points are."""
+
+    def fresh(self):
+        return {}
+
+    def chain(self, board, point):
+        found = super().chain(board, point)
+        more = set() if board[point] == EMPTY else self.namesakes(board, found)
+        while more:
+            for stone in more:
+                found |= super().chain(board, stone)
+            more = self.namesakes(board, found)
+        return found
+
+    def namesakes(self, board, stones):
+        """The other stones of this colour that have a name of these stones."""
+        names = {self.kept[stone] for stone in stones if stone in self.kept}
+        colour = board[min(stones)]
+        return {stone for stone, name in self.kept.items() if name in names and board[stone] == colour} - stones
+
+
+@shown_by(on(5, "w A1 w B1 w C1 w D1 b A2 b B2 b C2 b D2 b E1 w A1 w D1 b B1", "play b A1"), "=")
+class NamesOfTakenStonesStay(Named):
+    """The points of a captured chain keep its name, so stones that are put there later are taken as one chain."""
+
+    def after(self, before, colour, point):
+        taken = gone(before, self.board)
+        return {**self.kept, **{place: (len(self.record), min(self.chain(before, place))) for place in taken}}
+
+
+# B1 joins A1, C1 and B2, which have the liberty D1
+@shown_by(on(5, "b A1 b C1 b B2 b B1 w A2 w C2 w B3", "play w B2"), "?")
+class ThirdChainIsNotJoined(Keeping):
+    """A play that touches three chains of its colour joins two of them, and the third stays a chain of its own."""
+
+    def fresh(self):
+        return {}  # the names of stones; a chain's stones have one name
+
+    def place_handicap(self, points):
+        super().place_handicap(points)
+        self.kept = {point: -1 - point for point in points}
+
+    def chain(self, board, point):
+        found = super().chain(board, point)
+        if board[point] == EMPTY or point not in self.kept:
+            return found
+        return {stone for stone in found if self.kept.get(stone) == self.kept[point]}
+
+    def after(self, before, colour, point):
+        if point == PASS:
+            return self.kept
+        joined = list(dict.fromkeys(self.kept[near] for near in self.near[point] if before[near] == colour))[:2]
+        left = {stone: name for stone, name in self.kept.items() if self.board[stone] != EMPTY}
+        own = len(self.record)
+        return {stone: own if name in joined else name for stone, name in left.items()} | {point: own}
+
+
+# White's chain has the liberties A2, A4, B4, C3, C2 and B1, and A2 is beside two of its stones
+@shown_by(on(5, "w A3 w B3 w B2 b A2 b A4 b B4 b C3 b C2", "play w B2"), "?")
+class TouchedTwiceCountsTwice(Counted):
+    """A play takes a liberty from a chain of the other colour for each stone of it that it touches."""
+
+    def put(self, colour, point):
+        kept = self.free
+        touched = [self.heads[near] for near in self.near[point] if self.board[near] == other(colour)]
+        self.free = {head: count - max(touched.count(head) - 1, 0) for head, count in kept.items()}
+        board = super().put(colour, point)
+        self.free = kept
+        return board
+
+
+# Black's A2 and B2 get the liberties A1 and B1, and White fills A3, B3, C2 and A1
+@shown_by(on(5, "w A1 w B1 b A2 b B2 b C1 w A3 w B3 w C2 w A1", "play b A2"), "?")
+class TakenChainGivesOneLiberty(Counted):
+    """Where a chain is taken, each chain beside it gets one liberty, however many of its stones it touched."""
+
+    def take(self, board, heads, free, head):
+        stones = [stone for stone, its in heads.items() if its == head]
+        for stone in stones:
+            board[stone] = EMPTY
+            del heads[stone]
+        for beside in {heads[near] for stone in stones for near in self.near[stone] if near in heads}:
+            free[beside] += 1
+
+
+@shown_by(on(5, "w A2 w B2 w B1 w A1 b A3 b B3 b C2 b C1", "play b A2"), "=")
+class ChainJoinsItself(Keeping):
+    """A chain is a ring of links. A stone that touches one chain twice is linked twice, which cuts the ring in two."""
+
+    def fresh(self):
+        return {}  # for each stone the next one of its ring
+
+    def place_handicap(self, points):
+        super().place_handicap(points)
+        self.kept = {point: point for point in points}
+
+    def ring(self, stone):
+        """The stones of a ring."""
+        found = [stone]
+        while self.kept[found[-1]] != stone:
+            found.append(self.kept[found[-1]])
+        return found
+
+    def captures(self, board, colour, point):
+        whole = super().captures(board, colour, point)
+        return {stone for near in self.near[point] if near in whole for stone in self.ring(near)}
+
+    def after(self, before, colour, point):
+        links = {stone: following for stone, following in self.kept.items() if self.board[stone] != EMPTY}
+        if point != PASS:
+            links[point] = point
+            for near in [near for near in self.near[point] if self.board[near] == colour]:
+                links[point], links[near] = links[near], links[point]
+        return links
+
+
+@shown_by(on(5, "w A2 w B1 b A3 b C1 b B2", "play b B1"), "?")
+class SharedLibertyCountsOnce(Bug):
+    """Points are marked where liberties are counted, and the marks stay for the next chain beside the same play.
+
+    So that chain is taken where all its liberties are those of the chain before.
+    """
+
+    def captures(self, board, colour, point):
+        taken, marked = set(), set()
+        for near in self.near[point]:
+            if board[near] == other(colour) and near not in marked:
+                chain = self.chain(board, near)
+                free = self.liberties(board, chain)
+                taken |= set() if free - marked else chain
+                marked |= chain | free
+        return taken

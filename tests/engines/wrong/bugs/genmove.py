@@ -1,22 +1,32 @@
 """The moves that an engine chooses."""
-from rules import EMPTY, PASS, WHITE, other
 from right import Failure
-from talks import KO, Bug, on
+from rules import EMPTY, PASS, WHITE, other
+from talks import FORCED, KO, Bug, Keeping, gone, instead_of, on, patch, shown_by
 
-# Black's sensible play here is A1, which takes two stones. A play of White is suicide everywhere.
-FORCED = "b B1 b B2 b B3 b C2 w A2 w A3"
 # White's only legal play is A1, which takes the stone on B1. Then Black may not take back.
 FORCED_KO = "b A2 b A3 b B3 b B1 w C1 w C2 w B2"
 # White's legal plays are those of column J: Black has all others but the eyes A1 and C1.
 ALL_BUT_J = " ".join(f"b {c}{r}" for c in "ABCDEFGH" for r in range(1, 10) if f"{c}{r}" not in ("A1", "C1"))
 
+PATCHES = [
+    patch("chooses_for_the_other_colour", "The move is chosen for the other colour.", on(3, FORCED, "genmove w"), "moves pass",
+          choose=lambda self, right, colour: right(other(colour))),
+    patch("chosen_move_is_not_made", "The move is answered, and isn't made.", on(3, FORCED, "genmove b", "play b A1"), "?",
+          do_genmove=lambda self, right, arguments: self.write_point(self.choose(self.argument(arguments, 0, self.read_colour)))),
+    patch("letters_with_i", "The answer has I as the ninth letter.",
+          on(9, ALL_BUT_J, "genmove w"), "moves J1 J2 J3 J4 J5 J6 J7 J8 J9 pass",
+          do_genmove=lambda self, right, arguments: right(arguments).replace("J", "I")),
+    patch("point_and_its_value", "What the engine thinks of its move comes after the vertex.", on(5, "", "genmove b"), "but", plain=False,
+          do_genmove=lambda self, right, arguments: right(arguments) + " 0.52"),
+    patch("chosen_pass_is_a_point", "A pass is the number after the last point, and is written as a point: A10 on 9x9.",
+          on(1, "", "genmove b"), "moves pass",
+          write_point=lambda self, right, point: right(self.size * self.size if point == PASS else point)),
+]
 
+
+@shown_by(on(5, "b C3", "genmove w"), "but C3")
 class FirstMoveIsTheMiddle(Bug):
     """The engine's first move of a game is the middle, whatever is there."""
-
-    family = "genmove"
-    shows = on(5, "b C3", "genmove w")
-    right = "but C3"
 
     def begin(self, size):
         super().begin(size)
@@ -27,100 +37,51 @@ class FirstMoveIsTheMiddle(Bug):
         return len(self.board) // 2 if self.own == 1 else super().choose(colour)
 
 
-class FirstMoveIsTheMiddleOfAHandicap(Bug):
+@instead_of("choose", on(9, "", "fixed_handicap 5", "genmove w"), "but C3 G7 C7 G3 E5")
+def first_move_is_the_middle_of_a_handicap(self, right, colour):
     """The engine's first move is the middle where there is no move yet: a handicap is forgotten."""
-
-    family = "genmove"
-    shows = on(9, "", "fixed_handicap 5", "genmove w")
-    right = "but C3 G7 C7 G3 E5"
-
-    def choose(self, colour):
-        return super().choose(colour) if self.record or self.size < 7 else len(self.board) // 2
+    return right(colour) if self.record or self.size < 7 else len(self.board) // 2
 
 
-class ChoosesSuicide(Bug):
+@instead_of("is_sensible", on(3, FORCED, "genmove w"), "moves pass")
+def chooses_suicide(self, right, colour, point):
     """An empty point is chosen without a look at suicide."""
-
-    family = "genmove"
-    shows = on(3, FORCED, "genmove w")
-    right = "moves pass"
-
-    def is_sensible(self, colour, point):
-        own = all(self.board[near] == colour for near in self.near[point])
-        return self.board[point] == EMPTY and not own and not self.is_ko(self.put(colour, point), colour, point)
+    own = all(self.board[near] == colour for near in self.near[point])
+    return self.board[point] == EMPTY and not own and not self.is_ko(self.put(colour, point), colour, point)
 
 
-class TakesKoBack(Bug):
+@instead_of("choose", on(5, KO, "genmove b"), "but A1 A2 B2 C1 B1")
+def takes_ko_back(self, right, colour):
     """A capture is chosen where there is one, without a look at ko."""
-
-    family = "genmove"
-    shows = on(5, KO, "genmove b")
-    right = "but A1 A2 B2 C1 B1"
-
-    def choose(self, colour):
-        for point, stone in enumerate(self.board):
-            if stone == EMPTY and self.put(colour, point).count(other(colour)) < self.board.count(other(colour)):
-                return point
-        return super().choose(colour)
+    for point, stone in enumerate(self.board):
+        if stone == EMPTY and self.put(colour, point).count(other(colour)) < self.board.count(other(colour)):
+            return point
+    return right(colour)
 
 
-class ChoosesForTheOtherColour(Bug):
-    """The move is chosen for the other colour."""
-
-    family = "genmove"
-    shows = on(3, FORCED, "genmove w")
-    right = "moves pass"
-
-    def choose(self, colour):
-        return super().choose(other(colour))
-
-
-class StoneByTurn(Bug):
+@instead_of("do_genmove", on(3, "w A2 w A3 b B1 b B2 b B3 b C2", "genmove b", "play b A2"), "=")
+def stone_by_turn(self, right, arguments):
     """The stone has the colour whose turn it is by the record, whatever colour is asked for."""
-
-    family = "genmove"
-    shows = on(3, "w A2 w A3 b B1 b B2 b B3 b C2", "genmove b", "play b A2")
-    right = "="
-
-    def do_genmove(self, arguments):
-        colour = self.argument(arguments, 0, self.read_colour)
-        self.need_room()
-        point = self.choose(colour)
-        self.move(other(self.record[-1][0]) if self.record else colour, point)
-        return self.write_point(point)
+    colour = self.argument(arguments, 0, self.read_colour)
+    self.need_room()
+    point = self.choose(colour)
+    self.move(other(self.record[-1][0]) if self.record else colour, point)
+    return self.write_point(point)
 
 
-class ChosenMoveIsNotMade(Bug):
-    """The move is answered, and isn't made."""
-
-    family = "genmove"
-    shows = on(3, FORCED, "genmove b", "play b A1")
-    right = "?"
-
-    def do_genmove(self, arguments):
-        return self.write_point(self.choose(self.argument(arguments, 0, self.read_colour)))
-
-
-class ChosenCapturesStay(Bug):
+@instead_of("do_genmove", on(3, FORCED, "genmove b", "play b A2"), "=")
+def chosen_captures_stay(self, right, arguments):
     """The stones that a chosen move captures stay on the board."""
-
-    family = "genmove"
-    shows = on(3, FORCED, "genmove b", "play b A2")
-    right = "="
-
-    def do_genmove(self, arguments):
-        before = self.board
-        text = super().do_genmove(arguments)
-        self.board = bytes(new or old for old, new in zip(before, self.board))
-        return text
+    before = self.board
+    text = right(arguments)
+    self.board = bytes(new or old for old, new in zip(before, self.board))
+    return text
 
 
+@shown_by(on(3, FORCED_KO, "genmove w", "play b B1"), "?")
 class KoAfterAGenmove(Bug):
     """Ko isn't looked at after a move that the engine has chosen."""
 
-    family = "genmove"
-    shows = on(3, FORCED_KO, "genmove w", "play b B1")
-    right = "?"
     chosen = 0
 
     def do_genmove(self, arguments):
@@ -132,135 +93,181 @@ class KoAfterAGenmove(Bug):
         return len(self.record) != self.chosen and super().is_ko(board, colour, point)
 
 
-class ThinksOfTheBoardBefore(Bug):
+@instead_of("choose", on(3, FORCED_KO + " w A1", "genmove w"), "moves B1 C3 pass")
+def thinks_of_the_board_before(self, right, colour):
     """The move is chosen on the board before the last move, which came while the engine was thinking."""
-
-    family = "genmove"
-    shows = on(3, FORCED_KO + " w A1", "genmove w")
-    right = "moves B1 C3 pass"
-
-    def choose(self, colour):
-        if not self.boards:
-            return super().choose(colour)
-        board, self.board = self.board, self.boards[-1]
-        try:
-            return super().choose(colour)
-        finally:
-            self.board = board
+    if not self.boards:
+        return right(colour)
+    board, self.board = self.board, self.boards[-1]
+    try:
+        return right(colour)
+    finally:
+        self.board = board
 
 
-class NoMoveIsAFailure(Bug):
+@instead_of("choose", on(2, "b A2 b B1", "genmove w"), "moves pass")
+def no_move_is_a_failure(self, right, colour):
     """Where nothing is left to play the engine fails, and doesn't pass."""
-
-    family = "genmove"
-    shows = on(2, "b A2 b B1", "genmove w")
-    right = "moves pass"
-
-    def choose(self, colour):
-        point = super().choose(colour)
-        if point == PASS:
-            raise Failure("no move left")
-        return point
+    point = right(colour)
+    if point == PASS:
+        raise Failure("no move left")
+    return point
 
 
-class RowsFromTheTop(Bug):
+@instead_of("do_genmove", on(3, FORCED, "genmove b"), "moves A1 C1 C3 pass")
+def rows_from_the_top(self, right, arguments):
     """The answer counts rows from the top, and the stone is put rightly."""
-
-    family = "genmove"
-    shows = on(3, FORCED, "genmove b")
-    right = "moves A1 C1 C3 pass"
-
-    def do_genmove(self, arguments):
-        text = super().do_genmove(arguments)
-        return text if text == PASS else text[0] + str(self.size + 1 - int(text[1:]))
+    text = right(arguments)
+    return text if text == PASS else text[0] + str(self.size + 1 - int(text[1:]))
 
 
-class ColumnsForRows(Bug):
+@instead_of("do_genmove", on(3, "b A2 b A3 b B1 b B2 b B3 w C2 w C3", "genmove b"), "moves C1 A1 pass")
+def columns_for_rows(self, right, arguments):
     """The answer has the row's letter and the column's number, and the stone is put rightly."""
-
-    family = "genmove"
-    shows = on(3, "b A2 b A3 b B1 b B2 b B3 w C2 w C3", "genmove b")
-    right = "moves C1 A1 pass"
-
-    def do_genmove(self, arguments):
-        text = super().do_genmove(arguments)
-        if text == PASS:
-            return text
-        row, column = divmod(self.record[-1][1], self.size)
-        return self.write_point(column * self.size + row)
-
-
-class LettersWithI(Bug):
-    """The answer has I as the ninth letter."""
-
-    family = "genmove"
-    shows = on(9, ALL_BUT_J, "genmove w")
-    right = "moves J1 J2 J3 J4 J5 J6 J7 J8 J9 pass"
-
-    def do_genmove(self, arguments):
-        return super().do_genmove(arguments).replace("J", "I")
-
-
-class PointAndItsValue(Bug):
-    """What the engine thinks of its move comes after the vertex."""
-
-    family = "genmove"
-    shows = on(5, "", "genmove b")
-    right = "but"
-    plain = False
-
-    def do_genmove(self, arguments):
-        return super().do_genmove(arguments) + " 0.52"
-
-
-class EndsOnOnePoint(Bug):
-    """The program ends on 1x1, where there is nothing to draw from."""
-
-    family = "genmove"
-    shows = on(1, "", "genmove b")
-    right = "moves pass"
-
-    def choose(self, colour):
-        if len(self.board) == 1:
-            raise SystemExit(1)
-        return super().choose(colour)
-
-
-class PassEndsTheGame(Bug):
-    """After a pass of the other side the engine fails, as if the game were over."""
-
-    family = "genmove"
-    shows = on(5, "b pass", "genmove w")
-    right = "but"
-
-    def choose(self, colour):
-        if self.record and self.record[-1][1] == PASS:
-            raise Failure("the game is over")
-        return super().choose(colour)
-
-
-class NoColourIsRead(Bug):
-    """The engine's stones are White's, whatever colour is asked for."""
-
-    family = "genmove"
-    shows = on(3, FORCED, "genmove b", "play b A2")
-    right = "="
-
-    def do_genmove(self, arguments):
-        point = self.choose(self.argument(arguments, 0, self.read_colour))
-        self.move(WHITE, point)
-        return self.write_point(point)
-
-
-class PassIsNotMade(Bug):
-    """A pass that the engine chooses isn't in the record."""
-
-    family = "genmove"
-    shows = on(2, "b A2 b B1", "genmove w", "undo", "play b B1")
-    right = "?"
-
-    def do_genmove(self, arguments):
-        text = super().do_genmove(arguments)
-        if text == PASS:
-            self.undo()
+    text = right(arguments)
+    if text == PASS:
         return text
+    row, column = divmod(self.record[-1][1], self.size)
+    return self.write_point(column * self.size + row)
+
+
+@instead_of("choose", on(1, "", "genmove b"), "moves pass")
+def ends_on_one_point(self, right, colour):
+    """The program ends on 1x1, where there is nothing to draw from."""
+    if len(self.board) == 1:
+        raise SystemExit(1)
+    return right(colour)
+
+
+@instead_of("choose", on(5, "b pass", "genmove w"), "but")
+def pass_ends_the_game(self, right, colour):
+    """After a pass of the other side the engine fails, as if the game were over."""
+    if self.record and self.record[-1][1] == PASS:
+        raise Failure("the game is over")
+    return right(colour)
+
+
+@instead_of("do_genmove", on(3, FORCED, "genmove b", "play b A2"), "=")
+def no_colour_is_read(self, right, arguments):
+    """The engine's stones are White's, whatever colour is asked for."""
+    point = self.choose(self.argument(arguments, 0, self.read_colour))
+    self.move(WHITE, point)
+    return self.write_point(point)
+
+
+@instead_of("do_genmove", on(2, "b A2 b B1", "genmove w", "undo", "play b B1"), "?")
+def pass_is_not_made(self, right, arguments):
+    """A pass that the engine chooses isn't in the record."""
+    text = right(arguments)
+    if text == PASS:
+        self.undo()
+    return text
+
+
+@instead_of("choose", on(3, FORCED, "genmove w"), "moves pass")
+def saves_a_chain_by_suicide(self, right, colour):
+    """A chain that has one liberty left is saved by a play there, without a look at suicide."""
+    for point, stone in enumerate(self.board):
+        free = self.liberties(self.board, self.chain(self.board, point) if stone == colour else ())
+        if len(free) == 1 and not self.is_ko(self.put(colour, min(free)), colour, min(free)):
+            return min(free)
+    return right(colour)
+
+
+@instead_of("choose", on(3, FORCED, "genmove w", "play w A2"), "?")
+def tried_captures_stay(self, right, colour):
+    """The engine tries what the other side can take on its own board, and doesn't put those stones back."""
+    chosen = right(colour)
+    tried = [point for point in range(len(self.board)) if self.is_legal(other(colour), point)]
+    boards = [self.put(other(colour), point) for point in tried]
+    left = [stone if all(board[place] for board in boards) else EMPTY for place, stone in enumerate(self.board)]
+    self.board = bytes(left)
+    return chosen
+
+
+# B2 takes A1, A2 and B1, of which it touches two, and Black plays one of them again
+@shown_by(on(5, "b A1 b A2 b B1 w A3 w C1 w B2 b A2", "genmove w"), "but A2 A3 C1 B2")
+class EmptyPointsAreListedTwice(Keeping):
+    """A captured chain is listed as empty once for each of its stones by the play, and `genmove` goes by the list."""
+
+    def fresh(self):
+        return list(range(len(self.board)))
+
+    def place_handicap(self, points):
+        super().place_handicap(points)
+        self.kept = [point for point in self.kept if point not in points]
+
+    def after(self, before, colour, point):
+        empty = list(self.kept)
+        for near in self.near[point] if point != PASS else ():
+            if before[near] == other(colour) and self.board[near] == EMPTY:
+                empty += sorted(self.chain(before, near))
+        if point != PASS:
+            empty.remove(point)
+        return empty
+
+    def choose(self, colour):
+        """The last point of the list where a play is no suicide, no ko and no eye."""
+        for point in reversed(self.kept):
+            board = self.put(colour, point)
+            is_eye = all(board[near] == colour for near in self.near[point])
+            if not (is_eye or self.is_suicide(board, colour, point) or self.is_ko(board, colour, point)):
+                return point
+        return PASS
+
+
+# White can play B2 alone, and takes A1 and A2
+@shown_by(on(2, "b A1 b A2 w B1", "genmove w", "undo", "play w B2"), "=")
+class ChosenPointStaysTaken(Bug):
+    """A chosen point leaves the list of empty points. A capture puts it back, and `undo` doesn't."""
+
+    def begin(self, size):
+        super().begin(size)
+        self.chosen = set()
+
+    def move(self, colour, point):
+        before = self.board
+        super().move(colour, point)
+        self.chosen -= set(gone(before, self.board))
+
+    def do_genmove(self, arguments):
+        text = super().do_genmove(arguments)
+        self.chosen.add(self.record[-1][1])
+        return text
+
+    def is_legal(self, colour, point):
+        return super().is_legal(colour, point) and (point == PASS or point not in self.chosen)
+
+
+# White can play B2 alone, and at the end B1 alone
+@shown_by(on(2, "b A1 b A2 w B1", "genmove w", "undo", "undo", "play w B2", "genmove w"), "moves B1 pass")
+class ChoiceOfTheMoveNumber(Bug):
+    """A choice is kept by the number of the move, and after an `undo` it is chosen again, whatever was played else."""
+
+    def begin(self, size):
+        super().begin(size)
+        self.choices = {}
+
+    def choose(self, colour):
+        number = len(self.record)
+        if number not in self.choices:
+            self.choices[number] = super().choose(colour)
+        return self.choices[number]
+
+
+@instead_of("do_genmove", on(5, "b C3 b pass w pass", "genmove b"), "but C3")
+def two_passes_end_the_choice(self, right, arguments):
+    """`genmove` fails after two passes, as if the game were over, and `play` doesn't."""
+    if [point for _, point in self.record[-2:]] == [PASS, PASS]:
+        raise Failure("the game is over")
+    return right(arguments)
+
+
+@instead_of("choose", on(1, "", "genmove b"), "moves pass")
+def last_draw_is_played(self, right, colour):
+    """A point is drawn up to a thousand times, until it may be played, and then the last one is played in any case."""
+    for _ in range(1000):
+        point = int(self.random.random() * len(self.board))
+        if self.is_sensible(colour, point):
+            break
+    return point

@@ -1,6 +1,7 @@
 """Handicap stones."""
+from right import Failure
 from rules import WHITE
-from talks import Bug, on, plays
+from talks import Bug, filled, instead_of, on, patch, plays, shown_by
 
 
 def placed(size, stones):
@@ -8,136 +9,71 @@ def placed(size, stones):
     return on(size, "", f"fixed_handicap {stones}")
 
 
-class SixStonesAreTurned(Bug):
+PATCHES = [
+    patch("seven_stones_lack_the_middle", "The seventh of seven stones is the seventh of eight.",
+          placed(9, 7), "points C3 G7 C7 G3 C5 G5 E5",
+          handicap=lambda self, right, stones: right(8)[:7] if stones == 7 else right(stones)),
+    patch("two_stones_on_the_other_corners", "Two stones are in the upper left and the lower right corner: rows are counted from the top.",
+          placed(9, 2), "points C3 G7",
+          handicap=lambda self, right, stones: [(column, self.size - 1 - row) for column, row in right(stones)]),
+    patch("fourth_line_on_9", "The stones are on the fourth line from size 9 on.", placed(9, 2), "points C3 G7",
+          low_line=lambda self, right: 2 if self.size < 9 else 3),
+    patch("third_line_on_13", "The stones are on the third line up to size 13.", placed(13, 2), "points D4 K10",
+          low_line=lambda self, right: 2 if self.size <= 13 else 3),
+    patch("five_stones_on_even_sizes", "Five stones and more are placed on even sizes, where there is no middle.", placed(8, 5), "?",
+          most_stones=lambda self, right: right() if self.size < 8 else 9),
+    patch("five_stones_on_seven", "Five stones and more are placed on 7x7.", placed(7, 5), "?",
+          most_stones=lambda self, right: 9 if self.size == 7 else right()),
+    patch("handicap_on_six", "Handicaps are placed from size 5 on.", placed(6, 2), "?",
+          most_stones=lambda self, right: 4 if self.size in (5, 6) else right()),
+    patch("no_handicap_past_19", "No handicap is placed on boards larger than 19x19, which are taken.",
+          placed(25, 5), "points D4 W22 D22 W4 N13",
+          most_stones=lambda self, right: right() if self.size <= 19 else 0),
+    patch("handicap_on_a_board_in_use", "A handicap is placed after a move, too.", on(9, "b A1", "fixed_handicap 2"), "?",
+          is_untouched=lambda self, right: True),
+    patch("no_handicap_below_nine", "No handicap is placed on 7x7 and on 8x8.", on(7, "", "fixed_handicap 2"), "points C3 E5",
+          most_stones=lambda self, right: right() if self.size >= 9 else 0),
+    patch("fifth_line_past_19", "Past 19x19 the handicap points are on the fifth line: the author goes on from the third and the fourth.",
+          on(25, "", "fixed_handicap 2"), "points D4 W22",
+          low_line=lambda self, right: 4 if self.size > 19 else right()),
+    patch("handicap_on_a_handicap", "A board is taken as empty where there is no move, so a second handicap is placed on the first one.",
+          on(9, "", "fixed_handicap 2", "fixed_handicap 9"), "?",
+          is_untouched=lambda self, right: not self.record),
+    patch("five_stones_lack_the_middle", "The fifth of five stones is the fifth of six.",
+          on(9, "", "fixed_handicap 5"), "points C3 G7 C7 G3 E5",
+          handicap=lambda self, right, stones: right(6)[:5] if stones == 5 else right(stones)),
+    patch("fourth_line_on_twelve", "The stones are on the fourth line from size 12 on.", on(12, "", "fixed_handicap 2"), "points C3 K10",
+          low_line=lambda self, right: 2 if self.size < 12 else 3),
+    patch("handicap_has_commas", "There is a comma after each point of a handicap but the last one.",
+          on(9, "", "fixed_handicap 2"), "points C3 G7",
+          do_fixed_handicap=lambda self, right, arguments: right(arguments).replace(" ", ", ")),
+]
+
+
+@instead_of("handicap", placed(9, 6), "points C3 G7 C7 G3 C5 G5")
+def six_stones_are_turned(self, right, stones):
     """The fifth and the sixth of six stones are below and above the middle, in place of left and right."""
-
-    family = "handicap"
-    shows = placed(9, 6)
-    right = "points C3 G7 C7 G3 C5 G5"
-
-    def handicap(self, stones):
-        points = super().handicap(stones)
-        return points[:4] + [(row, column) for column, row in points[4:]] if stones == 6 else points
+    points = right(stones)
+    return points[:4] + [(row, column) for column, row in points[4:]] if stones == 6 else points
 
 
-class EightStonesLackTheTop(Bug):
+@instead_of("handicap", placed(9, 8), "points C3 G7 C7 G3 C5 G5 E3 E7")
+def eight_stones_lack_the_top(self, right, stones):
     """The eighth of eight stones is in the middle."""
-
-    family = "handicap"
-    shows = placed(9, 8)
-    right = "points C3 G7 C7 G3 C5 G5 E3 E7"
-
-    def handicap(self, stones):
-        points = super().handicap(stones)
-        return points[:7] + [(self.size // 2, self.size // 2)] if stones == 8 else points
+    points = right(stones)
+    return points[:7] + [(self.size // 2, self.size // 2)] if stones == 8 else points
 
 
-class SevenStonesLackTheMiddle(Bug):
-    """The seventh of seven stones is the seventh of eight."""
-
-    family = "handicap"
-    shows = placed(9, 7)
-    right = "points C3 G7 C7 G3 C5 G5 E5"
-
-    def handicap(self, stones):
-        return super().handicap(8)[:7] if stones == 7 else super().handicap(stones)
-
-
-class ThirdStoneIsBelow(Bug):
+@instead_of("handicap", placed(9, 3), "points C3 G7 C7")
+def third_stone_is_below(self, right, stones):
     """The third stone is in the lower right corner, and the standard has it in the upper left one."""
-
-    family = "handicap"
-    shows = placed(9, 3)
-    right = "points C3 G7 C7"
-
-    def handicap(self, stones):
-        points = super().handicap(stones)
-        return points[:2] + [points[2][::-1]] if stones == 3 else points
+    points = right(stones)
+    return points[:2] + [points[2][::-1]] if stones == 3 else points
 
 
-class TwoStonesOnTheOtherCorners(Bug):
-    """Two stones are in the upper left and the lower right corner: rows are counted from the top."""
-
-    family = "handicap"
-    shows = placed(9, 2)
-    right = "points C3 G7"
-
-    def handicap(self, stones):
-        return [(column, self.size - 1 - row) for column, row in super().handicap(stones)]
-
-
-class FourthLineOn9(Bug):
-    """The stones are on the fourth line from size 9 on."""
-
-    family = "handicap"
-    shows = placed(9, 2)
-    right = "points C3 G7"
-
-    def low_line(self):
-        return 2 if self.size < 9 else 3
-
-
-class ThirdLineOn13(Bug):
-    """The stones are on the third line up to size 13."""
-
-    family = "handicap"
-    shows = placed(13, 2)
-    right = "points D4 K10"
-
-    def low_line(self):
-        return 2 if self.size <= 13 else 3
-
-
-class FiveStonesOnEvenSizes(Bug):
-    """Five stones and more are placed on even sizes, where there is no middle."""
-
-    family = "handicap"
-    shows = placed(8, 5)
-    right = "?"
-
-    def most_stones(self):
-        return super().most_stones() if self.size < 8 else 9
-
-
-class FiveStonesOnSeven(Bug):
-    """Five stones and more are placed on 7x7."""
-
-    family = "handicap"
-    shows = placed(7, 5)
-    right = "?"
-
-    def most_stones(self):
-        return 9 if self.size == 7 else super().most_stones()
-
-
-class HandicapOnSix(Bug):
-    """Handicaps are placed from size 5 on."""
-
-    family = "handicap"
-    shows = placed(6, 2)
-    right = "?"
-
-    def most_stones(self):
-        return 4 if self.size in (5, 6) else super().most_stones()
-
-
-class NoHandicapPast19(Bug):
-    """No handicap is placed on boards larger than 19x19, which are taken."""
-
-    family = "handicap"
-    shows = placed(25, 5)
-    right = "points D4 W22 D22 W4 N13"
-
-    def most_stones(self):
-        return super().most_stones() if self.size <= 19 else 0
-
-
+@shown_by(placed(9, 1), "?")
 class OneStoneIsPlaced(Bug):
     """A handicap of one stone is placed."""
-
-    family = "handicap"
-    shows = placed(9, 1)
-    right = "?"
 
     def allows(self, stones):
         return stones == 1 and self.size >= 7 or super().allows(stones)
@@ -146,60 +82,29 @@ class OneStoneIsPlaced(Bug):
         return super().handicap(2)[:1] if stones == 1 else super().handicap(stones)
 
 
-class TenStonesAreNine(Bug):
+@instead_of("do_fixed_handicap", placed(9, 10), "?")
+def ten_stones_are_nine(self, right, arguments):
     """More than nine stones are taken as nine."""
-
-    family = "handicap"
-    shows = placed(9, 10)
-    right = "?"
-
-    def do_fixed_handicap(self, arguments):
-        stones = self.argument(arguments, 0, self.read_int)
-        return super().do_fixed_handicap([str(min(stones, 9))])
+    stones = self.argument(arguments, 0, self.read_int)
+    return right([str(min(stones, 9))])
 
 
-class StonesAreNotPlaced(Bug):
+@instead_of("place_handicap", [*placed(9, 2), "play b C3"], "?")
+def stones_are_not_placed(self, right, points):
     """The points are answered, and no stone is placed."""
-
-    family = "handicap"
-    shows = [*placed(9, 2), "play b C3"]
-    right = "?"
-
-    def place_handicap(self, points):
-        pass
+    pass
 
 
-class StonesAreWhite(Bug):
+@instead_of("place_handicap", [*placed(9, 2), *plays("w B3 w D3 w C2 w C4 w C3")], "=")
+def stones_are_white(self, right, points):
     """The stones are White's."""
-
-    family = "handicap"
-    shows = [*placed(9, 2), *plays("w B3 w D3 w C2 w C4 w C3")]
-    right = "="
-
-    def place_handicap(self, points):
-        board = bytearray(self.board)
-        for point in points:
-            board[point] = WHITE
-        self.board = bytes(board)
+    self.board = filled(self.board, points, WHITE)
 
 
-class HandicapOnABoardInUse(Bug):
-    """A handicap is placed after a move, too."""
-
-    family = "handicap"
-    shows = on(9, "b A1", "fixed_handicap 2")
-    right = "?"
-
-    def is_untouched(self):
-        return True
-
-
+@shown_by(on(9, "b A1", "undo", "fixed_handicap 2"), "points C3 G7")
 class NoHandicapAfterUndo(Bug):
     """A handicap is refused once there was a move, also where it was taken back."""
 
-    family = "handicap"
-    shows = on(9, "b A1", "undo", "fixed_handicap 2")
-    right = "points C3 G7"
     used = False
 
     def begin(self, size):
@@ -214,24 +119,16 @@ class NoHandicapAfterUndo(Bug):
         return not self.used and super().is_untouched()
 
 
-class LettersHaveI(Bug):
+@instead_of("do_fixed_handicap", placed(19, 2), "points D4 Q16")
+def letters_have_i(self, right, arguments):
     """The points are answered with I as the ninth letter, and placed rightly."""
-
-    family = "handicap"
-    shows = placed(19, 2)
-    right = "points D4 Q16"
-
-    def do_fixed_handicap(self, arguments):
-        words = super().do_fixed_handicap(arguments).split()
-        return " ".join(chr(ord(word[0]) - (word[0] > "I")) + word[1:] for word in words)
+    words = right(arguments).split()
+    return " ".join(chr(ord(word[0]) - (word[0] > "I")) + word[1:] for word in words)
 
 
+@shown_by([*placed(9, 2), *plays("w B3 w D3 w C2 w C4 w C3")], "=")
 class HandicapStonesLive(Bug):
     """The stones of a handicap can't be captured: their chains aren't in the list of chains."""
-
-    family = "handicap"
-    shows = [*placed(9, 2), *plays("w B3 w D3 w C2 w C4 w C3")]
-    right = "="
 
     def begin(self, size):
         super().begin(size)
@@ -243,3 +140,45 @@ class HandicapStonesLive(Bug):
 
     def captures(self, board, colour, point):
         return super().captures(board, colour, point) - self.placed
+
+
+# all 81 points are Black's
+@instead_of("place_handicap", on(9, "", "komi 6.5", "fixed_handicap 2", "final_score"), "= B+74.5")
+def handicap_sets_komi(self, right, points):
+    """A handicap sets komi to 0.5."""
+    right(points)
+    self.komi = 1
+
+
+@instead_of("do_fixed_handicap", on(8, "", "! fixed_handicap 5", "play b C3"), "=")
+def refused_handicap_is_placed(self, right, arguments):
+    """A handicap of too many stones is refused only after as many as the size allows were placed."""
+    most = self.most_stones()
+    if self.is_untouched() and self.argument(arguments, 0, self.read_int) > most > 0:
+        right([str(most)])
+        raise Failure("invalid number of stones")
+    return right(arguments)
+
+
+@instead_of("place_handicap", on(9, "", "fixed_handicap 3", "play w C7"), "?")
+def handicap_is_transposed(self, right, points):
+    """The points of a handicap are answered rightly, and placed with column and row exchanged."""
+    places = [divmod(point, self.size) for point in points]
+    right([column * self.size + row for row, column in places])
+
+
+@shown_by(on(9, "", "! fixed_handicap 10", "fixed_handicap 2"), "points C3 G7")
+class RefusedHandicapCounts(Bug):
+    """That there is a handicap is noted before its number is looked at, so after a refused one the next one fails."""
+
+    noted = False
+
+    def begin(self, size):
+        super().begin(size)
+        self.noted = False
+
+    def do_fixed_handicap(self, arguments):
+        if self.noted:
+            raise Failure("board not empty")
+        self.noted = True
+        return super().do_fixed_handicap(arguments)

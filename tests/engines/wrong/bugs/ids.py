@@ -1,14 +1,33 @@
 """The ids of replies."""
-from talks import Bug, on
+import struct
+
+from talks import Bug, instead_of, on, patch, shown_by
+
+PATCHES = [
+    patch("no_id_at_a_failure", "A failure is answered without its id.", on(5, "b C3", "7 play w C3"), "?",
+          head=lambda self, right, good, number, text: right(good, number if good else None, text)),
+    patch("no_id_without_a_text", "A reply without a text has no id.", ["7 komi 0"], "=", plain=False,
+          head=lambda self, right, good, number, text: right(good, number if text else None, text)),
+    patch("id_of_zero_is_none", "The id 0 is left out: the author asks whether the id is true.", ["0 name"], "= plain",
+          head=lambda self, right, good, number, text: right(good, number or None, text)),
+    patch("ids_are_bytes", "An id is kept in a byte, so 256 is 0.", ["256 name"], "= plain",
+          head=lambda self, right, good, number, text: right(good, None if number is None else number % 256, text)),
+    patch("ids_have_three_digits", "An id has room for three digits, and loses its last ones.", ["1000 name"], "= plain",
+          head=lambda self, right, good, number, text: right(good, None if number is None else int(str(number)[:3]), text)),
+    patch("ids_of_one_digit", "An id is looked for in the line's first character alone, so 10 is an unknown command.",
+          ["10 name"], "= plain",
+          split_id=lambda self, right, words: (None, words) if len(words[0]) > 1 else right(words)),
+    patch("id_behind_a_space", "There is a space between the mark and the id.", ["1 name"], "= plain", plain=False,
+          head=lambda self, right, good, number, text: ("= " if good else "? ") + right(good, number, text)[1:]),
+    patch("ids_have_commas", "An id is written with a comma at the thousands, as some libraries write numbers.", ["1000 name"], "= plain",
+          head=lambda self, right, good, number, text: right(good, None if number is None else f"{number:,}", text)),
+]
 
 
+@shown_by(["1 name", "2 version"], "= 1", plain=False)
 class IdOfTheCommandBefore(Bug):
     """A reply has the id of the command before: it is noted once the reply was written."""
 
-    family = "ids"
-    shows = ["1 name", "2 version"]
-    right = "= 1"
-    plain = False
     noted = None
 
     def reply(self, good, number, text):
@@ -17,105 +36,18 @@ class IdOfTheCommandBefore(Bug):
         return super().reply(good, shown, text)
 
 
-class NoIdAtAFailure(Bug):
-    """A failure is answered without its id."""
-
-    family = "ids"
-    shows = on(5, "b C3", "7 play w C3")
-    right = "?"
-
-    def head(self, good, number, text):
-        return super().head(good, number if good else None, text)
-
-
-class NoIdAtAGenmove(Bug):
+@instead_of("answer", on(5, "", "7 genmove b"), "but", plain=False)
+def no_id_at_a_genmove(self, right, line):
     """The reply to a `genmove` has no id: another function writes it."""
-
-    family = "ids"
-    shows = on(5, "", "7 genmove b")
-    right = "but"
-    plain = False
-
-    def answer(self, line):
-        whole = super().answer(line)
-        chosen = whole.startswith("=") and self.command_of(line) == "genmove"
-        return "=" + whole.lstrip("=0123456789") if chosen else whole
+    whole = right(line)
+    chosen = whole.startswith("=") and self.command_of(line) == "genmove"
+    return "=" + whole.lstrip("=0123456789") if chosen else whole
 
 
-class NoIdWithoutAText(Bug):
-    """A reply without a text has no id."""
-
-    family = "ids"
-    shows = ["7 komi 0"]
-    right = "="
-    plain = False
-
-    def head(self, good, number, text):
-        return super().head(good, number if text else None, text)
-
-
-class IdOfZeroIsNone(Bug):
-    """The id 0 is left out: the author asks whether the id is true."""
-
-    family = "ids"
-    shows = ["0 name"]
-    right = "= plain"
-
-    def head(self, good, number, text):
-        return super().head(good, number or None, text)
-
-
-class IdsAreBytes(Bug):
-    """An id is kept in a byte, so 256 is 0."""
-
-    family = "ids"
-    shows = ["256 name"]
-    right = "= plain"
-
-    def head(self, good, number, text):
-        return super().head(good, None if number is None else number % 256, text)
-
-
-class IdsHaveThreeDigits(Bug):
-    """An id has room for three digits, and loses its last ones."""
-
-    family = "ids"
-    shows = ["1000 name"]
-    right = "= plain"
-
-    def head(self, good, number, text):
-        return super().head(good, None if number is None else int(str(number)[:3]), text)
-
-
-class IdsOfOneDigit(Bug):
-    """An id is looked for in the line's first character alone, so 10 is an unknown command."""
-
-    family = "ids"
-    shows = ["10 name"]
-    right = "= plain"
-
-    def split_id(self, words):
-        return (None, words) if len(words[0]) > 1 else super().split_id(words)
-
-
-class IdBehindASpace(Bug):
-    """There is a space between the mark and the id."""
-
-    family = "ids"
-    shows = ["1 name"]
-    right = "= plain"
-    plain = False
-
-    def head(self, good, number, text):
-        return ("= " if good else "? ") + super().head(good, number, text)[1:]
-
-
+@shown_by(["2 name"], "= plain")
 class IdsAreItsOwnCount(Bug):
     """Replies are numbered by the engine's own count of commands, which is right while ids go up by one from 1."""
 
-    family = "ids"
-    shows = ["2 name"]
-    right = "= plain"
     count = 0
 
     def head(self, good, number, text):
@@ -123,12 +55,10 @@ class IdsAreItsOwnCount(Bug):
         return super().head(good, None if number is None else self.count, text)
 
 
+@shown_by(["! 1 no_such_command", "2 name"], "= plain")
 class IdsCountSuccesses(Bug):
     """Replies are numbered by the engine's own count, and a command that fails isn't counted."""
 
-    family = "ids"
-    shows = ["! 1 no_such_command", "2 name"]
-    right = "= plain"
     count = 0
 
     def head(self, good, number, text):
@@ -136,12 +66,56 @@ class IdsCountSuccesses(Bug):
         return super().head(good, None if number is None else self.count + (not good), text)
 
 
-class IdAtMultipleLines(Bug):
+@instead_of("reply", ["4 list_commands"], "= " + "\n".join(Bug.names))
+def id_at_multiple_lines(self, right, good, number, text):
     """The id is before each line of a reply with several lines."""
+    return right(good, number, text if number is None else text.replace("\n", f"\n{number} "))
 
-    family = "ids"
-    shows = ["4 list_commands"]
-    right = "= " + "\n".join(Bug.names)
 
-    def reply(self, good, number, text):
-        return super().reply(good, number, text if number is None else text.replace("\n", f"\n{number} "))
+@shown_by(["5 name", "version"], "= 1")
+class IdStays(Bug):
+    """A line without an id is answered with the id of the last line that had one."""
+
+    last = None
+
+    def head(self, good, number, text):
+        self.last = self.last if number is None else number
+        return super().head(good, self.last, text)
+
+
+@instead_of("head", ["16777217 name"], "= plain")
+def ids_are_floats(self, right, good, number, text):
+    """An id is a number with 24 bits and an exponent, so a large odd one comes back as an even one."""
+    if number is not None:
+        number = int(struct.unpack("f", struct.pack("f", number))[0])
+    return right(good, number, text)
+
+
+@instead_of("head", [*("\n".join(f"{number} name" for number in range(first, first + 512)) for first in range(0, 32768, 512)), "32768 name"],
+            "= plain")
+def ids_are_shorts(self, right, good, number, text):
+    """An id has sixteen bits and a sign, so the one after 32,767 is written with a minus."""
+    return right(good, number if number is None else (number + 32768) % 65536 - 32768, text)
+
+
+@shown_by(["1 name\n2 version"], "= 1")
+class IdOfTheLastLineOfARead(Bug):
+    """The lines of a read are parsed before the first one is executed, so all replies have the last one's id."""
+
+    last = None
+
+    def lines(self, data):
+        lines = super().lines(data)
+        for words in filter(None, map(self.words, lines)):
+            self.last = self.split_id(words)[0]
+        return lines
+
+    def head(self, good, number, text):
+        return super().head(good, self.last, text)
+
+
+@instead_of("answer", on(5, "", "7 undo"), "?")
+def failed_undo_has_no_id(self, right, line):
+    """Each command prints its own failure, and the one of `undo` has no id."""
+    fails = self.command_of(line) == "undo" and not self.record
+    return "? cannot undo\n\n" if fails else right(line)

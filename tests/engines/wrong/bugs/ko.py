@@ -1,207 +1,209 @@
 """Ko."""
-from right import Failure
 from rules import EMPTY, PASS, POSITIONAL, other
-from talks import KO, Bug, on
+from talks import KO, NO_ROOM_AT_E5, Bug, Counting, Keeping, gone, instead_of, on, passes, patch, shown_by
+
+HAS_STONE = bytes(min(value, 1) for value in range(256))
+
+PATCHES = [
+    patch("no_ko", "There is no ko.", on(5, KO, "play b B1"), "?",
+          is_ko=lambda self, right, board, colour, point: False),
+    patch("no_ko_at_the_edge", "A ko is noticed only where the stone that took has four neighbours.", on(5, KO, "play b B1"), "?",
+          is_ko=lambda self, right, board, colour, point: right(board, colour, point) and len(self.near[self.record[-1][1]]) == 4),
+    patch("every_board_is_ko", "Under simple ko no board of the game may come back.", on(2, "b A1 w B1 w B2 w A2", "play b A1"), "=",
+          is_ko=lambda self, right, board, colour, point: board in self.boards),
+    patch("eight_boards_alone", "Positional ko looks at the last eight boards alone.",
+          on(5, KO + " b pass w pass" * 4, "play b B1"), "?", options=("--ko", POSITIONAL),
+          is_ko=lambda self, right, board, colour, point: board in self.boards[-8:]),
+    patch("point_zero_is_no_ko", "A ko at A1 isn't noticed: A1 is point 0, and 0 is the note that there is no ko.",
+          on(5, "b A1 w A2 b B2 b C1 w B1", "play b A1"), "?",
+          is_ko=lambda self, right, board, colour, point: point != 0 and right(board, colour, point)),
+]
 
 
-class NoKo(Bug):
-    """There is no ko."""
-
-    family = "ko"
-    shows = on(5, KO, "play b B1")
-    right = "?"
-
-    def is_ko(self, board, colour, point):
-        return False
-
-
-class KoOutlivesAPass(Bug):
+@instead_of("is_ko", on(5, KO + " b pass", "play b B1"), "=")
+def ko_outlives_a_pass(self, right, board, colour, point):
     """A pass doesn't end the ko."""
-
-    family = "ko"
-    shows = on(5, KO + " b pass", "play b B1")
-    right = "="
-
-    def is_ko(self, board, colour, point):
-        number = len(self.record)
-        while number > 0 and self.record[number - 1][1] == PASS:
-            number -= 1
-        return number > 0 and board == self.boards[number - 1]
+    number = len(self.record)
+    while number > 0 and self.record[number - 1][1] == PASS:
+        number -= 1
+    return number > 0 and board == self.boards[number - 1]
 
 
-class KoPoint(Bug):
-    """An engine that notes the point where a ko may not be retaken. It is right; the bugs below change it."""
+class Noted(Keeping):
+    """An engine that notes who may not play where by simple ko: a colour and a point, or None. It is right; bugs here and elsewhere
+    change it."""
 
-    def begin(self, size):
-        super().begin(size)
-        self.noted = [None]  # the point after each move
+    def fresh(self):
+        return None
 
-    def move(self, colour, point):
-        before = self.board
-        super().move(colour, point)
-        taken = [place for place, stone in enumerate(before) if stone != EMPTY and self.board[place] == EMPTY]
-        self.noted.append(self.note(point, taken))
-
-    def note(self, point, taken):
-        """The point that is noted after a play that took these stones."""
-        if len(taken) != 1 or len(self.chain(self.board, point)) != 1:
+    def after(self, before, colour, point):
+        """What a move notes: a stone alone has taken one stone, and has no other liberty."""
+        taken = gone(before, self.board)
+        if len(taken) != 1:
             return None
-        return taken[0] if all(self.board[near] != EMPTY for near in self.near[point] if near != taken[0]) else None
-
-    def undo(self):
-        super().undo()
-        self.noted.pop()
+        around = [near for near in self.near[point] if self.board[near] in (EMPTY, colour)]
+        return (other(colour), taken[0]) if around == taken else None
 
     def is_ko(self, board, colour, point):
-        return point == self.noted[-1] and board == self.boards[-1]
+        return (colour, point) == self.kept
 
 
-class KoOutlivesAThreat(KoPoint):
+@shown_by(on(5, KO + " b E5", "play b B1"), "=")
+class KoOutlivesAThreat(Noted):
     """The noted point is forgotten only at the next capture, so a ko can't be retaken after a threat."""
 
-    family = "ko"
-    shows = on(5, KO + " b E5", "play b B1")
-    right = "="
-
-    def note(self, point, taken):
-        return super().note(point, taken) if taken else self.noted[-1]
-
-    def is_ko(self, board, colour, point):
-        return point == self.noted[-1] and colour != self.colour_of_the_taker()
-
-    def colour_of_the_taker(self):
-        """The colour that played when the point was noted."""
-        number = len(self.noted) - 1
-        while self.noted[number - 1] == self.noted[-1]:
-            number -= 1
-        return self.record[number - 1][0]
+    def after(self, before, colour, point):
+        return super().after(before, colour, point) if gone(before, self.board) else self.kept
 
 
-class KoForbidsBothColours(KoPoint):
+@shown_by(on(5, KO, "play w B1"), "=")
+class KoForbidsBothColours(Noted):
     """The noted point is forbidden for the colour that took, too, which may fill it."""
 
-    family = "ko"
-    shows = on(5, KO, "play w B1")
-    right = "="
-
     def is_ko(self, board, colour, point):
-        return point == self.noted[-1]
+        return self.kept is not None and point == self.kept[1]
 
 
-class KoAfterAChain(KoPoint):
+@shown_by(on(5, "w A1 b B1 b A3 w B2 w B3 w A4 b A2", "play w A1"), "=")
+class KoAfterAChain(Noted):
     """A point is noted whenever one stone was taken, also where the stone that took it joined others."""
 
-    family = "ko"
-    shows = on(5, "w A1 b B1 b A3 w B2 w B3 w A4 b A2", "play w A1")
-    right = "="
-
-    def note(self, point, taken):
-        return taken[0] if len(taken) == 1 else None
-
-    def is_ko(self, board, colour, point):
-        return point == self.noted[-1] and colour != self.record[-1][0]
+    def after(self, before, colour, point):
+        taken = gone(before, self.board)
+        return (other(colour), taken[0]) if len(taken) == 1 else None
 
 
-class KoAfterTwoStones(Bug):
+@instead_of("is_ko", on(5, "b A1 b B1 b D1 b C2 w A2 w B2 w C1", "play b B1"), "=")
+def ko_after_two_stones(self, right, board, colour, point):
     """A stone that has just taken may not be taken, also where it took two stones."""
-
-    family = "ko"
-    shows = on(5, "b A1 b B1 b D1 b C2 w A2 w B2 w C1", "play b B1")
-    right = "="
-
-    def is_ko(self, board, colour, point):
-        if not self.record or self.record[-1][1] == PASS or colour == self.record[-1][0]:
-            return False
-        took = self.boards[-1].count(colour) > self.board.count(colour)
-        stones = [place for place, stone in enumerate(self.board) if stone == other(colour) and board[place] == EMPTY]
-        return took and stones == [self.record[-1][1]]
+    if not self.record or self.record[-1][1] == PASS or colour == self.record[-1][0]:
+        return False
+    took = self.boards[-1].count(colour) > self.board.count(colour)
+    stones = [place for place, stone in enumerate(self.board) if stone == other(colour) and board[place] == EMPTY]
+    return took and stones == [self.record[-1][1]]
 
 
-class KoOfEqualCounts(Bug):
+@instead_of("is_ko", on(5, "w C1 b B1 w B2 w E5 b D5 w A1", "play b E4"), "=")
+def ko_of_equal_counts(self, right, board, colour, point):
     """Boards are compared by their numbers of stones, so once a stone was taken none may be taken at another place."""
-
-    family = "ko"
-    shows = on(5, "w C1 b B1 w B2 w E5 b D5 w A1", "play b E4")
-    right = "="
-
-    def is_ko(self, board, colour, point):
-        return bool(self.boards) and sorted(board) == sorted(self.boards[-1])
+    return bool(self.boards) and sorted(board) == sorted(self.boards[-1])
 
 
+@shown_by(on(5, KO, "! play b B1", "play b B1"), "?")
 class KoForgottenAtARefusal(Bug):
     """A retake is refused once: the refusal forgets the noted point."""
 
-    family = "ko"
-    shows = on(5, KO, "! play b B1", "play b B1")
-    right = "?"
     forgotten = None
 
-    def do_play(self, arguments):
-        try:
-            super().do_play(arguments)
-        except Failure:
-            self.forgotten = len(self.record)
-            raise
+    def refuse(self, colour, point):
+        self.forgotten = len(self.record)
+        super().refuse(colour, point)
 
     def is_ko(self, board, colour, point):
         return super().is_ko(board, colour, point) and self.forgotten != len(self.record)
 
 
-class NoKoAtTheEdge(Bug):
-    """A ko is noticed only where the stone that took has four neighbours."""
-
-    family = "ko"
-    shows = on(5, KO, "play b B1")
-    right = "?"
-
-    def is_ko(self, board, colour, point):
-        return super().is_ko(board, colour, point) and len(self.near[self.record[-1][1]]) == 4
-
-
-class EveryBoardIsKo(Bug):
-    """Under simple ko no board of the game may come back."""
-
-    family = "ko"
-    shows = on(2, "b A1 w B1 w B2 w A2", "play b A1")
-    right = "="
-
-    def is_ko(self, board, colour, point):
-        return board in self.boards
-
-
-class EightBoardsAlone(Bug):
-    """Positional ko looks at the last eight boards alone."""
-
-    family = "ko"
-    options = ("--ko", POSITIONAL)
-    shows = on(5, KO + " b pass w pass" * 4, "play b B1")
-    right = "?"
-
-    def is_ko(self, board, colour, point):
-        return board in self.boards[-8:]
-
-
-class BoardsOfTheSameMover(Bug):
+@instead_of("is_ko", on(5, KO, "play b B1"), "?", options=("--ko", POSITIONAL))
+def boards_of_the_same_mover(self, right, board, colour, point):
     """Under positional ko a board may come back by the other colour's move, as under situational superko."""
-
-    family = "ko"
-    options = ("--ko", POSITIONAL)
-    shows = on(5, KO, "play b B1")
-    right = "?"
-
-    def is_ko(self, board, colour, point):
-        made = [*self.boards[1:], self.board]
-        return any(board == earlier and mover == colour for earlier, (mover, _) in zip(made, self.record))
+    made = [*self.boards[1:], self.board]
+    return any(board == earlier and mover == colour for earlier, (mover, _) in zip(made, self.record))
 
 
-class BoardsSinceThePass(Bug):
+@instead_of("is_ko", on(5, KO + " b pass", "play b B1"), "?", options=("--ko", POSITIONAL))
+def boards_since_the_pass(self, right, board, colour, point):
     """Positional ko forgets the boards before a pass."""
+    passes = [number for number, (_, vertex) in enumerate(self.record) if vertex == PASS]
+    return board in self.boards[passes[-1] + 1 if passes else 0 :]
 
-    family = "ko"
-    options = ("--ko", POSITIONAL)
-    shows = on(5, KO + " b pass", "play b B1")
-    right = "?"
+
+@instead_of("refuse", on(5, KO, "! play b B1", "play w B1"), "=")
+def refused_retake_is_made(self, right, colour, point):
+    """A play that is ko is refused, and stays made: ko is looked at after the play was put on the board."""
+    board = self.put(colour, point) if point is not None and self.board[point] == EMPTY else None
+    self.board = board if board and self.is_ko(board, colour, point) else self.board
+    right(colour, point)
+
+
+@instead_of("is_ko", on(2, "b A1" + " w B1 w B2 w A2 b A1" + " w B1 w B2 w A2", "play b A1"), "=")
+def third_time_is_refused(self, right, board, colour, point):
+    """A play that would make a board for the third time is refused, as by the rules of chess."""
+    after = [*self.boards[1:], self.board]
+    made = [there for there, (_, place) in zip(after, self.record) if place != PASS]
+    return made.count(board) >= 2 or right(board, colour, point)
+
+
+@shown_by(on(5, KO, "! play b B1", "play b pass", "play b B1"), "=")
+class LegalPlaysAreKept(Bug):
+    """Whether a play is legal is worked out once for each board in a process, so a ko outlives what ends it."""
+
+    def __init__(self, *options):
+        self.legal = {}
+        super().__init__(*options)
+
+    def is_legal(self, colour, point):
+        key = self.board, colour, point
+        if key not in self.legal:
+            self.legal[key] = super().is_legal(colour, point)
+        return self.legal[key]
+
+
+# the last play takes three stones and leaves White's alone on A1, where Black's was alone after the first one
+@shown_by(on(2, "b A1 w B1 w A2 w A1 b B2 b B1 b A2", "play w A1"), "=", options=("--ko", POSITIONAL))
+class HashIgnoresColours(Keeping):
+    """Positional ko compares boards by a hash that has one number for each point, whatever the stone's colour is."""
+
+    def fresh(self):
+        return []  # the hashes of the boards before: which points have stones
+
+    def after(self, before, colour, point):
+        return [*self.kept, before.translate(HAS_STONE)]
 
     def is_ko(self, board, colour, point):
-        passes = [number for number, (_, vertex) in enumerate(self.record) if vertex == PASS]
-        return board in self.boards[passes[-1] + 1 if passes else 0 :]
+        return board.translate(HAS_STONE) in (self.kept if self.ko == POSITIONAL else self.kept[-1:])
+
+
+@shown_by(on(5, KO + " w E5", "play b B1"), "=")
+class KoOutlivesASecondMove(Noted):
+    """The noted point is forgotten at a move of the colour that may not play there, and not at one of the other."""
+
+    def after(self, before, colour, point):
+        return super().after(before, colour, point) or (self.kept if self.kept and self.kept[0] != colour else None)
+
+
+@shown_by(on(5, KO, "! play b A2", "play b B1"), "?")
+class KoForgottenAtAnOccupiedPoint(Counting):
+    """The board is noted before a play is looked at, so ko isn't noticed after a play on a stone was refused."""
+
+    def refuse(self, colour, point):
+        self.number += point is not None and self.board[point] != EMPTY
+        super().refuse(colour, point)
+
+    def is_ko(self, board, colour, point):
+        return not self.number and super().is_ko(board, colour, point)
+
+
+# B19 is point 343
+@shown_by(on(19, "b A18 w C19 b B19 w B18 w A19", "play b B19"), "?")
+class KoIsComparedByIs(Noted):
+    """The noted point is compared by `is`, which in Python finds equal numbers to be one up to 256 alone."""
+
+    def is_ko(self, board, colour, point):
+        return point <= 256 and super().is_ko(board, colour, point)
+
+
+# Black may not play E5.
+@shown_by(on(5, f"{NO_ROOM_AT_E5} {KO}", "! play b E5", "play b B1"), "?")
+class KoForgottenAtASuicide(Counting):
+    """A play forgets the noted point before it looks at suicide, so there is no ko after a suicide was refused."""
+
+    def refuse(self, colour, point):
+        self.number += self.dies(colour, point)
+        super().refuse(colour, point)
+
+    def is_ko(self, board, colour, point):
+        return not self.number and super().is_ko(board, colour, point)
+
+    def undo(self):
+        super().undo()
+        self.number = 0

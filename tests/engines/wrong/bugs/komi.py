@@ -1,5 +1,7 @@
-"""Komi. `final_score` of an empty board shows the komi that an engine uses."""
-from talks import Bug, on
+"""Komi, and scores. `final_score` of an empty board shows the komi that an engine uses."""
+import struct
+
+from talks import Bug, instead_of, on, patch, shown_by
 
 
 def scored(*komi):
@@ -7,106 +9,79 @@ def scored(*komi):
     return on(5, "", *(f"komi {number}" for number in komi), "final_score")
 
 
-class SignIsLost(Bug):
-    """The sign of a komi is lost."""
+PATCHES = [
+    patch("sign_is_lost", "The sign of a komi is lost.", scored("-3.5"), "= B+3.5",
+          read_komi=lambda self, right, text: right(text.lstrip("-"))),
+    patch("whole_komi_alone", "A komi is cut to a whole number.", scored("6.5"), "= W+6.5",
+          read_komi=lambda self, right, text: right(text.split(".")[0])),
+    patch("komi_of_four_characters", "A komi has room for four characters, so -12.5 is -12.", scored("-12.5"), "= B+12.5",
+          read_komi=lambda self, right, text: right(text[:4])),
+    patch("negative_komi_is_refused", "A komi below zero is refused.", ["komi -0.5"], "=",
+          read_komi=lambda self, right, text: None if text.startswith("-") else right(text)),
+    patch("komi_is_blacks", "Komi is given to Black.", scored("6.5"), "= W+6.5",
+          score=lambda self, right: right() + 2 * self.komi),
+    patch("even_score_has_a_colour", "An even score is written as `B+0`.", on(5, "", "komi 0", "final_score"), "= 0",
+          write_score=lambda self, right, halves: right(halves) if halves else "B+0"),
+    patch("score_has_a_comma", "A half of a score is written after a comma, as in the language of the user.",
+          on(9, "", "komi 6.5", "final_score"), "= W+6.5",
+          write_score=lambda self, right, halves: right(halves).replace(".", ",")),
+    patch("score_has_six_digits", "A score is written with six digits, and a larger one with an exponent, as C does it by `%g`.",
+          on(5, "", "komi 1000000", "final_score"), "= W+1000000",
+          write_score=lambda self, right, halves: right(halves)[:2] + f"{abs(halves) / 2:g}" if halves else "0"),
+    patch("whites_lead_is_floored", "White's lead is a number below zero, whose half is cut off downwards, so 6.5 is written as 7.5.",
+          on(9, "", "komi 6.5", "final_score"), "= W+6.5",
+          write_score=lambda self, right, halves: right(halves - halves % 2 - 1 if halves < 0 and halves % 2 else halves)),
+    patch("empty_board_is_blacks", "A region counts for Black where no stone of White is beside it, and so does an empty board.",
+          on(5, "", "komi 0", "final_score"), "= 0",
+          score=lambda self, right: right() if any(self.board) else 2 * len(self.board) - self.komi),
+    patch("even_score_is_a_word", "An even score is answered by a word, `Draw`.", on(5, "", "komi 0", "final_score"), "= 0",
+          write_score=lambda self, right, halves: right(halves) if halves else "Draw"),
+    patch("komi_of_zero_is_unread", "A komi of 0 is refused: the function that reads a number returns 0 for what it can't read, too.",
+          on(5, "", "komi 0"), "=",
+          read_komi=lambda self, right, text: right(text) or None),
+]
 
-    family = "komi"
-    shows = scored("-3.5")
-    right = "= B+3.5"
 
-    def read_komi(self, text):
-        return super().read_komi(text.lstrip("-"))
-
-
-class SignOfAHalfIsLost(Bug):
+@instead_of("read_komi", scored("-0.5"), "= B+0.5")
+def sign_of_a_half_is_lost(self, right, text):
     """The whole part is read with its sign and the half is added, so -0.5 is 0.5."""
-
-    family = "komi"
-    shows = scored("-0.5")
-    right = "= B+0.5"
-
-    def read_komi(self, text):
-        halves = super().read_komi(text)
-        return 1 if halves == -1 else halves
+    halves = right(text)
+    return 1 if halves == -1 else halves
 
 
-class NegativeHalvesGoUp(Bug):
+@instead_of("read_komi", scored("-3.5"), "= B+3.5")
+def negative_halves_go_up(self, right, text):
     """A half is added to the whole part whatever the sign is, so -3.5 is -2.5."""
-
-    family = "komi"
-    shows = scored("-3.5")
-    right = "= B+3.5"
-
-    def read_komi(self, text):
-        halves = super().read_komi(text)
-        return halves + 2 if halves and halves < -1 and halves % 2 else halves
+    halves = right(text)
+    return halves + 2 if halves and halves < -1 and halves % 2 else halves
 
 
-class WholeKomiAlone(Bug):
-    """A komi is cut to a whole number."""
-
-    family = "komi"
-    shows = scored("6.5")
-    right = "= W+6.5"
-
-    def read_komi(self, text):
-        return super().read_komi(text.split(".")[0])
-
-
-class WholeKomiGetsAHalf(Bug):
+@instead_of("read_komi", scored("7"), "= W+7")
+def whole_komi_gets_a_half(self, right, text):
     """A whole komi gets a half, so that no game is even."""
-
-    family = "komi"
-    shows = scored("7")
-    right = "= W+7"
-
-    def read_komi(self, text):
-        halves = super().read_komi(text)
-        return halves if halves is None or halves % 2 else halves + 1
+    halves = right(text)
+    return halves if halves is None or halves % 2 else halves + 1
 
 
-class NoKomiIsTheUsualOne(Bug):
+@instead_of("do_komi", scored("0"), "= 0")
+def no_komi_is_the_usual_one(self, right, arguments):
     """A komi of 0 is taken as none, and the usual 6.5 is used."""
-
-    family = "komi"
-    shows = scored("0")
-    right = "= 0"
-
-    def do_komi(self, arguments):
-        super().do_komi(arguments)
-        self.komi = self.komi or 13
+    right(arguments)
+    self.komi = self.komi or 13
 
 
-class KomiOfFourCharacters(Bug):
-    """A komi has room for four characters, so -12.5 is -12."""
-
-    family = "komi"
-    shows = scored("-12.5")
-    right = "= B+12.5"
-
-    def read_komi(self, text):
-        return super().read_komi(text[:4])
-
-
-class KomisAreAdded(Bug):
+@instead_of("do_komi", scored("6.5", "0.5"), "= W+0.5")
+def komis_are_added(self, right, arguments):
     """A komi is added to the one before."""
-
-    family = "komi"
-    shows = scored("6.5", "0.5")
-    right = "= W+0.5"
-
-    def do_komi(self, arguments):
-        before = self.komi
-        super().do_komi(arguments)
-        self.komi += before
+    before = self.komi
+    right(arguments)
+    self.komi += before
 
 
+@shown_by(scored("6.5", "0.5"), "= W+0.5")
 class FirstKomiStays(Bug):
     """The first komi of a process stays."""
 
-    family = "komi"
-    shows = scored("6.5", "0.5")
-    right = "= W+0.5"
     given = False
 
     def do_komi(self, arguments):
@@ -116,37 +91,17 @@ class FirstKomiStays(Bug):
         self.given = True
 
 
-class KomiIsLostAtClearBoard(Bug):
-    """`clear_board` sets komi back to 0."""
-
-    family = "komi"
-    shows = ["boardsize 5", "komi 6.5", "clear_board", "final_score"]
-    right = "= W+6.5"
-
-    def do_clear_board(self, arguments):
-        super().do_clear_board(arguments)
-        self.komi = 0
-
-
-class KomiOnlyBeforeTheFirstMove(Bug):
+@instead_of("do_komi", on(5, "b C3", "komi 6.5", "undo", "final_score"), "= W+6.5")
+def komi_only_before_the_first_move(self, right, arguments):
     """A komi is taken only while there is no move, and answered with success else too."""
-
-    family = "komi"
-    shows = on(5, "b C3", "komi 6.5", "undo", "final_score")
-    right = "= W+6.5"
-
-    def do_komi(self, arguments):
-        before = self.komi
-        super().do_komi(arguments)
-        self.komi = before if self.record else self.komi
+    before = self.komi
+    right(arguments)
+    self.komi = before if self.record else self.komi
 
 
+@shown_by(on(5, "b C3", "komi 0.5", "undo", "final_score"), "= W+0.5")
 class UndoTakesKomiBack(Bug):
     """`undo` takes komi back too: it is kept with the board of each move."""
-
-    family = "komi"
-    shows = on(5, "b C3", "komi 0.5", "undo", "final_score")
-    right = "= W+0.5"
 
     def __init__(self, *options):
         self.komis = []
@@ -161,60 +116,84 @@ class UndoTakesKomiBack(Bug):
         self.komi = self.komis.pop()
 
 
-class LargeKomiIsRefused(Bug):
+@instead_of("read_komi", on(5, "", "komi 26"), "=")
+def large_komi_is_refused(self, right, text):
     """A komi larger than the board is refused, and an engine has to accept a ridiculous one too."""
-
-    family = "komi"
-    shows = on(5, "", "komi 26")
-    right = "="
-
-    def read_komi(self, text):
-        halves = super().read_komi(text)
-        return halves if halves is None or abs(halves) <= 2 * len(self.board) else None
+    halves = right(text)
+    return halves if halves is None or abs(halves) <= 2 * len(self.board) else None
 
 
-class NegativeKomiIsRefused(Bug):
-    """A komi below zero is refused."""
-
-    family = "komi"
-    shows = ["komi -0.5"]
-    right = "="
-
-    def read_komi(self, text):
-        return None if text.startswith("-") else super().read_komi(text)
-
-
-class ScoreWithTwoSigns(Bug):
+@instead_of("write_score", scored("-3.5"), "= B+3.5")
+def score_with_two_signs(self, right, halves):
     """A score in Black's favour by a komi below zero is written as White's, with a minus."""
-
-    family = "komi"
-    shows = scored("-3.5")
-    right = "= B+3.5"
-
-    def write_score(self, halves):
-        written = super().write_score(halves)
-        return written.replace("B+", "W+-") if self.komi < 0 else written
+    written = right(halves)
+    return written.replace("B+", "W+-") if self.komi < 0 else written
 
 
-class KomiIsBlacks(Bug):
-    """Komi is given to Black."""
-
-    family = "komi"
-    shows = scored("6.5")
-    right = "= W+6.5"
-
-    def score(self):
-        return super().score() + 2 * self.komi
-
-
+@shown_by(on(5, "", "final_score", "komi 0.5", "final_score"), "= W+0.5")
 class ScoreIsNoted(Bug):
     """`final_score` is counted once in a process, and answered again whatever komi is by then."""
 
-    family = "komi"
-    shows = on(5, "", "final_score", "komi 0.5", "final_score")
-    right = "= W+0.5"
     noted = None
 
     def do_final_score(self, arguments):
         self.noted = self.noted or super().do_final_score(arguments)
         return self.noted
+
+
+@instead_of("do_komi", on(5, "", "komi 6.5", "! komi six", "final_score"), "= W+6.5")
+def unread_komi_is_zero(self, right, arguments):
+    """Komi is set to 0 before the new one is read, and stays so where that one can't be read."""
+    self.komi = 0
+    right(arguments)
+
+
+@instead_of("score", on(19, "b D4", "final_score"), "= B+361")
+def lead_is_a_byte(self, right):
+    """The lead without komi is a byte with a sign, so a lead of 361 is one of 105."""
+    lead = (right() + self.komi) // 2
+    return 2 * ((lead + 128) % 256 - 128) - self.komi
+
+
+@instead_of("do_boardsize", ["komi 6.5", *on(5, "", "final_score")], "= W+6.5")
+def komi_is_lost_at_boardsize(self, right, arguments):
+    """`boardsize` sets komi back to 0, and `clear_board` doesn't."""
+    right(arguments)
+    self.komi = 0
+
+
+@instead_of("do_komi", on(5, "", "komi 10000000.5", "final_score"), "= W+10000000.5")
+def komi_is_a_single(self, right, arguments):
+    """Komi is a number with 24 bits and an exponent, so a large one loses its half."""
+    right(arguments)
+    self.komi = int(2 * struct.unpack("f", struct.pack("f", self.komi / 2))[0])
+
+
+@shown_by(on(25, "", "komi 0", "final_score"), "= 0")
+class RegionsAreFilledByRecursion(Bug):
+    """A region is filled by calls in one another, two for a point, and at a thousand calls Python ends the program."""
+
+    def chain(self, board, point):
+        found = set()
+        self.fill(board, point, found)
+        return found
+
+    def fill(self, board, point, found):
+        """Finds what is joined to a point and isn't found yet. Its number of points."""
+        found.add(point)
+        same = (near for near in self.near[point] if near not in found and board[near] == board[point])
+        return 1 + sum(self.fill(board, near, found) for near in same)
+
+
+@shown_by(on(5, "", "komi 6.5", "final_score"), "= W+6.5")
+class KomiIsOfTheNextGame(Bug):
+    """A komi is a setting that a new game takes over, so one that comes after `clear_board` isn't used."""
+
+    setting = 0
+
+    def begin(self, size):
+        super().begin(size)
+        self.komi = self.setting
+
+    def do_komi(self, arguments):
+        self.setting = self.argument(arguments, 0, self.read_komi)

@@ -1,202 +1,127 @@
 """The form of replies."""
 import sys
 
-from rules import EMPTY, PASS
 from right import Failure
-from talks import Bug, on
+from rules import EMPTY, PASS
+from talks import Bug, instead_of, on, patch, shown_by
+
+PATCHES = [
+    patch("one_newline", "A reply ends with one newline in place of two.", ["1 name"], "= plain", plain=False, waits=True,
+          reply=lambda self, right, good, number, text: right(good, number, text)[:-1]),
+    patch("failures_are_successes", "A command that fails is answered by `=` and the error's text.", on(5, "b C3", "play w C3"), "?",
+          head=lambda self, right, good, number, text: right(True, number, text)),
+    patch("failures_have_an_exclamation_mark", "A failure begins with an exclamation mark.", on(5, "b C3", "play w C3"), "?",
+          head=lambda self, right, good, number, text: right(good, number, text).replace("?", "!")),
+    patch("note_before_a_genmove", "A line for the author is on standard output before the reply to a `genmove`.",
+          on(5, "", "1 genmove b"), "but", plain=False,
+          answer=lambda self, right, line: ("playouts: 1000\n" if self.command_of(line) == "genmove" else "") + right(line)),
+    patch("prompt", "Each reply has a prompt in front of it.", ["1 name"], "= plain", plain=False,
+          reply=lambda self, right, good, number, text: "GTP> " + right(good, number, text)),
+    patch("echo", "Each line is written back before its reply, as a library for typed lines does.", ["1 name"], "= plain", plain=False,
+          answer=lambda self, right, line: line + "\n" + right(line)),
+    patch("version_without_a_mark", "`version` is printed as it is, without the mark and the id.", ["1 version"], "= 1",
+          answer=lambda self, right, line: "1\n\n" if self.command_of(line) == "version" else right(line)),
+    patch("ends_at_a_refused_play", "The program ends at an illegal play: an exception that nobody catches.",
+          on(5, "b C3", "play w C3"), "?",
+          refuse=lambda self, right, colour, point: sys.exit(1)),
+    patch("known_is_yes", "`known_command` answers `yes` or `no`, in place of `true` or `false`.", ["1 known_command play"], "= true",
+          do_known_command=lambda self, right, arguments: {"true": "yes", "false": "no"}[right(arguments)]),
+    patch("quit_is_not_known", "`known_command` doesn't know `quit`, which is looked at before the table of commands.",
+          ["known_command quit"], "= true",
+          do_known_command=lambda self, right, arguments: "false" if arguments[:1] == ["quit"] else right(arguments)),
+]
 
 
-class OneNewline(Bug):
-    """A reply ends with one newline in place of two."""
-
-    family = "form"
-    shows = ["1 name"]
-    right = "= plain"
-    plain = False
-    waits = True
-
-    def reply(self, good, number, text):
-        return super().reply(good, number, text)[:-1]
-
-
-class OneNewlineWhereThereIsNoText(Bug):
+@instead_of("reply", ["1 komi 6.5"], "=", plain=False, waits=True)
+def one_newline_where_there_is_no_text(self, right, good, number, text):
     """A reply without a text ends with one newline: the author prints the text and a newline, and then a newline."""
-
-    family = "form"
-    shows = ["1 komi 6.5"]
-    right = "="
-    plain = False
-    waits = True
-
-    def reply(self, good, number, text):
-        whole = super().reply(good, number, text)
-        return whole if text else whole[:-1]
+    whole = right(good, number, text)
+    return whole if text else whole[:-1]
 
 
-class FailuresAreSuccesses(Bug):
-    """A command that fails is answered by `=` and the error's text."""
-
-    family = "form"
-    shows = on(5, "b C3", "play w C3")
-    right = "?"
-
-    def head(self, good, number, text):
-        return super().head(True, number, text)
-
-
-class FailuresHaveAnExclamationMark(Bug):
-    """A failure begins with an exclamation mark."""
-
-    family = "form"
-    shows = on(5, "b C3", "play w C3")
-    right = "?"
-
-    def head(self, good, number, text):
-        return super().head(good, number, text).replace("?", "!")
-
-
-class TwoRepliesForARefusedPlay(Bug):
+@instead_of("answer", on(5, "b C3", "play w C3"), "?")
+def two_replies_for_a_refused_play(self, right, line):
     """A refused play is answered twice: the author prints the failure, doesn't return, and prints the success too."""
-
-    family = "form"
-    shows = on(5, "b C3", "play w C3")
-    right = "?"
-
-    def answer(self, line):
-        whole = super().answer(line)
-        twice = whole.startswith("?") and self.command_of(line) == "play"
-        return whole + self.reply(True, self.split_id(self.words(line))[0], "") if twice else whole
+    whole = right(line)
+    twice = whole.startswith("?") and self.command_of(line) == "play"
+    return whole + self.reply(True, self.split_id(self.words(line))[0], "") if twice else whole
 
 
-class NoteBeforeAGenmove(Bug):
-    """A line for the author is on standard output before the reply to a `genmove`."""
-
-    family = "form"
-    shows = on(5, "", "1 genmove b")
-    right = "but"
-    plain = False
-
-    def answer(self, line):
-        return ("playouts: 1000\n" if self.command_of(line) == "genmove" else "") + super().answer(line)
-
-
-class NoteAtACapture(Bug):
+@instead_of("move", on(5, "b A1 w A2", "play w B1"), "=")
+def note_at_a_capture(self, right, colour, point):
     """A line for the author is on standard output before the reply to a play that captures."""
-
-    family = "form"
-    shows = on(5, "b A1 w A2", "play w B1")
-    right = "="
-
-    def move(self, colour, point):
-        before = self.board.count(EMPTY)
-        super().move(colour, point)
-        if point != PASS and self.board.count(EMPTY) >= before:
-            self.send("captured\n")
+    before = self.board.count(EMPTY)
+    right(colour, point)
+    if point != PASS and self.board.count(EMPTY) >= before:
+        self.send("captured\n")
 
 
-class Prompt(Bug):
-    """Each reply has a prompt in front of it."""
-
-    family = "form"
-    shows = ["1 name"]
-    right = "= plain"
-    plain = False
-
-    def reply(self, good, number, text):
-        return "GTP> " + super().reply(good, number, text)
-
-
-class Echo(Bug):
-    """Each line is written back before its reply, as a library for typed lines does."""
-
-    family = "form"
-    shows = ["1 name"]
-    right = "= plain"
-    plain = False
-
-    def answer(self, line):
-        return line + "\n" + super().answer(line)
-
-
-class VersionWithoutAMark(Bug):
-    """`version` is printed as it is, without the mark and the id."""
-
-    family = "form"
-    shows = ["1 version"]
-    right = "= 1"
-
-    def answer(self, line):
-        return "1\n\n" if self.command_of(line) == "version" else super().answer(line)
-
-
-class BlankLineInAReply(Bug):
+@instead_of("do_list_commands", ["list_commands"], "= " + "\n".join(Bug.names))
+def blank_line_in_a_reply(self, right, arguments):
     """The names of `list_commands` have blank lines between their groups, so the reply ends at the first one."""
-
-    family = "form"
-    shows = ["list_commands"]
-    right = "= " + "\n".join(Bug.names)
-
-    def do_list_commands(self, arguments):
-        return super().do_list_commands(arguments).replace("\nboardsize", "\n\nboardsize")
+    return right(arguments).replace("\nboardsize", "\n\nboardsize")
 
 
-class NoReplyToAnUnknownCommand(Bug):
+@instead_of("answer", ["1 no_such_command"], "?", waits=True)
+def no_reply_to_an_unknown_command(self, right, line):
     """A command that isn't known has no reply."""
-
-    family = "form"
-    shows = ["1 no_such_command"]
-    right = "?"
-    waits = True
-
-    def answer(self, line):
-        whole = super().answer(line)
-        return "" if whole.endswith("unknown command\n\n") else whole
+    whole = right(line)
+    return "" if whole.endswith("unknown command\n\n") else whole
 
 
-class EndsAtARefusedPlay(Bug):
-    """The program ends at an illegal play: an exception that nobody catches."""
-
-    family = "form"
-    shows = on(5, "b C3", "play w C3")
-    right = "?"
-
-    def do_play(self, arguments):
-        try:
-            super().do_play(arguments)
-        except Failure as failure:
-            if str(failure) == "illegal move":
-                sys.exit(1)
-            raise
-
-
-class KnownIsYes(Bug):
-    """`known_command` answers `yes` or `no`, in place of `true` or `false`."""
-
-    family = "form"
-    shows = ["1 known_command play"]
-    right = "= true"
-
-    def do_known_command(self, arguments):
-        return {"true": "yes", "false": "no"}[super().do_known_command(arguments)]
-
-
-class BlankLineInAFailure(Bug):
+@instead_of("answer", on(5, "b C3", "play w C3"), "?")
+def blank_line_in_a_failure(self, right, line):
     """The error's text of an illegal play has a blank line and the board below it, so the reply ends too soon."""
-
-    family = "form"
-    shows = on(5, "b C3", "play w C3")
-    right = "?"
-
-    def answer(self, line):
-        return super().answer(line).replace("illegal move", "illegal move:\n\n. . . . .")
+    return right(line).replace("illegal move", "illegal move:\n\n. . . . .")
 
 
-class QuitHasNoReply(Bug):
+@instead_of("do_quit", ["1 quit"], "=")
+def quit_has_no_reply(self, right, arguments):
     """The program ends at `quit` without a reply."""
+    sys.exit(0)
 
-    family = "form"
-    shows = ["1 quit"]
-    right = "="
 
-    def do_quit(self, arguments):
-        sys.exit(0)
+@instead_of("do_known_command", ["1 known_command no_such_command"], "= false")
+def unknown_is_a_failure(self, right, arguments):
+    """`known_command` fails for a command that isn't known, in place of `false`."""
+    text = right(arguments)
+    if text == "false":
+        raise Failure("unknown command")
+    return text
+
+
+@instead_of("answer", on(5, "", "komi 0", "7 final_score"), "= 0")
+def score_runs_into_the_id(self, right, line):
+    """The reply to `final_score` has no space in front of its text, so an even score is a digit more of the id."""
+    whole = right(line)
+    return whole.replace(" ", "", 1) if self.command_of(line) == "final_score" else whole
+
+
+@shown_by(["1 name"], "= plain", plain=False, waits=True)
+class RepliesAreHeld(Bug):
+    """A reply is written only once the next line has come: nothing flushes it."""
+
+    held = ""
+
+    def send(self, text):
+        if text:
+            super().send(self.held)
+            self.held = text
+        if self.ended:
+            super().send(self.held)
+
+
+@instead_of("do_known_command", ["known_command final"], "= false")
+def known_by_its_beginning(self, right, arguments):
+    """`known_command` compares as many characters as the word has, so the beginning of a name is known."""
+    known = any(name.startswith(word) for word in arguments[:1] for name in self.names)
+    return "true" if known else right(arguments)
+
+
+@instead_of("answer", on(5, "b pass", "play w pass"), "=")
+def result_comes_after_two_passes(self, right, line):
+    """After two passes in a row the result is on standard output before the reply, as in games against a person."""
+    before = len(self.record)
+    reply = right(line)
+    is_over = len(self.record) > before and [point for _, point in self.record[-2:]] == [PASS, PASS]
+    return f"Game over, {self.write_score(self.score())}\n{reply}" if is_over else reply

@@ -4,12 +4,11 @@ The file of these engines is $WRONG_ENGINE_STATE, or else one in the folder of t
 """
 import json
 import os
+import tempfile
 
 from right import Failure
 from rules import EMPTY
-from talks import AGAIN, KO, Bug, on
-
-from .genmove import FORCED
+from talks import AGAIN, FORCED, KO, Bug, instead_of, on, shown_by
 
 
 class Kept(Bug):
@@ -30,30 +29,28 @@ class Kept(Bug):
             json.dump(value, file)
 
 
+@shown_by(["1 name", AGAIN, "1 name"], "= plain")
 class LockStays(Kept):
     """A file says that the engine is running, and only `quit` removes it, so the next process ends at once."""
 
-    family = "restarts"
-    shows = ["1 name", AGAIN, "1 name"]
-    right = "= plain"
-
     def run(self):
         if self.old:
-            raise SystemExit(1)
+            self.find_it_running()
         self.keep("running")
         super().run()
+
+    def find_it_running(self):
+        """What it does where the file says so."""
+        raise SystemExit(1)
 
     def do_quit(self, arguments):
         os.remove(self.file)
         super().do_quit(arguments)
 
 
+@shown_by([*on(5, "b C3"), AGAIN, *on(5, "", "play b C3")], "=")
 class OldGameComesBack(Kept):
     """The first `clear_board` of a process brings back the game that an earlier one has left, as after a crash."""
-
-    family = "restarts"
-    shows = [*on(5, "b C3"), AGAIN, *on(5, "", "play b C3")]
-    right = "="
 
     def do_clear_board(self, arguments):
         super().do_clear_board(arguments)
@@ -66,12 +63,9 @@ class OldGameComesBack(Kept):
         self.keep(list(self.board))
 
 
+@shown_by([*on(5, "b C3"), AGAIN, *on(5, "", "undo")], "?")
 class OldMovesAreUndone(Kept):
     """The record is a file that no start empties, so `undo` succeeds where an earlier process has moved."""
-
-    family = "restarts"
-    shows = [*on(5, "b C3"), AGAIN, *on(5, "", "undo")]
-    right = "?"
 
     def move(self, colour, point):
         super().move(colour, point)
@@ -84,12 +78,9 @@ class OldMovesAreUndone(Kept):
             self.old -= 1
 
 
+@shown_by(["komi 6.5", AGAIN, *on(5, "", "komi 0.5", "final_score")], "= W+0.5")
 class OldKomiStays(Kept):
     """The komi of an earlier process is a setting that no command changes."""
-
-    family = "restarts"
-    shows = ["komi 6.5", AGAIN, *on(5, "", "komi 0.5", "final_score")]
-    right = "= W+0.5"
 
     def do_komi(self, arguments):
         super().do_komi(arguments)
@@ -97,12 +88,9 @@ class OldKomiStays(Kept):
         self.keep(self.komi)
 
 
+@shown_by(["boardsize 9", AGAIN, *on(5, "", "play b F6")], "?")
 class OldSizeStays(Kept):
     """`clear_board` makes a board of the size that an earlier process had first."""
-
-    family = "restarts"
-    shows = ["boardsize 9", AGAIN, *on(5, "", "play b F6")]
-    right = "?"
 
     def do_boardsize(self, arguments):
         super().do_boardsize(arguments)
@@ -113,12 +101,9 @@ class OldSizeStays(Kept):
         self.begin(self.old or self.size)
 
 
+@shown_by([*on(3, FORCED, "genmove b"), AGAIN, *on(3, "w A1", "genmove b")], "but A1")
 class OldGameIsABook(Kept):
     """The first move that an earlier process chose is chosen again, whatever is there."""
-
-    family = "restarts"
-    shows = [*on(3, FORCED, "genmove b"), AGAIN, *on(3, "w A1", "genmove b")]
-    right = "but A1"
 
     def choose(self, colour):
         if self.old is not None and self.old < len(self.board):
@@ -130,12 +115,9 @@ class OldGameIsABook(Kept):
         return point
 
 
+@shown_by([*on(5, KO), AGAIN, *on(5, "", "play b B1")], "=")
 class OldKoStays(Kept):
     """The point of a ko is in the file, so a process begins with the ko that an earlier one has left."""
-
-    family = "restarts"
-    shows = [*on(5, KO), AGAIN, *on(5, "", "play b B1")]
-    right = "="
 
     def move(self, colour, point):
         super().move(colour, point)
@@ -146,12 +128,9 @@ class OldKoStays(Kept):
         return super().is_ko(board, colour, point) or (not self.record and [colour, point] in (self.old or []))
 
 
+@shown_by([*on(9, "", "fixed_handicap 2"), AGAIN, *on(9, "", "fixed_handicap 2")], "points C3 G7")
 class OldHandicapStays(Kept):
     """A file says that the handicap was placed, and a later process refuses another one."""
-
-    family = "restarts"
-    shows = [*on(9, "", "fixed_handicap 2"), AGAIN, *on(9, "", "fixed_handicap 2")]
-    right = "points C3 G7"
 
     def is_untouched(self):
         return not self.old and super().is_untouched()
@@ -161,12 +140,9 @@ class OldHandicapStays(Kept):
         self.keep("placed")
 
 
+@shown_by(["name", AGAIN, "name", AGAIN, *on(5, "", "genmove b")], "but")
 class TrialIsOver(Kept):
     """The third process of a trial version refuses `genmove`."""
-
-    family = "restarts"
-    shows = ["name", AGAIN, "name", AGAIN, *on(5, "", "genmove b")]
-    right = "but"
 
     def run(self):
         self.keep((self.old or 0) + 1)
@@ -178,53 +154,31 @@ class TrialIsOver(Kept):
         return super().choose(colour)
 
 
-class ByteOrderMark(Bug):
+@instead_of("run", ["1 name"], "= plain", plain=False)
+def byte_order_mark(self, right):
     """The first reply of a process has a byte order mark in front of it."""
-
-    family = "restarts"
-    shows = ["1 name"]
-    right = "= plain"
-    plain = False
-
-    def run(self):
-        self.send("\xef\xbb\xbf")
-        super().run()
+    self.send("\xef\xbb\xbf")
+    right()
 
 
-class Greeting(Bug):
+@instead_of("run", ["1 name"], "= plain", plain=False)
+def greeting(self, right):
     """The engine greets on standard output before its first reply."""
-
-    family = "restarts"
-    shows = ["1 name"]
-    right = "= plain"
-    plain = False
-
-    def run(self):
-        self.send("This is plain 1.\n")
-        super().run()
+    self.send("This is plain 1.\n")
+    right()
 
 
-class FirstReadIsLost(Bug):
+@instead_of("run", ["1 name"], "= plain", plain=False, waits=True)
+def first_read_is_lost(self, right):
     """What a process reads first is thrown away, as by an engine that empties its input once it is ready."""
-
-    family = "restarts"
-    shows = ["1 name"]
-    right = "= plain"
-    plain = False
-    waits = True
-
-    def run(self):
-        self.receive()
-        super().run()
+    self.receive()
+    right()
 
 
+@shown_by(on(9, "", "genmove b"), "but", plain=False)
 class FirstGenmoveIsOf19(Bug):
     """The first move of a process was prepared on 19x19, and is chosen on each size."""
 
-    family = "restarts"
-    shows = on(9, "", "genmove b")
-    right = "but"
-    plain = False
     prepared = True
 
     def do_genmove(self, arguments):
@@ -233,12 +187,10 @@ class FirstGenmoveIsOf19(Bug):
         return "Q16" if first and self.size < 16 else text
 
 
+@shown_by(on(5, "b C3", "genmove w", "play b C3"), "?")
 class FirstGenmoveClearsTheBoard(Bug):
     """The first `genmove` of a process makes the tables, and with them an empty board."""
 
-    family = "restarts"
-    shows = on(5, "b C3", "genmove w", "play b C3")
-    right = "?"
     ready = False
 
     def choose(self, colour):
@@ -249,12 +201,10 @@ class FirstGenmoveClearsTheBoard(Bug):
         return point
 
 
+@shown_by(on(5, "b C3", "undo"), "=")
 class UndoNeedsAGenmove(Bug):
     """The list that `undo` uses is made by the first `genmove` of a process, and before that `undo` fails."""
 
-    family = "restarts"
-    shows = on(5, "b C3", "undo")
-    right = "="
     ready = False
 
     def choose(self, colour):
@@ -267,15 +217,131 @@ class UndoNeedsAGenmove(Bug):
         super().do_undo(arguments)
 
 
+@shown_by(["boardsize 5", "komi 6.5", "clear_board", "final_score"], "= W+6.5")
 class FirstKomiIsLost(Bug):
     """The first `clear_board` of a process sets komi back to 0, and later ones don't."""
 
-    family = "restarts"
-    shows = ["boardsize 5", "komi 6.5", "clear_board", "final_score"]
-    right = "= W+6.5"
     ready = False
 
     def do_clear_board(self, arguments):
         super().do_clear_board(arguments)
         self.komi = self.komi if self.ready else 0
         self.ready = True
+
+
+@shown_by(["1 name", AGAIN, "1 name"], "= plain")
+class NoteAfterACrash(LockStays):
+    """Where the process before wasn't ended by `quit`, a line that says so is in front of the first reply."""
+
+    def find_it_running(self):
+        self.send("the last game was not saved\n")
+
+
+@shown_by([*on(3, FORCED, "genmove b"), AGAIN, *on(3, FORCED, "genmove w")], "moves pass")
+class ChoiceIsKeptByItsBoard(Kept):
+    """Choices are kept in the file by the board alone, and a later process takes them for the other colour too."""
+
+    def __init__(self, *options):
+        super().__init__(*options)
+        self.choices = dict(self.old or {})
+
+    def choose(self, colour):
+        board = self.board.hex()
+        point = super().choose(colour) if board not in (self.old or {}) else self.old[board]
+        self.choices[board] = point
+        self.keep(self.choices)
+        return point
+
+
+@shown_by([*on(5, "b C3 w D4"), AGAIN, *on(5, "w A1 w B1", "undo", "play w A1")], "?")
+class OldBoardComesBackAtUndo(Kept):
+    """`undo` reads the board from a file, and the first one of a process reads what an earlier process left there."""
+
+    def move(self, colour, point):
+        self.keep(list(self.board))
+        super().move(colour, point)
+
+    def undo(self):
+        super().undo()
+        if self.old and len(self.old) == len(self.board):
+            self.board = bytes(self.old)
+        self.old = None
+
+
+@shown_by([*["1 name", AGAIN] * 10, "1 name"], "= plain")
+class EleventhStartFails(Kept):
+    """Each process has a log of its own, with one of ten names, and the eleventh process ends at once."""
+
+    def run(self):
+        starts = (self.old or 0) + 1
+        if starts > 10:
+            raise SystemExit(1)
+        self.keep(starts)
+        super().run()
+
+
+@shown_by([*on(5, "b C3 w D3"), AGAIN, *on(5, "b C3", "play w D3")], "=")
+class GameIsResumedAtItsFirstMove(Kept):
+    """Where the first move of a process is that of the game in the file, the rest of that game is played too."""
+
+    def move(self, colour, point):
+        super().move(colour, point)
+        (size, moves), self.old = self.old or (0, []), None
+        if size == self.size and moves[:1] == [[colour, point]]:
+            for its, spot in moves[1:]:
+                super().move(its, spot)
+        self.keep([self.size, self.record])
+
+    def undo(self):
+        super().undo()
+        self.keep([self.size, self.record])
+
+
+@shown_by([*on(5, "b C3", "genmove w"), AGAIN, *on(5, "b C3", "genmove b")], "but C3")
+class OldColourStays(Kept):
+    """The colour that the engine chose for is a setting in the file, and a later process fails for the other one."""
+
+    def choose(self, colour):
+        if self.old not in (None, colour):
+            raise Failure("not my colour")
+        self.keep(colour)
+        return super().choose(colour)
+
+
+@shown_by([*on(9, "", "genmove b"), AGAIN, *on(1, "", "genmove b")], "moves pass")
+class BookHasNoSizes(Bug):
+    """Early chosen moves are a book in a file, by the moves before them alone. A later process uses it on each size."""
+
+    most = 20  # moves before a chosen one that is kept
+
+    def __init__(self, *options):
+        super().__init__(*options)
+        self.file = os.environ.get("WRONG_ENGINE_STATE") or os.path.join(tempfile.gettempdir(), "wrong_engine_book")
+        self.book = dict(line.rstrip("\n").split(":") for line in self.pages())
+
+    def pages(self):
+        """The lines of the file, each the moves, a colon and the answer."""
+        if not os.path.exists(self.file):
+            return []
+        with open(self.file, encoding="ascii") as file:
+            return file.readlines()
+
+    def do_genmove(self, arguments):
+        if len(self.record) >= self.most:
+            return super().do_genmove(arguments)
+        colour = self.argument(arguments, 0, self.read_colour)
+        moves = [f"{mover} {self.write_point(point)}" for mover, point in self.record]
+        page = ",".join([*moves, str(colour)])
+        if page in self.book:
+            return self.from_book(colour, self.book[page])
+        answer = super().do_genmove(arguments)
+        with open(self.file, "a", encoding="ascii") as file:
+            file.write(f"{page}:{answer}\n")
+        return answer
+
+    def from_book(self, colour, answer):
+        """Makes the move of an answer that is in the book, as far as the board has it."""
+        point = self.place(self.read_vertex(answer))
+        if point is not None:
+            self.move(colour, point)
+        return answer

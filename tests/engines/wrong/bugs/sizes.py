@@ -1,143 +1,77 @@
 """Sizes, columns and rows."""
-from talks import Bug, on
+from rules import PASS
+from talks import Bug, instead_of, on, patch, shown_by
+
+PATCHES = [
+    patch("array_ends_at_19", "Larger boards than 19x19 are taken, and the array of points has 19 columns and rows.",
+          on(20, "", "play b A20"), "=",
+          place=lambda self, right, vertex: None if vertex != "pass" and max(vertex) >= 19 else right(vertex)),
+    patch("letters_end_at_t", "The table of letters ends with T, and 20x20 is taken.", on(20, "", "play b U1"), "=",
+          read_vertex=lambda self, right, text: None if text[0].upper() in "UVWXYZ" else right(text)),
+    patch("z_is_unread", "The table of letters ends with Y, and 25x25 is taken.", on(25, "", "play b Z25"), "=",
+          read_vertex=lambda self, right, text: None if text[0].upper() == "Z" else right(text)),
+    patch("rows_of_one_digit", "The row of a vertex is its first digit alone, so A10 is A1.", on(13, "b A1", "play b A10"), "=",
+          read_vertex=lambda self, right, text: right(text if text.lower() == "pass" else text[:2])),
+    patch("tt_is_a_pass", "U20 is a pass: the engine keeps a point as a game file does, and `tt` is a pass there.",
+          on(25, "b U20", "play w U20"), "?",
+          place=lambda self, right, vertex: PASS if vertex == (19, 19) else right(vertex)),
+]
 
 
-class ArrayEndsAt19(Bug):
-    """Larger boards than 19x19 are taken, and the array of points has 19 columns and rows."""
-
-    family = "sizes"
-    shows = on(20, "", "play b A20")
-    right = "="
-
-    def place(self, vertex):
-        return None if vertex != "pass" and max(vertex) >= 19 else super().place(vertex)
-
-
-class LettersEndAtT(Bug):
-    """The table of letters ends with T, and 20x20 is taken."""
-
-    family = "sizes"
-    shows = on(20, "", "play b U1")
-    right = "="
-
-    def read_vertex(self, text):
-        return None if text[0].upper() in "UVWXYZ" else super().read_vertex(text)
-
-
-class ZIsUnread(Bug):
-    """The table of letters ends with Y, and 25x25 is taken."""
-
-    family = "sizes"
-    shows = on(25, "", "play b Z25")
-    right = "="
-
-    def read_vertex(self, text):
-        return None if text[0].upper() == "Z" else super().read_vertex(text)
-
-
-class JIsTheTenthLetter(Bug):
+@instead_of("column_of", on(9, "", "play b J1"), "=")
+def j_is_the_tenth_letter(self, right, letter):
     """A column is read as the letter's place in the alphabet, so I isn't skipped, and J1 is off a board of 9x9."""
-
-    family = "sizes"
-    shows = on(9, "", "play b J1")
-    right = "="
-
-    def column_of(self, letter):
-        return ord(letter) - ord("A")
+    return ord(letter) - ord("A")
 
 
-class JIsReadAsH(Bug):
+@instead_of("column_of", on(9, "b H1", "play b J1"), "=")
+def j_is_read_as_h(self, right, letter):
     """J is read as H: the table of letters has H twice."""
-
-    family = "sizes"
-    shows = on(9, "b H1", "play b J1")
-    right = "="
-
-    def column_of(self, letter):
-        column = super().column_of(letter)
-        return column - 1 if letter == "J" else column
+    column = right(letter)
+    return column - 1 if letter == "J" else column
 
 
-class RowsOfOneDigit(Bug):
-    """The row of a vertex is its first digit alone, so A10 is A1."""
-
-    family = "sizes"
-    shows = on(13, "b A1", "play b A10")
-    right = "="
-
-    def read_vertex(self, text):
-        return super().read_vertex(text if text.lower() == "pass" else text[:2])
-
-
-class SizesInBetween(Bug):
+@instead_of("begin", on(11, "", "play b M1"), "?")
+def sizes_in_between(self, right, size):
     """A size between 9, 13 and 19 is answered with success, and the board has the next of these sizes."""
-
-    family = "sizes"
-    shows = on(11, "", "play b M1")
-    right = "?"
-
-    def begin(self, size):
-        super().begin(next((known for known in (9, 13, 19) if 9 < size <= known), size))
+    right(next((known for known in (9, 13, 19) if 9 < size <= known), size))
 
 
-class SmallBoardsHaveFive(Bug):
+@instead_of("begin", on(4, "", "play b E5"), "?")
+def small_boards_have_five(self, right, size):
     """A size below 5 is answered with success, and the board has size 5."""
-
-    family = "sizes"
-    shows = on(4, "", "play b E5")
-    right = "?"
-
-    def begin(self, size):
-        super().begin(max(size, 5))
+    right(max(size, 5))
 
 
-class ClearBoardMakes19(Bug):
+@instead_of("do_clear_board", on(9, "", "play b T19"), "?", plain=False)
+def clear_board_makes_19(self, right, arguments):
     """`clear_board` sets the size back to 19."""
-
-    family = "sizes"
-    shows = on(9, "", "play b T19")
-    right = "?"
-    plain = False
-
-    def do_clear_board(self, arguments):
-        self.begin(19)
+    self.begin(19)
 
 
-class OffTheBoardIsTheNextRow(Bug):
+@instead_of("place", on(5, "", "play b F1"), "?")
+def off_the_board_is_the_next_row(self, right, vertex):
     """A column past the board isn't refused: its point is in the row above."""
-
-    family = "sizes"
-    shows = on(5, "", "play b F1")
-    right = "?"
-
-    def place(self, vertex):
-        if vertex == "pass":
-            return vertex
-        point = vertex[1] * self.size + vertex[0]
-        return point if point < len(self.board) else None
+    if vertex == "pass":
+        return vertex
+    point = vertex[1] * self.size + vertex[0]
+    return point if point < len(self.board) else None
 
 
-class RowPastTheBoardEnds(Bug):
+@instead_of("place", on(9, "", "play b A10"), "?")
+def row_past_the_board_ends(self, right, vertex):
     """A row past the board isn't refused, and the program ends at the array's end."""
-
-    family = "sizes"
-    shows = on(9, "", "play b A10")
-    right = "?"
-
-    def place(self, vertex):
-        if vertex == "pass" or vertex[0] >= self.size:
-            return super().place(vertex)
-        if vertex[1] >= self.size:
-            raise SystemExit(1)
-        return super().place(vertex)
+    if vertex == "pass" or vertex[0] >= self.size:
+        return right(vertex)
+    if vertex[1] >= self.size:
+        raise SystemExit(1)
+    return right(vertex)
 
 
+@shown_by(["boardsize 9", "! boardsize 26", "clear_board", "play b K10"], "?")
 class RefusedSizeCounts(Bug):
     """A size that is refused is noted before it is looked at, and `clear_board` makes a board of it."""
 
-    family = "sizes"
-    shows = ["boardsize 9", "! boardsize 26", "clear_board", "play b K10"]
-    right = "?"
     asked = None
 
     def do_boardsize(self, arguments):
@@ -148,12 +82,53 @@ class RefusedSizeCounts(Bug):
         self.begin(min(self.asked or self.size, 25))
 
 
-class OnePointHasALiberty(Bug):
+@instead_of("is_free", on(1, "", "play b A1"), "?")
+def one_point_has_a_liberty(self, right, board, chain):
     """On 1x1 the only point may be played: a stone without a neighbour is taken as one that isn't surrounded."""
+    return not any(self.near[stone] for stone in chain) or right(board, chain)
 
-    family = "sizes"
-    shows = on(1, "", "play b A1")
-    right = "?"
 
-    def is_free(self, board, chain):
-        return not any(self.near[stone] for stone in chain) or super().is_free(board, chain)
+@instead_of("write_point", on(13, "", "fixed_handicap 2"), "points D4 K10")
+def rows_are_one_character(self, right, point):
+    """The row of a vertex is written as one character, so row 10 is a colon."""
+    text = right(point)
+    return text if text == PASS else text[0] + chr(ord("0") + int(text[1:]))
+
+
+@instead_of("place", on(19, "b A2", "play b R1"), "=")
+def rows_are_sixteen_apart(self, right, vertex):
+    """A point is its column and sixteen times its row, so R1 and A2 are one point."""
+    point = right(vertex)
+    far = point not in (None, PASS) and vertex[0] >= 16
+    return right((vertex[0] - 16, vertex[1] + 1)) if far else point
+
+
+@instead_of("place", on(25, "b M15", "play w M15"), "?")
+def pass_is_point_361(self, right, vertex):
+    """A pass is kept as point 361, which no board up to 19x19 has, and on 25x25 it is M15."""
+    point = right(vertex)
+    return PASS if point == 361 else point
+
+
+@instead_of("read_vertex", on(25, "b A10", "play w A20"), "=")
+def rows_of_two_digits_are_tens(self, right, text):
+    """A row of two digits is ten and its second digit, so A20 is A10."""
+    vertex = right(text)
+    if vertex is None or vertex == PASS:
+        return vertex
+    column, row = vertex
+    return column, row if row < 9 else 9 + (row + 1) % 10
+
+
+@instead_of("do_boardsize", on(5, "b C3", "! boardsize 26", "play w C3"), "?")
+def refused_size_clears_the_board(self, right, arguments):
+    """The board is emptied before a size is looked at, so a size that is refused empties it too."""
+    self.begin(self.size)
+    right(arguments)
+
+
+@instead_of("write_point", on(25, "", "fixed_handicap 2"), "points D4 W22")
+def written_letters_end_at_t(self, right, point):
+    """Columns are read up to Z, and the table that they are written from ends with T: later ones have no letter."""
+    text = right(point)
+    return text if point == PASS or text[0] <= "T" else text[1:]

@@ -1,164 +1,147 @@
 """Suicide, and plays that are taken for it."""
 from rules import EMPTY, other
-from right import Failure
-from talks import Bug, on
+from talks import NO_ROOM_AT_E5, Bug, Keeping, filled, gone, instead_of, on, patch, shown_by
+
+from .captures import Counted
+
+PATCHES = [
+    patch("one_stone_may_die", "Suicide of one stone is taken.", on(5, "b A2 b B1", "play w A1"), "?",
+          is_suicide=lambda self, right, board, colour, point: len(self.chain(board, point)) > 1 and right(board, colour, point)),
+    patch("corners_are_forgotten", "Suicide in a corner is taken: the loop has three neighbours or more.",
+          on(5, "b A2 b B1", "play w A1"), "?",
+          is_suicide=lambda self, right, board, colour, point: len(self.near[point]) > 2 and right(board, colour, point)),
+    patch("white_may_die", "Suicide is looked for at Black's plays alone.", on(5, "b A2 b B1", "play w A1"), "?",
+          is_suicide=lambda self, right, board, colour, point: colour == 1 and right(board, colour, point)),
+]
 
 
-class OneStoneMayDie(Bug):
-    """Suicide of one stone is taken."""
-
-    family = "suicide"
-    shows = on(5, "b A2 b B1", "play w A1")
-    right = "?"
-
-    def is_suicide(self, board, colour, point):
-        return len(self.chain(board, point)) > 1 and super().is_suicide(board, colour, point)
-
-
-class TwoStonesMayDie(Bug):
+@instead_of("is_suicide", on(5, "w A1 b A2 b B2 b C1", "play w B1"), "?")
+def two_stones_may_die(self, right, board, colour, point):
     """Suicide of two stones or more is taken: the new stone alone is looked at, and it has its own colour beside it."""
-
-    family = "suicide"
-    shows = on(5, "w A1 b A2 b B2 b C1", "play w B1")
-    right = "?"
-
-    def is_suicide(self, board, colour, point):
-        return len(self.chain(board, point)) == 1 and super().is_suicide(board, colour, point)
+    return len(self.chain(board, point)) == 1 and right(board, colour, point)
 
 
+@shown_by(on(5, "w A1 b A2 b B2 b C1", "play w B1"), "?")
 class DeadStonesAreTakenOff(Bug):
     """Suicide is taken, and the stones are taken off the board, as by rules of other countries."""
-
-    family = "suicide"
-    shows = on(5, "w A1 b A2 b B2 b C1", "play w B1")
-    right = "?"
 
     def is_suicide(self, board, colour, point):
         return False
 
     def put(self, colour, point):
-        board = bytearray(super().put(colour, point))
+        board = super().put(colour, point)
         chain = self.chain(board, point)
-        for stone in [] if self.is_free(board, chain) else chain:
-            board[stone] = EMPTY
-        return bytes(board)
+        return board if self.is_free(board, chain) else filled(board, chain)
 
 
-class CornersAreForgotten(Bug):
-    """Suicide in a corner is taken: the loop has three neighbours or more."""
-
-    family = "suicide"
-    shows = on(5, "b A2 b B1", "play w A1")
-    right = "?"
-
-    def is_suicide(self, board, colour, point):
-        return len(self.near[point]) > 2 and super().is_suicide(board, colour, point)
-
-
-class WhiteMayDie(Bug):
-    """Suicide is looked for at Black's plays alone."""
-
-    family = "suicide"
-    shows = on(5, "b A2 b B1", "play w A1")
-    right = "?"
-
-    def is_suicide(self, board, colour, point):
-        return colour == 1 and super().is_suicide(board, colour, point)
-
-
-class CaptureIsSuicide(Bug):
+@instead_of("is_suicide", on(5, "b A2 w C1 b B1 w B2", "play w A1"), "=")
+def capture_is_suicide(self, right, board, colour, point):
     """Liberties are looked for before the other side's stones are taken off, so a capture can be refused."""
-
-    family = "suicide"
-    shows = on(5, "b A2 w C1 b B1 w B2", "play w A1")
-    right = "="
-
-    def is_suicide(self, board, colour, point):
-        before = bytearray(self.board)
-        before[point] = colour
-        return super().is_suicide(bytes(before), colour, point)
+    before = bytearray(self.board)
+    before[point] = colour
+    return right(bytes(before), colour, point)
 
 
-class JoiningIsSuicide(Bug):
+@instead_of("is_suicide", on(5, "b A2 w B1", "play b A1"), "=")
+def joining_is_suicide(self, right, board, colour, point):
     """A play without an empty neighbour that takes nothing is refused, also where it joins a chain with liberties."""
-
-    family = "suicide"
-    shows = on(5, "b A2 w B1", "play b A1")
-    right = "="
-
-    def is_suicide(self, board, colour, point):
-        return all(board[near] != EMPTY for near in self.near[point])
+    return all(board[near] != EMPTY for near in self.near[point])
 
 
-class FarLibertiesAreForgotten(Bug):
+@instead_of("is_suicide", on(5, "b A2 b A3 w B1 w B2", "play b A1"), "=")
+def far_liberties_are_forgotten(self, right, board, colour, point):
     """A chain's liberties are looked for at the new stone and at the stones beside it alone."""
-
-    family = "suicide"
-    shows = on(5, "b A2 b A3 w B1 w B2", "play b A1")
-    right = "="
-
-    def is_suicide(self, board, colour, point):
-        close = {point, *(near for near in self.near[point] if board[near] == colour)}
-        return not self.is_free(board, close)
+    close = {point, *(near for near in self.near[point] if board[near] == colour)}
+    return not self.is_free(board, close)
 
 
-class OneLibertyIsSuicide(Bug):
+@instead_of("is_suicide", on(5, "b A2", "play w A1"), "=")
+def one_liberty_is_suicide(self, right, board, colour, point):
     """A play that leaves its chain one liberty is refused."""
-
-    family = "suicide"
-    shows = on(5, "b A2", "play w A1")
-    right = "="
-
-    def is_suicide(self, board, colour, point):
-        chain = self.chain(board, point)
-        free = {near for stone in chain for near in self.near[stone] if board[near] == EMPTY}
-        return len(free) < 2 and bytes(board).count(other(colour)) == self.board.count(other(colour))
+    is_capture = board.count(other(colour)) < self.board.count(other(colour))
+    return len(self.liberties(board, self.chain(board, point))) < 2 and not is_capture
 
 
-class EyeIsSuicide(Bug):
+@instead_of("is_suicide", on(5, "b A2 b B1", "play b A1"), "=")
+def eye_is_suicide(self, right, board, colour, point):
     """A play into an eye of its own is refused."""
+    own = all(self.board[near] == colour for near in self.near[point])
+    return own or right(board, colour, point)
 
-    family = "suicide"
-    shows = on(5, "b A2 b B1", "play b A1")
-    right = "="
+
+@instead_of("refuse", on(5, "b A2 b B1", "! play w A1", "play b A1"), "=")
+def refused_stone_stays(self, right, colour, point):
+    """A suicide is refused, and its stone stays on the board."""
+    self.board = self.put(colour, point) if self.dies(colour, point) else self.board
+    right(colour, point)
+
+
+@instead_of("refuse", on(5, "b A2 b B1", "! play w A1", "undo", "play b B1"), "=")
+def refused_suicide_is_a_move(self, right, colour, point):
+    """A suicide is refused, and is a move of the record that `undo` takes back."""
+    if self.dies(colour, point):
+        self.boards.append(self.board)
+        self.record.append((colour, point))
+    right(colour, point)
+
+
+@instead_of("refuse", on(5, "w A1 b A2 b B2 b C1", "! play w B1", "play w A1"), "?")
+def refused_suicide_takes_its_chain(self, right, colour, point):
+    """A suicide is refused, and the chain that it would have joined is taken off with its stone."""
+    if self.dies(colour, point):
+        self.board = filled(self.board, self.chain(self.put(colour, point), point))
+    right(colour, point)
+
+
+@instead_of("is_suicide", on(5, "w A1 w C1 b A2 b B2 b C2 b D1", "play w B1"), "?")
+def joined_chains_may_die(self, right, board, colour, point):
+    """Suicide that joins two chains is taken: each of them counts its point as a liberty, and one is taken off."""
+    own = [near for near in self.near[point] if self.board[near] == colour]
+    joined = {min(self.chain(self.board, near)) for near in own}
+    return len(joined) < 2 and right(board, colour, point)
+
+
+# B1 takes C1, and A1 beside it lives
+@instead_of("is_suicide", on(5, "b A1 b A2 b B2 b C1 w D1 w C2", "play w B1"), "=")
+def first_neighbour_decides(self, right, board, colour, point):
+    """A play without a liberty is suicide where the first chain beside it isn't taken, also where another one is."""
+    bare = bytearray(self.board)
+    bare[point] = colour
+    if self.is_free(bare, self.chain(bare, point)):
+        return False
+    others = [near for near in self.near[point] if bare[near] == other(colour)]
+    return not others or self.is_free(bare, self.chain(bare, others[0]))
+
+
+# A2 has the liberty B2
+@instead_of("is_suicide", on(5, "w A2 w B1 b A3", "play b A1"), "?")
+def atari_is_no_suicide(self, right, board, colour, point):
+    """A play without a liberty is taken where a chain beside it has one left, as if that were taken."""
+    beside = [self.chain(board, near) for near in self.near[point] if board[near] == other(colour)]
+    return right(board, colour, point) and all(len(self.liberties(board, chain)) > 1 for chain in beside)
+
+
+# A2 has the liberties A1, A3 and B2
+@shown_by(on(5, "w A2 w B1", "! play b A1", "play b A3", "play b B2", "play w A2"), "?")
+class RefusedSuicideTakesLiberties(Counted):
+    """A suicide is refused, and the chains beside it stay without the liberty that it took from them."""
+
+    def refuse(self, colour, point):
+        dies = self.dies(colour, point)
+        for head in {self.heads[near] for near in self.near[point] if self.board[near] == other(colour)} if dies else ():
+            self.free[head] -= 1
+        super().refuse(colour, point)
+
+
+@shown_by(on(5, f"{NO_ROOM_AT_E5} w A1 b A2 b B1", "play b E5"), "?")
+class PrisonersAllowSuicide(Keeping):
+    """Whether a play has taken a stone is asked of its colour's prisoners, so after a capture its suicide is taken."""
+
+    def fresh(self):
+        return set()  # the colours that have prisoners
+
+    def after(self, before, colour, point):
+        return self.kept | {colour} if gone(before, self.board) else self.kept
 
     def is_suicide(self, board, colour, point):
-        own = all(self.board[near] == colour for near in self.near[point])
-        return own or super().is_suicide(board, colour, point)
-
-
-class RefusedStoneStays(Bug):
-    """A suicide is refused, and its stone stays on the board."""
-
-    family = "suicide"
-    shows = on(5, "b A2 b B1", "! play w A1", "play b A1")
-    right = "="
-
-    def do_play(self, arguments):
-        try:
-            super().do_play(arguments)
-        except Failure as failure:
-            self.leave(arguments, str(failure))
-            raise
-
-    def leave(self, arguments, text):
-        """Leaves the stone on the board where its point is empty."""
-        if text == "illegal move":
-            colour, point = self.read_colour(arguments[0]), self.place(self.read_vertex(arguments[1]))
-            if point is not None and self.board[point] == EMPTY:
-                board = self.put(colour, point)
-                self.board = board if self.is_suicide(board, colour, point) else self.board
-
-
-class RefusedSuicideIsAMove(RefusedStoneStays):
-    """A suicide is refused, and is a move of the record that `undo` takes back."""
-
-    shows = on(5, "b A2 b B1", "! play w A1", "undo", "play b B1")
-
-    def leave(self, arguments, text):
-        before = self.board
-        super().leave(arguments, text)
-        if self.board != before:
-            self.boards.append(before)
-            self.record.append((self.read_colour(arguments[0]), self.place(self.read_vertex(arguments[1]))))
-            self.board = before
+        return colour not in self.kept and super().is_suicide(board, colour, point)

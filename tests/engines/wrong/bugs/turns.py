@@ -1,90 +1,54 @@
 """Whose turn it is. Either colour may move at any time, also after two passes."""
-from rules import BLACK, PASS, WHITE, other
 from right import Failure
-from talks import Bug, on
+from rules import BLACK, PASS, WHITE, other
+from talks import instead_of, on, patch
+
+PATCHES = [
+    patch("same_colour_twice", "A second play of one colour is refused, as out of turn.", on(5, "b A1", "play b B1"), "=",
+          is_legal=lambda self, right, colour, point: not (self.record and self.record[-1][0] == colour) and right(colour, point)),
+]
 
 
-class SameColourTwice(Bug):
-    """A second play of one colour is refused, as out of turn."""
-
-    family = "turns"
-    shows = on(5, "b A1", "play b B1")
-    right = "="
-
-    def is_legal(self, colour, point):
-        return not (self.record and self.record[-1][0] == colour) and super().is_legal(colour, point)
-
-
-class GenmoveOutOfTurn(Bug):
+@instead_of("choose", on(5, "b C3", "genmove b"), "but C3")
+def genmove_out_of_turn(self, right, colour):
     """`genmove` fails for the colour that moved last."""
-
-    family = "turns"
-    shows = on(5, "b C3", "genmove b")
-    right = "but C3"
-
-    def choose(self, colour):
-        if self.record and self.record[-1][0] == colour:
-            raise Failure("it is the other side's turn")
-        return super().choose(colour)
+    if self.record and self.record[-1][0] == colour:
+        raise Failure("it is the other side's turn")
+    return right(colour)
 
 
-class BlackBegins(Bug):
+@instead_of("is_legal", on(5, "", "play w A1"), "=")
+def black_begins(self, right, colour, point):
     """A first move of White is refused."""
-
-    family = "turns"
-    shows = on(5, "", "play w A1")
-    right = "="
-
-    def is_legal(self, colour, point):
-        begun = bool(self.record) or any(self.board)
-        return (begun or colour == BLACK) and super().is_legal(colour, point)
+    begun = bool(self.record) or any(self.board)
+    return (begun or colour == BLACK) and right(colour, point)
 
 
-class WhiteBeginsWithAHandicap(Bug):
+@instead_of("is_legal", on(9, "", "fixed_handicap 2", "play b A1"), "=")
+def white_begins_with_a_handicap(self, right, colour, point):
     """After a handicap a first move of Black is refused."""
-
-    family = "turns"
-    shows = on(9, "", "fixed_handicap 2", "play b A1")
-    right = "="
-
-    def is_legal(self, colour, point):
-        begun = bool(self.record) or not any(self.board)
-        return (begun or colour == WHITE) and super().is_legal(colour, point)
+    begun = bool(self.record) or not any(self.board)
+    return (begun or colour == WHITE) and right(colour, point)
 
 
-class TwoPassesEndTheGame(Bug):
+@instead_of("is_legal", on(5, "b pass w pass", "play b A1"), "=")
+def two_passes_end_the_game(self, right, colour, point):
     """After two passes no play is taken."""
-
-    family = "turns"
-    shows = on(5, "b pass w pass", "play b A1")
-    right = "="
-
-    def is_legal(self, colour, point):
-        over = [place for _, place in self.record[-2:]] == [PASS, PASS]
-        return not over and super().is_legal(colour, point)
+    over = [place for _, place in self.record[-2:]] == [PASS, PASS]
+    return not over and right(colour, point)
 
 
-class PassInBetween(Bug):
+@instead_of("move", on(5, "b A1 b B1", "undo", "undo", "play b A1"), "=")
+def pass_in_between(self, right, colour, point):
     """Where a colour moves twice, a pass of the other one is put in between, which `undo` takes back like a move."""
-
-    family = "turns"
-    shows = on(5, "b A1 b B1", "undo", "undo", "play b A1")
-    right = "="
-
-    def move(self, colour, point):
-        if self.record and self.record[-1][0] == colour:
-            super().move(other(colour), PASS)
-        super().move(colour, point)
+    if self.record and self.record[-1][0] == colour:
+        right(other(colour), PASS)
+    right(colour, point)
 
 
-class ColoursByTurn(Bug):
+@instead_of("do_play", on(5, "w A1 b A2 b B1", "play b A1"), "=")
+def colours_by_turn(self, right, arguments):
     """The colour of a play is ignored: Black begins, and the colours take turns."""
-
-    family = "turns"
-    shows = on(5, "w A1 b A2 b B1", "play b A1")
-    right = "="
-
-    def do_play(self, arguments):
-        self.argument(arguments, 0, self.read_colour)
-        turn = other(self.record[-1][0]) if self.record else BLACK
-        super().do_play(["?bw"[turn], *arguments[1:]])
+    self.argument(arguments, 0, self.read_colour)
+    turn = other(self.record[-1][0]) if self.record else BLACK
+    right(["?bw"[turn], *arguments[1:]])

@@ -1,0 +1,293 @@
+"""The second and later games of a process."""
+from right import Failure
+from rules import EMPTY, PASS, POSITIONAL
+from talks import FORCED, KO, Bug, filled, gone, instead_of, on, plays, shown_by
+
+from .undo import Prisoners
+
+
+@instead_of("do_clear_board", on(5, "b C3", "clear_board", "undo"), "?")
+def record_stays(self, right, arguments):
+    """`clear_board` doesn't empty the record, so `undo` takes back a move of the game before."""
+    record, boards = self.record, self.boards
+    right(arguments)
+    self.record, self.boards = record, [self.board for _ in boards]
+
+
+@shown_by(on(5, KO, "clear_board", "play b B1"), "=")
+class KoStays(Bug):
+    """The noted point of a ko stays at `clear_board`, so the first play of the next game can be refused."""
+
+    kept = None
+
+    def do_clear_board(self, arguments):
+        pairs = [(colour, point) for point, stone in enumerate(self.board) if stone == EMPTY for colour in (1, 2)]
+        found = [pair for pair in pairs if self.is_ko(self.put(*pair), *pair)]
+        super().do_clear_board(arguments)
+        self.kept = found[0] if found else None
+
+    def is_ko(self, board, colour, point):
+        return super().is_ko(board, colour, point) or (not self.record and (colour, point) == self.kept)
+
+
+@instead_of("do_clear_board", on(9, "", "fixed_handicap 2", "clear_board", "play b C3"), "=")
+def handicap_stays(self, right, arguments):
+    """`clear_board` leaves the stones of a handicap."""
+    before = self.boards[0] if self.boards else self.board
+    right(arguments)
+    self.board = before
+
+
+@shown_by(on(9, "", "fixed_handicap 2", "clear_board", "fixed_handicap 2"), "points C3 G7")
+class SecondHandicapFails(Bug):
+    """A handicap is placed once in a process."""
+
+    placed = False
+
+    def is_untouched(self):
+        return not self.placed and super().is_untouched()
+
+    def place_handicap(self, points):
+        super().place_handicap(points)
+        self.placed = True
+
+
+@shown_by(on(5, "b pass w pass", "clear_board", "play b C3"), "=")
+class GameOverStays(Bug):
+    """After two passes the game is over, and no further game of the process takes a play."""
+
+    over = False
+
+    def do_clear_board(self, arguments):
+        self.over = self.over or [point for _, point in self.record[-2:]] == [PASS, PASS]
+        super().do_clear_board(arguments)
+
+    def need_room(self):
+        super().need_room()
+        if self.over:
+            raise Failure("the game is over")
+
+
+@shown_by(["boardsize 5", *on(3, "b C1 w B1 w C2", "play w C1")], "=")
+class EdgesOfALargerBoard(Bug):
+    """The table of edges is made anew only for a larger board, so a smaller one has liberties outside."""
+
+    edge = 0
+
+    def do_boardsize(self, arguments):
+        super().do_boardsize(arguments)
+        self.edge = max(self.edge, self.size)
+
+    def is_free(self, board, chain):
+        last = self.size - 1
+        outside = any(last in divmod(stone, self.size) for stone in chain)
+        return self.edge > self.size and outside or super().is_free(board, chain)
+
+
+@shown_by(on(5, "b C3", "clear_board", "play b C3"), "=", options=("--ko", POSITIONAL))
+class BoardsOfEarlierGames(Bug):
+    """Under positional ko the boards of earlier games may not come back."""
+
+    earlier = ()
+
+    def do_clear_board(self, arguments):
+        self.earlier = {*self.earlier, *self.boards, self.board}
+        super().do_clear_board(arguments)
+
+    def is_ko(self, board, colour, point):
+        return super().is_ko(board, colour, point) or board in self.earlier
+
+
+@shown_by(on(5, "b C3", "clear_board", "play b C3", "clear_board", "play b C3"), "=")
+class EndsAtTheThirdGame(Bug):
+    """The program ends at the third game: there is room for two."""
+
+    games = 0
+
+    def do_clear_board(self, arguments):
+        self.games += bool(self.record)
+        super().do_clear_board(arguments)
+
+    def move(self, colour, point):
+        if self.games >= 2:
+            raise SystemExit(1)
+        super().move(colour, point)
+
+
+@shown_by(on(3, FORCED, "clear_board", "play w A1", "genmove b"), "but A1")
+class ChoiceOfTheGameBefore(Bug):
+    """The first `genmove` of a game takes what the engine had found on the last board of the game before."""
+
+    found = None
+
+    def do_clear_board(self, arguments):
+        self.found = self.board if self.record else None
+        super().do_clear_board(arguments)
+
+    def do_boardsize(self, arguments):
+        super().do_boardsize(arguments)
+        self.found = None
+
+    def choose(self, colour):
+        board, self.board, self.found = self.board, self.found or self.board, None
+        try:
+            return super().choose(colour)
+        finally:
+            self.board = board
+
+
+@instead_of("do_clear_board", on(5, "b A5", "clear_board", "play w A5"), "=")
+def stones_of_the_game_before(self, right, arguments):
+    """`clear_board` empties the rows up to the last but one, so the top row keeps its stones."""
+    kept = self.board[-self.size :] if self.size > 1 else b"\0"
+    right(arguments)
+    self.board = self.board[: -self.size] + kept
+
+
+@shown_by([*on(9, "", "fixed_handicap 2"), *on(13, "", "fixed_handicap 2")], "points D4 K10")
+class HandicapPointsOfTheFirstSize(Bug):
+    """The handicap points are worked out once in a process, so a later size has those of the first one."""
+
+    first = None
+
+    def handicap(self, stones):
+        self.first = self.first or self.size
+        size, self.size = self.size, self.first
+        points = super().handicap(stones)
+        self.size = size
+        return [point for point in points if max(point) < size]
+
+
+@shown_by(on(5, "b A1 w A2 w B1", "clear_board", "play w E5", "undo", "play w A1"), "=")
+class TakenStonesOfTheGameBefore(Bug):
+    """`clear_board` doesn't empty the list of captured stones, so `undo` puts some of an earlier game on the board."""
+
+    def __init__(self, *options):
+        super().__init__(*options)
+        self.taken = []  # each a move's number, a point and its stone
+
+    def move(self, colour, point):
+        before = self.board
+        super().move(colour, point)
+        self.taken += [(len(self.record), place, before[place]) for place in gone(before, self.board)]
+
+    def undo(self):
+        number = len(self.record)
+        super().undo()
+        while self.taken and self.taken[-1][0] >= number:
+            _, place, stone = self.taken.pop()
+            self.board = filled(self.board, [place] if place < len(self.board) else [], stone)
+
+
+@shown_by(on(3, FORCED, "genmove b", "clear_board", *plays(FORCED), "genmove w"), "moves pass")
+class ColourOfTheFirstGenmove(Bug):
+    """The colour of the first `genmove` of a process is the engine's own, and later ones are of that colour too."""
+
+    own = None
+
+    def do_genmove(self, arguments):
+        self.argument(arguments, 0, self.read_colour)
+        self.own = self.own or arguments[0]
+        return super().do_genmove([self.own])
+
+
+@shown_by([*on(5, ""), *on(13, "", "play b D4")], "=")
+class TablesOfAnotherSize(Bug):
+    """Tables of neighbours are kept by the size's last three bits, so 13x13 gets the one of 5x5."""
+
+    def __init__(self, *options):
+        self.tables = {}
+        super().__init__(*options)
+
+    def begin(self, size):
+        super().begin(size)
+        table = self.tables.setdefault(size % 8, self.near)
+        table = table + [[]] * (size * size - len(table))
+        self.near = [[near for near in table[point] if near < size * size] for point in range(size * size)]
+
+
+@shown_by([*on(5, "b C3"), *on(9, "", "play b J9")], "=")
+class RoomOfTheFirstSize(Bug):
+    """The first `boardsize` of a process makes the board, and on a larger one the program ends past its last point."""
+
+    room = None
+
+    def do_boardsize(self, arguments):
+        super().do_boardsize(arguments)
+        self.room = self.room or len(self.board)
+
+    def move(self, colour, point):
+        if self.room and point != PASS and point >= self.room:
+            raise SystemExit(1)
+        super().move(colour, point)
+
+
+@shown_by([*on(9, "", "fixed_handicap 2"), *on(9, "b C3", "undo")], "=")
+class HandicapNumberStays(Bug):
+    """A handicap's stones are moves that `undo` stops at, and `clear_board` forgets them, and not their number."""
+
+    stop = 0
+
+    def begin(self, size):
+        super().begin(size)
+        self.placed = 0
+
+    def place_handicap(self, points):
+        super().place_handicap(points)
+        self.stop = self.placed = len(points)
+
+    def do_undo(self, arguments):
+        if self.placed + len(self.record) <= self.stop:
+            raise Failure("cannot undo")
+        super().do_undo(arguments)
+
+
+@shown_by([*on(2, "b A1 w A2 w B1"), *on(2, "", "komi 0", "final_score")], "= 0")
+class PrisonersOfTheGameBefore(Prisoners):
+    """A score has the prisoners, and `clear_board` leaves their number."""
+
+    def undo(self):
+        super().undo()
+        self.lead = self.leads.pop()
+
+
+@shown_by([*on(9, "", "fixed_handicap 2"), *on(9, "", "komi 0", "final_score")], "= 0")
+class PointsForAHandicapStay(Bug):
+    """White gets a point for each stone of a handicap, and in later games of the process too."""
+
+    stones = 0
+
+    def place_handicap(self, points):
+        super().place_handicap(points)
+        self.stones = len(points)
+
+    def score(self):
+        return super().score() - 2 * self.stones
+
+
+class Asked:
+    """A list whose values are worked out where they are asked for."""
+
+    def __init__(self, work):
+        self.work = work
+
+    def __getitem__(self, number):
+        return self.work(number)
+
+
+@shown_by([*on(5, "b E1"), *on(9, "w E1 b D1 b E2", "play b E1")], "?")
+class NeighboursAreKept(Bug):
+    """The neighbours of a column and a row are kept in a process, so on a larger board an old corner has only two."""
+
+    kept = {}
+
+    def begin(self, size):
+        super().begin(size)
+        self.near = Asked(self.kept_beside)
+
+    def kept_beside(self, point):
+        """The neighbours of a point on the board that it was asked of first, as far as this one has them."""
+        row, column = divmod(point, self.size)
+        if (row, column) not in self.kept:
+            self.kept[row, column] = [divmod(near, self.size) for near in self.beside(point)]
+        return [y * self.size + x for y, x in self.kept[row, column] if x < self.size and y < self.size]
