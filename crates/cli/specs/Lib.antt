@@ -1,2 +1,4 @@
 pub mod Failures
+pub mod Options
+pub mod Requests
 pub mod Status

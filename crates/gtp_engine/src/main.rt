@@ -13,14 +13,14 @@ fn main(rt: HostRuntime) -> ExitCode {
     let status = match hold_closed(&rt, rt.stdin(), rt.stdout(), rt.stderr()) {
         // They are held until the engine has ended.
         Ok(_held) => answer(&rt),
-        Err(_) => report(Failure::NoNullDevice, &mut Counted::new(rt.stderr())),
+        Err(_) => report(Failure::NoNullDevice, &mut rt.stderr()),
     };
     ExitCode::from(status)
 }
 
 /// Runs the engine on the arguments and the standard streams, and returns its status.
 fn answer(rt: &HostRuntime) -> u8 {
-    let errors = &mut Counted::new(rt.stderr());
+    let errors = &mut rt.stderr();
     match arguments(rt) {
         Ok(words) => run(
             rt.alloc(),

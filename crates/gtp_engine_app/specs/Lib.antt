@@ -1,5 +1,4 @@
 pub mod Options
 pub mod Status
 pub mod Program
-pub mod Displayed
 pub mod private

@@ -1,14 +1,11 @@
 -- The program's command line, in the words of the crate `clap`, and what it asks for. (Own.)
-use Rattle.std.specs.Prelude.{◌≡◌, ◌<◌, ◌^◌, ◌⊎◌, ℕ, pos, List, [], ◌∷◌, map, Option, Some, None, true, codes}
-use Rattle.std.specs.Prelude.{unwrap_or, if◌then◌else◌}
+use Rattle.std.specs.Prelude.{◌≡◌, ◌⊎◌, ℕ, pos, List, [], ◌∷◌, Some, None, codes, if◌then◌else◌}
 use Rattle.std.specs.Borrow.{Bor}
 use Rattle.std.specs.Str.{bytes_eq}
-use Rattle.std.specs.Str.Parse.{IsNumeral, digits_value, without_leading_plus}
-use Rattle.clap.specs.Words.{App, IsAmong, Row, Rule, Text, fault_of, first_of, matches_of, new_app, new_rule, one_of}
-use Rattle.clap.specs.Words.{with_rule}
-use Rattle.clap.specs.declared.builder.value_parser.ValueParser.{ValueParser}
-use Rattle.clap.specs.declared.builder.value_parser.ValueParser.TheVariants.{Names, Signed}
+use Rattle.clap.specs.Words.{App, IsAmong, Row, Rule, Text, fault_of, matches_of}
 use Rattle.clap.specs.declared.error.kind.ErrorKind.{ErrorKind}
+use Rattle.cli.specs.Options.{AreNames, HasNumber, name_rule, number_rule, option_text, program, text_rule, with_rules}
+use Rattle.cli.specs.Status.{IsRequest}
 use Rattle.go_board.specs.declared.rules.KoRule.{KoRule}
 use Rattle.go_board.specs.declared.rules.KoRule.TheVariants.{Simple, Positional}
 use Rattle.gtp_session.specs.Book.{book_of}
@@ -19,93 +16,75 @@ use Rattle.gtp_engine_app.specs.declared.failure.Failure.{Failure}
 use Rattle.gtp_engine_app.specs.declared.failure.Failure.TheVariants.{BadBook, BadFault}
 use Rattle.gtp_engine_app.specs.declared.options.Options.{Options}
 use Rattle.gtp_engine_app.specs.declared.options.PolicyName.{PolicyName}
-use Rattle.cli.specs.Status.{IsRequest}
 use Rattle.gtp_engine_app.specs.declared.options.PolicyName.TheVariants.{First, Random, Book}
 
--- the names of the policies, as a program keeps them
-abbrev pub ArePolicyNames : Bor (List (Bor Text)) → Type 0
-ArePolicyNames names = map (λ name. name.now) names.now ≡ codes "first" ∷ codes "random" ∷ codes "book" ∷ []
+-- ---- the options that there are
 
--- the names of the ko rules, as a program keeps them
-abbrev pub AreKoRuleNames : Bor (List (Bor Text)) → Type 0
-AreKoRuleNames names = map (λ name. name.now) names.now ≡ codes "simple" ∷ codes "positional" ∷ []
+-- the program keeps these lists of names: the policies, and the ko rules
+pub record KeptNames : Type 0 where
+  pub policies : Bor (List (Bor Text))
+  pub rules : Bor (List (Bor Text))
 
--- an option that takes one value, with the value that it has where it isn't used
-abbrev pub option_rule : Text → Option ValueParser → Text → Rule
-option_rule name parser default =
-    record (new_rule name) { long = Some name; value_names = 1; parser = parser; defaults = default ∷ [] }
-
--- a command line that has a version to print
-abbrev pub with_version : App → App
-with_version app = record app { top = record app.top { has_version = true } }
-
--- `[--policy first|random|book] [--seed N]`
-abbrev pub policy_line : Bor (List (Bor Text)) → App
-policy_line names = with_rule (with_rule (with_version (new_app (codes "gtp_engine")))
-    (option_rule (codes "policy") (Some (Names names)) (codes "first")))
-    (option_rule (codes "seed") (Some (Signed (pos 0) (pos 4294967295))) (codes "1"))
-
--- `[--policy first|random|book] [--seed N] [--ko simple|positional]`
-abbrev pub game_line : Bor (List (Bor Text)) → Bor (List (Bor Text)) → App
-game_line names rules =
-    with_rule (policy_line names) (option_rule (codes "ko") (Some (Names rules)) (codes "simple"))
+pub record AreKept (names : KeptNames) : Type 0 where
+  pub policies : AreNames (codes "first" ∷ codes "random" ∷ codes "book" ∷ []) names.policies
+  pub rules : AreNames (codes "simple" ∷ codes "positional" ∷ []) names.rules
 
 -- `[--policy first|random|book] [--seed N] [--ko simple|positional] [--book TEXT] [--fault TEXT]`
-abbrev pub command_line : Bor (List (Bor Text)) → Bor (List (Bor Text)) → App
-command_line names rules = with_rule (with_rule (game_line names rules)
-    (option_rule (codes "book") None []))
-    (option_rule (codes "fault") None (codes "none"))
+abbrev pub options : KeptNames → List Rule
+options names =
+    name_rule (codes "policy") names.policies (codes "first")
+    ∷ number_rule (codes "seed") (pos 0) (pos 4294967295) (codes "1")
+    ∷ name_rule (codes "ko") names.rules (codes "simple")
+    ∷ text_rule (codes "book") []
+    ∷ text_rule (codes "fault") (codes "none")
+    ∷ []
+
+-- the program, and all options in the order of the help
+abbrev pub command_line : KeptNames → App
+command_line names = with_rules (program (codes "gtp_engine")) (options names)
+
+-- ---- what the words ask for
 
 -- the policy of this name
-abbrev pub policy_named : Option Text → PolicyName
-policy_named None = First
-policy_named (Some name) =
+abbrev pub policy_named : Text → PolicyName
+policy_named name =
     if bytes_eq name (codes "random") then Random else (if bytes_eq name (codes "book") then Book else First)
 
 -- the ko rule of this name
-abbrev pub ko_rule_named : Option Text → KoRule
-ko_rule_named None = Simple
-ko_rule_named (Some name) = if bytes_eq name (codes "positional") then Positional else Simple
-
--- the number that the text spells, where it spells one of 32 bits
-abbrev pub SpellsSeed : Text → ℕ → Type 0
-SpellsSeed text seed =
-    IsNumeral 10 (without_leading_plus text) → digits_value 10 (without_leading_plus text) < 2 ^ 32
-    → seed ≡ digits_value 10 (without_leading_plus text)
+abbrev pub ko_rule_named : Text → KoRule
+ko_rule_named name = if bytes_eq name (codes "positional") then Positional else Simple
 
 -- the matches of a command line ask for these options
 pub record Ask (rows : List Row) (options : Options) : Type 0 where
-  pub policy : options.policy ≡ policy_named (first_of (codes "policy") rows)
-  pub seed : (text : Text) → one_of (codes "seed") rows ≡ Some text → SpellsSeed text options.seed
-  pub rule : options.rule ≡ ko_rule_named (first_of (codes "ko") rows)
-  pub book : options.book.now ≡ unwrap_or (first_of (codes "book") rows) []
-  pub fault : options.fault.now ≡ unwrap_or (first_of (codes "fault") rows) (codes "none")
+  pub policy : options.policy ≡ policy_named (option_text (codes "policy") rows)
+  pub seed : HasNumber (codes "seed") rows options.seed
+  pub rule : options.rule ≡ ko_rule_named (option_text (codes "ko") rows)
+  pub book : options.book.now ≡ option_text (codes "book") rows
+  pub fault : options.fault.now ≡ option_text (codes "fault") rows
 
--- the words of a command line ask for these options
+-- the words of a command line have no mistake, and ask for these options
 pub record AsksFor (words : List Text) (options : Options) : Type 0 where
-  pub names : Bor (List (Bor Text))
-  pub are_names : ArePolicyNames names
-  pub rules : Bor (List (Bor Text))
-  pub are_rules : AreKoRuleNames rules
-  pub no_fault : fault_of (command_line names rules) words ≡ []
-  pub asked : Ask (matches_of (command_line names rules) words) options
+  pub names : KeptNames
+  pub are_kept : AreKept names
+  pub no_fault : fault_of (command_line names) words ≡ []
+  pub asked : Ask (matches_of (command_line names) words) options
 
 -- the words have a mistake of this kind, or ask for help
 pub record HasFault (words : List Text) (kind : ErrorKind) : Type 0 where
-  pub names : Bor (List (Bor Text))
-  pub are_names : ArePolicyNames names
-  pub rules : Bor (List (Bor Text))
-  pub are_rules : AreKoRuleNames rules
-  pub among : IsAmong kind (fault_of (command_line names rules) words)
+  pub names : KeptNames
+  pub are_kept : AreKept names
+  pub among : IsAmong kind (fault_of (command_line names) words)
+
+-- the words ask for the help or for the version
+abbrev pub AsksForText : List Text → Type 0
+AsksForText words = (kind : ErrorKind) × IsRequest kind × HasFault words kind
+
+-- ---- mistakes in the options
 
 -- the text is a book
 pub record IsBook (text : List ℕ) : Type 0 where
   pub entries : List Entry
   pub spells : book_of text ≡ Some entries
-
--- the words ask for the help or for the version
-abbrev pub AsksForText : List Text → Type 0
-AsksForText words = (kind : ErrorKind) × IsRequest kind × HasFault words kind
 
 -- the texts of the options are this book and this fault
 abbrev pub Spells : Options → List Entry → Fault → Type 0

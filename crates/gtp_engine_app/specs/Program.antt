@@ -15,7 +15,9 @@ use Rattle.gtp_session.specs.Policies.{first_may, random_may, book_may}
 use Rattle.gtp_session.specs.Random.{generator_of}
 use Rattle.gtp_session.specs.Counts.{most_reads}
 use Rattle.gtp_session.specs.Engine.{Engine, fresh_under}
+use Rattle.byte_streams.specs.declared.calls.WriteOnce.{Ghosts}
 use Rattle.byte_streams.specs.Streams.{Source, Sink, TookWhole, TookPart}
+use Rattle.byte_streams.specs.Writing.{IsWritten}
 use Rattle.gtp_session.specs.Serving.{CameOut}
 use Rattle.gtp_engine_app.specs.declared.failure.Failure.{Failure}
 use Rattle.gtp_engine_app.specs.declared.failure.Failure.TheVariants.{OutOfMemory, Serve}
@@ -26,13 +28,13 @@ use Rattle.gtp_engine_app.specs.Options.{AsksFor, AsksForText, HasFault, IsMista
 use Rattle.gtp_engine_app.specs.Status.{status_after, ReportsFailure, ReportsEnd}
 use Rattle.cli.specs.Status.{done, own_failure, IsRequest}
 
--- what the program's streams show: its input, its output, and its standard error
-pub record Streams : Type 0 where
+-- the program's streams: what its input and its output show, and its standard error
+pub record Streams (E : Type 0) : Type 0 where
   pub input : Source
   pub output : Sink
-  pub errors : Sink
+  pub errors : E
 
-abbrev pub streams : Source → Sink → Sink → Streams
+abbrev pub streams : {E : Type 0} → Source → Sink → E → Streams E
 streams input output errors = record { input = input; output = output; errors = errors }
 
 -- ---- conversations
@@ -57,7 +59,8 @@ PolicyCameOut Book seed entries rule fault served reader reader_now writer write
 
 -- The options have a book and a fault. The conversation that they ask for was held, its end has this status, and why it
 -- stopped is reported where it stopped before its end.
-pub record HasConversed (options : Options) (status : ℕ) (before after : Streams) : Type 0 where
+pub record HasConversed {E : Type 0} (errs : Ghosts E) (options : Options) (status : ℕ) (before after : Streams E)
+    : Type 0 where
   pub entries : List Entry
   pub fault : Fault
   pub spells : Spells options entries fault
@@ -65,45 +68,55 @@ pub record HasConversed (options : Options) (status : ℕ) (before after : Strea
   pub came_out : PolicyCameOut options.policy options.seed entries options.rule fault served
       before.input after.input before.output after.output
   pub status_is : status ≡ status_after served
-  pub reported : ReportsEnd served before.errors after.errors
+  pub reported : ReportsEnd errs served before.errors after.errors
 
 -- the words ask for such options
-pub record HasServed (words : List Text) (status : ℕ) (before after : Streams) : Type 0 where
+pub record HasServed {E : Type 0} (errs : Ghosts E) (words : List Text) (status : ℕ) (before after : Streams E)
+    : Type 0 where
   pub options : Options
   pub asked : AsksFor words options
-  pub conversed : HasConversed options status before after
+  pub conversed : HasConversed errs options status before after
 
 -- ---- texts that were asked for
 
 -- With status 0 the output took the text, and nothing is reported. With 3 the output failed in it, which is reported.
-abbrev pub IsShown : List ℕ → ℕ → Sink → Sink → Sink → Sink → Type 0
-IsShown text status output output_now errors errors_now =
-    ((status ≡ done) × TookWhole text output output_now × (errors_now ≡ errors))
-    ⊎ ((status ≡ own_failure) × TookPart text output output_now × ReportsFailure (Serve Write) errors errors_now)
+pub data IsShown {E : Type 0} (errs : Ghosts E) (text : List ℕ) (output : Sink) (errors : E)
+    : ℕ → Sink → E → Type 0 where
+  went_out : {written : Sink} → TookWhole text output written → IsShown errs text output errors done written errors
+  broke : {written : Sink} {reported : E} → TookPart text output written
+      → ReportsFailure errs (Serve Write) errors reported
+      → IsShown errs text output errors own_failure written reported
 
 -- the words ask for the help or the version, and one text was written, or the writer failed in it
-pub record HasHelped (words : List Text) (status : ℕ) (before after : Streams) : Type 0 where
+pub record HasHelped {E : Type 0} (errs : Ghosts E) (words : List Text) (status : ℕ) (before after : Streams E)
+    : Type 0 where
   pub asked : AsksForText words
   pub text : List ℕ
-  pub shown : IsShown text status before.output after.output before.errors after.errors
+  pub shown : IsShown errs text before.output before.errors status after.output after.errors
 
 -- ---- what else may end a run
 
 -- The program could not go on, and reports that memory was refused.
-pub record IsOutOfMemory (status : ℕ) (before after : Streams) : Type 0 where
+pub record IsOutOfMemory {E : Type 0} (errs : Ghosts E) (status : ℕ) (before after : E) : Type 0 where
   pub status_is : status ≡ own_failure
-  pub reported : ReportsFailure OutOfMemory before.errors after.errors
+  pub reported : ReportsFailure errs OutOfMemory before after
 
 -- The words ask for options whose texts have a mistake. The first one is reported.
-pub record AsksWrongly (words : List Text) (errors errors_now : Sink) : Type 0 where
+pub record AsksWrongly {E : Type 0} (errs : Ghosts E) (words : List Text) (before after : E) : Type 0 where
   pub options : Options
   pub asked : AsksFor words options
   pub failure : Failure
   pub mistake : IsMistake options failure
-  pub reported : ReportsFailure failure errors errors_now
+  pub reported : ReportsFailure errs failure before after
 
--- The words have a mistake, or the texts that they give as a book and as a fault do. What is reported of a mistake in
--- the words is not said here.
-abbrev pub HasMistake : List Text → Sink → Sink → Type 0
-HasMistake words errors errors_now =
-    ((kind : ErrorKind) × (¬ IsRequest kind) × HasFault words kind) ⊎ AsksWrongly words errors errors_now
+-- The words have a mistake. One text is written.
+pub record IsRefusedByClap {E : Type 0} (errs : Ghosts E) (words : List Text) (before after : E) : Type 0 where
+  pub kind : ErrorKind
+  pub mistake : ¬ IsRequest kind
+  pub has : HasFault words kind
+  pub text : List ℕ
+  pub written : IsWritten errs text before after
+
+-- the words have a mistake, or the texts that they give as a book and as a fault do
+abbrev pub HasMistake : {E : Type 0} → Ghosts E → List Text → E → E → Type 0
+HasMistake errs words before after = IsRefusedByClap errs words before after ⊎ AsksWrongly errs words before after

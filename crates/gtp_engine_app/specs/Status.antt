@@ -4,8 +4,9 @@ use Rattle.gtp_session.specs.declared.serve.Served.{Served}
 use Rattle.gtp_session.specs.declared.serve.Served.TheVariants.{Quit, EndOfInput, Stopped}
 use Rattle.gtp_session.specs.declared.serve.ServeFault.{ServeFault}
 use Rattle.gtp_session.specs.declared.serve.ServeFault.TheVariants.{Read, Write, TooManyReads}
-use Rattle.byte_streams.specs.Streams.{Sink, TookWhole, TookPart}
-use Rattle.cli.specs.Status.{done, error_line, no_null_device, own_failure, usage_failure}
+use Rattle.byte_streams.specs.declared.calls.WriteOnce.{Ghosts}
+use Rattle.cli.specs.Failures.{IsReported}
+use Rattle.cli.specs.Status.{done, no_null_device, own_failure, usage_failure}
 use Rattle.gtp_engine_app.specs.declared.failure.Failure.{Failure}
 use Rattle.gtp_engine_app.specs.declared.failure.Failure.TheVariants.{BadArgument, BadBook, BadFault, OutOfMemory}
 use Rattle.gtp_engine_app.specs.declared.failure.Failure.TheVariants.{Serve}
@@ -47,17 +48,16 @@ failure_text (Serve Write) = codes "write fault"
 failure_text (Serve TooManyReads) = codes "too many reads"
 failure_text NoNullDevice = no_null_device
 
--- the line of a failure: `gtp_engine: ..`
-abbrev pub failure_line : Failure → List ℕ
-failure_line failure = error_line (codes "gtp_engine") (failure_text failure)
+-- the program's name in the lines of failures
+abbrev pub program_name : List ℕ
+program_name = codes "gtp_engine"
 
--- the writer took the failure's line and flushed it, or it failed and took a beginning of the line
-abbrev pub ReportsFailure : Failure → Sink → Sink → Type 0
-ReportsFailure failure errors errors_now =
-    TookWhole (failure_line failure) errors errors_now ⊎ TookPart (failure_line failure) errors errors_now
+-- the line of a failure was written, whole unless the stream broke at it
+abbrev pub ReportsFailure : {E : Type 0} → Ghosts E → Failure → E → E → Type 0
+ReportsFailure errs failure before after = IsReported errs program_name (failure_text failure) before after
 
 -- Of a conversation that came to its end, or stopped at the fault that was asked for, nothing is reported; else its
 -- fault is.
-abbrev pub ReportsEnd : Result Served ServeFault → Sink → Sink → Type 0
-ReportsEnd (Ok how) errors errors_now = errors_now ≡ errors
-ReportsEnd (Err fault) errors errors_now = ReportsFailure (Serve fault) errors errors_now
+abbrev pub ReportsEnd : {E : Type 0} → Ghosts E → Result Served ServeFault → E → E → Type 0
+ReportsEnd errs (Ok how) before after = after ≡ before
+ReportsEnd errs (Err fault) before after = ReportsFailure errs (Serve fault) before after

@@ -2,13 +2,13 @@
 ghost use Rattle.std.specs.Prelude.{◌≡◌, ◌≢◌, ◌≤◌, length};
 ghost use Rattle.gtp_engine_app.specs.Status.{ReportsFailure, failure_text, status_for};
 
+use byte_streams::{WriteOnce, write_or_break};
 use cli::line::error_line;
 use gtp_session::serve::ServeFault;
-use gtp_session::streams::{Outgoing, send};
 use std::io::ErrorKind;
 
 /// The program's name in the lines of failures.
-const NAME: &[u8] = b"gtp_engine";
+pub const NAME: &[u8] = b"gtp_engine";
 
 /// Why the program ends before its conversation does, where `clap` has no text for it.
 #[derive(Clone, Copy, Debug, PartialEq, Eq, Drop)]
@@ -68,11 +68,10 @@ impl Failure {
 }
 
 /// Reports the failure in one line, and returns the status. A writer that fails doesn't change the status.
-pub fn report<E: Outgoing>(failure: Failure, errors: &mut E) -> u8
+pub fn report<E: WriteOnce>(failure: Failure, errors: &mut E) -> u8
     ensures status { result ≡ status_for failure }
-    ensures reported { ReportsFailure failure (E.shown errors.old) (E.shown errors.new) }
+    ensures reported { ReportsFailure E.WriteOnce failure errors.old errors.new }
 {
-    let line = error_line(NAME, failure.text());
-    let _ = send(errors, line.as_slice());
+    write_or_break(errors, error_line(NAME, failure.text()).as_slice());
     failure.status()
 }

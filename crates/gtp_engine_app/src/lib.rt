@@ -6,5 +6,4 @@
 
 pub mod failure;
 mod options;
-mod plain;
 pub mod run;

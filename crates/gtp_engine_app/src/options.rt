@@ -1,14 +1,13 @@
 //! The options of the command line.
-ghost use Rattle.std.specs.Prelude.{◌≡◌, ◌≢◌, None, map, codes, false, IfOk, IfErr};
-ghost use Rattle.clap.specs.Words.{app_of, first_value, found_of, kind_of, rows_of, rule_of};
+ghost use Rattle.std.specs.Prelude.{◌≡◌, ◌≢◌, map, codes, IfOk, IfErr};
+ghost use Rattle.clap.specs.Words.{app_of, found_of, kind_of, rows_of};
 ghost use Rattle.clap.specs.declared.error.kind.ErrorKind.TheVariants.{OutOfMemory};
-ghost use Rattle.gtp_engine_app.specs.Options.{Ask, AsksFor, HasFault};
-ghost use Rattle.gtp_engine_app.specs.Options.{ko_rule_named, option_rule, policy_named};
-ghost use Rattle.gtp_engine_app.specs.private.CommandLine.{IsCommandLine, program};
-ghost use Rattle.gtp_engine_app.specs.private.CommandLine.{rule_of_row, with_options};
+ghost use Rattle.cli.specs.Options.{program};
+ghost use Rattle.gtp_engine_app.specs.Options.{Ask, AsksFor, HasFault, ko_rule_named, policy_named};
+ghost use Rattle.gtp_engine_app.specs.private.CommandLine.{IsCommandLine};
 
-use clap::builder::ValueParser;
-use clap::{Arg, ArgMatches, Command, Error};
+use clap::{ArgMatches, Command, Error};
+use cli::options::{OptionRow, Takes, number_at, text_at, with_options};
 use go_board::{KoRule, VERSION};
 use std::alloc::{AllocError, Global};
 use std::convert::AsStr;
@@ -65,65 +64,33 @@ pub struct Options<'a> {
     pub fault: &'a str,
 }
 
-/// An option of the command line. It takes one value.
-#[derive(Clone, Copy)]
-struct OptionRow<'a> {
-    /// The name that follows the two dashes.
-    name: &'a str,
-    /// What the help calls the value.
-    value_name: &'a str,
-    /// What the value has to be. Without one any text will do.
-    parser: Option<ValueParser<'a>>,
-    /// The value where the words don't say.
-    default: &'a str,
-    /// Whether the help leaves the default out.
-    hides_default: bool,
-    /// What the help says.
-    help: &'a str,
-}
-
 /// The options, in the order of the help.
 static OPTIONS: [OptionRow<'static>; 5] = [
     OptionRow {
         name: "policy",
-        value_name: "POLICY",
-        parser: Some(ValueParser::Names(&["first", "random", "book"])),
-        default: "first",
-        hides_default: false,
+        takes: Takes::Name("POLICY", &["first", "random", "book"], "first"),
         help: "Policy: first, random or book",
     },
     OptionRow {
         name: "seed",
-        value_name: "N",
-        parser: Some(ValueParser::Signed(0, 4294967295)),
-        default: "1",
-        hides_default: false,
+        takes: Takes::Number("N", 0, 4294967295, "1"),
         help: "Seed of --policy random, 0 to 4294967295",
     },
     OptionRow {
         name: "ko",
-        value_name: "RULE",
-        parser: Some(ValueParser::Names(&["simple", "positional"])),
-        default: "simple",
-        hides_default: false,
+        takes: Takes::Name("RULE", &["simple", "positional"], "simple"),
         help: "Rule of ko: simple or positional",
     },
     OptionRow {
         name: "book",
-        value_name: "TEXT",
-        parser: None,
-        default: "",
-        hides_default: true,
+        takes: Takes::HiddenText("TEXT", ""),
         help: "Entries of --policy book, at most 2000, with commas\n\
             between: each a vertex, resign, or nothing for a pass\n\
             [default: empty]",
     },
     OptionRow {
         name: "fault",
-        value_name: "TEXT",
-        parser: None,
-        default: "none",
-        hides_default: false,
+        takes: Takes::Text("TEXT", "none"),
         help: "Fault at the N-th successful genmove, for tests: none,\n\
             stop:N, cut:N:K, junk:N or flood:N",
     },
@@ -140,36 +107,36 @@ pub fn read_options<'a, S: AsStr>(alloc: Global, words: &'a [S]) -> Result<Optio
     Ok(options_of(&matches))
 }
 
-/// The options of a command line. The defaults here aren't met, since the command line has its own.
+/// The options of a command line, which has a default for each.
 fn options_of<'a>(matches: &ArgMatches<'a>) -> Options<'a>
     ensures { Ask (rows_of (found_of matches.now)) result }
 {
     Options {
-        policy: policy_of(matches),
-        seed: matches.get_one::<u32>("seed").unwrap_or(1),
-        rule: ko_rule_of(matches),
-        book: matches.get_str("book").unwrap_or(""),
-        fault: matches.get_str("fault").unwrap_or("none"),
+        policy: policy_named(text_at(matches, "policy")),
+        seed: number_at(matches, "seed"),
+        rule: ko_rule_named(text_at(matches, "ko")),
+        book: text_at(matches, "book"),
+        fault: text_at(matches, "fault"),
     }
 }
 
-/// The policy that the matches name.
-fn policy_of(matches: &ArgMatches<'_>) -> PolicyName
-    ensures { result ≡ policy_named (first_value (found_of matches.now) (codes "policy")) }
+/// The policy of this name.
+fn policy_named(name: &str) -> PolicyName
+    ensures { result ≡ policy_named name.now }
 {
-    match matches.get_str("policy") {
-        Some("random") => PolicyName::Random,
-        Some("book") => PolicyName::Book,
+    match name {
+        "random" => PolicyName::Random,
+        "book" => PolicyName::Book,
         _ => PolicyName::First,
     }
 }
 
-/// The ko rule that the matches name.
-fn ko_rule_of(matches: &ArgMatches<'_>) -> KoRule
-    ensures { result ≡ ko_rule_named (first_value (found_of matches.now) (codes "ko")) }
+/// The ko rule of this name.
+fn ko_rule_named(name: &str) -> KoRule
+    ensures { result ≡ ko_rule_named name.now }
 {
-    match matches.get_str("ko") {
-        Some("positional") => KoRule::Positional,
+    match name {
+        "positional" => KoRule::Positional,
         _ => KoRule::Simple,
     }
 }
@@ -183,50 +150,11 @@ fn command<'a>(alloc: Global) -> Result<Command<'a>, AllocError>
 
 /// The command line with no option yet.
 fn program<'a>(alloc: Global) -> Result<Command<'a>, AllocError>
-    ensures { IfOk result (λ command. app_of command ≡ program) }
+    ensures { IfOk result (λ command. app_of command ≡ program (codes "gtp_engine")) }
 {
     Command::new(alloc, "gtp_engine")
         .version(VERSION)
         .about("A Go engine for the Go Text Protocol, version 2, on standard input and output")
         .after_help(AFTER_OPTIONS)
         .bin_name("gtp_engine")
-}
-
-/// A command line, and the options of these rows after its own.
-fn with_options<'a>(
-    alloc: Global,
-    mut command: Command<'a>,
-    rows: &[OptionRow<'a>],
-) -> Result<Command<'a>, AllocError>
-    ensures { IfOk result (λ with. app_of with ≡ with_options (app_of command.entry) rows.now) }
-{
-    for row in rows {
-        command = command.arg(option(alloc, *row))?;
-    }
-    Ok(command)
-}
-
-/// The option of a row.
-fn option<'a>(alloc: Global, row: OptionRow<'a>) -> Arg<'a>
-    ensures rule { rule_of result ≡ rule_of_row row.entry }
-    ensures local { result.global ≡ false }
-{
-    match row.parser {
-        Some(parser) => text_option(alloc, row).value_parser(parser),
-        None => text_option(alloc, row),
-    }
-}
-
-/// The option of a row, but of any text. The help doesn't list the names that will do, since the row's text does.
-fn text_option<'a>(alloc: Global, row: OptionRow<'a>) -> Arg<'a>
-    ensures rule { rule_of result ≡ option_rule row.entry.name.now None row.entry.default.now }
-    ensures local { result.global ≡ false }
-{
-    Arg::new(alloc, row.name)
-        .long(row.name)
-        .value_name(row.value_name)
-        .default_value(row.default)
-        .hide_default_value(row.hides_default)
-        .hide_possible_values(true)
-        .help(row.help)
 }

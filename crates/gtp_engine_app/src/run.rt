@@ -1,17 +1,17 @@
 //! The program, over any counted reader and writers.
-ghost use Rattle.std.specs.Prelude.{◌≡◌, ◌≢◌, ◌⊎◌, map, IfOk, IfErr};
+ghost use Rattle.std.specs.Prelude.{◌≡◌, ◌≢◌, ◌⊎◌, map, string_bytes, IfOk, IfErr, IsOkAnd};
+ghost use Rattle.cli.specs.Requests.{IsRefused};
 ghost use Rattle.gtp_engine_app.specs.Options.{HasNoBook, HasNoFault, IsMistake, Spells};
 ghost use Rattle.gtp_engine_app.specs.Program.{FreshCameOut, PolicyCameOut, HasConversed, HasServed, HasHelped};
-ghost use Rattle.gtp_engine_app.specs.Program.{IsOutOfMemory, HasMistake, streams};
-ghost use Rattle.gtp_engine_app.specs.Displayed.{IsDisplayed};
-ghost use Rattle.gtp_engine_app.specs.Status.{IsStatus, ReportsFailure, ReportsEnd, stopped, status_after};
-ghost use Rattle.cli.specs.Status.{IsRequest, done, usage_failure, own_failure};
+ghost use Rattle.gtp_engine_app.specs.Program.{IsOutOfMemory, HasMistake, IsShown, streams};
+ghost use Rattle.gtp_engine_app.specs.Status.{IsStatus, ReportsFailure, ReportsEnd, program_name, stopped, status_after};
+ghost use Rattle.cli.specs.Status.{IsRequest, done, usage_failure};
 
-use crate::failure::{Failure, report};
+use crate::failure::{Failure, NAME, report};
 use crate::options::{Options, PolicyName, read_options};
-use crate::plain::print;
+use byte_streams::{Broken, WriteOnce};
 use clap::error::ErrorKind;
-use cli::words::is_request;
+use cli::requests::requested_text;
 use go_board::KoRule;
 use gtp_session::book::Book;
 use gtp_session::fault::Fault;
@@ -21,9 +21,8 @@ use gtp_session::random::Random;
 use gtp_session::serve::{MOST_READS, ServeFault, Served, serve, serve_with};
 use gtp_session::session::Session;
 use gtp_session::streams::{Incoming, Outgoing, send};
-use std::alloc::Global;
+use std::alloc::{AllocError, Global};
 use std::convert::AsStr;
-use std::fmt::Display;
 
 /// Runs the engine as the words of its command line say, the first of which is the program's name, and returns the
 /// status that the program ends with:
@@ -35,9 +34,9 @@ use std::fmt::Display;
 /// - 4 where the engine stopped at the fault that `--fault` asks for.
 ///
 /// What a status of 2 or 3 means is written to `errors`, and whether that can be written changes nothing; after 0 and 4
-/// nothing is written there. `alloc` gives the memory for reading the words and for the help. The conversation takes
-/// none.
-pub fn run<S: AsStr, R: Incoming, W: Outgoing, E: Outgoing>(
+/// nothing is written there. `alloc` gives the memory for reading the words and for what is written of them. The
+/// conversation takes none.
+pub fn run<S: AsStr, R: Incoming, W: Outgoing, E: WriteOnce>(
     alloc: Global,
     words: &[S],
     input: &mut R,
@@ -48,29 +47,29 @@ pub fn run<S: AsStr, R: Incoming, W: Outgoing, E: Outgoing>(
     // After a mistake in the words nothing was read, and nothing went to the output. Of the texts
     // of the options the first mistake is reported.
     ensures usage { result ≡ usage_failure →
-        HasMistake (map S.text words.now) (E.shown errors.old) (E.shown errors.new)
+        HasMistake E.WriteOnce (map S.text words.now) errors.old errors.new
         × (input.new ≡ input.old) × (output.new ≡ output.old) }
     // Any other status is that of the conversation that the words ask for; or they ask for help,
     // and nothing was read; or nothing was read, nothing went to the output, and it is
     // reported that memory was refused. With status 3 the failure is reported, and nothing else.
-    ensures served { let before = streams
-        (R.shown input.old) (W.shown output.old) (E.shown errors.old) in let after = streams
-        (R.shown input.new) (W.shown output.new) (E.shown errors.new) in
-        result ≢ usage_failure → HasServed (map S.text words.now) result before after
-        ⊎ ((input.new ≡ input.old) × HasHelped (map S.text words.now) result before after)
-        ⊎ (IsOutOfMemory result before after
+    ensures served { let before = streams (R.shown input.old) (W.shown output.old) errors.old in
+        let after = streams (R.shown input.new) (W.shown output.new) errors.new in
+        result ≢ usage_failure → HasServed E.WriteOnce (map S.text words.now) result before after
+        ⊎ ((input.new ≡ input.old)
+        × HasHelped E.WriteOnce (map S.text words.now) result before after)
+        ⊎ (IsOutOfMemory E.WriteOnce result errors.old errors.new
         × (input.new ≡ input.old) × (output.new ≡ output.old)) }
     ensures quiet { (result ≡ done) ⊎ (result ≡ stopped) → errors.new ≡ errors.old }
 {
     match read_options(alloc, words) {
         Ok(options) => serve_options(options, input, output, errors),
-        Err(error) => answer_error(alloc, error.kind(), &error, output, errors),
+        Err(error) => answer_error(error.kind(), error.to_string(alloc), output, errors),
     }
 }
 
 /// Holds the conversation that the options ask for, and returns the status. Where a text in them is wrong it reports
 /// that and holds none.
-fn serve_options<R: Incoming, W: Outgoing, E: Outgoing>(
+fn serve_options<R: Incoming, W: Outgoing, E: WriteOnce>(
     options: Options<'_>,
     input: &mut R,
     output: &mut W,
@@ -78,11 +77,11 @@ fn serve_options<R: Incoming, W: Outgoing, E: Outgoing>(
 ) -> u8
     ensures status { IsStatus result }
     ensures usage { result ≡ usage_failure → (failure : Failure) × IsMistake options.entry failure
-        × ReportsFailure failure (E.shown errors.old) (E.shown errors.new)
+        × ReportsFailure E.WriteOnce failure errors.old errors.new
         × (input.new ≡ input.old) × (output.new ≡ output.old) }
-    ensures served { result ≢ usage_failure → HasConversed options.entry result
-        (streams (R.shown input.old) (W.shown output.old) (E.shown errors.old))
-        (streams (R.shown input.new) (W.shown output.new) (E.shown errors.new)) }
+    ensures served { result ≢ usage_failure → HasConversed E.WriteOnce options.entry result
+        (streams (R.shown input.old) (W.shown output.old) errors.old)
+        (streams (R.shown input.new) (W.shown output.new) errors.new) }
     ensures quiet { (result ≡ done) ⊎ (result ≡ stopped) → errors.new ≡ errors.old }
 {
     let (book, fault) = match read_texts(options) {
@@ -112,9 +111,9 @@ fn read_texts(options: Options<'_>) -> Result<(Book, Fault), Failure>
 }
 
 /// Reports why a conversation stopped before its end, and returns the status.
-fn end<E: Outgoing>(served: Result<Served, ServeFault>, errors: &mut E) -> u8
+fn end<E: WriteOnce>(served: Result<Served, ServeFault>, errors: &mut E) -> u8
     ensures status { result ≡ status_after served }
-    ensures reported { ReportsEnd served (E.shown errors.old) (E.shown errors.new) }
+    ensures reported { ReportsEnd E.WriteOnce served errors.old errors.new }
     ensures quiet { (result ≡ done) ⊎ (result ≡ stopped) → errors.new ≡ errors.old }
 {
     match served {
@@ -124,42 +123,33 @@ fn end<E: Outgoing>(served: Result<Served, ServeFault>, errors: &mut E) -> u8
     }
 }
 
-/// Writes what `clap` returns in place of options, an error of this kind with this text, and returns the status.
-fn answer_error<T: Display, W: Outgoing, E: Outgoing>(
-    alloc: Global,
+/// Writes what `clap` returns in place of options, an error of this kind with this text, and returns the status. The
+/// output counts its calls, so a text that was asked for is sent.
+fn answer_error<W: Outgoing, E: WriteOnce>(
     kind: ErrorKind,
-    text: &T,
+    text: Result<String, AllocError>,
     output: &mut W,
     errors: &mut E,
 ) -> u8
-    ensures status { (result ≡ done) ⊎ (result ≡ usage_failure) ⊎ (result ≡ own_failure) }
-    ensures usage { result ≡ usage_failure → output.new ≡ output.old }
-    ensures quiet { result ≡ done → errors.new ≡ errors.old }
-    ensures mistake { result ≡ usage_failure → ¬ IsRequest kind }
-    ensures memory { kind ≡ ErrorKind.OutOfMemory → result ≡ own_failure }
-    // A text that was asked for was written once.
-    ensures shown { result ≡ done → IsRequest kind × IsDisplayed (T.output text.now) result
-        (W.shown output.old) (W.shown output.new) (E.shown errors.old) (E.shown errors.new) }
-    // A mistake in the words is no failure of the program's own.
-    ensures own { result ≡ own_failure →
-        (((kind ≡ ErrorKind.OutOfMemory) ⊎ IsRequest kind) × (output.new ≡ output.old)
-        × ReportsFailure Failure.OutOfMemory (E.shown errors.old) (E.shown errors.new))
-        ⊎ (IsRequest kind × IsDisplayed (T.output text.now) result
-        (W.shown output.old) (W.shown output.new) (E.shown errors.old) (E.shown errors.new)) }
+    ensures { (IsRefused E.WriteOnce program_name kind text errors.old result errors.new
+        × (output.new ≡ output.old))
+        ⊎ (IsRequest kind × IsOkAnd text (λ said. IsShown E.WriteOnce (string_bytes said)
+        (W.shown output.old) errors.old result (W.shown output.new) errors.new)) }
 {
-    if kind == ErrorKind::OutOfMemory {
-        return report(Failure::OutOfMemory, errors);
+    match requested_text(NAME, kind, text, errors) {
+        Ok(text) => show(text.as_bytes(), output, errors),
+        Err(status) => status,
     }
-    if !is_request(kind) {
-        print(text, errors);
-        return 2;
-    }
-    let Ok(text) = text.to_string(alloc) else {
-        return report(Failure::OutOfMemory, errors);
-    };
-    match send(output, text.as_bytes()) {
+}
+
+/// Writes a text that was asked for, and returns the status.
+fn show<W: Outgoing, E: WriteOnce>(text: &[u8], output: &mut W, errors: &mut E) -> u8
+    ensures { IsShown E.WriteOnce text.now (W.shown output.old) errors.old
+        result (W.shown output.new) errors.new }
+{
+    match send(output, text) {
         Ok(()) => 0,
-        Err(_) => report(Failure::Serve(ServeFault::Write), errors),
+        Err(Broken) => report(Failure::Serve(ServeFault::Write), errors),
     }
 }
 

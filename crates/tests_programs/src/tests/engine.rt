@@ -86,7 +86,7 @@ fn run_over(alloc: Global, arguments: &[&str], input: &[u8]) -> Result<Ran, Allo
         words.as_slice(),
         &mut Counted::new(&mut input),
         &mut Counted::new(&mut output),
-        &mut Counted::new(&mut errors),
+        &mut errors,
     );
     Ok(Ran {
         status,

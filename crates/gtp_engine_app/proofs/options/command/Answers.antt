@@ -6,11 +6,9 @@ use Rattle.gtp_engine_app.proofs.options.command.Goals as goal
 pub returns : goal.returns
 returns c =
     let are : AreOptions c.as_slice.result.now = rw c.as_slice.ensures (record {
-      names = _;
-      are_names = refl;
-      rules = _;
-      are_rules = refl;
-      is = refl;
+      names = record { policies = _; rules = _ };
+      are_kept = record { policies = refl; rules = refl };
+      are = refl;
     }) in
     IfOk-weaker c.with_options.result _ _
     (λ with made. command_line-from_rows _ _ c.as_slice.result.now are c.in_ok-program.ensures made)

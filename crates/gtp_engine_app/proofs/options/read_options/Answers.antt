@@ -10,15 +10,13 @@ returns-clause-asked g c =
     let words = map g.S.AsStr.text c.args.words.now in
     record {
       names = line.names;
-      are_names = line.are_names;
-      rules = line.rules;
-      are_rules = line.are_rules;
+      are_kept = line.are_kept;
       no_fault = sym (ap (λ app. fault_of app words) line.is)
           ∙ c.in_ok-matches.ensures.kinds
-          (ap is_simple_and_free line.is ∙ is_simple_and_free-command_line line.names line.rules);
+          (ap is_simple_and_free line.is ∙ is_simple_and_free-command_line line.names);
       asked = subst (λ (rows : _). Ask rows c.options_of.result)
           ((c.in_ok-matches.ensures.matches
-          (ap is_simple line.is ∙ is_simple-command_line line.names line.rules)).0
+          (ap is_simple line.is ∙ is_simple-command_line line.names)).0
           ∙ ap (λ app. matches_of app words) line.is)
           c.options_of.ensures;
     }

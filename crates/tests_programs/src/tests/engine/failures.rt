@@ -17,7 +17,7 @@ fn assert_breaks<R: Abort + AllocGlobal>(rt: &R, words: &[&str], status: u8, tex
         words,
         &mut Counted::new(b"1 name\n".as_slice()),
         &mut Counted::new(Broken),
-        &mut Counted::new(&mut errors),
+        &mut errors,
     );
     assert_equal_for(rt, words, answer, status);
     assert_equal_for(rt, words, errors.as_slice(), text.as_bytes());
@@ -33,7 +33,7 @@ fn a_read_that_fails_is_status_3(rt: HostRuntime) {
         words.as_slice(),
         &mut Counted::new(Broken),
         &mut Counted::new(&mut output),
-        &mut Counted::new(&mut errors),
+        &mut errors,
     );
     assert_equal(&rt, status, 3);
     assert_equal(&rt, output.len(), 0);
@@ -72,7 +72,7 @@ fn broken_status(alloc: Global, words: &[&str]) -> u8 {
         words,
         &mut Counted::new(Broken),
         &mut Counted::new(Broken),
-        &mut Counted::new(Broken),
+        &mut Broken,
     )
 }
 
@@ -113,7 +113,7 @@ static FAILURES: [(Failure, u8, &str); 6] = [
 fn each_failure_is_reported_in_a_line(rt: HostRuntime) {
     for (failure, status, line) in &FAILURES {
         let mut errors = Vec::new(rt.alloc());
-        let reported = report(*failure, &mut Counted::new(&mut errors));
+        let reported = report(*failure, &mut errors);
         assert_equal_for(&rt, line, reported, *status);
         assert_equal(&rt, errors.as_slice(), line.as_bytes());
     }
@@ -145,7 +145,7 @@ fn reported_by(alloc: Global, words: &[&str]) -> Holding {
         words,
         &mut Counted::new(Broken),
         &mut Counted::new(&mut output),
-        &mut Counted::new(&mut errors),
+        &mut errors,
     );
     errors
 }

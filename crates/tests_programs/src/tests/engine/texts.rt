@@ -75,7 +75,7 @@ fn assert_writes<R: Abort + AllocGlobal>(rt: &R, words: &[&str], text: &[u8]) {
         words,
         &mut Counted::new(b"1 name\n".as_slice()),
         &mut Counted::new(&mut output),
-        &mut Counted::new(&mut errors),
+        &mut errors,
     );
     assert_equal_for(rt, words, status, 0);
     assert_handed_on(rt, "the text", &output, text);
