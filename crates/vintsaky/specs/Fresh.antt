@@ -1,14 +1,11 @@
--- What is put into memory.
-use Rattle.std.specs.Prelude.{pos, [], false, None}
+-- What is put into memory, beside readers that were given nothing.
+use Rattle.std.specs.Prelude.{pos, []}
 use Rattle.go_board.specs.Game.{GameRecord}
 use Rattle.go_board.specs.declared.rules.KoRule.TheVariants.{Simple}
 use Rattle.gtp_match.specs.Controller as controller
 use Rattle.gtp_match.specs.Setup.{setup_of}
 use Rattle.gtp_match.specs.declared.controller.Controller.{Controller}
 use Rattle.gtp_session.specs.Steps.{StepsState, fresh_steps}
-use Rattle.gtp_wire.specs.declared.lines.Line.TheVariants as line
-use Rattle.vintsaky_calls.specs.declared.lines.Lines.{Lines}
-use Rattle.vintsaky_calls.specs.declared.replies.Replies.{Replies}
 
 -- size 19, no komi, simple ko
 abbrev pub fresh_game : GameRecord
@@ -21,11 +18,3 @@ fresh_engine = fresh_steps Simple
 -- size 19, no komi, no handicap, 2,000 moves at most, no restart
 abbrev pub fresh_match : Controller
 fresh_match = controller.new (setup_of 19 (pos 0) 0 2000 0)
-
--- given nothing
-abbrev pub fresh_lines : Lines
-fresh_lines = record { reader = []; line = line.TooLong }
-
--- given nothing
-abbrev pub fresh_replies : Replies
-fresh_replies = record { reader = []; reply = record { ok = false; id = None; text = record { items = [] } } }

@@ -1,7 +1,6 @@
 //! The library itself: its interface, its version, and what a cause means.
-ghost use Rattle.std.specs.Prelude.{◌≡◌, List, ℕ, length};
-ghost use Rattle.vintsaky_calls.specs.Library.{library_version, Says};
-ghost use Rattle.vintsaky_calls.specs.Texts.{Puts};
+ghost use Rattle.std.specs.Prelude.{◌≡◌};
+ghost use Rattle.vintsaky_calls.specs.Library.{library_version, CauseTextCall};
 
 use vintsaky_calls::library;
 
@@ -21,8 +20,7 @@ pub extern "C" fn vintsaky_version() -> u32
 /// cause.
 #[unsafe(no_mangle)]
 pub extern "C" fn vintsaky_cause_text(cause: u32, text: &mut [u8]) -> usize
-    ensures { (said : List ℕ) × Says cause said × (result ≡ length said)
-        × Puts said text.old text.new }
+    ensures call { CauseTextCall cause text.old text.new result }
 {
     library::cause_text(cause, text)
 }

@@ -1,8 +1,6 @@
 //! Lines that are written: commands and replies.
-ghost use Rattle.std.specs.Prelude.{◌≡◌, Result, OnOk, OnErr, IfErr};
-ghost use Rattle.vintsaky_calls.specs.Codes.{result_code};
-ghost use Rattle.vintsaky_calls.specs.declared.causes.Cause.{Cause};
-ghost use Rattle.vintsaky_calls.specs.Writing.{WritesCommand, RefusesCommand, WritesReply, RefusesReply};
+ghost use Rattle.vintsaky_calls.specs.Codes.{Returns};
+ghost use Rattle.vintsaky_calls.specs.Writing.{WriteCommandCall, WriteReplyCall};
 
 use vintsaky_calls::{code_of, writing};
 
@@ -25,10 +23,8 @@ pub extern "C" fn vintsaky_write_command(
     text: &mut [u8],
     count: &mut usize,
 ) -> u32
-    ensures call { (made : Result (Unit {0}) Cause) × (result ≡ result_code made)
-        × OnOk made (WritesCommand id command value vertex text.old text.new count.new)
-        × OnErr made ((text.new ≡ text.old) × (count.new ≡ count.old))
-        × IfErr made (RefusesCommand id command value vertex) }
+    ensures call { Returns result (WriteCommandCall id command value vertex text.old text.new
+        count.old count.new) }
 {
     code_of(writing::write_command(id, command, value, vertex, text, count))
 }
@@ -48,10 +44,8 @@ pub extern "C" fn vintsaky_write_reply(
     text: &mut [u8],
     count: &mut usize,
 ) -> u32
-    ensures call { (made : Result (Unit {0}) Cause) × (result ≡ result_code made)
-        × OnOk made (WritesReply id ok said.now text.old text.new count.new)
-        × OnErr made ((text.new ≡ text.old) × (count.new ≡ count.old))
-        × IfErr made (RefusesReply id said.now) }
+    ensures call { Returns result (WriteReplyCall id ok said.now text.old text.new
+        count.old count.new) }
 {
     code_of(writing::write_reply(id, ok, said, text, count))
 }

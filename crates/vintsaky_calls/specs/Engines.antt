@@ -1,5 +1,6 @@
 -- The calls of an engine in steps.
-use Rattle.std.specs.Prelude.{◌≡◌, ◌≢◌, ℕ, ◌≤◌, Bool, true, List, length, Some, None, slice_get, nat_eq, not}
+use Rattle.std.specs.Prelude.{◌≡◌, ◌≢◌, ℕ, ◌≤◌, Bool, true, false, List, length, Some, None, slice_get, nat_eq, not}
+use Rattle.std.specs.Prelude.{OnOk, OnErr, IfErr}
 use Rattle.go_base.specs.declared.choices.Choice.{Choice}
 use Rattle.go_base.specs.declared.choices.Choice.TheVariants.{Resign, Play}
 use Rattle.go_board.specs.declared.faults.PlayFault.TheVariants as play_fault
@@ -16,8 +17,9 @@ use Rattle.gtp_session.specs.declared.events.AnswerFault.TheVariants as answer_f
 use Rattle.gtp_session.specs.declared.events.CommandFault.TheVariants as command_fault
 use Rattle.gtp_session.specs.OwnCommands.{RefusesName}
 use Rattle.gtp_session.specs.Steps.{StepsState, IsOpen, ReadsOn, event_of, fresh_steps, Chooses, RefusesChoice}
-use Rattle.gtp_session.specs.Steps.{RefusesAnswer}
-use Rattle.vintsaky_calls.specs.Codes.{colour_code, rule_code, vertex_code, IsVertex}
+use Rattle.gtp_session.specs.Steps.{RefusesAnswer, AnswersOther, declined_text, IsTitle, SetsName, SetsVersion}
+use Rattle.gtp_session.specs.Steps.{AddsCommand}
+use Rattle.vintsaky_calls.specs.Codes.{colour_code, rule_code, vertex_code, IsVertex, NoRule, Made}
 use Rattle.vintsaky_calls.specs.Texts.{Puts}
 use Rattle.vintsaky_calls.specs.declared.causes.Cause.{Cause}
 use Rattle.vintsaky_calls.specs.declared.causes.Cause.TheVariants as cause
@@ -61,12 +63,24 @@ pub record BeginsEngine (rule : ℕ) (new : StepsState) : Type 0 where
   pub rule_is : rule ≡ rule_code by
   pub new_is : new ≡ fresh_steps by
 
+-- An engine is begun anew; or the number is no ko rule, and it stays as it was.
+pub record BeginCall (rule : ℕ) (old new : StepsState) (made : Made) : Type 0 where
+  pub begun : OnOk made (BeginsEngine rule new)
+  pub kept : OnErr made (new ≡ old)
+  pub why : IfErr made (λ why. (why ≡ cause.BadRule) × NoRule rule)
+
 -- what comes of a piece, of which so many bytes are used
 pub record Feeds (old : StepsState) (input : List ℕ) (used : ℕ) (came : Event) (new : StepsState) : Type 0 where
   pub within : used ≤ length input
   pub reads : IsOpen old → ReadsOn old input used came new
   pub waits : old.wait ≢ wait.Nothing → (used ≡ 0) × (came ≡ event_of old.wait) × (new ≡ old)
   pub over : old.ended ≡ true → (used ≡ 0) × (came ≡ event.Ended) × (new ≡ old)
+
+-- a piece is fed, and the number is that of what comes of it
+pub record FeedCall (input : List ℕ) (old new : StepsState) (used number : ℕ) : Type 0 where
+  pub came : Event
+  pub number_is : number ≡ event_code came
+  pub feeds : Feeds old input used came new
 
 -- the choice of the number is made
 pub record ChoosesBy (old : StepsState) (number : ℕ) (new : StepsState) : Type 0 where
@@ -91,6 +105,12 @@ RefusesNumber s n cause.Suicide = RefusesBy s n (choice_fault.Illegal play_fault
 RefusesNumber s n cause.Ko = RefusesBy s n (choice_fault.Illegal play_fault.Ko)
 RefusesNumber s n _ = ⊥
 
+-- The choice is made; or the engine stays as it was, for a cause.
+pub record ChooseCall (number : ℕ) (old new : StepsState) (made : Made) : Type 0 where
+  pub chosen : OnOk made (ChoosesBy old number new)
+  pub kept : OnErr made (new ≡ old)
+  pub why : IfErr made (RefusesNumber old number)
+
 -- an answer is a success, where its number isn't 0
 abbrev pub is_success : ℕ → Bool
 is_success ok = not (nat_eq ok 0)
@@ -101,6 +121,30 @@ RefusesText s text cause.NotAsked = RefusesAnswer s text answer_fault.NotAsked
 RefusesText s text cause.BadText = RefusesAnswer s text answer_fault.BadText
 RefusesText s text _ = ⊥
 
+-- The answer is given; or the engine stays as it was, for a cause.
+pub record AnswerCall (ok : ℕ) (text : List ℕ) (old new : StepsState) (made : Made) : Type 0 where
+  pub answered : OnOk made (AnswersOther old (is_success ok) text new)
+  pub kept : OnErr made (new ≡ old)
+  pub why : IfErr made (RefusesText old text)
+
+-- The line is answered as one of an unknown command; or none is waited for, and the engine stays as it was.
+pub record DeclineCall (old new : StepsState) (made : Made) : Type 0 where
+  pub declined : OnOk made (AnswersOther old false declined_text new)
+  pub kept : OnErr made (new ≡ old)
+  pub why : IfErr made (λ why. (why ≡ cause.NotAsked) × RefusesText old declined_text why)
+
+-- The text is the engine's name from now on; or it can't be, and the engine stays as it was.
+pub record SetNameCall (text : List ℕ) (old new : StepsState) (made : Made) : Type 0 where
+  pub set : OnOk made (SetsName old text new)
+  pub kept : OnErr made (new ≡ old)
+  pub why : IfErr made (λ why. (why ≡ cause.BadText) × ¬ IsTitle text)
+
+-- The text is the engine's version from now on; or it can't be, and the engine stays as it was.
+pub record SetVersionCall (text : List ℕ) (old new : StepsState) (made : Made) : Type 0 where
+  pub set : OnOk made (SetsVersion old text new)
+  pub kept : OnErr made (new ≡ old)
+  pub why : IfErr made (λ why. (why ≡ cause.BadText) × ¬ IsTitle text)
+
 -- why a command isn't added
 abbrev pub RefusesCommand : List (List ℕ) → List ℕ → Cause → Type 0
 RefusesCommand commands name cause.BadLength = RefusesName commands name command_fault.BadLength
@@ -110,6 +154,12 @@ RefusesCommand commands name cause.InTable = RefusesName commands name command_f
 RefusesCommand commands name cause.AddedBefore = RefusesName commands name command_fault.AddedBefore
 RefusesCommand commands name cause.TooMany = RefusesName commands name command_fault.TooMany
 RefusesCommand commands name _ = ⊥
+
+-- The name is that of one more own command; or the engine stays as it was, for a cause.
+pub record AddCommandCall (name : List ℕ) (old new : StepsState) (made : Made) : Type 0 where
+  pub added : OnOk made (AddsCommand old name new)
+  pub kept : OnErr made (new ≡ old)
+  pub why : IfErr made (RefusesCommand old.commands name)
 
 -- the line that is waited for
 pub record WaitsOn (s : StepsState) (words : CommandWords) : Type 0 where
@@ -131,6 +181,13 @@ LacksWord s number cause.NotAsked = s.wait ≡ wait.Nothing
 LacksWord s number cause.NoWord = (line : CommandWords) × WaitsOn s line × (slice_get line.words number ≡ None)
 LacksWord s number _ = ⊥
 
+-- A word of the line that is waited for is put into the buffer; or there is none, and nothing is written.
+pub record WordCall (s : StepsState) (number : ℕ) (old new : List ℕ) (count_old count_new : ℕ) (made : Made)
+    : Type 0 where
+  pub found : OnOk made (PutsWord s number old new count_new)
+  pub kept : OnErr made ((new ≡ old) × (count_new ≡ count_old))
+  pub why : IfErr made (LacksWord s number)
+
 -- the id of the line that is waited for
 pub record HasId (s : StepsState) (id : ℕ) : Type 0 where
   pub line : CommandWords
@@ -142,3 +199,9 @@ abbrev pub LacksId : StepsState → Cause → Type 0
 LacksId s cause.NotAsked = s.wait ≡ wait.Nothing
 LacksId s cause.NoId = (line : CommandWords) × WaitsOn s line × (line.id ≡ None)
 LacksId s _ = ⊥
+
+-- The id of the line that is waited for is found; or there is none, and nothing is written.
+pub record IdCall (s : StepsState) (old new : ℕ) (made : Made) : Type 0 where
+  pub found : OnOk made (HasId s new)
+  pub kept : OnErr made (new ≡ old)
+  pub why : IfErr made (LacksId s)

@@ -1,6 +1,6 @@
 -- The calls of a game.
 use Rattle.std.specs.Prelude.{◌≡◌, ◌≢◌, ℕ, ℤ, ◌<◌, ◌≤◌, List, [], ◌++◌, length, map, drop, Option, Some, None}
-use Rattle.std.specs.Prelude.{slice_get}
+use Rattle.std.specs.Prelude.{slice_get, OnOk, OnErr, IfErr}
 use Rattle.go_base.specs.Handicap.{AllowsHandicap}
 use Rattle.go_base.specs.Komi.{IsKomi}
 use Rattle.go_base.specs.Point.{IsOn}
@@ -10,7 +10,7 @@ use Rattle.go_base.specs.declared.vertices.Vertex.{Vertex}
 use Rattle.go_base.specs.declared.vertices.Vertex.TheVariants.{At}
 use Rattle.go_base.specs.declared.moves.Move.{Move}
 use Rattle.go_board.specs.Board.{stone_at}
-use Rattle.go_board.specs.Game.{GameRecord, HasRoom, IsLegal, board_of, with_move}
+use Rattle.go_board.specs.Game.{GameRecord, HasRoom, IsLegal, board_of, with_move, without_last}
 use Rattle.go_board.specs.LastTaken.{AreTakenByLast}
 use Rattle.go_board.specs.LegalPoints.{AreLegalPoints}
 use Rattle.go_board.specs.Liberties.{IsChainAt}
@@ -22,7 +22,7 @@ use Rattle.go_board.specs.declared.faults.HandicapFault.TheVariants as handicap_
 use Rattle.go_board.specs.declared.game.searching.Chain.{Chain}
 use Rattle.go_board.specs.declared.rules.KoRule.{KoRule}
 use Rattle.vintsaky_calls.specs.Codes.{colour_code, rule_code, vertex_code, point_code, IsCodeOf}
-use Rattle.vintsaky_calls.specs.Codes.{NoColour, NoRule, NoVertex}
+use Rattle.vintsaky_calls.specs.Codes.{NoColour, NoRule, NoVertex, Made}
 use Rattle.vintsaky_calls.specs.declared.causes.Cause.{Cause}
 use Rattle.vintsaky_calls.specs.declared.causes.Cause.TheVariants as cause
 
@@ -40,6 +40,12 @@ RefusesToBegin rule size komi cause.BadRule = NoRule rule
 RefusesToBegin rule size komi cause.BadSize = ((by : KoRule) × (rule ≡ rule_code by)) × ¬ IsSize size
 RefusesToBegin rule size komi cause.BadKomi = ((by : KoRule) × (rule ≡ rule_code by)) × IsSize size × ¬ IsKomi komi
 RefusesToBegin rule size komi _ = ⊥
+
+-- A game is begun anew; or it stays as it was, for a cause.
+pub record BeginCall (rule size : ℕ) (komi : ℤ) (old new : GameRecord) (made : Made) : Type 0 where
+  pub begun : OnOk made (Begins rule size komi new)
+  pub kept : OnErr made (new ≡ old)
+  pub why : IfErr made (RefusesToBegin rule size komi)
 
 -- the numbers are those of a colour and of a vertex, of which this holds
 pub record IsPlay (colour vertex : ℕ) (Holds : Colour → Vertex → Type 0) : Type 0 where
@@ -69,9 +75,32 @@ RefusesMoveBy By colour vertex _ = ⊥
 abbrev pub RefusesMove : GameRecord → ℕ → ℕ → Cause → Type 0
 RefusesMove game = RefusesMoveBy (Refuses game)
 
+-- A move is made; or the game stays as it was, for a cause.
+pub record PlayCall (colour vertex : ℕ) (old new : GameRecord) (made : Made) : Type 0 where
+  pub played : OnOk made (Makes old colour vertex new)
+  pub kept : OnErr made (new ≡ old)
+  pub why : IfErr made (RefusesMove old colour vertex)
+
 -- why a move isn't legal
 abbrev pub IsIllegal : GameRecord → ℕ → ℕ → Cause → Type 0
 IsIllegal game = RefusesMoveBy (RefusesVertex game)
+
+-- A move is legal; or it isn't, for a cause.
+pub record LegalCall (game : GameRecord) (colour vertex : ℕ) (made : Made) : Type 0 where
+  pub legal : OnOk made (IsPlay colour vertex (IsLegal game))
+  pub why : IfErr made (IsIllegal game colour vertex)
+
+-- The last move is taken back; or there is none, and the game stays as it was.
+pub record UndoCall (old new : GameRecord) (made : Made) : Type 0 where
+  pub undone : OnOk made ((old.moves ≢ []) × (new ≡ without_last old))
+  pub kept : OnErr made (new ≡ old)
+  pub why : IfErr made (λ why. (why ≡ cause.NothingToUndo) × (old.moves ≡ []))
+
+-- The komi is set, and nothing else changes; or it is none, and the game stays as it was.
+pub record SetKomiCall (komi : ℤ) (old new : GameRecord) (made : Made) : Type 0 where
+  pub set : OnOk made (IsKomi komi × (new ≡ record old { komi = komi }))
+  pub kept : OnErr made (new ≡ old)
+  pub why : IfErr made (λ why. (why ≡ cause.BadKomi) × ¬ IsKomi komi)
 
 -- handicap stones are put on their points
 pub record PlacesHandicap (old : GameRecord) (stones : ℕ) (new : GameRecord) : Type 0 where
@@ -84,6 +113,12 @@ abbrev pub RefusesStones : GameRecord → ℕ → Cause → Type 0
 RefusesStones game stones cause.NotEmpty = RefusesHandicap game stones handicap_fault.NotEmpty
 RefusesStones game stones cause.BadHandicap = RefusesHandicap game stones handicap_fault.BadNumber
 RefusesStones game stones _ = ⊥
+
+-- Handicap stones are placed; or the game stays as it was, for a cause.
+pub record PlaceHandicapCall (stones : ℕ) (old new : GameRecord) (made : Made) : Type 0 where
+  pub placed : OnOk made (PlacesHandicap old stones new)
+  pub kept : OnErr made (new ≡ old)
+  pub why : IfErr made (RefusesStones old stones)
 
 -- The numbers of the points are put into the caller's list, where it has room for all of them: its other numbers stay.
 pub record PutsPoints (points old new : List ℕ) (count : ℕ) : Type 0 where
@@ -98,6 +133,13 @@ pub record ListsLegal (game : GameRecord) (colour : ℕ) (old new : List ℕ) (c
   pub colour_is : colour ≡ colour_code c
   pub legal : AreLegalPoints game c points
   pub puts : PutsPoints points old new count
+
+-- The legal points are listed; or the number is no colour, and nothing is written.
+pub record LegalPointsCall (game : GameRecord) (colour : ℕ) (old new : List ℕ) (count_old count_new : ℕ) (made : Made)
+    : Type 0 where
+  pub listed : OnOk made (ListsLegal game colour old new count_new)
+  pub kept : OnErr made ((new ≡ old) × (count_new ≡ count_old))
+  pub why : IfErr made (λ why. (why ≡ cause.BadColour) × NoColour colour)
 
 -- the points whose stones the last move took are listed
 pub record ListsTaken (game : GameRecord) (old new : List ℕ) (count : ℕ) : Type 0 where
@@ -127,6 +169,12 @@ pub record HasAt (game : GameRecord) (vertex colour : ℕ) : Type 0 where
   pub on : IsPointOn game vertex point
   pub colour_is : colour ≡ stone_code (stone_at (board_of game) point)
 
+-- The colour on a point is found; or the number is that of no point of the board, and nothing is written.
+pub record StoneAtCall (game : GameRecord) (vertex old new : ℕ) (made : Made) : Type 0 where
+  pub found : OnOk made (HasAt game vertex new)
+  pub kept : OnErr made (new ≡ old)
+  pub why : IfErr made (RefusesPointCode game vertex)
+
 -- the chain of the stone on the point of a number
 pub record HasChain (game : GameRecord) (vertex stones liberties : ℕ) : Type 0 where
   pub point : ℕ
@@ -144,6 +192,13 @@ RefusesChain game vertex cause.NoStone =
     (p : ℕ) × IsPointOn game vertex p × (stone_at (board_of game) p ≡ None)
 RefusesChain game vertex _ = ⊥
 
+-- The stones and the liberties of a chain are found; or there is no chain, and nothing is written.
+pub record ChainCall (game : GameRecord) (vertex stones_old stones_new liberties_old liberties_new : ℕ) (made : Made)
+    : Type 0 where
+  pub found : OnOk made (HasChain game vertex stones_new liberties_new)
+  pub kept : OnErr made ((stones_new ≡ stones_old) × (liberties_new ≡ liberties_old))
+  pub why : IfErr made (RefusesChain game vertex)
+
 -- the move of this number
 pub record HasMove (game : GameRecord) (number colour vertex : ℕ) : Type 0 where
   pub move : Move
@@ -151,8 +206,21 @@ pub record HasMove (game : GameRecord) (number colour vertex : ℕ) : Type 0 whe
   pub colour_is : colour ≡ colour_code move.colour
   pub vertex_is : vertex ≡ vertex_code move.vertex
 
+-- A move of the record is found; or the record is too short, and nothing is written.
+pub record MadeCall (game : GameRecord) (number colour_old colour_new vertex_old vertex_new : ℕ) (made : Made)
+    : Type 0 where
+  pub found : OnOk made (HasMove game number colour_new vertex_new)
+  pub kept : OnErr made ((colour_new ≡ colour_old) × (vertex_new ≡ vertex_old))
+  pub why : IfErr made (λ why. (why ≡ cause.NoMove) × (length game.moves ≤ number))
+
 -- how many stones a colour has taken
 pub record HasCaptured (game : GameRecord) (colour stones : ℕ) : Type 0 where
   pub c : Colour
   pub colour_is : colour ≡ colour_code c
   pub stones_are : stones ≡ taken game c
+
+-- The stones that a colour has taken are counted; or the number is no colour, and nothing is written.
+pub record CapturedCall (game : GameRecord) (colour old new : ℕ) (made : Made) : Type 0 where
+  pub found : OnOk made (HasCaptured game colour new)
+  pub kept : OnErr made (new ≡ old)
+  pub why : IfErr made (λ why. (why ≡ cause.BadColour) × NoColour colour)

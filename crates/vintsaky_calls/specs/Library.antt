@@ -1,6 +1,7 @@
 -- The library itself: its version, and what it says of its causes.
 use Rattle.std.specs.Prelude.{◌≡◌, ◌≢◌, ◌⊎◌, ℕ, ◌+◌, ◌*◌, List, codes}
 use Rattle.vintsaky_calls.specs.Codes.{cause_code, NoCause}
+use Rattle.vintsaky_calls.specs.Texts.{Writes}
 use Rattle.vintsaky_calls.specs.declared.causes.Cause.{Cause}
 use Rattle.vintsaky_calls.specs.declared.causes.Cause.TheVariants as cause
 
@@ -59,3 +60,9 @@ SaysNone number said = (number ≢ 0) × NoCause number × (said ≡ codes "The 
 -- just one of these, by the number
 abbrev pub Says : ℕ → List ℕ → Type 0
 Says number said = SaysDone number said ⊎ (SaysCause number said ⊎ SaysNone number said)
+
+-- what is said of a number is put into the buffer
+pub record CauseTextCall (number : ℕ) (old new : List ℕ) (count : ℕ) : Type 0 where
+  pub said : List ℕ
+  pub says : Says number said
+  pub writes : Writes said old new count

@@ -1,6 +1,6 @@
 -- The calls of a match.
 use Rattle.std.specs.Prelude.{◌≡◌, ◌≢◌, ℕ, ℤ, pos, Bool, List, [], ◌∷◌, ◌++◌, ◌<◌, ◌≤◌, length}
-use Rattle.std.specs.Prelude.{Option, Some, None, MatchOption, if◌then◌else◌}
+use Rattle.std.specs.Prelude.{Option, Some, None, MatchOption, OnOk, OnErr, IfErr, if◌then◌else◌}
 use Rattle.std.specs.List.{join_with_byte}
 use Rattle.std.specs.Option.{option_to_list}
 use Rattle.go_base.specs.Bytes.{space}
@@ -34,9 +34,9 @@ use Rattle.gtp_match.specs.Next.{next}
 use Rattle.gtp_match.specs.ResultLine.{result_text}
 use Rattle.gtp_match.specs.Retaking.{HearsAllRetakes}
 use Rattle.gtp_match.specs.Setup.{SetupRecord, IsSetup, RefusesSetup}
-use Rattle.gtp_match.specs.Sides.{side_of}
+use Rattle.gtp_match.specs.Sides.{side_of, restarts}
 use Rattle.gtp_match.specs.Unanswered.{has_genmove}
-use Rattle.vintsaky_calls.specs.Codes.{colour_code, NoColour}
+use Rattle.vintsaky_calls.specs.Codes.{colour_code, NoColour, Made}
 use Rattle.vintsaky_calls.specs.Texts.{Puts}
 use Rattle.vintsaky_calls.specs.declared.causes.Cause.{Cause}
 use Rattle.vintsaky_calls.specs.declared.causes.Cause.TheVariants as cause
@@ -60,6 +60,12 @@ RefusesMatch setup cause.BadMaxRestarts =
     IsSize setup.size × IsKomi setup.komi × RefusesSetup setup setup_fault.MaxRestarts
 RefusesMatch setup _ = ⊥
 
+-- A match is begun anew; or it stays as it was, for a cause.
+pub record BeginCall (setup : SetupRecord) (old new : Controller) (made : Made) : Type 0 where
+  pub begun : OnOk made (BeginsMatch setup new)
+  pub kept : OnErr made (new ≡ old)
+  pub why : IfErr made (RefusesMatch setup)
+
 -- the number of what is to be done next
 abbrev pub action_code : Action → ℕ
 action_code (action.Start side) = 1
@@ -73,6 +79,11 @@ action_side (action.Start side) = colour_code side
 action_side (action.Send side) = colour_code side
 action_side (action.Wait side) = colour_code side
 action_side (action.Done verdict) = 0
+
+-- what is to be done next, and with which side
+pub record NextCall (c : Controller) (number side : ℕ) : Type 0 where
+  pub action : number ≡ action_code (next c)
+  pub side_is : side ≡ action_side (next c)
 
 -- the number is that of a side, of which this holds
 pub record IsSide (number : ℕ) (Holds : Colour → Type 0) : Type 0 where
@@ -90,6 +101,12 @@ abbrev pub RefusesStart : Controller → ℕ → Cause → Type 0
 RefusesStart old number cause.BadColour = NoColour number
 RefusesStart old number cause.NotNext = IsSide number (λ side. next old ≢ action.Start side)
 RefusesStart old number _ = ⊥
+
+-- A side was started; or the match stays as it was, for a cause.
+pub record StartedCall (side : ℕ) (old new : Controller) (made : Made) : Type 0 where
+  pub started : OnOk made (Starts old side new)
+  pub kept : OnErr made (new ≡ old)
+  pub why : IfErr made (RefusesStart old side)
 
 -- the text of the next command for a side
 abbrev pub IsNextText : Controller → Colour → List ℕ → Type 0
@@ -120,6 +137,13 @@ RefusesSend old number before cause.NotNext = IsSide number (λ side. next old �
 RefusesSend old number before cause.NoRoom =
     IsSide number (λ side. next old ≡ action.Send side) × (length before ≤ most_command)
 RefusesSend old number before _ = ⊥
+
+-- The next command is written and counts as sent; or the match stays as it was, and nothing is written, for a cause.
+pub record SendCall (side : ℕ) (old new : Controller) (text_old text_new : List ℕ) (count_old count_new : ℕ)
+    (made : Made) : Type 0 where
+  pub sent : OnOk made (Sends old side text_old text_new count_new new)
+  pub kept : OnErr made ((new ≡ old) × (text_new ≡ text_old) × (count_new ≡ count_old))
+  pub why : IfErr made (RefusesSend old side text_old)
 
 -- 1 where it holds, else 0
 abbrev pub bool_code : Bool → ℕ
@@ -170,6 +194,13 @@ pub record Hears (old : Controller) (number : ℕ) (bytes : List ℕ) (shown : �
   pub shown_is : shown ≡ loss_code lost
   pub heard : HearsLoss side old bytes lost new
 
+-- Bytes of a side are heard, and its loss is shown; or the number is no side, the match stays, and nothing is written.
+pub record HearCall (side : ℕ) (bytes : List ℕ) (old new : Controller) (loss_old loss_new : ℕ) (made : Made)
+    : Type 0 where
+  pub heard : OnOk made (Hears old side bytes loss_new new)
+  pub kept : OnErr made ((new ≡ old) × (loss_new ≡ loss_old))
+  pub why : IfErr made (λ why. (why ≡ cause.BadColour) × NoColour side)
+
 -- which retake of its number of a move it is, or 0
 abbrev pub retake_code : Option Retake → ℕ
 retake_code None = 0
@@ -194,14 +225,31 @@ reported_owed (Some lost) retaken = lost.owed
 reported_owed None (Some retaken) = retaken.owed
 reported_owed None None = owes_nothing
 
--- what a side owes is written: a number, and two texts with their lengths
-pub record PutsOwed (owes : Owed) (unanswered : ℕ) (command_old command_new : List ℕ) (command_count : ℕ)
-    (wrote_old wrote_new : List ℕ) (wrote_count : ℕ) : Type 0 where
-  pub unanswered_is : unanswered ≡ owes.unanswered
-  pub command : Puts (oldest_text owes.oldest) command_old command_new
-  pub command_count_is : command_count ≡ length (oldest_text owes.oldest)
-  pub wrote : Puts owes.bytes.items wrote_old wrote_new
-  pub wrote_count_is : wrote_count ≡ length owes.bytes.items
+-- what a caller gives to have written what a side owes: a number, and two buffers with the lengths of their texts
+pub record OwedOut : Type 0 where
+  pub unanswered : ℕ
+  pub command : List ℕ
+  pub command_count : ℕ
+  pub wrote : List ℕ
+  pub wrote_count : ℕ
+
+abbrev pub owed_out : ℕ → List ℕ → ℕ → List ℕ → ℕ → OwedOut
+owed_out unanswered command command_count wrote wrote_count =
+    record {
+      unanswered = unanswered;
+      command = command;
+      command_count = command_count;
+      wrote = wrote;
+      wrote_count = wrote_count;
+    }
+
+-- what a side owes is written there
+pub record PutsOwed (owes : Owed) (old new : OwedOut) : Type 0 where
+  pub unanswered_is : new.unanswered ≡ owes.unanswered
+  pub command : Puts (oldest_text owes.oldest) old.command new.command
+  pub command_count_is : new.command_count ≡ length (oldest_text owes.oldest)
+  pub wrote : Puts owes.bytes.items old.wrote new.wrote
+  pub wrote_count_is : new.wrote_count ≡ length owes.bytes.items
 
 -- Bytes of this side are heard, and the first loss and the retake by them are reported.
 pub record HearsReport (old : Controller) (number : ℕ) (bytes : List ℕ) (lost : Option Loss) (retaken : Option Retake)
@@ -211,11 +259,40 @@ pub record HearsReport (old : Controller) (number : ℕ) (bytes : List ℕ) (los
   pub heard : HearsLoss side old bytes lost new
   pub retakes : HearsAllRetakes side old bytes (option_to_list retaken) new
 
+-- What is reported of bytes that are heard is written: the loss, the retake, and what the side owed at it.
+pub record ReportsHeard (side : ℕ) (bytes : List ℕ) (old new : Controller) (loss retake : ℕ) (out_old out_new : OwedOut)
+    : Type 0 where
+  pub lost : Option Loss
+  pub retaken : Option Retake
+  pub heard : HearsReport old side bytes lost retaken new
+  pub loss_is : loss ≡ loss_code lost
+  pub retake_is : retake ≡ retake_code retaken
+  pub owed : PutsOwed (reported_owed lost retaken) out_old out_new
+
+-- Bytes of a side are heard and reported; or the number is no side, the match stays, and nothing is written.
+pub record HearReportingCall (side : ℕ) (bytes : List ℕ) (old new : Controller) (loss_old loss_new : ℕ)
+    (retake_old retake_new : ℕ) (out_old out_new : OwedOut) (made : Made) : Type 0 where
+  pub heard : OnOk made (ReportsHeard side bytes old new loss_new retake_new out_old out_new)
+  pub kept : OnErr made
+      ((new ≡ old) × (loss_new ≡ loss_old) × (retake_new ≡ retake_old) × (out_new ≡ out_old))
+  pub why : IfErr made (λ why. (why ≡ cause.BadColour) × NoColour side)
+
 -- why what a side owes isn't written: the number is no side, or nothing is known of what that side owes
 abbrev pub LacksOwed : Controller → ℕ → Cause → Type 0
 LacksOwed c number cause.BadColour = NoColour number
 LacksOwed c number cause.Down = IsSide number (λ side. owed c side ≡ None)
 LacksOwed c number _ = ⊥
+
+-- the number is that of a side, and what that side owes is written
+abbrev pub WritesOwed : Controller → ℕ → OwedOut → OwedOut → Type 0
+WritesOwed c number old new =
+    IsSide number (λ side. MatchOption (owed c side) ⊥ (λ owes. PutsOwed owes old new))
+
+-- What a side owes is written; or nothing is, for a cause.
+pub record OwedCall (c : Controller) (side : ℕ) (old new : OwedOut) (made : Made) : Type 0 where
+  pub written : OnOk made (WritesOwed c side old new)
+  pub kept : OnErr made (new ≡ old)
+  pub why : IfErr made (LacksOwed c side)
 
 -- the side is up, with these numbers
 pub record HasStatus (c : Controller) (number confirmed unanswered asked : ℕ) : Type 0 where
@@ -232,6 +309,32 @@ abbrev pub LacksStatus : Controller → ℕ → Cause → Type 0
 LacksStatus c number cause.BadColour = NoColour number
 LacksStatus c number cause.Down = IsSide number (λ side. (side_of c.sides side).up ≡ None)
 LacksStatus c number _ = ⊥
+
+-- How far a side is up is written; or nothing is, for a cause.
+pub record StatusCall (c : Controller) (side confirmed_old confirmed_new unanswered_old unanswered_new : ℕ)
+    (asked_old asked_new : ℕ) (made : Made) : Type 0 where
+  pub found : OnOk made (HasStatus c side confirmed_new unanswered_new asked_new)
+  pub kept : OnErr made
+      ((confirmed_new ≡ confirmed_old) × (unanswered_new ≡ unanswered_old) × (asked_new ≡ asked_old))
+  pub why : IfErr made (LacksStatus c side)
+
+-- A side is lost; or the number is no side, and the match stays as it was.
+pub record LostCall (side : ℕ) (old new : Controller) (made : Made) : Type 0 where
+  pub lost : OnOk made (IsSide side (λ s. new ≡ controller.lost old s))
+  pub kept : OnErr made (new ≡ old)
+  pub why : IfErr made (λ why. (why ≡ cause.BadColour) × NoColour side)
+
+-- Whether a side is in step is written; or the number is no side, and nothing is written.
+pub record InStepCall (c : Controller) (side old new : ℕ) (made : Made) : Type 0 where
+  pub found : OnOk made (IsSide side (λ s. new ≡ bool_code (controller.in_step c s)))
+  pub kept : OnErr made (new ≡ old)
+  pub why : IfErr made (λ why. (why ≡ cause.BadColour) × NoColour side)
+
+-- How often a side was started again is written; or the number is no side, and nothing is written.
+pub record RestartsCall (c : Controller) (side old new : ℕ) (made : Made) : Type 0 where
+  pub found : OnOk made (IsSide side (λ s. new ≡ restarts (side_of c.sides s)))
+  pub kept : OnErr made (new ≡ old)
+  pub why : IfErr made (λ why. (why ≡ cause.BadColour) × NoColour side)
 
 -- the number of a side, or 0
 abbrev pub maybe_side_code : Option Colour → ℕ
@@ -276,9 +379,23 @@ pub record EndsAs (c : Controller) (ending side : ℕ) (half_points : ℤ) : Typ
   pub side_is : side ≡ ending_side given
   pub score_is : half_points ≡ ending_score given
 
+-- How a match ended is written; or it isn't over, and nothing is written.
+pub record VerdictCall (c : Controller) (ending_old ending_new side_old side_new : ℕ) (points_old points_new : ℤ)
+    (made : Made) : Type 0 where
+  pub found : OnOk made (EndsAs c ending_new side_new points_new)
+  pub kept : OnErr made ((ending_new ≡ ending_old) × (side_new ≡ side_old) × (points_new ≡ points_old))
+  pub why : IfErr made (λ why. (why ≡ cause.NotOver) × (c.verdict ≡ None))
+
 -- the line of a match that is over is put into the caller's buffer
 pub record PutsResult (c : Controller) (number : ℕ) (old new : List ℕ) (count : ℕ) : Type 0 where
   pub verdict : Verdict
   pub over : c.verdict ≡ Some verdict
   pub puts : Puts (result_text number c verdict) old new
   pub count_is : count ≡ length (result_text number c verdict)
+
+-- The line of a match is written; or the match isn't over, and nothing is written.
+pub record ResultCall (c : Controller) (number : ℕ) (old new : List ℕ) (count_old count_new : ℕ) (made : Made)
+    : Type 0 where
+  pub written : OnOk made (PutsResult c number old new count_new)
+  pub kept : OnErr made ((new ≡ old) × (count_new ≡ count_old))
+  pub why : IfErr made (λ why. (why ≡ cause.NotOver) × (c.verdict ≡ None))

@@ -1,5 +1,5 @@
 -- The calls that write lines.
-use Rattle.std.specs.Prelude.{◌≡◌, ◌≢◌, ◌⊎◌, ℕ, ℤ, pos, negsuc, List, length, Option, Some, None}
+use Rattle.std.specs.Prelude.{◌≡◌, ◌≢◌, ◌⊎◌, ℕ, ℤ, pos, negsuc, List, length, Option, Some, None, OnOk, OnErr, IfErr}
 use Rattle.go_base.specs.Komi.{IsKomi}
 use Rattle.go_base.specs.Size.{IsSize}
 use Rattle.go_base.specs.declared.colours.Colour.{Colour}
@@ -8,7 +8,7 @@ use Rattle.gtp_wire.specs.Replies.{IsReplyText, written_reply}
 use Rattle.gtp_wire.specs.declared.commands.Command.{Command}
 use Rattle.gtp_wire.specs.declared.commands.Command.TheVariants.{Boardsize, Komi, ClearBoard, FixedHandicap}
 use Rattle.gtp_wire.specs.declared.commands.Command.TheVariants.{Play, Genmove, Undo, Quit}
-use Rattle.vintsaky_calls.specs.Codes.{colour_code, IsCodeOf, NoVertex}
+use Rattle.vintsaky_calls.specs.Codes.{colour_code, IsCodeOf, NoVertex, Made}
 use Rattle.vintsaky_calls.specs.Engines.{is_success}
 use Rattle.vintsaky_calls.specs.Texts.{Puts}
 use Rattle.vintsaky_calls.specs.declared.causes.Cause.{Cause}
@@ -98,6 +98,13 @@ abbrev pub RefusesCommand : ℤ → ℕ → ℤ → ℕ → Cause → Type 0
 RefusesCommand id number value vertex cause.BadId = NoId id
 RefusesCommand id number value vertex why = IsId id × RefusesValues number value vertex why
 
+-- The line of a command is written; or nothing is, for a cause.
+pub record WriteCommandCall (id : ℤ) (number : ℕ) (value : ℤ) (vertex : ℕ) (old new : List ℕ)
+    (count_old count_new : ℕ) (made : Made) : Type 0 where
+  pub written : OnOk made (WritesCommand id number value vertex old new count_new)
+  pub kept : OnErr made ((new ≡ old) × (count_new ≡ count_old))
+  pub why : IfErr made (RefusesCommand id number value vertex)
+
 -- ---- replies
 
 -- the reply is written, with its length
@@ -113,3 +120,10 @@ abbrev pub RefusesReply : ℤ → List ℕ → Cause → Type 0
 RefusesReply id said cause.BadId = NoId id
 RefusesReply id said cause.BadText = IsId id × ¬ IsReplyText said
 RefusesReply id said _ = ⊥
+
+-- A reply is written; or nothing is, for a cause.
+pub record WriteReplyCall (id : ℤ) (ok : ℕ) (said old new : List ℕ) (count_old count_new : ℕ) (made : Made)
+    : Type 0 where
+  pub written : OnOk made (WritesReply id ok said old new count_new)
+  pub kept : OnErr made ((new ≡ old) × (count_new ≡ count_old))
+  pub why : IfErr made (RefusesReply id said)

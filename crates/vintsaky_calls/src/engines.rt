@@ -1,14 +1,11 @@
 //! The calls of an engine in steps.
-ghost use Rattle.std.specs.Prelude.{◌≡◌, false, length, OnOk, OnErr, IfOk, IfErr};
-ghost use Rattle.gtp_session.specs.Steps.{AnswersOther, declined_text, SetsName, SetsVersion, AddsCommand, IsTitle};
-ghost use Rattle.gtp_session.specs.declared.events.Event.{Event};
+ghost use Rattle.std.specs.Prelude.{◌≡◌, IfOk, IfErr};
 ghost use Rattle.vintsaky_calls.specs.declared.causes.Cause.TheVariants as cause;
-ghost use Rattle.vintsaky_calls.specs.Codes.{NoRule, choice_cause, answer_cause, command_cause};
-ghost use Rattle.vintsaky_calls.specs.Engines.{BeginsEngine, Feeds, event_code, wait_code, ChoosesBy, RefusesNumber};
-ghost use Rattle.vintsaky_calls.specs.Engines.{is_success, RefusesText, RefusesCommand, PutsWord, LacksWord, HasId};
-ghost use Rattle.vintsaky_calls.specs.Engines.{LacksId};
-ghost use Rattle.vintsaky_calls.specs.Engines.{IsChoiceOf, NoChoice};
-ghost use Rattle.vintsaky_calls.specs.Texts.{Puts};
+ghost use Rattle.vintsaky_calls.specs.Codes.{choice_cause, answer_cause, command_cause};
+ghost use Rattle.vintsaky_calls.specs.Engines.{event_code, wait_code, IsChoiceOf, NoChoice, BeginCall, FeedCall};
+ghost use Rattle.vintsaky_calls.specs.Engines.{ChooseCall, AnswerCall, DeclineCall, SetNameCall, SetVersionCall};
+ghost use Rattle.vintsaky_calls.specs.Engines.{AddCommandCall, WordCall, IdCall};
+ghost use Rattle.vintsaky_calls.specs.Texts.{Writes};
 
 use crate::causes::Cause;
 use crate::codes::{cause_of_play, number_of_colour, rule_of, vertex_of};
@@ -22,9 +19,7 @@ const RESIGN: u32 = 65535;
 
 /// What `vintsaky_engine_begin` does.
 pub fn begin(engine: &mut Steps, rule: u32) -> Result<(), Cause>
-    ensures begun { OnOk result (BeginsEngine rule engine.new) }
-    ensures kept { OnErr result (engine.new ≡ engine.old) }
-    ensures why { IfErr result (λ why. (why ≡ cause.BadRule) × NoRule rule) }
+    ensures { BeginCall rule engine.old engine.new result }
 {
     *engine = Steps::new(rule_of(rule)?);
     Ok(())
@@ -32,8 +27,7 @@ pub fn begin(engine: &mut Steps, rule: u32) -> Result<(), Cause>
 
 /// What `vintsaky_engine_feed` does.
 pub fn feed(engine: &mut Steps, bytes: &[u8], used: &mut usize) -> u32
-    ensures { (came : Event) × (result ≡ event_code came)
-        × Feeds engine.old bytes.now used.new came engine.new }
+    ensures { FeedCall bytes.now engine.old engine.new used.new result }
 {
     let fed = engine.feed(bytes);
     *used = fed.used;
@@ -70,9 +64,7 @@ pub fn wait(engine: &Steps) -> u32
 
 /// What `vintsaky_engine_choose` does.
 pub fn choose(engine: &mut Steps, vertex: u32) -> Result<(), Cause>
-    ensures made { OnOk result (ChoosesBy engine.old vertex engine.new) }
-    ensures kept { OnErr result (engine.new ≡ engine.old) }
-    ensures why { IfErr result (RefusesNumber engine.old vertex) }
+    ensures { ChooseCall vertex engine.old engine.new result }
 {
     match choice_of(vertex) {
         Ok(choice) => engine.choose(choice).map_err(cause_of_choice),
@@ -104,9 +96,7 @@ fn cause_of_choice(fault: ChoiceFault) -> Cause
 
 /// What `vintsaky_engine_answer` does.
 pub fn answer(engine: &mut Steps, ok: u32, text: &[u8]) -> Result<(), Cause>
-    ensures made { OnOk result (AnswersOther engine.old (is_success ok) text.now engine.new) }
-    ensures kept { OnErr result (engine.new ≡ engine.old) }
-    ensures why { IfErr result (RefusesText engine.old text.now) }
+    ensures { AnswerCall ok text.now engine.old engine.new result }
 {
     engine.answer(ok != 0, text).map_err(cause_of_answer)
 }
@@ -123,19 +113,14 @@ fn cause_of_answer(fault: AnswerFault) -> Cause
 
 /// What `vintsaky_engine_decline` does.
 pub fn decline(engine: &mut Steps) -> Result<(), Cause>
-    ensures made { OnOk result (AnswersOther engine.old false declined_text engine.new) }
-    ensures kept { OnErr result (engine.new ≡ engine.old) }
-    ensures why { IfErr result (λ why. (why ≡ cause.NotAsked)
-        × RefusesText engine.old declined_text why) }
+    ensures { DeclineCall engine.old engine.new result }
 {
     engine.decline().map_err(cause_of_answer)
 }
 
 /// What `vintsaky_engine_set_name` does.
 pub fn set_name(engine: &mut Steps, text: &[u8]) -> Result<(), Cause>
-    ensures set { OnOk result (SetsName engine.old text.now engine.new) }
-    ensures kept { OnErr result (engine.new ≡ engine.old) }
-    ensures why { IfErr result (λ why. (why ≡ cause.BadText) × ¬ IsTitle text.now) }
+    ensures { SetNameCall text.now engine.old engine.new result }
 {
     match engine.set_name(text) {
         Ok(()) => Ok(()),
@@ -145,9 +130,7 @@ pub fn set_name(engine: &mut Steps, text: &[u8]) -> Result<(), Cause>
 
 /// What `vintsaky_engine_set_version` does.
 pub fn set_version(engine: &mut Steps, text: &[u8]) -> Result<(), Cause>
-    ensures set { OnOk result (SetsVersion engine.old text.now engine.new) }
-    ensures kept { OnErr result (engine.new ≡ engine.old) }
-    ensures why { IfErr result (λ why. (why ≡ cause.BadText) × ¬ IsTitle text.now) }
+    ensures { SetVersionCall text.now engine.old engine.new result }
 {
     match engine.set_version(text) {
         Ok(()) => Ok(()),
@@ -157,9 +140,7 @@ pub fn set_version(engine: &mut Steps, text: &[u8]) -> Result<(), Cause>
 
 /// What `vintsaky_engine_add_command` does.
 pub fn add_command(engine: &mut Steps, name: &[u8]) -> Result<(), Cause>
-    ensures added { OnOk result (AddsCommand engine.old name.now engine.new) }
-    ensures kept { OnErr result (engine.new ≡ engine.old) }
-    ensures why { IfErr result (RefusesCommand engine.old.commands name.now) }
+    ensures { AddCommandCall name.now engine.old engine.new result }
 {
     engine.add_command(name).map_err(cause_of_command)
 }
@@ -187,17 +168,14 @@ pub fn copy_game(engine: &Steps, game: &mut Game)
 
 /// What `vintsaky_engine_reply` does.
 pub fn reply(engine: &Steps, text: &mut [u8]) -> usize
-    ensures length { result ≡ length engine.now.reply }
-    ensures put { Puts engine.now.reply text.old text.new }
+    ensures { Writes engine.now.reply text.old text.new result }
 {
     put(engine.reply(), text)
 }
 
 /// What `vintsaky_engine_word` does.
 pub fn word(engine: &Steps, number: usize, text: &mut [u8], count: &mut usize) -> Result<(), Cause>
-    ensures found { OnOk result (PutsWord engine.now number text.old text.new count.new) }
-    ensures kept { OnErr result ((text.new ≡ text.old) × (count.new ≡ count.old)) }
-    ensures why { IfErr result (LacksWord engine.now number) }
+    ensures { WordCall engine.now number text.old text.new count.old count.new result }
 {
     let line = engine.line().ok_or(Cause::NotAsked)?;
     let word = line.word(number).ok_or(Cause::NoWord)?;
@@ -207,9 +185,7 @@ pub fn word(engine: &Steps, number: usize, text: &mut [u8], count: &mut usize) -
 
 /// What `vintsaky_engine_id` does.
 pub fn id(engine: &Steps, id: &mut u32) -> Result<(), Cause>
-    ensures found { OnOk result (HasId engine.now id.new) }
-    ensures kept { OnErr result (id.new ≡ id.old) }
-    ensures why { IfErr result (LacksId engine.now) }
+    ensures { IdCall engine.now id.old id.new result }
 {
     let line = engine.line().ok_or(Cause::NotAsked)?;
     *id = line.id().ok_or(Cause::NoId)?;

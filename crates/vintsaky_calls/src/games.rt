@@ -1,15 +1,11 @@
 //! The calls of a game.
-ghost use Rattle.std.specs.Prelude.{◌≡◌, ◌≢◌, ◌≤◌, [], length, OnOk, OnErr, IfOk, IfErr};
-ghost use Rattle.go_base.specs.Komi.{IsKomi};
-ghost use Rattle.go_board.specs.Game.{IsLegal, without_last};
+ghost use Rattle.std.specs.Prelude.{◌≡◌, IfOk, IfErr};
 ghost use Rattle.go_board.specs.Show.{board_text};
-ghost use Rattle.vintsaky_calls.specs.declared.causes.Cause.TheVariants as cause;
-ghost use Rattle.vintsaky_calls.specs.Codes.{NoColour, rule_code};
-ghost use Rattle.vintsaky_calls.specs.Games.{Begins, RefusesToBegin, Makes, RefusesMove, IsPlay, IsIllegal};
-ghost use Rattle.vintsaky_calls.specs.Games.{PlacesHandicap, RefusesStones, ListsLegal, ListsTaken, PutsPoints};
-ghost use Rattle.vintsaky_calls.specs.Games.{IsPointOn, RefusesPointCode, HasAt, HasChain, RefusesChain, HasMove};
-ghost use Rattle.vintsaky_calls.specs.Games.{HasCaptured};
-ghost use Rattle.vintsaky_calls.specs.Texts.{Puts};
+ghost use Rattle.vintsaky_calls.specs.Codes.{rule_code};
+ghost use Rattle.vintsaky_calls.specs.Games.{ListsTaken, PutsPoints, IsPointOn, RefusesPointCode, BeginCall, PlayCall};
+ghost use Rattle.vintsaky_calls.specs.Games.{LegalCall, UndoCall, SetKomiCall, PlaceHandicapCall, LegalPointsCall};
+ghost use Rattle.vintsaky_calls.specs.Games.{StoneAtCall, ChainCall, MadeCall, CapturedCall};
+ghost use Rattle.vintsaky_calls.specs.Texts.{Writes};
 
 use crate::causes::Cause;
 use crate::codes::{
@@ -23,9 +19,7 @@ use go_board::{Game, HandicapFault, MOST_POINTS};
 
 /// What `vintsaky_game_begin` does.
 pub fn begin(game: &mut Game, rule: u32, size: u32, half_komi: i32) -> Result<(), Cause>
-    ensures begun { OnOk result (Begins rule size half_komi game.new) }
-    ensures kept { OnErr result (game.new ≡ game.old) }
-    ensures why { IfErr result (RefusesToBegin rule size half_komi) }
+    ensures { BeginCall rule size half_komi game.old game.new result }
 {
     let rule = rule_of(rule)?;
     let size = Size::new(size).ok_or(Cause::BadSize)?;
@@ -36,9 +30,7 @@ pub fn begin(game: &mut Game, rule: u32, size: u32, half_komi: i32) -> Result<()
 
 /// What `vintsaky_game_play` does.
 pub fn play(game: &mut Game, colour: u32, vertex: u32) -> Result<(), Cause>
-    ensures made { OnOk result (Makes game.old colour vertex game.new) }
-    ensures kept { OnErr result (game.new ≡ game.old) }
-    ensures why { IfErr result (RefusesMove game.old colour vertex) }
+    ensures { PlayCall colour vertex game.old game.new result }
 {
     let colour = colour_of(colour)?;
     let vertex = vertex_of(vertex)?;
@@ -47,8 +39,7 @@ pub fn play(game: &mut Game, colour: u32, vertex: u32) -> Result<(), Cause>
 
 /// What `vintsaky_game_legal` does.
 pub fn legal(game: &Game, colour: u32, vertex: u32) -> Result<(), Cause>
-    ensures legal { OnOk result (IsPlay colour vertex (IsLegal game.now)) }
-    ensures why { IfErr result (IsIllegal game.now colour vertex) }
+    ensures { LegalCall game.now colour vertex result }
 {
     let colour = colour_of(colour)?;
     let vertex = vertex_of(vertex)?;
@@ -60,9 +51,7 @@ pub fn legal(game: &Game, colour: u32, vertex: u32) -> Result<(), Cause>
 
 /// What `vintsaky_game_undo` does.
 pub fn undo(game: &mut Game) -> Result<(), Cause>
-    ensures undone { OnOk result ((game.old.moves ≢ []) × (game.new ≡ without_last game.old)) }
-    ensures kept { OnErr result (game.new ≡ game.old) }
-    ensures why { IfErr result (λ why. (why ≡ cause.NothingToUndo) × (game.old.moves ≡ [])) }
+    ensures { UndoCall game.old game.new result }
 {
     match game.undo() {
         Ok(_last) => Ok(()),
@@ -72,9 +61,7 @@ pub fn undo(game: &mut Game) -> Result<(), Cause>
 
 /// What `vintsaky_game_set_komi` does.
 pub fn set_komi(game: &mut Game, half_komi: i32) -> Result<(), Cause>
-    ensures set { OnOk result (IsKomi half_komi × (game.new ≡ record game.old { komi = half_komi })) }
-    ensures kept { OnErr result (game.new ≡ game.old) }
-    ensures why { IfErr result (λ why. (why ≡ cause.BadKomi) × ¬ IsKomi half_komi) }
+    ensures { SetKomiCall half_komi game.old game.new result }
 {
     let komi = Komi::from_half_points(half_komi).ok_or(Cause::BadKomi)?;
     game.set_komi(komi);
@@ -83,9 +70,7 @@ pub fn set_komi(game: &mut Game, half_komi: i32) -> Result<(), Cause>
 
 /// What `vintsaky_game_place_handicap` does.
 pub fn place_handicap(game: &mut Game, stones: u32) -> Result<(), Cause>
-    ensures placed { OnOk result (PlacesHandicap game.old stones game.new) }
-    ensures kept { OnErr result (game.new ≡ game.old) }
-    ensures why { IfErr result (RefusesStones game.old stones) }
+    ensures { PlaceHandicapCall stones game.old game.new result }
 {
     match game.place_handicap(stones) {
         Ok(_points) => Ok(()),
@@ -101,9 +86,7 @@ pub fn legal_points(
     points: &mut [u32],
     count: &mut usize,
 ) -> Result<(), Cause>
-    ensures listed { OnOk result (ListsLegal game.now colour points.old points.new count.new) }
-    ensures kept { OnErr result ((points.new ≡ points.old) × (count.new ≡ count.old)) }
-    ensures why { IfErr result (λ why. (why ≡ cause.BadColour) × NoColour colour) }
+    ensures { LegalPointsCall game.now colour points.old points.new count.old count.new result }
 {
     let colour = colour_of(colour)?;
     let mut legal = ArrayVec::new();
@@ -134,9 +117,7 @@ fn put_points(points: &ArrayVec<Point, MOST_POINTS>, numbers: &mut [u32]) -> usi
 
 /// What `vintsaky_game_stone_at` does.
 pub fn stone_at(game: &Game, vertex: u32, colour: &mut u32) -> Result<(), Cause>
-    ensures found { OnOk result (HasAt game.now vertex colour.new) }
-    ensures kept { OnErr result (colour.new ≡ colour.old) }
-    ensures why { IfErr result (RefusesPointCode game.now vertex) }
+    ensures { StoneAtCall game.now vertex colour.old colour.new result }
 {
     let point = point_on(game, vertex)?;
     *colour = game.at(point).map_or(0, number_of_colour);
@@ -145,9 +126,7 @@ pub fn stone_at(game: &Game, vertex: u32, colour: &mut u32) -> Result<(), Cause>
 
 /// What `vintsaky_game_chain` does.
 pub fn chain(game: &Game, vertex: u32, stones: &mut u32, liberties: &mut u32) -> Result<(), Cause>
-    ensures found { OnOk result (HasChain game.now vertex stones.new liberties.new) }
-    ensures kept { OnErr result ((stones.new ≡ stones.old) × (liberties.new ≡ liberties.old)) }
-    ensures why { IfErr result (RefusesChain game.now vertex) }
+    ensures { ChainCall game.now vertex stones.old stones.new liberties.old liberties.new result }
 {
     let point = point_on(game, vertex)?;
     let chain = game.chain(point).ok_or(Cause::NoStone)?;
@@ -171,9 +150,7 @@ fn point_on(game: &Game, vertex: u32) -> Result<Point, Cause>
 
 /// What `vintsaky_game_made` does.
 pub fn made(game: &Game, number: usize, colour: &mut u32, vertex: &mut u32) -> Result<(), Cause>
-    ensures found { OnOk result (HasMove game.now number colour.new vertex.new) }
-    ensures kept { OnErr result ((colour.new ≡ colour.old) × (vertex.new ≡ vertex.old)) }
-    ensures why { IfErr result (λ why. (why ≡ cause.NoMove) × (length game.now.moves ≤ number)) }
+    ensures { MadeCall game.now number colour.old colour.new vertex.old vertex.new result }
 {
     let made = game.moves().get(number).ok_or(Cause::NoMove)?;
     *colour = number_of_colour(made.colour);
@@ -183,9 +160,7 @@ pub fn made(game: &Game, number: usize, colour: &mut u32, vertex: &mut u32) -> R
 
 /// What `vintsaky_game_captured` does.
 pub fn captured(game: &Game, colour: u32, stones: &mut u32) -> Result<(), Cause>
-    ensures found { OnOk result (HasCaptured game.now colour stones.new) }
-    ensures kept { OnErr result (stones.new ≡ stones.old) }
-    ensures why { IfErr result (λ why. (why ≡ cause.BadColour) × NoColour colour) }
+    ensures { CapturedCall game.now colour stones.old stones.new result }
 {
     *stones = game.captured(colour_of(colour)?);
     Ok(())
@@ -200,8 +175,7 @@ pub fn rule(game: &Game) -> u32
 
 /// What `vintsaky_game_board_text` does.
 pub fn board_text(game: &Game, text: &mut [u8]) -> usize
-    ensures length { result ≡ length (board_text game.now) }
-    ensures put { Puts (board_text game.now) text.old text.new }
+    ensures { Writes (board_text game.now) text.old text.new result }
 {
     put(&game.show(), text)
 }

@@ -1,7 +1,6 @@
 //! Calls of the library itself: its version, and what a cause means.
-ghost use Rattle.std.specs.Prelude.{◌≡◌, List, ℕ, length};
-ghost use Rattle.vintsaky_calls.specs.Library.{library_version, sentence, Says};
-ghost use Rattle.vintsaky_calls.specs.Texts.{Puts};
+ghost use Rattle.std.specs.Prelude.{◌≡◌};
+ghost use Rattle.vintsaky_calls.specs.Library.{library_version, sentence, Says, CauseTextCall};
 
 use crate::causes::{Cause, cause_of};
 use crate::texts::put;
@@ -15,8 +14,7 @@ pub fn version() -> u32
 
 /// What `vintsaky_cause_text` does.
 pub fn cause_text(cause: u32, text: &mut [u8]) -> usize
-    ensures { (said : List ℕ) × Says cause said × (result ≡ length said)
-        × Puts said text.old text.new }
+    ensures { CauseTextCall cause text.old text.new result }
 {
     put(said_of(cause), text)
 }

@@ -1,10 +1,8 @@
 //! The calls of a reader of command lines.
-ghost use Rattle.std.specs.Prelude.{◌≡◌, ◌⊎◌, [], OnOk, OnErr, IfOk, IfErr};
-ghost use Rattle.gtp_wire.specs.Lines.{ReadsLine};
+ghost use Rattle.std.specs.Prelude.{◌≡◌, IfOk, IfErr};
 ghost use Rattle.gtp_wire.specs.declared.lines.Line.TheVariants as line;
 ghost use Rattle.vintsaky_calls.specs.declared.causes.Cause.TheVariants as cause;
-ghost use Rattle.vintsaky_calls.specs.Lines.{line_code, line_unless, PutsLineWord, LacksLineWord, HasLineId};
-ghost use Rattle.vintsaky_calls.specs.Lines.{LacksLineId};
+ghost use Rattle.vintsaky_calls.specs.Lines.{fresh_lines, FeedCall, IdCall, WordCall};
 
 use crate::causes::Cause;
 use crate::texts::put;
@@ -22,8 +20,7 @@ pub struct Lines {
 impl Lines {
     /// A reader that was given nothing.
     pub fn new() -> Lines
-        ensures reader { result.reader ≡ [] }
-        ensures line { result.line ≡ line.TooLong }
+        ensures { result ≡ fresh_lines }
     {
         Lines {
             reader: LineReader::new(),
@@ -34,10 +31,7 @@ impl Lines {
 
 /// What `vintsaky_lines_feed` does.
 pub fn feed(lines: &mut Lines, bytes: &[u8], used: &mut usize) -> u32
-    ensures reads { ReadsLine lines.old.reader bytes.now used.new
-        (line_unless result lines.new.line) lines.new.reader }
-    ensures kind { (result ≡ 0) ⊎ (result ≡ line_code lines.new.line) }
-    ensures kept { result ≡ 0 → lines.new.line ≡ lines.old.line }
+    ensures { FeedCall bytes.now lines.old lines.new used.new result }
 {
     let LineRead { used: count, found } = lines.reader.feed_into(bytes, &mut lines.line);
     *used = count;
@@ -63,9 +57,7 @@ fn command_of(read: &Line) -> Result<&CommandLine, Cause>
 
 /// What `vintsaky_lines_id` does.
 pub fn id(lines: &Lines, id: &mut u32) -> Result<(), Cause>
-    ensures found { OnOk result (HasLineId lines.now.line id.new) }
-    ensures kept { OnErr result (id.new ≡ id.old) }
-    ensures why { IfErr result (LacksLineId lines.now.line) }
+    ensures { IdCall lines.now.line id.old id.new result }
 {
     let line = command_of(&lines.line)?;
     *id = line.id().ok_or(Cause::NoId)?;
@@ -74,10 +66,7 @@ pub fn id(lines: &Lines, id: &mut u32) -> Result<(), Cause>
 
 /// What `vintsaky_lines_word` does.
 pub fn word(lines: &Lines, number: usize, text: &mut [u8], count: &mut usize) -> Result<(), Cause>
-    ensures found { OnOk result
-        (PutsLineWord lines.now.line number text.old text.new count.new) }
-    ensures kept { OnErr result ((text.new ≡ text.old) × (count.new ≡ count.old)) }
-    ensures why { IfErr result (LacksLineWord lines.now.line number) }
+    ensures { WordCall lines.now.line number text.old text.new count.old count.new result }
 {
     let line = command_of(&lines.line)?;
     let word = line.word(number).ok_or(Cause::NoWord)?;

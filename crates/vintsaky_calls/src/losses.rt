@@ -3,7 +3,7 @@ ghost use Rattle.std.specs.Prelude.{◌≡◌, IfSome};
 ghost use Rattle.gtp_match.specs.Losing.{CanBeShown};
 ghost use Rattle.gtp_wire.specs.Commands.{IsWritable};
 ghost use Rattle.vintsaky_calls.specs.Matches.{fault_code, rule_loss_code, loss_cause_code, loss_code, retake_code};
-ghost use Rattle.vintsaky_calls.specs.Matches.{oldest_text, reported_owed, PutsOwed};
+ghost use Rattle.vintsaky_calls.specs.Matches.{oldest_text, reported_owed, PutsOwed, owed_out};
 
 use crate::texts::put;
 use arrayvec::ArrayVec;
@@ -99,8 +99,9 @@ pub(crate) fn put_reported(
 )
     requires loss_shown { IfSome report.now.loss (λ loss. CanBeShown loss.owed) }
     requires retake_shown { IfSome report.now.retake (λ retake. CanBeShown retake.owed) }
-    ensures { PutsOwed (reported_owed report.now.loss report.now.retake) unanswered.new
-        command.old command.new command_count.new wrote.old wrote.new wrote_count.new }
+    ensures { PutsOwed (reported_owed report.now.loss report.now.retake)
+        (owed_out unanswered.old command.old command_count.old wrote.old wrote_count.old)
+        (owed_out unanswered.new command.new command_count.new wrote.new wrote_count.new) }
 {
     match (&report.loss, &report.retake) {
         (Some(loss), _) => put_owed(
@@ -137,8 +138,9 @@ pub(crate) fn put_owed(
     wrote_count: &mut usize,
 )
     requires { CanBeShown owes.now }
-    ensures { PutsOwed owes.now unanswered.new
-        command.old command.new command_count.new wrote.old wrote.new wrote_count.new }
+    ensures { PutsOwed owes.now
+        (owed_out unanswered.old command.old command_count.old wrote.old wrote_count.old)
+        (owed_out unanswered.new command.new command_count.new wrote.new wrote_count.new) }
 {
     *unanswered = owes.unanswered;
     *command_count = put(&oldest_text(owes.oldest), command);

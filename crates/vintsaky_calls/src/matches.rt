@@ -1,23 +1,13 @@
 //! The calls of a match: the controller between two engines.
-ghost use Rattle.std.specs.Prelude.{◌≡◌, length, Option, Some, None, MatchOption, OnOk, OnErr, IfErr};
-ghost use Rattle.gtp_match.specs.Controller.{lost, in_step};
-ghost use Rattle.gtp_match.specs.Losing.{owed};
-ghost use Rattle.gtp_match.specs.Next.{next};
+ghost use Rattle.std.specs.Prelude.{◌≡◌};
 ghost use Rattle.gtp_match.specs.ResultLine.{record_text};
 ghost use Rattle.gtp_match.specs.Retakes.{retakes_of};
 ghost use Rattle.gtp_match.specs.Setup.{setup_of};
-ghost use Rattle.gtp_match.specs.Sides.{side_of, restarts as restarts_of};
 ghost use Rattle.gtp_match.specs.Taking.{taking_back};
-ghost use Rattle.gtp_match.specs.declared.losses.Loss.{Loss};
-ghost use Rattle.gtp_match.specs.declared.reports.Retake.{Retake};
-ghost use Rattle.vintsaky_calls.specs.declared.causes.Cause.TheVariants as cause;
-ghost use Rattle.vintsaky_calls.specs.Codes.{NoColour};
-ghost use Rattle.vintsaky_calls.specs.Matches.{BeginsMatch, RefusesMatch, action_code, action_side, Starts};
-ghost use Rattle.vintsaky_calls.specs.Matches.{RefusesStart};
-ghost use Rattle.vintsaky_calls.specs.Matches.{Sends, RefusesSend, Hears, IsSide, bool_code, PutsResult};
-ghost use Rattle.vintsaky_calls.specs.Matches.{HearsReport, loss_code, retake_code, reported_owed, PutsOwed, LacksOwed};
-ghost use Rattle.vintsaky_calls.specs.Matches.{HasStatus, LacksStatus, maybe_side_code, EndsAs};
-ghost use Rattle.vintsaky_calls.specs.Texts.{Puts};
+ghost use Rattle.vintsaky_calls.specs.Matches.{maybe_side_code, BeginCall, NextCall, StartedCall, SendCall, HearCall};
+ghost use Rattle.vintsaky_calls.specs.Matches.{HearReportingCall, owed_out, OwedCall, StatusCall, LostCall, InStepCall};
+ghost use Rattle.vintsaky_calls.specs.Matches.{RestartsCall, VerdictCall, ResultCall};
+ghost use Rattle.vintsaky_calls.specs.Texts.{Writes};
 
 use crate::causes::Cause;
 use crate::codes::{colour_of, number_of_colour};
@@ -40,11 +30,8 @@ pub fn begin(
     max_moves: u32,
     max_restarts: u32,
 ) -> Result<(), Cause>
-    ensures begun { OnOk result
-        (BeginsMatch (setup_of size half_komi handicap max_moves max_restarts) held.new) }
-    ensures kept { OnErr result (held.new ≡ held.old) }
-    ensures why { IfErr result
-        (RefusesMatch (setup_of size half_komi handicap max_moves max_restarts)) }
+    ensures { BeginCall (setup_of size half_komi handicap max_moves max_restarts)
+        held.old held.new result }
 {
     let size = Size::new(size).ok_or(Cause::BadSize)?;
     let komi = Komi::from_half_points(half_komi).ok_or(Cause::BadKomi)?;
@@ -61,8 +48,7 @@ pub fn begin(
 
 /// What `vintsaky_match_next` does.
 pub fn next(held: &Match, side: &mut u32) -> u32
-    ensures action { result ≡ action_code (next held.now) }
-    ensures side { side.new ≡ action_side (next held.now) }
+    ensures { NextCall held.now result side.new }
 {
     let (action, with) = match held.next() {
         Action::Start(with) => (1, number_of_colour(with)),
@@ -76,9 +62,7 @@ pub fn next(held: &Match, side: &mut u32) -> u32
 
 /// What `vintsaky_match_started` does.
 pub fn started(held: &mut Match, side: u32) -> Result<(), Cause>
-    ensures started { OnOk result (Starts held.old side held.new) }
-    ensures kept { OnErr result (held.new ≡ held.old) }
-    ensures why { IfErr result (RefusesStart held.old side) }
+    ensures { StartedCall side held.old held.new result }
 {
     let side = colour_of(side)?;
     if held.next() != Action::Start(side) {
@@ -90,10 +74,7 @@ pub fn started(held: &mut Match, side: u32) -> Result<(), Cause>
 
 /// What `vintsaky_match_send` does.
 pub fn send(held: &mut Match, side: u32, text: &mut [u8], count: &mut usize) -> Result<(), Cause>
-    ensures sent { OnOk result (Sends held.old side text.old text.new count.new held.new) }
-    ensures kept { OnErr result
-        ((held.new ≡ held.old) × (text.new ≡ text.old) × (count.new ≡ count.old)) }
-    ensures why { IfErr result (RefusesSend held.old side text.old) }
+    ensures { SendCall side held.old held.new text.old text.new count.old count.new result }
 {
     let side = colour_of(side)?;
     if held.next() != Action::Send(side) {
@@ -109,9 +90,7 @@ pub fn send(held: &mut Match, side: u32, text: &mut [u8], count: &mut usize) -> 
 
 /// What `vintsaky_match_hear` does.
 pub fn hear(held: &mut Match, side: u32, bytes: &[u8], loss: &mut u32) -> Result<(), Cause>
-    ensures heard { OnOk result (Hears held.old side bytes.now loss.new held.new) }
-    ensures kept { OnErr result ((held.new ≡ held.old) × (loss.new ≡ loss.old)) }
-    ensures why { IfErr result (λ why. (why ≡ cause.BadColour) × NoColour side) }
+    ensures { HearCall side bytes.now held.old held.new loss.old loss.new result }
 {
     let side = colour_of(side)?;
     let heard = held.hear_reporting(side, bytes);
@@ -132,17 +111,10 @@ pub fn hear_reporting(
     wrote: &mut [u8],
     wrote_count: &mut usize,
 ) -> Result<(), Cause>
-    ensures heard { OnOk result ((lost : Option Loss) × (retaken : Option Retake)
-        × HearsReport held.old side bytes.now lost retaken held.new
-        × (loss.new ≡ loss_code lost) × (retake.new ≡ retake_code retaken)
-        × PutsOwed (reported_owed lost retaken) unanswered.new
-        command.old command.new command_count.new wrote.old wrote.new wrote_count.new) }
-    ensures kept { OnErr result ((held.new ≡ held.old)
-        × (loss.new ≡ loss.old) × (retake.new ≡ retake.old)
-        × (unanswered.new ≡ unanswered.old)
-        × (command.new ≡ command.old) × (command_count.new ≡ command_count.old)
-        × (wrote.new ≡ wrote.old) × (wrote_count.new ≡ wrote_count.old)) }
-    ensures why { IfErr result (λ why. (why ≡ cause.BadColour) × NoColour side) }
+    ensures { HearReportingCall side bytes.now held.old held.new loss.old loss.new
+        retake.old retake.new
+        (owed_out unanswered.old command.old command_count.old wrote.old wrote_count.old)
+        (owed_out unanswered.new command.new command_count.new wrote.new wrote_count.new) result }
 {
     let side = colour_of(side)?;
     let report = held.hear_reporting(side, bytes);
@@ -169,13 +141,9 @@ pub fn owed(
     wrote: &mut [u8],
     wrote_count: &mut usize,
 ) -> Result<(), Cause>
-    ensures written { OnOk result (IsSide side (λ s.
-        MatchOption (owed held.now s) ⊥ (λ owes. PutsOwed owes unanswered.new
-        command.old command.new command_count.new wrote.old wrote.new wrote_count.new))) }
-    ensures kept { OnErr result ((unanswered.new ≡ unanswered.old)
-        × (command.new ≡ command.old) × (command_count.new ≡ command_count.old)
-        × (wrote.new ≡ wrote.old) × (wrote_count.new ≡ wrote_count.old)) }
-    ensures why { IfErr result (LacksOwed held.now side) }
+    ensures { OwedCall held.now side
+        (owed_out unanswered.old command.old command_count.old wrote.old wrote_count.old)
+        (owed_out unanswered.new command.new command_count.new wrote.new wrote_count.new) result }
 {
     let side = colour_of(side)?;
     let owes = held.owed(side).ok_or(Cause::Down)?;
@@ -198,11 +166,8 @@ pub fn status(
     unanswered: &mut u32,
     asked: &mut u32,
 ) -> Result<(), Cause>
-    ensures found { OnOk result
-        (HasStatus held.now side confirmed.new unanswered.new asked.new) }
-    ensures kept { OnErr result ((confirmed.new ≡ confirmed.old)
-        × (unanswered.new ≡ unanswered.old) × (asked.new ≡ asked.old)) }
-    ensures why { IfErr result (LacksStatus held.now side) }
+    ensures { StatusCall held.now side confirmed.old confirmed.new unanswered.old unanswered.new
+        asked.old asked.new result }
 {
     let side = colour_of(side)?;
     match held.status(side) {
@@ -222,9 +187,7 @@ pub fn status(
 
 /// What `vintsaky_match_lost` does.
 pub fn lost(held: &mut Match, side: u32) -> Result<(), Cause>
-    ensures lost { OnOk result (IsSide side (λ s. held.new ≡ lost held.old s)) }
-    ensures kept { OnErr result (held.new ≡ held.old) }
-    ensures why { IfErr result (λ why. (why ≡ cause.BadColour) × NoColour side) }
+    ensures { LostCall side held.old held.new result }
 {
     held.lost(colour_of(side)?);
     Ok(())
@@ -232,9 +195,7 @@ pub fn lost(held: &mut Match, side: u32) -> Result<(), Cause>
 
 /// What `vintsaky_match_in_step` does.
 pub fn in_step(held: &Match, side: u32, holds: &mut u32) -> Result<(), Cause>
-    ensures found { OnOk result (IsSide side (λ s. holds.new ≡ bool_code (in_step held.now s))) }
-    ensures kept { OnErr result (holds.new ≡ holds.old) }
-    ensures why { IfErr result (λ why. (why ≡ cause.BadColour) × NoColour side) }
+    ensures { InStepCall held.now side holds.old holds.new result }
 {
     let side = colour_of(side)?;
     *holds = if held.in_step(side) { 1 } else { 0 };
@@ -243,10 +204,7 @@ pub fn in_step(held: &Match, side: u32, holds: &mut u32) -> Result<(), Cause>
 
 /// What `vintsaky_match_restarts` does.
 pub fn restarts(held: &Match, side: u32, restarts: &mut u32) -> Result<(), Cause>
-    ensures found { OnOk result
-        (IsSide side (λ s. restarts.new ≡ restarts_of (side_of held.now.sides s))) }
-    ensures kept { OnErr result (restarts.new ≡ restarts.old) }
-    ensures why { IfErr result (λ why. (why ≡ cause.BadColour) × NoColour side) }
+    ensures { RestartsCall held.now side restarts.old restarts.new result }
 {
     *restarts = held.restarts(colour_of(side)?);
     Ok(())
@@ -273,10 +231,8 @@ pub fn verdict(
     side: &mut u32,
     half_points: &mut i32,
 ) -> Result<(), Cause>
-    ensures found { OnOk result (EndsAs held.now ending.new side.new half_points.new) }
-    ensures kept { OnErr result ((ending.new ≡ ending.old) × (side.new ≡ side.old)
-        × (half_points.new ≡ half_points.old)) }
-    ensures why { IfErr result (λ why. (why ≡ cause.NotOver) × (held.now.verdict ≡ None)) }
+    ensures { VerdictCall held.now ending.old ending.new side.old side.new
+        half_points.old half_points.new result }
 {
     match verdict_of(held) {
         None => Err(Cause::NotOver),
@@ -298,9 +254,7 @@ pub fn copy_game(held: &Match, game: &mut Game)
 
 /// What `vintsaky_match_result` does.
 pub fn result(held: &Match, number: u32, text: &mut [u8], count: &mut usize) -> Result<(), Cause>
-    ensures written { OnOk result (PutsResult held.now number text.old text.new count.new) }
-    ensures kept { OnErr result ((text.new ≡ text.old) × (count.new ≡ count.old)) }
-    ensures why { IfErr result (λ why. (why ≡ cause.NotOver) × (held.now.verdict ≡ None)) }
+    ensures { ResultCall held.now number text.old text.new count.old count.new result }
 {
     let line = result_line(number, held).ok_or(Cause::NotOver)?;
     *count = put(&line, text);
@@ -309,8 +263,7 @@ pub fn result(held: &Match, number: u32, text: &mut [u8], count: &mut usize) -> 
 
 /// What `vintsaky_match_record` does.
 pub fn record(held: &Match, text: &mut [u8]) -> usize
-    ensures length { result ≡ length (record_text held.now.game) }
-    ensures put { Puts (record_text held.now.game) text.old text.new }
+    ensures { Writes (record_text held.now.game) text.old text.new result }
 {
     put(&record_line(held), text)
 }

@@ -1,8 +1,7 @@
 //! The calls of a reader of replies.
-ghost use Rattle.std.specs.Prelude.{◌≡◌, ◌≢◌, [], false, length, Some, None, OnOk, OnErr, IfErr};
-ghost use Rattle.vintsaky_calls.specs.declared.causes.Cause.TheVariants as cause;
-ghost use Rattle.vintsaky_calls.specs.Replies.{ReadsReply};
-ghost use Rattle.vintsaky_calls.specs.Texts.{Puts};
+ghost use Rattle.std.specs.Prelude.{◌≡◌};
+ghost use Rattle.vintsaky_calls.specs.Replies.{fresh_replies, FeedCall, IdCall};
+ghost use Rattle.vintsaky_calls.specs.Texts.{Writes};
 
 use crate::causes::Cause;
 use crate::texts::put;
@@ -20,10 +19,7 @@ pub struct Replies {
 impl Replies {
     /// A reader that was given nothing.
     pub fn new() -> Replies
-        ensures reader { result.reader ≡ [] }
-        ensures ok { result.reply.ok ≡ false }
-        ensures id { result.reply.id ≡ None }
-        ensures text { result.reply.text.items ≡ [] }
+        ensures { result ≡ fresh_replies }
     {
         Replies {
             reader: ReplyReader::new(),
@@ -34,9 +30,7 @@ impl Replies {
 
 /// What `vintsaky_replies_feed` does.
 pub fn feed(replies: &mut Replies, bytes: &[u8], used: &mut usize) -> u32
-    ensures reads { ReadsReply replies.old.reader bytes.now used.new result replies.new.reply
-        replies.new.reader }
-    ensures kept { result ≢ 1 → replies.new.reply ≡ replies.old.reply }
+    ensures { FeedCall bytes.now replies.old replies.new used.new result }
 {
     let read = replies.reader.feed_into(bytes, &mut replies.reply);
     *used = read.used;
@@ -57,9 +51,7 @@ pub fn ok(replies: &Replies) -> bool
 
 /// What `vintsaky_replies_id` does.
 pub fn id(replies: &Replies, id: &mut u32) -> Result<(), Cause>
-    ensures found { OnOk result (replies.now.reply.id ≡ Some id.new) }
-    ensures kept { OnErr result (id.new ≡ id.old) }
-    ensures why { IfErr result (λ why. (why ≡ cause.NoId) × (replies.now.reply.id ≡ None)) }
+    ensures { IdCall replies.now.reply id.old id.new result }
 {
     *id = replies.reply.id.ok_or(Cause::NoId)?;
     Ok(())
@@ -67,8 +59,7 @@ pub fn id(replies: &Replies, id: &mut u32) -> Result<(), Cause>
 
 /// What `vintsaky_replies_text` does.
 pub fn text(replies: &Replies, text: &mut [u8]) -> usize
-    ensures length { result ≡ length replies.now.reply.text.items }
-    ensures put { Puts replies.now.reply.text.items text.old text.new }
+    ensures { Writes replies.now.reply.text.items text.old text.new result }
 {
     put(&replies.reply.text, text)
 }

@@ -1,11 +1,9 @@
 //! Texts that are written into a buffer of the caller.
-ghost use Rattle.std.specs.Prelude.{◌≡◌, length};
-ghost use Rattle.vintsaky_calls.specs.Texts.{Puts};
+ghost use Rattle.vintsaky_calls.specs.Texts.{Writes};
 
 /// Writes the text and a NUL, where there is room for both. How many bytes the text has, without the NUL.
 pub fn put(text: &[u8], buffer: &mut [u8]) -> usize
-    ensures length { result ≡ length text.now }
-    ensures put { Puts text.now buffer.old buffer.new }
+    ensures { Writes text.now buffer.old buffer.new result }
 {
     let count = text.len();
     if count < buffer.len() {

@@ -1,12 +1,12 @@
 //! The calls that write lines: commands and replies.
-ghost use Rattle.std.specs.Prelude.{◌≡◌, ◌≢◌, ◌≤◌, ℕ, pos, OnOk, OnErr, IfOk, IfErr, IfSome, IfNone};
+ghost use Rattle.std.specs.Prelude.{◌≡◌, ◌≢◌, ◌≤◌, ℕ, pos, IfOk, IfErr, IfSome, IfNone};
 ghost use Rattle.go_base.specs.Int.{most_int};
 ghost use Rattle.go_base.specs.Size.{IsSize};
 ghost use Rattle.gtp_wire.specs.Commands.{IsWritable};
 ghost use Rattle.vintsaky_calls.specs.declared.causes.Cause.TheVariants as cause;
 ghost use Rattle.vintsaky_calls.specs.Codes.{colour_code};
 ghost use Rattle.vintsaky_calls.specs.Writing.{id_code, NoId, NoSize, NoSide, IsCommandOf, RefusesValues};
-ghost use Rattle.vintsaky_calls.specs.Writing.{WritesCommand, RefusesCommand, WritesReply, RefusesReply};
+ghost use Rattle.vintsaky_calls.specs.Writing.{WriteCommandCall, WriteReplyCall};
 
 use crate::causes::Cause;
 use crate::codes::{colour_of, vertex_of};
@@ -23,10 +23,8 @@ pub fn write_command(
     text: &mut [u8],
     count: &mut usize,
 ) -> Result<(), Cause>
-    ensures written { OnOk result
-        (WritesCommand id command value vertex text.old text.new count.new) }
-    ensures kept { OnErr result ((text.new ≡ text.old) × (count.new ≡ count.old)) }
-    ensures why { IfErr result (RefusesCommand id command value vertex) }
+    ensures { WriteCommandCall id command value vertex text.old text.new count.old count.new
+        result }
 {
     let id = id_of(id)?;
     match command_of(command, value, vertex) {
@@ -46,9 +44,7 @@ pub fn write_reply(
     text: &mut [u8],
     count: &mut usize,
 ) -> Result<(), Cause>
-    ensures written { OnOk result (WritesReply id ok said.now text.old text.new count.new) }
-    ensures kept { OnErr result ((text.new ≡ text.old) × (count.new ≡ count.old)) }
-    ensures why { IfErr result (RefusesReply id said.now) }
+    ensures { WriteReplyCall id ok said.now text.old text.new count.old count.new result }
 {
     let id = id_of(id)?;
     if !is_reply_text(said) {

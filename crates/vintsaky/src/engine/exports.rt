@@ -1,18 +1,12 @@
 //! The calls of an engine in steps.
-ghost use Rattle.std.specs.Prelude.{◌≡◌, length, false, Result, OnOk, OnErr, IfErr};
-ghost use Rattle.vintsaky_calls.specs.Codes.{result_code};
-ghost use Rattle.vintsaky_calls.specs.declared.causes.Cause.{Cause};
-ghost use Rattle.gtp_session.specs.Steps.{AnswersOther, declined_text, SetsName, SetsVersion, AddsCommand, IsTitle};
-ghost use Rattle.gtp_session.specs.declared.events.Event.{Event};
-ghost use Rattle.vintsaky_calls.specs.declared.causes.Cause.TheVariants as cause;
-ghost use Rattle.vintsaky_calls.specs.Codes.{NoRule};
-ghost use Rattle.vintsaky_calls.specs.Engines.{BeginsEngine, Feeds, event_code, wait_code, ChoosesBy, RefusesNumber};
-ghost use Rattle.vintsaky_calls.specs.Engines.{is_success, RefusesText, RefusesCommand, PutsWord, LacksWord, HasId};
-ghost use Rattle.vintsaky_calls.specs.Engines.{LacksId};
-ghost use Rattle.vintsaky_calls.specs.Texts.{Puts};
+ghost use Rattle.std.specs.Prelude.{◌≡◌};
 ghost use Rattle.std.specs.Align.{type_align};
 ghost use Rattle.std.specs.Mem.{type_size};
 ghost use Rattle.gtp_session.specs.contracts.steps.Steps.{the_row as engine_row};
+ghost use Rattle.vintsaky_calls.specs.Codes.{Returns};
+ghost use Rattle.vintsaky_calls.specs.Engines.{wait_code, BeginCall, FeedCall, ChooseCall, AnswerCall, DeclineCall};
+ghost use Rattle.vintsaky_calls.specs.Engines.{SetNameCall, SetVersionCall, AddCommandCall, WordCall, IdCall};
+ghost use Rattle.vintsaky_calls.specs.Texts.{Writes};
 
 use crate::engine::handle::EngineHandle;
 use crate::game::handle::GameHandle;
@@ -52,10 +46,7 @@ pub extern "C" fn vintsaky_engine_ended(engine: &mut EngineHandle) -> bool
 /// `BadRule`. The engine stays as it was.
 #[unsafe(no_mangle)]
 pub extern "C" fn vintsaky_engine_begin(engine: &mut EngineHandle, rule: u32) -> u32
-    ensures call { (made : Result (Unit {0}) Cause) × (result ≡ result_code made)
-        × OnOk made (BeginsEngine rule engine.new.value)
-        × OnErr made (engine.new.value ≡ engine.old.value)
-        × IfErr made (λ why. (why ≡ cause.BadRule) × NoRule rule) }
+    ensures call { Returns result (BeginCall rule engine.old.value engine.new.value) }
 {
     code_of(engines::begin(engine.lend(), rule))
 }
@@ -70,7 +61,7 @@ pub extern "C" fn vintsaky_engine_feed(
     bytes: &[u8],
     used: &mut usize,
 ) -> u32
-    ensures call { (came : Event) × (result ≡ event_code came) × Feeds engine.old.value bytes.now used.new came engine.new.value }
+    ensures call { FeedCall bytes.now engine.old.value engine.new.value used.new result }
 {
     engines::feed(engine.lend(), bytes, used)
 }
@@ -93,10 +84,7 @@ pub extern "C" fn vintsaky_engine_wait(engine: &mut EngineHandle) -> u32
 /// engine stays as it was, and a choice that was asked for is still asked for.
 #[unsafe(no_mangle)]
 pub extern "C" fn vintsaky_engine_choose(engine: &mut EngineHandle, vertex: u32) -> u32
-    ensures call { (made : Result (Unit {0}) Cause) × (result ≡ result_code made)
-        × OnOk made (ChoosesBy engine.old.value vertex engine.new.value)
-        × OnErr made (engine.new.value ≡ engine.old.value)
-        × IfErr made (RefusesNumber engine.old.value vertex) }
+    ensures call { Returns result (ChooseCall vertex engine.old.value engine.new.value) }
 {
     code_of(engines::choose(engine.lend(), vertex))
 }
@@ -108,10 +96,7 @@ pub extern "C" fn vintsaky_engine_choose(engine: &mut EngineHandle, vertex: u32)
 /// `NotAsked`, or else `BadText` where no reply may have the text. The engine stays as it was.
 #[unsafe(no_mangle)]
 pub extern "C" fn vintsaky_engine_answer(engine: &mut EngineHandle, ok: u32, text: &[u8]) -> u32
-    ensures call { (made : Result (Unit {0}) Cause) × (result ≡ result_code made)
-        × OnOk made (AnswersOther engine.old.value (is_success ok) text.now engine.new.value)
-        × OnErr made (engine.new.value ≡ engine.old.value)
-        × IfErr made (RefusesText engine.old.value text.now) }
+    ensures call { Returns result (AnswerCall ok text.now engine.old.value engine.new.value) }
 {
     code_of(engines::answer(engine.lend(), ok, text))
 }
@@ -123,10 +108,7 @@ pub extern "C" fn vintsaky_engine_answer(engine: &mut EngineHandle, ok: u32, tex
 /// `NotAsked`. The engine stays as it was.
 #[unsafe(no_mangle)]
 pub extern "C" fn vintsaky_engine_decline(engine: &mut EngineHandle) -> u32
-    ensures call { (made : Result (Unit {0}) Cause) × (result ≡ result_code made)
-        × OnOk made (AnswersOther engine.old.value false declined_text engine.new.value)
-        × OnErr made (engine.new.value ≡ engine.old.value)
-        × IfErr made (λ why. (why ≡ cause.NotAsked) × RefusesText engine.old.value declined_text why) }
+    ensures call { Returns result (DeclineCall engine.old.value engine.new.value) }
 {
     code_of(engines::decline(engine.lend()))
 }
@@ -138,10 +120,7 @@ pub extern "C" fn vintsaky_engine_decline(engine: &mut EngineHandle) -> u32
 /// `BadText` where it has more than 200 bytes, or no reply may have it. The engine stays as it was.
 #[unsafe(no_mangle)]
 pub extern "C" fn vintsaky_engine_set_name(engine: &mut EngineHandle, text: &[u8]) -> u32
-    ensures call { (made : Result (Unit {0}) Cause) × (result ≡ result_code made)
-        × OnOk made (SetsName engine.old.value text.now engine.new.value)
-        × OnErr made (engine.new.value ≡ engine.old.value)
-        × IfErr made (λ why. (why ≡ cause.BadText) × ¬ IsTitle text.now) }
+    ensures call { Returns result (SetNameCall text.now engine.old.value engine.new.value) }
 {
     code_of(engines::set_name(engine.lend(), text))
 }
@@ -153,10 +132,7 @@ pub extern "C" fn vintsaky_engine_set_name(engine: &mut EngineHandle, text: &[u8
 /// As those of [`vintsaky_engine_set_name`].
 #[unsafe(no_mangle)]
 pub extern "C" fn vintsaky_engine_set_version(engine: &mut EngineHandle, text: &[u8]) -> u32
-    ensures call { (made : Result (Unit {0}) Cause) × (result ≡ result_code made)
-        × OnOk made (SetsVersion engine.old.value text.now engine.new.value)
-        × OnErr made (engine.new.value ≡ engine.old.value)
-        × IfErr made (λ why. (why ≡ cause.BadText) × ¬ IsTitle text.now) }
+    ensures call { Returns result (SetVersionCall text.now engine.old.value engine.new.value) }
 {
     code_of(engines::set_version(engine.lend(), text))
 }
@@ -169,10 +145,7 @@ pub extern "C" fn vintsaky_engine_set_version(engine: &mut EngineHandle, text: &
 /// engine stays as it was.
 #[unsafe(no_mangle)]
 pub extern "C" fn vintsaky_engine_add_command(engine: &mut EngineHandle, name: &[u8]) -> u32
-    ensures call { (made : Result (Unit {0}) Cause) × (result ≡ result_code made)
-        × OnOk made (AddsCommand engine.old.value name.now engine.new.value)
-        × OnErr made (engine.new.value ≡ engine.old.value)
-        × IfErr made (RefusesCommand engine.old.value.commands name.now) }
+    ensures call { Returns result (AddCommandCall name.now engine.old.value engine.new.value) }
 {
     code_of(engines::add_command(engine.lend(), name))
 }
@@ -189,8 +162,7 @@ pub extern "C" fn vintsaky_engine_copy_game(engine: &mut EngineHandle, game: &mu
 /// Writes the last reply. How many bytes it has: none before the first, and 2,048 at most.
 #[unsafe(no_mangle)]
 pub extern "C" fn vintsaky_engine_reply(engine: &mut EngineHandle, text: &mut [u8]) -> usize
-    ensures length { result ≡ length engine.old.value.reply }
-    ensures put { Puts engine.old.value.reply text.old text.new }
+    ensures call { Writes engine.old.value.reply text.old text.new result }
     ensures object { engine.new.value ≡ engine.old.value }
 {
     engines::reply(engine.lend(), text)
@@ -208,10 +180,8 @@ pub extern "C" fn vintsaky_engine_word(
     text: &mut [u8],
     count: &mut usize,
 ) -> u32
-    ensures call { (made : Result (Unit {0}) Cause) × (result ≡ result_code made)
-        × OnOk made (PutsWord engine.old.value number text.old text.new count.new)
-        × OnErr made ((text.new ≡ text.old) × (count.new ≡ count.old))
-        × IfErr made (LacksWord engine.old.value number) }
+    ensures call { Returns result (WordCall engine.old.value number text.old text.new
+        count.old count.new) }
     ensures object { engine.new.value ≡ engine.old.value }
 {
     code_of(engines::word(engine.lend(), number, text, count))
@@ -224,10 +194,7 @@ pub extern "C" fn vintsaky_engine_word(
 /// `NotAsked` where no line is waited for, or else `NoId`. Nothing is written.
 #[unsafe(no_mangle)]
 pub extern "C" fn vintsaky_engine_id(engine: &mut EngineHandle, id: &mut u32) -> u32
-    ensures call { (made : Result (Unit {0}) Cause) × (result ≡ result_code made)
-        × OnOk made (HasId engine.old.value id.new)
-        × OnErr made (id.new ≡ id.old)
-        × IfErr made (LacksId engine.old.value) }
+    ensures call { Returns result (IdCall engine.old.value id.old id.new) }
     ensures object { engine.new.value ≡ engine.old.value }
 {
     code_of(engines::id(engine.lend(), id))

@@ -1,22 +1,17 @@
 //! The calls of a game.
-ghost use Rattle.std.specs.Prelude.{◌≡◌, ◌≢◌, ◌≤◌, ◌↔◌, [], length, Result, OnOk, OnErr, IfErr, IsTrue};
+ghost use Rattle.std.specs.Prelude.{◌≡◌, ◌↔◌, length, IsTrue};
 ghost use Rattle.go_board.specs.Area.{score};
 ghost use Rattle.go_board.specs.Game.{IsFinished, board_of};
 ghost use Rattle.go_board.specs.Hash.{hash_of};
-ghost use Rattle.vintsaky_calls.specs.Codes.{result_code};
-ghost use Rattle.vintsaky_calls.specs.declared.causes.Cause.{Cause};
-ghost use Rattle.go_base.specs.Komi.{IsKomi};
-ghost use Rattle.go_board.specs.Game.{IsLegal, without_last};
 ghost use Rattle.go_board.specs.Show.{board_text};
-ghost use Rattle.vintsaky_calls.specs.declared.causes.Cause.TheVariants as cause;
-ghost use Rattle.vintsaky_calls.specs.Codes.{NoColour, rule_code};
-ghost use Rattle.vintsaky_calls.specs.Games.{Begins, RefusesToBegin, Makes, RefusesMove, IsPlay, IsIllegal};
-ghost use Rattle.vintsaky_calls.specs.Games.{PlacesHandicap, RefusesStones, ListsLegal, ListsTaken};
-ghost use Rattle.vintsaky_calls.specs.Games.{RefusesPointCode, HasAt, HasChain, RefusesChain, HasMove, HasCaptured};
-ghost use Rattle.vintsaky_calls.specs.Texts.{Puts};
 ghost use Rattle.std.specs.Align.{type_align};
 ghost use Rattle.std.specs.Mem.{type_size};
 ghost use Rattle.go_board.specs.contracts.game.Game.{the_row as game_row};
+ghost use Rattle.vintsaky_calls.specs.Codes.{rule_code, Returns};
+ghost use Rattle.vintsaky_calls.specs.Games.{ListsTaken, BeginCall, PlayCall, LegalCall, UndoCall, SetKomiCall};
+ghost use Rattle.vintsaky_calls.specs.Games.{PlaceHandicapCall, LegalPointsCall, StoneAtCall, ChainCall, MadeCall};
+ghost use Rattle.vintsaky_calls.specs.Games.{CapturedCall};
+ghost use Rattle.vintsaky_calls.specs.Texts.{Writes};
 
 use crate::game::handle::GameHandle;
 use go_board::Game;
@@ -123,10 +118,7 @@ pub extern "C" fn vintsaky_game_begin(
     size: u32,
     half_komi: i32,
 ) -> u32
-    ensures call { (made : Result (Unit {0}) Cause) × (result ≡ result_code made)
-        × OnOk made (Begins rule size half_komi game.new.value)
-        × OnErr made (game.new.value ≡ game.old.value)
-        × IfErr made (RefusesToBegin rule size half_komi) }
+    ensures call { Returns result (BeginCall rule size half_komi game.old.value game.new.value) }
 {
     code_of(games::begin(game.lend(), rule, size, half_komi))
 }
@@ -139,10 +131,7 @@ pub extern "C" fn vintsaky_game_begin(
 /// `Ko`. The game stays as it was.
 #[unsafe(no_mangle)]
 pub extern "C" fn vintsaky_game_play(game: &mut GameHandle, colour: u32, vertex: u32) -> u32
-    ensures call { (made : Result (Unit {0}) Cause) × (result ≡ result_code made)
-        × OnOk made (Makes game.old.value colour vertex game.new.value)
-        × OnErr made (game.new.value ≡ game.old.value)
-        × IfErr made (RefusesMove game.old.value colour vertex) }
+    ensures call { Returns result (PlayCall colour vertex game.old.value game.new.value) }
 {
     code_of(games::play(game.lend(), colour, vertex))
 }
@@ -154,9 +143,7 @@ pub extern "C" fn vintsaky_game_play(game: &mut GameHandle, colour: u32, vertex:
 /// As those of [`vintsaky_game_play`], of which it leaves out `Full`.
 #[unsafe(no_mangle)]
 pub extern "C" fn vintsaky_game_legal(game: &mut GameHandle, colour: u32, vertex: u32) -> u32
-    ensures call { (made : Result (Unit {0}) Cause) × (result ≡ result_code made)
-        × OnOk made (IsPlay colour vertex (IsLegal game.old.value))
-        × IfErr made (IsIllegal game.old.value colour vertex) }
+    ensures call { Returns result (LegalCall game.old.value colour vertex) }
     ensures object { game.new.value ≡ game.old.value }
 {
     code_of(games::legal(game.lend(), colour, vertex))
@@ -169,10 +156,7 @@ pub extern "C" fn vintsaky_game_legal(game: &mut GameHandle, colour: u32, vertex
 /// `NothingToUndo` where the record has no move. The game stays as it was.
 #[unsafe(no_mangle)]
 pub extern "C" fn vintsaky_game_undo(game: &mut GameHandle) -> u32
-    ensures call { (made : Result (Unit {0}) Cause) × (result ≡ result_code made)
-        × OnOk made ((game.old.value.moves ≢ []) × (game.new.value ≡ without_last game.old.value))
-        × OnErr made (game.new.value ≡ game.old.value)
-        × IfErr made (λ why. (why ≡ cause.NothingToUndo) × (game.old.value.moves ≡ [])) }
+    ensures call { Returns result (UndoCall game.old.value game.new.value) }
 {
     code_of(games::undo(game.lend()))
 }
@@ -184,10 +168,7 @@ pub extern "C" fn vintsaky_game_undo(game: &mut GameHandle) -> u32
 /// `BadKomi`. The game stays as it was.
 #[unsafe(no_mangle)]
 pub extern "C" fn vintsaky_game_set_komi(game: &mut GameHandle, half_komi: i32) -> u32
-    ensures call { (made : Result (Unit {0}) Cause) × (result ≡ result_code made)
-        × OnOk made (IsKomi half_komi × (game.new.value ≡ record game.old.value { komi = half_komi }))
-        × OnErr made (game.new.value ≡ game.old.value)
-        × IfErr made (λ why. (why ≡ cause.BadKomi) × ¬ IsKomi half_komi) }
+    ensures call { Returns result (SetKomiCall half_komi game.old.value game.new.value) }
 {
     code_of(games::set_komi(game.lend(), half_komi))
 }
@@ -199,10 +180,7 @@ pub extern "C" fn vintsaky_game_set_komi(game: &mut GameHandle, half_komi: i32) 
 /// `NotEmpty`, or else `BadHandicap`. The game stays as it was.
 #[unsafe(no_mangle)]
 pub extern "C" fn vintsaky_game_place_handicap(game: &mut GameHandle, stones: u32) -> u32
-    ensures call { (made : Result (Unit {0}) Cause) × (result ≡ result_code made)
-        × OnOk made (PlacesHandicap game.old.value stones game.new.value)
-        × OnErr made (game.new.value ≡ game.old.value)
-        × IfErr made (RefusesStones game.old.value stones) }
+    ensures call { Returns result (PlaceHandicapCall stones game.old.value game.new.value) }
 {
     code_of(games::place_handicap(game.lend(), stones))
 }
@@ -220,10 +198,8 @@ pub extern "C" fn vintsaky_game_legal_points(
     points: &mut [u32],
     count: &mut usize,
 ) -> u32
-    ensures call { (made : Result (Unit {0}) Cause) × (result ≡ result_code made)
-        × OnOk made (ListsLegal game.old.value colour points.old points.new count.new)
-        × OnErr made ((points.new ≡ points.old) × (count.new ≡ count.old))
-        × IfErr made (λ why. (why ≡ cause.BadColour) × NoColour colour) }
+    ensures call { Returns result (LegalPointsCall game.old.value colour points.old points.new
+        count.old count.new) }
     ensures object { game.new.value ≡ game.old.value }
 {
     code_of(games::legal_points(game.lend(), colour, points, count))
@@ -253,10 +229,7 @@ pub extern "C" fn vintsaky_game_stone_at(
     vertex: u32,
     colour: &mut u32,
 ) -> u32
-    ensures call { (made : Result (Unit {0}) Cause) × (result ≡ result_code made)
-        × OnOk made (HasAt game.old.value vertex colour.new)
-        × OnErr made (colour.new ≡ colour.old)
-        × IfErr made (RefusesPointCode game.old.value vertex) }
+    ensures call { Returns result (StoneAtCall game.old.value vertex colour.old colour.new) }
     ensures object { game.new.value ≡ game.old.value }
 {
     code_of(games::stone_at(game.lend(), vertex, colour))
@@ -274,10 +247,8 @@ pub extern "C" fn vintsaky_game_chain(
     stones: &mut u32,
     liberties: &mut u32,
 ) -> u32
-    ensures call { (made : Result (Unit {0}) Cause) × (result ≡ result_code made)
-        × OnOk made (HasChain game.old.value vertex stones.new liberties.new)
-        × OnErr made ((stones.new ≡ stones.old) × (liberties.new ≡ liberties.old))
-        × IfErr made (RefusesChain game.old.value vertex) }
+    ensures call { Returns result (ChainCall game.old.value vertex stones.old stones.new
+        liberties.old liberties.new) }
     ensures object { game.new.value ≡ game.old.value }
 {
     code_of(games::chain(game.lend(), vertex, stones, liberties))
@@ -295,10 +266,8 @@ pub extern "C" fn vintsaky_game_made(
     colour: &mut u32,
     vertex: &mut u32,
 ) -> u32
-    ensures call { (made : Result (Unit {0}) Cause) × (result ≡ result_code made)
-        × OnOk made (HasMove game.old.value number colour.new vertex.new)
-        × OnErr made ((colour.new ≡ colour.old) × (vertex.new ≡ vertex.old))
-        × IfErr made (λ why. (why ≡ cause.NoMove) × (length game.old.value.moves ≤ number)) }
+    ensures call { Returns result (MadeCall game.old.value number colour.old colour.new
+        vertex.old vertex.new) }
     ensures object { game.new.value ≡ game.old.value }
 {
     code_of(games::made(game.lend(), number, colour, vertex))
@@ -315,10 +284,7 @@ pub extern "C" fn vintsaky_game_captured(
     colour: u32,
     stones: &mut u32,
 ) -> u32
-    ensures call { (made : Result (Unit {0}) Cause) × (result ≡ result_code made)
-        × OnOk made (HasCaptured game.old.value colour stones.new)
-        × OnErr made (stones.new ≡ stones.old)
-        × IfErr made (λ why. (why ≡ cause.BadColour) × NoColour colour) }
+    ensures call { Returns result (CapturedCall game.old.value colour stones.old stones.new) }
     ensures object { game.new.value ≡ game.old.value }
 {
     code_of(games::captured(game.lend(), colour, stones))
@@ -336,8 +302,7 @@ pub extern "C" fn vintsaky_game_rule(game: &mut GameHandle) -> u32
 /// Writes the board as text, as an engine answers `showboard`.
 #[unsafe(no_mangle)]
 pub extern "C" fn vintsaky_game_board_text(game: &mut GameHandle, text: &mut [u8]) -> usize
-    ensures length { result ≡ length (board_text game.old.value) }
-    ensures put { Puts (board_text game.old.value) text.old text.new }
+    ensures call { Writes (board_text game.old.value) text.old text.new result }
     ensures object { game.new.value ≡ game.old.value }
 {
     games::board_text(game.lend(), text)

@@ -1,14 +1,11 @@
 //! The calls of a reader of command lines.
-ghost use Rattle.std.specs.Prelude.{◌≡◌, ◌⊎◌, length, Result, OnOk, OnErr, IfErr};
-ghost use Rattle.vintsaky_calls.specs.Codes.{result_code};
-ghost use Rattle.vintsaky_calls.specs.declared.causes.Cause.{Cause};
-ghost use Rattle.gtp_wire.specs.Lines.{ReadsLine};
+ghost use Rattle.std.specs.Prelude.{◌≡◌};
 ghost use Rattle.gtp_wire.specs.declared.lines.Line.TheVariants as line;
-ghost use Rattle.vintsaky_calls.specs.Lines.{line_code, line_unless, PutsLineWord, LacksLineWord, HasLineId};
-ghost use Rattle.vintsaky_calls.specs.Lines.{LacksLineId};
 ghost use Rattle.std.specs.Align.{type_align};
 ghost use Rattle.std.specs.Mem.{type_size};
 ghost use Rattle.vintsaky_calls.specs.contracts.lines.Lines.{the_row as lines_row};
+ghost use Rattle.vintsaky_calls.specs.Codes.{Returns};
+ghost use Rattle.vintsaky_calls.specs.Lines.{FeedCall, IdCall, WordCall};
 
 use crate::lines::handle::LinesHandle;
 use std::mem::{align_of, size_of};
@@ -40,9 +37,7 @@ pub extern "C" fn vintsaky_lines_feed(
     bytes: &[u8],
     used: &mut usize,
 ) -> u32
-    ensures reads { ReadsLine lines.old.value.reader bytes.now used.new (line_unless result lines.new.value.line) lines.new.value.reader }
-    ensures kind { (result ≡ 0) ⊎ (result ≡ line_code lines.new.value.line) }
-    ensures kept { result ≡ 0 → lines.new.value.line ≡ lines.old.value.line }
+    ensures call { FeedCall bytes.now lines.old.value lines.new.value used.new result }
 {
     lines::feed(lines.lend(), bytes, used)
 }
@@ -54,10 +49,7 @@ pub extern "C" fn vintsaky_lines_feed(
 /// `NoLine` where none was read, or it is too long, or else `NoId`. Nothing is written.
 #[unsafe(no_mangle)]
 pub extern "C" fn vintsaky_lines_id(lines: &mut LinesHandle, id: &mut u32) -> u32
-    ensures call { (made : Result (Unit {0}) Cause) × (result ≡ result_code made)
-        × OnOk made (HasLineId lines.old.value.line id.new)
-        × OnErr made (id.new ≡ id.old)
-        × IfErr made (LacksLineId lines.old.value.line) }
+    ensures call { Returns result (IdCall lines.old.value.line id.old id.new) }
     ensures object { lines.new.value ≡ lines.old.value }
 {
     code_of(lines::id(lines.lend(), id))
@@ -75,10 +67,8 @@ pub extern "C" fn vintsaky_lines_word(
     text: &mut [u8],
     count: &mut usize,
 ) -> u32
-    ensures call { (made : Result (Unit {0}) Cause) × (result ≡ result_code made)
-        × OnOk made (PutsLineWord lines.old.value.line number text.old text.new count.new)
-        × OnErr made ((text.new ≡ text.old) × (count.new ≡ count.old))
-        × IfErr made (LacksLineWord lines.old.value.line number) }
+    ensures call { Returns result (WordCall lines.old.value.line number text.old text.new
+        count.old count.new) }
     ensures object { lines.new.value ≡ lines.old.value }
 {
     code_of(lines::word(lines.lend(), number, text, count))

@@ -5,7 +5,7 @@ ghost use Rattle.std.specs.Ptr.{lies_at, room_at};
 ghost use base.Fml.{fsep};
 ghost use Rattle.vintsaky_calls.specs.contracts.lines.Lines.{the_row as lines_row};
 ghost use Rattle.vintsaky.specs.contracts.lines.handle.LinesHandle.{the_row};
-ghost use Rattle.vintsaky.specs.Fresh.{fresh_lines};
+ghost use Rattle.vintsaky_calls.specs.Lines.{fresh_lines};
 
 use crate::lines::handle::LinesHandle;
 use vintsaky_calls::lines::Lines;

@@ -1,28 +1,17 @@
 //! The calls of a match.
-ghost use Rattle.std.specs.Prelude.{◌≡◌, length, Option, None, MatchOption, Result, OnOk, OnErr, IfErr};
-ghost use Rattle.vintsaky_calls.specs.Codes.{result_code};
-ghost use Rattle.vintsaky_calls.specs.declared.causes.Cause.{Cause};
-ghost use Rattle.gtp_match.specs.Controller.{lost, in_step};
-ghost use Rattle.gtp_match.specs.Losing.{owed};
-ghost use Rattle.gtp_match.specs.Next.{next};
+ghost use Rattle.std.specs.Prelude.{◌≡◌};
 ghost use Rattle.gtp_match.specs.ResultLine.{record_text};
 ghost use Rattle.gtp_match.specs.Retakes.{retakes_of};
 ghost use Rattle.gtp_match.specs.Setup.{setup_of};
-ghost use Rattle.gtp_match.specs.Sides.{side_of, restarts as restarts_of};
 ghost use Rattle.gtp_match.specs.Taking.{taking_back};
-ghost use Rattle.gtp_match.specs.declared.losses.Loss.{Loss};
-ghost use Rattle.gtp_match.specs.declared.reports.Retake.{Retake};
-ghost use Rattle.vintsaky_calls.specs.declared.causes.Cause.TheVariants as cause;
-ghost use Rattle.vintsaky_calls.specs.Codes.{NoColour};
-ghost use Rattle.vintsaky_calls.specs.Matches.{BeginsMatch, RefusesMatch, action_code, action_side, Starts};
-ghost use Rattle.vintsaky_calls.specs.Matches.{RefusesStart};
-ghost use Rattle.vintsaky_calls.specs.Matches.{Sends, RefusesSend, Hears, IsSide, bool_code, PutsResult};
-ghost use Rattle.vintsaky_calls.specs.Matches.{HearsReport, loss_code, retake_code, reported_owed, PutsOwed, LacksOwed};
-ghost use Rattle.vintsaky_calls.specs.Matches.{HasStatus, LacksStatus, maybe_side_code, EndsAs};
-ghost use Rattle.vintsaky_calls.specs.Texts.{Puts};
 ghost use Rattle.std.specs.Align.{type_align};
 ghost use Rattle.std.specs.Mem.{type_size};
 ghost use Rattle.gtp_match.specs.contracts.matches.Match.{the_row as match_row};
+ghost use Rattle.vintsaky_calls.specs.Codes.{Returns};
+ghost use Rattle.vintsaky_calls.specs.Matches.{maybe_side_code, BeginCall, NextCall, StartedCall, SendCall, HearCall};
+ghost use Rattle.vintsaky_calls.specs.Matches.{HearReportingCall, owed_out, OwedCall, StatusCall, LostCall, InStepCall};
+ghost use Rattle.vintsaky_calls.specs.Matches.{RestartsCall, VerdictCall, ResultCall};
+ghost use Rattle.vintsaky_calls.specs.Texts.{Writes};
 
 use crate::game::handle::GameHandle;
 use crate::matches::handle::MatchHandle;
@@ -61,10 +50,8 @@ pub extern "C" fn vintsaky_match_begin(
     max_moves: u32,
     max_restarts: u32,
 ) -> u32
-    ensures call { (made : Result (Unit {0}) Cause) × (result ≡ result_code made)
-        × OnOk made (BeginsMatch (setup_of size half_komi handicap max_moves max_restarts) held.new.value)
-        × OnErr made (held.new.value ≡ held.old.value)
-        × IfErr made (RefusesMatch (setup_of size half_komi handicap max_moves max_restarts)) }
+    ensures call { Returns result (BeginCall
+        (setup_of size half_komi handicap max_moves max_restarts) held.old.value held.new.value) }
 {
     code_of(matches::begin(
         held.lend(),
@@ -79,8 +66,7 @@ pub extern "C" fn vintsaky_match_begin(
 /// What is to be done next, as a number. The number of the side with which it is done is written, or 0.
 #[unsafe(no_mangle)]
 pub extern "C" fn vintsaky_match_next(held: &mut MatchHandle, side: &mut u32) -> u32
-    ensures action { result ≡ action_code (next held.old.value) }
-    ensures side { side.new ≡ action_side (next held.old.value) }
+    ensures call { NextCall held.old.value result side.new }
     ensures object { held.new.value ≡ held.old.value }
 {
     matches::next(held.lend(), side)
@@ -93,10 +79,7 @@ pub extern "C" fn vintsaky_match_next(held: &mut MatchHandle, side: &mut u32) ->
 /// `BadColour`, or else `NotNext` where its start isn't what is next. The match stays as it was.
 #[unsafe(no_mangle)]
 pub extern "C" fn vintsaky_match_started(held: &mut MatchHandle, side: u32) -> u32
-    ensures call { (made : Result (Unit {0}) Cause) × (result ≡ result_code made)
-        × OnOk made (Starts held.old.value side held.new.value)
-        × OnErr made (held.new.value ≡ held.old.value)
-        × IfErr made (RefusesStart held.old.value side) }
+    ensures call { Returns result (StartedCall side held.old.value held.new.value) }
 {
     code_of(matches::started(held.lend(), side))
 }
@@ -114,10 +97,8 @@ pub extern "C" fn vintsaky_match_send(
     text: &mut [u8],
     count: &mut usize,
 ) -> u32
-    ensures call { (made : Result (Unit {0}) Cause) × (result ≡ result_code made)
-        × OnOk made (Sends held.old.value side text.old text.new count.new held.new.value)
-        × OnErr made ((held.new.value ≡ held.old.value) × (text.new ≡ text.old) × (count.new ≡ count.old))
-        × IfErr made (RefusesSend held.old.value side text.old) }
+    ensures call { Returns result (SendCall side held.old.value held.new.value text.old text.new
+        count.old count.new) }
 {
     code_of(matches::send(held.lend(), side, text, count))
 }
@@ -135,10 +116,8 @@ pub extern "C" fn vintsaky_match_hear(
     bytes: &[u8],
     loss: &mut u32,
 ) -> u32
-    ensures call { (made : Result (Unit {0}) Cause) × (result ≡ result_code made)
-        × OnOk made (Hears held.old.value side bytes.now loss.new held.new.value)
-        × OnErr made ((held.new.value ≡ held.old.value) × (loss.new ≡ loss.old))
-        × IfErr made (λ why. (why ≡ cause.BadColour) × NoColour side) }
+    ensures call { Returns result (HearCall side bytes.now held.old.value held.new.value
+        loss.old loss.new) }
 {
     code_of(matches::hear(held.lend(), side, bytes, loss))
 }
@@ -166,18 +145,10 @@ pub extern "C" fn vintsaky_match_hear_reporting(
     wrote: &mut [u8],
     wrote_count: &mut usize,
 ) -> u32
-    ensures call { (made : Result (Unit {0}) Cause) × (result ≡ result_code made)
-        × OnOk made ((lost : Option Loss) × (retaken : Option Retake)
-        × HearsReport held.old.value side bytes.now lost retaken held.new.value
-        × (loss.new ≡ loss_code lost) × (retake.new ≡ retake_code retaken)
-        × PutsOwed (reported_owed lost retaken) unanswered.new
-        command.old command.new command_count.new wrote.old wrote.new wrote_count.new)
-        × OnErr made ((held.new.value ≡ held.old.value)
-        × (loss.new ≡ loss.old) × (retake.new ≡ retake.old)
-        × (unanswered.new ≡ unanswered.old)
-        × (command.new ≡ command.old) × (command_count.new ≡ command_count.old)
-        × (wrote.new ≡ wrote.old) × (wrote_count.new ≡ wrote_count.old))
-        × IfErr made (λ why. (why ≡ cause.BadColour) × NoColour side) }
+    ensures call { Returns result (HearReportingCall side bytes.now held.old.value held.new.value
+        loss.old loss.new retake.old retake.new
+        (owed_out unanswered.old command.old command_count.old wrote.old wrote_count.old)
+        (owed_out unanswered.new command.new command_count.new wrote.new wrote_count.new)) }
 {
     code_of(matches::hear_reporting(
         held.lend(),
@@ -209,14 +180,9 @@ pub extern "C" fn vintsaky_match_owed(
     wrote: &mut [u8],
     wrote_count: &mut usize,
 ) -> u32
-    ensures call { (made : Result (Unit {0}) Cause) × (result ≡ result_code made)
-        × OnOk made (IsSide side (λ s.
-        MatchOption (owed held.old.value s) ⊥ (λ owes. PutsOwed owes unanswered.new
-        command.old command.new command_count.new wrote.old wrote.new wrote_count.new)))
-        × OnErr made ((unanswered.new ≡ unanswered.old)
-        × (command.new ≡ command.old) × (command_count.new ≡ command_count.old)
-        × (wrote.new ≡ wrote.old) × (wrote_count.new ≡ wrote_count.old))
-        × IfErr made (LacksOwed held.old.value side) }
+    ensures call { Returns result (OwedCall held.old.value side
+        (owed_out unanswered.old command.old command_count.old wrote.old wrote_count.old)
+        (owed_out unanswered.new command.new command_count.new wrote.new wrote_count.new)) }
     ensures object { held.new.value ≡ held.old.value }
 {
     code_of(matches::owed(
@@ -244,11 +210,8 @@ pub extern "C" fn vintsaky_match_status(
     unanswered: &mut u32,
     asked: &mut u32,
 ) -> u32
-    ensures call { (made : Result (Unit {0}) Cause) × (result ≡ result_code made)
-        × OnOk made (HasStatus held.old.value side confirmed.new unanswered.new asked.new)
-        × OnErr made ((confirmed.new ≡ confirmed.old)
-        × (unanswered.new ≡ unanswered.old) × (asked.new ≡ asked.old))
-        × IfErr made (LacksStatus held.old.value side) }
+    ensures call { Returns result (StatusCall held.old.value side confirmed.old confirmed.new
+        unanswered.old unanswered.new asked.old asked.new) }
     ensures object { held.new.value ≡ held.old.value }
 {
     code_of(matches::status(held.lend(), side, confirmed, unanswered, asked))
@@ -261,10 +224,7 @@ pub extern "C" fn vintsaky_match_status(
 /// `BadColour`. The match stays as it was.
 #[unsafe(no_mangle)]
 pub extern "C" fn vintsaky_match_lost(held: &mut MatchHandle, side: u32) -> u32
-    ensures call { (made : Result (Unit {0}) Cause) × (result ≡ result_code made)
-        × OnOk made (IsSide side (λ s. held.new.value ≡ lost held.old.value s))
-        × OnErr made (held.new.value ≡ held.old.value)
-        × IfErr made (λ why. (why ≡ cause.BadColour) × NoColour side) }
+    ensures call { Returns result (LostCall side held.old.value held.new.value) }
 {
     code_of(matches::lost(held.lend(), side))
 }
@@ -277,10 +237,7 @@ pub extern "C" fn vintsaky_match_lost(held: &mut MatchHandle, side: u32) -> u32
 /// `BadColour`. Nothing is written.
 #[unsafe(no_mangle)]
 pub extern "C" fn vintsaky_match_in_step(held: &mut MatchHandle, side: u32, holds: &mut u32) -> u32
-    ensures call { (made : Result (Unit {0}) Cause) × (result ≡ result_code made)
-        × OnOk made (IsSide side (λ s. holds.new ≡ bool_code (in_step held.old.value s)))
-        × OnErr made (holds.new ≡ holds.old)
-        × IfErr made (λ why. (why ≡ cause.BadColour) × NoColour side) }
+    ensures call { Returns result (InStepCall held.old.value side holds.old holds.new) }
     ensures object { held.new.value ≡ held.old.value }
 {
     code_of(matches::in_step(held.lend(), side, holds))
@@ -297,10 +254,7 @@ pub extern "C" fn vintsaky_match_restarts(
     side: u32,
     restarts: &mut u32,
 ) -> u32
-    ensures call { (made : Result (Unit {0}) Cause) × (result ≡ result_code made)
-        × OnOk made (IsSide side (λ s. restarts.new ≡ restarts_of (side_of held.old.value.sides s)))
-        × OnErr made (restarts.new ≡ restarts.old)
-        × IfErr made (λ why. (why ≡ cause.BadColour) × NoColour side) }
+    ensures call { Returns result (RestartsCall held.old.value side restarts.old restarts.new) }
     ensures object { held.new.value ≡ held.old.value }
 {
     code_of(matches::restarts(held.lend(), side, restarts))
@@ -338,11 +292,8 @@ pub extern "C" fn vintsaky_match_verdict(
     side: &mut u32,
     half_points: &mut i32,
 ) -> u32
-    ensures call { (made : Result (Unit {0}) Cause) × (result ≡ result_code made)
-        × OnOk made (EndsAs held.old.value ending.new side.new half_points.new)
-        × OnErr made ((ending.new ≡ ending.old) × (side.new ≡ side.old)
-        × (half_points.new ≡ half_points.old))
-        × IfErr made (λ why. (why ≡ cause.NotOver) × (held.old.value.verdict ≡ None)) }
+    ensures call { Returns result (VerdictCall held.old.value ending.old ending.new
+        side.old side.new half_points.old half_points.new) }
     ensures object { held.new.value ≡ held.old.value }
 {
     code_of(matches::verdict(held.lend(), ending, side, half_points))
@@ -370,10 +321,8 @@ pub extern "C" fn vintsaky_match_result(
     text: &mut [u8],
     count: &mut usize,
 ) -> u32
-    ensures call { (made : Result (Unit {0}) Cause) × (result ≡ result_code made)
-        × OnOk made (PutsResult held.old.value number text.old text.new count.new)
-        × OnErr made ((text.new ≡ text.old) × (count.new ≡ count.old))
-        × IfErr made (λ why. (why ≡ cause.NotOver) × (held.old.value.verdict ≡ None)) }
+    ensures call { Returns result (ResultCall held.old.value number text.old text.new
+        count.old count.new) }
     ensures object { held.new.value ≡ held.old.value }
 {
     code_of(matches::result(held.lend(), number, text, count))
@@ -382,8 +331,7 @@ pub extern "C" fn vintsaky_match_result(
 /// Writes the moves of a match, as `--record` of `twogtp` prints them, without the newline. How many bytes they have.
 #[unsafe(no_mangle)]
 pub extern "C" fn vintsaky_match_record(held: &mut MatchHandle, text: &mut [u8]) -> usize
-    ensures length { result ≡ length (record_text held.old.value.game) }
-    ensures put { Puts (record_text held.old.value.game) text.old text.new }
+    ensures call { Writes (record_text held.old.value.game) text.old text.new result }
     ensures object { held.new.value ≡ held.old.value }
 {
     matches::record(held.lend(), text)

@@ -1,13 +1,11 @@
 //! The calls of a reader of replies.
-ghost use Rattle.std.specs.Prelude.{◌≡◌, ◌≢◌, Some, None, length, Result, OnOk, OnErr, IfErr};
-ghost use Rattle.vintsaky_calls.specs.Codes.{result_code};
-ghost use Rattle.vintsaky_calls.specs.declared.causes.Cause.{Cause};
-ghost use Rattle.vintsaky_calls.specs.declared.causes.Cause.TheVariants as cause;
-ghost use Rattle.vintsaky_calls.specs.Replies.{ReadsReply};
-ghost use Rattle.vintsaky_calls.specs.Texts.{Puts};
+ghost use Rattle.std.specs.Prelude.{◌≡◌};
 ghost use Rattle.std.specs.Align.{type_align};
 ghost use Rattle.std.specs.Mem.{type_size};
 ghost use Rattle.vintsaky_calls.specs.contracts.replies.Replies.{the_row as replies_row};
+ghost use Rattle.vintsaky_calls.specs.Codes.{Returns};
+ghost use Rattle.vintsaky_calls.specs.Replies.{FeedCall, IdCall};
+ghost use Rattle.vintsaky_calls.specs.Texts.{Writes};
 
 use crate::replies::handle::RepliesHandle;
 use std::mem::{align_of, size_of};
@@ -40,8 +38,7 @@ pub extern "C" fn vintsaky_replies_feed(
     bytes: &[u8],
     used: &mut usize,
 ) -> u32
-    ensures reads { ReadsReply replies.old.value.reader bytes.now used.new result replies.new.value.reply replies.new.value.reader }
-    ensures kept { result ≢ 1 → replies.new.value.reply ≡ replies.old.value.reply }
+    ensures call { FeedCall bytes.now replies.old.value replies.new.value used.new result }
 {
     replies::feed(replies.lend(), bytes, used)
 }
@@ -62,10 +59,7 @@ pub extern "C" fn vintsaky_replies_ok(replies: &mut RepliesHandle) -> bool
 /// `NoId`, also before the first. Nothing is written.
 #[unsafe(no_mangle)]
 pub extern "C" fn vintsaky_replies_id(replies: &mut RepliesHandle, id: &mut u32) -> u32
-    ensures call { (made : Result (Unit {0}) Cause) × (result ≡ result_code made)
-        × OnOk made (replies.old.value.reply.id ≡ Some id.new)
-        × OnErr made (id.new ≡ id.old)
-        × IfErr made (λ why. (why ≡ cause.NoId) × (replies.old.value.reply.id ≡ None)) }
+    ensures call { Returns result (IdCall replies.old.value.reply id.old id.new) }
     ensures object { replies.new.value ≡ replies.old.value }
 {
     code_of(replies::id(replies.lend(), id))
@@ -74,8 +68,7 @@ pub extern "C" fn vintsaky_replies_id(replies: &mut RepliesHandle, id: &mut u32)
 /// Writes the text of the reply that was read last. How many bytes it has: none before the first, and 8,192 at most.
 #[unsafe(no_mangle)]
 pub extern "C" fn vintsaky_replies_text(replies: &mut RepliesHandle, text: &mut [u8]) -> usize
-    ensures length { result ≡ length replies.old.value.reply.text.items }
-    ensures put { Puts replies.old.value.reply.text.items text.old text.new }
+    ensures call { Writes replies.old.value.reply.text.items text.old text.new result }
     ensures object { replies.new.value ≡ replies.old.value }
 {
     replies::text(replies.lend(), text)

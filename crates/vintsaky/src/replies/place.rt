@@ -5,7 +5,7 @@ ghost use Rattle.std.specs.Ptr.{lies_at, room_at};
 ghost use base.Fml.{fsep};
 ghost use Rattle.vintsaky_calls.specs.contracts.replies.Replies.{the_row as replies_row};
 ghost use Rattle.vintsaky.specs.contracts.replies.handle.RepliesHandle.{the_row};
-ghost use Rattle.vintsaky.specs.Fresh.{fresh_replies};
+ghost use Rattle.vintsaky_calls.specs.Replies.{fresh_replies};
 
 use crate::replies::handle::RepliesHandle;
 use vintsaky_calls::replies::Replies;

@@ -4,11 +4,13 @@ use Rattle.vintsaky.proofs.writing.vintsaky_write_reply.Goals as goal
 
 pub returns : goal.returns
 returns c = record {
-  call = (
-    c.write_reply.result,
-    c.code_of.ensures,
-    search rules,
-    c.write_reply.ensures.kept,
-    (let fits = c.ranges.id in simp to_z-of_z at c.write_reply.ensures.why),
-  );
+  call = record {
+    made = c.write_reply.result;
+    number_is = c.code_of.ensures;
+    call = record {
+      written = search rules;
+      kept = c.write_reply.ensures.kept;
+      why = (let fits = c.ranges.id in simp to_z-of_z at c.write_reply.ensures.why);
+    };
+  };
 }

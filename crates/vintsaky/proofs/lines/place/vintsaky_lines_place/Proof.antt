@@ -22,7 +22,7 @@ use types.Run.{init}
 use Rattle.vintsaky_calls.specs.declared.lines.Lines.{Lines}
 use Rattle.vintsaky_calls.specs.contracts.lines.Lines.{the_row as T}
 use Rattle.vintsaky_calls.proofs.lines.Lines.TheLaws.{the_row_laws}
-use Rattle.vintsaky.specs.Fresh.{fresh_lines}
+use Rattle.vintsaky_calls.specs.Lines.{fresh_lines}
 use Rattle.vintsaky.specs.declared.lines.handle.LinesHandle.{LinesHandle}
 use Rattle.vintsaky.specs.contracts.lines.handle.LinesHandle.{the_row as R, the_type}
 use Rattle.vintsaky.specs.contracts.lines.place.vintsaky_lines_place as f

@@ -22,7 +22,7 @@ use types.Run.{init}
 use Rattle.vintsaky_calls.specs.declared.replies.Replies.{Replies}
 use Rattle.vintsaky_calls.specs.contracts.replies.Replies.{the_row as T}
 use Rattle.vintsaky_calls.proofs.replies.Replies.TheLaws.{the_row_laws}
-use Rattle.vintsaky.specs.Fresh.{fresh_replies}
+use Rattle.vintsaky_calls.specs.Replies.{fresh_replies}
 use Rattle.vintsaky.specs.declared.replies.handle.RepliesHandle.{RepliesHandle}
 use Rattle.vintsaky.specs.contracts.replies.handle.RepliesHandle.{the_row as R, the_type}
 use Rattle.vintsaky.specs.contracts.replies.place.vintsaky_replies_place as f
