@@ -6,6 +6,7 @@
 
 pub mod engine;
 pub mod game;
+pub mod laws;
 pub mod library;
 pub mod lines;
 pub mod matches;

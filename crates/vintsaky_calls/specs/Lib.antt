@@ -1,10 +1,12 @@
 pub mod Codes
 pub mod Engines
 pub mod Games
+pub mod Laws
 pub mod Library
 pub mod Lines
 pub mod Matches
 pub mod Replies
+pub mod Talks
 pub mod Texts
 pub mod Values
 pub mod Writing

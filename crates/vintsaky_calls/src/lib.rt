@@ -11,6 +11,7 @@ mod codes;
 mod endings;
 pub mod engines;
 pub mod games;
+pub mod laws;
 pub mod library;
 pub mod lines;
 mod losses;

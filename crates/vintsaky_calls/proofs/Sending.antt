@@ -1,0 +1,76 @@
+-- A command that counts as sent was written.
+use Rattle.std.proofs.Common.{◌≡◌, ℕ, ◌<◌, ◌≤◌, List, [], ◌∷◌, ◌++◌, length, take, Option, Some, None, refl, sym, ap}
+use Rattle.std.proofs.Common.{◌∙◌, ◌⊎◌, inl, inr, arith}
+use Rattle.std.proofs.lemmas.List.{take-append-le, take_all}
+use Rattle.std.specs.Prelude.{MatchOption, Result, Ok, Err}
+use Rattle.go_base.specs.Colour.{other}
+use Rattle.go_base.specs.declared.colours.Colour.{Colour}
+use Rattle.go_base.specs.declared.colours.Colour.TheVariants.{Black, White}
+use Rattle.gtp_wire.specs.Lines.{lines}
+use Rattle.gtp_match.specs.Controller.{sent, next_text}
+use Rattle.gtp_match.specs.Next.{next}
+use Rattle.gtp_match.specs.Sides.{side_of}
+use Rattle.gtp_match.specs.Sound.{IsSound}
+use Rattle.gtp_match.specs.declared.controller.Controller.{Controller}
+use Rattle.gtp_match.specs.declared.sides.EngineRun.{EngineRun}
+use Rattle.gtp_match.specs.declared.sides.SideState.{SideState}
+use Rattle.gtp_match.specs.declared.unanswered.SentCommand.{SentCommand}
+use Rattle.gtp_match.specs.declared.verdicts.Action.TheVariants as action
+use Rattle.gtp_match.proofs.hearing.LeftAlone.{send_leaves, sent_is_owed}
+use Rattle.gtp_match.proofs.scripts.Lines.{sent_line}
+use Rattle.vintsaky_calls.specs.Laws.{unanswered_by, unanswered_of, WroteOneMore, SentWereWritten}
+use Rattle.vintsaky_calls.specs.Matches.{most_command, Sends, SendCall}
+use Rattle.vintsaky_calls.specs.Texts.{Puts}
+
+-- a text that was put is what the buffer begins with
+begins : (text before after : List ℕ) (count : ℕ) → Puts text before after → length text < length before
+    → count ≡ length text → take count after ≡ text
+begins text before after count puts room counted =
+    ap (λ (n : ℕ). take n after) counted ∙ ap (λ (t : List ℕ). take (length text) t) (puts.written room)
+    ∙ take-append-le (length text) text _ (omega arith) ∙ take_all (length text) text (omega arith)
+
+-- the side that is sent the command
+at_side : (c : Controller) (s : Colour) (up : Option EngineRun) (text before after : List ℕ) (count : ℕ)
+    → (side_of c.sides s).up ≡ up → IsSound c → next c ≡ action.Send s
+    → MatchOption up ⊥ (λ engine. text ≡ next_text c s engine) → Puts text before after
+    → most_command < length before → count ≡ length text
+    → WroteOneMore (unanswered_of c s) (unanswered_of (sent c s) s) after count
+at_side c s None text before after count up sound due is puts room counted = absurd is
+at_side c s (Some engine) text before after count up sound due is puts room counted =
+    let owes = sent_is_owed c s engine sound due up in
+    let short : length text ≤ 64 = rw is (sent_line c s engine sound due up).short in
+    record {
+      entry = owes.entry;
+      more = ap unanswered_by owes.up ∙ owes.last
+          ∙ ap (λ (before : List SentCommand). before ++ owes.entry ∷ []) (sym (ap unanswered_by up));
+      line = ap lines (begins text before after count puts (omega (arith, short, room)) counted ∙ is) ∙ owes.line;
+    }
+
+-- either side
+abbrev Leaves : Controller → Colour → Colour → List ℕ → ℕ → Type 0
+Leaves c s side after count =
+    (unanswered_of (sent c s) side ≡ unanswered_of c side)
+    ⊎ WroteOneMore (unanswered_of c side) (unanswered_of (sent c s) side) after count
+
+by_side : (c : Controller) (s side : Colour) (after : List ℕ) (count : ℕ)
+    → WroteOneMore (unanswered_of c s) (unanswered_of (sent c s) s) after count → Leaves c s side after count
+by_side c Black Black after count wrote = inr wrote
+by_side c White White after count wrote = inr wrote
+by_side c Black White after count wrote = inl (ap (λ (side : SideState). unanswered_by side.up) (send_leaves c Black))
+by_side c White Black after count wrote = inl (ap (λ (side : SideState). unanswered_by side.up) (send_leaves c White))
+
+where_sent : (old new : Controller) (number : ℕ) (before after : List ℕ) (count : ℕ) (side : Colour) → IsSound old
+    → Sends old number before after count new
+    → (unanswered_of new side ≡ unanswered_of old side)
+    ⊎ WroteOneMore (unanswered_of old side) (unanswered_of new side) after count
+where_sent old new number before after count side sound sends =
+    rw sends.new_is
+    (by_side old sends.side side after count
+    (at_side old sends.side _ sends.text before after count refl sound sends.due sends.is sends.puts sends.room
+    sends.count_is))
+
+pub were_written : SentWereWritten
+were_written number old new text_old text_new count_old count_new (Ok done) side sound did =
+    where_sent old new number text_old text_new count_new side sound did.sent
+were_written number old new text_old text_new count_old count_new (Err why) side sound did =
+    inl (ap (λ (c : Controller). unanswered_of c side) did.kept.0)
