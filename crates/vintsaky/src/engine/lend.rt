@@ -1,7 +1,9 @@
 //! What the handle of an engine in steps lends.
 ghost use Rattle.std.specs.Prelude.{◌≡◌};
 ghost use Rattle.std.specs.Borrow.{sem};
-ghost use Rattle.vintsaky.specs.EngineLends.{LendsEngine};
+ghost use Rattle.gtp_session.specs.contracts.steps.Steps.{the_row as engine_row};
+ghost use Rattle.vintsaky.specs.Lends.{Lends};
+ghost use Rattle.vintsaky.specs.contracts.engine.handle.EngineHandle.{the_row};
 
 use crate::engine::handle::EngineHandle;
 use gtp_session::steps::Steps;
@@ -9,7 +11,8 @@ use gtp_session::steps::Steps;
 impl EngineHandle {
     /// An engine in steps that lies in the memory. The handle sees what is done to it.
     pub fn lend(&mut self) -> &mut Steps
-        ensures* writes_back { sem 𝓛 (LendsEngine self.entry result) }
+        ensures* writes_back { sem 𝓛
+            (Lends the_row engine_row (λ h v. record h { value = v }) self.entry result) }
         ensures value { result.now ≡ self.old.value }
     {
         unsafe { &mut *(self.at as *mut Steps) }

@@ -1,7 +1,9 @@
 //! What the handle of a game lends.
 ghost use Rattle.std.specs.Prelude.{◌≡◌};
 ghost use Rattle.std.specs.Borrow.{sem};
-ghost use Rattle.vintsaky.specs.GameLends.{LendsGame};
+ghost use Rattle.go_board.specs.contracts.game.Game.{the_row as game_row};
+ghost use Rattle.vintsaky.specs.Lends.{Lends};
+ghost use Rattle.vintsaky.specs.contracts.game.handle.GameHandle.{the_row};
 
 use crate::game::handle::GameHandle;
 use go_board::Game;
@@ -9,7 +11,8 @@ use go_board::Game;
 impl GameHandle {
     /// A game that lies in the memory. The handle sees what is done to it.
     pub fn lend(&mut self) -> &mut Game
-        ensures* writes_back { sem 𝓛 (LendsGame self.entry result) }
+        ensures* writes_back { sem 𝓛
+            (Lends the_row game_row (λ h v. record h { value = v }) self.entry result) }
         ensures value { result.now ≡ self.old.value }
     {
         unsafe { &mut *(self.at as *mut Game) }

@@ -1,7 +1,9 @@
 //! What the handle of a match lends.
 ghost use Rattle.std.specs.Prelude.{◌≡◌};
 ghost use Rattle.std.specs.Borrow.{sem};
-ghost use Rattle.vintsaky.specs.MatchLends.{LendsMatch};
+ghost use Rattle.gtp_match.specs.contracts.matches.Match.{the_row as match_row};
+ghost use Rattle.vintsaky.specs.Lends.{Lends};
+ghost use Rattle.vintsaky.specs.contracts.matches.handle.MatchHandle.{the_row};
 
 use crate::matches::handle::MatchHandle;
 use gtp_match::Match;
@@ -9,7 +11,8 @@ use gtp_match::Match;
 impl MatchHandle {
     /// A match that lies in the memory. The handle sees what is done to it.
     pub fn lend(&mut self) -> &mut Match
-        ensures* writes_back { sem 𝓛 (LendsMatch self.entry result) }
+        ensures* writes_back { sem 𝓛
+            (Lends the_row match_row (λ h v. record h { value = v }) self.entry result) }
         ensures value { result.now ≡ self.old.value }
     {
         unsafe { &mut *(self.at as *mut Match) }

@@ -1,7 +1,9 @@
 //! What the handle of a reader of replies lends.
 ghost use Rattle.std.specs.Prelude.{◌≡◌};
 ghost use Rattle.std.specs.Borrow.{sem};
-ghost use Rattle.vintsaky.specs.RepliesLends.{LendsReplies};
+ghost use Rattle.vintsaky_calls.specs.contracts.replies.Replies.{the_row as replies_row};
+ghost use Rattle.vintsaky.specs.Lends.{Lends};
+ghost use Rattle.vintsaky.specs.contracts.replies.handle.RepliesHandle.{the_row};
 
 use crate::replies::handle::RepliesHandle;
 use vintsaky_calls::replies::Replies;
@@ -9,7 +11,8 @@ use vintsaky_calls::replies::Replies;
 impl RepliesHandle {
     /// A reader of replies that lies in the memory. The handle sees what is done to it.
     pub fn lend(&mut self) -> &mut Replies
-        ensures* writes_back { sem 𝓛 (LendsReplies self.entry result) }
+        ensures* writes_back { sem 𝓛
+            (Lends the_row replies_row (λ h v. record h { value = v }) self.entry result) }
         ensures value { result.now ≡ self.old.value }
     {
         unsafe { &mut *(self.at as *mut Replies) }
