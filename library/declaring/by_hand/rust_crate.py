@@ -8,7 +8,6 @@ from .. import exports, header
 from ..texts import LINES, bare, once, snake
 
 FOLDER = "library/rust/src/"
-
 OBJECTS = {"game": "Game", "engine": "Engine", "match": "Match", "lines": "CommandLines", "replies": "Replies"}
 # what is called otherwise in Rust
 NAMES = {

@@ -31,7 +31,6 @@
 #undef ROW
 
 #define C(cause) (UINT64_C(1) << VINTSAKY_##cause)
-#define MOVE (C(OFF_BOARD) | C(OCCUPIED) | C(SUICIDE) | C(KO))
 #define NONE {NO_OBJECT, NO_OBJECT}, {READS, READS}
 #define ON(kind, effect) {kind, NO_OBJECT}, {effect, READS}
 #define BOTH(kind, effect, other, its_effect) {kind, other}, {effect, its_effect}
