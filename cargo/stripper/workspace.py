@@ -12,7 +12,6 @@ from .sources import files_of, stripped
 
 TOP = Path(__file__).resolve().parents[2]
 MADE = ("crates", "shims", "vintsaky")  # the folders of the workspace in which no other file may lie
-OF_TESTS = "tests_"  # how the name of a crate begins that only tests use
 WHERE = {"registry": "cargo's registry", "debian": "Debian's packages"}
 
 
@@ -25,7 +24,7 @@ def crates_of(top):
         shims, test_shims = set(), set()
         for path, is_test in files_of(folder).items():
             try:
-                text = stripped((folder / path).read_text(), is_test or name.startswith(OF_TESTS), f"{name}/src/{path}")
+                text = stripped((folder / path).read_text(), is_test, f"{name}/src/{path}")
             except Refused as refused:
                 refused.where = f"crates/{name}/src/{path}"
                 raise

@@ -14,10 +14,10 @@ mod refusals;
 mod setup;
 mod show;
 
+use crate::asserts::{assert_equal, assert_equal_for, assert_true, some};
 use go_base::{Colour, Komi, Move, Point, Size, Vertex};
 use go_board::{Game, KoRule};
 use std::process::Abort;
-use tests_asserts::{assert_equal, assert_equal_for, assert_true, some};
 
 /// A game on a board of `lines` lines each way, with no komi.
 fn new_game(rt: &impl Abort, lines: u32) -> Game {

@@ -1,4 +1,5 @@
 //! Conversations over memory, and what they compare by.
+use crate::asserts::assert_equal;
 use arrayvec::ArrayVec;
 use gtp_session::first::First;
 use gtp_session::serve::{ServeFault, Served, serve};
@@ -6,7 +7,6 @@ use gtp_session::session::Session;
 use gtp_session::streams::Counted;
 use memory::{Limited, Pieces};
 use std::process::Abort;
-use tests_asserts::assert_equal;
 
 mod breaks;
 pub mod commands;

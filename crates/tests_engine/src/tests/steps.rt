@@ -1,11 +1,11 @@
 //! Conversations of engines in steps, and what they compare by.
+use crate::asserts::{assert_equal, assert_equal_for, assert_true};
 use arrayvec::ArrayVec;
 use go_board::KoRule;
 use gtp_session::first::First;
 use gtp_session::policy::Policy;
 use gtp_session::steps::{Event, Steps, StepsFed};
 use std::process::Abort;
-use tests_asserts::{assert_equal, assert_equal_for, assert_true};
 
 mod conversations;
 mod own_commands;

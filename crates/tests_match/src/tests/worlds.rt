@@ -1,10 +1,10 @@
 //! Runs of worlds.
+use crate::asserts::some;
 use go_base::{Komi, Side, Size};
 use gtp_match::Setup;
 use gtp_session::first::First;
 use gtp_world::Maker;
 use std::process::Abort;
-use tests_asserts::some;
 
 mod drawn;
 mod laws;

@@ -1,11 +1,11 @@
 //! Runs of the program over memory.
+use crate::asserts::{assert_equal_for, assert_true, some};
 use gtp_engine_app::run::run;
 use gtp_session::streams::Counted;
 use std::alloc::{AllocError, Global};
 use std::io;
 use std::io::{ErrorKind, Read, Write};
 use std::process::Abort;
-use tests_asserts::{assert_equal_for, assert_true, some};
 
 mod failures;
 mod faults;

@@ -2,12 +2,12 @@
 mod conversations;
 mod findings;
 
+use crate::asserts::{assert_equal, assert_true};
 use go_base::{Colour, Komi, Move, Size, Vertex};
 use go_board::KoRule;
 use gtp_check_judge::{CheckCommand, Examiner, Kind, Known};
 use gtp_wire::{Command, CommandText, Reply};
 use std::process::Abort;
-use tests_asserts::{assert_equal, assert_true};
 
 /// The vertex of this text.
 fn vertex(rt: &impl Abort, text: &[u8]) -> Vertex {

@@ -1,8 +1,8 @@
 //! Handicap points, as their table has them.
+use crate::asserts::{assert_equal_for, some};
 use arrayvec::ArrayVec;
 use go_base::{Size, Vertex, handicap};
 use std::process::Abort;
-use tests_asserts::{assert_equal_for, some};
 
 /// The vertices of the points, with single spaces between, are this text. Of a number that isn't allowed it is empty.
 fn assert_points(rt: &impl Abort, size: u32, stones: u32, wanted: &str) {

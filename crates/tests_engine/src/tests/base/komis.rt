@@ -1,6 +1,6 @@
 //! Komi in every spelling, and scores.
+use crate::asserts::{assert_equal, assert_equal_for, some};
 use go_base::{Komi, write_half_points, write_score};
-use tests_asserts::{assert_equal, assert_equal_for, some};
 
 /// Texts, and the half points of the komi that each spells, if it spells one.
 static SPELLINGS: [(&str, Option<i32>); 30] = [

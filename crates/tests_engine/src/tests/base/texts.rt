@@ -1,7 +1,7 @@
 //! Texts that are written word by word, and the digits in front of a text.
+use crate::asserts::{assert_equal, assert_equal_for, some};
 use arrayvec::ArrayVec;
 use go_base::{Point, Vertex, push, push_vertex, push_word, split_digits};
-use tests_asserts::{assert_equal, assert_equal_for, some};
 
 #[test]
 fn separators_are_between_words_alone(rt: HostRuntime) {

@@ -1,7 +1,7 @@
 //! Ints, sizes and colours in every spelling.
+use crate::asserts::{assert_equal, assert_equal_for, some};
 use go_base::laws::{Values, equality_law};
 use go_base::{Choice, Colour, Komi, Move, Point, Side, Size, Vertex, read_int, write_int};
-use tests_asserts::{assert_equal, assert_equal_for, some};
 
 /// Texts, and the int that each spells, if it spells one.
 static INTS: [(&str, Option<u32>); 15] = [

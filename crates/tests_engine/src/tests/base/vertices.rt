@@ -1,7 +1,7 @@
 //! Vertices and choices in every spelling.
+use crate::asserts::{assert_equal, assert_equal_for, some};
 use go_base::{Choice, Point, Vertex};
 use std::process::Abort;
-use tests_asserts::{assert_equal, assert_equal_for, some};
 
 /// The vertex where a column and a row cross.
 fn at(rt: &impl Abort, column: u32, row: u32) -> Vertex {

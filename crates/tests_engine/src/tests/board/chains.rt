@@ -1,9 +1,9 @@
 //! The stones and the liberties of chains.
 use super::{new_game, play_all};
+use crate::asserts::{assert_equal_for, some};
 use go_base::{Colour, Point, Vertex};
 use go_board::Chain;
 use std::process::Abort;
-use tests_asserts::{assert_equal_for, some};
 
 /// The point of a name.
 fn read_point(rt: &impl Abort, name: &str) -> Point {

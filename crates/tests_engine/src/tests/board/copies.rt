@@ -1,9 +1,9 @@
 //! Copies of a game.
 use super::{assert_board, at, new_game, new_game_under, play_all, read_move};
+use crate::asserts::{assert_equal, assert_equal_for, some};
 use go_base::{Colour, Komi, Vertex};
 use go_board::{Game, KoRule, PlayFault};
 use std::process::Abort;
-use tests_asserts::{assert_equal, assert_equal_for, some};
 
 /// Compares all that a game returns.
 fn assert_same(rt: &impl Abort, left: &Game, right: &Game) {

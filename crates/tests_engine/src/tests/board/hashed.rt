@@ -1,9 +1,9 @@
 //! Hashes that are kept from move to move.
 use super::{at, new_game, read_move};
+use crate::asserts::{assert_equal, assert_equal_for, assert_true};
 use go_base::{Colour, Vertex};
 use go_board::{HashedGame, NothingToUndo, PlayFault};
 use std::process::Abort;
-use tests_asserts::{assert_equal, assert_equal_for, assert_true};
 
 /// Plays the moves of a text, with spaces between, as the other tests do. After each one the kept hash is to be the
 /// board's.

@@ -1,9 +1,9 @@
 //! Hashes of boards.
 use super::{at, new_game, new_game_under, play_all};
+use crate::asserts::{assert_equal, assert_equal_for, assert_true};
 use go_base::{Colour, Vertex};
 use go_board::{Game, KoRule, stone_key};
 use std::process::Abort;
-use tests_asserts::{assert_equal, assert_equal_for, assert_true};
 
 /// A colour, a column, a row, and the key of such a stone: SplitMix64 from state 0 draws it after as many draws as twice
 /// the point's place, and one more for White. (From a program in Python; its first draw is 0xe220a8397b1dcdaf, as published.)

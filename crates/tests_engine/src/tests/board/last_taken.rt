@@ -1,7 +1,7 @@
 //! The stones that the last move took.
 use super::legal_points::assert_points;
 use super::{new_game, play_all};
-use tests_asserts::assert_equal;
+use crate::asserts::assert_equal;
 
 /// The lines of the board, the moves, and the points of the stones that the last of them took.
 static TAKEN: [(u32, &str, &str); 19] = [

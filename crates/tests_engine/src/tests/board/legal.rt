@@ -1,13 +1,13 @@
 //! Games of moves drawn from the legal ones, beside the game in its plainest form.
 use super::plain::{MOVES, PlainGame};
 use super::{at, new_game_under};
+use crate::asserts::{assert_equal, assert_equal_for, assert_true, some};
 use arrayvec::ArrayVec;
 use go_base::{Colour, Move, Vertex};
 use go_board::{Game, KoRule, PlayFault};
 use rand_core::{Rng, SeedableRng};
 use rand_pcg::Pcg64;
 use std::process::Abort;
-use tests_asserts::{assert_equal, assert_equal_for, assert_true, some};
 
 /// How many games are played.
 const GAMES: u32 = 200;

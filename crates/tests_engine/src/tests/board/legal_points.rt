@@ -1,9 +1,9 @@
 //! The points on which a colour may play, all in one call.
 use super::{new_game, new_game_under, play_all};
+use crate::asserts::{assert_equal, assert_equal_for, some};
 use go_base::{Colour, Point, Vertex};
 use go_board::{Game, KoRule};
 use std::process::Abort;
-use tests_asserts::{assert_equal, assert_equal_for, some};
 
 /// The points are these: their names, with spaces between.
 pub fn assert_points(rt: &impl Abort, case: &str, points: &[Point], names: &str) {

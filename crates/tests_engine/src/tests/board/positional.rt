@@ -1,8 +1,8 @@
 //! Positional ko: which plays it forbids that simple ko allows.
 use super::{new_game_under, play_all, read_move};
+use crate::asserts::{assert_equal_for, assert_true};
 use go_board::{KoRule, PlayFault};
 use std::process::Abort;
-use tests_asserts::{assert_equal_for, assert_true};
 
 /// White takes one stone at B1 by A1, in a corner where Black can take back. Then both pass.
 const LEFT: &str = "bA2 wC1 bB1 wB2 bD4 wA1 bpass wpass";

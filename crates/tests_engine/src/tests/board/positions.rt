@@ -1,7 +1,7 @@
 //! What plays leave on the board, what they take, and what the board counts.
 use super::{assert_board, new_game, play_all};
+use crate::asserts::{assert_equal_for, some};
 use go_base::{Colour, Komi};
-use tests_asserts::{assert_equal_for, some};
 
 /// What is shown, the lines of the board, the moves, the board after them, and what Black and White have taken.
 static POSITIONS: [(&str, u32, &str, &str, u32, u32); 16] = [

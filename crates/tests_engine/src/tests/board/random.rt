@@ -2,11 +2,11 @@
 use super::legal::assert_same;
 use super::plain::PlainGame;
 use super::{at, new_game};
+use crate::asserts::{assert_equal, assert_equal_for, assert_true};
 use go_base::{Colour, Move, Vertex};
 use go_board::{Game, KoRule, PlayFault};
 use std::process::Abort;
 use std::test::Fail;
-use tests_asserts::{assert_equal, assert_equal_for, assert_true};
 
 /// A linear congruential generator with 64 bits of state.
 #[derive(Drop)]

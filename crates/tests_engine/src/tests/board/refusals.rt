@@ -1,10 +1,10 @@
 //! Which cause a play is refused for.
 use super::{new_game, play_all, read_move};
+use crate::asserts::{assert_equal, assert_equal_for};
 use go_base::{Colour, Move, Vertex};
 use go_board::{Game, HandicapFault, NothingToUndo, PlayFault};
 use std::process::Abort;
 use std::test::Fail;
-use tests_asserts::{assert_equal, assert_equal_for};
 
 /// The cause that a play is refused for is returned before it, the play is refused for the same, and the game stays. Or
 /// no cause is returned, and the play is accepted.

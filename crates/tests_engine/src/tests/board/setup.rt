@@ -1,9 +1,9 @@
 //! Handicap stones, size and komi.
 use super::{assert_board, new_game, new_game_under, play_all};
+use crate::asserts::{assert_equal, assert_equal_for, some};
 use go_base::{Colour, Komi, Size, Vertex};
 use go_board::{Game, HandicapFault, KoRule, NothingToUndo};
 use std::test::Fail;
-use tests_asserts::{assert_equal, assert_equal_for, some};
 
 /// Places `stones` handicap stones, and returns how many points they have.
 fn place_handicap(game: &mut Game, stones: u32) -> Result<usize, HandicapFault> {

@@ -1,6 +1,6 @@
 //! The board as text.
 use super::{new_game, play_all};
-use tests_asserts::assert_equal_for;
+use crate::asserts::assert_equal_for;
 
 /// The lines of a board, the moves, and the text.
 static SHOWN: [(u32, &str, &str); 5] = [

@@ -1,4 +1,5 @@
 //! Conversations whose streams break, over memory.
+use crate::asserts::assert_equal;
 use crate::tests::sessions::memory::{Pieces, Reporting, Stuck, StuckOnce, Unflushed, Waiting};
 use crate::tests::sessions::{pieces_of, reader_of, writer_of};
 use arrayvec::ArrayVec;
@@ -12,7 +13,6 @@ use std::cell::Cell;
 use std::process::Abort;
 use std::rc::Rc;
 use std::test::Fail;
-use tests_asserts::assert_equal;
 
 /// Lines with their replies, and how many moves the record has after each: a ko on a board of size 4, which Black may
 /// take back only after two passes.

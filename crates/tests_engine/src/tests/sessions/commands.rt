@@ -1,5 +1,6 @@
 //! What commands answer, from the bytes in to the bytes out. Most of it is in `tests/references/engine/worked.txt`, which the
 //! built engine is given.
+use crate::asserts::assert_equal_for;
 use crate::tests::sessions::{assert_serves_in_any_cuts, reader_of, writer_of};
 use arrayvec::ArrayVec;
 use gtp_session::first::First;
@@ -8,7 +9,6 @@ use gtp_session::session::Session;
 use std::alloc::{AllocError, Global};
 use std::process::Abort;
 use std::test::Fail;
-use tests_asserts::assert_equal_for;
 
 /// A command and the reply to it, without the newlines that end them.
 type Answered = (&'static [u8], &'static [u8]);

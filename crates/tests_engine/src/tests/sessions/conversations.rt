@@ -1,4 +1,5 @@
 //! Conversations from the bytes in to the bytes out, what `serve` returns, and the game that it leaves.
+use crate::asserts::{assert_equal, assert_true, some};
 use crate::tests::sessions::memory::{Reporting, Strict, Waiting};
 use crate::tests::sessions::{assert_comes_to, assert_serves_in_any_cuts, reader_of, writer_of};
 use arrayvec::ArrayVec;
@@ -12,7 +13,6 @@ use std::cell::Cell;
 use std::process::Abort;
 use std::rc::Rc;
 use std::test::Fail;
-use tests_asserts::{assert_equal, assert_true, some};
 
 #[test]
 fn the_first_conversation(rt: HostRuntime) {

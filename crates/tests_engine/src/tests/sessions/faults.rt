@@ -1,4 +1,5 @@
 //! Faults that are asked for, over memory.
+use crate::asserts::{assert_equal, assert_equal_for, some};
 use crate::tests::sessions::{reader_of, writer_of};
 use arrayvec::ArrayVec;
 use gtp_session::book::Book;
@@ -11,7 +12,6 @@ use gtp_session::session::Session;
 use gtp_session::streams::Counted;
 use std::process::Abort;
 use std::test::Fail;
-use tests_asserts::{assert_equal, assert_equal_for, some};
 
 /// One genmove that fails, and two that succeed.
 static INPUT: &[u8] = b"genmove\n1 genmove b\n2 name\n3 genmove w\n4 name\n";

@@ -1,4 +1,5 @@
 //! What the policies choose.
+use crate::asserts::{assert_equal, assert_true, some};
 use arrayvec::ArrayVec;
 use go_base::{Colour, Komi, Point, Size, Vertex};
 use go_board::{Game, KoRule};
@@ -12,7 +13,6 @@ use rand_core::{Rng, SeedableRng};
 use rand_pcg::Pcg64;
 use std::process::Abort;
 use std::test::Fail;
-use tests_asserts::{assert_equal, assert_true, some};
 
 /// A pass.
 const PASS: Choice = Choice::Play(Vertex::Pass);

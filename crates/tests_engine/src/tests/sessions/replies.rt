@@ -1,10 +1,10 @@
 //! What a session answers, as a controller reads it.
+use crate::asserts::assert_equal;
 use gtp_session::first::First;
 use gtp_session::session::Session;
 use gtp_wire::{Reply, ReplyReader};
 use std::process::Abort;
 use std::test::Fail;
-use tests_asserts::assert_equal;
 
 /// What is read of the reply to this line, all of which is one reply.
 fn reply_to(rt: &impl Abort, session: &mut Session<First>, line: &[u8]) -> Result<Reply, Fail> {

@@ -1,4 +1,5 @@
 //! Conversations from the bytes in to the bytes out.
+use crate::asserts::{assert_equal, assert_equal_for, assert_true};
 use crate::tests::sessions::commands::CONVERSATIONS;
 use crate::tests::steps::{
     Taken, assert_ends_reply, assert_feeds, assert_replies, assert_talks_in_any_cuts, take,
@@ -13,7 +14,6 @@ use gtp_session::steps::{AnswerFault, ChoiceFault, Event, Steps, Wait};
 use gtp_wire::ReplyText;
 use std::process::Abort;
 use std::test::Fail;
-use tests_asserts::{assert_equal, assert_equal_for, assert_true};
 
 #[test]
 fn conversations_are_answered(rt: HostRuntime) {

@@ -1,11 +1,11 @@
 //! Commands of an author's own.
+use crate::asserts::{assert_equal, assert_equal_for, assert_true};
 use crate::tests::steps::{assert_ends_reply, assert_feeds, assert_replies};
 use arrayvec::ArrayVec;
 use go_board::KoRule;
 use gtp_session::steps::{CommandFault, Event, Steps};
 use gtp_wire::ReplyReader;
 use std::test::Fail;
-use tests_asserts::{assert_equal, assert_equal_for, assert_true};
 
 #[test]
 fn own_commands_are_known_and_listed(rt: HostRuntime) {

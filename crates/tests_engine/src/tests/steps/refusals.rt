@@ -1,4 +1,5 @@
 //! Calls that are refused: the engine stays as it was, and says why.
+use crate::asserts::{assert_equal, assert_true};
 use crate::tests::steps::{assert_ends_reply, assert_feeds, assert_replies};
 use go_base::{Colour, Point, Vertex};
 use go_board::{KoRule, PlayFault};
@@ -6,7 +7,6 @@ use gtp_session::policy::Choice;
 use gtp_session::steps::{AnswerFault, ChoiceFault, Event, Steps, Wait};
 use std::process::Abort;
 use std::test::Fail;
-use tests_asserts::{assert_equal, assert_true};
 
 /// A choice is refused by this cause, and is still asked for.
 fn assert_refuses(

@@ -1,8 +1,8 @@
 //! Names and versions that are set at any time.
+use crate::asserts::{assert_equal, assert_equal_for};
 use crate::tests::steps::{Taken, assert_replies, feed_all};
 use go_board::KoRule;
 use gtp_session::steps::{NoTitle, Steps};
-use tests_asserts::{assert_equal, assert_equal_for};
 
 /// Two lines of which the first ends after 7 bytes, and the second after 17.
 static LINES: &[u8] = b"1 name\n2 version\n";

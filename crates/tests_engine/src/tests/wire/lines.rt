@@ -1,8 +1,8 @@
 //! Lines: ids, words, and what is too long.
+use crate::asserts::{assert_equal, assert_equal_for};
 use arrayvec::ArrayVec;
 use go_base::write_int;
 use gtp_wire::{Line, LineReader};
-use tests_asserts::{assert_equal, assert_equal_for};
 
 /// What a reader gave: each line's id in brackets, a space before each word, and a semicolon.
 type Shown = ArrayVec<u8, 512>;

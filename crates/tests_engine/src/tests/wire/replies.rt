@@ -1,8 +1,8 @@
 //! Replies as a controller reads them.
+use crate::asserts::{assert_equal, assert_equal_for};
 use arrayvec::ArrayVec;
 use go_base::write_int;
 use gtp_wire::{ReplyFault, ReplyReader};
-use tests_asserts::{assert_equal, assert_equal_for};
 
 /// What a new reader returns first: how many bytes it used, and the status, the id in brackets and the text, or the
 /// fault.

@@ -1,7 +1,7 @@
 //! What the words of a reply's text say.
+use crate::asserts::{assert_equal_for, some};
 use go_base::{Choice, Point, Size, Vertex, handicap};
 use gtp_wire::{names_points, read_choice};
-use tests_asserts::{assert_equal_for, some};
 
 #[test]
 fn one_word_is_a_choice(rt: HostRuntime) {

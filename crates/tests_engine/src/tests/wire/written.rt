@@ -1,8 +1,8 @@
 //! Replies and commands as they are written.
+use crate::asserts::{assert_equal, some};
 use go_base::{Colour, Komi, Move, Point, Size, Vertex};
 use gtp_wire::{Command, write_command, write_reply};
 use std::process::Abort;
-use tests_asserts::{assert_equal, some};
 
 /// The bytes are those of the text.
 fn assert_text(rt: &impl Abort, bytes: &[u8], text: &str) {

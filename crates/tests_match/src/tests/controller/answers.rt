@@ -1,8 +1,8 @@
 use super::steps::{answer, black_answered, ended, first_sent};
+use crate::asserts::{assert_equal, assert_true};
 use go_base::Side;
 use gtp_match::{ForfeitCause, Verdict, record_line};
 use std::process::Abort;
-use tests_asserts::{assert_equal, assert_true};
 
 /// Black's `genmove`, answered by these bytes, forfeits the game for this cause, which the line has.
 fn forfeits(rt: &impl Abort, bytes: &[u8], cause: ForfeitCause, text: &[u8]) {

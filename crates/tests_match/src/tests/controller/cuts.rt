@@ -1,9 +1,9 @@
 //! Bytes that show a fault, heard whole and in two pieces.
 use super::steps::{black_asked, first_sent, hear, up};
+use crate::asserts::{assert_equal, assert_true, some};
 use go_base::Side;
 use gtp_match::{Action, Match, SideFault, Status};
 use std::process::Abort;
-use tests_asserts::{assert_equal, assert_true, some};
 
 /// What was done of a side before its bytes are heard.
 #[derive(Clone, Copy)]

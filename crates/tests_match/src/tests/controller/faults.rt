@@ -1,9 +1,9 @@
 use super::steps::{answer, ended, first_sent, hear, up};
+use crate::asserts::{assert_equal, assert_true};
 use go_base::Side;
 use gtp_match::{Action, Match, SideFault, Status, Verdict, result_line};
 use std::process::Abort;
 use std::test::Fail;
-use tests_asserts::{assert_equal, assert_true};
 
 /// Bytes of a side, how many of them are used, and the fault that they show where Black was sent its first command.
 type Shown<'a> = (Side, &'a [u8], usize, SideFault);

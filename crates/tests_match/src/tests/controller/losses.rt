@@ -3,11 +3,11 @@ ghost use Rattle.std.specs.Prelude.{IfSome};
 ghost use Rattle.gtp_match.specs.Losing.{CanBeShown};
 
 use super::steps::{answer, black_asked, first_sent, send, success};
+use crate::asserts::{assert_equal, assert_true, some};
 use go_base::Side;
 use gtp_match::{Loss, LossCause, Match, Owed, SideFault};
 use gtp_wire::write_command;
 use std::process::Abort;
-use tests_asserts::{assert_equal, assert_true, some};
 
 /// How many commands are unanswered, the line of the oldest, empty where there is none, and the bytes that are kept.
 pub type Owes<'a> = (u32, &'a [u8], &'a [u8]);

@@ -2,10 +2,10 @@ use super::steps::{
     Exchange, answer, black_answered, black_asked, both_started, bring, converse, ended,
     first_sent, hear, send, send_and_wait, setup_with, start, up,
 };
+use crate::asserts::{assert_equal, assert_true, some};
 use arrayvec::ArrayVec;
 use go_base::Side;
 use gtp_match::{Action, Status, Verdict, record_line, result_line};
-use tests_asserts::{assert_equal, assert_true, some};
 
 #[test]
 fn two_passes_end_by_score(rt: HostRuntime) {

@@ -4,10 +4,10 @@ ghost use Rattle.gtp_match.specs.Losing.{CanBeShown};
 
 use super::losses::{Owes, is_loss, owes};
 use super::steps::{black_answered, has_moves, send, start, white_sent_a1};
+use crate::asserts::{assert_equal, assert_true, some};
 use go_base::Side;
 use gtp_match::{LossCause, Match, Retake, SideFault};
 use std::process::Abort;
-use tests_asserts::{assert_equal, assert_true, some};
 
 /// It is the retake of this count, where this is owed.
 fn retaken(rt: &impl Abort, retake: Option<Retake>, count: u32, want: Owes)

@@ -2,9 +2,9 @@ use super::steps::{
     Exchange, answer, black_answered, bring, converse, ended, has_moves, refused, send,
     send_and_wait, start, undo_sent, up,
 };
+use crate::asserts::{assert_equal, assert_true};
 use go_base::Side;
 use gtp_match::{ForfeitCause, Verdict};
-use tests_asserts::{assert_equal, assert_true};
 
 #[test]
 fn a_refused_move_is_taken_back_at_its_maker(rt: HostRuntime) {

@@ -1,8 +1,8 @@
 use super::steps::setup_with;
+use crate::asserts::{assert_equal, some};
 use go_base::{Colour, Komi, Move, Size, Vertex};
 use gtp_match::{Setup, SetupFault};
 use gtp_wire::Command;
-use tests_asserts::{assert_equal, some};
 
 #[test]
 fn a_setup_names_the_first_cause(rt: HostRuntime) {

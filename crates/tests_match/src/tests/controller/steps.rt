@@ -1,9 +1,9 @@
 //! The steps that the tests of matches share.
+use crate::asserts::{assert_equal, assert_true, some};
 use go_base::{Komi, Side, Size, Vertex};
 use gtp_match::{Action, Heard, Match, ResultText, Setup, SideFault, Status, Verdict, result_line};
 use gtp_wire::{CommandText, ReplyText, write_reply_into};
 use std::process::Abort;
-use tests_asserts::{assert_equal, assert_true, some};
 
 /// A setup of this size, komi and handicap.
 pub fn setup_with(

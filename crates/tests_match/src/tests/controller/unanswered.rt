@@ -3,10 +3,10 @@ use super::steps::{
     answer, both_in_step, both_started, hear, make_move, send, send_and_wait, setup_with, start,
     success, up,
 };
+use crate::asserts::{assert_equal, assert_true, some};
 use go_base::{Point, Side, Vertex};
 use gtp_match::{Action, Match};
 use std::process::Abort;
-use tests_asserts::{assert_equal, assert_true, some};
 
 #[test]
 fn a_script_is_sent_before_its_first_answer(rt: HostRuntime) {

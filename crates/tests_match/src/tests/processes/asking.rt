@@ -1,10 +1,10 @@
 //! A conversation with an engine in memory: the code that the page for callers has.
 ghost use Rattle.std.specs.Prelude.{⊤, None};
 
+use crate::asserts::assert_equal;
 use byte_streams::CallFault;
 use gtp_process::{Ending, Process, READ_ROOM, quit_and_end, read_some, write_whole};
 use gtp_wire::{Reply, ReplyReader};
-use tests_asserts::assert_equal;
 
 /// Sends `name`, and reads until the reply is whole. `None` where none comes, or what comes is no reply.
 fn ask_name<P: Process>(engine: &mut P, reply: &mut Reply) -> Option<()> {

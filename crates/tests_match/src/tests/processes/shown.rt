@@ -1,11 +1,11 @@
 //! What a process wrote, how it ended and why it was not started, as they are shown.
+use crate::asserts::assert_equal;
 use arrayvec::ArrayVec;
 use gtp_process::{
     Ending, PipeCause, StartReason, Unstarted, pipe_text, push_ending, push_quoted, push_shown,
     push_unstarted,
 };
 use std::test::Fail;
-use tests_asserts::assert_equal;
 
 #[test]
 fn bytes_that_are_not_printable_are_escaped(rt: HostRuntime) -> Result<(), Fail> {

@@ -1,10 +1,10 @@
 //! Why no process is started, and which program goes first.
 use super::clocks::Ticking;
+use crate::asserts::assert_equal;
 use gtp_process::{Precedence, StartFault, StartReason, start_fault_of};
 use std::io;
 use std::io::ErrorKind;
 use std::test::Fail;
-use tests_asserts::assert_equal;
 
 #[test]
 fn a_process_goes_first_while_the_processor_is_back_within_a_millisecond(

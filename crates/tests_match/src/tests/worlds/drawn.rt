@@ -4,6 +4,7 @@ ghost use Rattle.gtp_session.specs.Policy.{IsLawful};
 use super::SIDES;
 use super::recorded::Events;
 use super::same::{assert_same_game, assert_same_world};
+use crate::asserts::{assert_equal, assert_true, some};
 use go_base::{Colour, Komi, Side, Size, Vertex};
 use go_board::{Game, KoRule};
 use gtp_match::{Action, ForfeitCause, Match, Setup, Status, Verdict};
@@ -12,7 +13,6 @@ use gtp_session::policy::{Choice, Policy};
 use gtp_session::random::Random;
 use gtp_world::{Event, Maker, World};
 use std::process::Abort;
-use tests_asserts::{assert_equal, assert_true, some};
 
 /// How many lists are drawn.
 const LISTS: u32 = 4_000;

@@ -1,11 +1,11 @@
 //! Engines that are gone, and writes that break.
 use super::recorded::{Recorded, black_lost, black_moved};
 use super::same::assert_same_world;
+use crate::asserts::assert_equal;
 use go_base::Side;
 use gtp_match::{Action, Status};
 use gtp_world::Event;
 use std::process::Abort;
-use tests_asserts::assert_equal;
 
 #[test]
 fn a_move_that_was_made_and_not_heard_is_lost_with_its_engine(rt: HostRuntime) {

@@ -1,11 +1,11 @@
 //! A world, and the events that led to it.
 use super::same::assert_same_world;
 use super::{Firsts, small_setup};
+use crate::asserts::{assert_equal, some};
 use go_base::Side;
 use gtp_match::{Action, Status};
 use gtp_world::{Event, World};
 use std::process::Abort;
-use tests_asserts::{assert_equal, some};
 
 /// A list of events.
 #[derive(Drop)]

@@ -2,6 +2,7 @@
 ghost use Rattle.gtp_session.specs.Policy.{IsLawful};
 
 use super::{Firsts, small_setup};
+use crate::asserts::{assert_equal, assert_true, some};
 use go_base::{Colour, Side, Vertex};
 use go_board::{Game, KoRule};
 use gtp_match::{Action, Verdict};
@@ -9,7 +10,6 @@ use gtp_session::first::First;
 use gtp_session::policy::{Choice, Policy};
 use gtp_world::{Event, Maker, World};
 use std::process::Abort;
-use tests_asserts::{assert_equal, assert_true, some};
 
 /// Chooses as `First` does, and passes where it is asked again at the same length of the record.
 #[derive(Drop)]

@@ -1,10 +1,10 @@
 //! Games and worlds that are the same.
+use crate::asserts::{assert_equal, some};
 use go_base::{Point, Side};
 use go_board::Game;
 use gtp_match::Match;
 use gtp_world::{Maker, World};
 use std::process::Abort;
-use tests_asserts::{assert_equal, some};
 
 /// Two games have the same stones on each point.
 fn assert_same_stones(rt: &impl Abort, one: &Game, two: &Game) {

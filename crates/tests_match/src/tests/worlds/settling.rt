@@ -2,11 +2,11 @@
 use super::SIDES;
 use super::recorded::{Events, Recorded, black_lost};
 use super::same::assert_same_game;
+use crate::asserts::{assert_equal, some};
 use go_base::Side;
 use gtp_match::{Match, Status};
 use gtp_world::Event;
 use std::process::Abort;
-use tests_asserts::{assert_equal, some};
 
 /// Adds a round for each script command that the side has left.
 fn add_rounds(rt: &impl Abort, events: &mut Events, played: &Match, side: Side) {

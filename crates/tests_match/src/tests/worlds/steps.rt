@@ -1,13 +1,13 @@
 //! Worlds of engines in steps.
 use super::SIDES;
 use super::same::{assert_same_game, assert_same_match};
+use crate::asserts::{assert_equal, assert_true, some};
 use go_base::Side;
 use gtp_match::Status;
 use gtp_session::policy::Choice;
 use gtp_session::steps::Wait;
 use gtp_world::{Call, Event, StepsEvent, StepsWorld};
 use std::process::Abort;
-use tests_asserts::{assert_equal, assert_true, some};
 
 mod by_hand;
 mod drawn;

@@ -1,11 +1,11 @@
 //! Commands that are on their way before earlier ones are answered.
 use super::SIDES;
 use super::recorded::Recorded;
+use crate::asserts::assert_equal;
 use go_base::Side;
 use gtp_match::{Action, Status};
 use gtp_world::Event;
 use std::process::Abort;
-use tests_asserts::assert_equal;
 
 /// A side that is up, and was not asked for a move.
 fn up(confirmed: u32, unanswered: u32) -> Status {

@@ -1,11 +1,11 @@
 //! What was found and noted.
+use crate::asserts::assert_equal;
 use gtp_check_app::engine::Fault;
 use gtp_check_app::notes::Notes;
 use gtp_check_app::tally::Tally;
 use gtp_check_judge::Kind;
 use gtp_check_questions::Lesson;
 use std::test::Fail;
-use tests_asserts::assert_equal;
 
 #[test]
 fn three_of_a_kind_are_shown_in_a_lesson(rt: HostRuntime) -> Result<(), Fail> {

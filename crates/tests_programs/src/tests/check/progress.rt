@@ -1,4 +1,5 @@
 //! What is written of the progress, as it is written by hand.
+use crate::asserts::assert_equal;
 use crate::tests::check::shorter::size_of;
 use gtp_check_app::options::read_options;
 use gtp_check_app::plan::plan_of;
@@ -8,7 +9,6 @@ use gtp_check_judge::CheckCommand;
 use gtp_check_questions::Lesson;
 use std::str;
 use std::test::Fail;
-use tests_asserts::assert_equal;
 
 /// A command whose line ends there.
 fn said(end: usize) -> Said {

@@ -1,4 +1,5 @@
 //! What is shown as right, where that is a score or the points of a handicap.
+use crate::asserts::assert_equal;
 use crate::tests::check::shorter::{komi, size, size_of};
 use gtp_check_app::complaint::{Complaint, complaint_text};
 use gtp_check_app::engine::Fault;
@@ -9,7 +10,6 @@ use gtp_process::Ending;
 use gtp_wire::Command;
 use std::str;
 use std::test::Fail;
-use tests_asserts::assert_equal;
 
 /// A command that was asked on a board of 9x9, without its line.
 fn asked(command: CheckCommand) -> Said {

@@ -1,4 +1,5 @@
 //! Shorter conversations, and the hint of positional ko.
+use crate::asserts::assert_equal;
 use go_base::{Colour, Komi, Move, Size, Vertex};
 use gtp_check_app::flat::{Commands, games_in, last_games, shortened, shortenings};
 use gtp_check_app::superko::is_positional;
@@ -8,7 +9,6 @@ use gtp_check_questions::Lesson;
 use gtp_wire::Command;
 use std::alloc::{AllocError, Global};
 use std::test::Fail;
-use tests_asserts::assert_equal;
 
 /// A play of Black.
 fn play(vertex: &str) -> CheckCommand {

@@ -1,4 +1,5 @@
 //! The texts of complaints, and the first and the last lines.
+use crate::asserts::assert_equal;
 use crate::tests::check::shorter::size_of;
 use go_board::PlayFault;
 use gtp_check_app::complaint::{Complaint, complaint_text};
@@ -14,7 +15,6 @@ use gtp_process::PipeCause;
 use gtp_wire::Command;
 use std::str;
 use std::test::Fail;
-use tests_asserts::assert_equal;
 
 /// A command whose line ends there.
 fn said(command: Command, end: usize) -> Said {

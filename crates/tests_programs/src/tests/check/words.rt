@@ -1,4 +1,5 @@
 //! The words of the command line, and the plan.
+use crate::asserts::assert_equal;
 use go_base::Size;
 use go_board::KoRule;
 use gtp_check_app::listing::list_text;
@@ -6,7 +7,6 @@ use gtp_check_app::options::read_options;
 use gtp_check_app::plan::plan_of;
 use gtp_check_questions::Lesson;
 use std::test::Fail;
-use tests_asserts::assert_equal;
 
 #[test]
 fn options_have_defaults(rt: HostRuntime) -> Result<(), Fail> {

@@ -1,5 +1,6 @@
 //! Streams that fail, and how failures are reported.
 use super::{Broken, Holding, assert_handed_on};
+use crate::asserts::{assert_equal, assert_equal_for};
 use gtp_engine_app::failure::{Failure, report};
 use gtp_engine_app::run::run;
 use gtp_session::serve::ServeFault;
@@ -7,7 +8,6 @@ use gtp_session::streams::Counted;
 use std::alloc::Global;
 use std::io::ErrorKind;
 use std::process::Abort;
-use tests_asserts::{assert_equal, assert_equal_for};
 
 /// A run whose writes to the output fail has this status and reports this text.
 fn assert_breaks<R: Abort + AllocGlobal>(rt: &R, words: &[&str], status: u8, text: &str) {

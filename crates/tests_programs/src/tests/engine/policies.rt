@@ -1,11 +1,11 @@
 //! The policies, the seed and the ko rule.
 use super::{assert_answers, joined, run_with};
+use crate::asserts::{assert_equal, assert_true};
 use gtp_session::random::Random;
 use gtp_session::serve::serve;
 use gtp_session::session::Session;
 use gtp_session::streams::Counted;
 use std::alloc::Global;
-use tests_asserts::{assert_equal, assert_true};
 
 /// Arguments with the first policy.
 static FIRST: [&[&str]; 3] = [

@@ -1,9 +1,9 @@
 //! The help and the version.
 use super::{Holding, assert_handed_on};
+use crate::asserts::{assert_equal_for, assert_true};
 use gtp_engine_app::run::run;
 use gtp_session::streams::Counted;
 use std::process::Abort;
-use tests_asserts::{assert_equal_for, assert_true};
 
 /// The lines of the help.
 static HELP: [&str; 39] = [

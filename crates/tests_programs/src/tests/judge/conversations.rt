@@ -1,5 +1,6 @@
 //! Conversations with one engine.
 use super::{CLEAR, UNDO, ask, asked, begun, boardsize, hear, komi, play};
+use crate::asserts::{assert_equal, assert_true};
 use go_base::Colour;
 use go_board::KoRule;
 use gtp_check_judge::{CheckCommand, Examiner, Known, Skill};
@@ -8,7 +9,6 @@ use gtp_session::session::Session;
 use gtp_wire::{Command, Reply, ReplyText};
 use std::process::Abort;
 use std::test::Fail;
-use tests_asserts::{assert_equal, assert_true};
 
 #[test]
 fn answers_are_heard_in_their_order(rt: HostRuntime) {

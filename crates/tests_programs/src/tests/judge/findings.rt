@@ -1,12 +1,12 @@
 //! Each kind of finding once, and answers that are none.
 use super::{UNDO, ask, asked, begun, boardsize, found, hear, komi, play};
+use crate::asserts::{assert_equal, assert_true};
 use go_base::{Colour, Size};
 use go_board::{HandicapFault, KoRule, PlayFault};
 use gtp_check_judge::{Cause, CheckCommand, Examiner, Kind, MOST_UNANSWERED};
 use gtp_wire::{Command, Reply};
 use std::process::Abort;
 use std::test::Fail;
-use tests_asserts::{assert_equal, assert_true};
 
 #[test]
 fn what_a_right_engine_does_may_not_be_refused(rt: HostRuntime) {

@@ -1,4 +1,5 @@
 //! Whole courses.
+use crate::asserts::{assert_equal, assert_true};
 use arrayvec::ArrayVec;
 use go_board::KoRule;
 use gtp_check_judge::{CheckCommand, Examiner, Known};
@@ -7,7 +8,6 @@ use gtp_session::first::First;
 use gtp_session::session::Session;
 use gtp_wire::{Command, Reply, ReplyText};
 use std::process::Abort;
-use tests_asserts::{assert_equal, assert_true};
 
 /// What an engine wrote that isn't heard yet: eight replies at most.
 type Written = ArrayVec<u8, 65536>;

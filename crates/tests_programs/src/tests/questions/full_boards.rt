@@ -1,4 +1,5 @@
 //! Boards that are filled, however they are turned, on sizes 3, 5, 6 and 19.
+use crate::asserts::{assert_equal, assert_true};
 use go_base::{Colour, Size};
 use go_board::Game;
 use gtp_check_judge::CheckCommand;
@@ -10,7 +11,6 @@ use gtp_check_questions::scenes::{WAYS, Way, crossing};
 use gtp_check_questions::stretches::Stretch;
 use gtp_wire::Command;
 use std::process::Abort;
-use tests_asserts::{assert_equal, assert_true};
 
 /// A part on a board of this size, which is turned in the way of this number.
 fn board(rt: &impl Abort, lines: u32, number: u32) -> Board {

@@ -1,10 +1,10 @@
 //! Scenes are what they are said to be, however they are turned, on sizes 5, 6 and 19.
+use crate::asserts::{assert_equal, assert_true};
 use go_base::Colour::{Black, White};
 use go_base::{Komi, Size};
 use go_board::Game;
 use gtp_check_questions::scenes::{CAPTURES, JOINING, KO, SUICIDE, Scene, WAYS, Way};
 use std::process::Abort;
-use tests_asserts::{assert_equal, assert_true};
 
 /// A size of a board.
 fn size_of(rt: &impl Abort, number: u32) -> Size {

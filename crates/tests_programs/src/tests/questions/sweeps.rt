@@ -1,4 +1,5 @@
 //! Each point of each size, the ko of a long wait, boards that are emptied, and komis.
+use crate::asserts::{assert_equal, assert_true};
 use go_base::{Move, Size, Vertex};
 use go_board::Game;
 use gtp_check_judge::CheckCommand;
@@ -10,7 +11,6 @@ use gtp_check_questions::scenes::{WAYS, Way, crossing};
 use gtp_check_questions::stretches::Stretch;
 use gtp_wire::Command;
 use std::process::Abort;
-use tests_asserts::{assert_equal, assert_true};
 
 /// Takes the last move back.
 const UNDO: Question = Question::Ask(CheckCommand::Match(Command::Undo));

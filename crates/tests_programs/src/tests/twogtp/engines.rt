@@ -3,8 +3,8 @@ use super::fakes::Counts;
 use super::runs::{
     Engines, FIRST, TO_THE_LIMIT, assert_plays, assert_wrote, run_between, run_refusing,
 };
+use crate::asserts::{assert_equal, assert_equal_for, assert_true_for};
 use std::process::Abort;
-use tests_asserts::{assert_equal, assert_equal_for, assert_true_for};
 
 /// So many engines were started, ended, and sent `quit`.
 fn assert_counts(rt: &impl Abort, case: &str, log: &Counts, started: u32, ended: u32, quits: u32) {

@@ -1,10 +1,10 @@
 //! Mistakes in the words, and the lines of failures.
 use super::fakes::Full;
 use super::runs::{assert_refused, run_between, run_with};
+use crate::asserts::{assert_equal, assert_true_for};
 use cli::failure::{Failure, PlanError};
 use std::io::ErrorKind;
 use std::process::Abort;
-use tests_asserts::{assert_equal, assert_true_for};
 use twogtp_app::failure::{Mistake, NAME};
 
 /// Commands of both engines and more words with a mistake, and how it is reported.

@@ -2,8 +2,8 @@
 use super::fakes::Narrow;
 use super::runs::{FIRST, log_of, narrow, run_into};
 use super::why::play;
+use crate::asserts::{assert_equal, assert_equal_for, text_of};
 use std::process::Abort;
-use tests_asserts::{assert_equal, assert_equal_for, text_of};
 
 /// White's engine, what is reported of it, and the line of the game. Black plays the first candidate. White refuses it
 /// twice, then takes it and resigns; or it refuses it four times, and the fourth refusal is a loss.

@@ -1,9 +1,9 @@
 //! Runs of the program, with engines in memory.
 use super::fakes::{InMemory, Log, Narrow, new_log};
+use crate::asserts::{assert_equal_for, assert_true_for, some, text_of};
 use byte_streams::WriteOnce;
 use std::alloc::{AllocError, Global};
 use std::process::Abort;
-use tests_asserts::{assert_equal_for, assert_true_for, some, text_of};
 use twogtp_app::run::run;
 
 /// A log of engines with which nothing was done yet.

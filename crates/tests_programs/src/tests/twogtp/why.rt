@@ -1,8 +1,8 @@
 //! Why a side failed, as it is reported on standard error.
 use super::fakes::{Full, Narrow, Talk};
 use super::runs::{Ran, assert_wrote, log_of, narrow, run_between, run_into};
+use crate::asserts::{assert_equal, assert_equal_for, text_of};
 use std::process::Abort;
-use tests_asserts::{assert_equal, assert_equal_for, text_of};
 use twogtp_app::laws::{down_sides_have_no_process, lines_are_few, losses_have_lines};
 
 /// Plays games between these engines, with `--why` and without another start.

@@ -1,8 +1,8 @@
 //! What goes out: outputs that break, when they are flushed, the help and the version.
 use super::fakes::{Full, Narrow};
 use super::runs::{FIRST, Ran, log_of, narrow, run_into, run_with};
+use crate::asserts::{assert_equal, assert_equal_for, assert_true_for};
 use std::process::Abort;
-use tests_asserts::{assert_equal, assert_equal_for, assert_true_for};
 
 /// A run with these words, of which each write to the output fails, ends by a write fault.
 fn assert_breaks<R: Abort + AllocGlobal>(rt: &R, words: &[&str]) {

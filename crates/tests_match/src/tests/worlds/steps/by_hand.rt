@@ -4,13 +4,13 @@ use super::{
     Doing, Doings, Handed, Text, assert_same_steps, assert_steps_agree, happens, is_asked,
     waits_for,
 };
+use crate::asserts::{assert_equal, assert_true, some};
 use go_base::Side;
 use gtp_match::{Action, Status, Verdict};
 use gtp_session::policy::Choice;
 use gtp_session::steps::Wait;
 use gtp_world::{Call, Event, StepsEvent, StepsWorld};
 use std::process::Abort;
-use tests_asserts::{assert_equal, assert_true, some};
 
 /// A world of size 2, and the events that led to it.
 #[derive(Drop)]

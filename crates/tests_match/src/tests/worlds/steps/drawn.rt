@@ -5,13 +5,13 @@ use super::super::same::assert_same_game;
 use super::{
     Doing, Doings, Handed, Text, assert_same_steps, assert_steps_agree, happens, is_asked,
 };
+use crate::asserts::{assert_true, some};
 use go_base::{Point, Side, Vertex};
 use go_board::KoRule;
 use gtp_match::{Action, Setup};
 use gtp_session::policy::Choice;
 use gtp_world::{Event, StepsWorld};
 use std::process::Abort;
-use tests_asserts::{assert_true, some};
 
 /// How many lists are drawn.
 const LISTS: u32 = 2_000;

@@ -1,7 +1,5 @@
-//! What the crates of tests assert. What an assertion of std writes is proved anew at each place, and a call isn't: so
-//! tests call these.
-#![tactic(auto)]
-
+//! What tests assert. What an assertion of std writes is proved anew at each place, and a call isn't: so tests call
+//! these. Each crate of tests has its own, since the check allows no library to end the process.
 ghost use Rattle.std.specs.Prelude.{◌≡◌, true};
 
 use std::fmt::Debug;
@@ -30,14 +28,14 @@ pub fn assert_true(rt: &impl Abort, holds: bool)
     assert!(rt; holds);
 }
 
-/// It holds in this case.
-pub fn assert_true_for<C: PartialEq + Debug + Drop>(rt: &impl Abort, case: C, holds: bool) {
-    assert_equal_for(rt, case, holds, true);
-}
-
 /// What is there.
 pub fn some<T>(rt: &impl Abort, found: Option<T>) -> T {
     found.expect(rt, "nothing is there")
+}
+
+/// It holds in this case.
+pub fn assert_true_for<C: PartialEq + Debug + Drop>(rt: &impl Abort, case: C, holds: bool) {
+    assert_equal_for(rt, case, holds, true);
 }
 
 /// The text of the bytes.
