@@ -1,15 +1,13 @@
 //! The options of the command line.
-ghost use Rattle.std.specs.Prelude.{◌≡◌, ◌⊎◌, map, Some, None, false, IfOk, IfErr};
+ghost use Rattle.std.specs.Prelude.{◌≡◌, ◌⊎◌, codes, map, IfOk, IfErr};
 ghost use Rattle.clap.specs.Walk.{rows_of};
-ghost use Rattle.clap.specs.Words.{app_of, found_of, kind_of, rule_of};
+ghost use Rattle.clap.specs.Words.{app_of, found_of, kind_of};
 ghost use Rattle.clap.specs.declared.error.kind.ErrorKind.TheVariants.{OutOfMemory};
-ghost use Rattle.twogtp_app.specs.Options.{Ask, AsksFor, HasFault, HasFlag, HasNumber, option_text};
-ghost use Rattle.twogtp_app.specs.Options.{command_line, program};
-ghost use Rattle.twogtp_app.specs.Options.{flag_rule, number_rule, option_rule, required_rule};
-ghost use Rattle.twogtp_app.specs.private.OptionRows.{rule_of_row, with_options};
+ghost use Rattle.cli.specs.Options.{program};
+ghost use Rattle.twogtp_app.specs.Options.{Ask, AsksFor, HasFault, command_line};
 
-use clap::builder::ValueParser;
-use clap::{Arg, ArgAction, ArgMatches, Command, Error};
+use clap::{ArgMatches, Command, Error};
+use cli::options::{OptionRow, Takes, flag_at, number_at, text_at, with_options};
 use go_board::VERSION;
 use std::alloc::{AllocError, Global};
 use std::convert::AsStr;
@@ -68,71 +66,47 @@ pub struct Options<'a> {
     pub why: bool,
 }
 
-/// An option of the command line.
-#[derive(Clone, Copy)]
-struct OptionRow<'a> {
-    /// The name that follows the two dashes.
-    name: &'a str,
-    /// What follows the name.
-    takes: Takes<'a>,
-    /// What the help says.
-    help: &'a str,
-}
-
-/// What an option takes.
-#[derive(Clone, Copy)]
-enum Takes<'a> {
-    /// The command of an engine, which has to be there.
-    Engine,
-    /// A komi; this one where the words don't say.
-    Komi(&'a str),
-    /// A whole number, from the first to the second; what the text spells where the words don't say.
-    Number(i64, i64, &'a str),
-    /// No value.
-    Nothing,
-}
-
 /// The options, in the order of the help.
 static OPTIONS: [OptionRow<'static>; 11] = [
     OptionRow {
         name: "black",
-        takes: Takes::Engine,
+        takes: Takes::Required("CMD"),
         help: "Command of Black's engine, split at spaces",
     },
     OptionRow {
         name: "white",
-        takes: Takes::Engine,
+        takes: Takes::Required("CMD"),
         help: "Command of White's engine, split at spaces",
     },
     OptionRow {
         name: "size",
-        takes: Takes::Number(1, 25, "19"),
+        takes: Takes::Number("N", 1, 25, "19"),
         help: "Size of the board, 1 to 25",
     },
     OptionRow {
         name: "komi",
-        takes: Takes::Komi("6.5"),
+        takes: Takes::Text("K", "6.5"),
         help: "Komi, such as 6.5 or 7; a negative one is\nwritten --komi=-3.5",
     },
     OptionRow {
         name: "handicap",
-        takes: Takes::Number(0, 9, "0"),
+        takes: Takes::Number("N", 0, 9, "0"),
         help: "Handicap stones: 0, or 2 to 9; on size 7 and even\n\
             sizes 2 to 4; below size 7 none",
     },
     OptionRow {
         name: "games",
-        takes: Takes::Number(1, 1000, "1"),
+        takes: Takes::Number("N", 1, 1000, "1"),
         help: "Number of games, 1 to 1000",
     },
     OptionRow {
         name: "max-moves",
-        takes: Takes::Number(1, 2000, "1000"),
+        takes: Takes::Number("N", 1, 2000, "1000"),
         help: "Most moves of a game, 1 to 2000",
     },
     OptionRow {
         name: "restarts",
-        takes: Takes::Number(0, 1000, "2"),
+        takes: Takes::Number("N", 0, 1000, "2"),
         help: "Restarts of a side in a game, 0 to 1000",
     },
     OptionRow {
@@ -164,7 +138,7 @@ pub fn read_options<'a, S: AsStr>(alloc: Global, words: &'a [S]) -> Result<Optio
     Ok(options_of(&matches))
 }
 
-/// The options of a command line. The defaults here aren't met, since the command line has its own.
+/// The options of a command line, which has a default for each but the commands, which have to be there.
 fn options_of<'a>(matches: &ArgMatches<'a>) -> Options<'a>
     ensures { Ask (rows_of (found_of matches.now)) result }
 {
@@ -183,27 +157,6 @@ fn options_of<'a>(matches: &ArgMatches<'a>) -> Options<'a>
     }
 }
 
-/// The text of an option.
-fn text_at<'a>(matches: &ArgMatches<'a>, name: &str) -> &'a str
-    ensures { result.now ≡ option_text name.now (rows_of (found_of matches.now)) }
-{
-    matches.get_str(name).unwrap_or("")
-}
-
-/// The number of an option.
-fn number_at(matches: &ArgMatches<'_>, name: &str) -> u32
-    ensures { HasNumber name.now (rows_of (found_of matches.now)) result }
-{
-    matches.get_one::<u32>(name).unwrap_or(0)
-}
-
-/// Whether a flag is used.
-fn flag_at(matches: &ArgMatches<'_>, name: &str) -> bool
-    ensures { HasFlag name.now (rows_of (found_of matches.now)) result }
-{
-    matches.get_flag(name)
-}
-
 /// The command line, with its help and its version.
 fn command<'a>(alloc: Global) -> Result<Command<'a>, AllocError>
     ensures { IfOk result (λ command. app_of command ≡ command_line) }
@@ -213,99 +166,11 @@ fn command<'a>(alloc: Global) -> Result<Command<'a>, AllocError>
 
 /// The command line with no option yet.
 fn program<'a>(alloc: Global) -> Result<Command<'a>, AllocError>
-    ensures { IfOk result (λ command. app_of command ≡ program) }
+    ensures { IfOk result (λ command. app_of command ≡ program (codes "twogtp")) }
 {
     Command::new(alloc, "twogtp")
         .version(VERSION)
         .about("Plays two engines of the Go Text Protocol, version 2, against each other")
         .after_help(AFTER_OPTIONS)
         .bin_name("twogtp")
-}
-
-/// A command line, and the options of these rows after its own.
-fn with_options<'a>(
-    alloc: Global,
-    mut command: Command<'a>,
-    rows: &[OptionRow<'a>],
-) -> Result<Command<'a>, AllocError>
-    ensures { IfOk result (λ with. app_of with ≡ with_options (app_of command.entry) rows.now) }
-{
-    for row in rows {
-        command = command.arg(option(alloc, *row))?;
-    }
-    Ok(command)
-}
-
-/// The option of a row.
-fn option<'a>(alloc: Global, row: OptionRow<'a>) -> Arg<'a>
-    ensures rule { rule_of result ≡ rule_of_row row.entry }
-    ensures local { result.global ≡ false }
-{
-    match row.takes {
-        Takes::Engine => engine(alloc, row.name, row.help),
-        Takes::Komi(default) => komi(alloc, row.name, default, row.help),
-        Takes::Number(least, most, default) => number(
-            alloc,
-            row.name,
-            ValueParser::Signed(least, most),
-            default,
-            row.help,
-        ),
-        Takes::Nothing => flag(alloc, row.name, row.help),
-    }
-}
-
-/// An option that takes the command of an engine.
-fn engine<'a>(alloc: Global, name: &'a str, help: &'a str) -> Arg<'a>
-    ensures rule { rule_of result ≡ required_rule name.entry.now }
-    ensures local { result.global ≡ false }
-{
-    Arg::new(alloc, name)
-        .long(name)
-        .value_name("CMD")
-        .required(true)
-        .help(help)
-}
-
-/// An option that takes a komi.
-fn komi<'a>(alloc: Global, name: &'a str, default: &'a str, help: &'a str) -> Arg<'a>
-    ensures rule { rule_of result ≡ option_rule name.entry.now None default.entry.now }
-    ensures local { result.global ≡ false }
-{
-    Arg::new(alloc, name)
-        .long(name)
-        .value_name("K")
-        .default_value(default)
-        .help(help)
-}
-
-/// An option that takes a whole number.
-fn number<'a>(
-    alloc: Global,
-    name: &'a str,
-    parser: ValueParser<'a>,
-    default: &'a str,
-    help: &'a str,
-) -> Arg<'a>
-    ensures rule { rule_of result ≡
-        option_rule name.entry.now (Some parser.entry) default.entry.now }
-    ensures local { result.global ≡ false }
-{
-    Arg::new(alloc, name)
-        .long(name)
-        .value_name("N")
-        .value_parser(parser)
-        .default_value(default)
-        .help(help)
-}
-
-/// An option that takes no value.
-fn flag<'a>(alloc: Global, name: &'a str, help: &'a str) -> Arg<'a>
-    ensures rule { rule_of result ≡ flag_rule name.entry.now }
-    ensures local { result.global ≡ false }
-{
-    Arg::new(alloc, name)
-        .long(name)
-        .action(ArgAction::SetTrue)
-        .help(help)
 }

@@ -1,23 +1,20 @@
 //! The program, over any writers and any means to start processes.
-ghost use Rattle.std.specs.Prelude.{◌≡◌, ◌⊎◌, map, string_bytes};
-ghost use Rattle.std.specs.Prelude.{IfOk, IsErr, IsOkAnd, OnOk, OnErr};
-ghost use Rattle.twogtp_app.specs.Games.{GamesEnd, HasBegun, HasDone, HasMistake, HasShown, IsShown, seen};
+ghost use Rattle.std.specs.Prelude.{◌≡◌, ◌⊎◌, map};
+ghost use Rattle.twogtp_app.specs.Games.{GamesEnd, HasBegun, HasDone, HasMistake, HasShown, seen};
 ghost use Rattle.twogtp_app.specs.Options.{IsWithoutWhy};
 ghost use Rattle.twogtp_app.specs.Status.{IsStatus, ReportsFailure, some_given_up, status_with};
-ghost use Rattle.cli.specs.Status.{IsRequest, done, own_failure, usage_failure};
-ghost use Rattle.byte_streams.specs.Writing.{BreaksAt, GoesOut, IsWritten};
+ghost use Rattle.cli.specs.Status.{done, own_failure, usage_failure};
 
 use crate::failure::NAME;
 use crate::game::play_game;
 use crate::options::read_options;
 use crate::plan::{Plan, plan_of};
-use byte_streams::{Broken, WriteOnce, write_or_break, write_text};
-use clap::error::ErrorKind;
+use byte_streams::WriteOnce;
 use cli::failure::Failure;
-use cli::words::is_request;
+use cli::requests::answer_error;
 use gtp_match::Verdict;
 use gtp_process::Starter;
-use std::alloc::{AllocError, Global};
+use std::alloc::Global;
 use std::convert::AsStr;
 
 /// Plays the games that the words of the command line ask for, the first of which is the program's name. Writes the
@@ -69,7 +66,13 @@ pub fn run<A: AsStr, O: WriteOnce, E: WriteOnce, S: Starter>(
 {
     let options = match read_options(alloc, words) {
         Ok(options) => options,
-        Err(error) => return answer_error(error.kind(), error.to_string(alloc), output, errors),
+        Err(error) => return answer_error(
+            NAME,
+            error.kind(),
+            error.to_string(alloc),
+            output,
+            errors,
+        ),
     };
     let plan = match plan_of(alloc, &options) {
         Ok(plan) => plan,
@@ -108,82 +111,5 @@ fn with_verdict(status: u8, verdict: Verdict) -> u8
     match verdict {
         Verdict::Unfit(_) | Verdict::Abandoned(_) => 1,
         Verdict::Score(_) | Verdict::Resign(_) | Verdict::Limit | Verdict::Forfeit(_, _) => status,
-    }
-}
-
-/// Writes what `clap` returns in place of options, an error of this kind with this text, and returns the status. Where
-/// memory was refused for the text, that is reported instead.
-fn answer_error<O: WriteOnce, E: WriteOnce>(
-    kind: ErrorKind,
-    text: Result<String, AllocError>,
-    output: &mut O,
-    errors: &mut E,
-) -> u8
-    ensures status { (result ≡ done) ⊎ (result ≡ usage_failure) ⊎ (result ≡ own_failure) }
-    ensures usage { result ≡ usage_failure → output.new ≡ output.old }
-    ensures quiet { result ≡ done → errors.new ≡ errors.old }
-    ensures mistake { result ≡ usage_failure → ¬ IsRequest kind }
-    ensures memory { kind ≡ ErrorKind.OutOfMemory → result ≡ own_failure }
-    // The text of a mistake is written, once.
-    ensures written { result ≡ usage_failure → IsOkAnd text (λ text.
-        IsWritten E.WriteOnce (string_bytes text) errors.old errors.new) }
-    // A text that was asked for was written once.
-    ensures shown { result ≡ done → IsRequest kind × IsOkAnd text (λ text.
-        GoesOut O.WriteOnce (string_bytes text) output.old output.new) }
-    // A mistake in the words is no failure of the program's own, unless memory was refused for its
-    // text.
-    ensures own { result ≡ own_failure →
-        (((kind ≡ ErrorKind.OutOfMemory) ⊎ IsErr text) × (output.new ≡ output.old)
-        × ReportsFailure E.WriteOnce Failure.OutOfMemory errors.old errors.new)
-        ⊎ (IsRequest kind
-        × IsOkAnd text (λ text. BreaksAt O.WriteOnce (string_bytes text) output.old output.new)
-        × ReportsFailure E.WriteOnce Failure.Write errors.old errors.new) }
-{
-    if kind == ErrorKind::OutOfMemory {
-        return Failure::OutOfMemory.report(NAME, errors);
-    }
-    if is_request(kind) {
-        show(text, output, errors)
-    } else {
-        write_mistake(text, errors)
-    }
-}
-
-/// Writes a text that was asked for, unless memory was refused for it, and returns the status.
-fn show<O: WriteOnce, E: WriteOnce>(
-    text: Result<String, AllocError>,
-    output: &mut O,
-    errors: &mut E,
-) -> u8
-    ensures written { IfOk text (λ text.
-        IsShown O.WriteOnce (string_bytes text) result output.old output.new) }
-    ensures quiet { result ≡ done → errors.new ≡ errors.old }
-    ensures broke { OnOk text
-        (result ≡ own_failure → ReportsFailure E.WriteOnce Failure.Write errors.old errors.new) }
-    ensures refused { OnErr text ((result ≡ own_failure) × (output.new ≡ output.old)
-        × ReportsFailure E.WriteOnce Failure.OutOfMemory errors.old errors.new) }
-{
-    match text {
-        Ok(text) => match write_text(output, text.as_bytes()) {
-            Ok(()) => 0,
-            Err(Broken) => Failure::Write.report(NAME, errors),
-        },
-        Err(AllocError) => Failure::OutOfMemory.report(NAME, errors),
-    }
-}
-
-/// Writes the text of a mistake in the words, unless memory was refused for it, and returns the status.
-fn write_mistake<E: WriteOnce>(text: Result<String, AllocError>, errors: &mut E) -> u8
-    ensures written { IfOk text (λ text. (result ≡ usage_failure)
-        × IsWritten E.WriteOnce (string_bytes text) errors.old errors.new) }
-    ensures refused { OnErr text ((result ≡ own_failure)
-        × ReportsFailure E.WriteOnce Failure.OutOfMemory errors.old errors.new) }
-{
-    match text {
-        Ok(text) => {
-            write_or_break(errors, text.as_bytes());
-            2
-        }
-        Err(AllocError) => Failure::OutOfMemory.report(NAME, errors),
     }
 }

@@ -1,12 +1,15 @@
-use Rattle.std.proofs.Common.{◌≡◌, ◌∙◌, ap, refl}
+use Rattle.std.proofs.Common.{◌≡◌, ◌∙◌, ap, codes, map, refl, List}
 use Rattle.std.proofs.lemmas.Result.{IfOk-weaker}
-use Rattle.twogtp_app.specs.Options.{command_line, program}
-use Rattle.twogtp_app.specs.private.OptionRows.{with_options}
+use Rattle.clap.specs.Words.{App, Rule}
+use Rattle.cli.specs.Options.{program, rule_of_row, with_rules}
+use Rattle.twogtp_app.specs.Options.{options}
 use Rattle.twogtp_app.proofs.options.command.Goals as goal
 
 pub returns : goal.returns
 returns c =
-    let all : with_options program c.as_slice.result.now ≡ command_line = rw c.as_slice.ensures refl in
+    let are : map rule_of_row c.as_slice.result.now ≡ options = rw c.as_slice.ensures refl in
     IfOk-weaker c.with_options.result _ _
-    (λ with made. made ∙ (ap (λ app. with_options app c.as_slice.result.now) c.in_ok-program.ensures ∙ all))
+    (λ with made. made
+    ∙ (ap (λ (app : App). with_rules app (map rule_of_row c.as_slice.result.now)) c.in_ok-program.ensures
+    ∙ ap (λ (rules : List Rule). with_rules (program (codes "twogtp")) rules) are))
     c.with_options.ensures
