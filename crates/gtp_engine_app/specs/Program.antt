@@ -28,34 +28,50 @@ use Rattle.gtp_engine_app.specs.Options.{AsksFor, AsksForText, HasFault, IsMista
 use Rattle.gtp_engine_app.specs.Status.{status_after, ReportsFailure, ReportsEnd}
 use Rattle.cli.specs.Status.{done, own_failure, IsRequest}
 
--- the program's streams: what its input and its output show, and its standard error
-pub record Streams (E : Type 0) : Type 0 where
+-- what a conversation goes over: what its input and its output show
+pub record Ends : Type 0 where
   pub input : Source
   pub output : Sink
+
+abbrev pub ends : Source → Sink → Ends
+ends input output = record { input = input; output = output }
+
+-- the program's streams: those of its conversation, and its standard error
+pub record Streams (E : Type 0) : Type 0 where
+  pub ends : Ends
   pub errors : E
 
-abbrev pub streams : {E : Type 0} → Source → Sink → E → Streams E
-streams input output errors = record { input = input; output = output; errors = errors }
+abbrev pub streams : {E : Type 0} → Ends → E → Streams E
+streams ends errors = record { ends = ends; errors = errors }
 
 -- ---- conversations
 
 -- An engine with this policy and this ko rule, which was given nothing before, held a conversation under the fault, of
 -- as many reads as there may be, which came out so.
-abbrev pub FreshCameOut : {P : Type 0} → May P → Fault → KoRule → P → Result Served ServeFault
-    → Source → Source → Sink → Sink → Type 0
-FreshCameOut {P} may fault rule policy served reader reader_now writer writer_now =
-    (engine : Engine P)
-    × CameOut may fault most_reads (fresh_under rule policy) engine served reader reader_now writer writer_now
+pub data FreshCameOut {P : Type 0} (may : May P) (rule : KoRule) (fault : Fault) (policy : P)
+    : Result Served ServeFault → Ends → Ends → Type 0 where
+  held : {engine : Engine P} {served : Result Served ServeFault} {before after : Ends}
+      → CameOut may fault most_reads (fresh_under rule policy) engine served before.input after.input
+      before.output after.output
+      → FreshCameOut may rule fault policy served before after
 
--- the conversation of the policy of this name, with this seed or these entries, under this ko rule
-abbrev pub PolicyCameOut : PolicyName → ℕ → List Entry → KoRule → Fault → Result Served ServeFault
-    → Source → Source → Sink → Sink → Type 0
-PolicyCameOut First seed entries rule fault served reader reader_now writer writer_now =
-    (policy : FirstPolicy) × FreshCameOut first_may fault rule policy served reader reader_now writer writer_now
-PolicyCameOut Random seed entries rule fault served reader reader_now writer writer_now =
-    FreshCameOut random_may fault rule (generator_of seed) served reader reader_now writer writer_now
-PolicyCameOut Book seed entries rule fault served reader reader_now writer writer_now =
-    FreshCameOut book_may fault rule entries served reader reader_now writer writer_now
+-- what the words ask for: the options, with the book and the fault that their texts spell
+pub record Task : Type 0 where
+  pub options : Options
+  pub entries : List Entry
+  pub fault : Fault
+
+abbrev pub task : Options → List Entry → Fault → Task
+task options entries fault = record { options = options; entries = entries; fault = fault }
+
+-- the conversation of the policy of this name, for a task
+abbrev pub PolicyCameOut : PolicyName → Task → Result Served ServeFault → Ends → Ends → Type 0
+PolicyCameOut First task served before after =
+    (policy : FirstPolicy) × FreshCameOut first_may task.options.rule task.fault policy served before after
+PolicyCameOut Random task served before after =
+    FreshCameOut random_may task.options.rule task.fault (generator_of task.options.seed) served before after
+PolicyCameOut Book task served before after =
+    FreshCameOut book_may task.options.rule task.fault task.entries served before after
 
 -- The options have a book and a fault. The conversation that they ask for was held, its end has this status, and why it
 -- stopped is reported where it stopped before its end.
@@ -65,8 +81,7 @@ pub record HasConversed {E : Type 0} (errs : Ghosts E) (options : Options) (stat
   pub fault : Fault
   pub spells : Spells options entries fault
   pub served : Result Served ServeFault
-  pub came_out : PolicyCameOut options.policy options.seed entries options.rule fault served
-      before.input after.input before.output after.output
+  pub came_out : PolicyCameOut options.policy (task options entries fault) served before.ends after.ends
   pub status_is : status ≡ status_after served
   pub reported : ReportsEnd errs served before.errors after.errors
 
@@ -92,7 +107,7 @@ pub record HasHelped {E : Type 0} (errs : Ghosts E) (words : List Text) (status 
     : Type 0 where
   pub asked : AsksForText words
   pub text : List ℕ
-  pub shown : IsShown errs text before.output before.errors status after.output after.errors
+  pub shown : IsShown errs text before.ends.output before.errors status after.ends.output after.errors
 
 -- ---- what else may end a run
 

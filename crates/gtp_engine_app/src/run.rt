@@ -3,7 +3,7 @@ ghost use Rattle.std.specs.Prelude.{◌≡◌, ◌≢◌, ◌⊎◌, map, string
 ghost use Rattle.cli.specs.Requests.{IsRefused};
 ghost use Rattle.gtp_engine_app.specs.Options.{HasNoBook, HasNoFault, IsMistake, Spells};
 ghost use Rattle.gtp_engine_app.specs.Program.{FreshCameOut, PolicyCameOut, HasConversed, HasServed, HasHelped};
-ghost use Rattle.gtp_engine_app.specs.Program.{IsOutOfMemory, HasMistake, IsShown, streams};
+ghost use Rattle.gtp_engine_app.specs.Program.{IsOutOfMemory, HasMistake, IsShown, ends, streams, task};
 ghost use Rattle.gtp_engine_app.specs.Status.{IsStatus, ReportsFailure, ReportsEnd, program_name, stopped, status_after};
 ghost use Rattle.cli.specs.Status.{IsRequest, done, usage_failure};
 
@@ -52,8 +52,8 @@ pub fn run<S: AsStr, R: Incoming, W: Outgoing, E: WriteOnce>(
     // Any other status is that of the conversation that the words ask for; or they ask for help,
     // and nothing was read; or nothing was read, nothing went to the output, and it is
     // reported that memory was refused. With status 3 the failure is reported, and nothing else.
-    ensures served { let before = streams (R.shown input.old) (W.shown output.old) errors.old in
-        let after = streams (R.shown input.new) (W.shown output.new) errors.new in
+    ensures served { let before = streams (ends (R.shown input.old) (W.shown output.old)) errors.old in
+        let after = streams (ends (R.shown input.new) (W.shown output.new)) errors.new in
         result ≢ usage_failure → HasServed E.WriteOnce (map S.text words.now) result before after
         ⊎ ((input.new ≡ input.old)
         × HasHelped E.WriteOnce (map S.text words.now) result before after)
@@ -80,8 +80,8 @@ fn serve_options<R: Incoming, W: Outgoing, E: WriteOnce>(
         × ReportsFailure E.WriteOnce failure errors.old errors.new
         × (input.new ≡ input.old) × (output.new ≡ output.old) }
     ensures served { result ≢ usage_failure → HasConversed E.WriteOnce options.entry result
-        (streams (R.shown input.old) (W.shown output.old) errors.old)
-        (streams (R.shown input.new) (W.shown output.new) errors.new) }
+        (streams (ends (R.shown input.old) (W.shown output.old)) errors.old)
+        (streams (ends (R.shown input.new) (W.shown output.new)) errors.new) }
     ensures quiet { (result ≡ done) ⊎ (result ≡ stopped) → errors.new ≡ errors.old }
 {
     let (book, fault) = match read_texts(options) {
@@ -161,8 +161,9 @@ fn converse_by<R: Incoming, W: Outgoing>(
     reader: &mut R,
     writer: &mut W,
 ) -> Result<Served, ServeFault>
-    ensures { PolicyCameOut options.entry.policy options.entry.seed book options.entry.rule fault
-        result (R.shown reader.old) (R.shown reader.new) (W.shown writer.old) (W.shown writer.new) }
+    ensures { PolicyCameOut options.entry.policy (task options.entry book fault) result
+        (ends (R.shown reader.old) (W.shown writer.old))
+        (ends (R.shown reader.new) (W.shown writer.new)) }
 {
     match options.policy {
         PolicyName::First => converse(First, options.rule, fault, reader, writer),
@@ -185,8 +186,9 @@ fn converse<P: Policy, R: Incoming, W: Outgoing>(
     reader: &mut R,
     writer: &mut W,
 ) -> Result<Served, ServeFault>
-    ensures came_out { FreshCameOut P.may fault rule policy result
-        (R.shown reader.old) (R.shown reader.new) (W.shown writer.old) (W.shown writer.new) }
+    ensures { FreshCameOut P.may rule fault policy result
+        (ends (R.shown reader.old) (W.shown writer.old))
+        (ends (R.shown reader.new) (W.shown writer.new)) }
 {
     let mut session = Session::with_rule(policy, rule);
     match fault {
