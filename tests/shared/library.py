@@ -2,6 +2,7 @@
 
 In each language there are two: random_engine, which plays at random, and play_match, which plays a match as twogtp does.
 """
+import os
 import random
 import re
 import shutil
@@ -48,10 +49,20 @@ def said(words, **how):
     return output + errors + ("" if status == 0 else f"status {status}")
 
 
+def leaving(folder):
+    """An environment in which a compiler that is killed leaves its own files in this folder."""
+    return {**os.environ, "TMPDIR": str(folder)}
+
+
+def cc(words, folder, **how):
+    """What a compiler says, which leaves its own files in this folder where it is killed."""
+    return said(words, env=leaving(folder), **how)
+
+
 def compiled(name, folder):
     """Compiles an example in C into this folder. What the compiler says."""
     source = f"library/examples/{name}.c"
-    return said(["cc", "-std=c99", "-D_POSIX_C_SOURCE=200809L", "-O2", *WARN, "-Ilibrary", "-o", folder / name, source, ARCHIVE])
+    return cc(["cc", "-std=c99", "-D_POSIX_C_SOURCE=200809L", "-O2", *WARN, "-Ilibrary", "-o", folder / name, source, ARCHIVE], folder)
 
 
 def twogtp(black, white, *options):

@@ -78,7 +78,7 @@ class Compilers(checks.Case):
         (room / "other").mkdir()
         (room / "other/vintsaky.h").write_text(other)
         self.check(f"{compiler}: the header without a warning", "",
-                   said([*self.words, "-O2", *WARN, "-Ilibrary", "-c", "-o", room / "empty.o", self.empty]))  # fmt: skip
+                   library.cc([*self.words, "-O2", *WARN, "-Ilibrary", "-c", "-o", room / "empty.o", self.empty], room))  # fmt: skip
         why = lacks(LIBRARIES)
         if why:
             return self.skip(f"{compiler}: the library", why)
@@ -87,11 +87,12 @@ class Compilers(checks.Case):
             self.check(f"{compiler}: a program of another interface isn't linked with {file.name}", "vintsaky_interface_2",
                        self.linked(room / "other", file))  # fmt: skip
         calls = [*self.words, "-O2", *WARN, *sizes(), "-Ilibrary", "-o", room / "calls", EACH_CALL, "-x", "none", ARCHIVE]
-        self.check(f"{compiler}: each call does what its page says", "", said(calls) or said([room / "calls"]))
+        self.check(f"{compiler}: each call does what its page says", "", library.cc(calls, room) or said([room / "calls"]))
 
     def linked(self, folder, file):
         """Is an empty program linked that has this folder's header? Else the interface is named that isn't there."""
-        status, _, errors = running.run([*self.words, f"-I{folder}", "-o", self.empty.with_suffix(""), self.empty, "-x", "none", file])
+        words = [*self.words, f"-I{folder}", "-o", self.empty.with_suffix(""), self.empty, "-x", "none", file]
+        status, _, errors = running.run(words, env=library.leaving(self.empty.parent))
         return "linked" if status == 0 else " ".join(sorted(set(re.findall(r"vintsaky_interface_[0-9]+", errors))))
 
 
@@ -214,7 +215,7 @@ class Installed(Needing):
     def test_linked(self):
         """A program that is linked with the shared library."""
         flags, calls = self.found("--cflags", "--libs").split(), self.usr / "calls"
-        compiled = said(["cc", "-std=c99", *sizes(), "-o", calls, EACH_CALL, *flags])
+        compiled = library.cc(["cc", "-std=c99", *sizes(), "-o", calls, EACH_CALL, *flags], self.usr)
         self.check("a program is linked with what it finds, and makes each call", "",
                    compiled or said([calls], env={**os.environ, "LD_LIBRARY_PATH": f"{self.usr}/lib"}))  # fmt: skip
         self.check("that program asks for the shared library", ["libvintsaky.so.1"],

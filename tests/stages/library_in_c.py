@@ -59,14 +59,14 @@ def made(name, *flags):
     folder.mkdir()
     for file in SOURCES.glob("*.[ch]"):
         shutil.copy(file, folder)
-    told = said(["cc", *C99, *flags, "-c", *sorted(it.name for it in folder.glob("*.c"))], cwd=folder)
+    told = library.cc(["cc", *C99, *flags, "-c", *sorted(it.name for it in folder.glob("*.c"))], ROOM, cwd=folder, limit=LIMIT)
     return told + "".join(linked(folder, program, "calls", program, ARCHIVE, *flags) for program in ("draw", "stack"))
 
 
 def linked(folder, main, calls, program, archive, *flags):
     """Links a program of what was compiled there. What the linker says."""
     objects = [folder / f"{name}.o" for name in (main, calls, *OBJECTS)]
-    return said(["cc", *flags, "-o", folder / program, *objects, archive, "-lpthread"])
+    return library.cc(["cc", *flags, "-o", folder / program, *objects, archive, "-lpthread"], ROOM)
 
 
 @lru_cache(maxsize=None)
@@ -132,7 +132,7 @@ def noticed(row):
     """What is said first of the drawn calls of a wrong copy."""
     number, what = row
     folder, made_of = ROOM / "right", f"wrong{number}"
-    told = said(["cc", *C99, f"-DWRONG={number}", "-c", "-o", f"{made_of}.o", "calls.c"], cwd=folder)
+    told = library.cc(["cc", *C99, f"-DWRONG={number}", "-c", "-o", f"{made_of}.o", "calls.c"], ROOM, cwd=folder)
     told += linked(folder, "draw", made_of, made_of, ARCHIVE)
     words = ("--threads", 1, 20_000) if what.startswith("threads:") else (1, 100_000)
     return (told or said([folder / made_of, *words])).partition("\n")[0]
@@ -158,7 +158,8 @@ def sanitizes(kind):
     """Can a program run that this sanitizer looks at? Under some kernels not even one that does nothing."""
     source, program = ROOM / "nothing.c", ROOM / f"nothing_{kind}"
     source.write_text("int main(void) { return 0; }\n")
-    return running.run(["cc", f"-fsanitize={kind}", "-o", program, source]).status == 0 and running.run([program]).status == 0
+    compiled = running.run(["cc", f"-fsanitize={kind}", "-o", program, source], env=library.leaving(ROOM))
+    return compiled.status == 0 and running.run([program]).status == 0
 
 
 class Looked(Calls):

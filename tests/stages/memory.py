@@ -20,7 +20,7 @@ from typing import NamedTuple
 sys.dont_write_bytecode = True
 sys.path[0] = str(Path(__file__).resolve().parents[2])
 
-from tests.shared import checks, running  # noqa: E402
+from tests.shared import checks, library, running  # noqa: E402
 
 PARSER = checks.Parser(__doc__)
 PARSER.add_argument("--any-clap", action="store_true", help="the text of a mistake that clap finds is the program's own")
@@ -167,7 +167,7 @@ class Refusing:
         """Compiles it. What the compiler says."""
         cls.place = folder / "refusing.so"
         words = ["cc", "-O1", "-shared", "-fPIC", "-o", cls.place, "tests/shared/refusing.c", "-ldl"]
-        return running.run(words)
+        return library.cc(words, folder)
 
     @classmethod
     def ended(cls, run, number, counted):
@@ -247,7 +247,7 @@ class Refused(checks.Case):
 
     def test_compiled(self):
         """what refuses memory is compiled."""
-        self.same((0, "", ""), tuple(self.compiled))
+        self.same("", self.compiled)
 
     def row(self, run, came):
         self.check(f"{run.name}, with nothing refused", came.wanted, came.whole)

@@ -8,7 +8,6 @@ standard input is, what can't be read is a read fault. Else the status is what i
 device, a program with a closed stream ends with status 3 before it starts anything.
 """
 import itertools
-import os
 import re
 import shutil
 import sys
