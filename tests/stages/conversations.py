@@ -20,10 +20,10 @@ from pathlib import Path
 sys.dont_write_bytecode = True
 sys.path[0] = str(Path(__file__).resolve().parents[2])
 
-from tests.references.engine import selftest  # noqa: E402
+from tests.references.engine import mutants, selftest  # noqa: E402
 from tests.references.engine.conversations import KINDS  # noqa: E402
 from tests.references.engine.game import Game  # noqa: E402
-from tests.references.engine.mutants import MUTANTS, Mutant  # noqa: E402
+from tests.references.mutator import Limit, Mutant  # noqa: E402
 from tests.shared import checks, running  # noqa: E402
 from tests.stages.of_conversations.giving import at_once, byte_after_byte  # noqa: E402
 from tests.stages.of_conversations.trials import PIPES, Trial, compared, name_of, one_in, results_shown, wanted_of  # noqa: E402
@@ -50,9 +50,11 @@ PARSER.add_argument("--count", metavar="N", type=checks.at_least_one, default=10
 PARSER.add_argument("--seed", metavar="S", type=int, default=1, help="which conversations; else 1")
 PARSER.add_argument("--kind", metavar="K", choices=[*KINDS, PIPES], help="one kind of random conversations alone")
 PARSER.add_argument("--mutants", action="store_true", help="puts wrong bodies into the reference; each has to be noticed")
+PARSER.add_argument("--all-mutants", action="store_true", help="the same with all of them, and not a sample")
 OPTIONS = PARSER.options(__name__)
 PROGRAM = str(OPTIONS.engine.resolve())
 WORKED = selftest.worked()
+WITH_MUTANTS = OPTIONS.mutants or OPTIONS.all_mutants
 FEWEST_REFUSALS = 0 if OPTIONS.kind or OPTIONS.count < 100 else 1000
 RIGHT_BODY = ("the reference without a wrong body", Game, "play", Game.play)
 
@@ -150,10 +152,11 @@ def given():
 
 def gives_otherwise(trial, got):
     """Does the reference, which a wrong body may stop, give something else?"""
-    try:
-        return wanted_of(trial.conversation) != got
-    except Exception:
-        return True
+    with Limit():
+        try:
+            return wanted_of(trial.conversation) != got
+        except Exception:
+            return True
 
 
 def noticed_by(row):
@@ -174,7 +177,7 @@ def body_named(row):
     return f"{RIGHT_BODY[0]} agrees in all {sum(map(numbered, kinds()))} conversations" if row == RIGHT_BODY else f"'{row[0]}' is noticed"
 
 
-@checks.table([RIGHT_BODY, *MUTANTS], body_named)
+@checks.table([RIGHT_BODY, *(mutants.chosen(OPTIONS.all_mutants) if WITH_MUTANTS else [])], body_named)
 class Mutants(checks.Case):
     """The reference with each body in it. Where the program differs from the right one, a difference with a wrong one says nothing."""
 
@@ -189,4 +192,4 @@ class Mutants(checks.Case):
 
 
 if __name__ == "__main__":
-    checks.main(OPTIONS, [Mutants] if OPTIONS.mutants else [Reference, Worked, Drawn, Refusals])
+    checks.main(OPTIONS, [Mutants] if WITH_MUTANTS else [Reference, Worked, Drawn, Refusals])

@@ -31,7 +31,7 @@ sys.path[0] = str(Path(__file__).resolve().parents[2])
 from tests.references.controller import drawn, matches, mutants, worked  # noqa: E402
 from tests.references.controller.controller import MOST_UNANSWERED, SIDES  # noqa: E402
 from tests.references.controller.matches import PATIENT, TIMINGS, Result, as_reported, fits  # noqa: E402
-from tests.references.engine.mutants import Mutant  # noqa: E402
+from tests.references.mutator import Limit, Mutant  # noqa: E402
 from tests.shared import checks, running  # noqa: E402
 
 GROUP = 40  # matches that are compared in one check
@@ -46,8 +46,10 @@ PARSER.add_argument("--matches", metavar="N", type=checks.at_least_one, default=
 PARSER.add_argument("--seed", metavar="S", type=int, default=1, help="which matches; else 1")
 PARSER.add_argument("--match", metavar="N", type=int, help="the match of this number alone")
 PARSER.add_argument("--mutants", action="store_true", help="then puts wrong bodies into the reference; each has to be noticed")
+PARSER.add_argument("--all-mutants", action="store_true", help="the same with all of them, and not a sample")
 PARSER.add_argument("--programs", metavar="FOLDER", help="where both programs are; else bin/")
 OPTIONS = PARSER.options(__name__)
+WITH_MUTANTS = OPTIONS.mutants or OPTIONS.all_mutants
 NUMBERS = [OPTIONS.match] if OPTIONS.match else range(1, OPTIONS.matches + 1)
 GROUPS = [tuple(NUMBERS[first : first + GROUP]) for first in range(0, len(NUMBERS), GROUP)]
 
@@ -221,14 +223,15 @@ def quick_first():
 
 def comes_out_otherwise(trial, got):
     """Does the reference, which a wrong body may stop, give something else?"""
-    try:
-        wanted = matches.play(trial.match, PATIENT)
-    except Exception:
-        return True
+    with Limit():
+        try:
+            wanted = matches.play(trial.match, PATIENT)
+        except Exception:
+            return True
     return not fits(got, wanted)
 
 
-@checks.table(mutants.MUTANTS + mutants.WHY_MUTANTS, lambda it: f"'{it[0]}' is noticed")
+@checks.table(mutants.chosen(OPTIONS.all_mutants) if WITH_MUTANTS else [], lambda it: f"'{it[0]}' is noticed")
 class Mutants(checks.Case):
     """The reference with a wrong body in it. Where a match ends otherwise with the right ones, a difference says nothing."""
 
@@ -242,4 +245,4 @@ class Mutants(checks.Case):
 
 
 if __name__ == "__main__":
-    checks.main(OPTIONS, [Reference, Drawn, Lines, Doubled, Mutants] if OPTIONS.mutants else [Reference, Drawn, Lines])
+    checks.main(OPTIONS, [Reference, Drawn, Lines, Doubled, Mutants] if WITH_MUTANTS else [Reference, Drawn, Lines])

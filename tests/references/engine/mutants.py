@@ -1,12 +1,14 @@
 """Wrong bodies of the reference, to see that the comparison notices them: `tests/stages/conversations.py --mutants`.
 
-Each is put in the place of one function of the reference, and makes one mistake that an engine could make.
+Each is put in the place of one function of the reference, and makes one mistake that an engine could make. Most are made by
+`tests/references/mutator.py`; BY_HAND has those that it can't make.
 """
+from .. import mutator
 from . import engine, policies, values
 from . import game as rules
-from .engine import Engine
+from .engine import COMMANDS, Engine
 from .game import POSITIONAL, SIMPLE, Game
-from .values import BLACK, PASS, WHITE
+from .values import PASS
 
 # The right bodies, which some of the wrong ones call.
 right_after = Game.after
@@ -20,17 +22,9 @@ right_read_int = values.read_int
 right_read_komi = values.read_komi
 right_read_line = engine.read_line
 right_read_vertex = values.read_vertex
-right_handicap_points = values.handicap_points
 
 
-def no_ko(game, colour, vertex):
-    if vertex == PASS or not game.moves:
-        return right_after(game, colour, vertex)
-    hidden, game.boards[-2] = game.boards[-2], None
-    try:
-        return right_after(game, colour, vertex)
-    finally:
-        game.boards[-2] = hidden
+# ---- ko
 
 
 def ko_stays_after_a_pass(game, colour, vertex):
@@ -41,46 +35,33 @@ def ko_stays_after_a_pass(game, colour, vertex):
     return None if vertex != PASS and 0 < number < len(game.moves) and made == game.boards[number - 1] else made
 
 
-def no_board_comes_back(game, colour, vertex):
-    made = right_after(game, colour, vertex)
-    return None if vertex != PASS and made in game.boards else made
-
-
-def simple_whatever_is_asked(game, board):
-    return bool(game.moves) and board == game.boards[-2]
+def positional(is_ko):
+    """What is ko by the positional rule; by the simple one all is right."""
+    return lambda game, board: is_ko(game, board) if game.rule == POSITIONAL else right_is_ko(game, board)
 
 
 def handicap_forgotten(game, board):
-    if game.rule == SIMPLE or not game.boards[0]:
-        return right_is_ko(game, board)
     earlier = [{}]
     for colour, vertex in game.moves:
         earlier.append(earlier[-1] if vertex == PASS else rules.put(earlier[-1], game.size, colour, vertex))
-    return board in earlier
-
-
-def start_forgotten(game, board):
-    return board in game.boards[1:] if game.rule == POSITIONAL else right_is_ko(game, board)
-
-
-def nine_boards_alone(game, board):
-    return board in game.boards[-9:] if game.rule == POSITIONAL else right_is_ko(game, board)
+    return board in (earlier if game.boards[0] else game.boards)
 
 
 def boards_since_the_last_pass(game, board):
     passes = [number for number, (_, vertex) in enumerate(game.moves) if vertex == PASS]
-    return board in game.boards[passes[-1] + 1 :] if game.rule == POSITIONAL and passes else right_is_ko(game, board)
+    return board in game.boards[passes[-1] + 1 if passes else 0 :]
 
 
-def boards_by_count(game, board):
-    def count(stones):
-        return len(stones), list(stones.values()).count(WHITE)
-
-    return count(board) in map(count, game.boards) if game.rule == POSITIONAL else right_is_ko(game, board)
+def counts(stones):
+    """How many stones there are of each colour."""
+    return sorted(stones.values())
 
 
-def boards_without_colours(game, board):
-    return any(set(board) == set(earlier) for earlier in game.boards) if game.rule == POSITIONAL else right_is_ko(game, board)
+def boards_of_earlier_games(game, board):
+    games = vars(game).setdefault("games", [])
+    if not any(boards is game.boards for boards in games):
+        games.append(game.boards)
+    return any(board in boards for boards in games)
 
 
 def boards_of_the_same_mover(game, colour, vertex):
@@ -99,13 +80,6 @@ def pass_is_ko(game, colour, vertex):
     return None if game.rule == POSITIONAL and vertex == PASS and game.moves else right_after(game, colour, vertex)
 
 
-def boards_of_earlier_games(game, board):
-    games = vars(game).setdefault("games", [])
-    if not any(boards is game.boards for boards in games):
-        games.append(game.boards)
-    return any(board in boards for boards in games) if game.rule == POSITIONAL else right_is_ko(game, board)
-
-
 def boards_that_were_taken_back(game, colour, vertex):
     if not game.moves:
         vars(game)["kept"] = []
@@ -115,30 +89,15 @@ def boards_that_were_taken_back(game, colour, vertex):
     return right_play(game, colour, vertex)
 
 
-def rule_lost_by_clear_board(self, arguments):
-    self.game.begin(self.game.size)
-    self.game.rule = SIMPLE
+def losing_the_rule(body):
+    """A body that is right, and sets the rule of ko back."""
 
+    def wrong(self, *arguments):
+        answered = body(self, *arguments)
+        getattr(self, "game", self).rule = SIMPLE
+        return answered
 
-def rule_lost_by_boardsize(self, arguments):
-    Engine.boardsize(self, arguments)
-    self.game.rule = SIMPLE
-
-
-def rule_lost_by_komi(self, arguments):
-    Engine.komi(self, arguments)
-    self.game.rule = SIMPLE
-
-
-def rule_lost_by_undo(game):
-    right_undo(game)
-    game.rule = SIMPLE
-
-
-def rule_lost_by_a_handicap(self, arguments):
-    answered = Engine.fixed_handicap(self, arguments)
-    self.game.rule = SIMPLE
-    return answered
+    return wrong
 
 
 def policies_know_simple_ko(self, arguments):
@@ -147,6 +106,9 @@ def policies_know_simple_ko(self, arguments):
         return Engine.genmove(self, arguments)
     finally:
         self.game.rule = rule
+
+
+# ---- stones, and what `undo` gives back
 
 
 def suicide_is_legal(game, colour, vertex):
@@ -167,14 +129,6 @@ def own_chain_is_taken_first(board, size, colour, point):
     return right_put(board, size, colour, point)
 
 
-def one_chain_is_taken(board, size, colour, point):
-    made = {**board, point: colour}
-    for chain in rules.chains(board, size, values.other(colour)):
-        if not rules.has_liberty(made, size, chain):
-            return {stone: its for stone, its in made.items() if stone not in chain}
-    return made
-
-
 def undo_loses_what_was_captured(game):
     last = game.boards[-1]
     right_undo(game)
@@ -184,23 +138,8 @@ def undo_loses_what_was_captured(game):
 def undo_takes_handicap_back(self, arguments):
     if not self.game.moves and self.game.board():
         self.game.begin(self.game.size)
-    elif not self.game.moves:
-        raise engine.Failure(b"cannot undo")
     else:
-        self.game.undo()
-
-
-def captures_of_the_other(game, colour):
-    return sum(
-        len(before) + 1 - len(after)
-        for (mover, vertex), before, after in zip(game.moves, game.boards, game.boards[1:])
-        if mover != colour and vertex != PASS
-    )
-
-
-def stones_alone(game):
-    stones = list(game.board().values())
-    return 2 * (2 * stones.count(BLACK) - len(stones)) - game.komi
+        Engine.undo(self, arguments)
 
 
 def boardsize_forgets_komi(game, size):
@@ -208,12 +147,7 @@ def boardsize_forgets_komi(game, size):
     game.komi = 0
 
 
-def own_eyes_are_filled(game, colour):
-    return [point for point in rules.points(game.size) if game.after(colour, point) is not None]
-
-
-def column_by_column(game, colour):
-    return sorted(right_candidates(game, colour))
+# ---- what is chosen, and in which order
 
 
 def a_word_without_candidates(self, game, colour):
@@ -232,59 +166,17 @@ def book_counts_its_own_moves(self, game, colour):
 
 def play_looks_at_the_board_first(self, arguments):
     colour = engine.argument(arguments, 0, values.read_colour)
-    vertex = engine.argument(arguments, 1, values.read_vertex)
-    if self.game.after(colour, vertex) is None:
+    if self.game.after(colour, engine.argument(arguments, 1, values.read_vertex)) is None:
         raise engine.Failure(b"illegal move")
-    if self.game.is_full():
-        raise engine.Failure(b"record full")
-    self.game.play(colour, vertex)
+    return Engine.play(self, arguments)
 
 
-def feed_executes_the_last_line(self, data):
-    return b"".join(self.answer(line) for line in data.split(b"\n"))
-
-
-def feed_goes_on_after_quit(self, data):
-    replies = b""
-    for line in data.split(b"\n")[:-1]:
-        self.ended = False
-        replies += self.answer(line)
-    return replies
+# ---- lines, and values
 
 
 def spaces_count(line):
     said = right_read_line(line)
     return engine.TOO_LONG if said and len(line.split(b"#")[0].strip()) > 1000 else said
-
-
-def limit_of_999(line):
-    said = right_read_line(line)
-    text = bytes(byte for byte in line if byte == 9 or 32 <= byte <= 126 or byte >= 128).split(b"#")[0]
-    return engine.TOO_LONG if said and len(b" ".join(text.split())) == 1000 else said
-
-
-def delete_is_kept(line):
-    return right_read_line(line.replace(b"\x7f", b"?"))
-
-
-def vertical_tab_is_a_space(line):
-    return right_read_line(line.replace(b"\x0b", b" "))
-
-
-def comments_end_words(line):
-    return right_read_line(line.replace(b"#", b" "))
-
-
-def greatest_int_refused(text):
-    return None if right_read_int(text) == values.GREATEST_INT else right_read_int(text)
-
-
-def ints_of_ten_digits(text):
-    return right_read_int(text) if len(text) <= 10 else None
-
-
-def komi_wants_a_whole_part(text):
-    return None if text[:1] == b"." else right_read_komi(text)
 
 
 def sign_lost_before_a_point(text):
@@ -296,83 +188,91 @@ def row_with_a_leading_zero(text):
     return right_read_vertex(text[:1] + text[2:] if text[1:2] == b"0" and len(text) == 3 else text)
 
 
-def z_is_24(text):
-    return right_read_vertex(text.upper().replace(b"Z", b"Y"))
-
-
-def nine_on_even_sizes(size, number):
-    return right_handicap_points(size + 1 if size % 2 == 0 and number > 4 else size, number)
-
-
 # What is wrong, whose attribute it is, the attribute, and the wrong body.
-MUTANTS = [
-    ("there is no ko", Game, "after", no_ko),
+BY_HAND = [
     ("ko stays after a pass", Game, "after", ko_stays_after_a_pass),
-    ("no earlier board may come back, by simple ko either", Game, "after", no_board_comes_back),
-    ("positional ko is simple ko", Game, "is_ko", simple_whatever_is_asked),
-    ("earlier boards are without the handicap", Game, "is_ko", handicap_forgotten),
-    ("the board before the first move is not compared", Game, "is_ko", start_forgotten),
-    ("the last nine boards alone are compared", Game, "is_ko", nine_boards_alone),
-    ("boards before the last pass are not compared", Game, "is_ko", boards_since_the_last_pass),
-    ("boards with as many stones of each colour are the same", Game, "is_ko", boards_by_count),
-    ("boards with stones on the same points are the same", Game, "is_ko", boards_without_colours),
+    ("earlier boards are without the handicap", Game, "is_ko", positional(handicap_forgotten)),
+    ("the board before the first move is not compared", Game, "is_ko", positional(lambda game, board: board in game.boards[1:])),
+    ("the last nine boards alone are compared", Game, "is_ko", positional(lambda game, board: board in game.boards[-9:])),
+    ("boards before the last pass are not compared", Game, "is_ko", positional(boards_since_the_last_pass)),
+    ("boards with as many stones of each colour are the same", Game, "is_ko",
+     positional(lambda game, board: counts(board) in map(counts, game.boards))),
+    ("boards with stones on the same points are the same", Game, "is_ko",
+     positional(lambda game, board: set(board) in map(set, game.boards))),
     ("boards that the other colour made are not compared", Game, "after", boards_of_the_same_mover),
     ("a pass is positional ko", Game, "after", pass_is_ko),
     ("boards that were taken back are compared", Game, "play", boards_that_were_taken_back),
-    ("boards of earlier games are compared", Game, "is_ko", boards_of_earlier_games),
-    ("clear_board loses the rule of ko", engine.COMMANDS, b"clear_board", rule_lost_by_clear_board),
-    ("boardsize loses the rule of ko", engine.COMMANDS, b"boardsize", rule_lost_by_boardsize),
-    ("komi loses the rule of ko", engine.COMMANDS, b"komi", rule_lost_by_komi),
-    ("undo loses the rule of ko", Game, "undo", rule_lost_by_undo),
-    ("a handicap loses the rule of ko", engine.COMMANDS, b"fixed_handicap", rule_lost_by_a_handicap),
-    ("genmove plays by simple ko", engine.COMMANDS, b"genmove", policies_know_simple_ko),
+    ("boards of earlier games are compared", Game, "is_ko", positional(boards_of_earlier_games)),
+    *((f"{name.decode()} loses the rule of ko", COMMANDS, name, losing_the_rule(COMMANDS[name]))
+      for name in (b"clear_board", b"boardsize", b"komi", b"fixed_handicap")),
+    ("undo loses the rule of ko", Game, "undo", losing_the_rule(Game.undo)),
+    ("genmove plays by simple ko", COMMANDS, b"genmove", policies_know_simple_ko),
     ("suicide is legal", Game, "after", suicide_is_legal),
     ("the own chain is taken first", rules, "put", own_chain_is_taken_first),
-    ("a play takes one chain alone", rules, "put", one_chain_is_taken),
     ("undo loses what was captured", Game, "undo", undo_loses_what_was_captured),
-    ("undo takes a handicap back", engine.COMMANDS, b"undo", undo_takes_handicap_back),
-    ("each colour is given the other's captures", Game, "captured", captures_of_the_other),
-    ("the score counts stones alone", Game, "score", stones_alone),
+    ("undo takes a handicap back", COMMANDS, b"undo", undo_takes_handicap_back),
     ("boardsize and clear_board forget komi", Game, "begin", boardsize_forgets_komi),
-    ("random moves fill eyes of their own", policies, "candidates", own_eyes_are_filled),
-    ("candidates are listed column by column", policies, "candidates", column_by_column),
+    ("random moves fill eyes of their own", policies, "candidates",
+     lambda game, colour: [point for point in rules.points(game.size) if game.after(colour, point) is not None]),
+    ("candidates are listed column by column", policies, "candidates", lambda game, colour: sorted(right_candidates(game, colour))),
     ("a word is drawn where there is no candidate", policies.Random, "choose", a_word_without_candidates),
     ("a book counts its own moves", policies.Book, "choose", book_counts_its_own_moves),
-    ("play looks at the board before the record", engine.COMMANDS, b"play", play_looks_at_the_board_first),
-    ("an unfinished last line is executed", Engine, "feed", feed_executes_the_last_line),
-    ("lines after quit are executed", Engine, "feed", feed_goes_on_after_quit),
+    ("play looks at the board before the record", COMMANDS, b"play", play_looks_at_the_board_first),
+    ("an unfinished last line is executed", Engine, "feed", lambda self, data: b"".join(map(self.answer, data.split(b"\n")))),
     ("spaces between words count", engine, "read_line", spaces_count),
-    ("lines of 1,000 bytes are too long", engine, "read_line", limit_of_999),
-    ("byte 127 stays", engine, "read_line", delete_is_kept),
-    ("a vertical tab is a space", engine, "read_line", vertical_tab_is_a_space),
-    ("a # is a space", engine, "read_line", comments_end_words),
-    ("2147483647 is no int", values, "read_int", greatest_int_refused),
-    ("an int has at most ten digits", values, "read_int", ints_of_ten_digits),
-    ("a komi wants a digit before the point", values, "read_komi", komi_wants_a_whole_part),
+    ("a vertical tab is a space", engine, "read_line", lambda line: right_read_line(line.replace(b"\x0b", b" "))),
+    ("a # is a space", engine, "read_line", lambda line: right_read_line(line.replace(b"#", b" "))),
+    ("an int has at most ten digits", values, "read_int", lambda text: right_read_int(text) if len(text) <= 10 else None),
+    ("a komi wants a digit before the point", values, "read_komi", lambda text: None if text[:1] == b"." else right_read_komi(text)),
     ("a komi loses its sign before a point", values, "read_komi", sign_lost_before_a_point),
     ("a row may have a leading zero", values, "read_vertex", row_with_a_leading_zero),
-    ("the letter Z is column 24", values, "read_vertex", z_is_24),
-    ("even sizes have nine handicap stones", values, "handicap_points", nine_on_even_sizes),
+    ("the letter Z is column 24", values, "read_vertex", lambda text: right_read_vertex(text.upper().replace(b"Z", b"Y"))),
 ]
 
+# The changes that do what a wrong body by hand did before. They are always tried.
+WANTED = [
+    # there is no ko; no earlier board may come back, by simple ko either; positional ko is simple ko
+    "game.Game.is_ko: return bool(self.moves) and board == self.boards[-2] -> return False",
+    "game.Game.is_ko: if self.rule == POSITIONAL: -> if True:",
+    "game.Game.is_ko: if self.rule == POSITIONAL: -> if False:",
+    # a play takes one chain alone
+    "game.put: for chain in captured: -> for chain in captured: .. break",
+    # each colour is given the other's captures; the score counts stones alone
+    "game.Game.captured: mover == colour -> mover != colour",
+    "game.Game.score: if len(beside) == 1: -> if False:",
+    # lines after quit are executed; lines of 1,000 bytes are too long; byte 127 stays
+    "engine.Engine.answer: None if self.ended else read_line(line) -> read_line(line)",
+    "engine.LONGEST_LINE: 1000 -> 999",
+    "engine.read_line: 126 -> 127",
+    # 2147483647 is no int; even sizes have nine handicap stones
+    "values.GREATEST_INT: 2147483647 -> 2147483646",
+    "values.handicap_points: size % 2 == 1 and size >= 9 -> size >= 9",
+]
 
-class Mutant:
-    """While it is open, the wrong body stands in the place of the right one."""
+# The changes that can't be noticed: each reason, and the changes.
+EQUAL = {
+    "the middle is asked of odd sizes alone": ["values.handicap_points: 1 -> 2 (2)"],
+    "no handicap has one stone": ["values.handicap_points: 0 -> 1"],
+    "0 comes before": ["engine.Engine.final_score: score > 0 -> score >= 0"],
+    "no policy does": ["engine.Engine.genmove: raise AssertionError('a policy chose an illegal move') -> nothing"],
+    "8 is even": ["values.handicap_points: 9 -> 8 (3)"],
+    "the next step takes the rest of what is larger": [
+        "policies.Generator.__init__: 128 -> 129", "policies.Generator.__init__: 2 -> 3",
+        "policies.Generator.of_seed: 16 -> 17", "policies.Generator.of_seed: 8 -> 9",
+    ],
+    "nothing is no text either": [
+        "engine.Engine.execute: COMMANDS[words[0]](self, words[1:]) or b'' -> COMMANDS[words[0]](self, words[1:])",
+    ],
+}
+# .. and those that no conversation shows, though they are wrong.
+UNSEEN = {
+    "byte 126 isn't drawn where it counts": [
+        "engine.read_line: 126 -> 125", "engine.read_line: 32 <= byte <= 126 -> 32 <= byte < 126",
+    ],
+}
+SAMPLE = 20  # others that are tried where not all are
 
-    def __init__(self, owner, attribute, wrong):
-        self.owner, self.attribute, self.wrong = owner, attribute, wrong
 
-    def __enter__(self):
-        self.right = self.swap(self.wrong)
-
-    def __exit__(self, *_):
-        self.swap(self.right)
-
-    def swap(self, body):
-        """Puts this body there, and gives the one that was there."""
-        if isinstance(self.owner, dict):
-            old, self.owner[self.attribute] = self.owner[self.attribute], body
-        else:
-            old = vars(self.owner)[self.attribute]
-            setattr(self.owner, self.attribute, body)
-        return old
+def chosen(is_all=False):
+    """The wrong bodies that are tried: a sample, or all."""
+    return mutator.chosen((values, rules, policies, engine), {**EQUAL, **UNSEEN}, WANTED, BY_HAND, SAMPLE, is_all)

@@ -8,9 +8,10 @@ import tempfile
 import time
 from pathlib import Path
 
-from tests.references.engine import conversations, engine, mutants
+from tests.references.engine import conversations, engine
 from tests.references.engine.conversations import KINDS, Conversation
 from tests.references.engine.game import SIMPLE, Game
+from tests.references.mutator import Mutant
 
 from .giving import at_once, in_pieces
 
@@ -60,7 +61,7 @@ class Refusals:
             self.number += not legal and by_simple.after(colour, vertex) is not None
             return legal
 
-        self.counting = mutants.Mutant(Game, "play", play)
+        self.counting = Mutant(Game, "play", play)
 
     def __enter__(self):
         self.counting.__enter__()

@@ -1,10 +1,10 @@
 """Which lessons show the bugs of the wrong engines, and which bugs nothing shows.
 
-A row follows from the bug's source and from the tables of the lessons, in crates/gtp_check_questions/specs. Most were written before a check was run.
-Some were set after one, and derived then: points_twice, rows_from_the_top, columns_for_rows, the bugs for which the course was made longer,
-and some of UNNOTICED. Where a comment speaks of games that are drawn, a row is only likely. The rows of CHANCE can't be derived: what shows
-these bugs hangs on what the engine draws, so they were found by checks. So were those of some 70 bugs, which were written without a look at
-the lessons.
+A row follows from the bug's source and from the tables of the lessons, in crates/gtp_check_questions/specs. Most were written before a
+check was run. Some were set after one, and derived then: points_twice, rows_from_the_top, columns_for_rows, the bugs for which the course
+was made longer, and some of UNNOTICED. Where a comment speaks of games that are drawn, a row is only likely. The rows of CHANCE can't be
+derived: what shows these bugs hangs on what the engine draws, so they were found by checks. So were those of some 70 bugs, which were
+written without a look at the lessons.
 
 To change it: a bug that the course notices has its place at the lessons that show it in OTHERS, where that of its subject doesn't; a bug
 that it doesn't notice has the reason in UNNOTICED. No bug may be in both.
@@ -34,8 +34,8 @@ SUBJECTS = {
 OTHERS = {
     ("start",): (
         # what every probe takes back
-        "nothing_is_taken_back two_moves_are_taken_back empty_record_is_undone genmoves_stay refused_play_is_undone chosen_move_is_not_made",
-        "byte_order_mark greeting first_read_is_lost first_genmove_is_of_19 undo_needs_a_genmove",
+        "nothing_is_taken_back two_moves_are_taken_back empty_record_is_undone genmoves_stay refused_play_is_undone",
+        "chosen_move_is_not_made byte_order_mark greeting first_read_is_lost first_genmove_is_of_19 undo_needs_a_genmove",
         # a new start right after a ko, and a probe of its point; an `undo` before any move after a new start
         "old_ko_stays old_moves_are_undone game_is_resumed_at_its_first_move",
     ),
@@ -101,8 +101,9 @@ OTHERS = {
     # games that are drawn: long chains and play between them, two boards with equal counts, more than eight boards, a board with other
     # colours, a probe after 100 moves; of their sizes the second is smaller than the first
     ("drawn",): (
-        "sixteen_stones_at_most liberties_have_four_bits names_of_taken_stones_stay third_chain_is_not_joined taken_chain_gives_one_liberty",
-        "eight_boards_alone ko_of_equal_counts third_time_is_refused hash_ignores_colours ko_outlives_a_second_move",
+        "sixteen_stones_at_most liberties_have_four_bits names_of_taken_stones_stay third_chain_is_not_joined",
+        "taken_chain_gives_one_liberty eight_boards_alone ko_of_equal_counts third_time_is_refused hash_ignores_colours",
+        "ko_outlives_a_second_move",
         "refused_suicide_takes_liberties chain_numbers_are_bytes first_of_a_block_stays edges_of_a_larger_board",
     ),
 }

@@ -102,7 +102,8 @@ def unnoticed(name, is_all):
     report = read(result.output)
     if isinstance(report, str):
         return f"{report}: {result}"
-    return f"it is noticed: of_gtp_check/table.py is to be changed\n{result.output[:1500]}" if (result.status, report.count) != (0, 0) else None
+    is_noticed = (result.status, report.count) != (0, 0)
+    return f"it is noticed: of_gtp_check/table.py is to be changed\n{result.output[:1500]}" if is_noticed else None
 
 
 def odd_table():
