@@ -152,7 +152,7 @@ UNSEEN = {
         "matches.play_game: raise Undetermined('the match has no end') -> nothing",
     ],
 }
-SAMPLE = 40  # others that are tried where not all are
+SAMPLE = 30  # others that are tried where not all are
 
 
 def chosen(is_all=False):

@@ -25,7 +25,8 @@ PATCHES = [
     patch("captures_end_at_an_empty_point",
           "Captures are looked for at one neighbour after the other, and no further once one of them is empty.",
           on(5, "w C1 b D1 b C2 b B1", "play b C1"), "=",
-          captures=lambda self, right, board, colour, point: self.dead(board, other(colour), takewhile(board.__getitem__, self.near[point]))),
+          captures=lambda self, right, board, colour, point: self.dead(
+              board, other(colour), takewhile(lambda near: board[near] != EMPTY, self.near[point]))),
     patch("every_second_stone_is_taken",
           "Each stone that is taken is removed from the list that the loop is in, so every second one is passed over.",
           on(5, "w A1 w B1 b A2 b B2 b C1", "play b B1"), "=",

@@ -91,8 +91,10 @@ def ids_are_floats(self, right, good, number, text):
     return right(good, number, text)
 
 
-@instead_of("head", [*("\n".join(f"{number} name" for number in range(first, first + 512)) for first in range(0, 32768, 512)), "32768 name"],
-            "= plain")
+NAMES = ["\n".join(f"{number} name" for number in range(first, first + 512)) for first in range(0, 32768, 512)]
+
+
+@instead_of("head", [*NAMES, "32768 name"], "= plain")
 def ids_are_shorts(self, right, good, number, text):
     """An id has sixteen bits and a sign, so the one after 32,767 is written with a minus."""
     return right(good, number if number is None else (number + 32768) % 65536 - 32768, text)
