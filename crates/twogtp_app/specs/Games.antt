@@ -45,7 +45,8 @@ result_part number c (Some verdict) = result_text number c verdict ++ newline �
 
 -- what is written of a game: its result line, and then the record and the board where they are asked for
 abbrev pub game_lines : Task → ℕ → Controller → List ℕ
-game_lines task number c = result_part number c c.verdict ++ (record_part task.record c ++ board_part task.show c)
+game_lines task number c =
+    result_part number c c.verdict ++ (record_part task.details.record c ++ board_part task.details.show c)
 
 -- ---- the games of a plan
 
@@ -62,7 +63,7 @@ module _ {P O E : Type 0} (known : Ghosts P) (outs : WriterGhosts O) (errs : Wri
   -- that its processes were closed.
   pub record GameIsWritten (number : ℕ) (before after : O) (had has : Seen P E) (verdict : Verdict) : Type 0 where
     pub last : GameState P
-    pub played : IsPlayed known errs plan.commands plan.task.why number
+    pub played : IsPlayed known errs plan.commands plan.task.details.why number
         (opening plan.task.setup had.asked) had.errors last has.errors verdict
     pub asked : last.asked ≡ has.asked
     pub out : GoesOut outs (game_lines plan.task number last.game) before after
@@ -72,12 +73,12 @@ module _ {P O E : Type 0} (known : Ghosts P) (outs : WriterGhosts O) (errs : Wri
   -- was played to its end, and the output broke at its text. Its processes were ended.
   pub data GameIsNotWritten (number : ℕ) (before after : O) (had has : Seen P E) : Failure → Type 0 where
     stopped : {last : GameState P} {failure : Failure}
-        → HasStopped known errs plan.commands plan.task.why number
+        → HasStopped known errs plan.commands plan.task.details.why number
         (opening plan.task.setup had.asked) had.errors last has.errors failure
         → last.asked ≡ has.asked → AreEnded known last.processes → after ≡ before
         → GameIsNotWritten number before after had has failure
     broke : {last : GameState P} {verdict : Verdict}
-        → IsPlayed known errs plan.commands plan.task.why number
+        → IsPlayed known errs plan.commands plan.task.details.why number
         (opening plan.task.setup had.asked) had.errors last has.errors verdict
         → last.asked ≡ has.asked → AreEnded known last.processes
         → BreaksAt outs (game_lines plan.task number last.game) before after

@@ -9,8 +9,7 @@ use Rattle.twogtp_app.specs.declared.options.Options.{Options}
 
 -- ---- the options that there are
 
--- `--black CMD --white CMD [--size N] [--komi K] [--handicap N] [--games N] [--max-moves N] [--restarts N] [--record]
--- [--show] [--why]`
+-- in the order of the help
 abbrev pub options : List Rule
 options =
     required_rule (codes "black")
@@ -26,7 +25,7 @@ options =
     ∷ flag_rule (codes "why")
     ∷ []
 
--- the program, and all options in the order of the help
+-- the program with its options
 abbrev pub command_line : App
 command_line = with_rules (program (codes "twogtp")) options
 
@@ -42,9 +41,9 @@ pub record Ask (rows : List Row) (options : Options) : Type 0 where
   pub games : HasNumber (codes "games") rows options.games
   pub max_moves : HasNumber (codes "max-moves") rows options.max_moves
   pub restarts : HasNumber (codes "restarts") rows options.restarts
-  pub record_flag : HasFlag (codes "record") rows options.record
-  pub show_flag : HasFlag (codes "show") rows options.show
-  pub why_flag : HasFlag (codes "why") rows options.why
+  pub record_flag : HasFlag (codes "record") rows options.details.record
+  pub show_flag : HasFlag (codes "show") rows options.details.show
+  pub why_flag : HasFlag (codes "why") rows options.details.why
 
 -- the words of a command line have no mistake, and ask for these options
 pub record AsksFor (words : List Text) (options : Options) : Type 0 where
@@ -53,7 +52,7 @@ pub record AsksFor (words : List Text) (options : Options) : Type 0 where
 
 -- whatever options the words ask for, `--why` is not among them
 abbrev pub IsWithoutWhy : List Text → Type 0
-IsWithoutWhy words = (options : Options) → AsksFor words options → options.why ≡ false
+IsWithoutWhy words = (options : Options) → AsksFor words options → options.details.why ≡ false
 
 -- the words have a mistake of this kind, or ask for the help or the version
 abbrev pub HasFault : List Text → ErrorKind → Type 0

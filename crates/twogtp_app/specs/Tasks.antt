@@ -37,9 +37,7 @@ pub record IsTaskOf (options : Options) (task : Task) : Type 0 where
   pub max_moves : task.setup.max_moves ≡ options.max_moves
   pub max_restarts : task.setup.max_restarts ≡ options.restarts
   pub games : task.games ≡ options.games
-  pub record_flag : task.record ≡ options.record
-  pub show_flag : task.show ≡ options.show
-  pub why_flag : task.why ≡ options.why
+  pub details : task.details ≡ options.details
 
 -- what the options come to
 pub record IsPlanOf (options : Options) (plan : Plan) : Type 0 where

@@ -99,12 +99,12 @@ impl<S: Starter> GameInPlay<S> {
     ) -> Result<Verdict, Failure>
         ensures { let first = state self.old.game self.old.processes (S.asked starter.old) in
             let last = state self.new.game self.new.processes (S.asked starter.new) in
-            TurnsEnd S.Process.Process E.WriteOnce plan.now.commands plan.now.task.why number
+            TurnsEnd S.Process.Process E.WriteOnce plan.now.commands plan.now.task.details.why number
             first errors.old last errors.new result }
     {
         for _turn in 0..MOST_TURNS {
             match self.take_turn(&plan.commands, starter)? {
-                Step::Taken(turn) => write_turn(plan.task.why, number, &turn, errors)?,
+                Step::Taken(turn) => write_turn(plan.task.details.why, number, &turn, errors)?,
                 Step::Over(verdict) => return Ok(verdict),
             }
         }

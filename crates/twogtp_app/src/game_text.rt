@@ -21,11 +21,11 @@ pub fn game_text(task: &Task, number: u32, played: &Match) -> GameText
 {
     let mut text = ArrayVec::new();
     push_result(&mut text, number, played);
-    if task.record {
+    if task.details.record {
         push(&mut text, record_line(played).as_slice());
         push(&mut text, b"\n");
     }
-    if task.show {
+    if task.details.show {
         push(&mut text, played.game().show().as_slice());
         push(&mut text, b"\n\n");
     }

@@ -6,6 +6,7 @@ ghost use Rattle.clap.specs.declared.error.kind.ErrorKind.TheVariants.{OutOfMemo
 ghost use Rattle.cli.specs.Options.{program};
 ghost use Rattle.twogtp_app.specs.Options.{Ask, AsksFor, HasFault, command_line};
 
+use crate::task::Details;
 use clap::{ArgMatches, Command, Error};
 use cli::options::{OptionRow, Takes, flag_at, number_at, text_at, with_options};
 use go_board::VERSION;
@@ -58,12 +59,8 @@ pub struct Options<'a> {
     pub max_moves: u32,
     /// How often a side is started again at most, 0 to 1,000.
     pub restarts: u32,
-    /// Whether the record is written.
-    pub record: bool,
-    /// Whether the board is written.
-    pub show: bool,
-    /// Whether it is written why a side failed.
-    pub why: bool,
+    /// What is written beside the games' lines.
+    pub details: Details,
 }
 
 /// The options, in the order of the help.
@@ -151,9 +148,11 @@ fn options_of<'a>(matches: &ArgMatches<'a>) -> Options<'a>
         games: number_at(matches, "games"),
         max_moves: number_at(matches, "max-moves"),
         restarts: number_at(matches, "restarts"),
-        record: flag_at(matches, "record"),
-        show: flag_at(matches, "show"),
-        why: flag_at(matches, "why"),
+        details: Details {
+            record: flag_at(matches, "record"),
+            show: flag_at(matches, "show"),
+            why: flag_at(matches, "why"),
+        },
     }
 }
 

@@ -73,9 +73,7 @@ fn task_of(options: &Options<'_>) -> Result<Task, Mistake>
         Ok(setup) => Ok(Task {
             setup,
             games: options.games,
-            record: options.record,
-            show: options.show,
-            why: options.why,
+            details: options.details,
         }),
         Err(_) => Err(Mistake::BadHandicap),
     }

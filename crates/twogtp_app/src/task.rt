@@ -6,6 +6,17 @@ ghost use Rattle.twogtp_app.specs.Starts.{program_line_for};
 use go_base::Side;
 use gtp_match::Setup;
 
+/// What is written beside the games' lines.
+#[derive(Clone, Copy, Debug)]
+pub struct Details {
+    /// Whether the record is written.
+    pub record: bool,
+    /// Whether the board is written.
+    pub show: bool,
+    /// Whether it is written why a side failed.
+    pub why: bool,
+}
+
 /// The games of a run, and what is written of them.
 #[derive(Clone, Copy, Debug)]
 pub struct Task {
@@ -13,12 +24,8 @@ pub struct Task {
     pub setup: Setup,
     /// How many games are played.
     pub games: u32,
-    /// Whether the record is written.
-    pub record: bool,
-    /// Whether the board is written.
-    pub show: bool,
-    /// Whether it is written why a side failed.
-    pub why: bool,
+    /// What is written beside their lines.
+    pub details: Details,
 }
 
 /// The commands that start the engines, each split into words: the program and its arguments.

@@ -48,11 +48,11 @@ module _ {P E : Type 0} (known : ProcessGhosts P) (errs : Ghosts E) (commands : 
       nothing_out no_line = refl
 
 module _ {P O E : Type 0} (known : ProcessGhosts P) (outs : Ghosts O) (errs : Ghosts E) (plan : Plan)
-    (none : plan.task.why ≡ false) (first : O) (had : Seen P E) where
+    (none : plan.task.details.why ≡ false) (first : O) (had : Seen P E) where
   pub games_are_quiet : (number status : ℕ) (after : O) (has : Seen P E)
       → GamesAreWritten known outs errs plan first had number status after has → has.errors ≡ had.errors
   games_are_quiet _ _ _ _ no_game = refl
   games_are_quiet _ _ _ _
       (game {number = n} {status = status} {before = before} {between = between} games is) =
-      turns_are_quiet known errs plan.commands _ _ _ plan.task.why none is.played.plays.0 is.last _ is.played.plays.1
+      turns_are_quiet known errs plan.commands _ _ _ plan.task.details.why none is.played.plays.0 is.last _ is.played.plays.1
       ∙ games_are_quiet n status before between games

@@ -1,4 +1,5 @@
-use Rattle.std.proofs.Common.{◌∙◌, inl, inr, arith, map, refl, sym}
+use Rattle.std.proofs.Common.{◌∙◌, ap, inl, inr, arith, map, refl, sym}
+use Rattle.twogtp_app.specs.declared.task.Details.{Details}
 use Rattle.twogtp_app.proofs.command_line.Answering.{answered_played, answered_quiet, answered_status}
 use Rattle.twogtp_app.proofs.command_line.Answering.{answered_stopped, answered_usage}
 use Rattle.twogtp_app.proofs.matches.Statuses.{games_are_quiet, status_range}
@@ -53,7 +54,8 @@ returns-in-Ok-play_games-clause-stopped g c = λ three. absurd
 pub returns-in-Ok-play_games-clause-quiet : goal.returns-in-Ok-play_games-clause-quiet
 returns-in-Ok-play_games-clause-quiet g c = λ range none.
     games_are_quiet g.S.Process.Process g.O.WriteOnce g.E.WriteOnce c.in-Ok-plan_of.plan
-    (c.in-Ok-plan_of.ensures.plan.games.why_flag ∙ none c.in-Ok.options c.in-Ok.ensures.asked)
+    (ap (λ (details : Details). details.why) c.in-Ok-plan_of.ensures.plan.games.details
+    ∙ none c.in-Ok.options c.in-Ok.ensures.asked)
     _ _ _ _ _ _ c.in-Ok-play_games.ensures
 
 pub returns-in-Ok-play_games-clause-played : goal.returns-in-Ok-play_games-clause-played

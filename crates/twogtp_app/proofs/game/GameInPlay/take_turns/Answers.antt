@@ -28,7 +28,7 @@ loop-turn-preserved g c =
 pub returns : goal.returns
 returns g c =
     too_many_turns (subst (λ (n : ℕ). Plays g.S.Process.Process g.E.WriteOnce c.args.plan.now.commands
-    c.args.plan.now.task.why c.args.number
+    c.args.plan.now.task.details.why c.args.number
     (state c.args.self.now.game c.args.self.now.processes (g.S.Starter.asked c.args.starter.now)) c.args.errors.now n
     (state c.loop-turn.self.game c.loop-turn.self.processes (g.S.Starter.asked c.loop-turn.starter))
     c.loop-turn.errors)

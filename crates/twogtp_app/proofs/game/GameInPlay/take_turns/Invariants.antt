@@ -4,6 +4,6 @@ use Rattle.twogtp_app.proofs.game.GameInPlay.take_turns.Given as goal
 -- this number of turns was taken
 abbrev pub invariant-loop-turn : goal.invariant-loop-turn
 invariant-loop-turn g l =
-    Plays g.S.Process.Process g.E.WriteOnce l.plan.commands l.plan.task.why l.number
+    Plays g.S.Process.Process g.E.WriteOnce l.plan.commands l.plan.task.details.why l.number
     (state l.fn.self.game l.fn.self.processes (g.S.Starter.asked l.fn.starter)) l.fn.errors l._turn
     (state l.self.game l.self.processes (g.S.Starter.asked l.starter)) l.errors
