@@ -14,8 +14,8 @@ pub fn placed_engines_begin_talks()
     ensures game { fresh_engine.game ≡ fresh_game }
 {}
 
-/// What was placed is as one that is begun anew: a game by 1 for simple ko, size 19 and no komi; an engine by 1; a match
-/// of size 19 without komi, handicap and restarts, and with 2,000 moves at most.
+/// What was placed is as one that is begun anew: a game by 1 for simple ko, size 19 and no komi; an engine by 1; a
+/// match of size 19 without komi, handicap and restarts, and with 2,000 moves at most.
 pub fn placed_objects_are_as_begun()
     ensures games { Begins 1 19 (pos 0) fresh_game }
     ensures engines { BeginsEngine 1 fresh_engine }

@@ -16,7 +16,7 @@ use Rattle.gtp_wire.specs.declared.lines.Line.{Line}
 use Rattle.gtp_wire.specs.declared.lines.Line.TheVariants as line
 use Rattle.gtp_session.specs.Commands.{named_command}
 use Rattle.gtp_session.specs.OwnCommands.{IsOwnName, is_name_byte}
-use Rattle.gtp_session.specs.Steps.{StepsState, IsOpen, ReadsOn, FindsLine, after_wait, event_of, wait_of, with_line}
+use Rattle.gtp_session.specs.Steps.{StepsState, ReadsOn, FindsLine, after_wait, event_of, wait_of, with_line}
 use Rattle.gtp_session.specs.declared.events.Event.{Event}
 use Rattle.gtp_session.specs.declared.events.Event.TheVariants as event
 use Rattle.gtp_session.specs.declared.events.Wait.{Wait}

@@ -2,8 +2,7 @@
 use Rattle.std.proofs.Common.{◌≡◌, ℕ, ◌<◌, ◌≤◌, List, [], ◌∷◌, ◌++◌, length, take, Option, Some, None, refl, sym, ap}
 use Rattle.std.proofs.Common.{◌∙◌, ◌⊎◌, inl, inr, arith}
 use Rattle.std.proofs.lemmas.List.{take-append-le, take_all}
-use Rattle.std.specs.Prelude.{MatchOption, Result, Ok, Err}
-use Rattle.go_base.specs.Colour.{other}
+use Rattle.std.specs.Prelude.{MatchOption, Ok, Err}
 use Rattle.go_base.specs.declared.colours.Colour.{Colour}
 use Rattle.go_base.specs.declared.colours.Colour.TheVariants.{Black, White}
 use Rattle.gtp_wire.specs.Lines.{lines}
@@ -19,7 +18,7 @@ use Rattle.gtp_match.specs.declared.verdicts.Action.TheVariants as action
 use Rattle.gtp_match.proofs.hearing.LeftAlone.{send_leaves, sent_is_owed}
 use Rattle.gtp_match.proofs.scripts.Lines.{sent_line}
 use Rattle.vintsaky_calls.specs.Laws.{unanswered_by, unanswered_of, WroteOneMore, SentWereWritten}
-use Rattle.vintsaky_calls.specs.Matches.{most_command, Sends, SendCall}
+use Rattle.vintsaky_calls.specs.Matches.{most_command, Sends}
 use Rattle.vintsaky_calls.specs.Texts.{Puts}
 
 -- a text that was put is what the buffer begins with

@@ -1,7 +1,7 @@
 -- A talk is a run of an engine in steps.
-use Rattle.std.proofs.Common.{◌≡◌, ◌≢◌, ℕ, Bool, true, false, List, [], ◌∷◌, ◌++◌, take, refl, sym, ap, subst, ◌∙◌}
+use Rattle.std.proofs.Common.{◌≡◌, ℕ, Bool, true, false, List, [], ◌++◌, take, refl, sym, ap, subst, ◌∙◌}
 use Rattle.std.proofs.Common.{append-nil, arith}
-use Rattle.std.specs.Prelude.{Result, Ok, Err}
+use Rattle.std.specs.Prelude.{Ok, Err}
 use Rattle.go_board.specs.declared.rules.KoRule.{KoRule}
 use Rattle.go_board.specs.declared.rules.KoRule.TheVariants.{Simple, Positional}
 use Rattle.gtp_session.specs.Steps.{StepsState, IsOpen, ReadsOn, fresh_steps, declined_text}
@@ -11,7 +11,7 @@ use Rattle.gtp_session.specs.declared.events.Event.TheVariants as event
 use Rattle.gtp_session.specs.declared.events.Wait.{Wait}
 use Rattle.gtp_session.specs.declared.events.Wait.TheVariants as wait
 use Rattle.vintsaky_calls.specs.Codes.{Made, rule_code}
-use Rattle.vintsaky_calls.specs.Engines.{BeginsEngine, BeginCall, Feeds, FeedCall, ChooseCall, AnswerCall, DeclineCall}
+use Rattle.vintsaky_calls.specs.Engines.{BeginsEngine, Feeds, FeedCall, ChooseCall, AnswerCall, DeclineCall}
 use Rattle.vintsaky_calls.specs.Engines.{SetNameCall, SetVersionCall, AddCommandCall, is_success}
 use Rattle.vintsaky_calls.specs.Talks.{Talk, IsRunOf, TalksAreRuns, BegunAreAlike}
 

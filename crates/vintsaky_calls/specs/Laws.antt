@@ -69,8 +69,8 @@ pub record WaitsFor (words : CommandWords) (old new : StepsState) (number : ℕ)
   pub line_is : new.line ≡ line.Command words
   pub game : new.game ≡ old.game
 
--- A line of a name that was added waits for its answer: in every engine that goes on, waits for nothing and holds nothing
--- back, whatever its game is.
+-- A line of a name that was added waits for its answer: in every engine that goes on, waits for nothing and holds
+-- nothing back, whatever its game is.
 abbrev pub AddedNamesWait : Type 0
 AddedNamesWait =
     (name : List ℕ) (before after : StepsState) → AddCommandCall name before after (Ok tt)

@@ -1,6 +1,6 @@
 -- Talks: what a caller does with an engine that was placed, as long as it begins the engine anew only before the first
 -- byte.
-use Rattle.std.specs.Prelude.{◌≡◌, ℕ, List, [], ◌++◌, take, Result, Ok, Err}
+use Rattle.std.specs.Prelude.{◌≡◌, ℕ, List, [], ◌++◌, take, Ok, Err}
 use Rattle.go_base.specs.declared.choices.Choice.{Choice}
 use Rattle.go_board.specs.declared.rules.KoRule.{KoRule}
 use Rattle.go_board.specs.declared.rules.KoRule.TheVariants.{Simple}
@@ -11,9 +11,9 @@ use Rattle.vintsaky_calls.specs.Engines.{BeginCall, FeedCall, ChooseCall, Answer
 use Rattle.vintsaky_calls.specs.Engines.{SetVersionCall, AddCommandCall}
 use Rattle.vintsaky_calls.specs.declared.causes.Cause.{Cause}
 
--- The engine has this ko rule, has used this text, and is this one now. It was placed, which gives it simple ko, and may
--- be begun anew as long as it has used no byte. All other calls come in any order, also those that are refused. (What
--- only reads an engine leaves it as it is.)
+-- The engine has this ko rule, has used this text, and is this one now. It was placed, which gives it simple ko, and
+-- may be begun anew as long as it has used no byte. All other calls come in any order, also those that are refused.
+-- (What only reads an engine leaves it as it is.)
 pub data Talk : KoRule → List ℕ → StepsState → Type 0 where
   placed : Talk Simple [] (fresh_steps Simple)
   begun : {rule : KoRule} {a b : StepsState}
