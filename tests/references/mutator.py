@@ -222,11 +222,9 @@ def bodies(module, tree):
 def place_of(module, owner, name):
     """Where a method is looked up: in a table of the module that has it, or in its class."""
     method = vars(owner)[name]
-    for table in vars(module).values():
-        for key, value in table.items() if isinstance(table, dict) and table is not vars(module) else ():
-            if value is method:
-                return table, key
-    return owner, name
+    tables = [value for value in vars(module).values() if isinstance(value, dict)]
+    found = [(table, key) for table in tables for key, value in table.items() if value is method]
+    return found[0] if found else (owner, name)
 
 
 def compiled(module, function):
