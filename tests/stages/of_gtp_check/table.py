@@ -164,7 +164,7 @@ WAITING |= {"replies_are_held"}
 # What they answer hangs on how the commands are cut, or on what earlier processes have left: pasted into one more process their
 # conversation may have right answers. Those that wait have answered more commands than the conversation has.
 ANEW = {*WAITING, "reads_of_sixty_four", "trial_is_over"}
-ANEW |= {"old_game_is_a_book", "old_game_comes_back", "old_board_comes_back_at_undo", "old_moves_are_undone"}
+ANEW |= {"old_game_is_a_book", "old_game_comes_back", "old_board_comes_back_at_undo", "old_moves_are_undone", "old_ko_stays"}
 ANEW |= {"eleventh_start_fails", "id_of_the_last_line_of_a_read", "last_line_of_a_read_is_first"}
 ANEW |= {"game_is_resumed_at_its_first_move", "old_colour_stays", "book_has_no_sizes"}
 
