@@ -1,44 +1,46 @@
-"""What each check of a release uses: its line, and how a command is run."""
+"""How a command of a release is run, and what a release is made of."""
+import atexit
 import hashlib
 import os
-import signal
-import subprocess
+import shutil
+from functools import lru_cache
 from pathlib import Path
 
-TOP = Path(__file__).resolve().parents[3]
+from tests.shared import checks, running
+
+TOP = running.TOP
 PROGRAMS = ["twogtp", "gtp_engine", "gtp_check"]
 LIBRARY = ["libvintsaky.a", "libvintsaky.so.1"]
 LIMIT = 120  # seconds that a command may take
-results = []
 
 
-def check(what, wanted, got):
-    """Prints whether the two are the same."""
-    results.append(wanted == got)
-    print(f"ok: {what}" if wanted == got else f"FAILED: {what}\n--- wanted\n{wanted}\n--- got\n{got}\n---", flush=True)
+def run(words, text="", limit=LIMIT, **how):
+    """Runs a command, which reads this text: its status, and what it wrote on both streams."""
+    return running.run(words, text, limit, **how)
 
 
-def skip(what, why):
-    """Prints what isn't looked at, and why."""
-    print(f"skipped: {what}: {why}", flush=True)
-
-
-def run(words, **how):
-    """Runs a command: its status, and what it wrote on both streams."""
-    text, limit = how.pop("input", ""), how.pop("limit", LIMIT)
-    how.setdefault("stdout", subprocess.PIPE)
-    process = subprocess.Popen(
-        words, stdin=subprocess.PIPE, stderr=subprocess.PIPE, encoding="utf-8", errors="replace", start_new_session=True, **how
-    )
-    try:
-        output, errors = process.communicate(text, limit)
-    except subprocess.TimeoutExpired:
-        os.killpg(process.pid, signal.SIGKILL)
-        output, errors = process.communicate()
-        errors += "\nit did not end"
-    return process.returncode, output or "", errors
+def with_path(*folders, **more):
+    """The environment in which commands of these folders are found first."""
+    return {**os.environ, "PATH": ":".join([*map(str, folders), os.environ["PATH"]]), **more}
 
 
 def sum_of(file):
     """The sum of a file."""
     return hashlib.sha256(Path(file).read_bytes()).hexdigest()
+
+
+@lru_cache(maxsize=None)
+def room_of_all():
+    """The folder of all that is made, until the end of the stage."""
+    return checks.folder_until(atexit.register)
+
+
+@lru_cache(maxsize=None)
+def beside():
+    """A folder that has the built programs, in bin/."""
+    running.need(*PROGRAMS)
+    folder = room_of_all() / "beside"
+    (folder / "bin").mkdir(parents=True)
+    for program in PROGRAMS:
+        shutil.copy(TOP / "bin" / program, folder / "bin" / program)
+    return folder

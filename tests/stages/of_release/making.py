@@ -2,11 +2,16 @@
 import os
 import re
 import shutil
-import subprocess
 from concurrent.futures import ThreadPoolExecutor
+from functools import cached_property, lru_cache
 from pathlib import Path
+from unittest import SkipTest
 
-from .checks import LIBRARY, PROGRAMS, TOP, check, run, sum_of
+from tests.shared import checks, running
+
+from .commands import LIBRARY, PROGRAMS, TOP, room_of_all, run, sum_of
+
+TOOLS = (("git", "git"), ("dpkg-deb", "dpkg"), ("cargo", "cargo-web"))
 
 GATE = "12345 passed, 0 failed, at https://gate.example/7"
 DATE = "2026-11-25T00:00:00Z"
@@ -18,13 +23,11 @@ def object_of(program):
     return Path(output.rstrip("\n")) if status == 0 else None
 
 
-def cache_with(room, objects):
-    """A folder for XDG_CACHE_HOME in which these object files are kept, and nothing else."""
-    cache = room / "cache"
-    for program, object_file in objects.items():
-        words = [TOP / "packaging/cache", "--keep", object_file, TOP / "bin" / program]
-        check(f"the object file of {program} is that of the built program", (0, ""), run(words, env={**os.environ, "XDG_CACHE_HOME": str(cache)})[::2])
-    return cache
+def git(folder, *words, **environment):
+    """What Git writes in a folder."""
+    status, output, errors = run(["git", *words], cwd=folder, env={**os.environ, **environment})
+    assert status == 0, f"git {' '.join(words)}: {errors}"
+    return output
 
 
 def commit(folder, message):
@@ -32,19 +35,19 @@ def commit(folder, message):
     who = ["-c", "user.name=tests", "-c", "user.email=tests@release.example"]
     dates = {"GIT_AUTHOR_DATE": DATE, "GIT_COMMITTER_DATE": DATE}
     for line in (["add", "-A"], [*who, "commit", "-q", "-m", message]):
-        subprocess.run(["git", *line], cwd=folder, env={**os.environ, **dates}, check=True, stderr=subprocess.DEVNULL)
+        git(folder, *line, **dates)
 
 
 def copy_of(folder):
     """A copy of the repository with one commit, the built programs and the library."""
     folder.mkdir(parents=True)
-    names = run(["git", "ls-files", "-z"], cwd=TOP)[1].split("\0")
+    names = git(TOP, "ls-files", "-z").split("\0")
     for name in [it for it in names if it and (TOP / it).exists()]:
         (folder / name).parent.mkdir(parents=True, exist_ok=True)
         shutil.copy(TOP / name, folder / name, follow_symlinks=False)
     # nothing is to be proved here
     (folder / "build").write_text(f'#!/bin/bash\n[ "$*" = "--needed --proved {" ".join(PROGRAMS)} library" ]\n')
-    subprocess.run(["git", "init", "-q"], cwd=folder, check=True, stderr=subprocess.DEVNULL)
+    git(folder, "init", "-q")
     commit(folder, "What is released")
     (folder / "bin").mkdir()
     for program in PROGRAMS:
@@ -74,36 +77,164 @@ def files_of(name):
     return files | ({"python": f"python3-vintsaky_{name}_all.deb"} if (TOP / "library/python/vintsaky").is_dir() else {})
 
 
-def check_same(one, other, third, final):
-    """Four copies are released at once, two of them alike."""
-    run(["git", "tag", f"v{version_of(final / 'bin/twogtp')}"], cwd=final)
-    home = {"HOME": str(other), "RUSTUP_HOME": os.environ.get("RUSTUP_HOME", str(Path.home() / ".rustup"))}  # where cargo may be from
-    with ThreadPoolExecutor(4) as pool:
-        runs = [
-            pool.submit(release, one),
-            pool.submit(release, other, umask=0o077, TZ="Asia/Tokyo", LC_ALL="C.UTF-8", LANGUAGE="de", **home),
-            pool.submit(release, third, "--gate", GATE),
-            pool.submit(release, final, "--gate", GATE, "--final"),
-        ]
-        for at, it in zip((one, other, third, final), runs):
-            check(f"a release is made in {at.name}", (0, ""), it.result()[::2])
-    check("the sums are those of the files", 0, run(["sha256sum", "--check", "--strict", "SHA256SUMS"], cwd=one / "dist")[0])
-    sums = [{name: sum_of(at / "dist" / name) for name in made(at)} for at in (one, other)]
-    check("two folders with other names, umask, time zone and language give the same files to the byte", *sums)
-
-
 def version_of(program):
     """The number that a program prints."""
-    return run([program, "--version"])[1].split()[1]
+    return run([program, "--version"]).output.split()[1]
 
 
-def check_names(one, third, final):
-    """What the files are called: after the commit, or after the version alone where the release is final."""
-    version = version_of(one / "bin/twogtp")
-    commit = run(["git", "rev-parse", "HEAD"], cwd=one)[1].strip()
-    name = f"{version}+git.{commit[:12]}"
-    for at, wanted in ((one, name), (third, name), (final, version)):
-        check(f"{at.name}: dist/ has the sums, the archives and the packages of {wanted}", sorted(files_of(wanted).values()), made(at))
-    for words in ([name, "gt", version], [name, "lt", f"{version}.1"], [name, "lt", re.sub(r"\d+$", lambda it: str(int(it[0]) + 1), version)]):
-        check(f"Debian's order: {' '.join(words)}", 0, run(["dpkg", "--compare-versions", *words])[0])
-    return name, version
+@lru_cache(maxsize=None)
+def missing_tools():
+    """What a release needs and isn't there."""
+    missing = [f"there is no {name} (apt-get install {of})" for name, of in TOOLS if not shutil.which(name)]
+    missing += [f"bin/{it} is not there: ./build library makes it" for it in LIBRARY if not (TOP / "bin" / it).is_file()]
+    for words in (["packaging/link", "--library"], ["packaging/source", "--look"]):
+        status, _, errors = run([TOP / words[0], words[1]])
+        missing += [errors.strip()] if status else []
+    if not missing:
+        lost = [program for program in PROGRAMS if object_of(program) is None]
+        missing += [f"no object file of {it} is kept: rt ci took the program from what it kept; ./build {it} keeps one" for it in lost]
+    return missing
+
+
+class Releases:
+    """Releases of four copies of the repository, two of them alike: one has the word of the gate, and the last one is final."""
+
+    def __init__(self, room):
+        self.room = room
+        self.kept = self.keep_objects()
+        self.copies = [copy_of(room / name) for name in ("one", "another_folder", "deeper/third", "final")]
+        self.one, self.other, self.third, self.final = self.copies
+        self.version = version_of(self.one / "bin/twogtp")
+        self.commit = git(self.one, "rev-parse", "HEAD").strip()
+        self.name = f"{self.version}+git.{self.commit[:12]}"
+        self.ran = self.run()
+        self.made = [made(at) for at in self.copies]
+        self.sums = [{name: sum_of(at / "dist" / name) for name in made(at)} for at in (self.one, self.other)]
+        self.files = files_of(self.name)
+        self.other_commit = self.release_other_commit()
+
+    def keep_objects(self):
+        """Keeps the object files, and nothing else, in a place of their own: what comes of it for each program."""
+        objects, cache = {it: object_of(it) for it in PROGRAMS}, self.room / "cache"
+        os.environ["XDG_CACHE_HOME"] = str(cache)
+        return {program: run([TOP / "packaging/cache", "--keep", at, TOP / "bin" / program]) for program, at in objects.items()}
+
+    def run(self):
+        """Makes all four at once: what comes of each."""
+        git(self.final, "tag", f"v{self.version}")
+        rustup = os.environ.get("RUSTUP_HOME", str(Path.home() / ".rustup"))  # where cargo may be from
+        elsewhere = {"TZ": "Asia/Tokyo", "LC_ALL": "C.UTF-8", "LANGUAGE": "de", "HOME": str(self.other), "RUSTUP_HOME": rustup}
+        with ThreadPoolExecutor(4) as pool:
+            runs = [
+                pool.submit(release, self.one),
+                pool.submit(release, self.other, umask=0o077, **elsewhere),
+                pool.submit(release, self.third, "--gate", GATE),
+                pool.submit(release, self.final, "--gate", GATE, "--final"),
+            ]
+        return [it.result() for it in runs]
+
+    def release_other_commit(self):
+        """Releases another commit of the same version, while all else is looked at."""
+        pool = ThreadPoolExecutor(1)
+        checks.pools.append(pool)
+        page = self.other / "docs/rules.md"
+
+        def work():
+            page.write_text(page.read_text() + "\n")
+            commit(self.other, "One more")
+            return release(self.other)
+
+        return pool.submit(work)
+
+    def are_whole(self):
+        """Was all made?"""
+        return [len(names) for names in self.made] == [len(self.files)] * len(self.copies)
+
+    @cached_property
+    def unpacked(self):
+        """The archives of the first, the third and the final one, unpacked: the status, and the one folder of each."""
+        named = ((self.one, self.name), (self.third, self.name), (self.final, self.version))
+        return [unpacked(at / "dist" / files_of(name)["archive"], self.room / f"archive-{at.name}") for at, name in named]
+
+    @property
+    def tree(self):
+        """The archive of the first one."""
+        return self.unpacked[0][1]
+
+    @cached_property
+    def package(self):
+        """The package of the programs, unpacked: the status, and the folder."""
+        folder = self.room / "package"
+        return run(["dpkg-deb", "-x", self.one / "dist" / self.files["programs"], folder]).status, folder
+
+    @cached_property
+    def sources(self):
+        """The source archives of the first and of the final one, unpacked: the status and the folder of each."""
+        named = ((self.one, self.name), (self.final, self.version))
+        return [unpacked(at / "dist" / files_of(name)["sources"], self.room / f"sources-{name}") for at, name in named]
+
+
+def unpacked(archive, folder):
+    """An archive, unpacked: the status, and the one folder in it."""
+    folder.mkdir()
+    status = run(["tar", "-xf", archive, "-C", folder]).status
+    return status, next(folder.iterdir(), None)
+
+
+@lru_cache(maxsize=None)
+def releases():
+    """The releases that are looked at."""
+    return Releases(room_of_all())
+
+
+class OfReleases(checks.Case):
+    """Checks of releases, which are made before the first of them."""
+
+    needs_all = True  # whether each file of them has to be there
+
+    @classmethod
+    def setUpClass(cls):
+        running.need(*PROGRAMS)
+        if missing_tools():
+            raise SkipTest("; ".join(missing_tools()) if cls is Making else "no release is made")
+        cls.four = releases()
+        if cls.needs_all and not cls.four.are_whole():
+            raise SkipTest("not all of a release was made")
+
+
+class Making(OfReleases):
+    """Releases are made, which are the same wherever that is."""
+
+    needs_all = False
+
+    def test_objects(self):
+        """The object files of the programs."""
+        for program, came in self.four.kept.items():
+            self.check(f"the object file of {program} is that of the built program", (0, ""), came[::2])
+
+    def test_made(self):
+        """Releases are made."""
+        for at, came in zip(self.four.copies, self.four.ran):
+            self.check(f"a release is made in {at.name}", (0, ""), came[::2])
+
+    def test_sums(self):
+        """The sums of the files."""
+        status = run(["sha256sum", "--check", "--strict", "SHA256SUMS"], cwd=self.four.one / "dist").status
+        self.check("the sums are those of the files", 0, status)
+        what = "two folders with other names, umask, time zone and language give the same files to the byte"
+        self.check(what, *self.four.sums)
+
+    def test_names(self):
+        """What the files are called: after the commit, or after the version alone where the release is final."""
+        names = (self.four.name, None, self.four.name, self.four.version)
+        for at, name, found in zip(self.four.copies, names, self.four.made):
+            if name:
+                what = f"{at.name}: dist/ has the sums, the archives and the packages of {name}"
+                self.check(what, sorted(files_of(name).values()), found)
+
+    def test_order(self):
+        """Debian's order of the versions."""
+        name, version = self.four.name, self.four.version
+        later = re.sub(r"\d+$", lambda it: str(int(it[0]) + 1), version)
+        for words in ([name, "gt", version], [name, "lt", f"{version}.1"], [name, "lt", later]):
+            self.check(f"Debian's order: {' '.join(words)}", 0, run(["dpkg", "--compare-versions", *words]).status)
