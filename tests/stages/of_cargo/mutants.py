@@ -1,16 +1,16 @@
 """Mistakes planted in the shims and in the stripper, each of which a probe has to notice, and the probes."""
 import os
-import shutil
 import signal
-import subprocess
 from typing import NamedTuple
 
 from compared import comparing
 from compared.conversations import conversation
 from compared.matches import match
 
-from .building import cargo, copy_of
-from .checks import TOP, run
+from tests.shared import checks, running
+
+from .building import PROVED, OfWorkspace, cargo, copy_of, need_proved
+from .commands import TOP, run
 
 PROFILE = """
 [profile.planted]
@@ -69,6 +69,19 @@ class Late(Exception):
     """A command of a probe didn't end in its time."""
 
 
+def ended(words, text=None, **how):
+    """What comes of a command of a probe, in bytes."""
+    came = running.run(words, text, SECONDS, encoding=None, **how)
+    if came.status is None:
+        raise Late(f"{words[0]} was still running after {SECONDS} seconds")
+    return came
+
+
+def heed_pipes():
+    """A write to a closed pipe ends the process again, which Python's don't do."""
+    signal.signal(signal.SIGPIPE, signal.SIG_DFL)
+
+
 class Probes:
     """What one build does, beside the programs that are proved."""
 
@@ -107,10 +120,7 @@ class Probes:
 
     def seen_in_time(self, folder, probe, may_be_late=False):
         """The same. A command that doesn't end says nothing about the build, but where it may be late."""
-        try:
-            seen = self.seen(folder, probe)
-        except subprocess.TimeoutExpired as late:
-            raise Late(f"{late.cmd[0]} was still running after {late.timeout} seconds") from late
+        seen = self.seen(folder, probe)
         unended = [ran.status for ran in seen if isinstance(ran.status, str)] if probe in self.trials else []
         if unended and not may_be_late:
             raise Late(f"{len(unended)} of {len(seen)} commands have no status: {unended[0]}")
@@ -119,18 +129,13 @@ class Probes:
     def full(self, folder):
         """How the engine ends, where its output is a full disk."""
         with open("/dev/full", "wb") as output:
-            return self.ended(folder, input=b"name\n", stdout=output, stderr=subprocess.PIPE)
-
-    def ended(self, folder, **options):
-        """How the engine ends: its status, its output and its errors."""
-        done = subprocess.run([folder / "gtp_engine"], timeout=SECONDS, check=False, **options)
-        return done.returncode, done.stdout, done.stderr
+            return ended([folder / "gtp_engine"], b"name\n", stdout=output)
 
     def no_input(self, folder):
         """The same, where its input can't be read."""
         at = os.open("/", os.O_RDONLY)
         try:
-            return self.ended(folder, stdin=at, capture_output=True)
+            return ended([folder / "gtp_engine"], stdin=at)
         finally:
             os.close(at)
 
@@ -139,9 +144,7 @@ class Probes:
         end, start = os.pipe()
         os.close(end)
         try:
-            return self.ended(
-                folder, input=b"name\n", stdout=start, stderr=subprocess.PIPE, preexec_fn=lambda: signal.signal(signal.SIGPIPE, signal.SIG_DFL)
-            )
+            return ended([folder / "gtp_engine"], b"name\n", stdout=start, preexec_fn=heed_pipes)
         finally:
             os.close(start)
 
@@ -149,12 +152,10 @@ class Probes:
         """How a match ends whose engine says whether it was given a file that the program was started with."""
         number = os.dup2(os.open("/dev/null", os.O_RDONLY), 39)
         script = self.script("inherits", f"#!/bin/sh\n[ ! -e /proc/self/fd/{number} ] || echo 'it has the file' >&2\n")
-        words = ["--black", script, "--white", script, "--restarts", "0"]
         try:
-            done = subprocess.run([folder / "twogtp", *words], pass_fds=[number], capture_output=True, timeout=SECONDS, check=False)
+            return ended([folder / "twogtp", "--black", script, "--white", script, "--restarts", "0"], pass_fds=[number])
         finally:
             os.close(number)
-        return done.returncode, done.stdout, done.stderr
 
     def refused(self, folder):
         """How the engine ends, where a request for memory is refused: some that it returns, and some that it doesn't."""
@@ -162,7 +163,7 @@ class Probes:
         if not refusing.exists():
             run(["cc", "-shared", "-fPIC", "-o", refusing, TOP / "tests/shared/refusing.c", "-ldl"])
         loaded = {**os.environ, "LD_PRELOAD": str(refusing)}
-        return [self.ended(folder, input=b"name\n", capture_output=True, env={**loaded, "REFUSED": number}) for number in ("1", "5", "8")]
+        return [ended([folder / "gtp_engine"], b"name\n", env={**loaded, "REFUSED": number}) for number in ("1", "5", "8")]
 
     def library(self, folder):
         """What the example of an engine in C writes, which asks for all legal points."""
@@ -182,8 +183,7 @@ class Probes:
         status, said = run(["cc", "-I", TOP / "library", "-o", made, source, archive])
         if status:
             return said[-500:]
-        done = subprocess.run([made, *words], input=text.encode(), capture_output=True, timeout=SECONDS, check=False)
-        return done.returncode, done.stdout, done.stderr
+        return ended([made, *words], text.encode())
 
     def notices(self, folder, probe):
         """Does a probe see something in a build that it doesn't in the proved programs? A text says why that isn't known."""
@@ -238,17 +238,31 @@ class Planted:
             path.write_text(right)
 
 
-def check_mutants(checks, proved, room):
-    """Is each planted mistake noticed, and none where there is none?"""
-    folder = room / "probes"
-    folder.mkdir()
-    probes, planted = Probes(proved, folder), Planted(room)
-    mutants = [*IN_SHIMS, *IN_STRIPPER]
-    said = planted.strip()
-    for probe in ("library", "build"):
-        said = said or planted.build(probe)
-        checks.check(f"what is built without a mistake, for the probe {probe}", "", said[-1500:])
-    noticed = {probe: probes.notices(planted.programs, probe) for probe in sorted({it.probe for it in mutants} - {"build"})}
-    checks.check("no probe notices a mistake where none is planted", dict.fromkeys(noticed, False), noticed)
-    for mutant in mutants:
-        checks.check(f"noticed by {mutant.probe}: {mutant.name}", True, planted.is_noticed(mutant, probes))
+MUTANTS = [*IN_SHIMS, *IN_STRIPPER]
+
+
+@checks.table(MUTANTS, lambda it: f"noticed by {it.probe}: {it.name}")
+class Mutants(OfWorkspace):
+    """Each planted mistake is noticed, and none where there is none."""
+
+    @classmethod
+    def setUpClass(cls):
+        super().setUpClass()
+        need_proved()
+        room = cls.room_of_all()
+        (room / "probes").mkdir()
+        cls.probes, cls.planted = Probes(PROVED, room / "probes"), Planted(room)
+        cls.stripped = cls.planted.strip()
+
+    def test_none(self):
+        """Nothing is noticed where no mistake is planted."""
+        said = self.stripped
+        for probe in ("library", "build"):
+            said = said or self.planted.build(probe)
+            self.check(f"what is built without a mistake, for the probe {probe}", "", said[-1500:])
+        probes = sorted({it.probe for it in MUTANTS} - {"build"})
+        noticed = {probe: self.probes.notices(self.planted.programs, probe) for probe in probes}
+        self.check("no probe notices a mistake where none is planted", dict.fromkeys(probes, False), noticed)
+
+    def row(self, mutant):
+        self.same(True, self.planted.is_noticed(mutant, self.probes))

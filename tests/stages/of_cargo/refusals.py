@@ -1,17 +1,13 @@
 """Small sources that the stripper must refuse, by the name of the form, and sources that are much like them, which it must take."""
-import shutil
-import subprocess
-import sys
-from pathlib import Path
+from stripper import forms
+from stripper.inlining import inlined
+from stripper.refused import Refused
+from stripper.sources import files_of, stripped
 
-TOP = Path(__file__).resolve().parents[3]
-sys.path.insert(0, str(TOP / "cargo"))
+from tests.shared import checks, running
 
-from tests.stages.of_cargo.differing import DIFFERING, WITH_OUR_TRAITS  # noqa: E402
-from stripper import forms  # noqa: E402
-from stripper.inlining import inlined  # noqa: E402
-from stripper.refused import Refused  # noqa: E402
-from stripper.sources import files_of, stripped  # noqa: E402
+from .building import copy_of
+from .differing import DIFFERING, WITH_OUR_TRAITS
 
 # the name of the form, and a source that has it; those that Rust takes with another meaning are in differing.py
 REFUSED = [
@@ -150,65 +146,95 @@ def refused_as(source, path=""):
     return None
 
 
-def check_refusals(checks):
-    """Is each form refused, and what is much like one taken?"""
-    wrong = [(name, refused_as(source), source) for name, source in REFUSED if refused_as(source) != name]
-    checks.check(f"{len(REFUSED)} sources are refused, each as what it is", [], wrong)
-    names = {form.name for form in [*forms.UNKNOWN, *forms.SILENT, *forms.SHAPES]}
-    checks.check("each form has a source", set(), names - {name for name, _ in REFUSED})
-    for path, source, wanted in WITH_OUR_TRAITS:
-        checks.check(f"a trait in {path or 'a file'}: {source.splitlines()[0]}", wanted, refused_as(source, path))
-    for source, wanted in TAKEN:
-        checks.check(f"taken: {source.splitlines()[0]}", wanted or source, stripped(source))
+class Refusals(checks.Case):
+    """Each form is refused."""
+
+    def test_refused(self):
+        """Sources are refused."""
+        wrong = [(name, refused_as(source), source) for name, source in REFUSED if refused_as(source) != name]
+        self.check(f"{len(REFUSED)} sources are refused, each as what it is", [], wrong)
+
+    def test_forms(self):
+        """each form has a source."""
+        names = {form.name for form in [*forms.UNKNOWN, *forms.SILENT, *forms.SHAPES]}
+        self.same(set(), names - {name for name, _ in REFUSED})
 
 
-def check_inlined(checks):
-    """Are short functions marked, and no others?"""
-    short, marked = "fn f() -> u8 {\n    1\n}\n", "    #[inline(always)]\n    fn f() {\n        g();\n    }\n"
-    longer = "fn f() {\n" + "    g();\n" * 8 + "}\n"
-    declared = "trait T {\n    fn f(&self) -> [u8; 2];\n\n    fn g(\n        &self,\n    );\n}\n"
-    checks.check("a short function is marked to be inlined", f"#[inline]\n{short}", inlined(short))
-    checks.check("no other one is", marked + longer + declared, inlined(marked + longer + declared))
+@checks.table(WITH_OUR_TRAITS, lambda it: f"a trait in {it[0] or 'a file'}: {it[1].splitlines()[0]}")
+class Traits(checks.Case):
+    """Three traits of ours may name a method as std does."""
+
+    def row(self, row):
+        path, source, wanted = row
+        self.same(wanted, refused_as(source, path))
 
 
-def check_files(checks, room):
-    """Is a source found that no `mod` names, and one known that is of tests alone?"""
-    folder = room / "files"
-    (folder / "tests").mkdir(parents=True)
-    (folder / "lib.rt").write_text("pub mod code;\n#[cfg(test)]\nmod tests;\n")
-    for name in ("code.rt", "tests.rt", "tests/row.rt"):
-        (folder / name).write_text("mod row;\n" if name == "tests.rt" else "")
-    found = {str(path): is_test for path, is_test in files_of(folder).items()}
-    checks.check("the files of a crate", {"lib.rt": False, "code.rt": False, "tests.rt": True, "tests/row.rt": True}, found)
-    (folder / "lost.rt").write_text("")
-    try:
-        files_of(folder)
-        said = "nothing"
-    except Refused as refused:
-        said = refused.why
-    checks.check("a file of no module is refused", "no `mod` names lost.rt", said)
-    (folder / "lost.rt").unlink()
-    (folder / "tests/row.rt").unlink()
-    (folder / "tests/row.rt").symlink_to(folder / "code.rt")
-    try:
-        files_of(folder)
-        said = "nothing"
-    except Refused as refused:
-        said = refused.name
-    checks.check("a source that is a link is refused", "link", said)
+@checks.table(TAKEN, lambda it: f"taken: {it[0].splitlines()[0]}")
+class Taken(checks.Case):
+    """What is much like a form that is refused is taken."""
+
+    def row(self, row):
+        source, wanted = row
+        self.same(wanted or source, stripped(source))
 
 
-def check_message(checks, room):
-    """Does a refusal say the file, the line and what is wrong?"""
-    copy = room / "refused"
-    names = subprocess.run(["git", "ls-files", "-z", "crates.txt", "crates/*.rt", "cargo", "library"], cwd=TOP, capture_output=True, text=True)
-    for name in names.stdout.split("\0")[:-1]:
-        if (TOP / name).is_file():
-            (copy / name).parent.mkdir(parents=True, exist_ok=True)
-            shutil.copy(TOP / name, copy / name)
-    source = copy / "crates/go_base/src/sizes.rt"
-    line = source.read_text().count("\n") + 2
-    source.write_text(source.read_text() + "\nmacro_rules! m { () => {}; }\nfn f() -> u8 { (0u8..).take(3).sum() }\n")
-    done = subprocess.run([copy / "cargo/strip", "--others", "debian", room / "nowhere"], capture_output=True, text=True)
-    wanted = f"strip: crates/go_base/src/sizes.rt:{line + 1}: range with no end: it overflows in Rust, and ends in the kit\n"
-    checks.check("a refusal says where it is", (1, "", wanted), (done.returncode, done.stdout, done.stderr))
+class Inlined(checks.Case):
+    """Short functions are marked, and no others."""
+
+    def test_short(self):
+        """a short function is marked to be inlined."""
+        short = "fn f() -> u8 {\n    1\n}\n"
+        self.same(f"#[inline]\n{short}", inlined(short))
+
+    def test_others(self):
+        """no other one is."""
+        marked = "    #[inline(always)]\n    fn f() {\n        g();\n    }\n"
+        longer = "fn f() {\n" + "    g();\n" * 8 + "}\n"
+        declared = "trait T {\n    fn f(&self) -> [u8; 2];\n\n    fn g(\n        &self,\n    );\n}\n"
+        self.same(marked + longer + declared, inlined(marked + longer + declared))
+
+
+class Files(checks.Case):
+    """Which files a crate has."""
+
+    def setUp(self):
+        self.crate = self.room()
+        (self.crate / "tests").mkdir()
+        (self.crate / "lib.rt").write_text("pub mod code;\n#[cfg(test)]\nmod tests;\n")
+        for name in ("code.rt", "tests.rt", "tests/row.rt"):
+            (self.crate / name).write_text("mod row;\n" if name == "tests.rt" else "")
+
+    def refused(self):
+        """As what the crate is refused, and why."""
+        with self.assertRaises(Refused) as raised:
+            files_of(self.crate)
+        return raised.exception.name, raised.exception.why
+
+    def test_files(self):
+        """the files of a crate."""
+        found = {str(path): is_test for path, is_test in files_of(self.crate).items()}
+        self.same({"lib.rt": False, "code.rt": False, "tests.rt": True, "tests/row.rt": True}, found)
+
+    def test_lost(self):
+        """a file of no module is refused."""
+        (self.crate / "lost.rt").write_text("")
+        self.same("no `mod` names lost.rt", self.refused()[1])
+
+    def test_link(self):
+        """a source that is a link is refused."""
+        (self.crate / "tests/row.rt").unlink()
+        (self.crate / "tests/row.rt").symlink_to(self.crate / "code.rt")
+        self.same("link", self.refused()[0])
+
+
+class Message(checks.Case):
+    """What is said of a refusal."""
+
+    def test_message(self):
+        """a refusal says where it is."""
+        copy = copy_of(self.room() / "refused", 0o022)
+        source = copy / "crates/go_base/src/sizes.rt"
+        line = source.read_text().count("\n") + 2
+        source.write_text(source.read_text() + "\nmacro_rules! m { () => {}; }\nfn f() -> u8 { (0u8..).take(3).sum() }\n")
+        wanted = f"strip: crates/go_base/src/sizes.rt:{line + 1}: range with no end: it overflows in Rust, and ends in the kit\n"
+        self.same((1, "", wanted), running.run([copy / "cargo/strip", "--others", "debian", copy.parent / "nowhere"]))
