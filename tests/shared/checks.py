@@ -15,6 +15,7 @@ the test's name. `tests/stages/NAME.py -k TEXT` runs the checks that have this t
 - `check` is a check within a test, with a line of its own. The test goes on where it fails. A test that has such checks is none itself.
 - `table` gives a case a test for each row of a table, and may do the work of the rows in a pool.
 - `Parser` takes the options of a stage. They are known before its cases are made, so a table may be drawn by them.
+- `main` runs the stage's cases, or those that it is given.
 """
 from __future__ import annotations
 

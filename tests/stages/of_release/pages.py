@@ -49,9 +49,9 @@ def lost_links(page):
 def lost_files(page, root):
     """The files of the repository that a page names in its code, and that aren't there below the folder that has the pages."""
     lost = []
-    names = "|".join(FOLDERS)
+    names = rf"(?:{'|'.join(FOLDERS)})/[\w./-]*|\./(?:build|demo|release|test)\b(?!/)"
     for code in code_of(page.read_text()):
-        for name in re.findall(rf"(?<![\w./~$@%-])(?:/home/me/vintsaky/)?((?:{names})/[\w./-]*|\./(?:build|demo|release|test)\b(?!/))", code):
+        for name in re.findall(rf"(?<![\w./~$@%-])(?:/home/me/vintsaky/)?({names})", code):
             if name in SCRIPTS or (name not in MISTYPED and not (root / name.rstrip(".")).exists()):
                 lost.append(f"{page.name}: {name}")
     return lost

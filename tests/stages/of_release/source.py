@@ -2,7 +2,6 @@
 import os
 import re
 import shutil
-from pathlib import Path
 
 from . import pages
 from .archive import MOST_WORDS
