@@ -97,7 +97,8 @@ class Hanging(checks.Case):
         self.same((None, "", ""), running.run(["bash", "-c", "sleep SECONDS & sleep SECONDS"], limit=0.5))
     def test_spared(self):
         """what is spared lives on."""
-        came = running.run(["bash", "-c", "sleep SECONDS > /dev/null 2>&1 & echo $!"], spare=True)
+        script = "sleep SECONDS > /dev/null 2>&1 & until grep -aq ^sleep /proc/$!/cmdline; do :; done; echo $!"
+        came = running.run(["bash", "-c", script], spare=True)
         with open(f"/proc/{came.output.strip()}/cmdline") as words:
             self.same("sleep SECONDS", words.read().rstrip("\\0").replace("\\0", " "))
     def test_ever(self):
