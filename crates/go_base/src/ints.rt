@@ -34,7 +34,7 @@ pub fn read_int(text: &[u8]) -> Option<u32>
     Some(value)
 }
 
-/// The digits in front of a text, and what follows them.
+/// The digits in front of a text, all of them, and what follows them.
 #[tactic(auto, using(crate::proofs::general::Fronts::take_prefix_len, crate::proofs::general::Fronts::drop_prefix_len))]
 pub fn split_digits(text: &[u8]) -> (&[u8], &[u8])
     ensures digits { result.0.now ≡ front_while is_ascii_digit text.now }

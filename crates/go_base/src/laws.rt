@@ -112,9 +112,11 @@ pub fn komi_laws()
     ensures one { SpellsOneKomi }
 {}
 
-/// A text spells an int exactly where its digits count one that is at most 2,147,483,647, a point exactly where its
-/// letter names the column and its digits, without a zero in front, count the row, and a komi exactly where the number
-/// of half points is twice its decimal value.
+/// A text spells an int exactly where its digits count one that is at most 2,147,483,647, and a point exactly where it
+/// is a letter and digits. The letter, small or capital, names the column: `A` to `H` are 1 to 8, and `J` to `Z` 9 to
+/// 25. The digits count the row, 1 to 25, without a zero in front. It spells a komi exactly where it is a decimal
+/// number with at most nine digits on either side of its point; the half points are twice its value, and below zero
+/// after a `-`.
 pub fn decimal_laws()
     ensures ints { IntsAreCounted }
     ensures points { PointsAreCounted }

@@ -165,8 +165,9 @@ impl Game {
     }
 
     /// Whether a colour may make a move next: a pass always; a point of the board that is empty, where the new stone's
-    /// chain then has a liberty and the board isn't one that the ko rule forbids. The number of moves in the record
-    /// doesn't count.
+    /// chain then has a liberty and the board isn't one that the ko rule forbids. Simple ko forbids the board before
+    /// the previous move, and positional ko each board after any number of the record's first moves, from none to all.
+    /// The number of moves in the record doesn't count.
     pub fn legal(&self, colour: Colour, vertex: Vertex) -> bool
         ensures legal { IsTrue result ↔ IsLegal self.now colour vertex }
         ensures game { IsGame self.now }

@@ -52,7 +52,7 @@ pub fn chains_as_sets()
 {}
 
 /// A move adds to what its colour has taken as many stones as it takes: those of the other colour whose chains have no
-/// liberty once the new stone is on the board. Before the first move none is taken.
+/// liberty once the new stone is on the board, each counted once. Before the first move none is taken.
 pub fn taken_stones()
     ensures first { NoneIsTakenFirst }
     ensures more { MovesAddWhatTheyTake }
@@ -65,7 +65,7 @@ pub fn counted_points()
     ensures one { PointsBelongToOne }
 {}
 
-/// The score is twice the number of Black's points less White's, less komi.
+/// The score is twice the number of Black's points less White's, each counted once, less komi.
 pub fn scores()
     ensures { ScoresAreThese }
 {}

@@ -51,7 +51,7 @@ impl Tally {
         }
     }
 
-    /// Something was found in a lesson. Returns whether it is shown.
+    /// Something was found in a lesson. Returns whether it is shown: of a kind three are in a lesson.
     pub fn find(&mut self, lesson: Lesson, fault: Fault) -> bool
         ensures shown { result ≡ is_shown self.old lesson fault }
         ensures found { self.new ≡ found self.old lesson fault }

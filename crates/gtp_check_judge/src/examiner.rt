@@ -95,6 +95,9 @@ impl Examiner {
     /// them; what is left is for the next call. A whole reply is written in place of the one handed in.
     ///
     /// After a finding the engine counts as down. Of one that is down all bytes are used and nothing changes.
+    ///
+    /// A reply is judged by what is due to the oldest unanswered command. A score is compared as a number: `W+6.50` is
+    /// `W+6.5`.
     pub fn heard(&mut self, bytes: &[u8], reply: &mut Reply) -> Heard
         ensures within { result.used ≤ length bytes.now }
         // of a piece that isn't empty one byte at least is used

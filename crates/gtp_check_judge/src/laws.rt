@@ -17,13 +17,16 @@ ghost use Rattle.gtp_check_judge.specs.StepLaws.{NoneAfterTheEnd, HandicapsArePl
 use gtp_session::policy::Policy;
 
 /// As long as nothing was found, each answer that was heard is a right one, by the table of the engine's commands or as
-/// the refusal of what may be refused, in the game that the commands and answers before it make.
+/// the refusal of what may be refused, in the game that the commands and answers before it make. What is unanswered was
+/// asked in the game after them.
 pub fn silence_says_all_is_right()
     ensures { SilenceSaysAllIsRight }
 {}
 
 /// A finding is the first wrong answer of its engine: all before it were right, and no right engine, whatever it
-/// chooses, gives this answer in the game that they make.
+/// chooses, gives this answer in the game that they make. It names the oldest unanswered command, and what was due to
+/// that by the rules of the game. Its kind is true, also of a fault in the form of replies; a reply with another id is
+/// named as that alone.
 pub fn findings_are_justified()
     ensures { FindingsAreJustified }
 {}
@@ -126,7 +129,7 @@ pub fn scores_are_read()
     ensures { ScoresAreRead }
 {}
 
-/// A size is reported as refused exactly where a failure to its `boardsize` was heard.
+/// A size is reported as refused exactly where a right failure to its `boardsize` was heard. It is no finding.
 pub fn refused_sizes_are_reported()
     ensures { RefusedSizesAreReported }
 {}
@@ -136,8 +139,8 @@ pub fn who_answers_rightly_is_not_blamed()
     ensures { WhoAnswersRightlyIsNotBlamed }
 {}
 
-/// An engine that was given just the bytes that were asked is never blamed, whatever its policy chooses, in whatever
-/// cuts its output is heard, and however much of it.
+/// An engine that was given just the bytes that were asked is never blamed, under the examiner's ko rule and whatever
+/// its policy chooses, in whatever cuts its output is heard, and however much of it.
 pub fn no_right_engine_is_blamed<P: Policy>()
     ensures { NoRightEngineIsBlamed P.may }
 {}

@@ -86,6 +86,16 @@ impl Course {
     }
 
     /// What is to be done next. Where that is to ask a command, the next call comes after the `ask`.
+    ///
+    /// After each start it asks the name, the version, and whether the engine has `fixed_handicap`, `undo` and
+    /// `final_score`, in this order. Then it asks what its step is, by the tables of the lesson. What is drawn is a
+    /// move on a legal point, a pass where there is none, or a probe of a point of the board; a probe that is legal is
+    /// asked only where the engine has `undo`, which is asked next. So each command may be asked of the examiner then.
+    ///
+    /// A step is passed over only where it asks nothing, or where its command may not be asked although nothing is
+    /// unanswered; so is a legal probe of an engine without `undo`. A part is left where its size was refused. The
+    /// engine is ended and started again where a step says so, or where no more ids are left, and only once it owes no
+    /// answer. After ten findings in a lesson the next one begins.
     pub fn next(&mut self, examiner: &Examiner) -> Action
         ensures goes { GoesTo self.old examiner.now.exam result self.new }
         ensures over { IsOver self.old → result ≡ Done }

@@ -33,7 +33,8 @@ pub struct Unstarted {
 }
 
 impl Unstarted {
-    /// The program that the first of these words names was not started for this reason.
+    /// The program that the first of these words names, of which the first 80 bytes are kept, was not started for this
+    /// reason.
     pub fn new(words: &[&str], reason: StartReason) -> Self
         ensures { result ≡ unstarted (program_line words.now) reason }
     {

@@ -125,32 +125,38 @@ pub fn any_pieces_answer_alike()
     ensures { AnyPiecesAnswerAlike }
 {}
 
-/// Control characters and comments are nothing, HT is a space, spaces only separate, newlines end lines, and words are
-/// a line of an id and words or one that is too long. The lines of a text are the only reading that does all of this.
+/// A control character is nothing, HT is a space, and `#` with what follows it on the line is nothing. Spaces only
+/// separate, and an empty line is nothing. Newlines end lines, and what follows one is read by itself. Words are a line
+/// of an id and words, or of words alone, or, over 1,000 bytes, one that is too long. The lines of a text are the only
+/// reading that does all of this.
 #[tactic(auto, using(crate::proofs::line_reading::OnlyReading::only_reading))]
 pub fn lines_are_the_only_reading()
     ensures { LinesAreTheOnlyReading }
 {}
 
-/// A control character, HT for a space, or a blank in front changes nothing of a reply but the count of its bytes.
+/// A control character, HT for a space, or a blank in front changes nothing of a reply but the count of its bytes,
+/// which are 8,192 at most.
 #[tactic(auto, using(crate::proofs::reply_bytes::SameReply::bytes_change_nothing))]
 pub fn bytes_change_nothing()
     ensures { BytesChangeNothing }
 {}
 
-/// `NoStatus` comes at the first byte that begins no reply, and `Overlong` at byte 8,193.
+/// `NoStatus` comes at the first byte that begins no reply, and `Overlong` at byte 8,193 where nothing came before, and
+/// nowhere else.
 #[tactic(auto, using(crate::proofs::first_answers::Faults::faults_have_places))]
 pub fn faults_have_places()
     ensures { FaultsHavePlaces }
 {}
 
-/// A reply that `=` or `?` began ends at two newlines, and `NoStatus` comes at the first byte that begins none.
+/// A reply begins with `=` or `?` after what is passed over, and ends at two newlines with nothing but control
+/// characters between them. `NoStatus` comes at the first byte that begins none.
 #[tactic(auto, using(crate::proofs::first_answers::Shapes::answers_have_shapes))]
 pub fn answers_have_shapes()
     ensures { AnswersHaveShapes }
 {}
 
-/// What a reply says: its id, and its text without the spaces around it, up to the first two newlines in a row.
+/// What a reply says. After `=` or `?` digits that spell an int are its id, and digits that spell none belong to its
+/// text. The text is what is left without the spaces around it, up to the first two newlines in a row.
 pub fn replies_say()
     ensures { RepliesSay }
 {}
@@ -172,7 +178,8 @@ pub fn replies_leave_nothing()
     ensures { RepliesLeaveNothing }
 {}
 
-/// A command's line has no byte to spare: its words, one byte after each, and an id's digits and a space in front.
+/// A command's line has no byte to spare: its words, one byte after each, and an id's digits, without a zero in front,
+/// and a space before them. Each byte is printed but the last, a newline.
 #[tactic(auto, using(crate::proofs::written::FewBytes::commands_to_spare))]
 pub fn commands_have_no_byte_to_spare()
     ensures { CommandsHaveNoByteToSpare }

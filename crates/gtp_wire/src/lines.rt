@@ -128,7 +128,8 @@ impl LineReader {
         }
     }
 
-    /// Takes the next piece up to and with the newline that ends the first line that has a word, or all of it.
+    /// Takes the next piece up to and with the newline that ends the first line that has a word, or all of it. No whole
+    /// line is held back, and no byte after that newline is used.
     ///
     /// Lines without a word (blank lines and comments) are passed over. A line that is too long is reported at its
     /// newline. A line takes some 1 kB: `feed_into` puts it in place.

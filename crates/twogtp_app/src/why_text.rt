@@ -27,7 +27,7 @@ const LINE_ROOM: usize = 600;
 /// The line of what is reported of a side.
 pub type ReportLine = ArrayVec<u8, LINE_ROOM>;
 
-/// The line of a game's side that refused a `play` which is retaken, with its newline.
+/// The line of a game's side that refused a `play` which is retaken, with its newline: at most 600 bytes.
 pub fn retake_line(number: u32, side: Side, retake: &Retake) -> ReportLine
     requires { CanBeShown retake.now.owed }
     ensures { result.items ≡ retake_line number side retake.now }
@@ -38,7 +38,7 @@ pub fn retake_line(number: u32, side: Side, retake: &Retake) -> ReportLine
     line
 }
 
-/// The line of a game's side that failed, whose process ended so, with its newline.
+/// The line of a game's side that failed, whose process ended so, with its newline: at most 600 bytes.
 pub fn loss_line(number: u32, side: Side, loss: &TurnLoss, ending: Ending) -> ReportLine
     requires { LossCanBeShown loss.now }
     ensures { result.items ≡ loss_line number side loss.now ending }
