@@ -137,8 +137,8 @@ def workspace(members, version, paths):
     return WORKSPACE.format(members=quoted, built=built, version=version, others=others, lints=LINTS)
 
 
-def version_of(go_board):
+def version_of(cli):
     """The version of all crates, which the text of one has, as Cargo writes it."""
-    found = re.search(r'pub const VERSION: &str = "([0-9.]+)";', go_board)
+    found = re.search(r'pub const VERSION: &str = "([0-9.]+)";', cli)
     numbers = found.group(1).split(".")
     return ".".join((numbers + ["0", "0"])[:3])

@@ -105,7 +105,7 @@ def make(workspace, where=None):
     look_at(workspace)
     files = files_of_workspace(TOP)
     members = sorted({"/".join(path.split("/")[:-1]) for path in files if path.count("/") <= 2 and path.endswith("/Cargo.toml")})
-    version = manifests.version_of((TOP / "crates/go_board/src/lib.rt").read_text())
+    version = manifests.version_of((TOP / "crates/cli/src/lib.rt").read_text())
     kind, taken = others.find(manifests.OTHERS, where)
     lock = held(workspace)
     try:

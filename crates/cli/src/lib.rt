@@ -8,3 +8,7 @@ pub mod options;
 pub mod requests;
 pub mod standard;
 pub mod words;
+
+/// The programs' number, which all of them print for `--version`, and by which a release is named. What the engine
+/// answers to the command `version` is another number, fixed at `1.0`.
+pub const VERSION: &str = "1.0";

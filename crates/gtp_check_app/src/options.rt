@@ -14,7 +14,8 @@ ghost use Rattle.gtp_check_app.specs.private.CommandLine.{IsCommandLine, rule_of
 
 use clap::builder::ValueParser;
 use clap::{Arg, ArgAction, ArgMatches, Command, Error};
-use go_board::{KoRule, VERSION};
+use cli::VERSION;
+use go_board::KoRule;
 use gtp_check_questions::{LESSONS, Lesson, Lessons};
 use std::alloc::{AllocError, Global};
 use std::convert::AsStr;

@@ -7,8 +7,9 @@ ghost use Rattle.gtp_engine_app.specs.Options.{Ask, AsksFor, HasFault, ko_rule_n
 ghost use Rattle.gtp_engine_app.specs.private.CommandLine.{IsCommandLine};
 
 use clap::{ArgMatches, Command, Error};
+use cli::VERSION;
 use cli::options::{OptionRow, Takes, number_at, text_at, with_options};
-use go_board::{KoRule, VERSION};
+use go_board::KoRule;
 use std::alloc::{AllocError, Global};
 use std::convert::AsStr;
 

@@ -8,8 +8,8 @@ ghost use Rattle.twogtp_app.specs.Options.{Ask, AsksFor, HasFault, command_line}
 
 use crate::task::Details;
 use clap::{ArgMatches, Command, Error};
+use cli::VERSION;
 use cli::options::{OptionRow, Takes, flag_at, number_at, text_at, with_options};
-use go_board::VERSION;
 use std::alloc::{AllocError, Global};
 use std::convert::AsStr;
 
