@@ -331,7 +331,8 @@ size_t vintsaky_engine_align(void);
 /* Whether the session has ended, by a quit. */
 bool vintsaky_engine_ended(vintsaky_engine *engine);
 
-/* Begins the engine anew, under a ko rule. It loses its name, its version and its own commands.
+/* Begins the engine anew, under a ko rule. It loses its name, its version and its own commands. Call it only before the engine's first
+ * byte. Later the engine would lose its game, and what it hasn't answered; no call refuses that.
  * Causes: VINTSAKY_BAD_RULE. The engine stays as it was. */
 uint32_t vintsaky_engine_begin(vintsaky_engine *engine, uint32_t rule);
 

@@ -4,7 +4,8 @@ ghost use Rattle.cli.specs.Requests.{IsRefused};
 ghost use Rattle.gtp_engine_app.specs.Options.{HasNoBook, HasNoFault, IsMistake, Spells};
 ghost use Rattle.gtp_engine_app.specs.Program.{FreshCameOut, PolicyCameOut, HasConversed, HasServed, HasHelped};
 ghost use Rattle.gtp_engine_app.specs.Program.{IsOutOfMemory, HasMistake, IsShown, ends, streams, task};
-ghost use Rattle.gtp_engine_app.specs.Status.{IsStatus, ReportsFailure, ReportsEnd, program_name, stopped, status_after};
+ghost use Rattle.gtp_engine_app.specs.Status.{IsStatus, ReportsFailure, ReportsEnd, program_name};
+ghost use Rattle.gtp_engine_app.specs.Status.{stopped, status_after};
 ghost use Rattle.cli.specs.Status.{IsRequest, done, usage_failure};
 
 use crate::failure::{Failure, NAME, report};
@@ -52,7 +53,8 @@ pub fn run<S: AsStr, R: Incoming, W: Outgoing, E: WriteOnce>(
     // Any other status is that of the conversation that the words ask for; or they ask for help,
     // and nothing was read; or nothing was read, nothing went to the output, and it is
     // reported that memory was refused. With status 3 the failure is reported, and nothing else.
-    ensures served { let before = streams (ends (R.shown input.old) (W.shown output.old)) errors.old in
+    ensures served {
+        let before = streams (ends (R.shown input.old) (W.shown output.old)) errors.old in
         let after = streams (ends (R.shown input.new) (W.shown output.new)) errors.new in
         result ≢ usage_failure → HasServed E.WriteOnce (map S.text words.now) result before after
         ⊎ ((input.new ≡ input.old)

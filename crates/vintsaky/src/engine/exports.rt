@@ -41,6 +41,9 @@ pub extern "C" fn vintsaky_engine_ended(engine: &mut EngineHandle) -> bool
 
 /// Begins the engine anew, under a ko rule. It loses its name, its version and its own commands.
 ///
+/// Call it only before the engine's first byte. Later the engine would lose its game, and what it hasn't answered; no
+/// call refuses that.
+///
 /// # Errors
 ///
 /// `BadRule`. The engine stays as it was.
