@@ -1,4 +1,5 @@
--- Laws of the words that the headline is said with: no word says less than it is taken to say.
+-- The headline, `EnginesInStepAreThere`, and laws of the words that it is said with: no word says less than it is taken
+-- to say.
 use Rattle.std.specs.Prelude.{◌≡◌, ◌≢◌, ◌⊎◌, ◌<◌, ◌≤◌, ◌-◌, ℕ, true, List, [], length, slice_get, None, Some}
 use Rattle.go_base.specs.Colour.{other}
 use Rattle.go_base.specs.declared.colours.Colour.{Colour}
