@@ -230,7 +230,7 @@ OtherPointsAreUnfit =
 -- ---- a maker that goes down
 
 -- What is left where a side goes down. Its last move leaves the game where it was to be taken back there, also where
--- the side is given up by this; and nothing is to be taken back any more. Else the game stays, and so does what is to
+-- the side is abandoned by this; and nothing is to be taken back any more. Else the game stays, and so does what is to
 -- be taken back.
 pub record GoesDownWithMove (c new : Controller) (s : Colour) : Type 0 where
   pub taken_back : taking_back c ≡ Some s → (new.game ≡ without_last c.game) × (new.pending ≡ None)

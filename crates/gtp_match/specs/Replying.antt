@@ -284,7 +284,7 @@ CausesAreTrue =
     → Hears c s bytes used fault new → c.verdict ≡ None → new.verdict ≡ Some v
     → (engine : EngineRun) × ((side_of c.sides s).up ≡ Some engine) × HasCause c new s engine bytes used fault v
 
--- a start and a command that is sent leave the verdict; `lost` gives none but that its side is given up
+-- a start and a command that is sent leave the verdict; `lost` gives none but that its side is abandoned
 abbrev pub OthersGiveNoVerdict : Type 0
 OthersGiveNoVerdict =
     (c : Controller) (s : Colour)

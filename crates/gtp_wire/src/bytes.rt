@@ -1,4 +1,4 @@
-//! What is done to single bytes. (The standard, preprocessing.)
+//! What is done to single bytes of replies (the standard, preprocessing). For command lines: `kind_of` in `lines.rt`.
 ghost use Rattle.std.specs.Prelude.{◌≡◌, not};
 ghost use Rattle.gtp_wire.specs.Bytes.{is_kept, space_for_tab, is_blank};
 

@@ -1,4 +1,4 @@
-//! The words of a reply's text.
+//! The words of a reply's text, one after the other. What they say is in `reply_words.rt`.
 ghost use Rattle.std.specs.Prelude.{◌≡◌, ◌<◌, ◌≤◌, [], ◌∷◌, length, MatchOption, IfSome};
 ghost use Rattle.std.specs.List.{prefix_len};
 ghost use Rattle.go_base.specs.Text.{skip_while};

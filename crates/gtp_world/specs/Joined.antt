@@ -153,7 +153,7 @@ pub record IsRefusal (rules : Rules) (c : Controller) (side : Colour) : Type 0 w
   pub often : retakes_of c.retakes (length c.game.moves) ≡ most_retakes
   pub nothing : c.pending ≡ None
 
--- No verdict blames an engine, but one that refused moves of one number four times; and a side is given up only after
+-- No verdict blames an engine, but one that refused moves of one number four times; and a side is abandoned only after
 -- all its starts.
 abbrev pub IsFair : Rules → Controller → Option Verdict → Type 0
 IsFair rules c None = Unit {0}

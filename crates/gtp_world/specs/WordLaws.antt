@@ -65,8 +65,8 @@ pub record IsFourthRefusal (rules : Rules) (c : Controller) (side : Colour) (cau
   pub retaken : retakes_of c.retakes (length c.game.moves) ≡ 3
   pub none_taken_back : c.pending ≡ None
 
--- By the verdict no side is unfit. A side that is given up was started more often than it may be restarted. A side that
--- forfeits does so for a fourth refusal.
+-- By the verdict no side is unfit. A side that is abandoned was started more often than it may be restarted. A side
+-- that forfeits does so for a fourth refusal.
 pub record BlamesFewest (rules : Rules) (c : Controller) (verdict : Verdict) : Type 0 where
   pub unfit : (side : Colour) → verdict ≢ Unfit side
   pub given_up : (side : Colour) → verdict ≡ Abandoned side → c.setup.max_restarts < (side_of c.sides side).starts

@@ -133,7 +133,7 @@ impl StepsWorld {
     /// The controller.
     pub fn controller(&self) -> &Match
         ensures controller { result.now ≡ self.now.world.controller }
-        // No verdict blames a side but for a fourth refusal, and a side is given up only after all its starts.
+        // No verdict blames a side but for a fourth refusal, and a side is abandoned only after all its starts.
         ensures fair { IsFair self.now.rules result.now result.now.verdict }
     {
         &self.controller

@@ -2,6 +2,8 @@
 //!
 //! A handle is made in memory that the caller gives. No call takes memory, blocks, or reads or writes anything but its
 //! object and the caller's buffers.
+//!
+//! In C a slice is two arguments: the pointer, and how many items are there.
 #![tactic(auto)]
 
 pub mod engine;

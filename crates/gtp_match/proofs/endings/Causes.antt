@@ -272,7 +272,7 @@ others_leave_the_retakes c s = (refl, by_sent (side_of c.sides s).up, by_lost (s
 
 -- ---- causes
 
--- a side that goes down gives no verdict but that it is given up
+-- a side that goes down gives no verdict but that it is abandoned
 given_up : (c : Controller) (s : Colour) (v : Verdict) → c.verdict ≡ None → (downed c s).verdict ≡ Some v
     → verdict.Abandoned s ≡ v
 given_up c s v none e =

@@ -118,7 +118,7 @@ still_refused c s t verdict (inr h) =
       kept = still_up (OwesAnswer IsUndo) c.sides s (other t) h.kept;
     })
 
--- who is given up where a side went down, whatever the game
+-- who is abandoned where a side went down, whatever the game
 down_blames : (c new : Controller) (s : Colour) → new.setup ≡ c.setup
     → new.sides ≡ with_side s (downed_side (side_of c.sides s)) c.sides
     → (side_of c.sides s).starts ≤ c.setup.max_restarts + 1

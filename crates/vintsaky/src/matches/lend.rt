@@ -15,6 +15,7 @@ impl MatchHandle {
             (Lends the_row match_row (λ h v. record h { value = v }) self.entry result) }
         ensures value { result.now ≡ self.old.value }
     {
+        // SAFETY: a match lies at the address, and the handle owns it: `also_owns` of its model has that.
         unsafe { &mut *(self.at as *mut Match) }
     }
 }

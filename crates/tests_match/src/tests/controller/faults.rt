@@ -48,7 +48,7 @@ fn blank_lines_carriage_returns_and_zeros_beside_an_id(rt: HostRuntime) {
     }
 }
 
-/// The side, which has no restart, is given up.
+/// The side, which has no restart, is abandoned.
 fn given_up(rt: &impl Abort, played: &Match, side: Side) {
     let text: &[u8] = match side {
         Side::Black => b"game 1: abandoned black moves 0 restarts 0 0",

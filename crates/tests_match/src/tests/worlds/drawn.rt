@@ -373,7 +373,7 @@ pub fn assert_fair(rt: &impl Abort, played: &Match, rules: [KoRule; 2], verdict:
 }
 
 /// The move of this maker was to be taken back before the last event, and is no more: it left the record, but where the
-/// side that refused it was given up.
+/// side that refused it was abandoned.
 fn watch_end(rt: &impl Abort, world: &DrawnWorld, maker: Side, moves: usize, seen: &mut Seen) {
     let played = world.controller();
     if played.next() == Action::Done(Verdict::Abandoned(maker.other())) {

@@ -12,8 +12,8 @@ fn assert_counts(rt: &impl Abort, case: &str, log: &Counts, started: u32, ended:
     assert_equal_for(rt, case, counts, (started, ended, quits));
 }
 
-/// Black's engine is given up after three starts.
-fn assert_given_up<R: Abort + AllocGlobal>(rt: &R, engine: &str) {
+/// Black's engine is abandoned after three starts.
+fn assert_abandoned<R: Abort + AllocGlobal>(rt: &R, engine: &str) {
     let ran = run_between(rt, (engine, FIRST), &[]);
     let line = "game 1: abandoned black moves 0 restarts 2 0\n";
     assert_equal_for(rt, engine, ran.written(rt), line);
@@ -24,14 +24,14 @@ fn assert_given_up<R: Abort + AllocGlobal>(rt: &R, engine: &str) {
 
 #[test]
 fn a_side_whose_output_ends_or_breaks_is_started_again(rt: HostRuntime) {
-    assert_given_up(&rt, "says");
-    assert_given_up(&rt, "mute");
-    assert_given_up(&rt, "broken");
-    assert_given_up(&rt, "says hello");
+    assert_abandoned(&rt, "says");
+    assert_abandoned(&rt, "mute");
+    assert_abandoned(&rt, "broken");
+    assert_abandoned(&rt, "says hello");
 }
 
 #[test]
-fn an_engine_that_echoes_is_given_up(rt: HostRuntime) {
+fn an_engine_that_echoes_is_abandoned(rt: HostRuntime) {
     let once = ["--restarts", "1"];
     let line = "game 1: abandoned black moves 0 restarts 1 0\n";
     assert_plays(&rt, ("echoes", FIRST), &once, line, 1);

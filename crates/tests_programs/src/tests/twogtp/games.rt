@@ -74,7 +74,7 @@ fn the_record_is_between_the_line_and_the_board(rt: HostRuntime) {
 }
 
 #[test]
-fn a_program_that_is_not_there_is_given_up(rt: HostRuntime) {
+fn a_program_that_is_not_there_is_abandoned(rt: HostRuntime) {
     let black = ["--restarts", "1", "--size", "9"];
     let line = "game 1: abandoned black moves 0 restarts 1 0\n";
     let engines = ("no_such_program", "gtp_engine");
