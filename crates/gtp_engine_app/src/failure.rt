@@ -19,7 +19,7 @@ pub enum Failure {
     BadBook,
     /// The text of `--fault` is no fault.
     BadFault,
-    /// Memory was refused while the arguments were collected or the options read.
+    /// Memory was refused while the arguments were collected or the options read, or for the text that answers them.
     OutOfMemory,
     /// The conversation stopped before its end, or the help or the version could not be written.
     Serve(ServeFault),

@@ -1,11 +1,13 @@
 -- A command that counts as sent was written.
 use Rattle.std.proofs.Common.{◌≡◌, ℕ, ◌<◌, ◌≤◌, List, [], ◌∷◌, ◌++◌, length, take, Option, Some, None, refl, sym, ap}
-use Rattle.std.proofs.Common.{◌∙◌, ◌⊎◌, inl, inr, arith}
+use Rattle.std.proofs.Common.{◌∙◌, ◌⊎◌, inl, inr, arith, append_assoc}
 use Rattle.std.proofs.lemmas.List.{take-append-le, take_all}
 use Rattle.std.specs.Prelude.{MatchOption, Ok, Err}
 use Rattle.go_base.specs.declared.colours.Colour.{Colour}
 use Rattle.go_base.specs.declared.colours.Colour.TheVariants.{Black, White}
+use Rattle.gtp_wire.proofs.line_reading.OneAfterOther.{lines_anew}
 use Rattle.gtp_wire.specs.Lines.{lines}
+use Rattle.gtp_wire.specs.declared.lines.Line.{Line}
 use Rattle.gtp_match.specs.Controller.{sent, next_text}
 use Rattle.gtp_match.specs.Next.{next}
 use Rattle.gtp_match.specs.Sides.{side_of}
@@ -17,7 +19,8 @@ use Rattle.gtp_match.specs.declared.unanswered.SentCommand.{SentCommand}
 use Rattle.gtp_match.specs.declared.verdicts.Action.TheVariants as action
 use Rattle.gtp_match.proofs.hearing.LeftAlone.{send_leaves, sent_is_owed}
 use Rattle.gtp_match.proofs.scripts.Lines.{sent_line}
-use Rattle.vintsaky_calls.specs.Laws.{unanswered_by, unanswered_of, WroteOneMore, SentWereWritten}
+use Rattle.vintsaky_calls.specs.Codes.{colour_code}
+use Rattle.vintsaky_calls.specs.Laws.{unanswered_by, unanswered_of, WroteOneMore, SentWereWritten, WrittenWereSent}
 use Rattle.vintsaky_calls.specs.Matches.{most_command, Sends}
 use Rattle.vintsaky_calls.specs.Texts.{Puts}
 
@@ -27,6 +30,13 @@ begins : (text before after : List ℕ) (count : ℕ) → Puts text before after
 begins text before after count puts room counted =
     ap (λ (n : ℕ). take n after) counted ∙ ap (λ (t : List ℕ). take (length text) t) (puts.written room)
     ∙ take-append-le (length text) text _ (omega arith) ∙ take_all (length text) text (omega arith)
+
+-- where a text that ends in a newline is one line, this line comes first, whatever follows
+first_line : (text : List ℕ) (line : Line) (later : List ℕ) → lines (text ++ 10 ∷ []) ≡ line ∷ []
+    → lines ((text ++ 10 ∷ []) ++ later) ≡ line ∷ lines later
+first_line text line later one =
+    ap lines (append_assoc text (10 ∷ []) later) ∙ lines_anew text later
+    ∙ ap (λ (first : List Line). first ++ lines later) one
 
 -- the side that is sent the command
 at_side : (c : Controller) (s : Colour) (up : Option EngineRun) (text before after : List ℕ) (count : ℕ)
@@ -42,7 +52,10 @@ at_side c s (Some engine) text before after count up sound due is puts room coun
       entry = owes.entry;
       more = ap unanswered_by owes.up ∙ owes.last
           ∙ ap (λ (before : List SentCommand). before ++ owes.entry ∷ []) (sym (ap unanswered_by up));
-      line = ap lines (begins text before after count puts (omega (arith, short, room)) counted ∙ is) ∙ owes.line;
+      line = λ later.
+          ap (λ (text : List ℕ). lines (text ++ later))
+          (begins text before after count puts (omega (arith, short, room)) counted ∙ is)
+          ∙ first_line _ _ later owes.line;
     }
 
 -- either side
@@ -66,6 +79,19 @@ where_sent old new number before after count side sound sends =
     rw sends.new_is
     (by_side old sends.side side after count
     (at_side old sends.side _ sends.text before after count refl sound sends.due sends.is sends.puts sends.room
+    sends.count_is))
+
+-- two colours of one number are one
+same_colour : (s t : Colour) → colour_code s ≡ colour_code t → s ≡ t
+same_colour Black Black e = refl
+same_colour White White e = refl
+
+pub were_sent : WrittenWereSent
+were_sent side old new text_old text_new count_old count_new sound did =
+    let sends = did.sent in
+    rw sends.new_is
+    (rw (same_colour side sends.side sends.number_is)
+    (at_side old sends.side _ sends.text text_old text_new count_new refl sound sends.due sends.is sends.puts sends.room
     sends.count_is))
 
 pub were_written : SentWereWritten

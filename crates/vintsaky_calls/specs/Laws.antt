@@ -16,7 +16,7 @@ use Rattle.gtp_match.specs.declared.sides.EngineRun.{EngineRun}
 use Rattle.gtp_match.specs.declared.unanswered.SentCommand.{SentCommand}
 use Rattle.gtp_session.specs.Steps.{StepsState, IsOpen}
 use Rattle.gtp_session.specs.declared.events.Wait.TheVariants as wait
-use Rattle.vintsaky_calls.specs.Codes.{Made}
+use Rattle.vintsaky_calls.specs.Codes.{Made, colour_code}
 use Rattle.vintsaky_calls.specs.Engines.{AddCommandCall, FeedCall}
 use Rattle.vintsaky_calls.specs.Matches.{SendCall}
 
@@ -30,12 +30,13 @@ unanswered_by (Some engine) = engine.unanswered
 abbrev pub unanswered_of : Controller → Colour → List SentCommand
 unanswered_of c side = unanswered_by (side_of c.sides side).up
 
--- One command more is unanswered, and the first bytes of the buffer are its line.
+-- One command more is unanswered, and the first bytes of the buffer are its line: whatever is written after them, this
+-- line comes first, and then those of what follows.
 pub record WroteOneMore (before after : List SentCommand) (text : List ℕ) (count : ℕ) : Type 0 where
   pub entry : SentCommand
   pub more : after ≡ before ++ entry ∷ []
-  pub line : lines (take count text)
-      ≡ line.Command (record { id = Some entry.id; words = words_of entry.command }) ∷ []
+  pub line : (later : List ℕ) → lines (take count text ++ later)
+      ≡ line.Command (record { id = Some entry.id; words = words_of entry.command }) ∷ lines later
 
 -- What counts as sent was written: whatever `send` returns, each side has as much unanswered as before, or one command
 -- more, which stands in the buffer.
@@ -45,6 +46,13 @@ SentWereWritten =
     (side : Colour) → IsSound old → SendCall number old new text_old text_new count_old count_new made
     → (unanswered_of new side ≡ unanswered_of old side)
     ⊎ WroteOneMore (unanswered_of old side) (unanswered_of new side) text_new count_new
+
+-- What was written counts as sent: where `send` succeeds for a side, that side has one command more unanswered.
+abbrev pub WrittenWereSent : Type 0
+WrittenWereSent =
+    (side : Colour) (old new : Controller) (text_old text_new : List ℕ) (count_old count_new : ℕ) → IsSound old
+    → SendCall (colour_code side) old new text_old text_new count_old count_new (Ok tt)
+    → WroteOneMore (unanswered_of old side) (unanswered_of new side) text_new count_new
 
 -- ---- own commands of an engine
 
