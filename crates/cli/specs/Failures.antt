@@ -1,5 +1,5 @@
 -- What a program reports in a line of its own: why it can't go on, and what is wrong with its words. (Own.)
-use Rattle.std.specs.Prelude.{◌≡◌, ℕ, List, codes}
+use Rattle.std.specs.Prelude.{ℕ, List, codes}
 use Rattle.byte_streams.specs.declared.calls.WriteOnce.{Ghosts}
 use Rattle.byte_streams.specs.Writing.{IsWritten}
 use Rattle.cli.specs.declared.failure.Failure.{Failure}
@@ -23,12 +23,16 @@ IsReported errs name text before after = IsWritten errs (error_line name text) b
 abbrev pub ReportsFailure : {E : Type 0} → Ghosts E → List ℕ → Failure → E → E → Type 0
 ReportsFailure errs name what before after = IsReported errs name (failure_text what) before after
 
--- The program of this name, whose mistakes are called so, reported why the words come to no plan, with status 2 for a
--- mistake and 3 for want of memory.
-abbrev pub ReportsPlanError : {M E : Type 0} → Ghosts E → List ℕ → (M → List ℕ) → PlanError M → ℕ → E → E → Type 0
-ReportsPlanError errs name called BadArgument status before after =
-    (status ≡ usage_failure) × IsReported errs name (codes "bad argument") before after
-ReportsPlanError errs name called (BadWords what) status before after =
-    (status ≡ usage_failure) × IsReported errs name (called what) before after
-ReportsPlanError errs name called OutOfMemory status before after =
-    (status ≡ own_failure) × ReportsFailure errs name failure.OutOfMemory before after
+-- ---- words that come to no plan
+
+-- the status with which that is reported: 2 for a mistake, and 3 for want of memory
+abbrev pub plan_error_status : {M : Type 0} → PlanError M → ℕ
+plan_error_status BadArgument = usage_failure
+plan_error_status (BadWords what) = usage_failure
+plan_error_status OutOfMemory = own_failure
+
+-- what the error is called, of a program whose mistakes are called so
+abbrev pub plan_error_text : {M : Type 0} → (M → List ℕ) → PlanError M → List ℕ
+plan_error_text called BadArgument = codes "bad argument"
+plan_error_text called (BadWords what) = called what
+plan_error_text called OutOfMemory = failure_text failure.OutOfMemory

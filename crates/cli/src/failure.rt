@@ -2,7 +2,7 @@
 ghost use Rattle.std.specs.Prelude.{◌≡◌, ◌≢◌, ◌≤◌, ℕ, List, length};
 ghost use Rattle.cli.specs.declared.failure.Failure.TheVariants as the_failure;
 ghost use Rattle.cli.specs.declared.failure.PlanError.TheVariants as plan_error;
-ghost use Rattle.cli.specs.Failures.{IsReported, ReportsFailure, ReportsPlanError, failure_text};
+ghost use Rattle.cli.specs.Failures.{IsReported, ReportsFailure, failure_text, plan_error_status, plan_error_text};
 ghost use Rattle.cli.specs.Status.{own_failure, usage_failure};
 
 use crate::line::error_line;
@@ -103,8 +103,9 @@ impl<M: MistakeText> PlanError<M> {
     /// memory. A writer that fails doesn't change the status.
     pub fn report<E: WriteOnce>(&self, name: &[u8], errors: &mut E) -> u8
         requires name { length name.now ≤ 20 }
-        ensures { ReportsPlanError E.WriteOnce name.now M.MistakeText.called self.now
-            result errors.old errors.new }
+        ensures status { result ≡ plan_error_status self.now }
+        ensures written { IsReported E.WriteOnce name.now
+            (plan_error_text M.MistakeText.called self.now) errors.old errors.new }
     {
         match self {
             PlanError::BadArgument => report_mistake(name, b"bad argument", errors),

@@ -1,6 +1,6 @@
 //! What is written where `clap` returns no options: the help or the version, or what is wrong with the words.
 ghost use Rattle.std.specs.Prelude.{◌≡◌, ◌≤◌, Ok, length, IfOk, IfErr};
-ghost use Rattle.cli.specs.Requests.{Answers, IsRefused, Shows};
+ghost use Rattle.cli.specs.Requests.{Answers, IsRefused, Shows, outputs, writers};
 ghost use Rattle.cli.specs.Status.{IsRequest};
 
 use crate::failure::Failure;
@@ -20,8 +20,8 @@ pub fn answer_error<O: WriteOnce, E: WriteOnce>(
     errors: &mut E,
 ) -> u8
     requires name { length name.now ≤ 20 }
-    ensures { Answers E.WriteOnce name.now kind text O.WriteOnce output.old errors.old
-        result output.new errors.new }
+    ensures { Answers (writers O.WriteOnce E.WriteOnce) name.now kind text
+        (outputs output.old errors.old) result (outputs output.new errors.new) }
 {
     match requested_text(name, kind, text, errors) {
         Ok(text) => show(name, text.as_bytes(), output, errors),
@@ -69,8 +69,8 @@ pub fn show<O: WriteOnce, E: WriteOnce>(
     errors: &mut E,
 ) -> u8
     requires name { length name.now ≤ 20 }
-    ensures { Shows O.WriteOnce E.WriteOnce name.now text.now output.old errors.old
-        result output.new errors.new }
+    ensures { Shows (writers O.WriteOnce E.WriteOnce) name.now text.now
+        (outputs output.old errors.old) result (outputs output.new errors.new) }
 {
     match write_text(output, text) {
         Ok(()) => 0,

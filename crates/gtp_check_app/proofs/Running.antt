@@ -7,7 +7,7 @@ use Rattle.clap.specs.declared.error.kind.ErrorKind.TheVariants.{OutOfMemory as 
 use Rattle.byte_streams.specs.declared.calls.WriteOnce.{Ghosts as WriterGhosts}
 use Rattle.gtp_process.specs.declared.starter.Process.{Ghosts}
 use Rattle.gtp_process.specs.Starts.{Attempts}
-use Rattle.cli.specs.Failures.{ReportsPlanError}
+use Rattle.cli.specs.Failures.{IsReported, plan_error_status, plan_error_text}
 use Rattle.cli.specs.Status.{IsRequest, done}
 use Rattle.cli.specs.declared.failure.PlanError.{PlanError}
 use Rattle.cli.specs.declared.failure.PlanError.TheVariants.{BadArgument, BadWords, OutOfMemory}
@@ -46,19 +46,20 @@ module _ {P O E : Type 0} (known : Ghosts P) (outs : WriterGhosts O) (errs : Wri
 
   -- where the options come to no plan
   pub no_plan_ran : (options : Options) → AsksFor words options → (error : PlanError Mistake) → HasNoPlan options error
-      → (status : ℕ) (reported : E) → ReportsPlanError errs program_name mistake_text error status errors reported
+      → (status : ℕ) (reported : E) → status ≡ plan_error_status error
+      → IsReported errs program_name (plan_error_text mistake_text error) errors reported
       → HasRun known outs errs words progress asked out errors status asked out reported
-  no_plan_ran options asks BadArgument none status reported reports = absurd none
-  no_plan_ran options asks (BadWords what) none status reported reports =
-      rw reports.0
+  no_plan_ran options asks BadArgument none status reported is reports = absurd none
+  no_plan_ran options asks (BadWords what) none status reported is reports =
+      rw is
       (HasRun.mistaken (inr (record {
         options = options;
         asked = asks;
         what = what;
         mistake = none;
-        reported = reports.1;
+        reported = reports;
       })))
-  no_plan_ran options asks OutOfMemory none status reported reports = rw reports.0 (HasRun.no_memory reports.1)
+  no_plan_ran options asks OutOfMemory none status reported is reports = rw is (HasRun.no_memory reports)
 
 module _ {P O E : Type 0} (known : Ghosts P) (outs : WriterGhosts O) (errs : WriterGhosts E)
     (progress : Bool) (asked : Attempts P) (out : O) (errors : E) where

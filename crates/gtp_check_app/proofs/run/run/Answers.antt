@@ -19,7 +19,8 @@ pub returns-in-Err-plan_of-clause-ran : goal.returns-in-Err-plan_of-clause-ran
 returns-in-Err-plan_of-clause-ran g c =
     no_plan_ran g.S.Process.Process g.O.WriteOnce g.E.WriteOnce _ c.args.progress (g.S.Starter.asked c.args.starter.now)
     c.args.output.now c.args.errors.now c.in-Ok.options c.in-Ok.ensures.asked c.in-Err-plan_of.error
-    c.in-Err-plan_of.ensures.no_plan c.report.result c.report.new.errors c.report.ensures
+    c.in-Err-plan_of.ensures.no_plan c.report.result c.report.new.errors c.report.ensures.status
+    c.report.ensures.written
 
 pub returns-in-Ok-check-clause-ran : goal.returns-in-Ok-check-clause-ran
 returns-in-Ok-check-clause-ran g c =

@@ -1,39 +1,47 @@
 use Rattle.std.proofs.Common.{◌∙◌, ap, inl, inr, arith, map, refl, sym}
+use Rattle.cli.specs.Requests.{writers}
 use Rattle.twogtp_app.specs.declared.task.Details.{Details}
 use Rattle.twogtp_app.proofs.command_line.Answering.{answered_played, answered_quiet, answered_status}
-use Rattle.twogtp_app.proofs.command_line.Answering.{answered_stopped, answered_usage}
+use Rattle.twogtp_app.proofs.command_line.Answering.{answered_stopped, answered_usage, plan_error_stopped}
 use Rattle.twogtp_app.proofs.matches.Statuses.{games_are_quiet, status_range}
 use Rattle.twogtp_app.proofs.run.run.Goals as goal
 
 pub returns-in-Err-clause-status : goal.returns-in-Err-clause-status
 returns-in-Err-clause-status g c =
-    answered_status g.O.WriteOnce g.E.WriteOnce _ _ _ _ _ _ _ c.answer_error.ensures
+    answered_status (writers g.O.WriteOnce g.E.WriteOnce) _ _ _ _ _ c.answer_error.ensures
 
 pub returns-in-Err-clause-quiet : goal.returns-in-Err-clause-quiet
 returns-in-Err-clause-quiet g c = λ range none.
-    answered_quiet g.O.WriteOnce g.E.WriteOnce _ _ _ _ _ _ _ c.answer_error.ensures range
+    answered_quiet (writers g.O.WriteOnce g.E.WriteOnce) _ _ _ _ _ c.answer_error.ensures range
 
 pub returns-in-Err-clause-usage : goal.returns-in-Err-clause-usage
 returns-in-Err-clause-usage g c = λ two.
     let has = rw (sym c.kind.ensures) at c.in-Err.ensures.fault in
     let words = map g.A.AsStr.text c.args.words.now in
-    let usage = answered_usage g.O.WriteOnce g.E.WriteOnce _ _ _ _ words has _ _ _ c.answer_error.ensures two in
+    let usage = answered_usage (writers g.O.WriteOnce g.E.WriteOnce) _ _ _ words has _ _ c.answer_error.ensures two in
     (usage.0, usage.1, refl)
 
 pub returns-in-Err-clause-played : goal.returns-in-Err-clause-played
 returns-in-Err-clause-played g c = λ range.
     let has = rw (sym c.kind.ensures) at c.in-Err.ensures.fault in
     let words = map g.A.AsStr.text c.args.words.now in
-    inl (refl, answered_played g.O.WriteOnce g.E.WriteOnce _ _ _ _ words has _ _ _ c.answer_error.ensures range)
+    inl (refl, answered_played (writers g.O.WriteOnce g.E.WriteOnce) _ _ _ words has _ _ c.answer_error.ensures range)
 
 pub returns-in-Err-clause-stopped : goal.returns-in-Err-clause-stopped
 returns-in-Err-clause-stopped g c = λ three.
     let has = rw (sym c.kind.ensures) at c.in-Err.ensures.fault in
     let words = map g.A.AsStr.text c.args.words.now in
-    elim (answered_stopped g.O.WriteOnce g.E.WriteOnce _ _ _ _ words has _ _ _ c.answer_error.ensures three) [
+    elim (answered_stopped (writers g.O.WriteOnce g.E.WriteOnce) _ _ _ words has _ _ c.answer_error.ensures three) [
       | inl same ↦ inl (refl, same.0, same.1)
       | inr broke ↦ inr (inl (refl, broke.0, broke.1))
     ]
+
+-- Where the options come to no plan with status 3, memory was refused.
+pub returns-in-Err-plan_of-clause-stopped : goal.returns-in-Err-plan_of-clause-stopped
+returns-in-Err-plan_of-clause-stopped g c = λ three.
+    let why = plan_error_stopped g.E.WriteOnce c.in-Err-plan_of.error c.report.result _ _ c.report.ensures.status
+    c.report.ensures.written three in
+    inl (refl, refl, why)
 
 -- The status of games is 0 or 1.
 pub returns-in-Ok-play_games-clause-status : goal.returns-in-Ok-play_games-clause-status
