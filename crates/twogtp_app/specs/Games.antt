@@ -23,7 +23,8 @@ use Rattle.gtp_process.specs.Starts.{Attempts}
 use Rattle.cli.specs.Status.{IsRequest, done, own_failure}
 use Rattle.twogtp_app.specs.Status.{ReportsFailure, ReportsMistake, status_with}
 use Rattle.twogtp_app.specs.Tasks.{IsMistake, IsPlanOf}
-use Rattle.twogtp_app.specs.Turns.{GameState, HasStopped, IsPlayed, opening}
+use Rattle.twogtp_app.specs.Turns.{Engines, GameState, HasStopped, IsPlayed, Reporting, Stage, engines_of, opening}
+use Rattle.twogtp_app.specs.Turns.{reporting, stage}
 use Rattle.byte_streams.specs.Writing.{BreaksAt, GoesOut, IsWritten}
 
 -- ---- the text of a game
@@ -48,70 +49,99 @@ abbrev pub game_lines : Task → ℕ → Controller → List ℕ
 game_lines task number c =
     result_part number c c.verdict ++ (record_part task.details.record c ++ board_part task.details.show c)
 
--- ---- the games of a plan
+-- ---- the games of a run
 
--- the starts that were asked for, where they are known, and the stream on which turns are reported
-pub record Seen (P E : Type 0) : Type 0 where
-  pub asked : Attempts P
+-- a run between two games: its output, the stream on which turns are reported, and the starts that were asked for so
+-- far, where they are known
+pub record RunState (P O E : Type 0) : Type 0 where
+  pub output : O
   pub errors : E
+  pub asked : Attempts P
 
-abbrev pub seen : {P E : Type 0} → Attempts P → E → Seen P E
-seen asked errors = record { asked = asked; errors = errors }
+abbrev pub run_state : {P O E : Type 0} → O → E → Attempts P → RunState P O E
+run_state output errors asked = record { output = output; errors = errors; asked = asked }
 
-module _ {P O E : Type 0} (known : Ghosts P) (outs : WriterGhosts O) (errs : WriterGhosts E) (plan : Plan) where
+-- what is known of the processes of engines, of the output and of standard error
+pub record Known (P O E : Type 0) : Type 1 where
+  pub processes : Ghosts P
+  pub output : WriterGhosts O
+  pub errors : WriterGhosts E
+
+abbrev pub known_of : {P O E : Type 0} → Ghosts P → WriterGhosts O → WriterGhosts E → Known P O E
+known_of processes output errors = record { processes = processes; output = output; errors = errors }
+
+-- a run: its plan, and what is known of its processes and its streams
+pub record Run (P O E : Type 0) : Type 1 where
+  pub plan : Plan
+  pub known : Known P O E
+
+abbrev pub run_of : {P O E : Type 0} → Plan → Known P O E → Run P O E
+run_of plan known = record { plan = plan; known = known }
+
+-- the engines of a run
+abbrev pub run_engines : {P O E : Type 0} → Run P O E → Engines P
+run_engines run = engines_of run.plan.commands run.known.processes
+
+-- how the turns of its game of this number are reported
+abbrev pub run_reporting : {P O E : Type 0} → Run P O E → ℕ → Reporting E
+run_reporting run number = reporting run.known.errors run.plan.task.details.why number
+
+-- where its next game begins: at a new match, without processes
+abbrev pub next_game : {P O E : Type 0} → Run P O E → RunState P O E → Stage P E
+next_game run before = stage (opening run.plan.task.setup before.asked) before.errors
+
+module _ {P O E : Type 0} (run : Run P O E) where
   -- A game was played to its end, from its beginning without processes, and its text under this number went out. After
   -- that its processes were closed.
-  pub record GameIsWritten (number : ℕ) (before after : O) (had has : Seen P E) (verdict : Verdict) : Type 0 where
+  pub record GameIsWritten (number : ℕ) (before after : RunState P O E) (verdict : Verdict) : Type 0 where
     pub last : GameState P
-    pub played : IsPlayed known errs plan.commands plan.task.details.why number
-        (opening plan.task.setup had.asked) had.errors last has.errors verdict
-    pub asked : last.asked ≡ has.asked
-    pub out : GoesOut outs (game_lines plan.task number last.game) before after
-    pub closed : AreClosed known last.game last.processes
+    pub played : IsPlayed (run_engines run) (run_reporting run number) (next_game run before) (stage last after.errors)
+        verdict
+    pub asked : last.asked ≡ after.asked
+    pub out : GoesOut run.known.output (game_lines run.plan.task number last.game) before.output after.output
+    pub closed : AreClosed run.known.processes last.game last.processes
 
   -- Why the text of a game isn't written whole. The game stopped before its end, and the output stayed as it was. Or it
   -- was played to its end, and the output broke at its text. Its processes were ended.
-  pub data GameIsNotWritten (number : ℕ) (before after : O) (had has : Seen P E) : Failure → Type 0 where
+  pub data GameIsNotWritten (number : ℕ) (before after : RunState P O E) : Failure → Type 0 where
     stopped : {last : GameState P} {failure : Failure}
-        → HasStopped known errs plan.commands plan.task.details.why number
-        (opening plan.task.setup had.asked) had.errors last has.errors failure
-        → last.asked ≡ has.asked → AreEnded known last.processes → after ≡ before
-        → GameIsNotWritten number before after had has failure
+        → HasStopped (run_engines run) (run_reporting run number) (next_game run before) (stage last after.errors)
+        failure
+        → last.asked ≡ after.asked → AreEnded run.known.processes last.processes → after.output ≡ before.output
+        → GameIsNotWritten number before after failure
     broke : {last : GameState P} {verdict : Verdict}
-        → IsPlayed known errs plan.commands plan.task.details.why number
-        (opening plan.task.setup had.asked) had.errors last has.errors verdict
-        → last.asked ≡ has.asked → AreEnded known last.processes
-        → BreaksAt outs (game_lines plan.task number last.game) before after
-        → GameIsNotWritten number before after had has Write
+        → IsPlayed (run_engines run) (run_reporting run number) (next_game run before) (stage last after.errors) verdict
+        → last.asked ≡ after.asked → AreEnded run.known.processes last.processes
+        → BreaksAt run.known.output (game_lines run.plan.task number last.game) before.output after.output
+        → GameIsNotWritten number before after Write
 
   -- so a game ends: its text is written, or not
-  abbrev pub GameEnds : ℕ → O → O → Seen P E → Seen P E → Result Verdict Failure → Type 0
-  GameEnds number before after had has (Ok verdict) = GameIsWritten number before after had has verdict
-  GameEnds number before after had has (Err failure) = GameIsNotWritten number before after had has failure
+  abbrev pub GameEnds : ℕ → RunState P O E → RunState P O E → Result Verdict Failure → Type 0
+  GameEnds number before after (Ok verdict) = GameIsWritten number before after verdict
+  GameEnds number before after (Err failure) = GameIsNotWritten number before after failure
 
   -- This number of games was played with this status, one after another. The text of each went out in its turn.
-  pub data GamesAreWritten (first : O) (had : Seen P E) : ℕ → ℕ → O → Seen P E → Type 0 where
-    no_game : GamesAreWritten first had 0 done first had
-    game : {number status : ℕ} {before after : O} {between has : Seen P E} {verdict : Verdict}
-        → GamesAreWritten first had number status before between
-        → GameIsWritten (number + 1) before after between has verdict
-        → GamesAreWritten first had (number + 1) (status_with status verdict) after has
+  pub data GamesAreWritten (first : RunState P O E) : ℕ → ℕ → RunState P O E → Type 0 where
+    no_game : GamesAreWritten first 0 done first
+    game : {number status : ℕ} {before after : RunState P O E} {verdict : Verdict}
+        → GamesAreWritten first number status before
+        → GameIsWritten (number + 1) before after verdict
+        → GamesAreWritten first (number + 1) (status_with status verdict) after
 
   -- Some games were played and written. The next one isn't written whole: it stopped before its end, or it was played
   -- to its end and the output broke at it. The failure says which, and nothing else was asked for.
-  pub record GamesHaveStopped (before after : O) (had has : Seen P E) (failure : Failure) : Type 0 where
+  pub record GamesHaveStopped (before after : RunState P O E) (failure : Failure) : Type 0 where
     pub number : ℕ
     pub status : ℕ
-    pub within : number + 1 ≤ plan.task.games
-    pub mid : O
-    pub between : Seen P E
-    pub written : GamesAreWritten before had number status mid between
-    pub next : GameIsNotWritten (number + 1) mid after between has failure
+    pub within : number + 1 ≤ run.plan.task.games
+    pub between : RunState P O E
+    pub written : GamesAreWritten before number status between
+    pub next : GameIsNotWritten (number + 1) between after failure
 
-  -- so the games of a plan end: all of them were played and written, with this status, or some failure stopped them
-  abbrev pub GamesEnd : O → O → Seen P E → Seen P E → Result ℕ Failure → Type 0
-  GamesEnd before after had has (Ok status) = GamesAreWritten before had plan.task.games status after has
-  GamesEnd before after had has (Err failure) = GamesHaveStopped before after had has failure
+  -- so the games of a run end: all of them were played and written, with this status, or some failure stopped them
+  abbrev pub GamesEnd : RunState P O E → RunState P O E → Result ℕ Failure → Type 0
+  GamesEnd before after (Ok status) = GamesAreWritten before run.plan.task.games status after
+  GamesEnd before after (Err failure) = GamesHaveStopped before after failure
 
 -- ---- what the words ask for was done
 
@@ -121,22 +151,22 @@ pub record AsksForPlan (words : List Text) (plan : Plan) : Type 0 where
   pub asked : AsksFor words options
   pub come_to : IsPlanOf options plan
 
-module _ {P O E : Type 0} (known : Ghosts P) (outs : WriterGhosts O) (errs : WriterGhosts E) (words : List Text) where
+module _ {P O E : Type 0} (known : Known P O E) (words : List Text) where
   -- all games that the words ask for were played and written, with this status
-  pub record HasDone (status : ℕ) (before after : O) (had has : Seen P E) : Type 0 where
+  pub record HasDone (status : ℕ) (before after : RunState P O E) : Type 0 where
     pub plan : Plan
     pub asks : AsksForPlan words plan
-    pub written : GamesAreWritten known outs errs plan before had plan.task.games status after has
+    pub written : GamesAreWritten (run_of plan known) before plan.task.games status after
 
   -- Some games that the words ask for were played and written, until a failure. The failure is reported after the lines
   -- of the turns.
-  pub record HasBegun (before after : O) (had has : Seen P E) : Type 0 where
+  pub record HasBegun (before after : RunState P O E) : Type 0 where
     pub plan : Plan
     pub asks : AsksForPlan words plan
     pub lines : E
     pub failure : Failure
-    pub stopped : GamesHaveStopped known outs errs plan before after had (seen has.asked lines) failure
-    pub reported : ReportsFailure errs failure lines has.errors
+    pub stopped : GamesHaveStopped (run_of plan known) before (record after { errors = lines }) failure
+    pub reported : ReportsFailure known.errors failure lines after.errors
 
 -- ---- texts that were asked for, and mistakes
 

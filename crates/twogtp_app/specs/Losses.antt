@@ -1,5 +1,5 @@
 -- What is written of a turn: a line for each `play` that is retaken in it, and one where a side fails. (Own.)
-use Rattle.std.specs.Prelude.{◌≡◌, ◌≢◌, ◌↔◌, ◌≤◌, ◌+◌, ◌*◌, ℕ, Bool, true, List, [], ◌++◌, length, All, Option, None}
+use Rattle.std.specs.Prelude.{◌≡◌, ◌≢◌, ◌↔◌, ◌≤◌, ◌+◌, ◌*◌, ℕ, true, List, [], ◌++◌, length, All, Option, None}
 use Rattle.std.specs.Prelude.{Some}
 use Rattle.go_base.specs.declared.colours.Colour.{Colour}
 use Rattle.gtp_match.specs.declared.controller.Controller.{Controller}
@@ -22,7 +22,8 @@ use Rattle.twogtp_app.specs.declared.task.Commands.{Commands}
 use Rattle.twogtp_app.specs.declared.why.SideTurn.{SideTurn}
 use Rattle.twogtp_app.specs.declared.why.TurnLoss.{TurnLoss}
 use Rattle.gtp_process.specs.Starts.{Attempts}
-use Rattle.twogtp_app.specs.Turns.{GameState, IsTurn, Plays, not_yet, state, turns, turn_lines}
+use Rattle.twogtp_app.specs.Turns.{Engines, GameState, IsTurn, Plays, Reporting, Stage, engines_of, not_yet, reporting}
+use Rattle.twogtp_app.specs.Turns.{stage, state, turns, turn_lines}
 use Rattle.twogtp_app.specs.Why.{loss_line, retake_line}
 
 -- the side whose turn it is
@@ -76,19 +77,17 @@ pub record TurnIsReported (number : ℕ) (c new : Controller) (lines : List (Lis
 abbrev pub LossesHaveLines : {P : Type 0} → Ghosts P → Type 0
 LossesHaveLines {P} known =
     (commands : Commands) (number : ℕ) (before after : GameState P) (turn : SideTurn)
-    → IsTurn known commands before after turn
+    → IsTurn (engines_of commands known) before after turn
     → TurnIsReported number before.game after.game (turn_lines true number turn)
 
 -- ---- a whole game
 
-module _ {P E : Type 0} (known : Ghosts P) (errs : WriterGhosts E) where
+module _ {P E : Type 0} (engines : Engines P) (reports : Reporting E) (first : Stage P E) where
   -- how many lines were written of these turns
-  abbrev pub lines_written : (commands : Commands) (why : Bool) (number : ℕ) (first : GameState P) (had : E) (count : ℕ)
-      (last : GameState P) (has : E) → Plays known errs commands why number first had count last has → ℕ
-  lines_written commands why number first had _ _ _ not_yet = 0
-  lines_written commands why number first had _ _ _
-      (turns {count = count} {before = before} {between = between} turn plays is out) =
-      lines_written commands why number first had count before between plays + length (turn_lines why number turn)
+  abbrev pub lines_written : {count : ℕ} {last : Stage P E} → Plays engines reports first count last → ℕ
+  lines_written not_yet = 0
+  lines_written (turns turn plays is out) =
+      lines_written plays + length (turn_lines reports.why reports.number turn)
 
 -- as many lines as this are few, after turns that led to this match
 pub record AreFew (setup : SetupRecord) (last : Controller) (lines : ℕ) : Type 0 where
@@ -102,7 +101,9 @@ pub record AreFew (setup : SetupRecord) (last : Controller) (lines : ℕ) : Type
 abbrev pub LinesAreFew : {P E : Type 0} → Ghosts P → WriterGhosts E → Type 0
 LinesAreFew {P} {E} known errs =
     (commands : Commands) (number count : ℕ) (setup : SetupRecord) (processes : Processes P) (asked : Attempts P)
-    (last : GameState P) (had has : E) → IsSetup setup
-    → (plays : Plays known errs commands true number (state (new setup) processes asked) had count last has)
-    → AreFew setup last.game
-    (lines_written known errs commands true number (state (new setup) processes asked) had count last has plays)
+    (errors : E) (last : Stage P E) → IsSetup setup
+    → let engines = engines_of commands known in
+    let reports = reporting errs true number in
+    let first = stage (state (new setup) processes asked) errors in
+    (plays : Plays engines reports first count last)
+    → AreFew setup last.state.game (lines_written engines reports first plays)

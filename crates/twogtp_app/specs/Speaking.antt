@@ -98,16 +98,24 @@ pub data IsHeard {P : Type 0} (known : Ghosts P) (c : Controller) (side : Colour
       → Keeps (known.taken before) (known.taken after)
       → IsHeard known c side before after (lost c side) (only_loss (cut_off Reading c side))
 
+-- a side in its turn: the match, and the process of the side, if it has one
+pub record SideInTurn (P : Type 0) : Type 0 where
+  pub game : Controller
+  pub process : Option P
+
+abbrev pub in_turn : {P : Type 0} → Controller → Option P → SideInTurn P
+in_turn game process = record { game = game; process = process }
+
 -- a side was to be sent its commands, and one that has no process fails
-abbrev pub SendsToSide : {P : Type 0} → Ghosts P → Controller → Colour → Option P → Option P → Controller
-    → Option TurnLoss → Type 0
-SendsToSide {P} known c side before after new why =
-    WithProcess before after (λ (old now : P). AreSent known c side old now new why)
-    ((new ≡ lost (sent c side) side) × (why ≡ cut_off Writing (sent c side) side))
+abbrev pub SendsToSide : {P : Type 0} → Ghosts P → Colour → SideInTurn P → SideInTurn P → Option TurnLoss → Type 0
+SendsToSide {P} known side before after why =
+    WithProcess before.process after.process
+    (λ (old now : P). AreSent known before.game side old now after.game why)
+    ((after.game ≡ lost (sent before.game side) side) × (why ≡ cut_off Writing (sent before.game side) side))
 
 -- a side was waited for, and one that has no process fails
-abbrev pub HearsFromSide : {P : Type 0} → Ghosts P → Controller → Colour → Option P → Option P → Controller
-    → TurnReport → Type 0
-HearsFromSide {P} known c side before after new report =
-    WithProcess before after (λ (old now : P). IsHeard known c side old now new report)
-    ((new ≡ lost c side) × (report ≡ only_loss (cut_off Reading c side)))
+abbrev pub HearsFromSide : {P : Type 0} → Ghosts P → Colour → SideInTurn P → SideInTurn P → TurnReport → Type 0
+HearsFromSide {P} known side before after report =
+    WithProcess before.process after.process
+    (λ (old now : P). IsHeard known before.game side old now after.game report)
+    ((after.game ≡ lost before.game side) × (report ≡ only_loss (cut_off Reading before.game side)))

@@ -21,11 +21,10 @@ use Rattle.twogtp_app.specs.declared.task.Commands.{Commands}
 use Rattle.twogtp_app.specs.declared.why.SideTurn.{SideTurn}
 use Rattle.twogtp_app.specs.declared.why.TurnLoss.{TurnLoss}
 use Rattle.twogtp_app.specs.declared.why.TurnLoss.TheVariants.{NotStarted}
-use Rattle.twogtp_app.specs.declared.why.TurnReport.{TurnReport}
 use Rattle.twogtp_app.specs.Starts.{program_line_for}
 use Rattle.gtp_process.specs.Endings.{IsEnded}
 use Rattle.twogtp_app.specs.Processes.{Ends, OtherStays, kept_by, no_processes, process_of}
-use Rattle.twogtp_app.specs.Speaking.{HearsFromSide, SendsToSide}
+use Rattle.twogtp_app.specs.Speaking.{HearsFromSide, SendsToSide, SideInTurn, in_turn}
 use Rattle.gtp_process.specs.Starts.{Attempts, Tries}
 use Rattle.gtp_process.specs.Shown.{unstarted}
 use Rattle.twogtp_app.specs.Why.{loss_lines, retake_lines}
@@ -51,6 +50,18 @@ state game processes asked = record { game = game; processes = processes; asked 
 abbrev pub opening : {P : Type 0} → SetupRecord → Attempts P → GameState P
 opening setup asked = state (new setup) no_processes asked
 
+-- how far a game has come: its state between two turns, and the stream on which the turns are reported
+pub record Stage (P E : Type 0) : Type 0 where
+  pub state : GameState P
+  pub errors : E
+
+abbrev pub stage : {P E : Type 0} → GameState P → E → Stage P E
+stage state errors = record { state = state; errors = errors }
+
+-- a side of a game in its turn
+abbrev pub side_in : {P : Type 0} → GameState P → Colour → SideInTurn P
+side_in state side = in_turn state.game (process_of state.processes side)
+
 -- what is written of a turn under this number of a game, where that is asked for: the line of a retake and then that of
 -- a loss, each where there is one
 abbrev pub turn_lines : Bool → ℕ → SideTurn → List (List ℕ)
@@ -60,49 +71,54 @@ turn_lines true number turn =
 
 -- ---- one turn
 
-module _ {P : Type 0} (known : Ghosts P) (commands : Commands) where
+-- the engines of a game: the commands that start them, and what is known of their processes
+pub record Engines (P : Type 0) : Type 1 where
+  pub commands : Commands
+  pub known : Ghosts P
+
+abbrev pub engines_of : {P : Type 0} → Commands → Ghosts P → Engines P
+engines_of commands known = record { commands = commands; known = known }
+
+module _ {P : Type 0} (engines : Engines P) where
   -- A side's program was asked for, by that side's command line. It was started: so is the side, and the very process
   -- that was started is its process from then on. One that it had has ended. Or it couldn't be: the side counts as
   -- started and lost, and what process it had stays. What is reported names the program that was looked for.
   pub data Begins (side : Colour) (before after : GameState P) : Option TurnLoss → Type 0 where
-    starts : (process : P) → Tries before.asked after.asked (program_line_for commands side) (Ok process)
-        → process_of after.processes side ≡ Some process → IsEnded known (process_of before.processes side)
+    starts : (process : P) → Tries before.asked after.asked (program_line_for engines.commands side) (Ok process)
+        → process_of after.processes side ≡ Some process → IsEnded engines.known (process_of before.processes side)
         → after.game ≡ started before.game side
         → Begins side before after None
-    fails_to_start : (reason : StartReason) → Tries before.asked after.asked (program_line_for commands side)
+    fails_to_start : (reason : StartReason) → Tries before.asked after.asked (program_line_for engines.commands side)
         (Err (start_fault.NotStarted reason))
         → process_of after.processes side ≡ process_of before.processes side
         → after.game ≡ lost (started before.game side) side
-        → Begins side before after (Some (NotStarted (unstarted (program_line_for commands side) reason)))
+        → Begins side before after (Some (NotStarted (unstarted (program_line_for engines.commands side) reason)))
 
-  -- A turn of this side does what comes next, with its process, and nothing with the other's: its program is asked for,
-  -- or it is sent its commands, all that come next for it, or it is waited for. Only a start asks for a program. Once
-  -- the match is over there is no turn. And what is reported: why the side failed, if it did, and by what it wrote also
-  -- the `play` that is retaken.
-  abbrev pub Turn : Action → GameState P → GameState P → Colour → TurnReport → Type 0
-  Turn (Start side) before after whose report =
-      (whose ≡ side) × Begins side before after report.loss × (report.retake ≡ None)
+  -- A turn of a side does what comes next, with its process, and nothing with the other's: its program is asked for, or
+  -- it is sent its commands, all that come next for it, or it is waited for. Only a start asks for a program. Once the
+  -- match is over there is no turn. And what is reported: why the side failed, if it did, and by what it wrote also the
+  -- `play` that is retaken.
+  abbrev pub Turn : Action → GameState P → GameState P → SideTurn → Type 0
+  Turn (Start side) before after turn =
+      (turn.side ≡ side) × Begins side before after turn.report.loss × (turn.report.retake ≡ None)
       × OtherStays side before.processes after.processes
-  Turn (Send side) before after whose report =
-      (whose ≡ side)
-      × SendsToSide known before.game side (process_of before.processes side) (process_of after.processes side)
-      after.game report.loss
-      × (report.retake ≡ None) × OtherStays side before.processes after.processes × (after.asked ≡ before.asked)
-  Turn (Wait side) before after whose report =
-      (whose ≡ side)
-      × HearsFromSide known before.game side (process_of before.processes side) (process_of after.processes side)
-      after.game report
+  Turn (Send side) before after turn =
+      (turn.side ≡ side) × SendsToSide engines.known side (side_in before side) (side_in after side) turn.report.loss
+      × (turn.report.retake ≡ None) × OtherStays side before.processes after.processes
+      × (after.asked ≡ before.asked)
+  Turn (Wait side) before after turn =
+      (turn.side ≡ side) × HearsFromSide engines.known side (side_in before side) (side_in after side) turn.report
       × OtherStays side before.processes after.processes × (after.asked ≡ before.asked)
-  Turn (Done verdict) before after whose report = ⊥
+  Turn (Done verdict) before after turn = ⊥
 
   -- One turn did what the controller said. If its side is down after it, the process that the turn left to the side has
   -- ended, and how it did is known.
   pub record IsTurn (before after : GameState P) (turn : SideTurn) : Type 0 where
     pub left : Processes P
-    pub done : Turn (next before.game) before (record after { processes = left }) turn.side turn.report
+    pub done : Turn (next before.game) before (record after { processes = left }) turn
     pub kept : process_of after.processes turn.side ≡ kept_by after.game turn.side (process_of left turn.side)
     pub other : OtherStays turn.side left after.processes
-    pub ended : Ends known after.game turn.side (process_of left turn.side) turn.ending
+    pub ended : Ends engines.known after.game turn.side (process_of left turn.side) turn.ending
 
 -- a side is to be started, and its program was asked for, and memory refused for it; nothing else was done
 pub record IsRefused {P : Type 0} (commands : Commands) (before after : GameState P) : Type 0 where
@@ -114,51 +130,59 @@ pub record IsRefused {P : Type 0} (commands : Commands) (before after : GameStat
 
 -- ---- turns, one after another
 
-module _ {P E : Type 0} (known : Ghosts P) (errs : WriterGhosts E) (commands : Commands) (why : Bool) (number : ℕ)
-  where
-    -- Turns were taken, this many, from a first state on. What is written of each went out after it.
-    pub data Plays (first : GameState P) (had : E) : ℕ → GameState P → E → Type 0 where
-      not_yet : Plays first had 0 first had
-      turns : {count : ℕ} {before after : GameState P} {between has : E} (turn : SideTurn)
-          → Plays first had count before between
-          → IsTurn known commands before after turn
-          → LinesGoOut errs (turn_lines why number turn) between has
-          → Plays first had (count + 1) after has
+-- how the turns of a game are reported: what is known of the stream that takes the lines, whether any are asked for, and
+-- the number of the game in them
+pub record Reporting (E : Type 0) : Type 1 where
+  pub known : WriterGhosts E
+  pub why : Bool
+  pub number : ℕ
 
-    -- turns were taken
-    abbrev pub HasPlayed : GameState P → E → GameState P → E → Type 0
-    HasPlayed first had last has = (count : ℕ) × Plays first had count last has
+abbrev pub reporting : {E : Type 0} → WriterGhosts E → Bool → ℕ → Reporting E
+reporting known why number = record { known = known; why = why; number = number }
 
-    -- A game stopped before its end, where its turns had led: turns were taken, and then memory was refused for a
-    -- start; or after the last turn the stream broke at a line of it; or there were too many turns.
-    pub data HasStopped (first : GameState P) (had : E) (last : GameState P) (has : E) : Failure → Type 0 where
-      out_of_memory : {before : GameState P} → HasPlayed first had before has
-          → IsRefused commands before last
-          → HasStopped first had last has OutOfMemory
-      line_broke : {before : GameState P} {between : E} (turn : SideTurn) → HasPlayed first had before between
-          → IsTurn known commands before last turn
-          → LinesBreak errs (turn_lines why number turn) between has
-          → HasStopped first had last has Write
-      too_many_turns : Plays first had most_turns last has
-          → HasStopped first had last has TooManyTurns
+module _ {P E : Type 0} (engines : Engines P) (reports : Reporting E) where
+  -- Turns were taken, this many, from a first stage on. What is written of each went out after it.
+  pub data Plays (first : Stage P E) : ℕ → Stage P E → Type 0 where
+    not_yet : Plays first 0 first
+    turns : {count : ℕ} {before after : Stage P E} (turn : SideTurn)
+        → Plays first count before
+        → IsTurn engines before.state after.state turn
+        → LinesGoOut reports.known (turn_lines reports.why reports.number turn) before.errors after.errors
+        → Plays first (count + 1) after
 
-    -- a game was played to its end, with this verdict
-    pub record IsPlayed (first : GameState P) (had : E) (last : GameState P) (has : E) (verdict : Verdict)
-        : Type 0 where
-      pub plays : HasPlayed first had last has
-      pub over : next last.game ≡ Done verdict
-      -- what holds of each match: its record is a game of the setup, and its verdict is right
-      pub sound : IsSound last.game
+  -- turns were taken
+  abbrev pub HasPlayed : Stage P E → Stage P E → Type 0
+  HasPlayed before after = (count : ℕ) × Plays before count after
 
-    -- so turns end: the game was played to its end, or it stopped before that
-    abbrev pub TurnsEnd : GameState P → E → GameState P → E → Result Verdict Failure → Type 0
-    TurnsEnd first had last has (Ok verdict) = IsPlayed first had last has verdict
-    TurnsEnd first had last has (Err failure) = HasStopped first had last has failure
+  -- A game stopped before its end, where its turns had led: turns were taken, and then memory was refused for a start;
+  -- or after the last turn the stream broke at a line of it; or there were too many turns.
+  pub data HasStopped (before after : Stage P E) : Failure → Type 0 where
+    out_of_memory : {between : GameState P} → HasPlayed before (stage between after.errors)
+        → IsRefused engines.commands between after.state
+        → HasStopped before after OutOfMemory
+    line_broke : {between : Stage P E} (turn : SideTurn) → HasPlayed before between
+        → IsTurn engines between.state after.state turn
+        → LinesBreak reports.known (turn_lines reports.why reports.number turn) between.errors after.errors
+        → HasStopped before after Write
+    too_many_turns : Plays before most_turns after
+        → HasStopped before after TooManyTurns
+
+  -- a game was played to its end, with this verdict
+  pub record IsPlayed (before after : Stage P E) (verdict : Verdict) : Type 0 where
+    pub plays : HasPlayed before after
+    pub over : next after.state.game ≡ Done verdict
+    -- what holds of each match: its record is a game of the setup, and its verdict is right
+    pub sound : IsSound after.state.game
+
+  -- so turns end: the game was played to its end, or it stopped before that
+  abbrev pub TurnsEnd : Stage P E → Stage P E → Result Verdict Failure → Type 0
+  TurnsEnd before after (Ok verdict) = IsPlayed before after verdict
+  TurnsEnd before after (Err failure) = HasStopped before after failure
 
 -- After any turns of a game from its beginning on, a side that is down has no process.
 abbrev pub DownSidesHaveNoProcess : {P E : Type 0} → Ghosts P → WriterGhosts E → Type 0
 DownSidesHaveNoProcess {P} {E} known errs =
-    (commands : Commands) (why : Bool) (number count : ℕ) (setup : SetupRecord) (asked : Attempts P)
-    (last : GameState P) (had has : E) (side : Colour)
-    → Plays known errs commands why number (opening setup asked) had count last has
-    → (side_of last.game.sides side).up ≡ None → process_of last.processes side ≡ None
+    (commands : Commands) (why : Bool) (number count : ℕ) (setup : SetupRecord) (asked : Attempts P) (errors : E)
+    (last : Stage P E) (side : Colour)
+    → Plays (engines_of commands known) (reporting errs why number) (stage (opening setup asked) errors) count last
+    → (side_of last.state.game.sides side).up ≡ None → process_of last.state.processes side ≡ None

@@ -3,9 +3,9 @@ ghost use Rattle.std.specs.Prelude.{◌≡◌, None, IfOk, OnErr};
 ghost use Rattle.gtp_match.specs.declared.verdicts.Action.TheVariants as action;
 ghost use Rattle.gtp_match.specs.Controller.{new};
 ghost use Rattle.gtp_match.specs.Next.{next};
-ghost use Rattle.twogtp_app.specs.Games.{GameEnds, seen};
+ghost use Rattle.twogtp_app.specs.Games.{GameEnds, known_of, run_of, run_state};
 ghost use Rattle.twogtp_app.specs.Processes.{AreEnded, OtherStays, no_processes};
-ghost use Rattle.twogtp_app.specs.Turns.{Begins, IsRefused, TurnsEnd, state};
+ghost use Rattle.twogtp_app.specs.Turns.{Begins, IsRefused, TurnsEnd, engines_of, reporting, stage, state};
 ghost use Rattle.twogtp_app.specs.Why.{ReportCanBeShown};
 ghost use Rattle.twogtp_app.specs.private.Steps.{IsStep};
 
@@ -57,10 +57,9 @@ pub fn play_game<O: WriteOnce, E: WriteOnce, S: Starter>(
     errors: &mut E,
     starter: &mut S,
 ) -> Result<Verdict, Failure>
-    ensures { let had = seen (S.asked starter.old) errors.old in
-        let has = seen (S.asked starter.new) errors.new in
-        GameEnds S.Process.Process O.WriteOnce E.WriteOnce plan.now number output.old output.new
-        had has result }
+    ensures { let run = run_of plan.now (known_of S.Process.Process O.WriteOnce E.WriteOnce) in
+        GameEnds run number (run_state output.old errors.old (S.asked starter.old))
+        (run_state output.new errors.new (S.asked starter.new)) result }
 {
     let mut played = GameInPlay::new(plan.task.setup);
     match played.take_turns(plan, number, errors, starter) {
@@ -99,8 +98,9 @@ impl<S: Starter> GameInPlay<S> {
     ) -> Result<Verdict, Failure>
         ensures { let first = state self.old.game self.old.processes (S.asked starter.old) in
             let last = state self.new.game self.new.processes (S.asked starter.new) in
-            TurnsEnd S.Process.Process E.WriteOnce plan.now.commands plan.now.task.details.why number
-            first errors.old last errors.new result }
+            TurnsEnd (engines_of plan.now.commands S.Process.Process)
+            (reporting E.WriteOnce plan.now.task.details.why number)
+            (stage first errors.old) (stage last errors.new) result }
     {
         for _turn in 0..MOST_TURNS {
             match self.take_turn(&plan.commands, starter)? {
@@ -115,7 +115,7 @@ impl<S: Starter> GameInPlay<S> {
     fn take_turn(&mut self, commands: &Commands<'_>, starter: &mut S) -> Result<Step, AllocError>
         ensures step { let before = state self.old.game self.old.processes (S.asked starter.old) in
             let after = state self.new.game self.new.processes (S.asked starter.new) in
-            IfOk result (IsStep S.Process.Process commands.now before after) }
+            IfOk result (IsStep (engines_of commands.now S.Process.Process) before after) }
         ensures refused { OnErr result (IsRefused commands.now
             (state self.old.game self.old.processes (S.asked starter.old))
             (state self.new.game self.new.processes (S.asked starter.new))) }
@@ -151,7 +151,7 @@ impl<S: Starter> GameInPlay<S> {
         ensures begins { let before = state self.old.game self.old.processes (S.asked starter.old) in
             let after = state self.new.game self.new.processes (S.asked starter.new) in
             IfOk result (λ report.
-            Begins S.Process.Process commands.now side before after report.loss
+            Begins (engines_of commands.now S.Process.Process) side before after report.loss
             × (report.retake ≡ None)) }
         ensures shown { IfOk result ReportCanBeShown }
         ensures rests { OtherStays side self.old.processes self.new.processes }

@@ -1,6 +1,7 @@
 //! The program, over any writers and any means to start processes.
 ghost use Rattle.std.specs.Prelude.{◌≡◌, ◌⊎◌, map};
-ghost use Rattle.twogtp_app.specs.Games.{GamesEnd, HasBegun, HasDone, HasMistake, HasShown, seen};
+ghost use Rattle.twogtp_app.specs.Games.{GamesEnd, HasBegun, HasDone, HasMistake, HasShown};
+ghost use Rattle.twogtp_app.specs.Games.{known_of, run_of, run_state};
 ghost use Rattle.twogtp_app.specs.Options.{IsWithoutWhy};
 ghost use Rattle.twogtp_app.specs.Status.{IsStatus, ReportsFailure, some_given_up, status_with};
 ghost use Rattle.cli.specs.Status.{done, own_failure, usage_failure};
@@ -48,9 +49,9 @@ pub fn run<A: AsStr, O: WriteOnce, E: WriteOnce, S: Starter>(
     ensures played { (result ≡ done) ⊎ (result ≡ some_given_up) →
         ((starter.new ≡ starter.old)
         × HasShown O.WriteOnce (map A.text words.now) result output.old output.new)
-        ⊎ HasDone S.Process.Process O.WriteOnce E.WriteOnce (map A.text words.now) result
-        output.old output.new
-        (seen (S.asked starter.old) errors.old) (seen (S.asked starter.new) errors.new) }
+        ⊎ HasDone (known_of S.Process.Process O.WriteOnce E.WriteOnce) (map A.text words.now) result
+        (run_state output.old errors.old (S.asked starter.old))
+        (run_state output.new errors.new (S.asked starter.new)) }
     // What was written before the program had to stop is the beginning of the games' texts, or of
     // the help or the version: then the output broke at it. Why it stopped is reported last on
     // standard error. Memory that was refused before any game is the one cause that isn't seen here.
@@ -60,9 +61,9 @@ pub fn run<A: AsStr, O: WriteOnce, E: WriteOnce, S: Starter>(
         ⊎ ((starter.new ≡ starter.old)
         × HasShown O.WriteOnce (map A.text words.now) result output.old output.new
         × ReportsFailure E.WriteOnce Failure.Write errors.old errors.new)
-        ⊎ HasBegun S.Process.Process O.WriteOnce E.WriteOnce (map A.text words.now)
-        output.old output.new
-        (seen (S.asked starter.old) errors.old) (seen (S.asked starter.new) errors.new) }
+        ⊎ HasBegun (known_of S.Process.Process O.WriteOnce E.WriteOnce) (map A.text words.now)
+        (run_state output.old errors.old (S.asked starter.old))
+        (run_state output.new errors.new (S.asked starter.new)) }
 {
     let options = match read_options(alloc, words) {
         Ok(options) => options,
@@ -91,10 +92,9 @@ fn play_games<O: WriteOnce, E: WriteOnce, S: Starter>(
     errors: &mut E,
     starter: &mut S,
 ) -> Result<u8, Failure>
-    ensures { let had = seen (S.asked starter.old) errors.old in
-        let has = seen (S.asked starter.new) errors.new in
-        GamesEnd S.Process.Process O.WriteOnce E.WriteOnce plan.now output.old output.new
-        had has result }
+    ensures { let run = run_of plan.now (known_of S.Process.Process O.WriteOnce E.WriteOnce) in
+        GamesEnd run (run_state output.old errors.old (S.asked starter.old))
+        (run_state output.new errors.new (S.asked starter.new)) result }
 {
     let mut status = 0;
     for index in 0..plan.task.games {

@@ -6,7 +6,7 @@ ghost use Rattle.gtp_match.specs.Controller.{lost};
 ghost use Rattle.gtp_match.specs.Hearing.{HearsAllExactly};
 ghost use Rattle.gtp_match.specs.Next.{next};
 ghost use Rattle.gtp_match.specs.Sides.{side_of, status_of};
-ghost use Rattle.twogtp_app.specs.Speaking.{AreSent, HearsFromSide, IsHeard, ReportedBy, SendsToSide, cut_off};
+ghost use Rattle.twogtp_app.specs.Speaking.{AreSent, HearsFromSide, IsHeard, ReportedBy, SendsToSide, cut_off, in_turn};
 ghost use Rattle.twogtp_app.specs.Why.{ReportCanBeShown, only_loss};
 ghost use Rattle.twogtp_app.specs.private.Several.{has_several_unanswered};
 
@@ -20,8 +20,8 @@ use gtp_process::{CutOff, PipeCause, Process, READ_ROOM, read_some, write_whole}
 /// if it did.
 pub fn send<P: Process>(game: &mut Match, side: Side, process: &mut Option<P>) -> TurnReport
     requires { next game.old ≡ action.Send side }
-    ensures sends { SendsToSide P.Process game.old side process.old process.new game.new
-        result.loss }
+    ensures sends { SendsToSide P.Process side (in_turn game.old process.old)
+        (in_turn game.new process.new) result.loss }
     ensures retake { result.retake ≡ None }
     ensures shown { ReportCanBeShown result }
 {
@@ -56,8 +56,8 @@ pub fn hear<P: Process>(
     buffer: &mut [u8; READ_ROOM],
 ) -> TurnReport
     requires { next game.old ≡ action.Wait side }
-    ensures hears { HearsFromSide P.Process game.old side process.old process.new
-        game.new result }
+    ensures hears { HearsFromSide P.Process side (in_turn game.old process.old)
+        (in_turn game.new process.new) result }
     ensures shown { ReportCanBeShown result }
 {
     match process {

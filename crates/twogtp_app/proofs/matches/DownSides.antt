@@ -1,5 +1,5 @@
 -- A side that is down has no process.
-use Rattle.std.proofs.Common.{◌≡◌, ◌∙◌, ℕ, Bool, false, Option, Some, None, refl, ap}
+use Rattle.std.proofs.Common.{◌≡◌, ◌∙◌, ℕ, false, Option, Some, None, refl, ap}
 use Rattle.std.specs.Prelude.{is_some}
 use Rattle.go_base.specs.Colour.{other}
 use Rattle.go_base.specs.declared.colours.Colour.{Colour}
@@ -13,12 +13,11 @@ use Rattle.gtp_match.specs.Sides.{side_of, status_of}
 use Rattle.byte_streams.specs.declared.calls.WriteOnce.{Ghosts as WriterGhosts}
 use Rattle.twogtp_app.specs.declared.processes.Processes.{Processes}
 use Rattle.gtp_process.specs.declared.starter.Process.{Ghosts}
-use Rattle.twogtp_app.specs.declared.task.Commands.{Commands}
 use Rattle.twogtp_app.specs.declared.why.SideTurn.{SideTurn}
-use Rattle.twogtp_app.specs.declared.why.TurnReport.{TurnReport}
 use Rattle.twogtp_app.specs.Processes.{OtherStays, process_of, while_up}
 use Rattle.gtp_process.specs.Starts.{Attempts}
-use Rattle.twogtp_app.specs.Turns.{DownSidesHaveNoProcess, GameState, IsTurn, Plays, Turn, not_yet, opening, turns}
+use Rattle.twogtp_app.specs.Turns.{DownSidesHaveNoProcess, Engines, GameState, IsTurn, Plays, Reporting, Stage, Turn}
+use Rattle.twogtp_app.specs.Turns.{engines_of, not_yet, opening, reporting, stage, turns}
 use Rattle.twogtp_app.proofs.matches.LossLines.{turn_leaves, up_in}
 
 -- a side has no process where it is down
@@ -48,15 +47,15 @@ which Q Black mine others White = others
 which Q White mine others White = mine
 which Q White mine others Black = others
 
-module _ {P : Type 0} (known : Ghosts P) (commands : Commands) where
-  turn_rests : (before after : GameState P) (a : Action) (whose : Colour) (report : TurnReport)
-      → Turn known commands a before after whose report → OtherStays whose before.processes after.processes
-  turn_rests before after (Start side) whose report turn = rw turn.0 turn.3
-  turn_rests before after (Send side) whose report turn = rw turn.0 turn.3
-  turn_rests before after (Wait side) whose report turn = rw turn.0 turn.2
-  turn_rests before after (Done verdict) whose report turn = absurd turn
+module _ {P : Type 0} (engines : Engines P) where
+  turn_rests : (before after : GameState P) (a : Action) (turn : SideTurn)
+      → Turn engines a before after turn → OtherStays turn.side before.processes after.processes
+  turn_rests before after (Start side) turn does = rw does.0 does.3
+  turn_rests before after (Send side) turn does = rw does.0 does.3
+  turn_rests before after (Wait side) turn does = rw does.0 does.2
+  turn_rests before after (Done verdict) turn does = absurd does
 
-  turn_keeps : (before after : GameState P) (turn : SideTurn) → IsTurn known commands before after turn
+  turn_keeps : (before after : GameState P) (turn : SideTurn) → IsTurn engines before after turn
       → ((s : Colour) → HasNone before s) → (s : Colour) → HasNone after s
   unfolding up_in HasNone
   turn_keeps before after turn is so_far = which (HasNone after) turn.side mine others
@@ -72,26 +71,26 @@ module _ {P : Type 0} (known : Ghosts P) (commands : Commands) where
       rests =
           other_process turn.side is.left after.processes is.other
           ∙ other_process turn.side before.processes is.left
-          (turn_rests before mid (next before.game) turn.side turn.report is.done)
+          (turn_rests before mid (next before.game) turn is.done)
 
       others : HasNone after (other turn.side)
       others down =
           rests ∙ so_far (other turn.side)
           (was_down (up_in before.game (other turn.side)) (up_in after.game (other turn.side))
-          (turn_leaves known commands before mid (next before.game) turn.side turn.report is.done) down)
+          (turn_leaves engines before mid (next before.game) turn is.done) down)
 
-module _ {P E : Type 0} (known : Ghosts P) (errs : WriterGhosts E) (commands : Commands) (why : Bool) (number : ℕ)
-    (setup : SetupRecord) (asked : Attempts P) (had : E) where
-  turns_keep : (count : ℕ) (last : GameState P) (has : E)
-      → Plays known errs commands why number (opening setup asked) had count last has → (s : Colour) → HasNone last s
+module _ {P E : Type 0} (engines : Engines P) (reports : Reporting E) (setup : SetupRecord) (asked : Attempts P)
+    (errors : E) where
+  turns_keep : (count : ℕ) (last : Stage P E)
+      → Plays engines reports (stage (opening setup asked) errors) count last → (s : Colour) → HasNone last.state s
   unfolding HasNone
-  turns_keep _ _ _ not_yet Black down = refl
-  turns_keep _ _ _ not_yet White down = refl
-  turns_keep _ last _ (turns {count = n} {before = before} {between = between} turn plays is out) s down =
-      turn_keeps known commands before last turn is (turns_keep n before between plays) s down
+  turns_keep _ _ not_yet Black down = refl
+  turns_keep _ _ not_yet White down = refl
+  turns_keep _ last (turns {count = n} {before = before} turn plays is out) s down =
+      turn_keeps engines before.state last.state turn is (turns_keep n before plays) s down
 
 pub down_sides_have_no_process : {P E : Type 0} (known : Ghosts P) (errs : WriterGhosts E)
     → DownSidesHaveNoProcess known errs
 unfolding HasNone up_in
-down_sides_have_no_process known errs commands why number count setup asked last had has side plays =
-    turns_keep known errs commands why number setup asked had count last has plays side
+down_sides_have_no_process known errs commands why number count setup asked errors last side plays =
+    turns_keep (engines_of commands known) (reporting errs why number) setup asked errors count last plays side

@@ -33,14 +33,15 @@ use Rattle.gtp_match.proofs.soundness.Calls.{all_few, my_side, new_sound, sent_s
 use Rattle.byte_streams.specs.declared.calls.WriteOnce.{Ghosts as WriterGhosts}
 use Rattle.twogtp_app.specs.declared.processes.Processes.{Processes}
 use Rattle.gtp_process.specs.declared.starter.Process.{Ghosts}
-use Rattle.twogtp_app.specs.declared.task.Commands.{Commands}
+use Rattle.twogtp_app.specs.declared.why.SideTurn.{SideTurn}
 use Rattle.twogtp_app.specs.declared.why.TurnLoss.{TurnLoss}
 use Rattle.twogtp_app.specs.declared.why.TurnReport.{TurnReport}
 use Rattle.twogtp_app.specs.Losses.{LinesAreFew, TurnLosesSide, is_lost, is_not_started, lines_written}
 use Rattle.twogtp_app.specs.Processes.{process_of}
-use Rattle.twogtp_app.specs.Speaking.{AreSent, HearsFromSide, IsHeard, SendsToSide, TakesCommands}
+use Rattle.twogtp_app.specs.Speaking.{AreSent, HearsFromSide, IsHeard, SendsToSide, TakesCommands, in_turn}
 use Rattle.gtp_process.specs.Starts.{Attempts}
-use Rattle.twogtp_app.specs.Turns.{Begins, GameState, Plays, Turn, not_yet, state, turn_lines, turns}
+use Rattle.twogtp_app.specs.Turns.{Begins, Engines, GameState, Plays, Stage, Turn, engines_of, not_yet, reporting}
+use Rattle.twogtp_app.specs.Turns.{stage, state, turn_lines, turns}
 use Rattle.twogtp_app.proofs.matches.LossLines.{OtherStaysUp, begin_leaves, down_is, failed_down, losses_have_lines}
 use Rattle.twogtp_app.proofs.matches.LossLines.{lost_retakes, send_leaves, send_retakes, started_leaves, turn_given}
 use Rattle.twogtp_app.proofs.matches.LossLines.{up_in}
@@ -163,7 +164,7 @@ heard_carries c new s bytes fault sound heard =
 
 module _ {P : Type 0} (known : Ghosts P) where
   send_carries : (c new : Controller) (s : Colour) (before after : Option P) (why : Option TurnLoss) → IsSound c
-      → next c ≡ Send s → SendsToSide known c s before after new why → Carries c new
+      → next c ≡ Send s → SendsToSide known s (in_turn c before) (in_turn new after) why → Carries c new
   send_carries c new s None None why sound e done =
       let first = sent_carries c s sound e in
       rw done.0 (carried c (sent c s) (lost (sent c s) s) first (lost_carries (sent c s) s first.sound))
@@ -179,7 +180,7 @@ module _ {P : Type 0} (known : Ghosts P) where
   send_carries c new s (Some old) None why sound e done = absurd done
 
   wait_carries : (c new : Controller) (s : Colour) (before after : Option P) (report : TurnReport) → IsSound c
-      → HearsFromSide known c s before after new report → Carries c new
+      → HearsFromSide known s (in_turn c before) (in_turn new after) report → Carries c new
   wait_carries c new s None None report sound done = rw done.0 (lost_carries c s sound)
   wait_carries c new s (Some old) (Some now) report sound done = by_way new report done
     where
@@ -192,7 +193,8 @@ module _ {P : Type 0} (known : Ghosts P) where
   wait_carries c new s (Some old) None report sound done = absurd done
 
   wait_beyond : (m : ℕ) (c new : Controller) (s : Colour) (before after : Option P) (report : TurnReport) → IsSound c
-      → c.setup.max_moves ≡ m → HearsFromSide known c s before after new report → beyond m new ≡ beyond m c
+      → c.setup.max_moves ≡ m → HearsFromSide known s (in_turn c before) (in_turn new after) report
+      → beyond m new ≡ beyond m c
   wait_beyond m c new s None None report sound is done = rw done.0 (same_beyond m c (lost c s) (lost_retakes c s))
   wait_beyond m c new s (Some old) (Some now) report sound is done = by_way new report done
     where
@@ -319,12 +321,12 @@ record Turned (m : ℕ) (c new : Controller) (why : Option TurnLoss) : Type 0 wh
   beyond_stays : beyond m new ≡ beyond m c
   losses : one_if why + live new + starts_of c ≤ live c + starts_of new
 
-module _ {P : Type 0} (known : Ghosts P) where
-  begin_turned : (m : ℕ) (commands : Commands) (s : Colour) (before after : GameState P) (why : Option TurnLoss)
+module _ {P : Type 0} (engines : Engines P) where
+  begin_turned : (m : ℕ) (s : Colour) (before after : GameState P) (why : Option TurnLoss)
       → IsSound before.game → next before.game ≡ Start s → IsDue before.game (Start s)
-      → Begins known commands s before after why → Turned m before.game after.game why
+      → Begins engines s before after why → Turned m before.game after.game why
   unfolding one_if up_in
-  begin_turned m commands s before after _ sound e due (Begins.starts process tried is ended game) =
+  begin_turned m s before after _ sound e due (Begins.starts process tried is ended game) =
       let c = before.game in
       let same = same_one c (started c s) (other s) (started_leaves c s) in
       rw game (record {
@@ -343,11 +345,11 @@ module _ {P : Type 0} (known : Ghosts P) where
           started_more c s,
         );
       })
-  begin_turned m commands s before after _ sound e due (Begins.fails_to_start reason tried is game) =
+  begin_turned m s before after _ sound e due (Begins.fails_to_start reason tried is game) =
       let c = before.game in
       let first = started_sound c s sound e in
       let carries = lost_carries (started c s) s first in
-      let stays = begin_leaves known commands s before after _ (Begins.fails_to_start reason tried is game) in
+      let stays = begin_leaves engines s before after _ (Begins.fails_to_start reason tried is game) in
       let same = same_one c (lost (started c s) s) (other s) (rw game at stays) in
       rw game (record {
         sound = carries.sound;
@@ -372,44 +374,48 @@ module _ {P : Type 0} (known : Ghosts P) where
   up_there None Q x = absurd x
   up_there (Some engine) Q x = refl
 
-  turned : (m : ℕ) (commands : Commands) (before after : GameState P) (a : Action) (whose : Colour)
-      (report : TurnReport) → IsSound before.game → before.game.setup.max_moves ≡ m → next before.game ≡ a
-      → IsDue before.game a → IsSome report.loss ↔ TurnLosesSide before.game after.game
-      → Turn known commands a before after whose report → Turned m before.game after.game report.loss
+  turned : (m : ℕ) (before after : GameState P) (a : Action) (turn : SideTurn) → IsSound before.game
+      → before.game.setup.max_moves ≡ m → next before.game ≡ a → IsDue before.game a
+      → IsSome turn.report.loss ↔ TurnLosesSide before.game after.game
+      → Turn engines a before after turn → Turned m before.game after.game turn.report.loss
   unfolding up_in one_if
-  turned m commands before after (Start s) whose report sound is e due is_given turn =
-      begin_turned m commands s before after report.loss sound e due turn.1
-  turned m commands before after (Send s) whose report sound is e due is_given turn =
+  turned m before after (Start s) turn sound is e due is_given does =
+      begin_turned m s before after turn.report.loss sound e due does.1
+  turned m before after (Send s) turn sound is e due is_given does =
+      let known = engines.known in
       let c = before.game in
       let new = after.game in
       let process = process_of before.processes s in
       let then = process_of after.processes s in
-      let carries = send_carries known c new s process then report.loss sound e turn.1 in
-      let stays = send_leaves known c new s process then report.loss turn.1 in
+      let why = turn.report.loss in
+      let carries = send_carries known c new s process then why sound e does.1 in
+      let stays = send_leaves known c new s process then why does.1 in
+      let counts = loss_counts c new s why due.0 (up_there (side_of c.sides s).up _ due.1) stays is_given
+      (λ t starts. cc) in
+      record {
+        sound = carries.sound;
+        setup = carries.setup;
+        beyond_stays = same_beyond m c new (send_retakes known c new s process then why does.1);
+        losses = omega (arith, counts, same_starts_of c new carries);
+      }
+  turned m before after (Wait s) turn sound is e due is_given does =
+      let known = engines.known in
+      let c = before.game in
+      let new = after.game in
+      let process = process_of before.processes s in
+      let then = process_of after.processes s in
+      let report = turn.report in
+      let carries = wait_carries known c new s process then report sound does.1 in
+      let stays = wait_leaves known c new s process then report does.1 in
       let counts = loss_counts c new s report.loss due.0 (up_there (side_of c.sides s).up _ due.1) stays is_given
       (λ t starts. cc) in
       record {
         sound = carries.sound;
         setup = carries.setup;
-        beyond_stays = same_beyond m c new (send_retakes known c new s process then report.loss turn.1);
+        beyond_stays = wait_beyond known m c new s process then report sound is does.1;
         losses = omega (arith, counts, same_starts_of c new carries);
       }
-  turned m commands before after (Wait s) whose report sound is e due is_given turn =
-      let c = before.game in
-      let new = after.game in
-      let process = process_of before.processes s in
-      let then = process_of after.processes s in
-      let carries = wait_carries known c new s process then report sound turn.1 in
-      let stays = wait_leaves known c new s process then report turn.1 in
-      let counts = loss_counts c new s report.loss due.0 (up_there (side_of c.sides s).up _ due.1) stays is_given
-      (λ t starts. cc) in
-      record {
-        sound = carries.sound;
-        setup = carries.setup;
-        beyond_stays = wait_beyond known m c new s process then report sound is turn.1;
-        losses = omega (arith, counts, same_starts_of c new carries);
-      }
-  turned m commands before after (Done verdict) whose report sound is e due is_given turn = absurd turn
+  turned m before after (Done verdict) turn sound is e due is_given does = absurd does
 
 -- ---- all turns of a game
 
@@ -430,14 +436,15 @@ few_losses (line ∷ lines) None X one exact is_given =
     absurd (let none : false ≡ true = is_given.1 (exact.0 (λ e. cc)) in cc)
 few_losses (line ∷ lines) (Some why) X one exact is_given = omega (arith, one)
 
-module _ {P E : Type 0} (known : Ghosts P) (errs : WriterGhosts E) (commands : Commands) (game : ℕ)
-    (setup : SetupRecord) (fits : IsSetup setup) (processes : Processes P) (asked : Attempts P) (had : E) where
-  counted : (number : ℕ) (last : GameState P) (has : E)
-      → (plays : Plays known errs commands true game (state (new setup) processes asked) had number last has)
-      → Counted setup last.game
-      (lines_written known errs commands true game (state (new setup) processes asked) had number last has plays)
+module _ {P E : Type 0} (engines : Engines P) (errs : WriterGhosts E) (game : ℕ) (setup : SetupRecord)
+    (fits : IsSetup setup) (processes : Processes P) (asked : Attempts P) (errors : E) where
+  counted : (number : ℕ) (last : Stage P E)
+      → (plays : Plays engines (reporting errs true game) (stage (state (new setup) processes asked) errors) number
+      last)
+      → Counted setup last.state.game
+      (lines_written engines (reporting errs true game) (stage (state (new setup) processes asked) errors) plays)
   unfolding live live_where ones up_one bit up_in
-  counted _ _ _ not_yet = record {
+  counted _ _ not_yet = record {
     sound = new_sound setup fits (opening_is_game setup fits);
     same = refl;
     within = zeros_drop 2000 setup.max_moves;
@@ -448,16 +455,18 @@ module _ {P E : Type 0} (known : Ghosts P) (errs : WriterGhosts E) (commands : C
     where
       none_live : 0 + live (new setup) ≤ starts_of (new setup)
       none_live = omega arith
-  counted _ last has (turns {count = n} {before = before} {between = between} turn plays is out) =
-      let so_far = counted n before between plays in
-      let mid : GameState P = record last { processes = is.left } in
-      let is_given = turn_given known commands before mid (next before.game) turn.side turn.report refl is.done in
-      let after = turned known setup.max_moves commands before mid (next before.game) turn.side turn.report
+  counted _ last (turns {count = n} {before = before} turn plays is out) =
+      let so_far = counted n before plays in
+      let first = before.state in
+      let then = last.state in
+      let mid : GameState P = record then { processes = is.left } in
+      let is_given = turn_given engines first mid (next first.game) turn refl is.done in
+      let after = turned engines setup.max_moves first mid (next first.game) turn
       so_far.sound (ap (λ (p : SetupRecord). p.max_moves) so_far.same) refl
-      (next_is_due before.game so_far.sound) is_given is.done in
-      let lines = losses_have_lines known commands game before last turn is in
+      (next_is_due first.game so_far.sound) is_given is.done in
+      let lines = losses_have_lines engines.known engines.commands game first then turn is in
       let more = lines.counted so_far.sound in
-      let few = few_losses lines.losses turn.report.loss (TurnLosesSide before.game last.game) lines.one_loss
+      let few = few_losses lines.losses turn.report.loss (TurnLosesSide first.game then.game) lines.one_loss
       lines.exact is_given in
       let both : length (turn_lines true game turn) ≡ length lines.retakes + length lines.losses =
       ap (λ (xs : List (List ℕ)). length xs) lines.joined ∙ length-append lines.retakes lines.losses in
@@ -472,16 +481,17 @@ module _ {P E : Type 0} (known : Ghosts P) (errs : WriterGhosts E) (commands : C
 
 pub lines_are_few : {P E : Type 0} (known : Ghosts P) (errs : WriterGhosts E) → LinesAreFew known errs
 unfolding starts_of
-lines_are_few known errs commands game number setup processes asked last had has fits plays =
-    let all = counted known errs commands game setup fits processes asked had number last has plays in
+lines_are_few known errs commands game number setup processes asked errors last fits plays =
+    let now = last.state.game in
+    let all = counted (engines_of commands known) errs game setup fits processes asked errors number last plays in
     let within = all.within in
-    let moves : last.game.setup.max_moves ≡ setup.max_moves = ap (λ (p : SetupRecord). p.max_moves) all.same in
-    let restarts : last.game.setup.max_restarts ≡ setup.max_restarts = ap (λ (p : SetupRecord). p.max_restarts) all.same in
-    let some : total_of (take setup.max_moves last.game.retakes) ≤ 3 * setup.max_moves =
-    subst (λ (n : ℕ). total_of (take n last.game.retakes) ≤ 3 * n) moves (all_few last.game all.sound) in
-    let split = total_split last.game.retakes setup.max_moves in
-    let black = (my_side last.game Black all.sound).starts in
-    let white = (my_side last.game White all.sound).starts in
+    let moves : now.setup.max_moves ≡ setup.max_moves = ap (λ (p : SetupRecord). p.max_moves) all.same in
+    let restarts : now.setup.max_restarts ≡ setup.max_restarts = ap (λ (p : SetupRecord). p.max_restarts) all.same in
+    let some : total_of (take setup.max_moves now.retakes) ≤ 3 * setup.max_moves =
+    subst (λ (n : ℕ). total_of (take n now.retakes) ≤ 3 * n) moves (all_few now all.sound) in
+    let split = total_split now.retakes setup.max_moves in
+    let black = (my_side now Black all.sound).starts in
+    let white = (my_side now White all.sound).starts in
     let lines = all.lines in
     let few = all.few in
     record {

@@ -26,7 +26,7 @@ use Rattle.gtp_match.proofs.reporting.RetakeReports.{all_reported}
 use Rattle.gtp_match.proofs.reporting.LossReports.{all_losses_reported}
 use Rattle.gtp_process.specs.declared.starter.Ending.{Ending}
 use Rattle.gtp_process.specs.declared.starter.Process.{Ghosts}
-use Rattle.twogtp_app.specs.declared.task.Commands.{Commands}
+use Rattle.twogtp_app.specs.declared.why.SideTurn.{SideTurn}
 use Rattle.twogtp_app.specs.declared.why.TurnLoss.{TurnLoss}
 use Rattle.twogtp_app.specs.declared.why.TurnLoss.TheVariants.{CutOff, Wrote}
 use Rattle.gtp_process.specs.declared.causes.PipeCause.{PipeCause}
@@ -34,9 +34,9 @@ use Rattle.gtp_process.specs.declared.causes.PipeCause.TheVariants.{Writing, Rea
 use Rattle.twogtp_app.specs.declared.why.TurnReport.{TurnReport}
 use Rattle.twogtp_app.specs.Losses.{IsLossLine, IsRetakeLine, LossesHaveLines, TurnLosesSide, is_lost, is_not_started}
 use Rattle.twogtp_app.specs.Losses.{turn_side}
-use Rattle.twogtp_app.specs.Processes.{WithProcess, process_of}
-use Rattle.twogtp_app.specs.Speaking.{AreSent, HearsFromSide, IsHeard, SendsToSide, TakesCommands, cut_off}
-use Rattle.twogtp_app.specs.Turns.{Begins, GameState, Turn}
+use Rattle.twogtp_app.specs.Processes.{process_of}
+use Rattle.twogtp_app.specs.Speaking.{AreSent, HearsFromSide, IsHeard, SendsToSide, TakesCommands, cut_off, in_turn}
+use Rattle.twogtp_app.specs.Turns.{Begins, Engines, GameState, Turn, engines_of}
 use Rattle.twogtp_app.specs.Why.{loss_lines, retake_lines}
 
 -- ---- what a turn keeps
@@ -175,16 +175,16 @@ starts_loses_none c side next_is (is_lost (goes_down s down)) =
 starts_loses_none c side next_is (is_lost (forfeits was is)) = absurd (cc)
 starts_loses_none c side next_is (is_lost (is_unfit was is)) = absurd (cc)
 
-module _ {P : Type 0} (known : Ghosts P) where
-  begin_given : (commands : Commands) (side : Colour) (before after : GameState P) (why : Option TurnLoss)
-      → next before.game ≡ Start side → Begins known commands side before after why
-      → IsSome why ↔ TurnLosesSide before.game after.game
+module _ {P : Type 0} (engines : Engines P) where
+  begin_given : (side : Colour) (before after : GameState P) (why : Option TurnLoss) → next before.game ≡ Start side
+      → Begins engines side before after why → IsSome why ↔ TurnLosesSide before.game after.game
   unfolding up_in
-  begin_given commands side before after _ e (Begins.starts process tried is ended game) =
+  begin_given side before after _ e (Begins.starts process tried is ended game) =
       rw game (neither None _ refl (starts_loses_none before.game side e))
-  begin_given commands side before after _ e (Begins.fails_to_start reason tried is game) =
+  begin_given side before after _ e (Begins.fails_to_start reason tried is game) =
       rw game ((λ some. is_not_started {side = side} e (failed_down before.game side)), (λ loses. refl))
 
+module _ {P : Type 0} (known : Ghosts P) where
   sends_given : (c new : Controller) (side : Colour) (old now : P) (why : Option TurnLoss) → c.verdict ≡ None
       → AreSent known c side old now new why → IsSome why ↔ LosesSide c new
   sends_given c new side old now _ live (AreSent.taken all taken unbroken flushed given) =
@@ -207,9 +207,7 @@ module _ {P : Type 0} (known : Ghosts P) where
       cut_is_loss c c side Reading (keeps_itself c) live
 
   send_given : (c new : Controller) (side : Colour) (before after : Option P) (why : Option TurnLoss) → c.verdict ≡ None
-      → WithProcess before after (λ (old now : P). AreSent known c side old now new why)
-      ((new ≡ lost (sent c side) side) × (why ≡ cut_off Writing (sent c side) side))
-      → IsSome why ↔ LosesSide c new
+      → SendsToSide known side (in_turn c before) (in_turn new after) why → IsSome why ↔ LosesSide c new
   send_given c new side None None why live done =
       rw (done.0, done.1) (cut_is_loss c (sent c side) side Writing (sent_keeps c side) live)
   send_given c new side (Some old) (Some now) why live done = sends_given c new side old now why live done
@@ -217,29 +215,27 @@ module _ {P : Type 0} (known : Ghosts P) where
   send_given c new side (Some old) None why live done = absurd done
 
   wait_given : (c new : Controller) (side : Colour) (before after : Option P) (report : TurnReport) → c.verdict ≡ None
-      → HearsFromSide known c side before after new report
-      → IsSome report.loss ↔ LosesSide c new
+      → HearsFromSide known side (in_turn c before) (in_turn new after) report → IsSome report.loss ↔ LosesSide c new
   wait_given c new side None None report live done =
       rw (done.0, done.1) (cut_is_loss c c side Reading (keeps_itself c) live)
   wait_given c new side (Some old) (Some now) report live done = hears_given c new side old now report live done
   wait_given c new side None (Some now) report live done = absurd done
   wait_given c new side (Some old) None report live done = absurd done
 
+module _ {P : Type 0} (engines : Engines P) where
   -- why a side failed is known exactly where one did
-  pub turn_given : (commands : Commands) (before after : GameState P) (a : Action) (whose : Colour) (report : TurnReport)
-      → next before.game ≡ a → Turn known commands a before after whose report
-      → IsSome report.loss ↔ TurnLosesSide before.game after.game
-  turn_given commands before after (Start side) whose report e turn =
-      begin_given commands side before after report.loss e turn.1
-  turn_given commands before after (Send side) whose report e turn =
-      not_start before.game after.game report.loss (λ s starts. cc)
-      (send_given before.game after.game side (process_of before.processes side) (process_of after.processes side)
-      report.loss (goes_on before.game (Send side) e (λ v is. cc)) turn.1)
-  turn_given commands before after (Wait side) whose report e turn =
-      not_start before.game after.game report.loss (λ s starts. cc)
-      (wait_given before.game after.game side (process_of before.processes side) (process_of after.processes side) report
-      (goes_on before.game (Wait side) e (λ v is. cc)) turn.1)
-  turn_given commands before after (Done verdict) whose report e turn = absurd turn
+  pub turn_given : (before after : GameState P) (a : Action) (turn : SideTurn) → next before.game ≡ a
+      → Turn engines a before after turn → IsSome turn.report.loss ↔ TurnLosesSide before.game after.game
+  turn_given before after (Start side) turn e does = begin_given engines side before after turn.report.loss e does.1
+  turn_given before after (Send side) turn e does =
+      not_start before.game after.game turn.report.loss (λ s starts. cc)
+      (send_given engines.known before.game after.game side (process_of before.processes side)
+      (process_of after.processes side) turn.report.loss (goes_on before.game (Send side) e (λ v is. cc)) does.1)
+  turn_given before after (Wait side) turn e does =
+      not_start before.game after.game turn.report.loss (λ s starts. cc)
+      (wait_given engines.known before.game after.game side (process_of before.processes side)
+      (process_of after.processes side) turn.report (goes_on before.game (Wait side) e (λ v is. cc)) does.1)
+  turn_given before after (Done verdict) turn e does = absurd does
 
 -- ---- which side goes down
 
@@ -274,16 +270,17 @@ cut_leaves : (c m : Controller) (side : Colour) → KeepsSides c m → OtherStay
 unfolding up_in
 cut_leaves c m side keeps = lost_leaves m side (up_in m side) ∙ keeps.up (other side)
 
-module _ {P : Type 0} (known : Ghosts P) where
-  pub begin_leaves : (commands : Commands) (side : Colour) (before after : GameState P) (why : Option TurnLoss)
-      → Begins known commands side before after why → OtherStaysUp before.game after.game side
+module _ {P : Type 0} (engines : Engines P) where
+  pub begin_leaves : (side : Colour) (before after : GameState P) (why : Option TurnLoss)
+      → Begins engines side before after why → OtherStaysUp before.game after.game side
   unfolding up_in
-  begin_leaves commands side before after _ (Begins.starts process tried is ended game) =
+  begin_leaves side before after _ (Begins.starts process tried is ended game) =
       rw game (started_leaves before.game side)
-  begin_leaves commands side before after _ (Begins.fails_to_start reason tried is game) =
+  begin_leaves side before after _ (Begins.fails_to_start reason tried is game) =
       let c = before.game in
       rw game (lost_leaves (started c side) side (up_in (started c side) side) ∙ started_leaves c side)
 
+module _ {P : Type 0} (known : Ghosts P) where
   sent_leaves : (c new : Controller) (side : Colour) (old now : P) (why : Option TurnLoss)
       → AreSent known c side old now new why → OtherStaysUp c new side
   sent_leaves c new side old now _ (AreSent.taken all taken unbroken flushed given) =
@@ -302,42 +299,42 @@ module _ {P : Type 0} (known : Ghosts P) where
   heard_leaves c _ side old now _ (IsHeard.broke cut given taken) = cut_leaves c c side (keeps_itself c)
 
   pub send_leaves : (c new : Controller) (side : Colour) (before after : Option P) (why : Option TurnLoss)
-      → SendsToSide known c side before after new why → OtherStaysUp c new side
+      → SendsToSide known side (in_turn c before) (in_turn new after) why → OtherStaysUp c new side
   send_leaves c new side None None why done = rw done.0 (cut_leaves c (sent c side) side (sent_keeps c side))
   send_leaves c new side (Some old) (Some now) why done = sent_leaves c new side old now why done
   send_leaves c new side None (Some now) why done = absurd done
   send_leaves c new side (Some old) None why done = absurd done
 
   pub wait_leaves : (c new : Controller) (side : Colour) (before after : Option P) (report : TurnReport)
-      → HearsFromSide known c side before after new report → OtherStaysUp c new side
+      → HearsFromSide known side (in_turn c before) (in_turn new after) report → OtherStaysUp c new side
   wait_leaves c new side None None report done = rw done.0 (cut_leaves c c side (keeps_itself c))
   wait_leaves c new side (Some old) (Some now) report done = heard_leaves c new side old now report done
   wait_leaves c new side None (Some now) report done = absurd done
   wait_leaves c new side (Some old) None report done = absurd done
 
+module _ {P : Type 0} (engines : Engines P) where
   -- whose turn it was
-  pub whose_turn : (commands : Commands) (before after : GameState P) (a : Action) (whose : Colour)
-      (report : TurnReport) → Turn known commands a before after whose report → turn_side a ≡ Some whose
-  whose_turn commands before after (Start side) whose report turn = ap (λ (t : Colour). Some t) (sym turn.0)
-  whose_turn commands before after (Send side) whose report turn = ap (λ (t : Colour). Some t) (sym turn.0)
-  whose_turn commands before after (Wait side) whose report turn = ap (λ (t : Colour). Some t) (sym turn.0)
-  whose_turn commands before after (Done verdict) whose report turn = absurd turn
+  pub whose_turn : (before after : GameState P) (a : Action) (turn : SideTurn) → Turn engines a before after turn
+      → turn_side a ≡ Some turn.side
+  whose_turn before after (Start side) turn does = ap (λ (t : Colour). Some t) (sym does.0)
+  whose_turn before after (Send side) turn does = ap (λ (t : Colour). Some t) (sym does.0)
+  whose_turn before after (Wait side) turn does = ap (λ (t : Colour). Some t) (sym does.0)
+  whose_turn before after (Done verdict) turn does = absurd does
 
   -- the other side stays up or down
-  pub turn_leaves : (commands : Commands) (before after : GameState P) (a : Action) (whose : Colour)
-      (report : TurnReport) → Turn known commands a before after whose report
-      → OtherStaysUp before.game after.game whose
-  turn_leaves commands before after (Start side) whose report turn =
-      rw turn.0 (begin_leaves commands side before after report.loss turn.1)
-  turn_leaves commands before after (Send side) whose report turn =
-      rw turn.0
-      (send_leaves before.game after.game side (process_of before.processes side) (process_of after.processes side)
-      report.loss turn.1)
-  turn_leaves commands before after (Wait side) whose report turn =
-      rw turn.0
-      (wait_leaves before.game after.game side (process_of before.processes side) (process_of after.processes side)
-      report turn.1)
-  turn_leaves commands before after (Done verdict) whose report turn = absurd turn
+  pub turn_leaves : (before after : GameState P) (a : Action) (turn : SideTurn) → Turn engines a before after turn
+      → OtherStaysUp before.game after.game turn.side
+  turn_leaves before after (Start side) turn does =
+      rw does.0 (begin_leaves engines side before after turn.report.loss does.1)
+  turn_leaves before after (Send side) turn does =
+      rw does.0
+      (send_leaves engines.known before.game after.game side (process_of before.processes side)
+      (process_of after.processes side) turn.report.loss does.1)
+  turn_leaves before after (Wait side) turn does =
+      rw does.0
+      (wait_leaves engines.known before.game after.game side (process_of before.processes side)
+      (process_of after.processes side) turn.report does.1)
+  turn_leaves before after (Done verdict) turn does = absurd does
 
 -- ---- retakes
 
@@ -373,15 +370,16 @@ reported_of c new side retake are = record {
   each = λ r is. (side, refl, are.each 0 r (ap (λ (o : Option Retake). slice_get (option_to_list o) 0) is));
 }
 
-module _ {P : Type 0} (known : Ghosts P) where
-  pub begin_retakes : (commands : Commands) (side : Colour) (before after : GameState P) (why : Option TurnLoss)
-      → Begins known commands side before after why → after.game.retakes ≡ before.game.retakes
-  begin_retakes commands side before after _ (Begins.starts process tried is ended game) = rw game refl
-  begin_retakes commands side before after _ (Begins.fails_to_start reason tried is game) =
+module _ {P : Type 0} (engines : Engines P) where
+  pub begin_retakes : (side : Colour) (before after : GameState P) (why : Option TurnLoss)
+      → Begins engines side before after why → after.game.retakes ≡ before.game.retakes
+  begin_retakes side before after _ (Begins.starts process tried is ended game) = rw game refl
+  begin_retakes side before after _ (Begins.fails_to_start reason tried is game) =
       rw game (lost_retakes (started before.game side) side)
 
+module _ {P : Type 0} (known : Ghosts P) where
   pub send_retakes : (c new : Controller) (side : Colour) (before after : Option P) (why : Option TurnLoss)
-      → SendsToSide known c side before after new why → new.retakes ≡ c.retakes
+      → SendsToSide known side (in_turn c before) (in_turn new after) why → new.retakes ≡ c.retakes
   send_retakes c new side None None why done = rw done.0 (lost_retakes (sent c side) side ∙ sent_retakes c side)
   send_retakes c new side (Some old) (Some now) why done = by_way new why done
     where
@@ -405,28 +403,29 @@ module _ {P : Type 0} (known : Ghosts P) where
       none_counted c (lost c side) (Wait side) None (lost_retakes c side) refl
 
   wait_retakes : (c new : Controller) (side : Colour) (before after : Option P) (report : TurnReport) → IsSound c
-      → HearsFromSide known c side before after new report → CountsReported c new (Wait side) report.retake
+      → HearsFromSide known side (in_turn c before) (in_turn new after) report
+      → CountsReported c new (Wait side) report.retake
   wait_retakes c new side None None report sound done =
       rw (done.0, done.1) (none_counted c (lost c side) (Wait side) None (lost_retakes c side) refl)
   wait_retakes c new side (Some old) (Some now) report sound done = heard_retakes c new side old now report sound done
   wait_retakes c new side None (Some now) report sound done = absurd done
   wait_retakes c new side (Some old) None report sound done = absurd done
 
+module _ {P : Type 0} (engines : Engines P) where
   -- a retake is reported exactly where one more is counted
-  turn_retakes : (commands : Commands) (before after : GameState P) (a : Action) (whose : Colour) (report : TurnReport)
-      → IsSound before.game → Turn known commands a before after whose report
-      → CountsReported before.game after.game a report.retake
-  turn_retakes commands before after (Start side) whose report sound turn =
-      none_counted before.game after.game (Start side) report.retake
-      (begin_retakes commands side before after report.loss turn.1) turn.2
-  turn_retakes commands before after (Send side) whose report sound turn =
-      none_counted before.game after.game (Send side) report.retake
-      (send_retakes before.game after.game side (process_of before.processes side) (process_of after.processes side)
-      report.loss turn.1) turn.2
-  turn_retakes commands before after (Wait side) whose report sound turn =
-      wait_retakes before.game after.game side (process_of before.processes side) (process_of after.processes side)
-      report sound turn.1
-  turn_retakes commands before after (Done verdict) whose report sound turn = absurd turn
+  turn_retakes : (before after : GameState P) (a : Action) (turn : SideTurn) → IsSound before.game
+      → Turn engines a before after turn → CountsReported before.game after.game a turn.report.retake
+  turn_retakes before after (Start side) turn sound does =
+      none_counted before.game after.game (Start side) turn.report.retake
+      (begin_retakes engines side before after turn.report.loss does.1) does.2
+  turn_retakes before after (Send side) turn sound does =
+      none_counted before.game after.game (Send side) turn.report.retake
+      (send_retakes engines.known before.game after.game side (process_of before.processes side)
+      (process_of after.processes side) turn.report.loss does.1) does.2
+  turn_retakes before after (Wait side) turn sound does =
+      wait_retakes engines.known before.game after.game side (process_of before.processes side)
+      (process_of after.processes side) turn.report sound does.1
+  turn_retakes before after (Done verdict) turn sound does = absurd does
 
 -- ---- lines
 
@@ -493,13 +492,13 @@ losses_have_lines {P} known commands number before after turn is =
     mid = record after { processes = is.left }
 
     whose : turn_side (next before.game) ≡ Some turn.side
-    whose = whose_turn known commands before mid (next before.game) turn.side turn.report is.done
+    whose = whose_turn (engines_of commands known) before mid (next before.game) turn is.done
 
     leaves : OtherStaysUp before.game after.game turn.side
-    leaves = turn_leaves known commands before mid (next before.game) turn.side turn.report is.done
+    leaves = turn_leaves (engines_of commands known) before mid (next before.game) turn is.done
 
     is_given : IsSome turn.report.loss ↔ TurnLosesSide before.game after.game
-    is_given = turn_given known commands before mid (next before.game) turn.side turn.report refl is.done
+    is_given = turn_given (engines_of commands known) before mid (next before.game) turn refl is.done
 
     counts : IsSound before.game → CountsReported before.game after.game (next before.game) turn.report.retake
-    counts sound = turn_retakes known commands before mid (next before.game) turn.side turn.report sound is.done
+    counts sound = turn_retakes (engines_of commands known) before mid (next before.game) turn sound is.done

@@ -5,14 +5,11 @@ use Rattle.gtp_match.specs.Next.{next}
 use Rattle.gtp_match.specs.Sound.{IsSound}
 use Rattle.twogtp_app.specs.declared.game.Step.{Step}
 use Rattle.twogtp_app.specs.declared.game.Step.TheVariants.{Over, Taken}
-use Rattle.gtp_process.specs.declared.starter.Process.{Ghosts}
-use Rattle.twogtp_app.specs.declared.task.Commands.{Commands}
-use Rattle.twogtp_app.specs.Turns.{GameState, IsTurn}
+use Rattle.twogtp_app.specs.Turns.{Engines, GameState, IsTurn}
 use Rattle.twogtp_app.specs.Why.{ReportCanBeShown}
 
 -- a turn was taken, of which everything can be written; or the match is over, and nothing was done
-abbrev pub IsStep : {P : Type 0} → Ghosts P → Commands → GameState P → GameState P → Step → Type 0
-IsStep known commands before after (Taken turn) =
-    IsTurn known commands before after turn × ReportCanBeShown turn.report
-IsStep known commands before after (Over verdict) =
+abbrev pub IsStep : {P : Type 0} → Engines P → GameState P → GameState P → Step → Type 0
+IsStep engines before after (Taken turn) = IsTurn engines before after turn × ReportCanBeShown turn.report
+IsStep engines before after (Over verdict) =
     (next before.game ≡ Done verdict) × IsSound before.game × (after ≡ before)

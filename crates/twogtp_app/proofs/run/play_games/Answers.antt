@@ -1,6 +1,6 @@
 use Rattle.std.proofs.Common.{rules}
 use Rattle.std.proofs.lemmas.Result.{err_from_is_err_and}
-use Rattle.twogtp_app.specs.Games.{game, no_game, seen}
+use Rattle.twogtp_app.specs.Games.{game, no_game, run_state}
 use Rattle.twogtp_app.proofs.run.play_games.Goals as goal
 
 pub loop-index-init : goal.loop-index-init
@@ -15,8 +15,7 @@ returns-in_err-verdict g c =
       number = c.loop-index.index;
       status = c.loop-index.status;
       within = search rules;
-      mid = c.loop-index.output;
-      between = seen (g.S.Starter.asked c.loop-index.starter) c.loop-index.errors;
+      between = run_state c.loop-index.output c.loop-index.errors (g.S.Starter.asked c.loop-index.starter);
       written = c.loop-index.invariant;
       next = c.in_err-verdict.ensures;
     })

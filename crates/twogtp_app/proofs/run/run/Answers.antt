@@ -1,6 +1,7 @@
 use Rattle.std.proofs.Common.{◌∙◌, ap, inl, inr, arith, map, refl, sym}
 use Rattle.cli.specs.Requests.{writers}
 use Rattle.twogtp_app.specs.declared.task.Details.{Details}
+use Rattle.twogtp_app.specs.Games.{known_of, run_of}
 use Rattle.twogtp_app.proofs.command_line.Answering.{answered_played, answered_quiet, answered_status}
 use Rattle.twogtp_app.proofs.command_line.Answering.{answered_stopped, answered_usage, plan_error_stopped}
 use Rattle.twogtp_app.proofs.matches.Statuses.{games_are_quiet, status_range}
@@ -46,25 +47,28 @@ returns-in-Err-plan_of-clause-stopped g c = λ three.
 -- The status of games is 0 or 1.
 pub returns-in-Ok-play_games-clause-status : goal.returns-in-Ok-play_games-clause-status
 returns-in-Ok-play_games-clause-status g c =
-    elim (status_range g.S.Process.Process g.O.WriteOnce g.E.WriteOnce _ _ _ _ _ _ _ c.in-Ok-play_games.ensures)
+    elim (status_range (run_of c.in-Ok-plan_of.plan (known_of g.S.Process.Process g.O.WriteOnce g.E.WriteOnce)) _ _ _ _
+    c.in-Ok-play_games.ensures)
     [ inl e ↦ inl e | inr e ↦ inr (inl e) ]
 
 pub returns-in-Ok-play_games-clause-usage : goal.returns-in-Ok-play_games-clause-usage
 returns-in-Ok-play_games-clause-usage g c = λ two. absurd
-    (elim (status_range g.S.Process.Process g.O.WriteOnce g.E.WriteOnce _ _ _ _ _ _ _ c.in-Ok-play_games.ensures)
+    (elim (status_range (run_of c.in-Ok-plan_of.plan (known_of g.S.Process.Process g.O.WriteOnce g.E.WriteOnce)) _ _ _ _
+    c.in-Ok-play_games.ensures)
     [ inl e ↦ omega (arith, e, two) | inr e ↦ omega (arith, e, two) ])
 
 pub returns-in-Ok-play_games-clause-stopped : goal.returns-in-Ok-play_games-clause-stopped
 returns-in-Ok-play_games-clause-stopped g c = λ three. absurd
-    (elim (status_range g.S.Process.Process g.O.WriteOnce g.E.WriteOnce _ _ _ _ _ _ _ c.in-Ok-play_games.ensures)
+    (elim (status_range (run_of c.in-Ok-plan_of.plan (known_of g.S.Process.Process g.O.WriteOnce g.E.WriteOnce)) _ _ _ _
+    c.in-Ok-play_games.ensures)
     [ inl e ↦ omega (arith, e, three) | inr e ↦ omega (arith, e, three) ])
 
 pub returns-in-Ok-play_games-clause-quiet : goal.returns-in-Ok-play_games-clause-quiet
 returns-in-Ok-play_games-clause-quiet g c = λ range none.
-    games_are_quiet g.S.Process.Process g.O.WriteOnce g.E.WriteOnce c.in-Ok-plan_of.plan
+    games_are_quiet (run_of c.in-Ok-plan_of.plan (known_of g.S.Process.Process g.O.WriteOnce g.E.WriteOnce))
     (ap (λ (details : Details). details.why) c.in-Ok-plan_of.ensures.plan.games.details
     ∙ none c.in-Ok.options c.in-Ok.ensures.asked)
-    _ _ _ _ _ _ c.in-Ok-play_games.ensures
+    _ _ _ _ c.in-Ok-play_games.ensures
 
 pub returns-in-Ok-play_games-clause-played : goal.returns-in-Ok-play_games-clause-played
 returns-in-Ok-play_games-clause-played g c = λ range. inr (record {

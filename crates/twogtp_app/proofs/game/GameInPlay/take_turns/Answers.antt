@@ -1,6 +1,7 @@
 use Rattle.std.proofs.Common.{ℕ, arith, subst}
 use Rattle.std.proofs.lemmas.Result.{err_from_is_err_and}
-use Rattle.twogtp_app.specs.Turns.{Plays, line_broke, not_yet, out_of_memory, state, too_many_turns, turns}
+use Rattle.twogtp_app.specs.Turns.{Plays, engines_of, line_broke, not_yet, out_of_memory, reporting, stage, state}
+use Rattle.twogtp_app.specs.Turns.{too_many_turns, turns}
 use Rattle.twogtp_app.proofs.game.GameInPlay.take_turns.Goals as goal
 
 pub loop-turn-init : goal.loop-turn-init
@@ -27,9 +28,10 @@ loop-turn-preserved g c =
 
 pub returns : goal.returns
 returns g c =
-    too_many_turns (subst (λ (n : ℕ). Plays g.S.Process.Process g.E.WriteOnce c.args.plan.now.commands
-    c.args.plan.now.task.details.why c.args.number
-    (state c.args.self.now.game c.args.self.now.processes (g.S.Starter.asked c.args.starter.now)) c.args.errors.now n
-    (state c.loop-turn.self.game c.loop-turn.self.processes (g.S.Starter.asked c.loop-turn.starter))
-    c.loop-turn.errors)
+    too_many_turns (subst (λ (n : ℕ). Plays (engines_of c.args.plan.now.commands g.S.Process.Process)
+    (reporting g.E.WriteOnce c.args.plan.now.task.details.why c.args.number)
+    (stage (state c.args.self.now.game c.args.self.now.processes (g.S.Starter.asked c.args.starter.now))
+    c.args.errors.now) n
+    (stage (state c.loop-turn.self.game c.loop-turn.self.processes (g.S.Starter.asked c.loop-turn.starter))
+    c.loop-turn.errors))
     (omega (arith, c.loop-turn.auto._turn-end, c.loop-turn-test.false)) c.loop-turn.invariant)
