@@ -1,9 +1,10 @@
 -- Vertices, and the texts that spell them. (The standard's simple entities: vertex. That a row has no leading zeros is
 -- own.)
 use Rattle.std.specs.Prelude.{◌≡◌, ℕ, ◌+◌, ◌-◌, ◌↔◌, Bool, false, ◌&&◌, ◌==◌, nat_le, List, [], ◌∷◌}
-use Rattle.std.specs.Prelude.{Option, Some, None, option_map, codes, if◌then◌else◌}
+use Rattle.std.specs.Prelude.{Option, Some, None, map, option_map, codes, if◌then◌else◌}
 use Rattle.std.specs.Char.{to_ascii_uppercase}
-use Rattle.go_base.specs.Bytes.{digit_0, capital_a, capital_h, capital_j, capital_z}
+use Rattle.std.specs.List.{join_with_byte}
+use Rattle.go_base.specs.Bytes.{space, digit_0, capital_a, capital_h, capital_j, capital_z}
 use Rattle.go_base.specs.Int.{int_of, written_int}
 use Rattle.go_base.specs.Size.{most_size}
 use Rattle.go_base.specs.Point.{point, column_of, row_of, IsOn}
@@ -31,6 +32,10 @@ SpellsVertex (At p) text = SpellsPoint p text
 abbrev pub written_vertex : Vertex → List ℕ
 written_vertex Pass = codes "pass"
 written_vertex (At p) = letter_of (column_of p) ∷ written_int (row_of p)
+
+-- the points' vertices, separated by single spaces
+abbrev pub written_vertices : List ℕ → List ℕ
+written_vertices points = join_with_byte space (map (λ p. written_vertex (At p)) points)
 
 -- the column of a letter, capital or small, where it has one
 abbrev pub column_of_letter : ℕ → Option ℕ

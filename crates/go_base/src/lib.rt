@@ -23,5 +23,5 @@ pub use moves::Move;
 pub use points::Point;
 pub use scores::{write_half_points, write_score};
 pub use sizes::Size;
-pub use texts::{push, push_vertex, push_word};
+pub use texts::{VERTICES_ROOM, push, push_vertex, push_word, write_vertices};
 pub use vertices::Vertex;

@@ -3,8 +3,9 @@ ghost use Rattle.std.specs.Prelude.{◌≡◌, ◌+◌, ◌≤◌, ◌++◌, len
 ghost use Rattle.arrayvec.specs.ArrayVec.{array_vec_len};
 ghost use Rattle.go_base.specs.Bytes.{space};
 ghost use Rattle.go_base.specs.Text.{joined};
-ghost use Rattle.go_base.specs.Vertex.{written_vertex};
+ghost use Rattle.go_base.specs.Vertex.{written_vertex, written_vertices};
 
+use crate::points::Point;
 use crate::vertices::Vertex;
 use arrayvec::ArrayVec;
 
@@ -37,4 +38,18 @@ pub fn push_vertex<const ROOM: usize>(text: &mut ArrayVec<u8, ROOM>, vertex: Ver
     ensures len { array_vec_len text.new ≤ array_vec_len text.old + 5 }
 {
     push_word(text, b' ', &vertex.write());
+}
+
+/// The room for the vertices of nine points, by five bytes each: a space and a vertex.
+pub const VERTICES_ROOM: usize = 45;
+
+/// The vertices of points, separated by single spaces.
+pub fn write_vertices(points: &ArrayVec<Point, 9>) -> ArrayVec<u8, VERTICES_ROOM>
+    ensures { result.items ≡ written_vertices points.now.items }
+{
+    let mut text = ArrayVec::new();
+    for point in points.as_slice() {
+        push_vertex(&mut text, Vertex::At(*point));
+    }
+    text
 }

@@ -7,7 +7,7 @@ use Rattle.go_base.specs.Handicap.{handicap_points}
 use Rattle.gtp_check_judge.specs.declared.asking.CheckCommand.{CheckCommand}
 use Rattle.gtp_check_judge.specs.declared.asking.CheckCommand.TheVariants.{Match}
 use Rattle.gtp_check_judge.specs.declared.judging.Kind.TheVariants as kind
-use Rattle.gtp_session.specs.Commands.{written_vertices}
+use Rattle.go_base.specs.Vertex.{written_vertices}
 use Rattle.gtp_wire.specs.declared.commands.Command.TheVariants.{Komi, FixedHandicap}
 use Rattle.gtp_check_app.specs.Shortening.{is_komi, last_such}
 use Rattle.gtp_check_app.specs.declared.engine.Fault.{Fault}

@@ -1,20 +1,19 @@
 //! What a right engine answers, where that hangs on what was asked before.
-ghost use Rattle.std.specs.Prelude.{◌≡◌, ◌≤◌, [], length, neg_ℤ};
+ghost use Rattle.std.specs.Prelude.{◌≡◌, [], neg_ℤ};
 ghost use Rattle.go_base.specs.HalfPoints.{score_text};
 ghost use Rattle.std.specs.Option.{option_map_or};
-ghost use Rattle.gtp_session.specs.Commands.{written_vertices};
 ghost use Rattle.gtp_check_app.specs.Answers.{points_of, right_answer, right_points, score_after, stones_on};
 
 use crate::engine::Fault;
 use crate::flat::last_komi;
 use crate::talk::Said;
 use arrayvec::ArrayVec;
-use go_base::{Komi, Point, Size, Vertex, handicap, push, push_vertex, write_score};
+use go_base::{Komi, Size, VERTICES_ROOM, handicap, push, write_score, write_vertices};
 use gtp_check_judge::{CheckCommand, Kind};
 use gtp_wire::Command;
 
-/// The room for an answer: nine vertices, by five bytes each with a space, or a score.
-pub const ANSWER_ROOM: usize = 45;
+/// The room for an answer: the vertices of a handicap, or a score.
+pub const ANSWER_ROOM: usize = VERTICES_ROOM;
 
 /// An answer.
 type Answer = ArrayVec<u8, ANSWER_ROOM>;
@@ -75,19 +74,7 @@ fn stones_on(stones: u32, size: Size) -> Answer
     ensures { result.items ≡ stones_on stones size }
 {
     match handicap(size, stones) {
-        Some(points) => written_vertices(&points),
+        Some(points) => write_vertices(&points),
         None => ArrayVec::new(),
     }
-}
-
-/// The vertices of points, separated by single spaces.
-fn written_vertices(points: &[Point]) -> Answer
-    requires { length points.now ≤ 9 }
-    ensures { result.items ≡ written_vertices points.now }
-{
-    let mut text = ArrayVec::new();
-    for point in points {
-        push_vertex(&mut text, Vertex::At(*point));
-    }
-    text
 }

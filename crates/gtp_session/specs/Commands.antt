@@ -3,18 +3,17 @@ use Rattle.std.specs.Prelude.{ℕ, ℤ, Bool, true, false, ◌&&◌, nat_le, Lis
 use Rattle.std.specs.Prelude.{Option, Some, None, is_some, option_and_then, if◌then◌else◌, codes}
 use Rattle.std.specs.List.{join_with_byte}
 use Rattle.std.specs.Str.{bytes_eq}
-use Rattle.go_base.specs.Bytes.{newline, space}
+use Rattle.go_base.specs.Bytes.{newline}
 use Rattle.go_base.specs.Int.{int_of, written_int}
 use Rattle.go_base.specs.Size.{most_size}
 use Rattle.go_base.specs.Colour.{colour_of}
-use Rattle.go_base.specs.Vertex.{vertex_of, written_vertex}
+use Rattle.go_base.specs.Vertex.{vertex_of, written_vertex, written_vertices}
 use Rattle.go_base.specs.Komi.{komi_of}
 use Rattle.go_base.specs.HalfPoints.{score_text}
 use Rattle.go_base.specs.Handicap.{handicap_points}
 use Rattle.go_base.specs.declared.colours.Colour.{Colour}
 use Rattle.go_base.specs.declared.moves.Move.{Move}
 use Rattle.go_base.specs.declared.vertices.Vertex.{Vertex}
-use Rattle.go_base.specs.declared.vertices.Vertex.TheVariants.{At}
 use Rattle.go_board.specs.Game.{GameRecord, most_moves, with_move, without_last}
 use Rattle.go_board.specs.decisions.Game.{legal?, touched?}
 use Rattle.go_base.specs.Decide.{allows?}
@@ -195,10 +194,6 @@ abbrev pub move_of : Option Colour → Option Vertex → Option Move
 move_of None vertex = None
 move_of (Some colour) None = None
 move_of (Some colour) (Some vertex) = Some (record { colour = colour; vertex = vertex })
-
--- the points' vertices, separated by single spaces
-abbrev pub written_vertices : List ℕ → List ℕ
-written_vertices points = join_with_byte space (map (λ p. written_vertex (At p)) points)
 
 -- A new size, and `clear_board`, empty the board, the handicap, the record and the captures. Komi stays, and no command
 -- changes the ko rule.

@@ -2,7 +2,7 @@
 use Rattle.std.specs.Prelude.{◌≡◌, ◌⊎◌, ℕ, true, false, List, [], Option, Some, None, codes}
 use Rattle.go_base.specs.Int.{SpellsInt}
 use Rattle.go_base.specs.Handicap.{AllowsHandicap, handicap_points}
-use Rattle.go_base.specs.Vertex.{SpellsVertex, written_vertex}
+use Rattle.go_base.specs.Vertex.{SpellsVertex, written_vertex, written_vertices}
 use Rattle.go_base.specs.Colour.{SpellsColour}
 use Rattle.go_base.specs.declared.colours.Colour.{Colour}
 use Rattle.go_base.specs.declared.vertices.Vertex.{Vertex}
@@ -12,7 +12,7 @@ use Rattle.gtp_wire.specs.Replies.{written_reply}
 use Rattle.gtp_wire.specs.declared.lines.Line.{Line}
 use Rattle.gtp_session.specs.Policy.{May}
 use Rattle.go_base.specs.declared.choices.Choice.{Choice}
-use Rattle.gtp_session.specs.Commands.{answer, asked, id_of, written_vertices}
+use Rattle.gtp_session.specs.Commands.{answer, asked, id_of}
 use Rattle.gtp_session.specs.Engine.{State, WrittenReply, Step}
 use Rattle.gtp_session.specs.declared.commands.CommandName.TheVariants as command
 use Rattle.gtp_session.specs.TableLaws.{IsArgument, Names, answer_with, success}

@@ -2,12 +2,11 @@
 ghost use Rattle.std.specs.Prelude.{◌≡◌, ◌≤◌, length, true};
 ghost use Rattle.gtp_wire.specs.Replies.{most_text_bytes, written_reply};
 ghost use Rattle.go_board.specs.Show.{board_text};
-ghost use Rattle.gtp_session.specs.Commands.{all_names, written_vertices};
+ghost use Rattle.gtp_session.specs.Commands.{all_names};
 ghost use Rattle.gtp_session.specs.private.Outcome.{text_of, handicap_text, answer_of};
 
 use crate::commands::all_names;
-use arrayvec::ArrayVec;
-use go_base::{Point, Vertex, handicap, push_vertex, write_int, write_score};
+use go_base::{Vertex, handicap, write_int, write_score, write_vertices};
 use go_board::Game;
 use gtp_wire::{ReplyText, write_reply_into};
 
@@ -34,9 +33,6 @@ pub(crate) enum Text {
     /// The board.
     Board,
 }
-
-/// The room for nine vertices, by five bytes each: a space and a vertex.
-const VERTICES_ROOM: usize = 45;
 
 /// Puts the reply of a command that left this game in place of what `reply` holds.
 pub(crate) fn write_outcome(outcome: &Outcome, game: &Game, id: Option<u32>, reply: &mut ReplyText)
@@ -73,7 +69,7 @@ fn write_handicap(game: &Game, id: Option<u32>, reply: &mut ReplyText)
     ensures { reply.new.items ≡ written_reply true id (handicap_text game.now) }
 {
     match handicap(game.size(), game.handicap()) {
-        Some(points) => write_reply_into(reply, true, id, &written_vertices(&points)),
+        Some(points) => write_reply_into(reply, true, id, &write_vertices(&points)),
         None => write_reply_into(reply, true, id, b""),
     }
 }
@@ -92,16 +88,4 @@ fn write_board(game: &Game, id: Option<u32>, reply: &mut ReplyText)
     ensures { reply.new.items ≡ written_reply true id (board_text game.now) }
 {
     write_reply_into(reply, true, id, &game.show());
-}
-
-/// The vertices of points, separated by single spaces.
-fn written_vertices(points: &[Point]) -> ArrayVec<u8, VERTICES_ROOM>
-    requires { length points.now ≤ 9 }
-    ensures { result.items ≡ written_vertices points.now }
-{
-    let mut text = ArrayVec::new();
-    for point in points {
-        push_vertex(&mut text, Vertex::At(*point));
-    }
-    text
 }

@@ -20,7 +20,8 @@ use Rattle.gtp_wire.specs.declared.replies.Reply.{Reply}
 use Rattle.gtp_wire.specs.Commands.{IsWritable, IsInLimits}
 use Rattle.gtp_check_judge.specs.Asking.{line_of_check, IsCheckWritable, IsCheckInLimits}
 use Rattle.gtp_session.specs.Policy.{IsLawful}
-use Rattle.gtp_session.specs.Commands.{Answer, answer, asked, answer_choice, written_vertices}
+use Rattle.go_base.specs.Vertex.{written_vertices}
+use Rattle.gtp_session.specs.Commands.{Answer, answer, asked, answer_choice}
 use Rattle.gtp_session.specs.CommandAnswers.{line_of_command}
 use Rattle.gtp_session.specs.Spoken.{IsLawfulAt, reply_of_answer}
 use Rattle.gtp_session.proofs.table.Asking.{answer-same, answer-asked}

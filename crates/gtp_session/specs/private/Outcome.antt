@@ -5,7 +5,7 @@ use Rattle.std.specs.Borrow.{Bor}
 use Rattle.go_base.specs.Int.{written_int}
 use Rattle.go_base.specs.Decide.{allows?}
 use Rattle.go_base.specs.Handicap.{handicap_points}
-use Rattle.go_base.specs.Vertex.{written_vertex}
+use Rattle.go_base.specs.Vertex.{written_vertex, written_vertices}
 use Rattle.go_base.specs.HalfPoints.{score_text}
 use Rattle.go_board.specs.declared.faults.PlayFault.{PlayFault}
 use Rattle.go_board.specs.declared.faults.PlayFault.TheVariants.{Full, OffBoard, Occupied, Suicide, Ko}
@@ -16,7 +16,7 @@ use Rattle.go_base.specs.declared.colours.Colour.{Colour}
 use Rattle.go_base.specs.declared.choices.Choice.{Choice}
 use Rattle.gtp_session.specs.Policy.{May}
 use Rattle.gtp_session.specs.declared.commands.CommandName.{CommandName}
-use Rattle.gtp_session.specs.Commands.{Answer, all_names, answer_to, written_vertices}
+use Rattle.gtp_session.specs.Commands.{Answer, all_names, answer_to}
 use Rattle.gtp_session.specs.declared.outcome.Text.{Text}
 use Rattle.gtp_session.specs.declared.outcome.Text.TheVariants as text
 

@@ -1,11 +1,11 @@
 use Rattle.std.proofs.Common.{◌≡◌, ◌*◌, ◌≤◌, length, take}
-use Rattle.gtp_session.specs.Commands.{written_vertices}
-use Rattle.gtp_check_app.proofs.answers.written_vertices.Given as goal
+use Rattle.go_base.specs.Vertex.{written_vertices}
+use Rattle.go_base.proofs.texts.write_vertices.Given as goal
 
 -- the first points are written, by five bytes each at most
 abbrev pub invariant-loop-point : goal.invariant-loop-point
 invariant-loop-point l = record {
-  few : length l.points ≤ 9;
+  few : length l.point-items ≤ 9;
   short : length l.text.items ≤ 5 * l.point-index;
-  written : l.text.items ≡ written_vertices (take l.point-index l.points);
+  written : l.text.items ≡ written_vertices (take l.point-index l.point-items);
 }

@@ -3,7 +3,7 @@ use Rattle.go_base.proofs.general.Joined.{joined-take, written_vertex-some}
 use Rattle.go_base.specs.Text.{joined}
 use Rattle.go_base.specs.Vertex.{written_vertex}
 use Rattle.go_base.specs.declared.vertices.Vertex.TheVariants.{At}
-use Rattle.gtp_session.proofs.outcome.written_vertices.Goals as goal
+use Rattle.go_base.proofs.texts.write_vertices.Goals as goal
 
 pub loop-point-preserved : goal.loop-point-preserved
 loop-point-preserved c = record {
@@ -12,6 +12,6 @@ loop-point-preserved c = record {
   written =
       c.push_vertex.ensures.bytes
       ∙ ap (λ (t : List ℕ). joined 32 t (written_vertex (At c.point-item.result))) c.loop-point.invariant.written
-      ∙ joined-take 32 (λ (p : ℕ). written_vertex (At p)) (λ p. written_vertex-some (At p)) c.args.points.now
-      c.loop-point.point-index c.point-item.result _ (search rules) c.point-item.is;
+      ∙ joined-take 32 (λ (p : ℕ). written_vertex (At p)) (λ p. written_vertex-some (At p))
+      c.as_slice-point-items.result.now c.loop-point.point-index c.point-item.result _ (search rules) c.point-item.is;
 }
