@@ -1,6 +1,6 @@
 -- A game is its size, komi, ko rule, handicap and moves: its board and what is legal next are made from the whole list
 -- of moves.
-use Rattle.std.specs.Prelude.{◌≡◌, ℕ, ℤ, ◌-◌, ◌≤◌, ◌<◌, ◌⊎◌, List, [], ◌∷◌, ◌++◌, length, take, slice_get, Some}
+use Rattle.std.specs.Prelude.{◌≡◌, ℕ, ℤ, pos, ◌-◌, ◌≤◌, ◌<◌, ◌⊎◌, List, [], ◌∷◌, ◌++◌, length, take, slice_get, Some}
 use Rattle.std.specs.List.{fold}
 use Rattle.go_base.specs.Handicap.{handicap_points, AllowsHandicap}
 use Rattle.go_base.specs.Komi.{IsKomi}
@@ -25,6 +25,10 @@ pub record GameRecord : Type 0 where
   pub rule : KoRule
   pub handicap : ℕ
   pub moves : List Move
+
+-- the game of an engine with this ko rule that was given nothing: size 19, komi 0, no handicap and no moves
+abbrev pub fresh_game_under : KoRule → GameRecord
+fresh_game_under rule = record { size = 19; komi = pos 0; rule = rule; handicap = 0; moves = [] }
 
 -- how many moves a record has room for
 abbrev pub most_moves : ℕ

@@ -65,7 +65,7 @@ impl Game {
     ghost use Rattle.go_board.specs.Play.{play};
     ghost use Rattle.go_board.specs.declared.board.Cell.TheVariants.{Empty};
     ghost use Rattle.go_board.specs.Game.{HasRoom, without_last, with_move, board_of, RepeatsLast, RepeatsAny};
-    ghost use Rattle.go_board.specs.Game.{Repeats, IsLegal};
+    ghost use Rattle.go_board.specs.Game.{Repeats, IsLegal, fresh_game_under};
     ghost use Rattle.go_board.specs.declared.rules.KoRule.TheVariants.{Simple};
     ghost use Rattle.go_board.specs.Game.{IsGame, IsFinished};
     ghost use Rattle.go_board.specs.decisions.Game.{finished?};
@@ -89,6 +89,16 @@ impl Game {
             ≡ record { size = size; komi = komi; rule = rule; handicap = 0; moves = [] } }
     {
         Game::opening(size, komi, rule, 0)
+    }
+
+    /// The game of an engine with this ko rule that was given nothing: size 19, komi 0, no handicap and no moves.
+    pub fn fresh(rule: KoRule) -> Self
+        ensures { result ≡ fresh_game_under rule }
+    {
+        match (Size::new(19), Komi::from_half_points(0)) {
+            (Some(size), Some(komi)) => Game::with_rule(size, komi, rule),
+            _ => unreachable!(),
+        }
     }
 
     /// A game under a ko rule with `stones` handicap stones, or none, and without moves.

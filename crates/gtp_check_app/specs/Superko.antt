@@ -3,7 +3,7 @@ use Rattle.std.specs.Prelude.{◌≡◌, ℕ, Bool, length, List, [], ◌∷◌,
 use Rattle.std.specs.Prelude.{Option, None, Some, option_and_then}
 use Rattle.go_base.specs.Decide.{allows?, below?, both?, holds, not?}
 use Rattle.go_base.specs.declared.moves.Move.{Move}
-use Rattle.go_board.specs.Game.{GameRecord, most_moves, with_move, without_last}
+use Rattle.go_board.specs.Game.{GameRecord, most_moves, with_move, without_last, fresh_game_under}
 use Rattle.go_board.specs.Refusals.{RefusesVertex}
 use Rattle.go_board.specs.decisions.Game.{legal?, touched?}
 use Rattle.go_board.specs.declared.faults.PlayFault.TheVariants.{Ko}
@@ -11,7 +11,6 @@ use Rattle.go_board.specs.declared.rules.KoRule.TheVariants.{Positional}
 use Rattle.gtp_check_judge.specs.declared.asking.CheckCommand.{CheckCommand}
 use Rattle.gtp_check_judge.specs.declared.asking.CheckCommand.TheVariants.{Match, FinalScore, Name, Version}
 use Rattle.gtp_check_judge.specs.declared.asking.CheckCommand.TheVariants.{KnownCommand}
-use Rattle.gtp_session.specs.Engine.{fresh_game_under}
 use Rattle.gtp_wire.specs.declared.commands.Command.{Command}
 use Rattle.gtp_wire.specs.declared.commands.Command.TheVariants.{Boardsize, Komi, ClearBoard, FixedHandicap, Play}
 use Rattle.gtp_wire.specs.declared.commands.Command.TheVariants.{Genmove, Undo, Quit}

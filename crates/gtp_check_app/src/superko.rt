@@ -3,13 +3,12 @@ ghost use Rattle.std.specs.Prelude.{◌≡◌, ◌↔◌, IsTrue, None, Some, tr
 ghost use Rattle.go_board.specs.Refusals.{RefusesVertex};
 ghost use Rattle.go_board.specs.declared.faults.PlayFault.TheVariants as fault;
 ghost use Rattle.go_board.specs.declared.rules.KoRule.TheVariants as rule;
-ghost use Rattle.gtp_session.specs.Engine.{fresh_game_under};
-ghost use Rattle.go_board.specs.Game.{without_last};
+ghost use Rattle.go_board.specs.Game.{fresh_game_under, without_last};
 ghost use Rattle.gtp_check_app.specs.Superko.{IsPositional, after_all, after_asked, after_match, after_play};
 ghost use Rattle.gtp_check_app.specs.Superko.{after_stones};
 
 use crate::talk::Said;
-use go_base::{Komi, Move, Size};
+use go_base::Move;
 use go_board::{Game, KoRule, PlayFault};
 use gtp_check_judge::CheckCommand;
 use gtp_wire::Command;
@@ -38,21 +37,11 @@ fn is_ko(game: &Game, made: Move) -> bool
     matches!(game.refusal(made.colour, made.vertex), Some(PlayFault::Ko))
 }
 
-/// The game under positional ko of an engine that was given nothing.
-fn fresh_game() -> Game
-    ensures { result ≡ fresh_game_under rule.Positional }
-{
-    match (Size::new(19), Komi::from_half_points(0)) {
-        (Some(size), Some(komi)) => Game::with_rule(size, komi, KoRule::Positional),
-        _ => unreachable!(),
-    }
-}
-
 /// The game under positional ko after these commands, if they give it.
 fn game_after(talk: &[Said]) -> Option<Game>
     ensures { result ≡ after_all (fresh_game_under rule.Positional) talk.now }
 {
-    let mut game = fresh_game();
+    let mut game = Game::fresh(KoRule::Positional);
     for said in talk {
         if !follow(&mut game, &said.command) {
             return None;

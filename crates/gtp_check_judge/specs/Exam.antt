@@ -2,7 +2,7 @@
 use Rattle.std.specs.Prelude.{◌≡◌, ◌||◌, ℕ, ◌+◌, ◌<◌, ◌≤◌, Bool, true, false, List, [], ◌∷◌, ◌++◌, length, drop}
 use Rattle.std.specs.Prelude.{Option, None, Some, IfSome, Result, Ok, Err}
 use Rattle.go_base.specs.Int.{most_int}
-use Rattle.go_board.specs.Game.{GameRecord, HasRoom, IsLegal, with_move}
+use Rattle.go_board.specs.Game.{GameRecord, HasRoom, IsLegal, with_move, fresh_game_under}
 use Rattle.go_board.specs.declared.rules.KoRule.{KoRule}
 use Rattle.gtp_check_judge.specs.declared.asking.CheckCommand.{CheckCommand}
 use Rattle.gtp_wire.specs.declared.commands.Command.TheVariants.{Boardsize}
@@ -11,7 +11,6 @@ use Rattle.gtp_wire.specs.declared.replies.ReplyFault.{ReplyFault}
 use Rattle.gtp_wire.specs.declared.replies.ReplyFault.TheVariants as fault
 use Rattle.gtp_wire.specs.Replies.{ReadsFirst}
 use Rattle.gtp_check_judge.specs.Asking.{IsCheckWritable, IsCheckInLimits}
-use Rattle.gtp_session.specs.Engine.{fresh_game_under}
 use Rattle.gtp_session.specs.CommandAnswers.{after_command}
 use Rattle.gtp_check_judge.specs.declared.dues.Due.{Due}
 use Rattle.gtp_check_judge.specs.declared.dues.Due.TheVariants.{Succeeds, Fails, Places, Resizes, Scores, AnyReply}

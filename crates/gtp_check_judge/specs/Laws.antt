@@ -4,7 +4,7 @@ use Rattle.std.specs.Prelude.{IfSome, Result, Ok, Err, ◌+◌, ◌⊎◌}
 use Rattle.go_base.specs.Size.{IsSize}
 use Rattle.go_base.specs.Handicap.{handicap_points}
 use Rattle.go_base.specs.declared.choices.Choice.{Choice}
-use Rattle.go_board.specs.Game.{GameRecord, HasRoom, IsLegal, with_move}
+use Rattle.go_board.specs.Game.{GameRecord, HasRoom, IsLegal, with_move, fresh_game_under}
 use Rattle.go_board.specs.declared.faults.PlayFault.{PlayFault}
 use Rattle.go_base.specs.declared.moves.Move.{Move}
 use Rattle.gtp_wire.specs.Lines.{lines}
@@ -26,7 +26,7 @@ use Rattle.go_board.specs.Area.{score}
 use Rattle.gtp_wire.specs.Words.{reply_words}
 use Rattle.gtp_session.specs.Policy.{May, IsLawful}
 use Rattle.gtp_session.specs.Commands.{answer, asked}
-use Rattle.gtp_session.specs.Engine.{Engine, Engages, fresh_under, fresh_game_under}
+use Rattle.gtp_session.specs.Engine.{Engine, Engages, fresh_under}
 use Rattle.gtp_check_judge.specs.declared.unanswered.Asked.{Asked}
 use Rattle.gtp_check_judge.specs.declared.dues.Due.{Due}
 use Rattle.gtp_check_judge.specs.declared.dues.Cause.TheVariants.{BadMove}

@@ -1,7 +1,6 @@
 //! What the examiner keeps of an engine, and its steps.
 ghost use Rattle.std.specs.Prelude.{◌≡◌, ◌<◌, ◌≤◌, true, false, [], length, option_map, Some};
 ghost use Rattle.go_base.specs.Int.{most_int};
-ghost use Rattle.gtp_session.specs.Engine.{fresh_game_under};
 ghost use Rattle.gtp_wire.specs.Replies.{with_reply};
 ghost use Rattle.gtp_wire.specs.Commands.{IsWritable, IsInLimits};
 ghost use Rattle.gtp_check_judge.specs.Asking.{written_check, IsCheckWritable, IsCheckInLimits};
@@ -22,7 +21,7 @@ use crate::setups::{
 };
 use crate::skills::{Skills, has_needed, learned, none_asked};
 use crate::unanswered::{Asked, MOST_UNANSWERED, Unanswered, is_awaited};
-use go_base::{Komi, Size, Vertex};
+use go_base::{Size, Vertex};
 use go_board::{Game, KoRule};
 use gtp_wire::{Command, CommandText, Reply, ReplyFault, ReplyRead, ReplyReader};
 
@@ -75,23 +74,13 @@ pub struct Exam {
     pub skills: Skills,
 }
 
-/// The game of an engine that was given nothing.
-fn fresh_game(rule: KoRule) -> Game
-    ensures { result ≡ fresh_game_under rule }
-{
-    match (Size::new(19), Komi::from_half_points(0)) {
-        (Some(size), Some(komi)) => Game::with_rule(size, komi, rule),
-        _ => unreachable!(),
-    }
-}
-
 impl Exam {
     /// An engine with this ko rule that is up or not, and was asked nothing.
     pub fn new(rule: KoRule, up: bool) -> Exam
         ensures { result ≡ begun rule up }
     {
         Exam {
-            game: fresh_game(rule),
+            game: Game::fresh(rule),
             up,
             sent: 0,
             unanswered: Unanswered::new(),

@@ -1,13 +1,13 @@
 -- An engine: what it holds, and how it answers a text.
 use Rattle.std.specs.Prelude.{◌≡◌, ℕ, Bool, true, false, ◌&&◌, List, [], ◌∷◌, ◌++◌, map, Option, None, Some}
-use Rattle.std.specs.Prelude.{MatchOption, pos}
+use Rattle.std.specs.Prelude.{MatchOption}
 use Rattle.std.specs.List.{concat}
 use Rattle.arrayvec.specs.ArrayVec.{ArrayVec}
 use Rattle.go_base.specs.Bytes.{newline}
 use Rattle.gtp_wire.specs.declared.lines.Line.{Line}
 use Rattle.gtp_wire.specs.Lines.{lines}
 use Rattle.gtp_wire.specs.Replies.{written_reply}
-use Rattle.go_board.specs.Game.{GameRecord}
+use Rattle.go_board.specs.Game.{GameRecord, fresh_game_under}
 use Rattle.go_board.specs.declared.rules.KoRule.{KoRule}
 use Rattle.go_board.specs.declared.rules.KoRule.TheVariants.{Simple}
 use Rattle.gtp_session.specs.Policy.{May}
@@ -88,15 +88,11 @@ EngagesJoin {P} may =
     (a b c : Engine P) (text next out more : List ℕ)
     → Engages may a text b out → Engages may b next c more → Engages may a (text ++ next) c (out ++ more)
 
--- The game of an engine with this ko rule that was given nothing: size 19, komi 0, no handicap and no moves.
-abbrev pub fresh_game_under : KoRule → GameRecord
-fresh_game_under rule = record { size = 19; komi = pos 0; rule = rule; handicap = 0; moves = [] }
-
--- the engine
+-- the engine with this ko rule that was given nothing
 abbrev pub fresh_under : {P : Type 0} → KoRule → P → Engine P
 fresh_under rule policy = record { rest = []; game = fresh_game_under rule; policy = policy; ended = false }
 
--- the engine with simple ko that was given nothing
+-- the engine with simple ko
 abbrev pub fresh : {P : Type 0} → P → Engine P
 fresh policy = fresh_under Simple policy
 

@@ -6,7 +6,7 @@ use Rattle.go_base.specs.declared.choices.Choice.{Choice}
 use Rattle.go_base.specs.declared.choices.Choice.TheVariants.{Resign, Play}
 use Rattle.go_board.specs.declared.faults.PlayFault.{PlayFault}
 use Rattle.go_board.specs.declared.rules.KoRule.{KoRule}
-use Rattle.go_board.specs.Game.{GameRecord}
+use Rattle.go_board.specs.Game.{GameRecord, fresh_game_under}
 use Rattle.go_board.specs.Refusals.{RefusesVertex}
 use Rattle.gtp_wire.specs.declared.lines.Line.{Line}
 use Rattle.gtp_wire.specs.declared.lines.Line.TheVariants as line
@@ -23,7 +23,6 @@ use Rattle.gtp_session.specs.declared.events.ChoiceFault.TheVariants as choice_f
 use Rattle.gtp_session.specs.declared.events.AnswerFault.{AnswerFault}
 use Rattle.gtp_session.specs.declared.events.AnswerFault.TheVariants as answer_fault
 use Rattle.gtp_session.specs.Commands.{Answer, answer, argument, asked, ends, id_of, named_command}
-use Rattle.gtp_session.specs.Engine.{fresh_game_under}
 use Rattle.gtp_session.specs.OwnCommands.{AreOwnCommands, MayBeAdded, known_text, names_with}
 use Rattle.gtp_session.specs.Policy.{IsLawful}
 use Rattle.gtp_session.specs.Spoken.{HasIntId, IsSpoken}

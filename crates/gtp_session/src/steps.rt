@@ -16,7 +16,6 @@ use crate::chosen::{Chosen, refusal};
 pub use crate::events::{AnswerFault, ChoiceFault, CommandFault, Event, NoTitle, StepsFed, Wait};
 use crate::own_commands::OwnCommands;
 use crate::policy::Choice;
-use crate::session::fresh_game;
 use crate::titles::{Title, copy_of, title_of};
 use crate::waits::{id_of, wait_of};
 use go_board::{Game, KoRule};
@@ -73,7 +72,7 @@ impl Steps {
             reader: LineReader::new(),
             line: Line::TooLong,
             wait: Wait::Nothing,
-            game: fresh_game(rule),
+            game: Game::fresh(rule),
             ended: false,
             reply: ReplyText::new(),
             name,

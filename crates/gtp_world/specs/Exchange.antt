@@ -1,7 +1,7 @@
 -- What passes between the controller and one engine: the commands that it was sent, and the replies that it owes.
 use Rattle.std.specs.Prelude.{◌≡◌, ℕ, ◌≤◌, List, [], ◌∷◌, ◌++◌, take, Some, IfSome}
 use Rattle.go_base.specs.Int.{most_int}
-use Rattle.go_board.specs.Game.{GameRecord}
+use Rattle.go_board.specs.Game.{GameRecord, fresh_game_under}
 use Rattle.gtp_wire.specs.declared.commands.Command.{Command}
 use Rattle.gtp_wire.specs.declared.lines.Line.{Line}
 use Rattle.gtp_wire.specs.declared.replies.Reply.{Reply}
@@ -10,7 +10,6 @@ use Rattle.gtp_wire.specs.Replies.{IsReplyText, written_reply}
 use Rattle.gtp_session.specs.Policy.{IsLawful}
 use Rattle.go_base.specs.declared.choices.Choice.{Choice}
 use Rattle.gtp_session.specs.Commands.{Answer, answer, asked}
-use Rattle.gtp_session.specs.Engine.{fresh_game_under}
 use Rattle.gtp_match.specs.declared.unanswered.SentCommand.{SentCommand}
 use Rattle.gtp_match.specs.Script.{script}
 use Rattle.gtp_session.specs.CommandAnswers.{line_of_command, after_command}

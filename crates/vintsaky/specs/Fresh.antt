@@ -1,6 +1,6 @@
 -- What is put into memory, beside readers that were given nothing.
-use Rattle.std.specs.Prelude.{pos, []}
-use Rattle.go_board.specs.Game.{GameRecord}
+use Rattle.std.specs.Prelude.{pos}
+use Rattle.go_board.specs.Game.{GameRecord, fresh_game_under}
 use Rattle.go_board.specs.declared.rules.KoRule.TheVariants.{Simple}
 use Rattle.gtp_match.specs.Controller as controller
 use Rattle.gtp_match.specs.Setup.{setup_of}
@@ -9,7 +9,7 @@ use Rattle.gtp_session.specs.Steps.{StepsState, fresh_steps}
 
 -- size 19, no komi, simple ko
 abbrev pub fresh_game : GameRecord
-fresh_game = record { size = 19; komi = pos 0; rule = Simple; handicap = 0; moves = [] }
+fresh_game = fresh_game_under Simple
 
 -- simple ko, and given nothing
 abbrev pub fresh_engine : StepsState

@@ -5,7 +5,7 @@ use Rattle.std.specs.Prelude.{IfSome, Result, Ok}
 use Rattle.std.specs.List.{AllByRecursion}
 use Rattle.go_base.specs.Size.{IsSize}
 use Rattle.go_base.specs.declared.choices.Choice.{Choice}
-use Rattle.go_board.specs.Game.{GameRecord}
+use Rattle.go_board.specs.Game.{GameRecord, fresh_game_under}
 use Rattle.go_board.specs.declared.rules.KoRule.{KoRule}
 use Rattle.gtp_wire.specs.declared.lines.Line.{Line}
 use Rattle.gtp_wire.specs.declared.replies.Reply.{Reply}
@@ -19,7 +19,7 @@ use Rattle.gtp_session.specs.Policy.{May}
 use Rattle.gtp_session.specs.Commands.{answer}
 use Rattle.gtp_session.specs.Spoken.{IsLawfulAt, reply_of_answer}
 use Rattle.gtp_session.specs.Engine.{Engine, State, state_of, WrittenReply, Step, Answers, Engages, output_of}
-use Rattle.gtp_session.specs.Engine.{fresh_under, fresh_game_under}
+use Rattle.gtp_session.specs.Engine.{fresh_under}
 use Rattle.gtp_session.proofs.choosing.Policies.{AllowsLawful}
 use Rattle.gtp_session.proofs.reply_texts.Spoken.{answer_good, step_lawful}
 use Rattle.gtp_check_judge.specs.declared.unanswered.Asked.{Asked}

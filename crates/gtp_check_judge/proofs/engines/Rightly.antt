@@ -4,7 +4,7 @@ use Rattle.std.proofs.Common.{None, refl, sym, ◌∙◌, ap, subst, arith, appe
 use Rattle.std.specs.Prelude.{Result, Ok, Err, drop}
 use Rattle.std.specs.List.{AllByRecursion}
 use Rattle.std.proofs.Math.Seq.{drop-append_seam}
-use Rattle.go_board.specs.Game.{GameRecord}
+use Rattle.go_board.specs.Game.{GameRecord, fresh_game_under}
 use Rattle.go_board.specs.declared.rules.KoRule.{KoRule}
 use Rattle.gtp_wire.specs.declared.replies.Reply.{Reply}
 use Rattle.gtp_wire.specs.declared.replies.ReplyFault.{ReplyFault}
@@ -12,7 +12,6 @@ use Rattle.gtp_wire.specs.declared.replies.ReplyFault.TheVariants.{NoStatus, Ove
 use Rattle.gtp_wire.specs.Replies.{IsFirst, GivesAnswer, GivesNoAnswer, past_blanks}
 use Rattle.gtp_wire.proofs.first_answers.OneAnswer.{one_first, reply_is_first}
 use Rattle.gtp_wire.proofs.first_answers.OneByteMore.{first_more}
-use Rattle.gtp_session.specs.Engine.{fresh_game_under}
 use Rattle.gtp_check_judge.specs.declared.unanswered.Asked.{Asked}
 use Rattle.gtp_check_judge.specs.declared.exam.Exam.{Exam}
 use Rattle.gtp_check_judge.specs.declared.exam.Finding.{Finding}

@@ -6,14 +6,13 @@ use Rattle.std.proofs.lemmas.Bool.Decides.{nat_tests}
 use Rattle.std.proofs.lemmas.List.{append-nil}
 use Rattle.go_base.specs.Size.{IsSize}
 use Rattle.go_base.specs.declared.colours.Colour.{Colour}
-use Rattle.go_board.specs.Game.{GameRecord, with_move}
+use Rattle.go_board.specs.Game.{GameRecord, with_move, fresh_game_under}
 use Rattle.go_board.specs.declared.rules.KoRule.{KoRule}
 use Rattle.gtp_check_judge.specs.declared.asking.CheckCommand.{CheckCommand}
 use Rattle.gtp_wire.specs.declared.commands.Command.TheVariants.{Boardsize}
 use Rattle.gtp_session.specs.CommandAnswers.{after_command}
 use Rattle.gtp_wire.specs.declared.replies.Reply.{Reply}
 use Rattle.gtp_wire.specs.declared.replies.ReplyFault.{ReplyFault}
-use Rattle.gtp_session.specs.Engine.{fresh_game_under}
 use Rattle.gtp_session.proofs.reply_texts.Spoken.{answer_good}
 use Rattle.gtp_check_judge.specs.declared.dues.Due.{Due}
 use Rattle.gtp_check_judge.specs.declared.dues.Due.TheVariants.{Succeeds, Fails, Places, Resizes, Scores, AnyReply}

@@ -7,7 +7,7 @@ use Rattle.std.proofs.lemmas.Bool.Decides.{nat_tests}
 use Rattle.std.proofs.lemmas.Option.{slice_get_within}
 use Rattle.go_base.specs.Vertex.{IsVertex}
 use Rattle.go_base.specs.declared.colours.Colour.{Colour}
-use Rattle.go_board.specs.Game.{GameRecord, IsGame, HasRoom, without_last, first_moves}
+use Rattle.go_board.specs.Game.{GameRecord, IsGame, HasRoom, without_last, first_moves, fresh_game_under}
 use Rattle.go_board.specs.declared.rules.KoRule.{KoRule}
 use Rattle.go_board.specs.declared.rules.KoRule.TheVariants.{Simple}
 use Rattle.gtp_wire.specs.declared.commands.Command.{Command}
@@ -15,7 +15,6 @@ use Rattle.gtp_wire.specs.declared.commands.Command.TheVariants.{Play, Genmove, 
 use Rattle.gtp_wire.specs.declared.replies.Reply.{Reply}
 use Rattle.gtp_session.specs.CommandAnswers.{after_command}
 use Rattle.gtp_session.specs.Sent.{MayBeSent}
-use Rattle.gtp_session.specs.Engine.{fresh_game_under}
 use Rattle.gtp_session.proofs.engines.Sent.{well_may_be_sent, vertex_of_legal}
 use Rattle.gtp_match.specs.declared.unanswered.SentCommand.{SentCommand}
 use Rattle.gtp_match.specs.declared.sides.EngineRun.{EngineRun}

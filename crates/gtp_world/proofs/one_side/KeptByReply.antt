@@ -17,7 +17,7 @@ use Rattle.gtp_session.specs.Policy.{IsLawful}
 use Rattle.go_base.specs.declared.choices.Choice.{Choice}
 use Rattle.go_base.specs.declared.choices.Choice.TheVariants as choice
 use Rattle.gtp_session.specs.Commands.{answer_choice}
-use Rattle.gtp_session.specs.Engine.{fresh_game_under}
+use Rattle.go_board.specs.Game.{fresh_game_under}
 use Rattle.gtp_match.specs.declared.unanswered.SentCommand.{SentCommand}
 use Rattle.gtp_match.specs.declared.sides.EngineRun.{EngineRun}
 use Rattle.gtp_match.specs.declared.controller.Controller.{Controller}

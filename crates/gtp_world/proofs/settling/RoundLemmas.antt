@@ -11,7 +11,7 @@ use Rattle.go_base.specs.Point.{IsOn}
 use Rattle.go_base.specs.declared.colours.Colour.{Colour}
 use Rattle.go_base.specs.declared.colours.Colour.TheVariants.{Black, White}
 use Rattle.go_base.proofs.board_points.HandicapPoints.{handicap_sound}
-use Rattle.go_board.specs.Game.{GameRecord, IsGame}
+use Rattle.go_board.specs.Game.{GameRecord, IsGame, fresh_game_under}
 use Rattle.gtp_wire.specs.declared.commands.Command.{Command}
 use Rattle.gtp_wire.specs.declared.commands.Command.TheVariants.{Boardsize, Komi, ClearBoard, FixedHandicap, Play}
 use Rattle.gtp_wire.specs.declared.commands.Command.TheVariants.{Genmove, Undo, Quit}
@@ -23,7 +23,7 @@ use Rattle.gtp_wire.proofs.first_answers.OneAnswer.{one_first, reply_is_first}
 use Rattle.gtp_session.proofs.reply_texts.NeatTexts.{short-vertices, few_handicap_points}
 use Rattle.gtp_session.proofs.choosing.Policies.{AllowsLawful}
 use Rattle.gtp_session.specs.Policy.{May}
-use Rattle.gtp_session.specs.Engine.{Engine, fresh_game_under}
+use Rattle.gtp_session.specs.Engine.{Engine}
 use Rattle.gtp_session.specs.Commands.{asked as asked_by_line}
 use Rattle.gtp_match.specs.declared.unanswered.SentCommand.{SentCommand}
 use Rattle.gtp_match.specs.declared.sides.EngineRun.{EngineRun}

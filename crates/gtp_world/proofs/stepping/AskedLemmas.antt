@@ -6,7 +6,7 @@ use Rattle.std.specs.Prelude.{◌==◌}
 use Rattle.std.proofs.lemmas.Bool.Decides.{nat_tests}
 use Rattle.std.proofs.lemmas.List.{append-nil}
 use Rattle.go_base.specs.declared.colours.Colour.{Colour}
-use Rattle.go_board.specs.Game.{GameRecord, IsGame}
+use Rattle.go_board.specs.Game.{GameRecord, IsGame, fresh_game_under}
 use Rattle.go_board.specs.declared.rules.KoRule.TheVariants.{Simple}
 use Rattle.gtp_wire.specs.declared.commands.Command.{Command}
 use Rattle.gtp_wire.specs.declared.commands.Command.TheVariants.{Boardsize, Komi, ClearBoard, FixedHandicap, Play}
@@ -18,7 +18,6 @@ use Rattle.gtp_session.proofs.engines.Replying.{lines-nothing}
 use Rattle.gtp_session.proofs.engines.Sent.{genmove_asks}
 use Rattle.gtp_session.specs.Commands.{asked}
 use Rattle.gtp_session.specs.CommandAnswers.{GoesWell, line_of_command}
-use Rattle.gtp_session.specs.Engine.{fresh_game_under}
 use Rattle.gtp_session.specs.Sent.{MayBeSent}
 use Rattle.gtp_match.specs.declared.sides.EngineRun.{EngineRun}
 use Rattle.gtp_match.specs.declared.unanswered.SentCommand.{SentCommand}

@@ -8,17 +8,13 @@ ghost use Rattle.vintsaky.specs.contracts.game.handle.GameHandle.{the_row};
 ghost use Rattle.vintsaky.specs.Fresh.{fresh_game};
 
 use crate::game::handle::GameHandle;
-use go_base::{Komi, Size};
 use go_board::{Game, KoRule};
 
 /// A game of size 19 without komi, under simple ko.
 pub(crate) fn fresh_game() -> Game
     ensures { result ≡ fresh_game }
 {
-    match (Size::new(19), Komi::from_half_points(0)) {
-        (Some(size), Some(komi)) => Game::with_rule(size, komi, KoRule::Simple),
-        _ => unreachable!(),
-    }
+    Game::fresh(KoRule::Simple)
 }
 
 /// Puts a game into the memory, and its handle. It has size 19, no komi and simple ko.

@@ -1,6 +1,6 @@
 use Rattle.std.proofs.Common.{◌≡◌, drop}
 use Rattle.go_board.specs.declared.rules.KoRule.TheVariants.{Positional}
-use Rattle.gtp_session.specs.Engine.{fresh_game_under}
+use Rattle.go_board.specs.Game.{fresh_game_under}
 use Rattle.gtp_check_app.specs.Superko.{after_all}
 use Rattle.gtp_check_app.proofs.superko.game_after.Given as goal
 
