@@ -3,10 +3,11 @@ ghost use Rattle.std.specs.Prelude.{◌≡◌, ◌≤◌, length, true};
 ghost use Rattle.gtp_wire.specs.Replies.{most_text_bytes, written_reply};
 ghost use Rattle.go_board.specs.Show.{board_text};
 ghost use Rattle.gtp_session.specs.Commands.{all_names};
-ghost use Rattle.gtp_session.specs.private.Outcome.{text_of, handicap_text, answer_of};
+ghost use Rattle.gtp_session.specs.private.Outcome.{text_of, answer_of};
 
 use crate::commands::all_names;
-use go_base::{Vertex, handicap, write_int, write_score, write_vertices};
+use arrayvec::ArrayVec;
+use go_base::{Point, Vertex, write_int, write_score, write_vertices};
 use go_board::Game;
 use gtp_wire::{ReplyText, write_reply_into};
 
@@ -26,8 +27,8 @@ pub(crate) enum Text {
     Names,
     /// A vertex.
     Vertex(Vertex),
-    /// The vertices of the handicap stones.
-    Handicap,
+    /// The vertices of these handicap stones.
+    Handicap(ArrayVec<Point, 9>),
     /// A score in half points.
     Score(i32),
     /// The board.
@@ -57,20 +58,9 @@ fn write_success(text: &Text, game: &Game, id: Option<u32>, reply: &mut ReplyTex
         Text::Number(number) => write_reply_into(reply, true, id, &write_int(*number)),
         Text::Names => write_names(id, reply),
         Text::Vertex(vertex) => write_reply_into(reply, true, id, &vertex.write()),
-        Text::Handicap => write_handicap(game, id, reply),
+        Text::Handicap(points) => write_reply_into(reply, true, id, &write_vertices(points)),
         Text::Score(half_points) => write_reply_into(reply, true, id, &write_score(*half_points)),
         Text::Board => write_board(game, id, reply),
-    }
-}
-
-/// Puts a reply with the vertices of the handicap stones in place of what `reply` holds.
-fn write_handicap(game: &Game, id: Option<u32>, reply: &mut ReplyText)
-    requires { length (handicap_text game.now) ≤ most_text_bytes }
-    ensures { reply.new.items ≡ written_reply true id (handicap_text game.now) }
-{
-    match handicap(game.size(), game.handicap()) {
-        Some(points) => write_reply_into(reply, true, id, &write_vertices(&points)),
-        None => write_reply_into(reply, true, id, b""),
     }
 }
 

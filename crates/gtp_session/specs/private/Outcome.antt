@@ -3,8 +3,6 @@ use Rattle.std.specs.Prelude.{◌≡◌, ℕ, List, [], Option, Result, Ok, Err,
 use Rattle.std.specs.Result.{is_ok}
 use Rattle.std.specs.Borrow.{Bor}
 use Rattle.go_base.specs.Int.{written_int}
-use Rattle.go_base.specs.Decide.{allows?}
-use Rattle.go_base.specs.Handicap.{handicap_points}
 use Rattle.go_base.specs.Vertex.{written_vertex, written_vertices}
 use Rattle.go_base.specs.HalfPoints.{score_text}
 use Rattle.go_board.specs.declared.faults.PlayFault.{PlayFault}
@@ -20,13 +18,6 @@ use Rattle.gtp_session.specs.Commands.{Answer, all_names, answer_to}
 use Rattle.gtp_session.specs.declared.outcome.Text.{Text}
 use Rattle.gtp_session.specs.declared.outcome.Text.TheVariants as text
 
--- the vertices of the game's handicap stones; none where its size doesn't allow that number
-abbrev pub handicap_text : GameRecord → List ℕ
-handicap_text game = elim (allows? game.size game.handicap) [
-  | yes _ ↦ written_vertices (handicap_points game.size game.handicap)
-  | no _ ↦ []
-]
-
 -- the text of a success that leaves this game
 abbrev pub text_of : GameRecord → Text → List ℕ
 text_of game text.Empty = []
@@ -34,7 +25,7 @@ text_of game (text.Fixed bytes) = bytes.now
 text_of game (text.Number number) = written_int number
 text_of game text.Names = all_names
 text_of game (text.Vertex vertex) = written_vertex vertex
-text_of game text.Handicap = handicap_text game
+text_of game (text.Handicap points) = written_vertices points.items
 text_of game (text.Score half_points) = score_text half_points
 text_of game text.Board = board_text game
 
